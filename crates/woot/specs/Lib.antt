@@ -1,1 +1,14 @@
+pub mod Lists
 pub mod Limits
+pub mod Identifiers
+pub mod Operations
+pub mod Ranges
+pub mod State
+pub mod Placing
+pub mod Pending
+pub mod Form
+pub mod Answers
+pub mod Calls
+pub mod Text
+pub mod Histories
+pub mod Situations

@@ -1,23 +1,29 @@
--- test
-use Prim.Native.Nat.{ℕ, _+_, _-_}
-use mathlib.Core.List.{List, []}
-use mathlib.Core.Bool.{Bool, true, false}
-use Rattle.woot.specs.declared.Identifier.{Identifier}
-use Rattle.woot.specs.declared.Insert.{Insert}
-use Rattle.woot.specs.declared.Operation.{Operation}
-use Rattle.woot.specs.declared.Operation.the-variants.{Insert as insert, Delete as delete}
-use Rattle.woot.specs.declared.Character.{Character}
-use Rattle.woot.specs.declared.Document.{Document}
+-- The limits of document 01.
+use Prim.Native.Nat.{ℕ}
 
-unfoldable pub sender : Operation → ℕ
-sender (insert i) = i .id .site
-sender (delete d) = d .sender
+-- sites are numbered 1 to this
+abbrev pub lastSite : ℕ
+lastSite = 16
 
-unfoldable pub cps : Document → List Character
-cps d = d .characters
+-- clocks run to this
+abbrev pub lastClock : ℕ
+lastClock = 65535
 
-cp : Character → ℕ
-cp d = d .«code_point»
+-- code points run to this, the surrogates aside
+abbrev pub lastCodePoint : ℕ
+lastCodePoint = 1114111
 
-abbrev pub begin : Identifier
-begin = record { site = 0; clock = 0 }
+-- the surrogates, which are no code points
+abbrev pub firstSurrogate : ℕ
+firstSurrogate = 55296
+
+abbrev pub lastSurrogate : ℕ
+lastSurrogate = 57343
+
+-- characters, and characters with pending inserts, are at most this many
+abbrev pub capacity : ℕ
+capacity = 1024
+
+-- pending operations of one sender are at most this many
+abbrev pub share : ℕ
+share = 32

@@ -1,5 +1,7 @@
-// The types of the replicated text: identifiers, operations, characters, the document and the replica. The rules that
-// they live by are in specs/, the theorems about the rules in proofs/.
+// The types of the replicated text: identifiers, operations, characters, the document, the replica, and the answers of
+// the calls. The rules that they live by are in specs/, the theorems about the rules in proofs/.
+ghost use mathlib.Core.Path.{_≡_};
+ghost use Rattle.woot.specs.State.{initial, stored};
 
 // The name of a character: the site that typed it and that site's clock then. (Document 01: identifier.)
 pub struct Identifier {
@@ -14,7 +16,9 @@ impl Identifier {
     pub const END: Identifier = Identifier { site: 0, clock: 1 };
 
     // Takes any two numbers: the calls judge them.
-    pub fn new(site: u8, clock: u16) -> Self {
+    pub fn new(site: u8, clock: u16) -> Self
+        ensures { λ r. ⌜ r ≡ record { site = site; clock = clock } ⌝ }
+    {
         Identifier { site, clock }
     }
 }
@@ -72,4 +76,84 @@ pub struct Document {
 pub struct Replica {
     pub site: Site,
     pub document: Document,
+}
+
+impl Replica {
+    // A replica with no characters, nothing pending and clock 0. Takes any number: the calls judge it.
+    // (Document 01: an empty sheet.)
+    pub fn empty(number: u8) -> Self
+        ensures { λ r. ⌜ r ≡ stored (initial number) ⌝ }
+    {
+        let none = Identifier::BEGIN;
+        let character = Character {
+            id: none,
+            code_point: 0,
+            visible: false,
+            previous: none,
+            next: none,
+        };
+        let pending = Pending {
+            operation: Operation::Insert(Insert {
+                id: none,
+                code_point: 0,
+                previous: none,
+                next: none,
+            }),
+        };
+        Replica {
+            site: Site { number, clock: 0 },
+            document: Document {
+                characters: [character; 1024],
+                length: 0,
+                pending: [pending; 512],
+                waiting: 0,
+            },
+        }
+    }
+}
+
+// Why a call is turned away; specs/ gives each its number. (Document 01: the grounds for turning a call away.)
+pub enum Refusal {
+    // 1: a line or a saved replica lacks its layout.
+    Layout,
+    // 2: a number, a mark or a neighbour that may not stand where it does.
+    Range,
+    // 3: the replica is not well formed.
+    Form,
+    // 4: no such insertion point or visible character.
+    Position,
+    // 5: the clock is at its end.
+    Clock,
+    // 6: the identifier about to be used is taken.
+    Taken,
+    // 7: the identifier stands for another insert.
+    Conflict,
+    // 8: previous does not stand above next.
+    Crossed,
+    // 9: characters between, and no candidate.
+    Unplaceable,
+    // 10: the sender has its full share pending.
+    SenderFull,
+    // 11: the document is full.
+    DocumentFull,
+    // 12: the lent output is too short.
+    Output,
+}
+
+// What receiving answers. (Document 01: done with carried and thrown, waits, known, refused.)
+pub enum Answer {
+    Done { integrated: usize, discarded: usize },
+    Deferred,
+    Duplicate,
+    Refused(Refusal),
+}
+
+// What inserting and deleting here answer: the operation to be sent with the counts, or a refusal.
+pub enum Sent {
+    Done {
+        operation: Operation,
+        integrated: usize,
+        discarded: usize,
+    },
+    Refused(Refusal),
 }

@@ -1,0 +1,75 @@
+-- The tables of situations hold by computation, straight from the definitions. Each state is computed to its end
+-- before the next call, so that no call is computed again for each look at what it left.
+use Prim.Native.Nat.{ℕ}
+use mathlib.Core.Path.{_≡_, refl, ap, ap₂, sym, _∙_}
+use mathlib.Core.List.{List, [], _∷_, map}
+use lib.Count.{leadingZeros}
+use Rattle.utf8.specs.Encoding.{significantBits, encodedLength, continuation, oneByte, twoBytes, threeBytes, fourBytes, encode}
+use Rattle.woot.specs.Identifiers.{same, below}
+use Rattle.woot.specs.Operations.{sender, character, origin, hidden, sameInsert, sameDelete, sameOperation}
+use Rattle.woot.specs.Ranges.{within, siteNumber, codePoint, characterId, previousId, nextId, siteInRange, insertInRange, deleteInRange, inRange, characterInRange}
+use Rattle.woot.specs.State.{initial}
+use Rattle.woot.specs.Placing.{sequence, indexOf, placeOf, held, above, adjacent, candidate, candidates, narrowed, search, position, between, insertAt, integrateInsert, integrateDelete}
+use Rattle.woot.specs.Pending.{executable, crossed, unplaceable, integrate, pendingFrom, earliest, andIntegrated, andDiscarded, drained, drainSteps, drain}
+use Rattle.woot.specs.Form.{known, allInRange, sharesKept, capacityKept, identifiersDistinct, deletesDistinct, ordered, neighboursOrdered, noneExecutable, wellFormed}
+use Rattle.woot.specs.Answers.{number, reply, answerOf}
+use Rattle.woot.specs.Calls.{unchanged, decided, integrated, withCharacters, withPending, afterDrain, insertCarried, duplicate, conflicting, senderFull, documentFull, receiveChecks, carryOut, defer, accept, receiveWhen, receive, visibles, nextIdentifier, generatedInsert, beyondVisible, taken, insertChecks, advanced, sendInsert, localInsertWhen, localInsert, notVisible, deleteChecks, generatedDelete, sendDelete, localDeleteWhen, localDelete}
+use Rattle.woot.specs.Histories.{outcome}
+use Rattle.woot.specs.declared.Identifier.{Identifier}
+use Rattle.woot.specs.declared.Character.{Character}
+use Rattle.woot.specs.declared.Operation.{Operation}
+use Rattle.woot.specs.State.{State}
+use Rattle.woot.specs.Placing.{identifiers}
+use Rattle.woot.specs.Answers.{Reply}
+use Rattle.woot.specs.Histories.{Call, run}
+use Rattle.woot.specs.Situations.{Given, calling, encoding, Seen, calls, bytes, replies, seen, Situation, table, AllHold, SituationsHold}
+
+-- k at xs, whose cells are computed first
+whole : {A B : Type 0} → List A → (List A → B) → B
+whole [] k = k []
+whole (x ∷ xs) k = whole xs (λ ys. k (x ∷ ys))
+
+whole-same : {A B : Type 0} (xs : List A) (k : List A → B) → whole xs k ≡ k xs
+unfolding whole
+whole-same [] k = refl
+whole-same (x ∷ xs) k = whole-same xs (λ ys. k (x ∷ ys))
+
+-- k at s, whose lists are computed first
+settled : {B : Type 0} → State → (State → B) → B
+settled s k =
+    whole (s .characters) (λ cs. whole (s .pending) (λ ps. k (record { site = s .site; characters = cs; pending = ps })))
+
+settled-same : {B : Type 0} (s : State) (k : State → B) → settled s k ≡ k s
+unfolding settled
+settled-same s k = whole-same (s .characters) _ ∙ whole-same (s .pending) _
+
+-- k at the replies and the identifiers, state by state
+stepped : {B : Type 0} → State → List Call → (List Reply → List Identifier → B) → B
+stepped s [] k = k [] (identifiers (s .characters))
+stepped s (c ∷ cs) k =
+    let r = outcome s c in
+    settled (r .state) (λ t. stepped t cs (λ rs xs. k (reply (r .answer) ∷ rs) xs))
+
+stepped-same : {B : Type 0} (s : State) (cs : List Call) (k : List Reply → List Identifier → B) → stepped s cs k ≡ k (replies s cs) (identifiers (run s cs .characters))
+unfolding stepped
+stepped-same s [] k = refl
+stepped-same s (c ∷ cs) k =
+    settled-same (outcome s c .state) _
+    ∙ stepped-same (outcome s c .state) cs (λ rs xs. k (reply (outcome s c .answer) ∷ rs) xs)
+
+computed : Given → Seen
+computed (calling s cs) = stepped s cs calls
+computed (encoding n) = bytes (encode n)
+
+computed-same : (g : Given) → computed g ≡ seen g
+unfolding computed seen
+computed-same (calling s cs) = stepped-same s cs calls
+computed-same (encoding n) = refl
+
+all-computed : (ts : List Situation) → map (λ t. seen (t .given)) ts ≡ map (λ t. computed (t .given)) ts
+all-computed [] = refl
+all-computed (t ∷ ts) = ap₂ (λ a bs. a ∷ bs) (sym (computed-same (t .given))) (all-computed ts)
+
+pub situations-hold : SituationsHold
+unfolding whole settled stepped computed leadingZeros significantBits encodedLength continuation oneByte twoBytes threeBytes fourBytes encode same below sender character origin hidden sameInsert sameDelete sameOperation within siteNumber codePoint characterId previousId nextId siteInRange insertInRange deleteInRange inRange characterInRange initial sequence indexOf placeOf held above adjacent candidate candidates narrowed search position between insertAt integrateInsert integrateDelete executable crossed unplaceable integrate pendingFrom earliest andIntegrated andDiscarded drained drainSteps drain known allInRange sharesKept capacityKept identifiersDistinct deletesDistinct ordered neighboursOrdered noneExecutable wellFormed number reply answerOf unchanged decided integrated withCharacters withPending afterDrain insertCarried duplicate conflicting senderFull documentFull receiveChecks carryOut defer accept receiveWhen receive visibles nextIdentifier generatedInsert beyondVisible taken insertChecks advanced sendInsert localInsertWhen localInsert notVisible deleteChecks generatedDelete sendDelete localDeleteWhen localDelete outcome table
+situations-hold = all-computed table ∙ refl

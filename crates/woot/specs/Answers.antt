@@ -1,0 +1,72 @@
+-- The numbers of the refusals, what an answer says in document 01's words, and how the first condition that holds
+-- decides.
+use Prim.Native.Nat.{ℕ}
+use mathlib.Core.Bool.{Bool, true, false, cond}
+use mathlib.Core.Path.{_≡_}
+use mathlib.Core.List.{List, [], _∷_}
+use mathlib.Core.Option.{Option, none, some}
+use Rattle.woot.specs.declared.Refusal.{Refusal}
+use Rattle.woot.specs.declared.Refusal.the-variants.{Layout, Range, Form, Position, Clock, Taken, Conflict, Crossed, Unplaceable, SenderFull, DocumentFull, Output}
+use Rattle.woot.specs.declared.Answer.{Answer}
+use Rattle.woot.specs.declared.Answer.the-variants.{Done, Deferred, Duplicate, Refused}
+use Rattle.woot.specs.declared.Sent.{Sent}
+use Rattle.woot.specs.declared.Sent.the-variants.{Done as sentDone, Refused as sentRefused}
+
+-- document 01, "Grounds for turning a call away"
+unfoldable pub number : Refusal → ℕ
+number Layout = 1
+number Range = 2
+number Form = 3
+number Position = 4
+number Clock = 5
+number Taken = 6
+number Conflict = 7
+number Crossed = 8
+number Unplaceable = 9
+number SenderFull = 10
+number DocumentFull = 11
+number Output = 12
+
+-- the words of document 01's replies
+pub data Word : Type 0 where
+  done waits known refused : Word
+
+-- a reply: its word, carried and thrown, and the refusal's number or 0
+pub record Reply : Type 0 where
+  pub word : Word
+  pub integrated : ℕ
+  pub discarded : ℕ
+  pub refusal : ℕ
+
+-- "both are 0 with known, waits and refusals"
+unfoldable pub reply : Answer → Reply
+reply (Done n m) = record { word = done; integrated = n; discarded = m; refusal = 0 }
+reply Deferred = record { word = waits; integrated = 0; discarded = 0; refusal = 0 }
+reply Duplicate = record { word = known; integrated = 0; discarded = 0; refusal = 0 }
+reply (Refused r) = record { word = refused; integrated = 0; discarded = 0; refusal = number r }
+
+-- the answer of a call that sends, without the operation
+unfoldable pub answerOf : Sent → Answer
+answerOf (sentDone o n m) = Done n m
+answerOf (sentRefused r) = Refused r
+
+-- a condition, and the answer where it holds
+pub record Check (A : Type 0) : Type 0 where
+  pub holds : Bool
+  pub answer : A
+
+module _ {A : Type 0} where
+  infix 20 _⇒_
+  -- where the condition holds the answer is given
+  abbrev pub _⇒_ : Bool → A → Check A
+  b ⇒ a = record { holds = b; answer = a }
+
+  -- "a call meets those that fit it, and the lowest is reported": the first in checking order
+  abbrev pub first : List (Check A) → Option A
+  first [] = none
+  first (c ∷ cs) = cond (c .holds) (some (c .answer)) (first cs)
+
+  -- a is the answer at a condition that holds, and no condition before it holds
+  pub data Reported (a : A) : List (Check A) → Type 0 where
+    here : {b : Bool} {cs : List (Check A)} → b ≡ true → Reported a ((b ⇒ a) ∷ cs)
+    later : {c : Check A} {cs : List (Check A)} → c .holds ≡ false → Reported a cs → Reported a (c ∷ cs)

@@ -1,0 +1,238 @@
+-- The three calls: typing, erasing and receiving. Each has its conditions in checking order; where none holds, what is
+-- done stands below them.
+use Prim.Native.Nat.{ℕ, zero, suc, _+_}
+use mathlib.Core.Bool.{Bool, true, false, _&&_, _||_, not, cond}
+use mathlib.Core.List.{List, [], _∷_, _++_, map}
+use mathlib.Core.Option.{Option, none, some}
+use lib.Dec.{leb, ltb, eqb}
+use lib.ListN.{length, getD}
+use Rattle.woot.specs.declared.Identifier.{Identifier}
+use Rattle.woot.specs.declared.Site.{Site}
+use Rattle.woot.specs.declared.Insert.{Insert}
+use Rattle.woot.specs.declared.Delete.{Delete}
+use Rattle.woot.specs.declared.Operation.{Operation}
+use Rattle.woot.specs.declared.Operation.the-variants.{Insert as insert, Delete as delete}
+use Rattle.woot.specs.declared.Character.{Character}
+use Rattle.woot.specs.declared.Refusal.{Refusal}
+use Rattle.woot.specs.declared.Refusal.the-variants.{Layout, Range, Form, Position, Clock, Taken, Conflict, Crossed, Unplaceable, SenderFull, DocumentFull, Output}
+use Rattle.woot.specs.declared.Answer.{Answer}
+use Rattle.woot.specs.declared.Answer.the-variants.{Done, Deferred, Duplicate, Refused}
+use Rattle.woot.specs.declared.Sent.{Sent}
+use Rattle.woot.specs.declared.Sent.the-variants.{Done as sentDone, Refused as sentRefused}
+use Rattle.woot.specs.Limits.{lastClock, capacity, share}
+use Rattle.woot.specs.Identifiers.{begin, end, same}
+use Rattle.woot.specs.Operations.{sender, origin, sameInsert, sameOperation}
+use Rattle.woot.specs.Ranges.{codePoint, inRange}
+use Rattle.woot.specs.State.{State}
+use Rattle.woot.specs.Placing.{identifiers, integrateInsert, integrateDelete}
+use Rattle.woot.specs.Pending.{executable, crossed, unplaceable, pendingFrom, drain, Drained}
+use Rattle.woot.specs.Form.{known, wellFormed}
+use Rattle.woot.specs.Answers.{Check, _⇒_, first}
+use Rattle.woot.specs.Lists.{any, keep}
+
+-- what a call answers and leaves: the state, its own operation where that was carried out, and what was drained from
+-- the pending operations or discarded on the way
+pub record Outcome (A : Type 0) : Type 0 where
+  pub answer : A
+  pub state : State
+  pub own : List Operation
+  pub drained : List Operation
+  pub discarded : List Operation
+
+-- a call that changes nothing
+unfoldable pub unchanged : {A : Type 0} → State → A → Outcome A
+unchanged s a = record { answer = a; state = s; own = []; drained = []; discarded = [] }
+
+-- the first condition that holds decides, and the call changes nothing; where none holds, what is done
+unfoldable pub decided : {A : Type 0} → State → Option A → Outcome A → Outcome A
+decided s none r = r
+decided s (some a) r = unchanged s a
+
+-- "every operation carried out by the call including its own"
+unfoldable pub integrated : {A : Type 0} → Outcome A → List Operation
+integrated r = r .own ++ r .drained
+
+-- a state with other characters
+unfoldable pub withCharacters : State → List Character → State
+withCharacters s cs = record { site = s .site; characters = cs; pending = s .pending }
+
+-- a state with one operation more at the end of the pending ones
+unfoldable pub withPending : State → Operation → State
+withPending s o = record { site = s .site; characters = s .characters; pending = s .pending ++ o ∷ [] }
+
+-- "after each insert carried out": the state as its pending operations are drained into it
+unfoldable pub afterDrain : State → Drained → State
+afterDrain s d = record { site = s .site; characters = d .characters; pending = d .pending }
+
+-- an insert carried out, with what it releases
+unfoldable pub insertCarried : State → Insert → Drained
+insertCarried s i = let cs : List Character = integrateInsert (s .characters) i in drain cs (s .pending)
+
+-- ---- receiving
+
+-- "known": a held or waiting insert equal in every field, a hidden row, an equal waiting erase
+unfoldable pub duplicate : State → Operation → Bool
+duplicate s (insert i) = any (λ c. sameInsert i (origin c)) (s .characters) || any (sameOperation (insert i)) (s .pending)
+duplicate s (delete d) =
+    any (λ c. same (d .target) (c .id) && not (c .visible)) (s .characters) || any (sameOperation (delete d)) (s .pending)
+
+-- condition 7: "a received insert's identifier belongs to a row or waiting insert with other fields"
+unfoldable pub conflicting : State → Operation → Bool
+conflicting s (insert i) = any (λ j. same (i .id) (j .id) && not (sameInsert i j)) (known s)
+conflicting s (delete d) = false
+
+-- condition 10: "the operation must wait and its sender has 32 waiting already"
+unfoldable pub senderFull : State → Operation → Bool
+senderFull s o = not (executable (s .characters) o) && leb share (pendingFrom (sender o) (s .pending))
+
+-- condition 11: "it is an insert, typed or received, and rows plus waiting inserts are 1,024"
+unfoldable pub documentFull : State → Operation → Bool
+documentFull s (insert i) = leb capacity (length (known s))
+documentFull s (delete d) = false
+
+-- in checking order; `formed` says whether the replica is in form
+unfoldable pub receiveChecks : Bool → State → Operation → List (Check Answer)
+receiveChecks formed s o =
+    (not (inRange o) ⇒ Refused Range) ∷ (not formed ⇒ Refused Form) ∷ (duplicate s o ⇒ Duplicate)
+    ∷ (conflicting s o ⇒ Refused Conflict)
+    ∷ (crossed (s .characters) o ⇒ Refused Crossed)
+    ∷ (unplaceable (s .characters) o ⇒ Refused Unplaceable)
+    ∷ (senderFull s o ⇒ Refused SenderFull)
+    ∷ (documentFull s o ⇒ Refused DocumentFull)
+    ∷ []
+
+-- an operation that has everything it needs: "with all needed it is carried out"
+unfoldable pub carryOut : State → Operation → Outcome Answer
+carryOut s (insert i) =
+    let d : Drained = insertCarried s i in
+    record {
+      answer = Done (suc (length (d .integrated))) (length (d .discarded));
+      state = afterDrain s d;
+      own = insert i ∷ [];
+      drained = d .integrated;
+      discarded = d .discarded;
+    }
+carryOut s (delete d) =
+    let cs : List Character = integrateDelete (s .characters) (d .target) in
+    record {
+      answer = Done 1 0;
+      state = withCharacters s cs;
+      own = delete d ∷ [];
+      drained = [];
+      discarded = [];
+    }
+
+-- "else it joins the end of the waiting list"
+unfoldable pub defer : State → Operation → Outcome Answer
+defer s o = record { answer = Deferred; state = withPending s o; own = []; drained = []; discarded = [] }
+
+-- what is done where no condition holds
+unfoldable pub accept : State → Operation → Outcome Answer
+accept s o = cond (executable (s .characters) o) (carryOut s o) (defer s o)
+
+unfoldable pub receiveWhen : Bool → State → Operation → Outcome Answer
+receiveWhen formed s o = decided s (first (receiveChecks formed s o)) (accept s o)
+
+-- receiving an operation
+unfoldable pub receive : State → Operation → Outcome Answer
+receive s o = receiveWhen (wellFormed s) s o
+
+-- ---- typing
+
+-- the identifiers of the visible characters from the top
+unfoldable pub visibles : List Character → List Identifier
+visibles cs = identifiers (keep (λ c. c .visible) cs)
+
+-- "the laptop's number with its clock plus 1"
+unfoldable pub nextIdentifier : Site → Identifier
+nextIdentifier t = record { site = t .number; clock = t .clock + 1 }
+
+-- "previous is shown row g, or the begin mark at 0; next is shown row g + 1, or the end mark"
+unfoldable pub generatedInsert : State → ℕ → ℕ → Insert
+generatedInsert s g n =
+    record {
+      id = nextIdentifier (s .site);
+      «code_point» = n;
+      previous = getD (begin ∷ visibles (s .characters)) g begin;
+      next = getD (visibles (s .characters) ++ end ∷ []) g end;
+    }
+
+-- condition 4 for typing: "the gap is above the count of shown rows"
+unfoldable pub beyondVisible : State → ℕ → Bool
+beyondVisible s g = ltb (length (visibles (s .characters))) g
+
+-- condition 6: "the identifier about to be typed belongs to a row or a waiting insert"
+unfoldable pub taken : State → Bool
+taken s = any (λ i. same (nextIdentifier (s .site)) (i .id)) (known s)
+
+unfoldable pub insertChecks : Bool → State → ℕ → ℕ → List (Check Sent)
+insertChecks formed s g n =
+    (not (codePoint n) ⇒ sentRefused Range) ∷ (not formed ⇒ sentRefused Form)
+    ∷ (beyondVisible s g ⇒ sentRefused Position)
+    ∷ (leb lastClock (s .site .clock) ⇒ sentRefused Clock)
+    ∷ (taken s ⇒ sentRefused Taken)
+    ∷ (unplaceable (s .characters) (insert (generatedInsert s g n)) ⇒ sentRefused Unplaceable)
+    ∷ (documentFull s (insert (generatedInsert s g n)) ⇒ sentRefused DocumentFull)
+    ∷ []
+
+-- "lent to a typing call, which advances the clock by one in it"
+unfoldable pub advanced : State → State
+advanced s =
+    record {
+      site = record { number = s .site .number; clock = s .site .clock + 1 };
+      characters = s .characters;
+      pending = s .pending;
+    }
+
+-- what is done where no condition holds: the character is put in, and what waited for it follows
+unfoldable pub sendInsert : State → Insert → Outcome Sent
+sendInsert s i =
+    let d : Drained = insertCarried s i in
+    record {
+      answer =
+          sentDone (insert i) (suc (length (d .integrated))) (length (d .discarded));
+      state = afterDrain (advanced s) d;
+      own = insert i ∷ [];
+      drained = d .integrated;
+      discarded = d .discarded;
+    }
+
+unfoldable pub localInsertWhen : Bool → State → ℕ → ℕ → Outcome Sent
+localInsertWhen formed s g n =
+    decided s (first (insertChecks formed s g n)) (sendInsert s (generatedInsert s g n))
+
+-- typing the code point n at gap g
+unfoldable pub localInsert : State → ℕ → ℕ → Outcome Sent
+localInsert s g n = localInsertWhen (wellFormed s) s g n
+
+-- ---- erasing
+
+-- condition 4 for erasing: "the place is 0 or above it"
+unfoldable pub notVisible : State → ℕ → Bool
+notVisible s p = eqb p 0 || beyondVisible s p
+
+unfoldable pub deleteChecks : Bool → State → ℕ → List (Check Sent)
+deleteChecks formed s p = (not formed ⇒ sentRefused Form) ∷ (notVisible s p ⇒ sentRefused Position) ∷ []
+
+-- "its sender is the laptop": the delete of the visible character p, counted from 1
+unfoldable pub generatedDelete : State → ℕ → Delete
+generatedDelete s p = record { sender = s .site .number; target = getD (begin ∷ visibles (s .characters)) p begin }
+
+unfoldable pub sendDelete : State → Delete → Outcome Sent
+sendDelete s d =
+    let cs : List Character = integrateDelete (s .characters) (d .target) in
+    record {
+      answer = sentDone (delete d) 1 0;
+      state = withCharacters s cs;
+      own = delete d ∷ [];
+      drained = [];
+      discarded = [];
+    }
+
+unfoldable pub localDeleteWhen : Bool → State → ℕ → Outcome Sent
+localDeleteWhen formed s p =
+    decided s (first (deleteChecks formed s p)) (sendDelete s (generatedDelete s p))
+
+-- erasing the visible character p, counted from 1
+unfoldable pub localDelete : State → ℕ → Outcome Sent
+localDelete s p = localDeleteWhen (wellFormed s) s p

@@ -1,0 +1,71 @@
+-- Well-formedness (document 01: in form), as named conditions.
+use Prim.Native.Nat.{ℕ, zero, suc, _+_}
+use mathlib.Core.Bool.{Bool, _&&_, not}
+use mathlib.Core.List.{List, [], _∷_, _++_, map}
+use lib.Dec.{leb}
+use lib.ListN.{length}
+use Rattle.woot.specs.declared.Identifier.{Identifier}
+use Rattle.woot.specs.declared.Insert.{Insert}
+use Rattle.woot.specs.declared.Operation.{Operation}
+use Rattle.woot.specs.declared.Character.{Character}
+use Rattle.woot.specs.declared.Replica.{Replica}
+use Rattle.woot.specs.Limits.{lastSite, capacity, share}
+use Rattle.woot.specs.Identifiers.{same}
+use Rattle.woot.specs.Operations.{origin, inserts, deletes, sameDelete}
+use Rattle.woot.specs.Ranges.{siteInRange, characterInRange, inRange}
+use Rattle.woot.specs.State.{State, meaning, counted}
+use Rattle.woot.specs.Placing.{above}
+use Rattle.woot.specs.Pending.{executable, pendingFrom}
+use Rattle.woot.specs.Lists.{any, every, distinct}
+
+-- the inserts of the characters and the pending inserts
+unfoldable pub known : State → List Insert
+known s = map origin (s .characters) ++ inserts (s .pending)
+
+-- the numbers 1 to n, highest first
+abbrev pub numbers : ℕ → List ℕ
+numbers zero = []
+numbers (suc n) = suc n ∷ numbers n
+
+-- "every number, mark and neighbour is one that refusal 2 would let pass"
+unfoldable pub allInRange : State → Bool
+allInRange s = siteInRange (s .site) && every characterInRange (s .characters) && every inRange (s .pending)
+
+-- "at most 32 operations waiting for each sender"
+unfoldable pub sharesKept : State → Bool
+sharesKept s = every (λ n. leb (pendingFrom n (s .pending)) share) (numbers lastSite)
+
+-- "at most 1,024 rows"; "rows and waiting inserts together at most 1,024"
+unfoldable pub capacityKept : State → Bool
+capacityKept s = leb (length (known s)) capacity
+
+-- "no identifier occurs twice among rows and waiting inserts"
+unfoldable pub identifiersDistinct : State → Bool
+identifiersDistinct s = distinct same (map (λ i. i .id) (known s))
+
+-- "no two waiting erases have the same sender and identifier"
+unfoldable pub deletesDistinct : State → Bool
+deletesDistinct s = distinct sameDelete (deletes (s .pending))
+
+-- "its previous stands above it and its next below it"
+unfoldable pub ordered : List Character → Character → Bool
+ordered cs c = above cs (c .previous) (c .id) && above cs (c .id) (c .next)
+
+-- "each row's previous stands above it and its next below it"
+unfoldable pub neighboursOrdered : State → Bool
+neighboursOrdered s = every (ordered (s .characters)) (s .characters)
+
+-- "no waiting operation has everything it needs"
+unfoldable pub noneExecutable : State → Bool
+noneExecutable s = not (any (executable (s .characters)) (s .pending))
+
+-- in form
+unfoldable pub wellFormed : State → Bool
+wellFormed s =
+    allInRange s && sharesKept s && capacityKept s && identifiersDistinct s && deletesDistinct s
+    && neighboursOrdered s
+    && noneExecutable s
+
+-- a replica is in form when its counts are within its arrays and its meaning is in form
+unfoldable pub replicaWellFormed : Replica → Bool
+replicaWellFormed r = counted r && wellFormed (meaning r)

@@ -1,0 +1,72 @@
+-- Lists of calls, each given the state that the one before left, and what was carried out over them.
+use Prim.Native.Nat.{ℕ, zero, suc, _+_}
+use mathlib.Core.Path.{_≡_}
+use mathlib.Core.List.{List, [], _∷_, _++_, List·Memᴰ}
+use mathlib.Core.Bool.{Bool, true, false}
+use lib.ListN.{length}
+use Rattle.woot.specs.declared.Identifier.{Identifier}
+use Rattle.woot.specs.declared.Insert.{Insert}
+use Rattle.woot.specs.declared.Delete.{Delete}
+use Rattle.woot.specs.declared.Operation.{Operation}
+use Rattle.woot.specs.declared.Operation.the-variants.{Insert as insert, Delete as delete}
+use Rattle.woot.specs.declared.Answer.{Answer}
+use Rattle.woot.specs.declared.Answer.the-variants.{Done, Deferred, Duplicate, Refused}
+use Rattle.woot.specs.State.{State}
+use Rattle.woot.specs.Answers.{answerOf}
+use Rattle.woot.specs.Calls.{Outcome, integrated, receive, localInsert, localDelete}
+
+-- the kinds of call, with any arguments: typing at a gap, erasing at a place, receiving
+pub data Call : Type 0 where
+  inserting : ℕ → ℕ → Call
+  deleting : ℕ → Call
+  receiving : Operation → Call
+
+abbrev pub withAnswer : {A B : Type 0} → (A → B) → Outcome A → Outcome B
+withAnswer f r =
+    record { answer = f (r .answer); state = r .state; own = r .own; drained = r .drained; discarded = r .discarded }
+
+-- what a call answers and leaves
+unfoldable pub outcome : State → Call → Outcome Answer
+outcome s (inserting g n) = withAnswer answerOf (localInsert s g n)
+outcome s (deleting p) = withAnswer answerOf (localDelete s p)
+outcome s (receiving o) = receive s o
+
+-- "every call gets the sheet, record included, as the call before returned or left it"
+abbrev pub run : State → List Call → State
+run s [] = s
+run s (c ∷ cs) = run (outcome s c .state) cs
+
+-- the operations carried out over the calls, in order
+abbrev pub integratedBy : State → List Call → List Operation
+integratedBy s [] = []
+integratedBy s (c ∷ cs) = integrated (outcome s c) ++ integratedBy (outcome s c .state) cs
+
+-- those of them that were carried out from the pending operations
+abbrev pub drainedBy : State → List Call → List Operation
+drainedBy s [] = []
+drainedBy s (c ∷ cs) = outcome s c .drained ++ drainedBy (outcome s c .state) cs
+
+-- the operations thrown out over the calls
+abbrev pub discardedBy : State → List Call → List Operation
+discardedBy s [] = []
+discardedBy s (c ∷ cs) = outcome s c .discarded ++ discardedBy (outcome s c .state) cs
+
+-- 1 where the answer is waits
+abbrev pub isDeferred : Answer → ℕ
+isDeferred (Done n m) = 0
+isDeferred Deferred = 1
+isDeferred Duplicate = 0
+isDeferred (Refused r) = 0
+
+-- how many calls were answered waits
+abbrev pub deferredBy : State → List Call → ℕ
+deferredBy s [] = 0
+deferredBy s (c ∷ cs) = isDeferred (outcome s c .answer) + deferredBy (outcome s c .state) cs
+
+-- "the characters held are the inserts carried out, every field counted"
+abbrev pub InsertedIn : Insert → List Operation → Type 0
+InsertedIn i os = List·Memᴰ (insert i) os
+
+-- "one is erased once an erase of it is carried out", whoever sent it
+abbrev pub DeletedIn : Identifier → List Operation → Type 0
+DeletedIn x os = (d : Delete) × (d .target ≡ x) × List·Memᴰ (delete d) os

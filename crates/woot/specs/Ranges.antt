@@ -1,0 +1,59 @@
+-- What refusal 2 lets pass: the ranges of the numbers, and where a mark may stand.
+use Prim.Native.Nat.{ℕ}
+use mathlib.Core.Bool.{Bool, _&&_, _||_, not}
+use lib.Dec.{leb}
+use Rattle.woot.specs.declared.Identifier.{Identifier}
+use Rattle.woot.specs.declared.Site.{Site}
+use Rattle.woot.specs.declared.Insert.{Insert}
+use Rattle.woot.specs.declared.Delete.{Delete}
+use Rattle.woot.specs.declared.Operation.{Operation}
+use Rattle.woot.specs.declared.Operation.the-variants.{Insert as insert, Delete as delete}
+use Rattle.woot.specs.declared.Character.{Character}
+use Rattle.woot.specs.Limits.{lastSite, lastClock, lastCodePoint, firstSurrogate, lastSurrogate}
+use Rattle.woot.specs.Identifiers.{begin, end, same}
+use Rattle.woot.specs.Operations.{origin}
+
+-- low and high are the first and last of a range
+unfoldable pub within : ℕ → ℕ → ℕ → Bool
+within low high n = leb low n && leb n high
+
+-- "a number, 1 to 16"
+unfoldable pub siteNumber : ℕ → Bool
+siteNumber n = within 1 lastSite n
+
+-- "0 to 1,114,111, but not 55,296 to 57,343"
+unfoldable pub codePoint : ℕ → Bool
+codePoint n = within 0 lastCodePoint n && not (within firstSurrogate lastSurrogate n)
+
+-- "no character has these [marks], and a character's clock is at least 1"
+unfoldable pub characterId : Identifier → Bool
+characterId x = siteNumber (x .site) && within 1 lastClock (x .clock)
+
+-- "previous may be the begin mark"
+unfoldable pub previousId : Identifier → Bool
+previousId x = same x begin || characterId x
+
+-- "next may be the end mark"
+unfoldable pub nextId : Identifier → Bool
+nextId x = same x end || characterId x
+
+-- "a number, 1 to 16, and a clock, 0 to 65,535"
+unfoldable pub siteInRange : Site → Bool
+siteInRange s = siteNumber (s .number) && within 0 lastClock (s .clock)
+
+-- all of an insert's numbers and marks, and that it does not name itself as neighbour
+unfoldable pub insertInRange : Insert → Bool
+insertInRange i =
+    characterId (i .id) && codePoint (i .«code_point») && previousId (i .previous) && nextId (i .next)
+    && not (same (i .id) (i .previous))
+    && not (same (i .id) (i .next))
+
+unfoldable pub deleteInRange : Delete → Bool
+deleteInRange d = siteNumber (d .sender) && characterId (d .target)
+
+unfoldable pub inRange : Operation → Bool
+inRange (insert i) = insertInRange i
+inRange (delete d) = deleteInRange d
+
+unfoldable pub characterInRange : Character → Bool
+characterInRange c = insertInRange (origin c)

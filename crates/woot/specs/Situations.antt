@@ -1,0 +1,137 @@
+-- Document 01's situations marked P, as one table with one statement, and the cases that tell the slips it lists.
+use Prim.Native.Nat.{ℕ}
+use mathlib.Core.Path.{_≡_}
+use mathlib.Core.Bool.{Bool, true, false}
+use mathlib.Core.List.{List, [], _∷_, _++_, map}
+use Rattle.woot.specs.declared.Identifier.{Identifier}
+use Rattle.woot.specs.declared.Insert.{Insert}
+use Rattle.woot.specs.declared.Operation.{Operation}
+use Rattle.woot.specs.declared.Operation.the-variants.{Insert as insert, Delete as delete}
+use Rattle.woot.specs.declared.Character.{Character}
+use Rattle.woot.specs.Identifiers.{begin, end}
+use Rattle.woot.specs.Operations.{character}
+use Rattle.woot.specs.State.{State, initial}
+use Rattle.woot.specs.Placing.{identifiers}
+use Rattle.woot.specs.Answers.{Word, done, waits, known, refused, Reply, reply}
+use Rattle.woot.specs.Histories.{Call, inserting, deleting, receiving, outcome, run, drainedBy}
+use Rattle.woot.specs.Form.{wellFormed}
+use Rattle.utf8.specs.Encoding.{encode}
+
+infix 90 _/_
+-- identifiers as document 01 writes them
+abbrev pub _/_ : ℕ → ℕ → Identifier
+n / t = record { site = n; clock = t }
+
+-- the character of an identifier, typed between two others; its code point is of no matter here
+abbrev pub put : Identifier → Identifier → Identifier → Insert
+put x p n = record { id = x; «code_point» = 65; previous = p; next = n }
+
+-- an insert, and a delete by the site of the number, that arrive
+abbrev pub ins : Identifier → Identifier → Identifier → Call
+ins x p n = receiving (insert (put x p n))
+
+abbrev pub del : ℕ → Identifier → Call
+del n x = receiving (delete (record { sender = n; target = x }))
+
+-- what is done in a situation: calls on a state, or a code point encoded
+pub data Given : Type 0 where
+  calling : State → List Call → Given
+  encoding : ℕ → Given
+
+-- what is seen: the replies in order with the identifiers of the characters afterwards, or bytes
+pub data Seen : Type 0 where
+  calls : List Reply → List Identifier → Seen
+  bytes : List ℕ → Seen
+
+abbrev pub replies : State → List Call → List Reply
+replies s [] = []
+replies s (c ∷ cs) = let r = outcome s c in reply (r .answer) ∷ replies (r .state) cs
+
+unfoldable pub seen : Given → Seen
+seen (calling s cs) = calls (replies s cs) (identifiers (run s cs .characters))
+seen (encoding n) = bytes (encode n)
+
+-- calls on an empty replica of site 16
+abbrev pub after : List Call → Given
+after cs = calling (initial 16) cs
+
+-- replies: done with carried and thrown, waits, known, refused
+abbrev pub Done : ℕ → ℕ → Reply
+Done n m = record { word = done; integrated = n; discarded = m; refusal = 0 }
+
+abbrev pub Waits : Reply
+Waits = record { word = waits; integrated = 0; discarded = 0; refusal = 0 }
+
+abbrev pub Known : Reply
+Known = record { word = known; integrated = 0; discarded = 0; refusal = 0 }
+
+abbrev pub Refused : ℕ → Reply
+Refused n = record { word = refused; integrated = 0; discarded = 0; refusal = n }
+
+-- the four inserts of 001, section 3.4
+abbrev pub o1 : Call
+o1 = ins (1 / 1) begin end
+
+abbrev pub o2 : Call
+o2 = ins (2 / 1) begin end
+
+abbrev pub o3 : Call
+o3 = ins (3 / 1) begin (1 / 1)
+
+abbrev pub o4 : Call
+o4 = ins (3 / 2) (1 / 1) end
+
+-- a state of site 1 with the given characters, visible, and nothing pending
+abbrev pub holding : List Insert → State
+holding is = record { site = record { number = 1; clock = 9 }; characters = map character is; pending = [] }
+
+-- P7's rows: 1/1 (begin, 2/1) and 2/1 (1/1, end)
+abbrev pub crossRow : State
+crossRow = holding (put (1 / 1) begin (2 / 1) ∷ put (2 / 1) (1 / 1) end ∷ [])
+
+-- P8's shown text xyz
+abbrev pub xyz : State
+xyz = holding (put (2 / 1) begin end ∷ put (2 / 2) (2 / 1) end ∷ put (2 / 3) (2 / 2) end ∷ [])
+
+pub record Situation : Type 0 where
+  pub given : Given
+  pub expected : Seen
+
+infix 10 _gives_
+abbrev pub _gives_ : Given → Seen → Situation
+g gives x = record { given = g; expected = x }
+
+unfoldable pub table : List Situation
+table =
+    -- P1
+    (after (o1 ∷ o3 ∷ o4 ∷ o2 ∷ []) gives calls (Done 1 0 ∷ Done 1 0 ∷ Done 1 0 ∷ Done 1 0 ∷ []) (3 / 1 ∷ 1 / 1 ∷ 2 / 1 ∷ 3 / 2 ∷ []))
+    -- P2
+    ∷ (after (o2 ∷ o1 ∷ o3 ∷ o4 ∷ []) gives calls (Done 1 0 ∷ Done 1 0 ∷ Done 1 0 ∷ Done 1 0 ∷ []) (3 / 1 ∷ 1 / 1 ∷ 2 / 1 ∷ 3 / 2 ∷ []))
+    -- P3
+    ∷ (after (o1 ∷ o3 ∷ o2 ∷ []) gives calls (Done 1 0 ∷ Done 1 0 ∷ Done 1 0 ∷ []) (3 / 1 ∷ 1 / 1 ∷ 2 / 1 ∷ []))
+    -- P4, either arrival
+    ∷ (after (o1 ∷ o2 ∷ []) gives calls (Done 1 0 ∷ Done 1 0 ∷ []) (1 / 1 ∷ 2 / 1 ∷ []))
+    ∷ (after (o2 ∷ o1 ∷ []) gives calls (Done 1 0 ∷ Done 1 0 ∷ []) (1 / 1 ∷ 2 / 1 ∷ []))
+    -- P5
+    ∷ (after (o1 ∷ del 1 (1 / 1) ∷ ins (2 / 1) (1 / 1) end ∷ []) gives calls (Done 1 0 ∷ Done 1 0 ∷ Done 1 0 ∷ []) (1 / 1 ∷ 2 / 1 ∷ []))
+    -- P6
+    ∷ (after (o1 ∷ o2 ∷ ins (3 / 1) (2 / 1) (1 / 1) ∷ []) gives calls (Done 1 0 ∷ Done 1 0 ∷ Refused 8 ∷ []) (1 / 1 ∷ 2 / 1 ∷ []))
+    -- P7
+    ∷ (calling crossRow (ins (3 / 1) begin end ∷ []) gives calls (Refused 9 ∷ []) (1 / 1 ∷ 2 / 1 ∷ []))
+    -- P8
+    ∷ (calling xyz (inserting 1 65 ∷ []) gives calls (Done 1 0 ∷ []) (2 / 1 ∷ 1 / 10 ∷ 2 / 2 ∷ 2 / 3 ∷ []))
+    ∷ (calling xyz (inserting 4 65 ∷ []) gives calls (Refused 4 ∷ []) (2 / 1 ∷ 2 / 2 ∷ 2 / 3 ∷ []))
+    -- P9
+    ∷ (encoding 127 gives bytes (0x7F ∷ []))
+    ∷ (encoding 128 gives bytes (0xC2 ∷ 0x80 ∷ []))
+    ∷ (encoding 2048 gives bytes (0xE0 ∷ 0xA0 ∷ 0x80 ∷ []))
+    ∷ (encoding 65536 gives bytes (0xF0 ∷ 0x90 ∷ 0x80 ∷ 0x80 ∷ []))
+    ∷ []
+
+-- each situation of a list gives what is expected
+abbrev pub AllHold : List Situation → Type 0
+AllHold ts = map (λ t. seen (t .given)) ts ≡ map (λ t. t .expected) ts
+
+-- the table of situations marked P holds
+abbrev pub SituationsHold : Type 0
+SituationsHold = AllHold table

@@ -1,0 +1,73 @@
+-- A replica's meaning: its site and two plain lists, on which the rules are written.
+use Prim.Native.Nat.{ℕ, _-_}
+use mathlib.Core.Bool.{Bool, true, false, _&&_}
+use mathlib.Core.List.{List, [], _∷_, _++_, map}
+use lib.Dec.{leb}
+use lib.ListN.{length, take, replicate}
+use Rattle.woot.specs.declared.Site.{Site}
+use Rattle.woot.specs.declared.Insert.{Insert}
+use Rattle.woot.specs.declared.Operation.{Operation}
+use Rattle.woot.specs.declared.Operation.the-variants.{Insert as insert}
+use Rattle.woot.specs.declared.Character.{Character}
+use Rattle.woot.specs.declared.Pending.{Pending}
+use Rattle.woot.specs.declared.Document.{Document}
+use Rattle.woot.specs.declared.Replica.{Replica}
+use Rattle.woot.specs.Identifiers.{begin}
+
+-- characters from the top, pending operations earliest first
+pub record State : Type 0 where
+  pub site : Site
+  pub characters : List Character
+  pub pending : List Operation
+
+-- "an empty sheet has no rows, nothing waiting and clock 0"
+unfoldable pub initial : ℕ → State
+initial number = record { site = record { number = number; clock = 0 }; characters = []; pending = [] }
+
+-- the sizes of the arrays
+abbrev pub characterSlots : ℕ
+characterSlots = 1024
+
+abbrev pub pendingSlots : ℕ
+pendingSlots = 512
+
+unfoldable pub waiting : Operation → Pending
+waiting o = record { operation = o }
+
+-- what stands in a slot that is not in use
+unfoldable pub blankCharacter : Character
+blankCharacter = record { id = begin; «code_point» = 0; visible = false; previous = begin; next = begin }
+
+unfoldable pub blankPending : Pending
+blankPending = record { operation = insert (record { id = begin; «code_point» = 0; previous = begin; next = begin }) }
+
+-- a list in an array of m slots, z in those that are left
+unfoldable pub pad : {A : Type 0} → ℕ → A → List A → List A
+pad m z xs = xs ++ replicate (m - length xs) z
+
+-- the part of the arrays that is in use
+unfoldable pub meaning : Replica → State
+meaning r =
+    record {
+      site = r .site;
+      characters = take (r .document .length) (r .document .characters);
+      pending = map (λ p. p .operation) (take (r .document .waiting) (r .document .pending));
+    }
+
+-- the replica that holds a state, determined to the last slot
+unfoldable pub stored : State → Replica
+stored s =
+    record {
+      site = s .site;
+      document =
+          record {
+            characters = pad characterSlots blankCharacter (s .characters);
+            length = length (s .characters);
+            pending = pad pendingSlots blankPending (map waiting (s .pending));
+            waiting = length (s .pending);
+          };
+    }
+
+-- the counts are within the arrays
+unfoldable pub counted : Replica → Bool
+counted r = leb (r .document .length) characterSlots && leb (r .document .waiting) pendingSlots
