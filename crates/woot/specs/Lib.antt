@@ -12,3 +12,4 @@ pub mod Calls
 pub mod Text
 pub mod Histories
 pub mod Situations
+pub mod Agreement

@@ -1,0 +1,37 @@
+-- The tests on lists (`any`, `every`, `keep`, `distinct`) as facts about the members.
+use Prim.Native.Nat.{ℕ, zero, suc, _+_, _≤_, _<_}
+use mathlib.Core.Path.{_≡_, refl, ap, sym, _∙_, subst}
+use mathlib.Core.Bool.{Bool, true, false, _&&_, _||_, not, cond}
+use mathlib.Core.List.{List, [], _∷_, _++_, map, List·Memᴰ, List·Memᴰ·head, List·Memᴰ·tail, List·Memᴰ·cases-cons, List·Memᴰ·not-nil, Memᴰ·append-left, Memᴰ·append-right, List·Memᴰ·append-cases}
+use mathlib.Core.Logic.{_⊎_, inl, inr, ⊎-elim}
+use Rattle.woot.specs.Lists.{any, every, keep, count, distinct}
+use Rattle.woot.proofs.Tests.{either, and-left, and-right, and-intro, or-cases, or-left, or-right, or-false-left, or-false-right, or-false, fails}
+
+module _ {A : Type 0} where
+  pub any-member : (p : A → Bool) (xs : List A) → any p xs ≡ true → (x : A) × List·Memᴰ x xs × (p x ≡ true)
+  any-member p [] h = absurd (mathlib.Core.Bool.false≢true h)
+  any-member p (y ∷ ys) h = ⊎-elim (λ e. (y, List·Memᴰ·head refl, e)) (λ e. later (any-member p ys e)) (or-cases (p y) (any p ys) h)
+    where
+      later : ((x : A) × List·Memᴰ x ys × (p x ≡ true)) → (x : A) × List·Memᴰ x (y ∷ ys) × (p x ≡ true)
+      later w = (w .0, List·Memᴰ·tail (w .1), w .2)
+
+  pub member-any : (p : A → Bool) {x : A} {xs : List A} → List·Memᴰ x xs → p x ≡ true → any p xs ≡ true
+  member-any p (List·Memᴰ·head {x = y} {xs = ys} e) h = or-left (p y) (any p ys) (subst (λ (z : A). p z ≡ true) e h)
+  member-any p (List·Memᴰ·tail {x = y} {xs = ys} m) h = or-right (p y) (any p ys) (member-any p m h)
+
+  -- nothing in the list passes
+  pub any-none : (p : A → Bool) {x : A} {xs : List A} → any p xs ≡ false → List·Memᴰ x xs → p x ≡ false
+  any-none p (h) (List·Memᴰ·head {x = y} {xs = ys} e) = subst (λ (z : A). p z ≡ false) (sym e) (or-false-left (p y) (any p ys) h)
+  any-none p (h) (List·Memᴰ·tail {x = y} {xs = ys} m) = any-none p (or-false-right (p y) (any p ys) h) m
+
+  pub none-any : (p : A → Bool) (xs : List A) → ((x : A) → List·Memᴰ x xs → p x ≡ false) → any p xs ≡ false
+  none-any p [] f = refl
+  none-any p (x ∷ xs) f = or-false (f x (List·Memᴰ·head refl)) (none-any p xs (λ y m. f y (List·Memᴰ·tail m)))
+
+  pub every-member : (p : A → Bool) {x : A} {xs : List A} → every p xs ≡ true → List·Memᴰ x xs → p x ≡ true
+  every-member p h (List·Memᴰ·head {x = y} {xs = ys} e) = subst (λ (z : A). p z ≡ true) (sym e) (and-left (p y) (every p ys) h)
+  every-member p h (List·Memᴰ·tail {x = y} {xs = ys} m) = every-member p (and-right (p y) (every p ys) h) m
+
+  pub member-every : (p : A → Bool) (xs : List A) → ((x : A) → List·Memᴰ x xs → p x ≡ true) → every p xs ≡ true
+  member-every p [] f = refl
+  member-every p (x ∷ xs) f = and-intro (f x (List·Memᴰ·head refl)) (member-every p xs (λ y m. f y (List·Memᴰ·tail m)))
