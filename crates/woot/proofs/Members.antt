@@ -4,7 +4,7 @@ use mathlib.Core.Path.{_≡_, refl, ap, sym, _∙_, subst}
 use mathlib.Core.Bool.{Bool, true, false, _&&_, _||_, not, cond}
 use mathlib.Core.List.{List, [], _∷_, _++_, map, List·Memᴰ, List·Memᴰ·head, List·Memᴰ·tail, List·Memᴰ·cases-cons, List·Memᴰ·not-nil, Memᴰ·append-left, Memᴰ·append-right, List·Memᴰ·append-cases}
 use mathlib.Core.Logic.{_⊎_, inl, inr, ⊎-elim}
-use Rattle.woot.specs.Lists.{any, every, keep, count, distinct}
+use Rattle.woot.specs.Lists.{any, every, keep, distinct}
 use Rattle.woot.proofs.Tests.{either, and-left, and-right, and-intro, or-cases, or-left, or-right, or-false-left, or-false-right, or-false, fails}
 
 module _ {A : Type 0} where

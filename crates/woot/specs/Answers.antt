@@ -68,5 +68,5 @@ module _ {A : Type 0} where
 
   -- a is the answer at a condition that holds, and no condition before it holds
   pub data Reported (a : A) : List (Check A) → Type 0 where
-    here : {b : Bool} {cs : List (Check A)} → b ≡ true → Reported a ((b ⇒ a) ∷ cs)
+    here : {c : Check A} {cs : List (Check A)} → c .holds ≡ true → c .answer ≡ a → Reported a (c ∷ cs)
     later : {c : Check A} {cs : List (Check A)} → c .holds ≡ false → Reported a cs → Reported a (c ∷ cs)

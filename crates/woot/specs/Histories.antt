@@ -3,15 +3,17 @@ use Prim.Native.Nat.{ℕ, zero, suc, _+_}
 use mathlib.Core.Path.{_≡_}
 use mathlib.Core.List.{List, [], _∷_, _++_, List·Memᴰ}
 use mathlib.Core.Bool.{Bool, true, false}
+use mathlib.Core.Logic.{_↔_}
 use lib.ListN.{length}
 use Rattle.woot.specs.declared.Identifier.{Identifier}
 use Rattle.woot.specs.declared.Insert.{Insert}
 use Rattle.woot.specs.declared.Delete.{Delete}
 use Rattle.woot.specs.declared.Operation.{Operation}
 use Rattle.woot.specs.declared.Operation.the-variants.{Insert as insert, Delete as delete}
+use Rattle.woot.specs.declared.Character.{Character}
 use Rattle.woot.specs.declared.Answer.{Answer}
 use Rattle.woot.specs.declared.Answer.the-variants.{Done, Deferred, Duplicate, Refused}
-use Rattle.woot.specs.State.{State}
+use Rattle.woot.specs.State.{State, initial}
 use Rattle.woot.specs.Answers.{answerOf}
 use Rattle.woot.specs.Calls.{Outcome, integrated, receive, localInsert, localDelete}
 
@@ -70,3 +72,19 @@ InsertedIn i os = List·Memᴰ (insert i) os
 -- "one is erased once an erase of it is carried out", whoever sent it
 abbrev pub DeletedIn : Identifier → List Operation → Type 0
 DeletedIn x os = (d : Delete) × (d .target ≡ x) × List·Memᴰ (delete d) os
+
+-- ---- from an empty replica of the number
+
+abbrev pub charactersAfter : ℕ → List Call → List Character
+charactersAfter n cs = run (initial n) cs .characters
+
+abbrev pub historyOf : ℕ → List Call → List Operation
+historyOf n cs = integratedBy (initial n) cs
+
+-- the same characters held
+abbrev pub SameInserted : List Operation → List Operation → Type 0
+SameInserted os ps = (i : Insert) → InsertedIn i os ↔ InsertedIn i ps
+
+-- the same ones erased
+abbrev pub SameDeleted : List Operation → List Operation → Type 0
+SameDeleted os ps = (x : Identifier) → DeletedIn x os ↔ DeletedIn x ps

@@ -13,3 +13,4 @@ pub mod Text
 pub mod Histories
 pub mod Situations
 pub mod Agreement
+pub mod Theorems

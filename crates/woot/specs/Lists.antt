@@ -1,9 +1,7 @@
 -- Tests and choices on plain lists, by which the rules are written.
-use Prim.Native.Nat.{ℕ}
 use mathlib.Core.List.{List, [], _∷_}
 use mathlib.Core.Bool.{Bool, true, false, _&&_, _||_, not, cond}
 use mathlib.Core.Option.{Option, none, some}
-use lib.ListN.{length}
 
 module _ {A : Type 0} where
   -- some element passes the test
@@ -20,10 +18,6 @@ module _ {A : Type 0} where
   abbrev pub keep : (A → Bool) → List A → List A
   keep p [] = []
   keep p (x ∷ xs) = cond (p x) (x ∷ keep p xs) (keep p xs)
-
-  -- how many elements pass the test
-  abbrev pub count : (A → Bool) → List A → ℕ
-  count p xs = length (keep p xs)
 
   -- no two elements are the same by the test
   abbrev pub distinct : (A → A → Bool) → List A → Bool

@@ -11,7 +11,7 @@ use Rattle.woot.specs.declared.Operation.the-variants.{Insert as insert,
 use Rattle.woot.specs.declared.Character.{Character}
 use Rattle.woot.specs.Operations.{sender}
 use Rattle.woot.specs.Placing.{held, above, position, between, integrateInsert, integrateDelete}
-use Rattle.woot.specs.Lists.{count, missing}
+use Rattle.woot.specs.Lists.{keep, missing}
 
 -- "an insert needs its previous and next held. An erase needs its row" (001, isExecutable)
 unfoldable pub executable : List Character → Operation → Bool
@@ -33,9 +33,13 @@ unfoldable pub integrate : List Character → Operation → List Character
 integrate cs (insert i) = integrateInsert cs i
 integrate cs (delete d) = integrateDelete cs (d .target)
 
+-- the operations of one sender
+abbrev pub sentBy : ℕ → List Operation → List Operation
+sentBy n ps = keep (λ o. eqb (sender o) n) ps
+
 -- how many operations of one sender are pending
 unfoldable pub pendingFrom : ℕ → List Operation → ℕ
-pendingFrom n ps = count (λ o. eqb (sender o) n) ps
+pendingFrom n ps = length (sentBy n ps)
 
 -- an operation, and the list that it was taken out of without it
 pub record Taken : Type 0 where
