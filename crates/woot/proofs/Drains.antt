@@ -5,32 +5,14 @@ use native.Mathlib.Omega.{arith}
 use mathlib.Core.Path.{_≡_, refl, ap, sym, _∙_, subst}
 use mathlib.Core.Bool.{Bool, true, false, _&&_, _||_, cond}
 use mathlib.Core.Option.{Option, none, some}
-use mathlib.Core.Logic.{_⊎_, inl, inr, ⊎-elim}
-use mathlib.Core.List.{List, [], _∷_, _++_, List·Memᴰ, List·Memᴰ·head, List·Memᴰ·tail}
+use mathlib.Core.List.{List, [], _∷_}
 use lib.ListN.{length}
 use Rattle.woot.specs.declared.Operation.{Operation}
 use Rattle.woot.specs.declared.Character.{Character}
 use Rattle.woot.specs.Pending.{executable, crossed, unplaceable, integrate, Taken, behind, earliest, Drained, andIntegrated, andDiscarded, drained, drainSteps, drain}
 use Rattle.woot.specs.Lists.{any}
-use Rattle.woot.proofs.Tests.{either, or-false-left, or-false-right, or-false}
-
--- ps is os with o at some place
-pub data Extract (o : Operation) : List Operation → List Operation → Type 0 where
-  front : {os : List Operation} → Extract o os (o ∷ os)
-  past : {p : Operation} {os ps : List Operation} → Extract o os ps → Extract o (p ∷ os) (p ∷ ps)
-
-pub extract-length : {o : Operation} {os ps : List Operation} → Extract o os ps → length ps ≡ suc (length os)
-extract-length front = refl
-extract-length (past x) = ap suc (extract-length x)
-
-pub extract-old : {o p : Operation} {os ps : List Operation} → Extract o os ps → List·Memᴰ p os → List·Memᴰ p ps
-extract-old front m = List·Memᴰ·tail m
-extract-old (past x) (List·Memᴰ·head e) = List·Memᴰ·head e
-extract-old (past x) (List·Memᴰ·tail m) = List·Memᴰ·tail (extract-old x m)
-
-pub extract-itself : {o : Operation} {os ps : List Operation} → Extract o os ps → List·Memᴰ o ps
-extract-itself front = List·Memᴰ·head refl
-extract-itself (past x) = List·Memᴰ·tail (extract-itself x)
+use Rattle.woot.proofs.Tests.{or-false-left, or-false-right, or-false}
+use Rattle.woot.proofs.Extract.{Extract, front, past, extract-length}
 
 -- what the earliest is: it passes the test and was taken out of the list
 pub record Found (p : Operation → Bool) (ps : List Operation) (t : Taken) : Type 0 where

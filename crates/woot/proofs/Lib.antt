@@ -3,4 +3,6 @@ pub mod Members
 pub mod Identifiers
 pub mod Situations
 pub mod Refusals
+pub mod Extract
 pub mod Drains
+pub mod Forms

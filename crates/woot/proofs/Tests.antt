@@ -72,3 +72,17 @@ agree true true f g = refl
 agree true false f g = sym (f refl)
 agree false true f g = g refl
 agree false false f g = refl
+
+-- conjunctions of three, of four and of seven, taken apart
+pub three : (a b c : Bool) → a && b && c ≡ true → (a ≡ true) × (b ≡ true) × (c ≡ true)
+three a b c h = (and-left a b (and-left (a && b) c h), and-right a b (and-left (a && b) c h), and-right (a && b) c h)
+
+pub four : (a b c d : Bool) → a && b && c && d ≡ true → (a ≡ true) × (b ≡ true) × (c ≡ true) × (d ≡ true)
+four a b c d h =
+    let t = three a b c (and-left (a && b && c) d h) in
+    (t .0, t .1, t .2, and-right (a && b && c) d h)
+
+pub seven : (a b c d e f g : Bool) → a && b && c && d && e && f && g ≡ true → (a ≡ true) × (b ≡ true) × (c ≡ true) × (d ≡ true) × (e ≡ true) × (f ≡ true) × (g ≡ true)
+seven a b c d e f g h =
+    let t = four a b c d (and-left (a && b && c && d) e (and-left (a && b && c && d && e) f (and-left (a && b && c && d && e && f) g h))) in
+    (t .0, t .1, t .2, t .3, and-right (a && b && c && d) e (and-left (a && b && c && d && e) f (and-left (a && b && c && d && e && f) g h)), and-right (a && b && c && d && e) f (and-left (a && b && c && d && e && f) g h), and-right (a && b && c && d && e && f) g h)
