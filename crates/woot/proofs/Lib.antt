@@ -1,8 +1,11 @@
 pub mod Tests
 pub mod Members
 pub mod Identifiers
-pub mod Situations
-pub mod Refusals
 pub mod Extract
-pub mod Drains
+pub mod Insertion
+pub mod Places
+pub mod Deletion
 pub mod Forms
+pub mod Drains
+pub mod Refusals
+pub mod Situations

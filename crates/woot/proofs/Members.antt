@@ -7,6 +7,14 @@ use mathlib.Core.Logic.{_⊎_, inl, inr, ⊎-elim}
 use Rattle.woot.specs.Lists.{any, every, keep, distinct}
 use Rattle.woot.proofs.Tests.{either, and-left, and-right, and-intro, or-cases, or-left, or-right, or-false-left, or-false-right, or-false, fails}
 
+or-assoc : (a b c : Bool) → (a || (b || c)) ≡ ((a || b) || c)
+or-assoc true b c = refl
+or-assoc false b c = refl
+
+and-assoc : (a b c : Bool) → (a && (b && c)) ≡ ((a && b) && c)
+and-assoc true b c = refl
+and-assoc false b c = refl
+
 module _ {A : Type 0} where
   pub any-member : (p : A → Bool) (xs : List A) → any p xs ≡ true → (x : A) × List·Memᴰ x xs × (p x ≡ true)
   any-member p [] h = absurd (mathlib.Core.Bool.false≢true h)
@@ -35,3 +43,20 @@ module _ {A : Type 0} where
   pub member-every : (p : A → Bool) (xs : List A) → ((x : A) → List·Memᴰ x xs → p x ≡ true) → every p xs ≡ true
   member-every p [] f = refl
   member-every p (x ∷ xs) f = and-intro (f x (List·Memᴰ·head refl)) (member-every p xs (λ y m. f y (List·Memᴰ·tail m)))
+
+  pub any-append : (p : A → Bool) (xs ys : List A) → any p (xs ++ ys) ≡ (any p xs || any p ys)
+  any-append p [] ys = refl
+  any-append p (x ∷ xs) ys = ap (λ (b : Bool). p x || b) (any-append p xs ys) ∙ or-assoc (p x) (any p xs) (any p ys)
+
+  pub every-append : (p : A → Bool) (xs ys : List A) → every p (xs ++ ys) ≡ (every p xs && every p ys)
+  every-append p [] ys = refl
+  every-append p (x ∷ xs) ys = ap (λ (b : Bool). p x && b) (every-append p xs ys) ∙ and-assoc (p x) (every p xs) (every p ys)
+
+module _ {A B : Type 0} where
+  pub keep-map : (f : A → B) (p : B → Bool) (q : A → Bool) → ((x : A) → p (f x) ≡ q x) → (xs : List A) → keep p (map f xs) ≡ map f (keep q xs)
+  keep-map f p q e [] = refl
+  keep-map f p q e (x ∷ xs) = ap (λ (b : Bool). cond b (f x ∷ keep p (map f xs)) (keep p (map f xs))) (e x) ∙ go (q x) (keep-map f p q e xs)
+    where
+      go : (b : Bool) → keep p (map f xs) ≡ map f (keep q xs) → cond b (f x ∷ keep p (map f xs)) (keep p (map f xs)) ≡ map f (cond b (x ∷ keep q xs) (keep q xs))
+      go true r = ap (λ (ys : List B). f x ∷ ys) r
+      go false r = r
