@@ -1,1 +1,3 @@
 pub mod Encoding
+pub mod Encoded
+pub mod Ranges

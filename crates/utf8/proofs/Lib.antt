@@ -1,0 +1,4 @@
+-- `Laws` and `Ranges` are for the crates that link this one.
+pub mod Laws
+pub mod Bits
+pub mod Ranges
