@@ -1,6 +1,6 @@
 -- What `utf8::encode` answers, as a value of its struct.
 use Prim.Native.Nat.{ℕ, _-_}
-use mathlib.Core.List.{List, _++_}
+use mathlib.Core.List.{_++_}
 use lib.ListN.{length, replicate}
 use Rattle.utf8.specs.declared.Encoded.{Encoded}
 use Rattle.utf8.specs.Encoding.{encode, encodedLength}

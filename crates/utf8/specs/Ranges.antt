@@ -1,7 +1,7 @@
 -- RFC 3629's table by its own ranges of numbers. That the definitions of `Encoding` give it is proved in `proofs/Ranges.antt`.
 use Prim.Native.Nat.{ℕ, _+_, _/_, _%_, _≤_}
 use mathlib.Core.Path.{_≡_}
-use mathlib.Core.List.{List, [], _∷_}
+use mathlib.Core.List.{[], _∷_}
 use Rattle.utf8.specs.Encoding.{encode, encodedLength}
 
 -- how many bytes, by the range that the code point is in

@@ -1,0 +1,3 @@
+-- `Laws` is for the crates that link this one.
+pub mod Laws
+pub mod Alignment

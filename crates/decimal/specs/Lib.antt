@@ -1,0 +1,3 @@
+pub mod Numeral
+pub mod Answers
+pub mod Theorems
