@@ -1,7 +1,7 @@
 -- A delete hides characters and changes nothing else: all that looks only at where each character came from is as it
 -- was.
 use Prim.Native.Nat.{ℕ, zero, suc}
-use mathlib.Core.Path.{_≡_, refl, ap, ap₂, sym, _∙_}
+use mathlib.Core.Path.{_≡_, refl, ap, ap₂, sym, _∙_, subst}
 use mathlib.Core.Bool.{Bool, true, false, _&&_, not, cond}
 use mathlib.Core.List.{List, [], _∷_, _++_, map, List·Memᴰ, Memᴰ·map, Memᴰ·of-map}
 use mathlib.Core.Option.{Option, none, some}
@@ -106,6 +106,10 @@ module _ (cs : List Character) (x : Identifier) where
   pub member-delete : {c : Character} → List·Memᴰ c cs → List·Memᴰ (marked x c) (integrateDelete cs x)
   unfolding integrateDelete
   member-delete m = Memᴰ·map (marked x) m
+
+  -- what holds of where each character came from
+  pub delete-each : (P : Insert → Type 0) → ((c : Character) → List·Memᴰ c cs → P (origin c)) → (d : Character) → List·Memᴰ d (integrateDelete cs x) → P (origin d)
+  delete-each P f d m = let r = delete-member m in subst P (sym (marked-origin x (r .0)) ∙ ap origin (r .2)) (f (r .0) (r .1))
 
   pub delete-executable : (o : Operation) → executable (integrateDelete cs x) o ≡ executable cs o
   unfolding executable

@@ -5,6 +5,8 @@ pub mod Extract
 pub mod Insertion
 pub mod Places
 pub mod Deletion
+pub mod Placing
+pub mod Standing
 pub mod Forms
 pub mod Drains
 pub mod Refusals

@@ -52,6 +52,25 @@ module _ {A : Type 0} where
   every-append p [] ys = refl
   every-append p (x ∷ xs) ys = ap (λ (b : Bool). p x && b) (every-append p xs ys) ∙ and-assoc (p x) (every p xs) (every p ys)
 
+  pub keep-member : (p : A → Bool) {x : A} (xs : List A) → List·Memᴰ x (keep p xs) → List·Memᴰ x xs × (p x ≡ true)
+  keep-member p [] m = absurd (List·Memᴰ·not-nil m)
+  keep-member p {x} (y ∷ ys) m = go (p y) refl (λ n. keep-member p ys n) m
+    where
+      later : List·Memᴰ x ys × (p x ≡ true) → List·Memᴰ x (y ∷ ys) × (p x ≡ true)
+      later r = (List·Memᴰ·tail (r .0), r .1)
+
+      go : (b : Bool) → p y ≡ b → (List·Memᴰ x (keep p ys) → List·Memᴰ x ys × (p x ≡ true)) → List·Memᴰ x (cond b (y ∷ keep p ys) (keep p ys)) → List·Memᴰ x (y ∷ ys) × (p x ≡ true)
+      go true e r n = ⊎-elim (λ q. (List·Memᴰ·head q, ap p q ∙ e)) (λ l. later (r l)) (List·Memᴰ·cases-cons n)
+      go false e r n = later (r n)
+
+  pub member-keep : (p : A → Bool) {x : A} {xs : List A} → List·Memᴰ x xs → p x ≡ true → List·Memᴰ x (keep p xs)
+  member-keep p (List·Memᴰ·head {x = y} {xs = ys} e) h = rw (sym (ap p e) ∙ h) (List·Memᴰ·head e)
+  member-keep p {x} (List·Memᴰ·tail {x = y} {xs = ys} m) h = go (p y) (member-keep p m h)
+    where
+      go : (b : Bool) → List·Memᴰ x (keep p ys) → List·Memᴰ x (cond b (y ∷ keep p ys) (keep p ys))
+      go true n = List·Memᴰ·tail n
+      go false n = n
+
 module _ {A B : Type 0} where
   pub keep-map : (f : A → B) (p : B → Bool) (q : A → Bool) → ((x : A) → p (f x) ≡ q x) → (xs : List A) → keep p (map f xs) ≡ map f (keep q xs)
   keep-map f p q e [] = refl

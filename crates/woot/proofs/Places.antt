@@ -7,8 +7,8 @@ use native.Mathlib.Numerals.{add-one}
 use mathlib.Core.Path.{_≡_, refl, ap, ap₂, sym, _∙_, subst}
 use mathlib.Core.Bool.{Bool, true, false, _&&_, _||_}
 use mathlib.Core.List.{List, [], _∷_, _++_, List·Memᴰ, Memᴰ·map, Memᴰ·of-map}
-use mathlib.Core.Logic.{⊎-elim}
-use borrow.Author.Tests.{ltb-true, leb-true, lt-ltb, le-leb}
+use mathlib.Core.Logic.{_⊎_, inl, inr, ⊎-elim}
+use borrow.Author.Tests.{ltb-true, leb-true, leb-false, lt-ltb, le-leb}
 use lib.Dec.{leb, ltb, leb·zero, leb·suc-zero, leb·suc-suc}
 use lib.ListN.{length, getD, length-append, length-map}
 use Rattle.woot.specs.declared.Identifier.{Identifier}
@@ -22,6 +22,9 @@ use Rattle.woot.proofs.Tests.{either, clash, and-left, and-right, and-i
 use Rattle.woot.proofs.Members.{any-member, member-any, any-append}
 use Rattle.woot.proofs.Identifiers.{same-refl, same-eq, ne-same}
 use Rattle.woot.proofs.Insertion.{put, put-any, put-append, insert-map}
+
+pub side : (a b : ℕ) → (a ≤ b) ⊎ (b < a)
+side a b = ⊎-elim (λ e. inl (leb-true a b e)) (λ e. inr (leb-false a b e)) (either (leb a b))
 
 -- an index into a list, once an element is put in after the first k
 abbrev pub shift : ℕ → ℕ → ℕ
