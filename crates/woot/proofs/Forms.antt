@@ -46,7 +46,7 @@ pub record Formed (s : State) : Type 0 where
   pub sound : Sound (s .characters) (s .pending)
   pub unready : any (executable (s .characters)) (s .pending) ≡ false
 
-known-length : (s : State) → length (known s) ≡ length (s .characters) + length (inserts (s .pending))
+pub known-length : (s : State) → length (known s) ≡ length (s .characters) + length (inserts (s .pending))
 unfolding known
 known-length s = length-append (map origin (s .characters)) (inserts (s .pending)) ∙ ap (λ (n : ℕ). n + length (inserts (s .pending))) (length-map (s .characters) origin)
 

@@ -1,6 +1,7 @@
 pub mod Tests
 pub mod Members
 pub mod Identifiers
+pub mod Ranges
 pub mod Extract
 pub mod Insertion
 pub mod Places
@@ -8,6 +9,10 @@ pub mod Deletion
 pub mod Placing
 pub mod Standing
 pub mod Forms
+pub mod Soundness
 pub mod Drains
+pub mod Draining
+pub mod Generated
+pub mod Steps
 pub mod Refusals
 pub mod Situations
