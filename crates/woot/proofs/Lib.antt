@@ -14,5 +14,7 @@ pub mod Drains
 pub mod Draining
 pub mod Generated
 pub mod Steps
+pub mod Shares
+pub mod Kept
 pub mod Refusals
 pub mod Situations
