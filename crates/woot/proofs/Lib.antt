@@ -16,5 +16,7 @@ pub mod Generated
 pub mod Steps
 pub mod Shares
 pub mod Kept
+pub mod Faithful
+pub mod Histories
 pub mod Refusals
 pub mod Situations

@@ -24,10 +24,10 @@ use Rattle.woot.specs.Pending.{executable, crossed, unplaceable, sentBy,
 use Rattle.woot.specs.Form.{numbers, ordered}
 use Rattle.woot.specs.Agreement.{Standing}
 use Rattle.woot.specs.Lists.{any, every, keep, distinct}
-use Rattle.woot.proofs.Tests.{either, and-left, and-right, and-intro, or-false, or-false-left, or-false-right, not-intro}
+use Rattle.woot.proofs.Tests.{either, and-left, and-right, and-intro, or-right, or-false, or-false-left, or-false-right, not-intro}
 use Rattle.woot.proofs.Members.{every-member, member-every}
 use Rattle.woot.proofs.Identifiers.{same-sym, ne-same}
-use Rattle.woot.proofs.Places.{held-parts}
+use Rattle.woot.proofs.Places.{held-parts, held-insert}
 use Rattle.woot.proofs.Deletion.{delete-length, delete-identifiers}
 use Rattle.woot.proofs.Ranges.{no-mark, in-range}
 use Rattle.woot.proofs.Extract.{Extract, front, past, extract-length, extract-old, extract-front, extract-append, extract-last, extract-map, extract-every, every-extract, keep-extract, keep-same, distinct-extract, extract-distinct}
@@ -150,12 +150,27 @@ insert-extract (suc k) c (d ∷ cs) = past (insert-extract k c cs)
 pub unheld : (cs : List Character) (x : Identifier) → characterId x ≡ true → any (same x) (identifiers cs) ≡ false → held cs x ≡ false
 unheld cs x r h = held-parts cs x ∙ or-false (ne-same x begin (no-mark x 0 r)) (or-false h (ne-same x end (no-mark x 1 r)))
 
+-- an insert in its place is one character more
+pub placed-extract : (cs : List Character) (i : Insert) → executable cs (insert i) ≡ true → crossed cs (insert i) ≡ false → unplaceable cs (insert i) ≡ false → Extract (character i) cs (integrateInsert cs i)
+placed-extract cs i ready uncrossed placeable =
+    let w = integrate-insert cs i ready uncrossed placeable in
+    subst (λ ds. Extract (character i) cs ds) (sym (w .2)) (insert-extract (w .0) (character i) cs)
+
+-- and what was held is held
+pub placed-held : (cs : List Character) (i : Insert) → executable cs (insert i) ≡ true → crossed cs (insert i) ≡ false → unplaceable cs (insert i) ≡ false → (x : Identifier) → held cs x ≡ true → held (integrateInsert cs i) x ≡ true
+placed-held cs i ready uncrossed placeable x h =
+    let w = integrate-insert cs i ready uncrossed placeable in
+    subst (λ ds. held ds x ≡ true) (sym (w .2)) (held-insert (w .0) (character i) cs x ∙ or-right (same x (character i .id)) (held cs x) h)
+
+-- a fresh identifier is not held
+pub fresh-unheld : (cs : List Character) (ps : List Operation) (i : Insert) → insertInRange i ≡ true → any (same (i .id)) (identifiers cs ++ pendingIds ps) ≡ false → held cs (i .id) ≡ false
+fresh-unheld cs ps i r fresh = unheld cs (i .id) (in-range i r .id) (any-left (same (i .id)) (identifiers cs) (pendingIds ps) fresh)
+
 pub sound-in : {cs : List Character} {ps : List Operation} (i : Insert) → Sound cs ps → insertInRange i ≡ true → any (same (i .id)) (identifiers cs ++ pendingIds ps) ≡ false → length cs + length (inserts ps) < capacity → executable cs (insert i) ≡ true → crossed cs (insert i) ≡ false → unplaceable cs (insert i) ≡ false → Sound (integrateInsert cs i) ps
 unfolding character
 sound-in {cs} {ps} i s r fresh space ready uncrossed placeable =
-    let w = integrate-insert cs i ready uncrossed placeable in
-    let x : Extract (character i) cs (integrateInsert cs i) = subst (λ ds. Extract (character i) cs ds) (sym (w .2)) (insert-extract (w .0) (character i) cs) in
-    let t = standing-insert cs i (standing s) r (unheld cs (i .id) (in-range i r .id) (any-left (same (i .id)) (identifiers cs) (pendingIds ps) fresh)) ready uncrossed placeable in
+    let x = placed-extract cs i ready uncrossed placeable in
+    let t = standing-insert cs i (standing s) r (fresh-unheld cs ps i r fresh) ready uncrossed placeable in
     record {
       ranges = member-every characterInRange (integrateInsert cs i) (t .ranges);
       ordered-all = all-ordered t;
