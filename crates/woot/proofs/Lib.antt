@@ -8,6 +8,9 @@ pub mod Places
 pub mod Deletion
 pub mod Placing
 pub mod Standing
+pub mod Characters
+pub mod Sorting
+pub mod Growth
 pub mod Forms
 pub mod Soundness
 pub mod Drains

@@ -64,56 +64,57 @@ module _ (cs : List Character) (i : Insert) (ready : executable cs (insert i) �
   pub integrate-insert : unplaceable cs (insert i) ≡ false → (k : ℕ) × (k ≤ length cs) × (integrateInsert cs i ≡ insertAt k (character i) cs)
   integrate-insert u = let p = placement u in (p .place, p .within, p .result)
 
+-- the characters with an insert in its place
+abbrev pub inserted : (cs : List Character) (i : Insert) → Placement cs i → List Character
+inserted cs i p = insertAt (p .place) (character i) cs
+
 -- where the old and the new stand, once an insert is in its place
 module _ (cs : List Character) (i : Insert) (fresh : held cs (i .id) ≡ false) (p : Placement cs i) where
-  abbrev grown : List Character
-  grown = insertAt (p .place) (character i) cs
-
-  pub new-place : placeOf grown (i .id) ≡ suc (p .place)
+  pub new-place : placeOf (inserted cs i p) (i .id) ≡ suc (p .place)
   unfolding character
   new-place = place-insert-new (p .place) (character i) cs (p .within) fresh
 
-  pub new-held : held grown (i .id) ≡ true
+  pub new-held : held (inserted cs i p) (i .id) ≡ true
   unfolding character
   new-held = held-insert (p .place) (character i) cs (i .id) ∙ or-left (same (i .id) (i .id)) _ (same-refl (i .id))
 
-  pub old-held : (x : Identifier) → held cs x ≡ true → held grown x ≡ true
+  pub old-held : (x : Identifier) → held cs x ≡ true → held (inserted cs i p) x ≡ true
   unfolding character
   old-held x h = held-insert (p .place) (character i) cs x ∙ or-right (same x (i .id)) _ h
 
   -- those above the new one keep their place, and the others move down by one
-  pub old-place : (x : Identifier) → held cs x ≡ true → ((placeOf cs x ≤ p .place) × (placeOf grown x ≡ placeOf cs x)) ⊎ ((p .place < placeOf cs x) × (placeOf grown x ≡ suc (placeOf cs x)))
+  pub old-place : (x : Identifier) → held cs x ≡ true → ((placeOf cs x ≤ p .place) × (placeOf (inserted cs i p) x ≡ placeOf cs x)) ⊎ ((p .place < placeOf cs x) × (placeOf (inserted cs i p) x ≡ suc (placeOf cs x)))
   unfolding character
   old-place x h = ⊎-elim (λ e. inl (e, moved ∙ shift-before (suc (p .place)) (placeOf cs x) (omega arith))) (λ e. inr (e, moved ∙ shift-behind (suc (p .place)) (placeOf cs x) (omega arith))) (side (placeOf cs x) (p .place))
     where
-      moved : placeOf grown x ≡ shift (suc (p .place)) (placeOf cs x)
+      moved : placeOf (inserted cs i p) x ≡ shift (suc (p .place)) (placeOf cs x)
       moved = place-insert-old (p .place) (character i) cs (p .within) x (held-apart cs x (i .id) h fresh)
 
-  pub old-above : (x y : Identifier) → above cs x y ≡ true → above grown x y ≡ true
+  pub old-above : (x y : Identifier) → above cs x y ≡ true → above (inserted cs i p) x y ≡ true
   unfolding character
   old-above x y h = above-insert (p .place) (character i) cs (p .within) x y (above-upper cs x y h) (above-lower cs x y h) fresh ∙ h
 
-  pub new-below : above grown (i .previous) (i .id) ≡ true
-  new-below = place-above grown (i .previous) (i .id) (⊎-elim (λ q. omega (arith, q, new-place)) (λ q. omega (arith, q, p .under)) (old-place (i .previous) (above-upper cs (i .previous) (i .next) (p .ordered)))) new-held
+  pub new-below : above (inserted cs i p) (i .previous) (i .id) ≡ true
+  new-below = place-above (inserted cs i p) (i .previous) (i .id) (⊎-elim (λ q. omega (arith, q, new-place)) (λ q. omega (arith, q, p .under)) (old-place (i .previous) (above-upper cs (i .previous) (i .next) (p .ordered)))) new-held
 
-  pub new-above : above grown (i .id) (i .next) ≡ true
-  new-above = place-above grown (i .id) (i .next) (⊎-elim (λ q. omega (arith, q, p .over)) (λ q. omega (arith, q, new-place, p .over)) (old-place (i .next) next-held)) (old-held (i .next) next-held)
+  pub new-above : above (inserted cs i p) (i .id) (i .next) ≡ true
+  new-above = place-above (inserted cs i p) (i .id) (i .next) (⊎-elim (λ q. omega (arith, q, p .over)) (λ q. omega (arith, q, new-place, p .over)) (old-place (i .next) next-held)) (old-held (i .next) next-held)
     where
       next-held : held cs (i .next) ≡ true
       next-held = above-lower cs (i .previous) (i .next) (p .ordered)
 
   -- what holds of the new character and of each old one
-  pub each : (P : Character → Type 0) → P (character i) → ((c : Character) → List·Memᴰ c cs → P c) → (c : Character) → List·Memᴰ c grown → P c
+  pub each : (P : Character → Type 0) → P (character i) → ((c : Character) → List·Memᴰ c cs → P c) → (c : Character) → List·Memᴰ c (inserted cs i p) → P c
   each P new old c m = ⊎-elim (λ e. subst P (sym e) new) (old c) (insert-member (p .place) (character i) cs m)
 
-  pub standing-insert-at : Standing cs → insertInRange i ≡ true → Standing grown
+  pub standing-insert-at : Standing cs → insertInRange i ≡ true → Standing (inserted cs i p)
   unfolding character origin characterInRange
   standing-insert-at s h =
       record {
         ranges = each (λ (c : Character). characterInRange c ≡ true) h (s .ranges);
-        apart = subst (λ (xs : List Identifier). distinct same xs ≡ true) (append-nil (identifiers grown)) (insert-distinct (p .place) (character i) cs [] (not-held cs (i .id) fresh) refl (subst (λ (xs : List Identifier). distinct same xs ≡ true) (sym (append-nil (identifiers cs))) (s .apart)));
-        below-previous = each (λ (c : Character). above grown (c .previous) (c .id) ≡ true) new-below (λ c m. old-above (c .previous) (c .id) (s .below-previous c m));
-        above-next = each (λ (c : Character). above grown (c .id) (c .next) ≡ true) new-above (λ c m. old-above (c .id) (c .next) (s .above-next c m));
+        apart = subst (λ (xs : List Identifier). distinct same xs ≡ true) (append-nil (identifiers (inserted cs i p))) (insert-distinct (p .place) (character i) cs [] (not-held cs (i .id) fresh) refl (subst (λ (xs : List Identifier). distinct same xs ≡ true) (sym (append-nil (identifiers cs))) (s .apart)));
+        below-previous = each (λ (c : Character). above (inserted cs i p) (c .previous) (c .id) ≡ true) new-below (λ c m. old-above (c .previous) (c .id) (s .below-previous c m));
+        above-next = each (λ (c : Character). above (inserted cs i p) (c .id) (c .next) ≡ true) new-above (λ c m. old-above (c .id) (c .next) (s .above-next c m));
       }
 
 pub standing-insert : (cs : List Character) (i : Insert) → Standing cs → insertInRange i ≡ true → held cs (i .id) ≡ false → executable cs (insert i) ≡ true → crossed cs (insert i) ≡ false → unplaceable cs (insert i) ≡ false → Standing (integrateInsert cs i)
