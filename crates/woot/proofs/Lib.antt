@@ -22,4 +22,5 @@ pub mod Kept
 pub mod Faithful
 pub mod Histories
 pub mod Refusals
+pub mod Grown
 pub mod Situations

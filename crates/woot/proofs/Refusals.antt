@@ -101,7 +101,7 @@ unfolding localDeleteWhen sendDelete
 delete-refuses formed s p r = decided-exactly s (deleteChecks formed s p) (sendDelete s (generatedDelete s p)) (sentRefused r) (sent-never-refused r)
 
 -- an answer without its operation is a refusal only of that refusal, and never known
-answer-refused : (a : Sent) (r : Refusal) → answerOf a ≡ Refused r → a ≡ sentRefused r
+pub answer-refused : (a : Sent) (r : Refusal) → answerOf a ≡ Refused r → a ≡ sentRefused r
 unfolding answerOf
 answer-refused (sentDone o n m) r e = absurd (let z : _≡_ {A = ℕ} 0 1 = cc in omega arith)
 answer-refused (sentRefused q) r e = cc

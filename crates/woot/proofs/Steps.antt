@@ -235,6 +235,14 @@ beside : {cs : List Character} {m y : Identifier} (x : Identifier) → same x m 
 beside x apart unused (mark e) = ap (same x) e ∙ apart
 beside x apart unused (inner n) = any-none (same x) unused n
 
+-- what typing makes stands between two characters in order
+pub generated-uncrossed : (s : State) (g n : ℕ) → Formed s → beyondVisible s g ≡ false → crossed (s .characters) (insert (generatedInsert s g n)) ≡ false
+unfolding generatedInsert beyondVisible crossed executable
+generated-uncrossed s g n f h =
+    let std = standing (f .sound) in
+    let visible : g ≤ length (visibles (s .characters)) = ltb-false (length (visibles (s .characters))) g h in
+    rw (marked-held (left-marked std g visible) (held-begin (s .characters)), marked-held (right-marked std g visible) (held-end (s .characters)), left-above std g visible)
+
 -- what typing makes is in range, and has what it needs
 generated-step : (s : State) (g n : ℕ) → AllFail (insertChecks (wellFormed s) s g n) → Addable s (ahead (s .site)) (generatedInsert s g n)
 unfolding insertChecks generatedInsert nextIdentifier taken beyondVisible executable crossed siteInRange characterId previousId nextId
@@ -246,7 +254,7 @@ generated-step s g n w =
       fresh = fresh;
       space = space-insert s (generatedInsert s g n) (w .1 .1 .1 .1 .1 .1 .0);
       ready = and-intro left right;
-      uncrossed = rw (left, right, left-above std g visible);
+      uncrossed = generated-uncrossed s g n form (w .1 .1 .0);
       placeable = w .1 .1 .1 .1 .1 .0;
     }
   where
