@@ -38,7 +38,7 @@ use Rattle.woot.proofs.Drains.{Draining, stop, discard, carry}
 use Rattle.woot.proofs.Draining.{sound-carry}
 use Rattle.woot.proofs.Steps.{Turned, Addable, Step, turned, adds, removes, defers, step, generated-uncrossed}
 use Rattle.woot.proofs.Kept.{after-insert}
-use Rattle.woot.proofs.Refusals.{receive-refuses, insert-refuses, delete-refuses, answer-refused}
+use Rattle.woot.proofs.Refusals.{skipped, held-there, never, other, other-sent, receive-refuses, insert-refuses, delete-refuses, answer-refused}
 
 grown-carry : {cs : List Character} {os ps : List Operation} (o : Operation) → Extract o os ps → Sound cs ps → executable cs o ≡ true → crossed cs o ≡ false → Grown cs → Grown (integrate cs o)
 unfolding integrate inRange
@@ -78,27 +78,6 @@ operation-placeable : (cs : List Character) (o : Operation) → Grown cs → cro
 unfolding unplaceable
 operation-placeable cs (insert i) g uncrossed u = clash u (grown-placeable cs i g (and-left (executable cs (insert i)) _ u) uncrossed)
 operation-placeable cs (delete d) g uncrossed u = clash u refl
-
-module _ {A : Type 0} {a : A} where
-  -- a check with another answer does not hold
-  skipped : {c : Check A} {cs : List (Check A)} → (c .answer ≡ a → ⊥) → Reported a (c ∷ cs) → (c .holds ≡ false) × Reported a cs
-  skipped other (here h e) = absurd (other e)
-  skipped other (later h r) = (h, r)
-
-  -- a check with the only such answer holds
-  held-there : {c : Check A} {cs : List (Check A)} → (Reported a cs → ⊥) → Reported a (c ∷ cs) → c .holds ≡ true
-  held-there only (here h e) = h
-  held-there only (later h r) = absurd (only r)
-
-  never : Reported a [] → ⊥
-  never r = elim r [ ]
-
--- refusals with other numbers differ, as answers of either kind
-other : {r q : Refusal} → (number r ≡ number q → ⊥) → Refused r ≡ Refused q → ⊥
-other f e = f (ap number (let k = e in cc))
-
-other-sent : {r q : Refusal} → (number r ≡ number q → ⊥) → sentRefused r ≡ sentRefused q → ⊥
-other-sent f e = f (ap number (let k = e in cc))
 
 receive-placeable : (s : State) (o : Operation) → Grown (s .characters) → Reported (Refused Unplaceable) (receiveChecks (wellFormed s) s o) → ⊥
 unfolding receiveChecks number

@@ -23,4 +23,7 @@ pub mod Faithful
 pub mod Histories
 pub mod Refusals
 pub mod Grown
+pub mod Agreement
+pub mod Convergence
+pub mod Isolation
 pub mod Situations

@@ -17,7 +17,7 @@ use Rattle.woot.specs.declared.Sent.the-variants.{Done as sentDone, Refu
 use Rattle.woot.specs.State.{State}
 use Rattle.woot.specs.Pending.{executable}
 use Rattle.woot.specs.Form.{wellFormed}
-use Rattle.woot.specs.Answers.{Check, first, Reported, here, later, answerOf}
+use Rattle.woot.specs.Answers.{Check, first, Reported, here, later, number, answerOf}
 use Rattle.woot.specs.Calls.{Outcome, unchanged, decided, carryOut, defer, accept, receiveChecks, receiveWhen, receive, insertChecks, generatedInsert, sendInsert, localInsertWhen, localInsert, deleteChecks, generatedDelete, sendDelete, localDeleteWhen, localDelete}
 use Rattle.woot.specs.Histories.{Call, inserting, deleting, receiving, withAnswer, outcome}
 use Rattle.woot.specs.Theorems.{ReceiveRefuses, ReceiveKnows, InsertRefuses, DeleteRefuses, RefusedUnchanged, KnownUnchanged}
@@ -55,6 +55,27 @@ module _ {A : Type 0} where
   unfolding decided unchanged
   decided-unchanged s none r a never h = absurd (never h)
   decided-unchanged s (some x) r a never h = ap (unchanged s) h
+
+module _ {A : Type 0} {a : A} where
+  -- a check with another answer does not hold
+  pub skipped : {c : Check A} {cs : List (Check A)} → (c .answer ≡ a → ⊥) → Reported a (c ∷ cs) → (c .holds ≡ false) × Reported a cs
+  skipped other (here h e) = absurd (other e)
+  skipped other (later h r) = (h, r)
+
+  -- a check with the only such answer holds
+  pub held-there : {c : Check A} {cs : List (Check A)} → (Reported a cs → ⊥) → Reported a (c ∷ cs) → c .holds ≡ true
+  held-there only (here h e) = h
+  held-there only (later h r) = absurd (only r)
+
+  pub never : Reported a [] → ⊥
+  never r = elim r [ ]
+
+-- refusals with other numbers differ, as answers of either kind
+pub other : {r q : Refusal} → (number r ≡ number q → ⊥) → Refused r ≡ Refused q → ⊥
+other f e = f (ap number (let k = e in cc))
+
+pub other-sent : {r q : Refusal} → (number r ≡ number q → ⊥) → sentRefused r ≡ sentRefused q → ⊥
+other-sent f e = f (ap number (let k = e in cc))
 
 -- what is done where no condition holds answers done or waits
 pub Accepted : Answer → Type 0

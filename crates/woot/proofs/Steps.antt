@@ -95,11 +95,11 @@ pub data Step (s : State) : Outcome Answer → Type 0 where
 
 module _ {A : Type 0} where
   -- no condition of the list holds
-  abbrev AllFail : List (Check A) → Type 0
+  abbrev pub AllFail : List (Check A) → Type 0
   AllFail [] = Unit
   AllFail (c ∷ cs) = (c .holds ≡ false) × AllFail cs
 
-  first-none : (cs : List (Check A)) → first cs ≡ none → AllFail cs
+  pub first-none : (cs : List (Check A)) → first cs ≡ none → AllFail cs
   first-none [] h = tt
   first-none (c ∷ cs) h = go (c .holds) refl (first-none cs)
     where
@@ -108,11 +108,11 @@ module _ {A : Type 0} where
       go false e f = (e, f (rw e at h))
 
   -- every answer of the list has a property
-  abbrev All : (A → Type 0) → List (Check A) → Type 0
+  abbrev pub All : (A → Type 0) → List (Check A) → Type 0
   All P [] = Unit
   All P (c ∷ cs) = P (c .answer) × All P cs
 
-  first-some : (P : A → Type 0) (cs : List (Check A)) → All P cs → (a : A) → first cs ≡ some a → P a
+  pub first-some : (P : A → Type 0) (cs : List (Check A)) → All P cs → (a : A) → first cs ≡ some a → P a
   first-some P [] w a h = absurd (let z : _≡_ {A = ℕ} 0 1 = cc in omega arith)
   first-some P (c ∷ cs) w a h = go (c .holds) refl (first-some P cs (w .1) a)
     where
@@ -199,7 +199,7 @@ accept-step s o w = go (executable (s .characters) o) refl
     go true e = carried-step s o form ranged free e (w .1 .1 .1 .1 .0) (w .1 .1 .1 .1 .1 .0)
     go false e = defers o (record { formed = form; ranged = ranged; unready = e; space = share-left e; unused = free })
 
-receive-turned : (s : State) (o : Operation) → All Turned (receiveChecks (wellFormed s) s o)
+pub receive-turned : (s : State) (o : Operation) → All Turned (receiveChecks (wellFormed s) s o)
 unfolding receiveChecks
 receive-turned s o = (tt, (tt, (tt, (tt, (tt, (tt, (tt, (tt, tt))))))))
 

@@ -73,6 +73,13 @@ agree true false f g = sym (f refl)
 agree false true f g = g refl
 agree false false f g = refl
 
+-- so are two that fail together
+pub agree-false : (a b : Bool) → (a ≡ false → b ≡ false) → (b ≡ false → a ≡ false) → a ≡ b
+agree-false true true f g = refl
+agree-false true false f g = g refl
+agree-false false true f g = sym (f refl)
+agree-false false false f g = refl
+
 -- conjunctions of three, of four and of seven, taken apart
 pub three : (a b c : Bool) → a && b && c ≡ true → (a ≡ true) × (b ≡ true) × (c ≡ true)
 three a b c h = (and-left a b (and-left (a && b) c h), and-right a b (and-left (a && b) c h), and-right (a && b) c h)
