@@ -21,7 +21,7 @@ use Rattle.woot.specs.Agreement.{Standing}
 use Rattle.woot.proofs.Tests.{clash, and-left, and-right}
 use Rattle.woot.proofs.Members.{any-none}
 use Rattle.woot.proofs.Identifiers.{eq-same, same-sym}
-use Rattle.woot.proofs.Places.{index-here, index-later, not-begin, not-end, held-id, held-end, held-place, place-later, place-injective, side}
+use Rattle.woot.proofs.Places.{Holding, is-begin, is-character, is-end, holding, index-here, index-later, not-begin, not-end, held-id, held-end, held-place, place-later, place-injective, side}
 
 -- c at place k
 abbrev pub spot : ℕ → Character → Located
@@ -46,6 +46,16 @@ module _ where
   located-at k i z [] h = absurd (omega arith)
   located-at k zero z (c ∷ cs) h = let e : k + zero ≡ k = omega arith in List·Memᴰ·head (ap (λ (j : ℕ). spot j c) e)
   located-at k (suc i) z (c ∷ cs) h = List·Memᴰ·tail (subst (λ (j : ℕ). List·Memᴰ (spot j (getD cs i z)) (located (suc k) cs)) (omega arith) (located-at (suc k) i z cs (omega arith)))
+
+  pub located-getD : (k : ℕ) (z : Character) (cs : List Character) {l : Located} → List·Memᴰ l (located k cs) → (i : ℕ) × (l .place ≡ k + i) × (getD cs i z ≡ l .at)
+  located-getD k z [] m = absurd (List·Memᴰ·not-nil m)
+  located-getD k z (c ∷ cs) {l} m = ⊎-elim here (λ n. later (located-getD (suc k) z cs n)) (List·Memᴰ·cases-cons m)
+    where
+      here : l ≡ spot k c → (i : ℕ) × (l .place ≡ k + i) × (getD (c ∷ cs) i z ≡ l .at)
+      here e = (zero, omega (arith, ap (λ (j : Located). j .place) e), sym (ap (λ (j : Located). j .at) e))
+
+      later : ((i : ℕ) × (l .place ≡ suc k + i) × (getD cs i z ≡ l .at)) → (i : ℕ) × (l .place ≡ k + i) × (getD (c ∷ cs) i z ≡ l .at)
+      later r = (suc (r .0), omega (arith, r .1), r .2)
 
   somewhere : (k : ℕ) (cs : List Character) {c : Character} → List·Memᴰ c cs → (j : ℕ) × List·Memᴰ (spot j c) (located k cs)
   somewhere k [] m = absurd (List·Memᴰ·not-nil m)
@@ -113,3 +123,24 @@ module _ (cs : List Character) (s : Standing cs) where
     where
       inner : ((c : Character) × List·Memᴰ c cs × (end ≡ c .id)) → ⊥
       inner w = clash (eq-same (sym (w .2))) (not-end (w .0 .id) (id-in-range (w .1)))
+
+  -- an identifier in range that is held is a character's
+  pub held-is-character : (x : Identifier) → characterId x ≡ true → held cs x ≡ true → (c : Character) × List·Memᴰ c cs × (x ≡ c .id)
+  held-is-character x r h = go (holding cs x h)
+    where
+      go : Holding cs x → (c : Character) × List·Memᴰ c cs × (x ≡ c .id)
+      go (is-begin e) = clash (eq-same e) (not-begin x r)
+      go (is-character c m e) = (c, m, e)
+      go (is-end e) = clash (eq-same e) (not-end x r)
+
+  -- a character's index
+  pub own-index : {c : Character} (z : Character) → List·Memᴰ c cs → (i : ℕ) × (placeOf cs (c .id) ≡ suc i) × (getD cs i z ≡ c)
+  own-index z m = let r = located-getD 1 z cs (member-located m) in (r .0, omega (arith, r .1), r .2)
+
+  -- one identifier, one character
+  pub same-character : {c d : Character} → List·Memᴰ c cs → List·Memᴰ d cs → c .id ≡ d .id → c ≡ d
+  same-character {c} {d} m n e =
+      let i = own-index c m in
+      let j = own-index c n in
+      let k : i .0 ≡ j .0 = omega (arith, i .1, j .1, ap (placeOf cs) e) in
+      sym (i .2) ∙ ap (λ (k : ℕ). getD cs k c) k ∙ j .2

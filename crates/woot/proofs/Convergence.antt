@@ -12,7 +12,8 @@ use Rattle.woot.specs.Text.{text}
 use Rattle.woot.specs.Histories.{Call, DeletedIn, charactersAfter, historyOf, SameInserted, SameDeleted}
 use Rattle.woot.specs.Theorems.{Agreement, Convergence}
 use Rattle.woot.proofs.Tests.{agree-false}
-use Rattle.woot.proofs.Agreement.{agreement, same-list}
+use Rattle.woot.proofs.Agreement.{agreement}
+use Rattle.woot.proofs.Listing.{same-list}
 use Rattle.woot.proofs.Grown.{grown-from-empty}
 use Rattle.woot.proofs.Histories.{held-are-inserted, hidden-are-deleted}
 

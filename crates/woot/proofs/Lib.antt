@@ -11,6 +11,8 @@ pub mod Standing
 pub mod Characters
 pub mod Sorting
 pub mod Growth
+pub mod Agreement
+pub mod Listing
 pub mod Forms
 pub mod Soundness
 pub mod Drains
@@ -23,7 +25,6 @@ pub mod Faithful
 pub mod Histories
 pub mod Refusals
 pub mod Grown
-pub mod Agreement
 pub mod Convergence
 pub mod Isolation
 pub mod Situations
