@@ -10,6 +10,7 @@ use lib.ListN.{length}
 use Rattle.woot.specs.declared.Operation.{Operation}
 use Rattle.woot.specs.declared.Character.{Character}
 use Rattle.woot.specs.Pending.{executable, crossed, unplaceable, integrate, Taken, behind, earliest, Drained, andIntegrated, andDiscarded, drained, drainSteps, drain}
+use Rattle.woot.specs.Theorems.{drainNext, DrainingRecurs}
 use Rattle.woot.specs.Lists.{any}
 use Rattle.woot.proofs.Tests.{or-false-left, or-false-right, or-false}
 use Rattle.woot.proofs.Extract.{Extract, front, past, extract-length}
@@ -69,3 +70,14 @@ draining-steps (suc n) cs ps h = go (earliest (executable cs) ps) refl (draining
 pub draining : (cs : List Character) (ps : List Operation) → Draining cs ps (drain cs ps)
 unfolding drain
 draining cs ps = draining-steps (length ps) cs ps (omega arith)
+
+pub draining-recurs : DrainingRecurs
+unfolding drain drainSteps earliest drained
+draining-recurs cs [] = refl
+draining-recurs cs (o ∷ ps) = go (earliest (executable cs) (o ∷ ps)) refl
+  where
+    go : (m : Option Taken) → earliest (executable cs) (o ∷ ps) ≡ m → drain cs (o ∷ ps) ≡ drainNext cs (o ∷ ps) m
+    go none e = rw (e, drainSteps)
+    go (some t) e =
+        let n : length (t .others) ≡ length ps = omega (arith, extract-length (earliest-found (executable cs) (o ∷ ps) t e .extracted)) in
+        rw (e, drainSteps, n)

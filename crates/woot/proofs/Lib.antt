@@ -1,3 +1,4 @@
+pub mod Situations
 pub mod Tests
 pub mod Members
 pub mod Identifiers
@@ -27,4 +28,3 @@ pub mod Refusals
 pub mod Grown
 pub mod Convergence
 pub mod Isolation
-pub mod Situations

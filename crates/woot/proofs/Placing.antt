@@ -13,6 +13,7 @@ use Rattle.woot.specs.declared.Identifier.{Identifier}
 use Rattle.woot.specs.declared.Character.{Character}
 use Rattle.woot.specs.Identifiers.{below}
 use Rattle.woot.specs.Lists.{keep}
+use Rattle.woot.specs.Theorems.{PlacingRecurs}
 use Rattle.woot.specs.Placing.{placeOf, Interval, Located, located, adjacent, candidate, candidates, narrowed, search, position}
 use Rattle.woot.proofs.Tests.{either, and-left, and-right, and-intro}
 use Rattle.woot.proofs.Members.{keep-member}
@@ -235,3 +236,6 @@ module _ (cs : List Character) (x : Identifier) where
 
   pub position-within : (v : Interval) (k : ℕ) → v .upper < v .lower → position cs x v ≡ some k → (v .upper ≤ k) × (k < v .lower)
   position-within v k h e = placed-inside k (placed v k e) h
+
+pub placing-recurs : PlacingRecurs
+placing-recurs cs x v = position-step cs x v

@@ -2,7 +2,7 @@
 -- before the next call, so that no call is computed again for each look at what it left.
 use Prim.Native.Nat.{ℕ}
 use mathlib.Core.Path.{_≡_, refl, ap, ap₂, sym, _∙_}
-use mathlib.Core.List.{List, [], _∷_, map}
+use mathlib.Core.List.{List, [], _∷_, _++_, map}
 use lib.Count.{leadingZeros}
 use Rattle.utf8.specs.Encoding.{significantBits, encodedLength, continuation, oneByte, twoBytes, threeBytes, fourBytes, encode}
 use Rattle.woot.specs.Identifiers.{same, below}
@@ -21,8 +21,8 @@ use Rattle.woot.specs.declared.Operation.{Operation}
 use Rattle.woot.specs.State.{State}
 use Rattle.woot.specs.Placing.{identifiers}
 use Rattle.woot.specs.Answers.{Reply}
-use Rattle.woot.specs.Histories.{Call, run}
-use Rattle.woot.specs.Situations.{Given, calling, encoding, Seen, calls, bytes, replies, seen, Situation, table, AllHold, SituationsHold}
+use Rattle.woot.specs.Histories.{Call, run, drainedBy}
+use Rattle.woot.specs.Situations.{Given, calling, draining, encoding, Seen, calls, released, bytes, replies, seen, Situation, table, tellingCases, AllHold, SituationsHold, CasesTell}
 
 -- k at xs, whose cells are computed first
 whole : {A B : Type 0} → List A → (List A → B) → B
@@ -43,6 +43,17 @@ settled-same : {B : Type 0} (s : State) (k : State → B) → settled s k ≡ k 
 unfolding settled
 settled-same s k = whole-same (s .characters) _ ∙ whole-same (s .pending) _
 
+-- k at what is drained, state by state
+drainedIn : {B : Type 0} → State → List Call → (List Operation → B) → B
+drainedIn s [] k = k []
+drainedIn s (c ∷ cs) k = let r = outcome s c in settled (r .state) (λ t. drainedIn t cs (λ os. k (r .drained ++ os)))
+
+drained-same : {B : Type 0} (s : State) (cs : List Call) (k : List Operation → B) → drainedIn s cs k ≡ k (drainedBy s cs)
+unfolding drainedIn
+drained-same s [] k = refl
+drained-same s (c ∷ cs) k =
+    settled-same (outcome s c .state) _ ∙ drained-same (outcome s c .state) cs (λ os. k (outcome s c .drained ++ os))
+
 -- k at the replies and the identifiers, state by state
 stepped : {B : Type 0} → State → List Call → (List Reply → List Identifier → B) → B
 stepped s [] k = k [] (identifiers (s .characters))
@@ -59,17 +70,25 @@ stepped-same s (c ∷ cs) k =
 
 computed : Given → Seen
 computed (calling s cs) = stepped s cs calls
+computed (draining s cs) = drainedIn s cs released
 computed (encoding n) = bytes (encode n)
 
 computed-same : (g : Given) → computed g ≡ seen g
 unfolding computed seen
 computed-same (calling s cs) = stepped-same s cs calls
+computed-same (draining s cs) = drained-same s cs released
 computed-same (encoding n) = refl
 
 all-computed : (ts : List Situation) → map (λ t. seen (t .given)) ts ≡ map (λ t. computed (t .given)) ts
 all-computed [] = refl
 all-computed (t ∷ ts) = ap₂ (λ a bs. a ∷ bs) (sym (computed-same (t .given))) (all-computed ts)
 
+both : SituationsHold × CasesTell
+unfolding table drainedIn tellingCases whole settled stepped computed leadingZeros significantBits encodedLength continuation oneByte twoBytes threeBytes fourBytes encode same below sender character origin hidden sameInsert sameDelete sameOperation within siteNumber codePoint characterId previousId nextId siteInRange insertInRange deleteInRange inRange characterInRange initial sequence indexOf placeOf held above adjacent candidate candidates narrowed search position between insertAt integrateInsert integrateDelete executable crossed unplaceable integrate pendingFrom earliest andIntegrated andDiscarded drained drainSteps drain known allInRange sharesKept capacityKept identifiersDistinct deletesDistinct ordered neighboursOrdered noneExecutable wellFormed number reply answerOf unchanged decided integrated withCharacters withPending afterDrain insertCarried duplicate conflicting senderFull documentFull receiveChecks carryOut defer accept receiveWhen receive visibles nextIdentifier generatedInsert beyondVisible taken insertChecks advanced sendInsert localInsertWhen localInsert notVisible deleteChecks generatedDelete sendDelete localDeleteWhen localDelete outcome
+both = (all-computed table ∙ refl, all-computed tellingCases ∙ refl)
+
 pub situations-hold : SituationsHold
-unfolding whole settled stepped computed leadingZeros significantBits encodedLength continuation oneByte twoBytes threeBytes fourBytes encode same below sender character origin hidden sameInsert sameDelete sameOperation within siteNumber codePoint characterId previousId nextId siteInRange insertInRange deleteInRange inRange characterInRange initial sequence indexOf placeOf held above adjacent candidate candidates narrowed search position between insertAt integrateInsert integrateDelete executable crossed unplaceable integrate pendingFrom earliest andIntegrated andDiscarded drained drainSteps drain known allInRange sharesKept capacityKept identifiersDistinct deletesDistinct ordered neighboursOrdered noneExecutable wellFormed number reply answerOf unchanged decided integrated withCharacters withPending afterDrain insertCarried duplicate conflicting senderFull documentFull receiveChecks carryOut defer accept receiveWhen receive visibles nextIdentifier generatedInsert beyondVisible taken insertChecks advanced sendInsert localInsertWhen localInsert notVisible deleteChecks generatedDelete sendDelete localDeleteWhen localDelete outcome table
-situations-hold = all-computed table ∙ refl
+situations-hold = both .0
+
+pub cases-tell : CasesTell
+cases-tell = both .1

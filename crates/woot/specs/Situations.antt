@@ -1,5 +1,5 @@
 -- Document 01's situations marked P, as one table with one statement, and the cases that tell the slips it lists.
-use Prim.Native.Nat.{ℕ}
+use Prim.Native.Nat.{ℕ, zero, suc}
 use mathlib.Core.Path.{_≡_}
 use mathlib.Core.Bool.{Bool, true, false}
 use mathlib.Core.List.{List, [], _∷_, _++_, map}
@@ -33,14 +33,17 @@ ins x p n = receiving (insert (put x p n))
 abbrev pub del : ℕ → Identifier → Call
 del n x = receiving (delete (record { sender = n; target = x }))
 
--- what is done in a situation: calls on a state, or a code point encoded
+-- what is done in a situation: calls on a state, calls looked at for what they drain, or a code point encoded
 pub data Given : Type 0 where
   calling : State → List Call → Given
+  draining : State → List Call → Given
   encoding : ℕ → Given
 
--- what is seen: the replies in order with the identifiers of the characters afterwards, or bytes
+-- what is seen: the replies in order with the identifiers of the characters afterwards, what was drained in order, or
+-- bytes
 pub data Seen : Type 0 where
   calls : List Reply → List Identifier → Seen
+  released : List Operation → Seen
   bytes : List ℕ → Seen
 
 abbrev pub replies : State → List Call → List Reply
@@ -49,6 +52,7 @@ replies s (c ∷ cs) = let r = outcome s c in reply (r .answer) ∷ replies (r .
 
 unfoldable pub seen : Given → Seen
 seen (calling s cs) = calls (replies s cs) (identifiers (run s cs .characters))
+seen (draining s cs) = released (drainedBy s cs)
 seen (encoding n) = bytes (encode n)
 
 -- calls on an empty replica of site 16
@@ -135,3 +139,43 @@ AllHold ts = map (λ t. seen (t .given)) ts ≡ map (λ t. t .expected) ts
 -- the table of situations marked P holds
 abbrev pub SituationsHold : Type 0
 SituationsHold = AllHold table
+
+-- ---- the slips of document 01, and three more
+
+-- deletes of 4/1 to 4/n by site 2, the last first
+abbrev pub deletesBy2 : ℕ → List Operation
+deletesBy2 zero = []
+deletesBy2 (suc n) = delete (record { sender = 2; target = 4 / suc n }) ∷ deletesBy2 n
+
+-- an empty replica with so many deletes of site 2 pending
+abbrev pub pendingBy2 : ℕ → State
+pendingBy2 n = record { site = record { number = 1; clock = 0 }; characters = []; pending = deletesBy2 n }
+
+-- each case tells the rule from the slip that its comment names
+unfoldable pub tellingCases : List Situation
+tellingCases =
+    -- waiting edits totalled over all laptops
+    (calling (pendingBy2 31) (del 2 (4 / 40) ∷ del 2 (4 / 41) ∷ del 3 (4 / 1) ∷ []) gives calls (Waits ∷ Refused 10 ∷ Waits ∷ []) [])
+    -- hidden rows left out of the rows between
+    ∷ (after (o1 ∷ del 1 (1 / 1) ∷ o2 ∷ []) gives calls (Done 1 0 ∷ Done 1 0 ∷ Done 1 0 ∷ []) (1 / 1 ∷ 2 / 1 ∷ []))
+    -- every row between taken as a candidate
+    ∷ (after (o1 ∷ o3 ∷ o2 ∷ []) gives calls (Done 1 0 ∷ Done 1 0 ∷ Done 1 0 ∷ []) (3 / 1 ∷ 1 / 1 ∷ 2 / 1 ∷ []))
+    -- stopping without the narrower step
+    ∷ (after (o1 ∷ ins (1 / 2) (1 / 1) end ∷ o2 ∷ []) gives calls (Done 1 0 ∷ Done 1 0 ∷ Done 1 0 ∷ []) (1 / 1 ∷ 1 / 2 ∷ 2 / 1 ∷ []))
+    -- one walk down the waiting list
+    ∷ (after (ins (3 / 1) (2 / 1) end ∷ ins (2 / 1) (1 / 1) end ∷ o1 ∷ []) gives calls (Waits ∷ Waits ∷ Done 3 0 ∷ []) (1 / 1 ∷ 2 / 1 ∷ 3 / 1 ∷ []))
+    -- the last ready one carried out where the earliest is due
+    ∷ (draining (initial 16) (del 3 (1 / 1) ∷ del 5 (1 / 1) ∷ o1 ∷ []) gives released (delete (record { sender = 3; target = 1 / 1 }) ∷ delete (record { sender = 5; target = 1 / 1 }) ∷ []))
+    -- identifiers ordered by clock first
+    ∷ (after (ins (1 / 2) begin end ∷ o2 ∷ []) gives calls (Done 1 0 ∷ Done 1 0 ∷ []) (1 / 2 ∷ 2 / 1 ∷ []))
+    -- 8 reported before 7
+    ∷ (after (o1 ∷ o2 ∷ ins (3 / 1) begin end ∷ ins (3 / 1) (2 / 1) (1 / 1) ∷ []) gives calls (Done 1 0 ∷ Done 1 0 ∷ Done 1 0 ∷ Refused 7 ∷ []) (1 / 1 ∷ 2 / 1 ∷ 3 / 1 ∷ []))
+    -- previous equal to next: it waits, and is thrown out when the character comes
+    ∷ (after (ins (2 / 1) (1 / 1) (1 / 1) ∷ o1 ∷ ins (2 / 1) (1 / 1) (1 / 1) ∷ []) gives calls (Waits ∷ Done 1 1 ∷ Refused 8 ∷ []) (1 / 1 ∷ []))
+    -- on a sheet that was only loaded: stops at the first that is not below
+    ∷ (calling (holding (put (1 / 1) begin end ∷ put (5 / 1) begin end ∷ put (2 / 1) begin end ∷ [])) (ins (3 / 1) begin end ∷ []) gives calls (Done 1 0 ∷ []) (1 / 1 ∷ 3 / 1 ∷ 5 / 1 ∷ 2 / 1 ∷ []))
+    ∷ []
+
+-- the cases tell
+abbrev pub CasesTell : Type 0
+CasesTell = AllHold tellingCases

@@ -1,7 +1,8 @@
 -- The promises about the rules, each proved in proofs/ under its name in small letters.
 use Prim.Native.Nat.{ℕ, _+_, _≤_}
 use mathlib.Core.Path.{_≡_}
-use mathlib.Core.Bool.{Bool, true, false}
+use mathlib.Core.Bool.{Bool, true, false, _||_, cond}
+use mathlib.Core.Option.{Option, none, some}
 use mathlib.Core.Logic.{_↔_, _⊎_}
 use mathlib.Core.List.{List, [], _∷_, map, List·Memᴰ}
 use lib.ListN.{length}
@@ -18,14 +19,37 @@ use Rattle.woot.specs.declared.Sent.the-variants.{Done as sentDone, Refu
 use Rattle.woot.specs.Operations.{sender, origin, inserts}
 use Rattle.woot.specs.Ranges.{siteNumber}
 use Rattle.woot.specs.State.{State, initial, pendingSlots}
-use Rattle.woot.specs.Placing.{identifiers, above}
-use Rattle.woot.specs.Pending.{executable, sentBy}
+use Rattle.woot.specs.Placing.{identifiers, above, Interval, adjacent, candidates, narrowed, position}
+use Rattle.woot.specs.Pending.{executable, crossed, unplaceable, integrate, sentBy, Taken, earliest, Drained, andIntegrated, andDiscarded, drained, drain}
 use Rattle.woot.specs.Form.{wellFormed}
 use Rattle.woot.specs.Answers.{reply, Reported}
 use Rattle.woot.specs.Calls.{Outcome, unchanged, integrated, receiveChecks, receiveWhen, receive, insertChecks, localInsertWhen, deleteChecks, localDeleteWhen}
 use Rattle.woot.specs.Text.{text}
 use Rattle.woot.specs.Histories.{Call, outcome, run, drainedBy, discardedBy, deferredBy, InsertedIn, DeletedIn, charactersAfter, historyOf, SameInserted, SameDeleted}
 use Rattle.woot.specs.Agreement.{Grown, OneMeaning}
+
+-- ---- the rules as recursions, with no count of steps
+
+-- 001's IntegrateIns on any interval: nothing between, no candidate (refusal 9), or the same in a narrower interval
+abbrev pub PlacingRecurs : Type 0
+PlacingRecurs =
+    (cs : List Character) (x : Identifier) (v : Interval) →
+    position cs x v
+    ≡ cond (adjacent v) (some (v .upper))
+    (elim (candidates cs v) [ [] ↦ none | l ∷ ls ↦ position cs x (narrowed x v (l ∷ ls)) ])
+
+-- the earliest that has all it needs is carried out or thrown out, and the rest is drained
+abbrev pub drainNext : List Character → List Operation → Option Taken → Drained
+drainNext cs ps none = drained cs ps
+drainNext cs ps (some t) =
+    cond (crossed cs (t .operation) || unplaceable cs (t .operation))
+    (andDiscarded (t .operation) (drain cs (t .others)))
+    (andIntegrated (t .operation) (drain (integrate cs (t .operation)) (t .others)))
+
+-- "and again until there is none"
+abbrev pub DrainingRecurs : Type 0
+DrainingRecurs =
+    (cs : List Character) (ps : List Operation) → drain cs ps ≡ drainNext cs ps (earliest (executable cs) ps)
 
 -- ---- refusals: any state, in form or not, any arguments
 
