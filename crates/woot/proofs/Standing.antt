@@ -45,7 +45,15 @@ module _ (cs : List Character) (i : Insert) (ready : executable cs (insert i) �
   pub placement-at : (k : ℕ) → position cs (i .id) (between cs i) ≡ some k → Placement cs i
   unfolding between integrateInsert
   placement-at k e =
-      record { place = k; found = e; ordered = neighbours-ordered; under = inside .0; over = inside .1; within = omega (arith, inside, next-in); result = rw (e, integrateInsert) }
+      record {
+        place = k;
+        found = e;
+        ordered = neighbours-ordered;
+        under = inside .0;
+        over = inside .1;
+        within = omega (arith, inside, next-in);
+        result = rw (e, integrateInsert);
+      }
     where
       inside : (placeOf cs (i .previous) ≤ k) × (k < placeOf cs (i .next))
       inside = position-within cs (i .id) (between cs i) k (above-place cs (i .previous) (i .next) neighbours-ordered) e
@@ -61,12 +69,21 @@ module _ (cs : List Character) (i : Insert) (ready : executable cs (insert i) �
       go none e = clash (ap missing e) (and-false (executable cs (insert i)) _ u ready)
       go (some k) e = placement-at k e
 
-  pub integrate-insert : unplaceable cs (insert i) ≡ false → (k : ℕ) × (k ≤ length cs) × (integrateInsert cs i ≡ insertAt k (character i) cs)
+  -- "in its place": where the code puts it
+  pub integrate-insert : unplaceable cs (insert i) ≡ false
+      → (k : ℕ) × (k ≤ length cs) × (integrateInsert cs i ≡ insertAt k (character i) cs)
   integrate-insert u = let p = placement u in (p .place, p .within, p .result)
+
+-- a place, and what it is after an insertion just below place k
+abbrev pub Moved : ℕ → ℕ → ℕ → Type 0
+Moved k a b = ((a ≤ k) × (b ≡ a)) ⊎ ((k < a) × (b ≡ suc a))
 
 -- the characters with an insert in its place
 abbrev pub inserted : (cs : List Character) (i : Insert) → Placement cs i → List Character
 inserted cs i p = insertAt (p .place) (character i) cs
+
+abbrev Apart : List Identifier → Type 0
+Apart xs = distinct same xs ≡ true
 
 -- where the old and the new stand, once an insert is in its place
 module _ (cs : List Character) (i : Insert) (fresh : held cs (i .id) ≡ false) (p : Placement cs i) where
@@ -83,9 +100,12 @@ module _ (cs : List Character) (i : Insert) (fresh : held cs (i .id) ≡ false) 
   old-held x h = held-insert (p .place) (character i) cs x ∙ or-right (same x (i .id)) _ h
 
   -- those above the new one keep their place, and the others move down by one
-  pub old-place : (x : Identifier) → held cs x ≡ true → ((placeOf cs x ≤ p .place) × (placeOf (inserted cs i p) x ≡ placeOf cs x)) ⊎ ((p .place < placeOf cs x) × (placeOf (inserted cs i p) x ≡ suc (placeOf cs x)))
+  pub old-place : (x : Identifier) → held cs x ≡ true → Moved (p .place) (placeOf cs x) (placeOf (inserted cs i p) x)
   unfolding character
-  old-place x h = ⊎-elim (λ e. inl (e, moved ∙ shift-before (suc (p .place)) (placeOf cs x) (omega arith))) (λ e. inr (e, moved ∙ shift-behind (suc (p .place)) (placeOf cs x) (omega arith))) (side (placeOf cs x) (p .place))
+  old-place x h =
+      ⊎-elim (λ e. inl (e, moved ∙ shift-before (suc (p .place)) (placeOf cs x) (omega arith)))
+      (λ e. inr (e, moved ∙ shift-behind (suc (p .place)) (placeOf cs x) (omega arith)))
+      (side (placeOf cs x) (p .place))
     where
       moved : placeOf (inserted cs i p) x ≡ shift (suc (p .place)) (placeOf cs x)
       moved = place-insert-old (p .place) (character i) cs (p .within) x (held-apart cs x (i .id) h fresh)
@@ -94,41 +114,75 @@ module _ (cs : List Character) (i : Insert) (fresh : held cs (i .id) ≡ false) 
   unfolding character
   old-above x y h = above-insert (p .place) (character i) cs (p .within) x y (above-upper cs x y h) (above-lower cs x y h) fresh ∙ h
 
+  pub previous-in : held cs (i .previous) ≡ true
+  previous-in = above-upper cs (i .previous) (i .next) (p .ordered)
+
+  pub next-in : held cs (i .next) ≡ true
+  next-in = above-lower cs (i .previous) (i .next) (p .ordered)
+
   pub new-below : above (inserted cs i p) (i .previous) (i .id) ≡ true
-  new-below = place-above (inserted cs i p) (i .previous) (i .id) (⊎-elim (λ q. omega (arith, q, new-place)) (λ q. omega (arith, q, p .under)) (old-place (i .previous) (above-upper cs (i .previous) (i .next) (p .ordered)))) new-held
+  new-below =
+      place-above (inserted cs i p) (i .previous) (i .id)
+      (⊎-elim (λ q. omega (arith, q, new-place)) (λ q. omega (arith, q, p .under)) (old-place (i .previous) previous-in))
+      new-held
 
   pub new-above : above (inserted cs i p) (i .id) (i .next) ≡ true
-  new-above = place-above (inserted cs i p) (i .id) (i .next) (⊎-elim (λ q. omega (arith, q, p .over)) (λ q. omega (arith, q, new-place, p .over)) (old-place (i .next) next-held)) (old-held (i .next) next-held)
-    where
-      next-held : held cs (i .next) ≡ true
-      next-held = above-lower cs (i .previous) (i .next) (p .ordered)
+  new-above =
+      place-above (inserted cs i p) (i .id) (i .next)
+      (⊎-elim (λ q. omega (arith, q, p .over)) (λ q. omega (arith, q, new-place)) (old-place (i .next) next-in))
+      (old-held (i .next) next-in)
 
   -- what holds of the new character and of each old one
-  pub each : (P : Character → Type 0) → P (character i) → ((c : Character) → List·Memᴰ c cs → P c) → (c : Character) → List·Memᴰ c (inserted cs i p) → P c
+  pub each : (P : Character → Type 0) → P (character i)
+      → ((c : Character) → List·Memᴰ c cs → P c) → (c : Character) → List·Memᴰ c (inserted cs i p) → P c
   each P new old c m = ⊎-elim (λ e. subst P (sym e) new) (old c) (insert-member (p .place) (character i) cs m)
+
+  still-apart : distinct same (identifiers cs) ≡ true → distinct same (identifiers (inserted cs i p)) ≡ true
+  unfolding character
+  still-apart d =
+      subst Apart (append-nil (identifiers (inserted cs i p)))
+      (insert-distinct (p .place) (character i) cs [] (not-held cs (i .id) fresh) refl (subst Apart (sym (append-nil (identifiers cs))) d))
 
   pub standing-insert-at : Standing cs → insertInRange i ≡ true → Standing (inserted cs i p)
   unfolding character origin characterInRange
   standing-insert-at s h =
       record {
-        ranges = each (λ (c : Character). characterInRange c ≡ true) h (s .ranges);
-        apart = subst (λ (xs : List Identifier). distinct same xs ≡ true) (append-nil (identifiers (inserted cs i p))) (insert-distinct (p .place) (character i) cs [] (not-held cs (i .id) fresh) refl (subst (λ (xs : List Identifier). distinct same xs ≡ true) (sym (append-nil (identifiers cs))) (s .apart)));
-        below-previous = each (λ (c : Character). above (inserted cs i p) (c .previous) (c .id) ≡ true) new-below (λ c m. old-above (c .previous) (c .id) (s .below-previous c m));
-        above-next = each (λ (c : Character). above (inserted cs i p) (c .id) (c .next) ≡ true) new-above (λ c m. old-above (c .id) (c .next) (s .above-next c m));
+        ranges = each (λ c. characterInRange c ≡ true) h (s .ranges);
+        apart = still-apart (s .apart);
+        below-previous =
+            each (λ c. above (inserted cs i p) (c .previous) (c .id) ≡ true) new-below
+            (λ c m. old-above (c .previous) (c .id) (s .below-previous c m));
+        above-next =
+            each (λ c. above (inserted cs i p) (c .id) (c .next) ≡ true) new-above
+            (λ c m. old-above (c .id) (c .next) (s .above-next c m));
       }
 
-pub standing-insert : (cs : List Character) (i : Insert) → Standing cs → insertInRange i ≡ true → held cs (i .id) ≡ false → executable cs (insert i) ≡ true → crossed cs (insert i) ≡ false → unplaceable cs (insert i) ≡ false → Standing (integrateInsert cs i)
-standing-insert cs i s r n e c u = let p = placement cs i e c u in subst Standing (sym (p .result)) (standing-insert-at cs i n p s r)
+pub standing-insert : (cs : List Character) (i : Insert) → Standing cs → insertInRange i ≡ true → held cs (i .id) ≡ false
+    → executable cs (insert i) ≡ true → crossed cs (insert i) ≡ false → unplaceable cs (insert i) ≡ false
+    → Standing (integrateInsert cs i)
+standing-insert cs i s r n e c u =
+    let p = placement cs i e c u in
+    subst Standing (sym (p .result)) (standing-insert-at cs i n p s r)
 
 pub standing-empty : Standing []
-standing-empty = record { ranges = λ c m. absurd (List·Memᴰ·not-nil m); apart = refl; below-previous = λ c m. absurd (List·Memᴰ·not-nil m); above-next = λ c m. absurd (List·Memᴰ·not-nil m) }
+standing-empty =
+    record {
+      ranges = λ c m. absurd (List·Memᴰ·not-nil m);
+      apart = refl;
+      below-previous = λ c m. absurd (List·Memᴰ·not-nil m);
+      above-next = λ c m. absurd (List·Memᴰ·not-nil m);
+    }
 
 pub standing-delete : (cs : List Character) (x : Identifier) → Standing cs → Standing (integrateDelete cs x)
 unfolding characterInRange origin
 standing-delete cs x s =
     record {
-      ranges = delete-each cs x (λ (i : Insert). insertInRange i ≡ true) (s .ranges);
+      ranges = delete-each cs x (λ i. insertInRange i ≡ true) (s .ranges);
       apart = rw delete-identifiers (s .apart);
-      below-previous = delete-each cs x (λ (i : Insert). above (integrateDelete cs x) (i .previous) (i .id) ≡ true) (λ c m. delete-above cs x (c .previous) (c .id) ∙ s .below-previous c m);
-      above-next = delete-each cs x (λ (i : Insert). above (integrateDelete cs x) (i .id) (i .next) ≡ true) (λ c m. delete-above cs x (c .id) (c .next) ∙ s .above-next c m);
+      below-previous =
+          delete-each cs x (λ i. above (integrateDelete cs x) (i .previous) (i .id) ≡ true)
+          (λ c m. delete-above cs x (c .previous) (c .id) ∙ s .below-previous c m);
+      above-next =
+          delete-each cs x (λ i. above (integrateDelete cs x) (i .id) (i .next) ≡ true)
+          (λ c m. delete-above cs x (c .id) (c .next) ∙ s .above-next c m);
     }
