@@ -108,7 +108,8 @@ module _ (cs : List Character) (x : Identifier) where
   member-delete m = Memᴰ·map (marked x) m
 
   -- what holds of where each character came from
-  pub delete-each : (P : Insert → Type 0) → ((c : Character) → List·Memᴰ c cs → P (origin c)) → (d : Character) → List·Memᴰ d (integrateDelete cs x) → P (origin d)
+  pub delete-each : (P : Insert → Type 0) → ((c : Character) → List·Memᴰ c cs → P (origin c))
+      → (d : Character) → List·Memᴰ d (integrateDelete cs x) → P (origin d)
   delete-each P f d m = let r = delete-member m in subst P (sym (marked-origin x (r .0)) ∙ ap origin (r .2)) (f (r .0) (r .1))
 
   pub delete-executable : (o : Operation) → executable (integrateDelete cs x) o ≡ executable cs o
@@ -123,39 +124,48 @@ module _ (cs : List Character) (x : Identifier) where
 
 -- placing looks at the places and at where the characters came from, so it is as it was
 module _ (cs : List Character) (x : Identifier) where
-  abbrev spot : Located → Located
-  spot l = record { place = l .place; at = marked x (l .at) }
+  -- a character with its place, after the delete
+  abbrev relocated : Located → Located
+  relocated l = record { place = l .place; at = marked x (l .at) }
 
-  delete-located : (k : ℕ) (ds : List Character) → located k (integrateDelete ds x) ≡ map spot (located k ds)
+  delete-located : (k : ℕ) (ds : List Character) → located k (integrateDelete ds x) ≡ map relocated (located k ds)
   unfolding integrateDelete
   delete-located k [] = refl
   delete-located k (d ∷ ds) = ap (λ (ls : List Located). record { place = k; at = marked x d } ∷ ls) (delete-located (suc k) ds)
 
-  delete-candidate : (v : Interval) (l : Located) → candidate (integrateDelete cs x) v (spot l) ≡ candidate cs v l
+  delete-candidate : (v : Interval) (l : Located) → candidate (integrateDelete cs x) v (relocated l) ≡ candidate cs v l
   unfolding candidate
   delete-candidate v l = rw (marked-previous x (l .at), marked-next x (l .at), delete-place cs x (l .at .previous), delete-place cs x (l .at .next))
 
-  delete-candidates : (v : Interval) → candidates (integrateDelete cs x) v ≡ map spot (candidates cs v)
+  delete-candidates : (v : Interval) → candidates (integrateDelete cs x) v ≡ map relocated (candidates cs v)
   unfolding candidates
-  delete-candidates v = ap (keep (candidate (integrateDelete cs x) v)) (delete-located 1 cs) ∙ keep-map spot (candidate (integrateDelete cs x) v) (candidate cs v) (delete-candidate v) (located 1 cs)
+  delete-candidates v =
+      ap (keep (candidate (integrateDelete cs x) v)) (delete-located 1 cs)
+      ∙ keep-map relocated (candidate (integrateDelete cs x) v) (candidate cs v) (delete-candidate v) (located 1 cs)
 
-  spot-narrowed : (y : Identifier) (v : Interval) (ls : List Located) → narrowed y v (map spot ls) ≡ narrowed y v ls
+  relocated-narrowed : (y : Identifier) (v : Interval) (ls : List Located) → narrowed y v (map relocated ls) ≡ narrowed y v ls
   unfolding narrowed
-  spot-narrowed y v [] = refl
-  spot-narrowed y v (l ∷ ls) =
-      ap₂ (λ (b : Bool) (w : Interval). cond b w (record { upper = v .upper; lower = l .place })) (ap (λ (z : Identifier). below z y) (marked-id x (l .at))) (spot-narrowed y (record { upper = l .place; lower = v .lower }) ls)
+  relocated-narrowed y v [] = refl
+  relocated-narrowed y v (l ∷ ls) =
+      ap₂ (λ (b : Bool) (w : Interval). cond b w (record { upper = v .upper; lower = l .place }))
+      (ap (λ (z : Identifier). below z y) (marked-id x (l .at)))
+      (relocated-narrowed y (record { upper = l .place; lower = v .lower }) ls)
+
+  -- the rest of a search, by the candidates that it found
+  abbrev rest : List Character → ℕ → Identifier → Interval → List Located → Option ℕ
+  rest ds n y v found = elim found [ [] ↦ none | l ∷ ls ↦ search n ds y (narrowed y v (l ∷ ls)) ]
 
   delete-search : (n : ℕ) (y : Identifier) (v : Interval) → search n (integrateDelete cs x) y v ≡ search n cs y v
   unfolding search
   delete-search zero y v = refl
   delete-search (suc n) y v =
       ap (λ (o : Option ℕ). cond (adjacent v) (some (v .upper)) o)
-      (ap (λ (ls : List Located). elim ls [ [] ↦ none | l ∷ ls ↦ search n (integrateDelete cs x) y (narrowed y v (l ∷ ls)) ]) (delete-candidates v) ∙ go (candidates cs v) (delete-search n y))
+      (ap (rest (integrateDelete cs x) n y v) (delete-candidates v) ∙ go (candidates cs v) (delete-search n y))
     where
       go : (ls : List Located) → ((w : Interval) → search n (integrateDelete cs x) y w ≡ search n cs y w)
-          → _≡_ {A = Option ℕ} (elim (map spot ls) [ [] ↦ none | l ∷ ls ↦ search n (integrateDelete cs x) y (narrowed y v (l ∷ ls)) ]) (elim ls [ [] ↦ none | l ∷ ls ↦ search n cs y (narrowed y v (l ∷ ls)) ])
+          → rest (integrateDelete cs x) n y v (map relocated ls) ≡ rest cs n y v ls
       go [] r = refl
-      go (l ∷ ls) r = ap (search n (integrateDelete cs x) y) (spot-narrowed y v (l ∷ ls)) ∙ r (narrowed y v (l ∷ ls))
+      go (l ∷ ls) r = ap (search n (integrateDelete cs x) y) (relocated-narrowed y v (l ∷ ls)) ∙ r (narrowed y v (l ∷ ls))
 
   pub delete-position : (y : Identifier) (v : Interval) → position (integrateDelete cs x) y v ≡ position cs y v
   unfolding position

@@ -85,7 +85,8 @@ module _ {A B : Type 0} where
   map-put f (suc k) y (x ∷ xs) = ap (λ (l : List B). f x ∷ l) (map-put f k y xs)
 
 -- an identifier that is not there keeps the identifiers distinct, with any others behind them
-pub put-distinct : (k : ℕ) (y : Identifier) (xs ys : List Identifier) → any (same y) (xs ++ ys) ≡ false → distinct same (xs ++ ys) ≡ true → distinct same (put k y xs ++ ys) ≡ true
+pub put-distinct : (k : ℕ) (y : Identifier) (xs ys : List Identifier) → any (same y) (xs ++ ys) ≡ false → distinct same (xs ++ ys) ≡ true
+    → distinct same (put k y xs ++ ys) ≡ true
 put-distinct zero y xs ys h d = and-intro (not-intro h) d
 put-distinct (suc k) y [] ys h d = and-intro (not-intro h) d
 put-distinct (suc k) y (x ∷ xs) ys h d =
@@ -131,5 +132,8 @@ module _ (k : ℕ) (c : Character) (cs : List Character) where
   pub member-insert-old : {d : Character} → List·Memᴰ d cs → List·Memᴰ d (insertAt k c cs)
   member-insert-old m = rw insert-put (member-put-old k c cs m)
 
-  pub insert-distinct : (xs : List Identifier) → any (same (c .id)) (identifiers cs) ≡ false → any (same (c .id)) xs ≡ false → distinct same (identifiers cs ++ xs) ≡ true → distinct same (identifiers (insertAt k c cs) ++ xs) ≡ true
-  insert-distinct xs h g d = rw insert-map (put-distinct k (c .id) (identifiers cs) xs (any-append (same (c .id)) (identifiers cs) xs ∙ or-false h g) d)
+  pub insert-distinct : (xs : List Identifier) → any (same (c .id)) (identifiers cs) ≡ false → any (same (c .id)) xs ≡ false
+      → distinct same (identifiers cs ++ xs) ≡ true → distinct same (identifiers (insertAt k c cs) ++ xs) ≡ true
+  insert-distinct xs h g d =
+      rw insert-map
+      (put-distinct k (c .id) (identifiers cs) xs (any-append (same (c .id)) (identifiers cs) xs ∙ or-false h g) d)

@@ -49,11 +49,17 @@ module _ (cs ds : List Character) (g : Grown cs) (h : Grown ds) (among : (i : In
   not-higher zero x e f = omega arith
   not-higher (suc k) x e f = step (at k (omega (arith, held-place cs x e))) (not-higher k)
     where
-      step : ((y : Identifier) × (held cs y ≡ true) × (placeOf cs y ≡ k)) → ((y : Identifier) → held cs y ≡ true → placeOf cs y ≡ k → k ≤ placeOf ds y) → suc k ≤ placeOf ds x
-      step r s = omega (arith, s (r .0) (r .1) (r .2), above-place ds (r .0) x (sym (agreement-held cs ds g h one-meaning (r .0) x (r .1) e (held-too (r .0) (r .1)) (held-too x e)) ∙ place-above cs (r .0) x (omega (arith, r .2)) e))
+      step : ((y : Identifier) × (held cs y ≡ true) × (placeOf cs y ≡ k))
+          → ((y : Identifier) → held cs y ≡ true → placeOf cs y ≡ k → k ≤ placeOf ds y) → suc k ≤ placeOf ds x
+      step r s =
+          let alike = agreement-held cs ds g h one-meaning (r .0) x (r .1) e (held-too (r .0) (r .1)) (held-too x e) in
+          omega (arith, s (r .0) (r .1) (r .2), above-place ds (r .0) x (sym alike ∙ place-above cs (r .0) x (omega (arith, r .2)) e))
 
-pub same-list : (cs ds : List Character) → Grown cs → Grown ds → ((i : Insert) → List·Memᴰ i (map origin cs) ↔ List·Memᴰ i (map origin ds)) → map origin cs ≡ map origin ds
-same-list cs ds g h among = ext-getD (origin blankCharacter) (map origin cs) (map origin ds) (length-map cs origin ∙ lengths ∙ sym (length-map ds origin)) element
+pub same-list : (cs ds : List Character) → Grown cs → Grown ds → ((i : Insert) → List·Memᴰ i (map origin cs) ↔ List·Memᴰ i (map origin ds))
+    → map origin cs ≡ map origin ds
+same-list cs ds g h among =
+    ext-getD (origin blankCharacter) (map origin cs) (map origin ds) (length-map cs origin ∙ lengths ∙ sym (length-map ds origin))
+    element
   where
     to : (i : Insert) → List·Memᴰ i (map origin cs) → List·Memᴰ i (map origin ds)
     to i = among i .0
@@ -62,7 +68,8 @@ same-list cs ds g h among = ext-getD (origin blankCharacter) (map origin cs) (ma
     from i = among i .1
 
     places : (x : Identifier) → held cs x ≡ true → placeOf cs x ≡ placeOf ds x
-    places x e = omega (arith, not-higher cs ds g h to (placeOf cs x) x e refl, not-higher ds cs h g from (placeOf ds x) x (held-too cs ds g h to x e) refl)
+    places x e =
+        omega (arith, not-higher cs ds g h to (placeOf cs x) x e refl, not-higher ds cs h g from (placeOf ds x) x (held-too cs ds g h to x e) refl)
 
     lengths : length cs ≡ length ds
     lengths = omega (arith, places end (held-end cs), place-end cs (g .standing), place-end ds (h .standing))
@@ -76,4 +83,6 @@ same-list cs ds g h among = ext-getD (origin blankCharacter) (map origin cs) (ma
         sym (d .2) ∙ ap origin (sym (j .2)) ∙ ap (λ (k : ℕ). origin (getD ds k blankCharacter)) e
 
     element : (i : ℕ) → i < length (map origin cs) → getD (map origin cs) i (origin blankCharacter) ≡ getD (map origin ds) i (origin blankCharacter)
-    element i l = List·getD-map origin cs i blankCharacter ∙ at-same i (omega (arith, length-map cs origin)) ∙ sym (List·getD-map origin ds i blankCharacter)
+    element i l =
+        List·getD-map origin cs i blankCharacter ∙ at-same i (omega (arith, length-map cs origin))
+        ∙ sym (List·getD-map origin ds i blankCharacter)

@@ -70,7 +70,8 @@ index-any x (y ∷ ys) = ⊎-elim here (λ e. later e (index-any x ys)) (either 
     later : same x y ≡ false → ltb (indexOf x ys) (length ys) ≡ any (same x) ys → ltb (indexOf x (y ∷ ys)) (suc (length ys)) ≡ (same x y || any (same x) ys)
     later e r = rw (e, indexOf) (leb·suc-suc (suc (indexOf x ys)) (length ys) ∙ r)
 
-pub index-put-old : (k : ℕ) (x y : Identifier) (xs : List Identifier) → k ≤ length xs → same x y ≡ false → indexOf x (put k y xs) ≡ shift k (indexOf x xs)
+pub index-put-old : (k : ℕ) (x y : Identifier) (xs : List Identifier) → k ≤ length xs → same x y ≡ false
+    → indexOf x (put k y xs) ≡ shift k (indexOf x xs)
 index-put-old zero x y xs h n = index-later x y xs n
 index-put-old (suc k) x y [] h n = absurd (not-suc-le-zero h)
 index-put-old (suc k) x y (z ∷ zs) h n = ⊎-elim here (later (index-put-old k x y zs (le-of-suc-le-suc h) n)) (either (same x z))
@@ -84,7 +85,9 @@ index-put-old (suc k) x y (z ∷ zs) h n = ⊎-elim here (later (index-put-old k
 pub index-put-new : (k : ℕ) (y : Identifier) (xs : List Identifier) → k ≤ length xs → any (same y) xs ≡ false → indexOf y (put k y xs) ≡ k
 index-put-new zero y xs h n = index-here y y xs (same-refl y)
 index-put-new (suc k) y [] h n = absurd (not-suc-le-zero h)
-index-put-new (suc k) y (x ∷ xs) h n = index-later y x (put k y xs) (or-false-left (same y x) _ n) ∙ ap suc (index-put-new k y xs (le-of-suc-le-suc h) (or-false-right (same y x) _ n))
+index-put-new (suc k) y (x ∷ xs) h n =
+    index-later y x (put k y xs) (or-false-left (same y x) _ n)
+    ∙ ap suc (index-put-new k y xs (le-of-suc-le-suc h) (or-false-right (same y x) _ n))
 
 -- what is found at the index of a member
 pub index-member : (x d : Identifier) (xs : List Identifier) → any (same x) xs ≡ true → getD xs (indexOf x xs) d ≡ x
@@ -114,7 +117,10 @@ module _ (cs : List Character) where
 
   pub held-parts : (x : Identifier) → held cs x ≡ (same x begin || (any (same x) (identifiers cs) || same x end))
   unfolding sequence
-  held-parts x = held-any x ∙ ap (λ (b : Bool). same x begin || b) (any-append (same x) (identifiers cs) (end ∷ []) ∙ ap (λ (b : Bool). any (same x) (identifiers cs) || b) (or-none (same x end)))
+  held-parts x =
+      held-any x
+      ∙ ap (λ (b : Bool). same x begin || b)
+      (any-append (same x) (identifiers cs) (end ∷ []) ∙ ap (λ (b : Bool). any (same x) (identifiers cs) || b) (or-none (same x end)))
 
   pub held-begin : held cs begin ≡ true
   held-begin = held-parts begin ∙ or-left (same begin begin) _ (same-refl begin)
@@ -135,7 +141,9 @@ module _ (cs : List Character) where
 -- "no character has these [marks]"
 pub character-site : (x : Identifier) → characterId x ≡ true → 0 < x .site
 unfolding characterId siteNumber within
-character-site x h = leb-true 1 (x .site) (and-left (leb 1 (x .site)) (leb (x .site) lastSite) (and-left (siteNumber (x .site)) (within 1 lastClock (x .clock)) h))
+character-site x h =
+    leb-true 1 (x .site)
+    (and-left (leb 1 (x .site)) (leb (x .site) lastSite) (and-left (siteNumber (x .site)) (within 1 lastClock (x .clock)) h))
 
 pub not-begin : (x : Identifier) → characterId x ≡ true → same x begin ≡ false
 not-begin x h = ne-same x begin (λ e. omega (arith, character-site x h, ap (λ (y : Identifier). y .site) e))
@@ -154,7 +162,9 @@ pub data Holding (cs : List Character) (x : Identifier) : Type 0 where
   is-end : x ≡ end → Holding cs x
 
 pub holding : (cs : List Character) (x : Identifier) → held cs x ≡ true → Holding cs x
-holding cs x h = ⊎-elim (λ e. is-begin (same-eq x begin e)) (λ e. ⊎-elim character (λ f. is-end (same-eq x end f)) (or-cases (any (same x) (identifiers cs)) _ e)) (or-cases (same x begin) _ (sym (held-parts cs x) ∙ h))
+holding cs x h =
+    ⊎-elim (λ e. is-begin (same-eq x begin e)) (λ e. ⊎-elim character (λ f. is-end (same-eq x end f)) (or-cases (any (same x) (identifiers cs)) _ e))
+    (or-cases (same x begin) _ (sym (held-parts cs x) ∙ h))
   where
     found : ((y : Identifier) × List·Memᴰ y (identifiers cs) × (same x y ≡ true)) → Holding cs x
     found w = let r = Memᴰ·of-map (λ c. c .id) cs (w .1) in is-character (r .0) (r .1) (same-eq x (w .0) (w .2) ∙ sym (r .2))
@@ -209,7 +219,10 @@ module _ (cs : List Character) where
 module _ (k : ℕ) (c : Character) (cs : List Character) where
   -- the identifiers held after an insertion, wherever it was
   pub held-insert : (x : Identifier) → held (insertAt k c cs) x ≡ (same x (c .id) || held cs x)
-  held-insert x = held-parts (insertAt k c cs) x ∙ rw (insert-map k c cs (λ (d : Character). d .id), put-any (same x) k (c .id) (identifiers cs), held-parts cs x) (shuffle (same x begin) (same x (c .id)) (any (same x) (identifiers cs)) (same x end))
+  held-insert x =
+      held-parts (insertAt k c cs) x
+      ∙ rw (insert-map k c cs (λ (d : Character). d .id), put-any (same x) k (c .id) (identifiers cs), held-parts cs x)
+      (shuffle (same x begin) (same x (c .id)) (any (same x) (identifiers cs)) (same x end))
     where
       shuffle : (p q r s : Bool) → (p || ((q || r) || s)) ≡ (q || (p || (r || s)))
       shuffle true true r s = refl
@@ -222,7 +235,8 @@ module _ (k : ℕ) (c : Character) (cs : List Character) (within : k ≤ length 
   unfolding sequence
   sequence-insert =
       ap (λ (l : List Identifier). begin ∷ (l ++ end ∷ [])) (insert-map k c cs (λ (d : Character). d .id))
-      ∙ ap (λ (l : List Identifier). begin ∷ l) (put-append k (c .id) (identifiers cs) (end ∷ []) (omega (arith, length-map cs (λ (d : Character). d .id))))
+      ∙ ap (λ (l : List Identifier). begin ∷ l)
+      (put-append k (c .id) (identifiers cs) (end ∷ []) (omega (arith, length-map cs (λ (d : Character). d .id))))
 
   pub place-insert-old : (x : Identifier) → same x (c .id) ≡ false → placeOf (insertAt k c cs) x ≡ shift (suc k) (placeOf cs x)
   unfolding placeOf
@@ -230,12 +244,16 @@ module _ (k : ℕ) (c : Character) (cs : List Character) (within : k ≤ length 
 
   pub place-insert-new : held cs (c .id) ≡ false → placeOf (insertAt k c cs) (c .id) ≡ suc k
   unfolding placeOf
-  place-insert-new n = rw sequence-insert (index-put-new (suc k) (c .id) (sequence cs) (omega (arith, sequence-length cs)) (sym (held-any cs (c .id)) ∙ n))
+  place-insert-new n =
+      rw sequence-insert
+      (index-put-new (suc k) (c .id) (sequence cs) (omega (arith, sequence-length cs)) (sym (held-any cs (c .id)) ∙ n))
 
   -- two that were held stand as they stood
-  pub above-insert : (x y : Identifier) → held cs x ≡ true → held cs y ≡ true → held cs (c .id) ≡ false → above (insertAt k c cs) x y ≡ above cs x y
+  pub above-insert : (x y : Identifier) → held cs x ≡ true → held cs y ≡ true → held cs (c .id) ≡ false
+      → above (insertAt k c cs) x y ≡ above cs x y
   unfolding above
   above-insert x y h g n =
       ap₂ (λ (a b : Bool). a && b)
-      (ap₂ (λ (i j : ℕ). ltb i j) (place-insert-old x (held-apart cs x (c .id) h n)) (place-insert-old y (held-apart cs y (c .id) g n)) ∙ shift-order (suc k) (placeOf cs x) (placeOf cs y))
+      (ap₂ (λ (i j : ℕ). ltb i j) (place-insert-old x (held-apart cs x (c .id) h n)) (place-insert-old y (held-apart cs y (c .id) g n))
+      ∙ shift-order (suc k) (placeOf cs x) (placeOf cs y))
       (held-insert k c cs y ∙ or-right (same y (c .id)) (held cs y) g ∙ sym g)

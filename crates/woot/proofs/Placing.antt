@@ -35,12 +35,17 @@ module _ (cs : List Character) (v : Interval) (l : Located) where
   pub candidate-is : candidate cs v l ≡ true → Candidate cs v l
   unfolding candidate
   candidate-is h =
-      let t = four (ltb (v .upper) (l .place)) (ltb (l .place) (v .lower)) (leb (placeOf cs (l .at .previous)) (v .upper)) (leb (v .lower) (placeOf cs (l .at .next))) h in
+      let t =
+      four (ltb (v .upper) (l .place)) (ltb (l .place) (v .lower)) (leb (placeOf cs (l .at .previous)) (v .upper))
+      (leb (v .lower) (placeOf cs (l .at .next)))
+      h in
       record { under = ltb-true _ _ (t .0); over = ltb-true _ _ (t .1); previous-out = leb-true _ _ (t .2); next-out = leb-true _ _ (t .3) }
 
   pub is-candidate : Candidate cs v l → candidate cs v l ≡ true
   unfolding candidate
-  is-candidate c = and-intro (and-intro (and-intro (lt-ltb _ _ (c .under)) (lt-ltb _ _ (c .over))) (le-leb _ _ (c .previous-out))) (le-leb _ _ (c .next-out))
+  is-candidate c =
+      and-intro (and-intro (and-intro (lt-ltb _ _ (c .under)) (lt-ltb _ _ (c .over))) (le-leb _ _ (c .previous-out)))
+      (le-leb _ _ (c .next-out))
 
   pub candidates-are : List·Memᴰ l (candidates cs v) → Candidate cs v l
   unfolding candidates
@@ -90,10 +95,13 @@ module _ (cs : List Character) (x : Identifier) (v : Interval) where
   abbrev from : ℕ → Interval
   from u = record { upper = u; lower = v .lower }
 
-  walk : (u : ℕ) (ls : List Located) → Narrowing cs x v (from u) → ((l : Located) → List·Memᴰ l ls → List·Memᴰ l (candidates cs v)) → Rising u ls → Walk cs x v u ls (narrowed x (from u) ls)
+  walk : (u : ℕ) (ls : List Located) → Narrowing cs x v (from u) → ((l : Located) → List·Memᴰ l ls → List·Memᴰ l (candidates cs v))
+      → Rising u ls → Walk cs x v u ls (narrowed x (from u) ls)
   unfolding narrowed
   walk u [] n f r = record { narrowing = n; onward = omega arith; shorter = λ l m. absurd (List·Memᴰ·not-nil m) }
-  walk u (l ∷ ls) n f r = ⊎-elim (λ e. passed e (walk (l .place) ls (next e) (λ k m. f k (List·Memᴰ·tail m)) (r .1))) stopped (either (below (l .at .id) x))
+  walk u (l ∷ ls) n f r =
+      ⊎-elim (λ e. passed e (walk (l .place) ls (next e) (λ k m. f k (List·Memᴰ·tail m)) (r .1))) stopped
+      (either (below (l .at .id) x))
     where
       inside : Candidate cs v l
       inside = candidates-are cs v l (f l (List·Memᴰ·head refl))
@@ -108,7 +116,8 @@ module _ (cs : List Character) (x : Identifier) (v : Interval) where
             lower-end = n .lower-end;
           }
 
-      passed : below (l .at .id) x ≡ true → Walk cs x v (l .place) ls (narrowed x (from (l .place)) ls) → Walk cs x v u (l ∷ ls) (narrowed x (from u) (l ∷ ls))
+      passed : below (l .at .id) x ≡ true → Walk cs x v (l .place) ls (narrowed x (from (l .place)) ls)
+          → Walk cs x v u (l ∷ ls) (narrowed x (from u) (l ∷ ls))
       passed e q = rw e (record { narrowing = q .narrowing; onward = omega arith; shorter = λ k m. omega arith })
 
       stopped : below (l .at .id) x ≡ false → Walk cs x v u (l ∷ ls) (narrowed x (from u) (l ∷ ls))
@@ -134,7 +143,14 @@ module _ (cs : List Character) (x : Identifier) (v : Interval) where
   narrowing l ls a e = (w .narrowing, w .shorter l (List·Memᴰ·head refl))
     where
       still : Narrowing cs x v v
-      still = record { apart = omega (arith, leb-false (v .lower) (suc (v .upper)) a); upper-in = omega arith; lower-in = omega arith; upper-end = inl refl; lower-end = inl refl }
+      still =
+          record {
+            apart = omega (arith, leb-false (v .lower) (suc (v .upper)) a);
+            upper-in = omega arith;
+            lower-in = omega arith;
+            upper-end = inl refl;
+            lower-end = inl refl;
+          }
 
       listed : (k : Located) → List·Memᴰ k (l ∷ ls) → List·Memᴰ k (candidates cs v)
       listed k m = subst (List·Memᴰ k) (sym e) m
@@ -163,7 +179,8 @@ module _ (cs : List Character) (x : Identifier) where
   unfolding search
   search-none n v a e = rw (a, e, search)
 
-  search-again : (n : ℕ) (v : Interval) (l : Located) (ls : List Located) → adjacent v ≡ false → candidates cs v ≡ l ∷ ls → search (suc n) cs x v ≡ search n cs x (narrowed x v (l ∷ ls))
+  search-again : (n : ℕ) (v : Interval) (l : Located) (ls : List Located) → adjacent v ≡ false → candidates cs v ≡ l ∷ ls
+      → search (suc n) cs x v ≡ search n cs x (narrowed x v (l ∷ ls))
   unfolding search
   search-again n v l ls a e = rw (a, e, search)
 
@@ -171,7 +188,8 @@ module _ (cs : List Character) (x : Identifier) where
   search-enough : (m n : ℕ) (v : Interval) → v .lower ≤ suc (m + v .upper) → v .lower ≤ suc (n + v .upper) → search m cs x v ≡ search n cs x v
   search-enough zero n v h g = let a = is-adjacent v (omega arith) in search-adjacent zero v a ∙ sym (search-adjacent n v a)
   search-enough (suc m) zero v h g = let a = is-adjacent v (omega arith) in search-adjacent (suc m) v a ∙ sym (search-adjacent zero v a)
-  search-enough (suc m) (suc n) v h g = ⊎-elim (λ a. search-adjacent (suc m) v a ∙ sym (search-adjacent (suc n) v a)) (λ a. go a (λ w. search-enough m n w) (candidates cs v) refl) (either (adjacent v))
+  search-enough (suc m) (suc n) v h g =
+      ⊎-elim (λ a. search-adjacent (suc m) v a ∙ sym (search-adjacent (suc n) v a)) (λ a. go a (λ w. search-enough m n w) (candidates cs v) refl) (either (adjacent v))
     where
       go : adjacent v ≡ false → ((w : Interval) → w .lower ≤ suc (m + w .upper) → w .lower ≤ suc (n + w .upper) → search m cs x w ≡ search n cs x w)
           → (ls : List Located) → candidates cs v ≡ ls → search (suc m) cs x v ≡ search (suc n) cs x v
@@ -188,7 +206,8 @@ module _ (cs : List Character) (x : Identifier) where
   unfolding position
   position-none v a e = search-enough (v .lower) (suc (v .lower)) v (omega arith) (omega arith) ∙ search-none (v .lower) v a e
 
-  pub position-again : (v : Interval) (l : Located) (ls : List Located) → adjacent v ≡ false → candidates cs v ≡ l ∷ ls → position cs x v ≡ position cs x (narrowed x v (l ∷ ls))
+  pub position-again : (v : Interval) (l : Located) (ls : List Located) → adjacent v ≡ false → candidates cs v ≡ l ∷ ls
+      → position cs x v ≡ position cs x (narrowed x v (l ∷ ls))
   unfolding position
   position-again v l ls a e =
       let w = narrowing cs x v l ls a e in
@@ -197,10 +216,12 @@ module _ (cs : List Character) (x : Identifier) where
 
   -- placing as 001's IntegrateIns has it, with no bound on the steps: with nothing between, here; with no candidate,
   -- nowhere; otherwise again, between the candidates that it comes to stand between
-  pub position-step : (v : Interval) → position cs x v ≡ cond (adjacent v) (some (v .upper)) (elim (candidates cs v) [ [] ↦ none | l ∷ ls ↦ position cs x (narrowed x v (l ∷ ls)) ])
+  pub position-step : (v : Interval)
+      → position cs x v ≡ cond (adjacent v) (some (v .upper)) (elim (candidates cs v) [ [] ↦ none | l ∷ ls ↦ position cs x (narrowed x v (l ∷ ls)) ])
   position-step v = ⊎-elim (λ a. rw a (position-adjacent v a)) (λ a. rw a (go a (candidates cs v) refl)) (either (adjacent v))
     where
-      go : adjacent v ≡ false → (ls : List Located) → candidates cs v ≡ ls → position cs x v ≡ elim (candidates cs v) [ [] ↦ none | l ∷ ls ↦ position cs x (narrowed x v (l ∷ ls)) ]
+      go : adjacent v ≡ false → (ls : List Located) → candidates cs v ≡ ls
+          → position cs x v ≡ elim (candidates cs v) [ [] ↦ none | l ∷ ls ↦ position cs x (narrowed x v (l ∷ ls)) ]
       go a [] e = rw e (position-none v a e)
       go a (l ∷ ls) e = rw e (position-again v l ls a e)
 
@@ -221,7 +242,8 @@ module _ (cs : List Character) (x : Identifier) where
   placed-within (suc n) v k h e =
       ⊎-elim (ended v k e) (λ a. go a (candidates cs v) refl (λ w. placed-within n w k)) (either (adjacent v))
     where
-      go : adjacent v ≡ false → (ls : List Located) → candidates cs v ≡ ls → ((w : Interval) → w .lower ≤ suc (n + w .upper) → position cs x w ≡ some k → Placed cs x k w) → Placed cs x k v
+      go : adjacent v ≡ false → (ls : List Located) → candidates cs v ≡ ls
+          → ((w : Interval) → w .lower ≤ suc (n + w .upper) → position cs x w ≡ some k → Placed cs x k w) → Placed cs x k v
       go a [] f r = absurd (Option·none-ne-some k (sym (position-none cs x v a f) ∙ e))
       go a (l ∷ ls) f r =
           let w = narrowing cs x v l ls a f in

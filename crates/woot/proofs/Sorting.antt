@@ -5,7 +5,7 @@ use native.Mathlib.Omega.{arith}
 use mathlib.Core.Path.{_≡_, sym, _∙_, subst}
 use mathlib.Core.Bool.{true, false}
 use mathlib.Core.List.{List, List·Memᴰ}
-use mathlib.Core.Logic.{_⊎_, ⊎-elim}
+use mathlib.Core.Logic.{⊎-elim}
 use Rattle.woot.specs.declared.Identifier.{Identifier}
 use Rattle.woot.specs.declared.Insert.{Insert}
 use Rattle.woot.specs.declared.Character.{Character}
@@ -115,9 +115,12 @@ module _ (cs : List Character) (s : Standing cs) (a : Ascending cs) (i : Insert)
             here : List·Memᴰ (l .at) cs × (placeOf cs (l .at .id) ≡ l .place)
             here = candidate-place v k
 
+            met : placeOf cs (l .at .id) ≤ placeOf cs (y .id) → l .at .id ≡ y .id
+            met g = place-injective cs (l .at .id) (y .id) (omega (arith, here)) (held-id cs (here .0)) (held-id cs m)
+
             under : v .upper < placeOf cs (y .id) → below (y .id) (i .id) ≡ true
             under h =
-                ⊎-elim (λ g. subst (λ (x : Identifier). below x (i .id) ≡ true) (place-injective cs (l .at .id) (y .id) (omega (arith, here)) (held-id cs (here .0)) (held-id cs m)) b)
+                ⊎-elim (λ g. subst (λ (x : Identifier). below x (i .id) ≡ true) (met g) b)
                 (λ g. below-trans (y .id) (l .at .id) (i .id) (a y (l .at) m (here .0) g (omega (arith, candidates-are cs v l k)) (omega (arith, here))) b)
                 (side (placeOf cs (l .at .id)) (placeOf cs (y .id)))
 
@@ -133,9 +136,12 @@ module _ (cs : List Character) (s : Standing cs) (a : Ascending cs) (i : Insert)
             lower : below (i .id) (l .at .id) ≡ true
             lower = below-total (l .at .id) (i .id) (same-ne (l .at .id) (i .id) (held-apart cs (l .at .id) (i .id) (held-id cs (here .0)) fresh)) b
 
+            met : placeOf cs (y .id) ≤ placeOf cs (l .at .id) → l .at .id ≡ y .id
+            met g = place-injective cs (l .at .id) (y .id) (omega (arith, here)) (held-id cs (here .0)) (held-id cs m)
+
             over : placeOf cs (y .id) < v .lower → below (i .id) (y .id) ≡ true
             over h =
-                ⊎-elim (λ g. subst (λ (x : Identifier). below (i .id) x ≡ true) (place-injective cs (l .at .id) (y .id) (omega (arith, here)) (held-id cs (here .0)) (held-id cs m)) lower)
+                ⊎-elim (λ g. subst (λ (x : Identifier). below (i .id) x ≡ true) (met g) lower)
                 (λ g. below-trans (i .id) (l .at .id) (y .id) lower (a (l .at) y (here .0) m g (omega (arith, here)) (omega (arith, candidates-are cs v l k))))
                 (side (placeOf cs (y .id)) (placeOf cs (l .at .id)))
 
