@@ -1,0 +1,42 @@
+-- The tests of a range, and what an answer that is tested says.
+use mathlib.Core.Path.{_≡_, refl, sym, _∙_}
+use mathlib.Core.Bool.{Bool, true, false, not, _&&_}
+use Prim.Native.Nat.{ℕ, _≤_, _<_}
+use lib.Dec.{leb, ltb}
+use borrow.Author.Tests.{le-leb, lt-leb, lt-ltb, le-ltb, leb-true, leb-false, not-true, not-false}
+use Rattle.woot.specs.Ranges.{within}
+
+pub within-under : (low high n : ℕ) → n < low → within low high n ≡ false
+unfolding within
+within-under low high n h = rw (lt-leb low n h)
+
+-- a number that is not above the range is in it unless it is under
+pub within-below : (low high n : ℕ) → n ≤ high → within low high n ≡ leb low n
+unfolding within
+within-below low high n h = rw (le-leb n high h) (and-true (leb low n))
+  where
+    and-true : (b : Bool) → b && true ≡ b
+    and-true true = refl
+    and-true false = refl
+
+pub within-above : (low high n : ℕ) → high < n → within low high n ≡ false
+unfolding within
+within-above low high n h = rw (lt-leb n high h) (and-false (leb low n))
+  where
+    and-false : (b : Bool) → b && false ≡ false
+    and-false true = refl
+    and-false false = refl
+
+pub not-leb : (m n : ℕ) → not (leb m n) ≡ ltb n m
+not-leb m n = go (leb m n) refl
+  where
+    go : (b : Bool) → leb m n ≡ b → not (leb m n) ≡ ltb n m
+    go true e = rw (e, le-ltb n m (leb-true m n e))
+    go false e = rw (e, lt-ltb n m (leb-false m n e))
+
+-- what a call's answer, tested, says of the test that it stands for
+pub refused : {t u : Bool} → t ≡ u → not t ≡ true → u ≡ false
+refused {t} e h = sym e ∙ not-true t h
+
+pub passed : {t u : Bool} → t ≡ u → not t ≡ false → u ≡ true
+passed {t} e h = sym e ∙ not-false t h

@@ -1,0 +1,37 @@
+-- `ranges::in_range` meets its contract: the arm knows the variant, and the definition goes by it.
+use mathlib.Core.Path.{_≡_, sym, ap, _∙_}
+use borrow.Author.Needs.{needs}
+use Rattle.woot.specs.Ranges.{inRange}
+use Rattle.ranges.proofs.in_range.Statement.{statement}
+use Rattle.ranges.proofs.in_range.Tie as tie
+
+enum-known-o : tie.Need-enum-known-o
+enum-known-o c = search needs
+
+insert-in-range-requires : tie.Need-insert-in-range-requires
+insert-in-range-requires c κs = search needs
+
+enum-known-o-2 : tie.Need-enum-known-o-2
+enum-known-o-2 c = search needs
+
+delete-in-range-requires : tie.Need-delete-in-range-requires
+delete-in-range-requires c κs = search needs
+
+returns : tie.Need-returns
+unfolding inRange
+returns c = c .insert-in-range .ensures ∙ sym (ap inRange (c .before .before .o .given .1))
+
+returns-2 : tie.Need-returns-2
+unfolding inRange
+returns-2 c = c .delete-in-range .ensures ∙ sym (ap inRange (c .before .before .o2 .given .1))
+
+pub in-range-spec : {M : Type 1} → statement M
+in-range-spec =
+    tie.close
+    (tie.spec
+    enum-known-o
+    insert-in-range-requires
+    enum-known-o-2
+    delete-in-range-requires
+    returns
+    returns-2)

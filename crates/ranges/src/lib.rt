@@ -1,0 +1,131 @@
+// What refusal 2 lets pass: the ranges of the numbers, where a mark may stand, and that an insert does not name itself.
+// The rules are in the specs of `woot`.
+use woot::Delete;
+use woot::Identifier;
+use woot::Insert;
+use woot::Operation;
+ghost use mathlib.Core.Path.{_≡_};
+ghost use mathlib.Core.Bool.{_||_};
+ghost use Rattle.woot.specs.Limits.{lastClock};
+ghost use Rattle.woot.specs.Identifiers.{same};
+ghost use Rattle.woot.specs.Ranges.{within, siteNumber, codePoint, characterId, previousId, nextId, insertInRange, deleteInRange, inRange};
+
+// Whether a number is one of a site.
+pub fn site_number(n: u8) -> bool
+    ensures { λ r. ⌜ r ≡ siteNumber n ⌝ }
+{
+    if n < 1 {
+        return false;
+    }
+    n <= 16
+}
+
+// Whether a clock is one of a character.
+pub fn character_clock(n: u16) -> bool
+    ensures { λ r. ⌜ r ≡ within 1 lastClock n ⌝ }
+{
+    1 <= n
+}
+
+// Whether a number is a code point that may be inserted.
+pub fn code_point(n: u32) -> bool
+    ensures { λ r. ⌜ r ≡ codePoint n ⌝ }
+{
+    if 1114111 < n {
+        return false;
+    }
+    if n < 55296 {
+        return true;
+    }
+    57343 < n
+}
+
+// Whether two identifiers are equal.
+pub fn same_id(x: Identifier, y: Identifier) -> bool
+    ensures { λ r. ⌜ r ≡ same x y ⌝ }
+{
+    if x.site != y.site {
+        return false;
+    }
+    x.clock == y.clock
+}
+
+// Whether an identifier is one of a character.
+pub fn character_id(x: Identifier) -> bool
+    ensures { λ r. ⌜ r ≡ characterId x ⌝ }
+{
+    if !site_number(x.site) {
+        return false;
+    }
+    character_clock(x.clock)
+}
+
+// Whether an identifier is the mark that may stand at its place, or one of a character.
+fn neighbour_id(x: Identifier, mark: Identifier) -> bool
+    ensures { λ r. ⌜ r ≡ same x mark || characterId x ⌝ }
+{
+    if same_id(x, mark) {
+        return true;
+    }
+    character_id(x)
+}
+
+// Whether an identifier may stand as previous.
+pub fn previous_id(x: Identifier) -> bool
+    ensures { λ r. ⌜ r ≡ previousId x ⌝ }
+{
+    neighbour_id(x, Identifier::BEGIN)
+}
+
+// Whether an identifier may stand as next.
+pub fn next_id(x: Identifier) -> bool
+    ensures { λ r. ⌜ r ≡ nextId x ⌝ }
+{
+    neighbour_id(x, Identifier::END)
+}
+
+// Whether refusal 2 lets an insert pass.
+pub fn insert_in_range(i: Insert) -> bool
+    ensures { λ r. ⌜ r ≡ insertInRange i ⌝ }
+{
+    let id = i.id;
+    let previous = i.previous;
+    let next = i.next;
+    if !character_id(id) {
+        return false;
+    }
+    if !code_point(i.code_point) {
+        return false;
+    }
+    if !previous_id(previous) {
+        return false;
+    }
+    if !next_id(next) {
+        return false;
+    }
+    if same_id(id, previous) {
+        return false;
+    }
+    !same_id(id, next)
+}
+
+// Whether refusal 2 lets a delete pass.
+pub fn delete_in_range(d: Delete) -> bool
+    ensures { λ r. ⌜ r ≡ deleteInRange d ⌝ }
+{
+    if !site_number(d.sender) {
+        return false;
+    }
+    let target = d.target;
+    character_id(target)
+}
+
+// Whether refusal 2 lets an operation pass.
+pub fn in_range(o: Operation) -> bool
+    ensures { λ r. ⌜ r ≡ inRange o ⌝ }
+{
+    match o {
+        Operation::Insert(i) => insert_in_range(i),
+        Operation::Delete(d) => delete_in_range(d),
+    }
+}
