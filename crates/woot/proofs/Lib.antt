@@ -18,7 +18,7 @@ pub mod Forms
 pub mod Soundness
 pub mod Drains
 pub mod Draining
-pub mod Generated
+pub mod InsertionPoint
 pub mod Steps
 pub mod Shares
 pub mod Kept

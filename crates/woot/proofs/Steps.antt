@@ -42,7 +42,7 @@ use Rattle.woot.specs.Agreement.{Standing}
 use Rattle.woot.proofs.Identifiers.{eq-same, ne-same}
 use Rattle.woot.proofs.Ranges.{InRange, to-range, to-within, no-mark}
 use Rattle.woot.proofs.Places.{held-begin, held-end}
-use Rattle.woot.proofs.Generated.{Marked, mark, inner, leftOf, rightOf, left-marked, right-marked, marked-held, left-above, member-range}
+use Rattle.woot.proofs.InsertionPoint.{Marked, mark, inner, leftOf, rightOf, left-marked, right-marked, marked-held, left-above, member-range}
 use Rattle.woot.proofs.Soundness.{Unused, standing, any-left}
 
 -- an answer by which nothing is changed

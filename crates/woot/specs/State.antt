@@ -54,19 +54,19 @@ meaning r =
       pending = map (λ p. p .operation) (take (r .document .waiting) (r .document .pending));
     }
 
--- the replica that holds a state, determined to the last slot
-unfoldable pub stored : State → Replica
-stored s =
+-- the document that holds two lists, determined to the last slot
+unfoldable pub documentOf : List Character → List Operation → Document
+documentOf cs ps =
     record {
-      site = s .site;
-      document =
-          record {
-            characters = pad characterSlots blankCharacter (s .characters);
-            length = length (s .characters);
-            pending = pad pendingSlots blankPending (map waiting (s .pending));
-            waiting = length (s .pending);
-          };
+      characters = pad characterSlots blankCharacter cs;
+      length = length cs;
+      pending = pad pendingSlots blankPending (map waiting ps);
+      waiting = length ps;
     }
+
+-- the replica that holds a state
+unfoldable pub stored : State → Replica
+stored s = record { site = s .site; document = documentOf (s .characters) (s .pending) }
 
 -- the counts are within the arrays
 unfoldable pub counted : Replica → Bool

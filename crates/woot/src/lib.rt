@@ -157,3 +157,21 @@ pub enum Sent {
     },
     Refused(Refusal),
 }
+
+// What receiving returns: the answer, and the replica as it is then.
+pub struct Receipt {
+    pub answer: Answer,
+    pub replica: Replica,
+}
+
+// What inserting and deleting here return.
+pub struct Generated {
+    pub answer: Sent,
+    pub replica: Replica,
+}
+
+// What writing into a lent slice answers: how many bytes were written, or a refusal, and then none was.
+pub enum Written {
+    Length(usize),
+    Refused(Refusal),
+}

@@ -1,12 +1,12 @@
 -- `woot::Replica::empty` is the empty state as it is stored: the arrays are filler throughout.
 use mathlib.Core.Path.{_≡_, refl}
 use borrow.Author.Needs.{needs}
-use Rattle.woot.specs.State.{stored, initial, pad, blankCharacter, blankPending}
+use Rattle.woot.specs.State.{stored, documentOf, initial, pad, blankCharacter, blankPending}
 use Rattle.woot.proofs.Replica.empty.Statement.{statement}
 use Rattle.woot.proofs.Replica.empty.Tie as tie
 
 returns : tie.Need-returns
-unfolding stored initial pad blankCharacter blankPending
+unfolding stored documentOf initial pad blankCharacter blankPending
 returns c = refl
 
 pub empty-spec : {M : Type 1} → statement M

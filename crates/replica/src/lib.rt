@@ -1,0 +1,1 @@
+// The calls on a replica: receiving, inserting, deleting, the check of its form and the visible text.
