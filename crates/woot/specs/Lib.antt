@@ -12,5 +12,3 @@ pub mod Calls
 pub mod Text
 pub mod Histories
 pub mod Situations
-pub mod Agreement
-pub mod Theorems

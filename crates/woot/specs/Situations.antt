@@ -12,7 +12,10 @@ use Rattle.woot.specs.Identifiers.{begin, end}
 use Rattle.woot.specs.Operations.{character}
 use Rattle.woot.specs.State.{State, initial}
 use Rattle.woot.specs.Placing.{identifiers}
-use Rattle.woot.specs.Answers.{Word, done, waits, known, refused, Reply, reply}
+use Rattle.woot.specs.declared.Answer.{Answer}
+use Rattle.woot.specs.declared.Sent.{Sent}
+use Rattle.woot.specs.Answers.{Word, done, waits, known, refused, Reply, reply, answerOf, Check}
+use Rattle.woot.specs.Calls.{receiveChecks, insertChecks, deleteChecks}
 use Rattle.woot.specs.Histories.{Call, inserting, deleting, receiving, outcome, run, drainedBy}
 use Rattle.woot.specs.Form.{wellFormed}
 use Rattle.utf8.specs.Encoding.{encode}
@@ -29,6 +32,10 @@ put x p n = record { id = x; «code_point» = 65; previous = p; next = n }
 -- an insert, and a delete by the site of the number, that arrive
 abbrev pub ins : Identifier → Identifier → Identifier → Call
 ins x p n = receiving (insert (put x p n))
+
+-- the same with a code point
+abbrev pub insAs : ℕ → Identifier → Identifier → Identifier → Call
+insAs n x p q = receiving (insert (record { id = x; «code_point» = n; previous = p; next = q }))
 
 abbrev pub del : ℕ → Identifier → Call
 del n x = receiving (delete (record { sender = n; target = x }))
@@ -172,6 +179,16 @@ tellingCases =
     ∷ (after (o1 ∷ o2 ∷ ins (3 / 1) begin end ∷ ins (3 / 1) (2 / 1) (1 / 1) ∷ []) gives calls (Done 1 0 ∷ Done 1 0 ∷ Done 1 0 ∷ Refused 7 ∷ []) (1 / 1 ∷ 2 / 1 ∷ 3 / 1 ∷ []))
     -- previous equal to next: it waits, and is thrown out when the character comes
     ∷ (after (ins (2 / 1) (1 / 1) (1 / 1) ∷ o1 ∷ ins (2 / 1) (1 / 1) (1 / 1) ∷ []) gives calls (Waits ∷ Done 1 1 ∷ Refused 8 ∷ []) (1 / 1 ∷ []))
+    -- a waiting operation that has everything it needs: out of form
+    ∷ (calling (record { site = record { number = 1; clock = 0 }; characters = []; pending = insert (put (1 / 1) begin end) ∷ [] }) (o2 ∷ []) gives calls (Refused 3 ∷ []) [])
+    -- the clock not advanced, or counted from another start
+    ∷ (after (inserting 0 65 ∷ inserting 1 66 ∷ inserting 0 67 ∷ []) gives calls (Done 1 0 ∷ Done 1 0 ∷ Done 1 0 ∷ []) (16 / 3 ∷ 16 / 1 ∷ 16 / 2 ∷ []))
+    -- an erased row counted among the shown ones
+    ∷ (after (inserting 0 65 ∷ deleting 1 ∷ deleting 1 ∷ inserting 1 66 ∷ inserting 0 66 ∷ []) gives calls (Done 1 0 ∷ Done 1 0 ∷ Refused 4 ∷ Refused 4 ∷ Done 1 0 ∷ []) (16 / 1 ∷ 16 / 2 ∷ []))
+    -- the hall program's example
+    ∷ (after (insAs 66 (2 / 1) (1 / 1) end ∷ o1 ∷ del 3 (1 / 1) ∷ o1 ∷ insAs 67 (1 / 1) begin end ∷ []) gives calls (Waits ∷ Done 2 0 ∷ Done 1 0 ∷ Known ∷ Refused 7 ∷ []) (1 / 1 ∷ 2 / 1 ∷ []))
+    -- a drained erase of a row that is hidden already is carried out and counted
+    ∷ (after (del 3 (1 / 1) ∷ del 5 (1 / 1) ∷ o1 ∷ del 7 (1 / 1) ∷ []) gives calls (Waits ∷ Waits ∷ Done 3 0 ∷ Known ∷ []) (1 / 1 ∷ []))
     -- on a sheet that was only loaded: stops at the first that is not below
     ∷ (calling (holding (put (1 / 1) begin end ∷ put (5 / 1) begin end ∷ put (2 / 1) begin end ∷ [])) (ins (3 / 1) begin end ∷ []) gives calls (Done 1 0 ∷ []) (1 / 1 ∷ 3 / 1 ∷ 5 / 1 ∷ 2 / 1 ∷ []))
     ∷ []
@@ -179,3 +196,18 @@ tellingCases =
 -- the cases tell
 abbrev pub CasesTell : Type 0
 CasesTell = AllHold tellingCases
+
+-- ---- the checking order
+
+-- the refusals of a list of checks by their numbers, 0 for known
+abbrev pub numbersOf : List (Check Answer) → List ℕ
+numbersOf cs = map (λ c. reply (c .answer) .refusal) cs
+
+abbrev pub sentNumbersOf : List (Check Sent) → List ℕ
+sentNumbersOf cs = map (λ c. reply (answerOf (c .answer)) .refusal) cs
+
+-- receiving meets 2, 3, known, 7, 8, 9, 10, 11; typing 2, 3, 4, 5, 6, 9, 11; erasing 3, 4: in this order, on any state
+pub record CheckingOrder (formed : Bool) (s : State) : Type 0 where
+  pub receiving-meets : (o : Operation) → numbersOf (receiveChecks formed s o) ≡ 2 ∷ 3 ∷ 0 ∷ 7 ∷ 8 ∷ 9 ∷ 10 ∷ 11 ∷ []
+  pub inserting-meets : (g n : ℕ) → sentNumbersOf (insertChecks formed s g n) ≡ 2 ∷ 3 ∷ 4 ∷ 5 ∷ 6 ∷ 9 ∷ 11 ∷ []
+  pub deleting-meets : (p : ℕ) → sentNumbersOf (deleteChecks formed s p) ≡ 3 ∷ 4 ∷ []

@@ -1,5 +1,6 @@
 // The types of the replicated text: identifiers, operations, characters, the document, the replica, and the answers of
-// the calls. The rules that they live by are in specs/, the theorems about the rules in proofs/.
+// the calls. The rules that they live by are in specs/; the crate
+// `convergence` has the theorems about them.
 ghost use mathlib.Core.Path.{_≡_};
 ghost use Rattle.woot.specs.State.{initial, stored};
 

@@ -1,0 +1,53 @@
+-- Demand 3: histories with the same inserts give the same list of origins, since both lists have grown, and those with the
+-- same deletes the same visibility.
+use Prim.Native.Nat.{ℕ}
+use mathlib.Core.Path.{_≡_, refl, ap, sym, subst}
+use mathlib.Core.Bool.{false}
+use mathlib.Core.List.{List, [], _∷_, map, List·Memᴰ, List·Memᴰ·head, List·Memᴰ·tail, nil≢cons, head-eq-of-cons-eq, tail-eq-of-cons-eq}
+use Rattle.woot.specs.declared.Identifier.{Identifier}
+use Rattle.woot.specs.declared.Insert.{Insert}
+use Rattle.woot.specs.declared.Character.{Character}
+use Rattle.woot.specs.Operations.{origin}
+use Rattle.woot.specs.Text.{text}
+use Rattle.woot.specs.Histories.{Call, DeletedIn, charactersAfter, historyOf, SameInserted, SameDeleted}
+use Rattle.convergence.specs.Theorems.{Agreement, Convergence}
+use Rattle.convergence.proofs.Tests.{agree-false}
+use Rattle.convergence.proofs.Agreement.{agreement}
+use Rattle.convergence.proofs.Listing.{same-list}
+use Rattle.convergence.proofs.Grown.{grown-from-empty}
+use Rattle.convergence.proofs.Histories.{held-are-inserted, hidden-are-deleted}
+
+pub characters-agree : Agreement
+characters-agree m n cs ds = agreement (charactersAfter m cs) (charactersAfter n ds) (grown-from-empty m cs) (grown-from-empty n ds)
+
+-- two characters of one origin, as visible as each other, are the same
+character-path : (c d : Character) → origin c ≡ origin d → c .visible ≡ d .visible → c ≡ d
+unfolding origin
+character-path c d e v = λ i. record { id = e i .id; «code_point» = e i .«code_point»; visible = v i; previous = e i .previous; next = e i .next }
+
+-- two lists of the same origins, as visible as each other, are the same
+characters-path : (cs ds : List Character) → map origin cs ≡ map origin ds → ((c d : Character) → List·Memᴰ c cs → List·Memᴰ d ds → origin c ≡ origin d → c .visible ≡ d .visible) → cs ≡ ds
+characters-path [] [] e f = refl
+characters-path [] (d ∷ ds) e f = absurd (nil≢cons e)
+characters-path (c ∷ cs) [] e f = absurd (nil≢cons (sym e))
+characters-path (c ∷ cs) (d ∷ ds) e f =
+    let h : origin c ≡ origin d = head-eq-of-cons-eq e in
+    let k : c ≡ d = character-path c d h (f c d (List·Memᴰ·head refl) (List·Memᴰ·head refl) h) in
+    let l : cs ≡ ds = characters-path cs ds (tail-eq-of-cons-eq e) (λ a b m n. f a b (List·Memᴰ·tail m) (List·Memᴰ·tail n)) in
+    λ i. k i ∷ l i
+
+same-characters : (m n : ℕ) (cs ds : List Call) → SameInserted (historyOf m cs) (historyOf n ds) → SameDeleted (historyOf m cs) (historyOf n ds) → charactersAfter m cs ≡ charactersAfter n ds
+unfolding origin
+same-characters m n cs ds inserted deleted =
+    characters-path (charactersAfter m cs) (charactersAfter n ds)
+    (same-list (charactersAfter m cs) (charactersAfter n ds) (grown-from-empty m cs) (grown-from-empty n ds) (λ i. (λ h. held-are-inserted n ds i .1 (inserted i .0 (held-are-inserted m cs i .0 h)), λ h. held-are-inserted m cs i .1 (inserted i .1 (held-are-inserted n ds i .0 h)))))
+    (λ c d p q e.
+    let x : c .id ≡ d .id = ap (λ (i : Insert). i .id) e in
+    agree-false (c .visible) (d .visible)
+    (λ h. hidden-are-deleted n ds d q .1 (subst (λ (y : Identifier). DeletedIn y (historyOf n ds)) x (deleted (c .id) .0 (hidden-are-deleted m cs c p .0 h))))
+    (λ h. hidden-are-deleted m cs c p .1 (deleted (c .id) .1 (subst (λ (y : Identifier). DeletedIn y (historyOf n ds)) (sym x) (hidden-are-deleted n ds d q .0 h)))))
+
+pub convergence : Convergence
+convergence m n cs ds inserted deleted =
+    let e = same-characters m n cs ds inserted deleted in
+    (e, ap text e)

@@ -1,0 +1,102 @@
+-- Well-formedness as facts: the tests of `wellFormed` taken apart, and put together again.
+use Prim.Native.Nat.{ℕ, zero, suc, _+_, _≤_, _<_}
+use native.Mathlib.Omega.{arith}
+use mathlib.Core.Path.{_≡_, refl, ap, sym, _∙_, subst}
+use mathlib.Core.Bool.{Bool, true, false, _&&_, _||_, not, cond}
+use mathlib.Core.Logic.{_⊎_, inl, inr, ⊎-elim}
+use mathlib.Core.List.{List, [], _∷_, _++_, map, List·Memᴰ, List·Memᴰ·head, List·Memᴰ·tail}
+use lib.Dec.{leb, eqb}
+use lib.ListN.{length, length-append, length-map}
+use borrow.Author.Tests.{leb-true, le-leb, not-true}
+use Rattle.woot.specs.declared.Identifier.{Identifier}
+use Rattle.woot.specs.declared.Site.{Site}
+use Rattle.woot.specs.declared.Insert.{Insert}
+use Rattle.woot.specs.declared.Operation.{Operation}
+use Rattle.woot.specs.declared.Character.{Character}
+use Rattle.woot.specs.Limits.{lastSite, capacity, share}
+use Rattle.woot.specs.Identifiers.{same}
+use Rattle.woot.specs.Operations.{origin, inserts, deletes, sameDelete}
+use Rattle.woot.specs.Ranges.{within, siteNumber, siteInRange, characterInRange, inRange}
+use Rattle.woot.specs.State.{State, initial}
+use Rattle.woot.specs.Placing.{above, identifiers}
+use Rattle.woot.specs.Pending.{executable, sentBy, pendingFrom}
+use Rattle.woot.specs.Form.{known, numbers, allInRange, sharesKept, capacityKept, identifiersDistinct, deletesDistinct, ordered, neighboursOrdered, noneExecutable, wellFormed}
+use Rattle.convergence.specs.Agreement.{Standing}
+use Rattle.convergence.specs.Theorems.{EmptyFormed}
+use Rattle.woot.specs.Lists.{any, every, distinct}
+use Rattle.convergence.proofs.Tests.{either, three, seven, and-intro, not-intro}
+use Rattle.convergence.proofs.Members.{any-member, member-any, any-none, none-any, every-member, member-every}
+
+-- the identifiers of pending inserts
+abbrev pub pendingIds : List Operation → List Identifier
+pendingIds ps = map (λ i. i .id) (inserts ps)
+
+-- the form of the lists, but for the last condition, which does not hold while pending operations are drained
+pub record Sound (cs : List Character) (ps : List Operation) : Type 0 where
+  pub ranges : every characterInRange cs ≡ true
+  pub ordered-all : every (ordered cs) cs ≡ true
+  pub pending-ranges : every inRange ps ≡ true
+  pub shares : every (λ n. leb (pendingFrom n ps) share) (numbers lastSite) ≡ true
+  pub room : length cs + length (inserts ps) ≤ capacity
+  pub apart : distinct same (identifiers cs ++ pendingIds ps) ≡ true
+  pub deletes-apart : distinct sameDelete (deletes ps) ≡ true
+
+pub record Formed (s : State) : Type 0 where
+  pub site : siteInRange (s .site) ≡ true
+  pub sound : Sound (s .characters) (s .pending)
+  pub unready : any (executable (s .characters)) (s .pending) ≡ false
+
+pub known-length : (s : State) → length (known s) ≡ length (s .characters) + length (inserts (s .pending))
+unfolding known
+known-length s = length-append (map origin (s .characters)) (inserts (s .pending)) ∙ ap (λ (n : ℕ). n + length (inserts (s .pending))) (length-map (s .characters) origin)
+
+map-append : {A B : Type 0} (f : A → B) (xs ys : List A) → map f (xs ++ ys) ≡ map f xs ++ map f ys
+map-append f [] ys = refl
+map-append f (x ∷ xs) ys = ap (λ zs. f x ∷ zs) (map-append f xs ys)
+
+origin-ids : (cs : List Character) → map (λ i. i .id) (map origin cs) ≡ identifiers cs
+unfolding origin
+origin-ids [] = refl
+origin-ids (c ∷ cs) = ap (λ zs. c .id ∷ zs) (origin-ids cs)
+
+pub known-ids : (s : State) → map (λ i. i .id) (known s) ≡ identifiers (s .characters) ++ pendingIds (s .pending)
+unfolding known
+known-ids s = map-append (λ i. i .id) (map origin (s .characters)) (inserts (s .pending)) ∙ ap (λ zs. zs ++ pendingIds (s .pending)) (origin-ids (s .characters))
+
+pub formed : (s : State) → wellFormed s ≡ true → Formed s
+unfolding wellFormed allInRange sharesKept capacityKept identifiersDistinct deletesDistinct neighboursOrdered noneExecutable
+formed s h =
+    let p =
+    seven (allInRange s) (sharesKept s) (capacityKept s) (identifiersDistinct s) (deletesDistinct s)
+    (neighboursOrdered s) (noneExecutable s) h
+    in
+    let q = three (siteInRange (s .site)) (every characterInRange (s .characters)) (every inRange (s .pending)) (p .0) in
+    let held : length (known s) ≤ capacity = leb-true (length (known s)) capacity (p .2) in
+    record {
+      site = q .0;
+      sound =
+          record {
+            ranges = q .1;
+            ordered-all = p .5;
+            pending-ranges = q .2;
+            shares = p .1;
+            room = omega (arith, known-length s);
+            apart = subst (λ xs. distinct same xs ≡ true) (known-ids s) (p .3);
+            deletes-apart = p .4;
+          };
+      unready = not-true (any (executable (s .characters)) (s .pending)) (p .6);
+    }
+
+pub reformed : (s : State) → Formed s → wellFormed s ≡ true
+unfolding wellFormed allInRange sharesKept capacityKept identifiersDistinct deletesDistinct neighboursOrdered noneExecutable
+reformed s f =
+    let held : length (known s) ≤ capacity = omega (arith, known-length s, f .sound .room) in
+    rw (f .site, f .sound .ranges, f .sound .pending-ranges, f .sound .shares, le-leb (length (known s)) capacity held, known-ids s, f .sound .apart, f .sound .deletes-apart, f .sound .ordered-all, f .unready)
+
+pub empty-formed : EmptyFormed
+unfolding wellFormed allInRange sharesKept capacityKept identifiersDistinct deletesDistinct neighboursOrdered noneExecutable initial siteInRange within known pendingFrom
+empty-formed n = go (siteNumber n) refl
+  where
+    go : (b : Bool) → siteNumber n ≡ b → wellFormed (initial n) ≡ siteNumber n
+    go true e = rw e
+    go false e = rw e

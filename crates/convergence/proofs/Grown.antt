@@ -1,0 +1,115 @@
+-- Every state begun empty has grown by integration alone, so placing never fails there.
+use Prim.Native.Nat.{ℕ, zero, suc, _+_, _≤_}
+use native.Mathlib.Omega.{arith}
+use mathlib.Core.Path.{_≡_, refl, ap, sym, _∙_, subst}
+use mathlib.Core.Bool.{Bool, true, false, _&&_, not}
+use mathlib.Core.Option.{Option, none, some}
+use mathlib.Core.List.{List, [], _∷_, _++_}
+use borrow.Author.Tests.{not-false, ltb-false}
+use lib.Dec.{ltb}
+use lib.ListN.{length}
+use Rattle.woot.specs.declared.Insert.{Insert}
+use Rattle.woot.specs.declared.Operation.{Operation}
+use Rattle.woot.specs.declared.Operation.the-variants.{Insert as insert, Delete as delete}
+use Rattle.woot.specs.declared.Character.{Character}
+use Rattle.woot.specs.declared.Refusal.{Refusal}
+use Rattle.woot.specs.declared.Refusal.the-variants.{Layout, Range, Form, Position, Clock, Taken, Conflict, Crossed, Unplaceable, SenderFull, DocumentFull, Output}
+use Rattle.woot.specs.declared.Answer.{Answer}
+use Rattle.woot.specs.declared.Answer.the-variants.{Done, Deferred, Duplicate, Refused}
+use Rattle.woot.specs.declared.Sent.{Sent}
+use Rattle.woot.specs.declared.Sent.the-variants.{Done as sentDone, Refused as sentRefused}
+use Rattle.woot.specs.Ranges.{inRange}
+use Rattle.woot.specs.State.{State, initial}
+use Rattle.woot.specs.Placing.{integrateInsert}
+use Rattle.woot.specs.Pending.{executable, crossed, unplaceable, integrate, Drained, andIntegrated, andDiscarded, drained}
+use Rattle.woot.specs.Form.{wellFormed}
+use Rattle.woot.specs.Answers.{Check, first, Reported, here, later, answerOf, number}
+use Rattle.woot.specs.Calls.{Outcome, unchanged, withCharacters, withPending, insertCarried, carryOut, defer, receiveChecks, receive, visibles, generatedInsert, beyondVisible, insertChecks, localInsert, deleteChecks, localDelete}
+use Rattle.woot.specs.Histories.{Call, inserting, deleting, receiving, outcome, run}
+use Rattle.convergence.specs.Agreement.{Grown}
+use Rattle.convergence.specs.Theorems.{GrownFromEmpty, NeverUnplaceable}
+use Rattle.convergence.proofs.Tests.{clash, and-left}
+use Rattle.convergence.proofs.Members.{every-member}
+use Rattle.convergence.proofs.Extract.{Extract, extract-itself}
+use Rattle.convergence.proofs.Growth.{grown-empty, grown-delete, grown-insert, grown-placeable}
+use Rattle.convergence.proofs.Forms.{Sound, formed}
+use Rattle.convergence.proofs.Soundness.{fresh-unheld, sound-in, sound-out, out-fresh}
+use Rattle.convergence.proofs.Drains.{Draining, stop, discard, carry}
+use Rattle.convergence.proofs.Draining.{sound-carry}
+use Rattle.convergence.proofs.Steps.{Turned, Addable, Step, turned, adds, removes, defers, step, generated-uncrossed}
+use Rattle.convergence.proofs.Kept.{after-insert}
+use Rattle.convergence.proofs.Refusals.{skipped, held-there, never, other, other-sent, receive-refuses, insert-refuses, delete-refuses, answer-refused}
+
+grown-carry : {cs : List Character} {os ps : List Operation} (o : Operation) → Extract o os ps → Sound cs ps → executable cs o ≡ true → crossed cs o ≡ false → Grown cs → Grown (integrate cs o)
+unfolding integrate inRange
+grown-carry {cs} {os} (insert i) e s ready uncrossed g =
+    let r = every-member inRange (s .pending-ranges) (extract-itself e) in
+    grown-insert cs i g r (fresh-unheld cs os i r (out-fresh e s)) ready uncrossed
+grown-carry {cs} (delete d) e s ready uncrossed g = grown-delete cs (d .target) g
+
+grown-drained : {cs : List Character} {ps : List Operation} {d : Drained} → Draining cs ps d → Sound cs ps → Grown cs → Grown (d .characters)
+unfolding drained andDiscarded andIntegrated
+grown-drained (stop h) s g = g
+grown-drained (discard t w r) s g = grown-drained r (sound-out (w .extracted) s) g
+grown-drained (carry t w uncrossed placeable r) s g =
+    grown-drained r (sound-carry (t .operation) (w .extracted) s (w .passed) uncrossed placeable) (grown-carry (t .operation) (w .extracted) s (w .passed) uncrossed g)
+
+grown-step : (s : State) {r : Outcome Answer} → Step s r → Grown (s .characters) → Grown (r .state .characters)
+unfolding unchanged carryOut defer withCharacters withPending
+grown-step s (turned a w) g = g
+grown-step s (adds t i a) g =
+    grown-drained (after-insert s i) (sound-in i (a .formed .sound) (a .ranged) (a .fresh) (a .space) (a .ready) (a .uncrossed) (a .placeable))
+    (grown-insert (s .characters) i g (a .ranged) (fresh-unheld (s .characters) (s .pending) i (a .ranged) (a .fresh)) (a .ready) (a .uncrossed))
+grown-step s (removes d a) g = grown-delete (s .characters) (d .target) g
+grown-step s (defers o a) g = g
+
+grown-run : (s : State) (cs : List Call) → Grown (s .characters) → Grown (run s cs .characters)
+grown-run s [] g = g
+grown-run s (c ∷ cs) g = grown-run (outcome s c .state) cs (grown-step s (step s c) g)
+
+pub grown-from-empty : GrownFromEmpty
+unfolding initial
+grown-from-empty n cs = grown-run (initial n) cs grown-empty
+
+-- ---- refusal 9
+
+-- an operation that has everything it needs, in order, is placed
+operation-placeable : (cs : List Character) (o : Operation) → Grown cs → crossed cs o ≡ false → unplaceable cs o ≡ true → ⊥
+unfolding unplaceable
+operation-placeable cs (insert i) g uncrossed u = clash u (grown-placeable cs i g (and-left (executable cs (insert i)) _ u) uncrossed)
+operation-placeable cs (delete d) g uncrossed u = clash u refl
+
+receive-placeable : (s : State) (o : Operation) → Grown (s .characters) → Reported (Refused Unplaceable) (receiveChecks (wellFormed s) s o) → ⊥
+unfolding receiveChecks number
+receive-placeable s o g r =
+    let r1 = skipped (other (λ h. omega arith)) r in
+    let r2 = skipped (other (λ h. omega arith)) (r1 .1) in
+    let r3 = skipped (λ e. let z : _≡_ {A = ℕ} 0 1 = cc in omega arith) (r2 .1) in
+    let r4 = skipped (other (λ h. omega arith)) (r3 .1) in
+    let r5 = skipped (other (λ h. omega arith)) (r4 .1) in
+    operation-placeable (s .characters) o g (r5 .0)
+    (held-there (λ q. never (skipped (other (λ h. omega arith)) (skipped (other (λ h. omega arith)) q .1) .1)) (r5 .1))
+
+insert-placeable : (s : State) (g n : ℕ) → Grown (s .characters) → Reported (sentRefused Unplaceable) (insertChecks (wellFormed s) s g n) → ⊥
+unfolding insertChecks number
+insert-placeable s g n w r =
+    let r1 = skipped (other-sent (λ h. omega arith)) r in
+    let r2 = skipped (other-sent (λ h. omega arith)) (r1 .1) in
+    let r3 = skipped (other-sent (λ h. omega arith)) (r2 .1) in
+    let r4 = skipped (other-sent (λ h. omega arith)) (r3 .1) in
+    let r5 = skipped (other-sent (λ h. omega arith)) (r4 .1) in
+    operation-placeable (s .characters) (insert (generatedInsert s g n)) w (generated-uncrossed s g n (formed s (not-false (wellFormed s) (r2 .0))) (r3 .0))
+    (held-there (λ q. never (skipped (other-sent (λ h. omega arith)) q .1)) (r5 .1))
+
+delete-placeable : (s : State) (p : ℕ) → Reported (sentRefused Unplaceable) (deleteChecks (wellFormed s) s p) → ⊥
+unfolding deleteChecks number
+delete-placeable s p r = never (skipped (other-sent (λ h. omega arith)) (skipped (other-sent (λ h. omega arith)) r .1) .1)
+
+placeable : (s : State) (c : Call) → Grown (s .characters) → outcome s c .answer ≡ Refused Unplaceable → ⊥
+unfolding outcome receive localInsert localDelete
+placeable s (inserting g n) w e = insert-placeable s g n w (insert-refuses (wellFormed s) s g n Unplaceable .0 (answer-refused _ Unplaceable e))
+placeable s (deleting p) w e = delete-placeable s p (delete-refuses (wellFormed s) s p Unplaceable .0 (answer-refused _ Unplaceable e))
+placeable s (receiving o) w e = receive-placeable s o w (receive-refuses (wellFormed s) s o Unplaceable .0 e)
+
+pub never-unplaceable : NeverUnplaceable
+never-unplaceable n cs c = placeable (run (initial n) cs) c (grown-from-empty n cs)

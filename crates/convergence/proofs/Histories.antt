@@ -1,0 +1,93 @@
+-- Over a list of calls: the characters stay faithful to what was carried out, and what was deferred is pending, carried
+-- out or discarded.
+use Prim.Native.Nat.{ℕ, zero, suc, _+_}
+use native.Mathlib.Omega.{arith}
+use mathlib.Core.Path.{_≡_, refl, ap, sym, _∙_, subst}
+use mathlib.Core.Bool.{Bool, true, false}
+use mathlib.Core.List.{List, [], _∷_, _++_, map, append-assoc, append-nil}
+use lib.ListN.{length, length-append}
+use Rattle.woot.specs.declared.Insert.{Insert}
+use Rattle.woot.specs.declared.Operation.{Operation}
+use Rattle.woot.specs.declared.Operation.the-variants.{Insert as insert, Delete as delete}
+use Rattle.woot.specs.declared.Character.{Character}
+use Rattle.woot.specs.declared.Answer.{Answer}
+use Rattle.woot.specs.declared.Answer.the-variants.{Done, Deferred, Duplicate, Refused}
+use Rattle.woot.specs.Ranges.{insertInRange, inRange}
+use Rattle.woot.specs.State.{State, initial}
+use Rattle.woot.specs.Placing.{integrateInsert}
+use Rattle.woot.specs.Pending.{executable, crossed, unplaceable, integrate, Drained, andIntegrated, andDiscarded, drained}
+use Rattle.woot.specs.Calls.{Outcome, unchanged, integrated, withCharacters, withPending, insertCarried, carryOut, defer}
+use Rattle.woot.specs.Histories.{Call, outcome, run, integratedBy, drainedBy, discardedBy, isDeferred, deferredBy, historyOf, charactersAfter}
+use Rattle.convergence.specs.Theorems.{HeldAreInserted, HeldCount, HiddenAreDeleted, WaitsBalance}
+use Rattle.convergence.proofs.Members.{every-member}
+use Rattle.convergence.proofs.Extract.{Extract, extract-itself}
+use Rattle.convergence.proofs.Forms.{Sound}
+use Rattle.convergence.proofs.Soundness.{placed-extract, placed-held, fresh-unheld, sound-in, sound-out, out-fresh}
+use Rattle.convergence.proofs.Drains.{Draining, stop, discard, carry}
+use Rattle.convergence.proofs.Draining.{sound-carry, drained-balance}
+use Rattle.convergence.proofs.Steps.{Turned, Addable, Removable, Deferrable, added, Step, turned, adds, removes, defers, step}
+use Rattle.convergence.proofs.Kept.{after-insert}
+use Rattle.convergence.proofs.Faithful.{Faithful, faithful-empty, faithful-insert, faithful-delete}
+
+-- a pending operation carried out
+faithful-carry : {cs : List Character} {ps qs os : List Operation} (o : Operation) → Extract o qs ps → Sound cs ps → executable cs o ≡ true → crossed cs o ≡ false → unplaceable cs o ≡ false → Faithful cs os → Faithful (integrate cs o) (os ++ o ∷ [])
+unfolding integrate inRange executable
+faithful-carry {cs} {ps} {qs} (insert i) e s ready uncrossed placeable f =
+    faithful-insert i (placed-extract cs i ready uncrossed placeable) (fresh-unheld cs qs i (every-member inRange (s .pending-ranges) (extract-itself e)) (out-fresh e s)) (placed-held cs i ready uncrossed placeable) f
+faithful-carry (delete d) e s ready uncrossed placeable f = faithful-delete d ready f
+
+faithful-drained : {cs : List Character} {ps : List Operation} {d : Drained} (os : List Operation) → Draining cs ps d → Sound cs ps → Faithful cs os → Faithful (d .characters) (os ++ d .integrated)
+unfolding drained andDiscarded andIntegrated
+faithful-drained os (stop {cs = cs} h) s f = subst (λ qs. Faithful cs qs) (sym (append-nil os)) f
+faithful-drained os (discard t w r) s f = faithful-drained os r (sound-out (w .extracted) s) f
+faithful-drained os (carry {d = d} t w uncrossed placeable r) s f =
+    subst (λ qs. Faithful (d .characters) qs) (append-assoc os (t .operation ∷ []) (d .integrated))
+    (faithful-drained (os ++ t .operation ∷ []) r (sound-carry (t .operation) (w .extracted) s (w .passed) uncrossed placeable) (faithful-carry (t .operation) (w .extracted) s (w .passed) uncrossed placeable f))
+
+faithful-step : (s : State) (os : List Operation) {r : Outcome Answer} → Step s r → Faithful (s .characters) os → Faithful (r .state .characters) (os ++ integrated r)
+unfolding unchanged carryOut defer withCharacters withPending integrated executable
+faithful-step s os (turned a w) f = subst (λ qs. Faithful (s .characters) qs) (sym (append-nil os)) f
+faithful-step s os (adds t i a) f =
+    subst (λ qs. Faithful (insertCarried s i .characters) qs) (append-assoc os (insert i ∷ []) (insertCarried s i .integrated))
+    (faithful-drained (os ++ insert i ∷ []) (after-insert s i) (sound-in i (a .formed .sound) (a .ranged) (a .fresh) (a .space) (a .ready) (a .uncrossed) (a .placeable))
+    (faithful-insert i (placed-extract (s .characters) i (a .ready) (a .uncrossed) (a .placeable)) (fresh-unheld (s .characters) (s .pending) i (a .ranged) (a .fresh)) (placed-held (s .characters) i (a .ready) (a .uncrossed) (a .placeable)) f))
+faithful-step s os (removes d a) f = faithful-delete d (a .ready) f
+faithful-step s os (defers o a) f = subst (λ qs. Faithful (s .characters) qs) (sym (append-nil os)) f
+
+faithful-run : (s : State) (os : List Operation) (cs : List Call) → Faithful (s .characters) os → Faithful (run s cs .characters) (os ++ integratedBy s cs)
+faithful-run s os [] f = subst (λ qs. Faithful (s .characters) qs) (sym (append-nil os)) f
+faithful-run s os (c ∷ cs) f =
+    subst (λ qs. Faithful (run s (c ∷ cs) .characters) qs) (append-assoc os (integrated (outcome s c)) (integratedBy (outcome s c .state) cs))
+    (faithful-run (outcome s c .state) (os ++ integrated (outcome s c)) cs (faithful-step s os (step s c) f))
+
+pub faithful : (n : ℕ) (cs : List Call) → Faithful (charactersAfter n cs) (historyOf n cs)
+unfolding initial
+faithful n cs = faithful-run (initial n) [] cs faithful-empty
+
+pub held-are-inserted : HeldAreInserted
+held-are-inserted n cs i = faithful n cs .inserted i
+
+pub held-count : HeldCount
+held-count n cs = faithful n cs .counted
+
+pub hidden-are-deleted : HiddenAreDeleted
+hidden-are-deleted n cs c m = faithful n cs .deleted c m
+
+-- ---- what was deferred
+
+balance-step : (s : State) {r : Outcome Answer} → Step s r → isDeferred (r .answer) + length (s .pending) ≡ length (r .state .pending) + length (r .drained) + length (r .discarded)
+unfolding unchanged carryOut defer withCharacters withPending
+balance-step s (turned Duplicate w) = omega arith
+balance-step s (turned (Refused r) w) = omega arith
+balance-step s (adds t i a) = omega (arith, drained-balance (after-insert s i))
+balance-step s (removes d a) = omega arith
+balance-step s (defers o a) = omega (arith, length-append (s .pending) (o ∷ []))
+
+balance-run : (s : State) (cs : List Call) → deferredBy s cs + length (s .pending) ≡ length (run s cs .pending) + length (drainedBy s cs) + length (discardedBy s cs)
+balance-run s [] = omega arith
+balance-run s (c ∷ cs) =
+    omega (arith, balance-step s (step s c), balance-run (outcome s c .state) cs, length-append (outcome s c .drained) (drainedBy (outcome s c .state) cs), length-append (outcome s c .discarded) (discardedBy (outcome s c .state) cs))
+
+pub waits-balance : WaitsBalance
+unfolding initial
+waits-balance n cs = omega (arith, balance-run (initial n) cs)

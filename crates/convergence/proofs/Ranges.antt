@@ -1,0 +1,64 @@
+-- The ranges of refusal 2 as facts about the numbers.
+use Prim.Native.Nat.{ℕ, _≤_, _<_}
+use native.Mathlib.Omega.{arith}
+use mathlib.Core.Path.{_≡_, refl, ap}
+use mathlib.Core.Bool.{Bool, true, false, _&&_, _||_, not}
+use borrow.Author.Tests.{leb-true, le-leb, not-true}
+use lib.Dec.{leb}
+use Rattle.woot.specs.declared.Identifier.{Identifier}
+use Rattle.woot.specs.declared.Insert.{Insert}
+use Rattle.woot.specs.declared.Site.{Site}
+use Rattle.woot.specs.Limits.{lastSite, lastClock}
+use Rattle.woot.specs.Identifiers.{begin, end, same}
+use Rattle.woot.specs.Ranges.{within, siteNumber, codePoint, characterId, previousId, nextId, siteInRange, insertInRange}
+use Rattle.convergence.proofs.Tests.{and-left, and-right, and-intro, four}
+
+pub within-low : (low high n : ℕ) → within low high n ≡ true → low ≤ n
+unfolding within
+within-low low high n h = leb-true low n (and-left (leb low n) (leb n high) h)
+
+pub within-high : (low high n : ℕ) → within low high n ≡ true → n ≤ high
+unfolding within
+within-high low high n h = leb-true n high (and-right (leb low n) (leb n high) h)
+
+pub to-within : (low high n : ℕ) → low ≤ n → n ≤ high → within low high n ≡ true
+unfolding within
+to-within low high n h k = and-intro (le-leb low n h) (le-leb n high k)
+
+-- a character's identifier is no mark: its site is at least 1
+pub character-site : (x : Identifier) → characterId x ≡ true → 1 ≤ x .site
+unfolding characterId siteNumber
+character-site x h = within-low 1 lastSite (x .site) (and-left (within 1 lastSite (x .site)) (within 1 lastClock (x .clock)) h)
+
+pub no-mark : (x : Identifier) (t : ℕ) → characterId x ≡ true → x ≡ record { site = 0; clock = t } → ⊥
+no-mark x t h e = omega (arith, character-site x h, ap (λ (y : Identifier). y .site) e)
+
+-- the parts of an insert that is in range
+pub record InRange (i : Insert) : Type 0 where
+  pub id : characterId (i .id) ≡ true
+  pub code : codePoint (i .«code_point») ≡ true
+  pub previous : previousId (i .previous) ≡ true
+  pub next : nextId (i .next) ≡ true
+  pub not-previous : same (i .id) (i .previous) ≡ false
+  pub not-next : same (i .id) (i .next) ≡ false
+
+pub in-range : (i : Insert) → insertInRange i ≡ true → InRange i
+unfolding insertInRange
+in-range i h =
+    let a = characterId (i .id) && codePoint (i .«code_point») && previousId (i .previous) && nextId (i .next) in
+    let p = not (same (i .id) (i .previous)) in
+    let q = not (same (i .id) (i .next)) in
+    let k = and-left (a && p) q h in
+    let w = four (characterId (i .id)) (codePoint (i .«code_point»)) (previousId (i .previous)) (nextId (i .next)) (and-left a p k) in
+    record {
+      id = w .0;
+      code = w .1;
+      previous = w .2;
+      next = w .3;
+      not-previous = not-true (same (i .id) (i .previous)) (and-right a p k);
+      not-next = not-true (same (i .id) (i .next)) (and-right (a && p) q h);
+    }
+
+pub to-range : (i : Insert) → InRange i → insertInRange i ≡ true
+unfolding insertInRange
+to-range i r = rw (r .id, r .code, r .previous, r .next, r .not-previous, r .not-next)

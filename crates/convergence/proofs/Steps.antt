@@ -1,0 +1,334 @@
+-- What a call does, as one of four steps with all that is known where it is taken: nothing, an insert carried out, a
+-- delete carried out, an operation deferred. Every theorem about calls goes by these.
+use Prim.Native.Nat.{ℕ, zero, suc, _+_, _≤_, _<_}
+use native.Mathlib.Omega.{arith}
+use mathlib.Core.Path.{_≡_, refl, ap, sym, _∙_, subst}
+use mathlib.Core.Bool.{Bool, true, false, _&&_, _||_, not, cond}
+use mathlib.Core.Option.{Option, none, some}
+use mathlib.Core.Logic.{_⊎_, inl, inr, ⊎-elim}
+use mathlib.Core.List.{List, [], _∷_, _++_, map, List·Memᴰ, List·Memᴰ·head, List·Memᴰ·tail, List·Memᴰ·append-cases}
+use lib.Dec.{leb, ltb, eqb}
+use lib.ListN.{length}
+use borrow.Author.Tests.{leb-true, leb-false, ltb-false, not-true, not-false}
+use Rattle.woot.specs.declared.Identifier.{Identifier}
+use Rattle.woot.specs.declared.Site.{Site}
+use Rattle.woot.specs.declared.Insert.{Insert}
+use Rattle.woot.specs.declared.Delete.{Delete}
+use Rattle.woot.specs.declared.Operation.{Operation}
+use Rattle.woot.specs.declared.Operation.the-variants.{Insert as insert, Delete as delete}
+use Rattle.woot.specs.declared.Character.{Character}
+use Rattle.woot.specs.declared.Refusal.{Refusal}
+use Rattle.woot.specs.declared.Answer.{Answer}
+use Rattle.woot.specs.declared.Answer.the-variants.{Done, Deferred, Duplicate, Refused}
+use Rattle.woot.specs.declared.Sent.{Sent}
+use Rattle.woot.specs.declared.Sent.the-variants.{Done as sentDone, Refused as sentRefused}
+use Rattle.woot.specs.Limits.{lastClock, capacity, share}
+use Rattle.woot.specs.Identifiers.{begin, end, same}
+use Rattle.woot.specs.Operations.{sender, origin, inserts, deletes, sameInsert, sameDelete, sameOperation}
+use Rattle.woot.specs.Ranges
+use Rattle.woot.specs.Ranges.{siteNumber, codePoint, characterId, previousId, nextId, siteInRange, insertInRange, deleteInRange, inRange}
+use Rattle.woot.specs.State.{State}
+use Rattle.woot.specs.Placing.{identifiers, held, integrateDelete}
+use Rattle.woot.specs.Pending.{executable, crossed, unplaceable, pendingFrom, Drained}
+use Rattle.woot.specs.Form.{known, wellFormed}
+use Rattle.woot.specs.Answers.{Check, first, answerOf}
+use Rattle.woot.specs.Calls.{Outcome, unchanged, decided, withCharacters, withPending, afterDrain, insertCarried, duplicate, conflicting, senderFull, documentFull, receiveChecks, carryOut, defer, accept, receiveWhen, receive, visibles, nextIdentifier, generatedInsert, beyondVisible, taken, insertChecks, advanced, sendInsert, localInsertWhen, localInsert, notVisible, deleteChecks, generatedDelete, sendDelete, localDeleteWhen, localDelete}
+use Rattle.woot.specs.Histories.{Call, inserting, deleting, receiving, withAnswer, outcome}
+use Rattle.woot.specs.Lists.{any}
+use Rattle.convergence.proofs.Tests.{either, clash, and-left, and-right, and-intro, and-false, or-left, or-right, or-false, or-false-left, or-false-right, not-intro, fails}
+use Rattle.convergence.proofs.Members.{any-member, member-any, any-none, none-any}
+use Rattle.convergence.proofs.Forms.{Sound, Formed, formed, pendingIds, known-ids, known-length}
+use Rattle.convergence.specs.Agreement.{Standing}
+use Rattle.convergence.proofs.Identifiers.{eq-same, ne-same}
+use Rattle.convergence.proofs.Ranges.{InRange, to-range, to-within, no-mark}
+use Rattle.convergence.proofs.Places.{held-begin, held-end}
+use Rattle.convergence.proofs.InsertionPoint.{Marked, mark, inner, leftOf, rightOf, left-marked, right-marked, marked-held, left-above, member-range}
+use Rattle.convergence.proofs.Soundness.{Unused, standing, any-left}
+
+-- an answer by which nothing is changed
+abbrev pub Turned : Answer → Type 0
+Turned (Done n m) = ⊥
+Turned Deferred = ⊥
+Turned Duplicate = Unit
+Turned (Refused r) = Unit
+
+-- an insert that is carried out, with the site as it is afterwards
+pub record Addable (s : State) (t : Site) (i : Insert) : Type 0 where
+  pub formed : Formed s
+  pub site : siteInRange t ≡ true
+  pub ranged : insertInRange i ≡ true
+  pub fresh : any (same (i .id)) (identifiers (s .characters) ++ pendingIds (s .pending)) ≡ false
+  pub space : length (s .characters) + length (inserts (s .pending)) < capacity
+  pub ready : executable (s .characters) (insert i) ≡ true
+  pub uncrossed : crossed (s .characters) (insert i) ≡ false
+  pub placeable : unplaceable (s .characters) (insert i) ≡ false
+
+-- a delete that is carried out
+pub record Removable (s : State) (d : Delete) : Type 0 where
+  pub formed : Formed s
+  pub ready : held (s .characters) (d .target) ≡ true
+
+-- an operation that is deferred
+pub record Deferrable (s : State) (o : Operation) : Type 0 where
+  pub formed : Formed s
+  pub ranged : inRange o ≡ true
+  pub unready : executable (s .characters) o ≡ false
+  pub space : pendingFrom (sender o) (s .pending) < share
+  pub unused : Unused (s .characters) (s .pending) o
+
+abbrev pub added : State → Site → Insert → Outcome Answer
+added s t i =
+    let d : Drained = insertCarried s i in
+    record {
+      answer = Done (suc (length (d .integrated))) (length (d .discarded));
+      state = record { site = t; characters = d .characters; pending = d .pending };
+      own = insert i ∷ [];
+      drained = d .integrated;
+      discarded = d .discarded;
+    }
+
+pub data Step (s : State) : Outcome Answer → Type 0 where
+  turned : (a : Answer) → Turned a → Step s (unchanged s a)
+  adds : (t : Site) (i : Insert) → Addable s t i → Step s (added s t i)
+  removes : (d : Delete) → Removable s d → Step s (carryOut s (delete d))
+  defers : (o : Operation) → Deferrable s o → Step s (defer s o)
+
+module _ {A : Type 0} where
+  -- no condition of the list holds
+  abbrev pub AllFail : List (Check A) → Type 0
+  AllFail [] = Unit
+  AllFail (c ∷ cs) = (c .holds ≡ false) × AllFail cs
+
+  pub first-none : (cs : List (Check A)) → first cs ≡ none → AllFail cs
+  first-none [] h = tt
+  first-none (c ∷ cs) h = go (c .holds) refl (first-none cs)
+    where
+      go : (b : Bool) → c .holds ≡ b → (first cs ≡ none → AllFail cs) → (c .holds ≡ false) × AllFail cs
+      go true e f = absurd (let q = rw e at h in let z : _≡_ {A = ℕ} 0 1 = cc in omega arith)
+      go false e f = (e, f (rw e at h))
+
+  -- every answer of the list has a property
+  abbrev pub All : (A → Type 0) → List (Check A) → Type 0
+  All P [] = Unit
+  All P (c ∷ cs) = P (c .answer) × All P cs
+
+  pub first-some : (P : A → Type 0) (cs : List (Check A)) → All P cs → (a : A) → first cs ≡ some a → P a
+  first-some P [] w a h = absurd (let z : _≡_ {A = ℕ} 0 1 = cc in omega arith)
+  first-some P (c ∷ cs) w a h = go (c .holds) refl (first-some P cs (w .1) a)
+    where
+      go : (b : Bool) → c .holds ≡ b → (first cs ≡ some a → P a) → P a
+      go true e f = subst P (let q = rw e at h in cc) (w .0)
+      go false e f = f (rw e at h)
+
+-- ---- known operations
+
+member-map : {A B : Type 0} (f : A → B) (xs : List A) {y : B} → List·Memᴰ y (map f xs) → (x : A) × List·Memᴰ x xs × (y ≡ f x)
+member-map f (x ∷ xs) (List·Memᴰ·head e) = (x, List·Memᴰ·head refl, e)
+member-map f (x ∷ xs) (List·Memᴰ·tail m) = let w = member-map f xs m in (w .0, List·Memᴰ·tail (w .1), w .2)
+
+inserts-member : (ps : List Operation) {i : Insert} → List·Memᴰ i (inserts ps) → List·Memᴰ (insert i) ps
+inserts-member (insert j ∷ ps) (List·Memᴰ·head e) = List·Memᴰ·head (ap insert e)
+inserts-member (insert j ∷ ps) (List·Memᴰ·tail m) = List·Memᴰ·tail (inserts-member ps m)
+inserts-member (delete d ∷ ps) m = List·Memᴰ·tail (inserts-member ps m)
+
+any-deletes : (d : Delete) (ps : List Operation) → any (sameDelete d) (deletes ps) ≡ any (sameOperation (delete d)) ps
+unfolding sameOperation
+any-deletes d [] = refl
+any-deletes d (insert j ∷ ps) = any-deletes d ps
+any-deletes d (delete e ∷ ps) = ap (λ b. sameDelete d e || b) (any-deletes d ps)
+
+-- an insert that is neither known nor in conflict has an identifier that is not used
+fresh-insert : (s : State) (i : Insert) → duplicate s (insert i) ≡ false → conflicting s (insert i) ≡ false → any (same (i .id)) (identifiers (s .characters) ++ pendingIds (s .pending)) ≡ false
+unfolding duplicate conflicting known sameOperation
+fresh-insert s i new sole =
+    subst (λ (xs : List Identifier). any (same (i .id)) xs ≡ false) (known-ids s)
+    (none-any (same (i .id)) (map (λ j. j .id) (known s)) (λ x m.
+    let w = member-map (λ j. j .id) (known s) m in
+    ap (same (i .id)) (w .2) ∙ fails (same (i .id) (w .0 .id)) (λ e. absurd (twice (w .0) (w .1) e))))
+  where
+    present : any (λ c. sameInsert i (origin c)) (s .characters) ≡ false
+    present = or-false-left (any (λ c. sameInsert i (origin c)) (s .characters)) (any (sameOperation (insert i)) (s .pending)) new
+
+    deferred : any (sameOperation (insert i)) (s .pending) ≡ false
+    deferred = or-false-right (any (λ c. sameInsert i (origin c)) (s .characters)) (any (sameOperation (insert i)) (s .pending)) new
+
+    unequal : (j : Insert) → List·Memᴰ j (known s) → sameInsert i j ≡ false
+    unequal j m =
+        ⊎-elim (λ k. let w = member-map origin (s .characters) k in ap (sameInsert i) (w .2) ∙ any-none (λ c. sameInsert i (origin c)) present (w .1)) (λ k. any-none (sameOperation (insert i)) deferred (inserts-member (s .pending) k))
+        (List·Memᴰ·append-cases (map origin (s .characters)) m)
+
+    twice : (j : Insert) → List·Memᴰ j (known s) → same (i .id) (j .id) ≡ true → ⊥
+    twice j m e = clash (not-false (sameInsert i j) (and-false (same (i .id) (j .id)) (not (sameInsert i j)) (any-none (λ j. same (i .id) (j .id) && not (sameInsert i j)) sole m) e)) (unequal j m)
+
+-- ---- receiving
+
+space-insert : (s : State) (i : Insert) → documentFull s (insert i) ≡ false → length (s .characters) + length (inserts (s .pending)) < capacity
+unfolding documentFull
+space-insert s i h = omega (arith, leb-false capacity (length (known s)) h, known-length s)
+
+unused : (s : State) (o : Operation) → duplicate s o ≡ false → conflicting s o ≡ false → documentFull s o ≡ false → Unused (s .characters) (s .pending) o
+unfolding duplicate
+unused s (insert i) new sole space = (fresh-insert s i new sole, space-insert s i space)
+unused s (delete d) new sole space =
+    any-deletes d (s .pending)
+    ∙ or-false-right (any (λ c. same (d .target) (c .id) && not (c .visible)) (s .characters)) (any (sameOperation (delete d)) (s .pending)) new
+
+carried-step : (s : State) (o : Operation) → Formed s → inRange o ≡ true → Unused (s .characters) (s .pending) o → executable (s .characters) o ≡ true → crossed (s .characters) o ≡ false → unplaceable (s .characters) o ≡ false → Step s (carryOut s o)
+unfolding carryOut afterDrain inRange executable
+carried-step s (insert i) f r u e x p =
+    adds (s .site) i (record { formed = f; site = f .site; ranged = r; fresh = u .0; space = u .1; ready = e; uncrossed = x; placeable = p })
+carried-step s (delete d) f r u e x p = removes d (record { formed = f; ready = e })
+
+accept-step : (s : State) (o : Operation) → AllFail (receiveChecks (wellFormed s) s o) → Step s (accept s o)
+unfolding receiveChecks accept senderFull
+accept-step s o w = go (executable (s .characters) o) refl
+  where
+    form : Formed s
+    form = formed s (not-false (wellFormed s) (w .1 .0))
+
+    free : Unused (s .characters) (s .pending) o
+    free = unused s o (w .1 .1 .0) (w .1 .1 .1 .0) (w .1 .1 .1 .1 .1 .1 .1 .0)
+
+    ranged : inRange o ≡ true
+    ranged = not-false (inRange o) (w .0)
+
+    share-left : executable (s .characters) o ≡ false → pendingFrom (sender o) (s .pending) < share
+    share-left e = leb-false share (pendingFrom (sender o) (s .pending)) (and-false (not (executable (s .characters) o)) (leb share (pendingFrom (sender o) (s .pending))) (w .1 .1 .1 .1 .1 .1 .0) (not-intro e))
+
+    go : (b : Bool) → executable (s .characters) o ≡ b → Step s (cond b (carryOut s o) (defer s o))
+    go true e = carried-step s o form ranged free e (w .1 .1 .1 .1 .0) (w .1 .1 .1 .1 .1 .0)
+    go false e = defers o (record { formed = form; ranged = ranged; unready = e; space = share-left e; unused = free })
+
+pub receive-turned : (s : State) (o : Operation) → All Turned (receiveChecks (wellFormed s) s o)
+unfolding receiveChecks
+receive-turned s o = (tt, (tt, (tt, (tt, (tt, (tt, (tt, (tt, tt))))))))
+
+-- ---- typing
+
+-- the answer of a refused call that sends
+abbrev Refusing : Sent → Type 0
+Refusing (sentDone o n m) = ⊥
+Refusing (sentRefused r) = Unit
+
+refusing-turned : (a : Sent) → Refusing a → Turned (answerOf a)
+unfolding answerOf
+refusing-turned (sentRefused r) w = tt
+
+insert-turned : (s : State) (g n : ℕ) → All Refusing (insertChecks (wellFormed s) s g n)
+unfolding insertChecks
+insert-turned s g n = (tt, (tt, (tt, (tt, (tt, (tt, (tt, tt)))))))
+
+delete-turned : (s : State) (p : ℕ) → All Refusing (deleteChecks (wellFormed s) s p)
+unfolding deleteChecks
+delete-turned s p = (tt, (tt, tt))
+
+-- the site after its clock is advanced
+abbrev ahead : Site → Site
+ahead t = record { number = t .number; clock = t .clock + 1 }
+
+any-map : {A B : Type 0} (p : B → Bool) (f : A → B) (xs : List A) → any p (map f xs) ≡ any (λ x. p (f x)) xs
+any-map p f [] = refl
+any-map p f (x ∷ xs) = ap (λ b. p (f x) || b) (any-map p f xs)
+
+-- an identifier that is used by no character is other than one that may stand beside an insertion point
+beside : {cs : List Character} {m y : Identifier} (x : Identifier) → same x m ≡ false → any (same x) (identifiers cs) ≡ false → Marked cs m y → same x y ≡ false
+beside x apart unused (mark e) = ap (same x) e ∙ apart
+beside x apart unused (inner n) = any-none (same x) unused n
+
+-- what typing makes stands between two characters in order
+pub generated-uncrossed : (s : State) (g n : ℕ) → Formed s → beyondVisible s g ≡ false → crossed (s .characters) (insert (generatedInsert s g n)) ≡ false
+unfolding generatedInsert beyondVisible crossed executable
+generated-uncrossed s g n f h =
+    let std = standing (f .sound) in
+    let visible : g ≤ length (visibles (s .characters)) = ltb-false (length (visibles (s .characters))) g h in
+    rw (marked-held (left-marked std g visible) (held-begin (s .characters)), marked-held (right-marked std g visible) (held-end (s .characters)), left-above std g visible)
+
+-- what typing makes is in range, and has what it needs
+generated-step : (s : State) (g n : ℕ) → AllFail (insertChecks (wellFormed s) s g n) → Addable s (ahead (s .site)) (generatedInsert s g n)
+unfolding insertChecks generatedInsert nextIdentifier taken beyondVisible executable crossed siteInRange characterId previousId nextId
+generated-step s g n w =
+    record {
+      formed = form;
+      site = and-intro number clock;
+      ranged = to-range (generatedInsert s g n) ranges;
+      fresh = fresh;
+      space = space-insert s (generatedInsert s g n) (w .1 .1 .1 .1 .1 .1 .0);
+      ready = and-intro left right;
+      uncrossed = generated-uncrossed s g n form (w .1 .1 .0);
+      placeable = w .1 .1 .1 .1 .1 .0;
+    }
+  where
+    form : Formed s
+    form = formed s (not-false (wellFormed s) (w .1 .0))
+
+    std : Standing (s .characters)
+    std = standing (form .sound)
+
+    visible : g ≤ length (visibles (s .characters))
+    visible = ltb-false (length (visibles (s .characters))) g (w .1 .1 .0)
+
+    low : s .site .clock < lastClock
+    low = leb-false lastClock (s .site .clock) (w .1 .1 .1 .0)
+
+    number : siteNumber (s .site .number) ≡ true
+    number = and-left (siteNumber (s .site .number)) (Ranges.within 0 lastClock (s .site .clock)) (form .site)
+
+    clock : Ranges.within 0 lastClock (s .site .clock + 1) ≡ true
+    clock = to-within 0 lastClock (s .site .clock + 1) (omega arith) (omega (arith, low))
+
+    fresh : any (same (nextIdentifier (s .site))) (identifiers (s .characters) ++ pendingIds (s .pending)) ≡ false
+    fresh = subst (λ (xs : List Identifier). any (same (nextIdentifier (s .site))) xs ≡ false) (known-ids s) (any-map (same (nextIdentifier (s .site))) (λ j. j .id) (known s) ∙ w .1 .1 .1 .1 .0)
+
+    unused-here : any (same (nextIdentifier (s .site))) (identifiers (s .characters)) ≡ false
+    unused-here = any-left (same (nextIdentifier (s .site))) (identifiers (s .characters)) (pendingIds (s .pending)) fresh
+
+    id : characterId (nextIdentifier (s .site)) ≡ true
+    id = and-intro number (to-within 1 lastClock (s .site .clock + 1) (omega arith) (omega (arith, low)))
+
+    left : held (s .characters) (leftOf (s .characters) g) ≡ true
+    left = marked-held (left-marked std g visible) (held-begin (s .characters))
+
+    right : held (s .characters) (rightOf (s .characters) g) ≡ true
+    right = marked-held (right-marked std g visible) (held-end (s .characters))
+
+    may-stand : (m : Identifier) {y : Identifier} → Marked (s .characters) m y → same y m || characterId y ≡ true
+    may-stand m {y} (mark e) = or-left (same y m) (characterId y) (eq-same e)
+    may-stand m {y} (inner k) = or-right (same y m) (characterId y) (member-range (s .characters) (std .ranges) k)
+
+    ranges : InRange (generatedInsert s g n)
+    ranges =
+        record {
+          id = id;
+          code = not-false (codePoint n) (w .0);
+          previous = may-stand begin (left-marked std g visible);
+          next = may-stand end (right-marked std g visible);
+          not-previous = beside (nextIdentifier (s .site)) (ne-same (nextIdentifier (s .site)) begin (no-mark (nextIdentifier (s .site)) 0 id)) unused-here (left-marked std g visible);
+          not-next = beside (nextIdentifier (s .site)) (ne-same (nextIdentifier (s .site)) end (no-mark (nextIdentifier (s .site)) 1 id)) unused-here (right-marked std g visible);
+        }
+
+-- ---- every call
+
+insert-step : (s : State) (g n : ℕ) (m : Option Sent) → first (insertChecks (wellFormed s) s g n) ≡ m → Step s (withAnswer answerOf (decided s m (sendInsert s (generatedInsert s g n))))
+unfolding decided unchanged sendInsert answerOf afterDrain advanced
+insert-step s g n none e = adds (ahead (s .site)) (generatedInsert s g n) (generated-step s g n (first-none (insertChecks (wellFormed s) s g n) e))
+insert-step s g n (some a) e = turned (answerOf a) (refusing-turned a (first-some Refusing (insertChecks (wellFormed s) s g n) (insert-turned s g n) a e))
+
+delete-step : (s : State) (p : ℕ) (m : Option Sent) → first (deleteChecks (wellFormed s) s p) ≡ m → Step s (withAnswer answerOf (decided s m (sendDelete s (generatedDelete s p))))
+unfolding decided unchanged sendDelete answerOf carryOut deleteChecks notVisible beyondVisible generatedDelete
+delete-step s p none e =
+    let w = first-none (deleteChecks (wellFormed s) s p) e in
+    let form = formed s (not-false (wellFormed s) (w .0)) in
+    let visible : p ≤ length (visibles (s .characters)) = ltb-false (length (visibles (s .characters))) p (or-false-right (eqb p 0) (ltb (length (visibles (s .characters))) p) (w .1 .0)) in
+    removes (generatedDelete s p) (record { formed = form; ready = marked-held (left-marked (standing (form .sound)) p visible) (held-begin (s .characters)) })
+delete-step s p (some a) e = turned (answerOf a) (refusing-turned a (first-some Refusing (deleteChecks (wellFormed s) s p) (delete-turned s p) a e))
+
+receive-step : (s : State) (o : Operation) (m : Option Answer) → first (receiveChecks (wellFormed s) s o) ≡ m → Step s (decided s m (accept s o))
+unfolding decided
+receive-step s o none e = accept-step s o (first-none (receiveChecks (wellFormed s) s o) e)
+receive-step s o (some a) e = turned a (first-some Turned (receiveChecks (wellFormed s) s o) (receive-turned s o) a e)
+
+pub step : (s : State) (c : Call) → Step s (outcome s c)
+unfolding outcome localInsert localInsertWhen localDelete localDeleteWhen receive receiveWhen
+step s (inserting g n) = insert-step s g n (first (insertChecks (wellFormed s) s g n)) refl
+step s (deleting p) = delete-step s p (first (deleteChecks (wellFormed s) s p)) refl
+step s (receiving o) = receive-step s o (first (receiveChecks (wellFormed s) s o)) refl

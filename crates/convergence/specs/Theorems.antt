@@ -1,0 +1,182 @@
+-- The promises about the rules, each proved in proofs/ under its name in small letters.
+use Prim.Native.Nat.{ℕ, _+_, _≤_}
+use mathlib.Core.Path.{_≡_}
+use mathlib.Core.Bool.{Bool, true, false, _||_, cond}
+use mathlib.Core.Option.{Option, none, some}
+use mathlib.Core.Logic.{_↔_, _⊎_}
+use mathlib.Core.List.{List, [], _∷_, map, List·Memᴰ}
+use lib.ListN.{length}
+use Rattle.woot.specs.declared.Identifier.{Identifier}
+use Rattle.woot.specs.declared.Insert.{Insert}
+use Rattle.woot.specs.declared.Operation.{Operation}
+use Rattle.woot.specs.declared.Character.{Character}
+use Rattle.woot.specs.declared.Refusal.{Refusal}
+use Rattle.woot.specs.declared.Refusal.the-variants.{Unplaceable, SenderFull, DocumentFull}
+use Rattle.woot.specs.declared.Answer.{Answer}
+use Rattle.woot.specs.declared.Answer.the-variants.{Done, Deferred, Duplicate, Refused}
+use Rattle.woot.specs.declared.Sent.{Sent}
+use Rattle.woot.specs.declared.Sent.the-variants.{Done as sentDone, Refused as sentRefused}
+use Rattle.woot.specs.Operations.{sender, origin, inserts}
+use Rattle.woot.specs.Ranges.{siteNumber}
+use Rattle.woot.specs.State.{State, initial, pendingSlots}
+use Rattle.woot.specs.Placing.{identifiers, above, Interval, adjacent, candidates, narrowed, position}
+use Rattle.woot.specs.Pending.{executable, crossed, unplaceable, integrate, sentBy, Taken, earliest, Drained, andIntegrated, andDiscarded, drained, drain}
+use Rattle.woot.specs.Form.{wellFormed}
+use Rattle.woot.specs.Answers.{reply, Reported}
+use Rattle.woot.specs.Calls.{Outcome, unchanged, integrated, receiveChecks, receiveWhen, receive, insertChecks, localInsertWhen, deleteChecks, localDeleteWhen}
+use Rattle.woot.specs.Text.{text}
+use Rattle.woot.specs.Histories.{Call, outcome, run, drainedBy, discardedBy, deferredBy, InsertedIn, DeletedIn, charactersAfter, historyOf, SameInserted, SameDeleted}
+use Rattle.convergence.specs.Agreement.{Grown, OneMeaning}
+
+-- ---- the rules as recursions, with no count of steps
+
+-- 001's IntegrateIns on any interval: nothing between, no candidate (refusal 9), or the same in a narrower interval
+abbrev pub PlacingRecurs : Type 0
+PlacingRecurs =
+    (cs : List Character) (x : Identifier) (v : Interval) →
+    position cs x v
+    ≡ cond (adjacent v) (some (v .upper))
+    (elim (candidates cs v) [ [] ↦ none | l ∷ ls ↦ position cs x (narrowed x v (l ∷ ls)) ])
+
+-- the earliest that has all it needs is carried out or thrown out, and the rest is drained
+abbrev pub drainNext : List Character → List Operation → Option Taken → Drained
+drainNext cs ps none = drained cs ps
+drainNext cs ps (some t) =
+    cond (crossed cs (t .operation) || unplaceable cs (t .operation))
+    (andDiscarded (t .operation) (drain cs (t .others)))
+    (andIntegrated (t .operation) (drain (integrate cs (t .operation)) (t .others)))
+
+-- "and again until there is none"
+abbrev pub DrainingRecurs : Type 0
+DrainingRecurs =
+    (cs : List Character) (ps : List Operation) → drain cs ps ≡ drainNext cs ps (earliest (executable cs) ps)
+
+-- ---- refusals: any state, in form or not, any arguments
+
+-- receiving answers refusal r exactly when its condition holds and none before it, known's place among them
+abbrev pub ReceiveRefuses : Type 0
+ReceiveRefuses =
+    (formed : Bool) (s : State) (o : Operation) (r : Refusal) →
+    (receiveWhen formed s o .answer ≡ Refused r) ↔ Reported (Refused r) (receiveChecks formed s o)
+
+-- receiving answers known exactly when the operation is known and no condition before that holds
+abbrev pub ReceiveKnows : Type 0
+ReceiveKnows =
+    (formed : Bool) (s : State) (o : Operation) →
+    (receiveWhen formed s o .answer ≡ Duplicate) ↔ Reported Duplicate (receiveChecks formed s o)
+
+-- typing and erasing answer refusal r exactly when its condition holds and none before it
+abbrev pub InsertRefuses : Type 0
+InsertRefuses =
+    (formed : Bool) (s : State) (g n : ℕ) (r : Refusal) →
+    (localInsertWhen formed s g n .answer ≡ sentRefused r) ↔ Reported (sentRefused r) (insertChecks formed s g n)
+
+abbrev pub DeleteRefuses : Type 0
+DeleteRefuses =
+    (formed : Bool) (s : State) (p : ℕ) (r : Refusal) →
+    (localDeleteWhen formed s p .answer ≡ sentRefused r) ↔ Reported (sentRefused r) (deleteChecks formed s p)
+
+-- a refused call changes nothing and carries nothing out
+abbrev pub RefusedUnchanged : Type 0
+RefusedUnchanged =
+    (s : State) (c : Call) (r : Refusal) → outcome s c .answer ≡ Refused r → outcome s c ≡ unchanged s (Refused r)
+
+-- and so does a known one
+abbrev pub KnownUnchanged : Type 0
+KnownUnchanged = (s : State) (c : Call) → outcome s c .answer ≡ Duplicate → outcome s c ≡ unchanged s Duplicate
+
+-- ---- the form, on any state in form
+
+-- "every call keeps the form"
+abbrev pub FormKept : Type 0
+FormKept = (s : State) (c : Call) → wellFormed s ≡ true → wellFormed (outcome s c .state) ≡ true
+
+-- an empty replica is in form when its number is one of a site
+abbrev pub EmptyFormed : Type 0
+EmptyFormed = (n : ℕ) → wellFormed (initial n) ≡ siteNumber n
+
+-- "so 512 in all": what is pending in a state in form has its place in the array
+abbrev pub PendingFit : Type 0
+PendingFit = (s : State) → wellFormed s ≡ true → length (s .pending) ≤ pendingSlots
+
+-- "every operation held back is gone from the list by the end of the call that brings the last thing it needs"
+abbrev pub NothingReady : Type 0
+NothingReady =
+    (s : State) (c : Call) → wellFormed s ≡ true →
+    (o : Operation) → List·Memᴰ o (outcome s c .state .pending) → executable (outcome s c .state .characters) o ≡ false
+
+-- ---- counts, on any state
+
+-- carried counts the operations carried out, thrown those thrown out; with known, waits and refusals `reply` has both 0
+abbrev pub CountsTrue : Type 0
+CountsTrue =
+    (s : State) (c : Call) →
+    (reply (outcome s c .answer) .integrated ≡ length (integrated (outcome s c)))
+    × (reply (outcome s c .answer) .discarded ≡ length (outcome s c .discarded))
+
+-- carried is at most 513, thrown at most 512
+abbrev pub CountsBounded : Type 0
+CountsBounded =
+    (s : State) (c : Call) → (length (integrated (outcome s c)) ≤ 513) × (length (outcome s c .discarded) ≤ 512)
+
+-- ---- isolation
+
+-- Whether an operation waits or is refused with 10 depends on what its own sender has pending. Two states in form with
+-- the same characters and the same operations of that sender pending, whatever others have: 10 in both or in neither,
+-- and what waits in one waits in the other, unless the other's document is full (11).
+abbrev pub Isolation : Type 0
+Isolation =
+    (s t : State) (o : Operation) → wellFormed s ≡ true → wellFormed t ≡ true →
+    s .characters ≡ t .characters → sentBy (sender o) (s .pending) ≡ sentBy (sender o) (t .pending) →
+    ((receive s o .answer ≡ Refused SenderFull) ↔ (receive t o .answer ≡ Refused SenderFull))
+    × (receive s o .answer ≡ Deferred → (receive t o .answer ≡ Deferred) ⊎ (receive t o .answer ≡ Refused DocumentFull))
+
+-- ---- histories from an empty replica of any number
+
+-- "the characters held are the inserts carried out, every field counted"
+abbrev pub HeldAreInserted : Type 0
+HeldAreInserted =
+    (n : ℕ) (cs : List Call) (i : Insert) →
+    List·Memᴰ i (map origin (charactersAfter n cs)) ↔ InsertedIn i (historyOf n cs)
+
+-- "rows equal inserts carried out", counted
+abbrev pub HeldCount : Type 0
+HeldCount = (n : ℕ) (cs : List Call) → length (charactersAfter n cs) ≡ length (inserts (historyOf n cs))
+
+-- a character is hidden exactly when a delete of it was carried out
+abbrev pub HiddenAreDeleted : Type 0
+HiddenAreDeleted =
+    (n : ℕ) (cs : List Call) (c : Character) → List·Memᴰ c (charactersAfter n cs) →
+    (c .visible ≡ false) ↔ DeletedIn (c .id) (historyOf n cs)
+
+-- "operations answered waits equal those waiting now, plus those carried out from the list, plus those thrown out"
+abbrev pub WaitsBalance : Type 0
+WaitsBalance =
+    (n : ℕ) (cs : List Call) →
+    deferredBy (initial n) cs
+    ≡ length (run (initial n) cs .pending) + length (drainedBy (initial n) cs) + length (discardedBy (initial n) cs)
+
+-- each character stands between its neighbours, was born after them, and concurrent ones stand by identifier
+abbrev pub GrownFromEmpty : Type 0
+GrownFromEmpty = (n : ℕ) (cs : List Call) → Grown (charactersAfter n cs)
+
+-- refusal 9 is never answered
+abbrev pub NeverUnplaceable : Type 0
+NeverUnplaceable = (n : ℕ) (cs : List Call) (c : Call) → outcome (run (initial n) cs) c .answer ≡ Refused Unplaceable → ⊥
+
+-- two characters that two replicas hold stand in the same order on both, whatever else each holds or lacks
+abbrev pub Agreement : Type 0
+Agreement =
+    (m n : ℕ) (cs ds : List Call) → OneMeaning (charactersAfter m cs) (charactersAfter n ds) →
+    (x y : Identifier) →
+    List·Memᴰ x (identifiers (charactersAfter m cs)) → List·Memᴰ y (identifiers (charactersAfter m cs)) →
+    List·Memᴰ x (identifiers (charactersAfter n ds)) → List·Memᴰ y (identifiers (charactersAfter n ds)) →
+    above (charactersAfter m cs) x y ≡ above (charactersAfter n ds) x y
+
+-- Demand 3, "a single claim about two lists of calls": the same inserts carried out, every field counted, and the same
+-- characters deleted, by whatever sender, give equal characters and equal visible bytes.
+abbrev pub Convergence : Type 0
+Convergence =
+    (m n : ℕ) (cs ds : List Call) →
+    SameInserted (historyOf m cs) (historyOf n ds) → SameDeleted (historyOf m cs) (historyOf n ds) →
+    (charactersAfter m cs ≡ charactersAfter n ds) × (text (charactersAfter m cs) ≡ text (charactersAfter n ds))
