@@ -1,0 +1,42 @@
+-- Identifiers as numbers, and where they stand.
+use Prim.Native.Nat.{ℕ, suc, _+_, _*_, _<_}
+use mathlib.Core.Bool.{cond}
+use mathlib.Core.List.{List, [], _∷_, _++_, map, List·Memᴰ}
+use lib.Dec.{eqb}
+use Rattle.woot.specs.declared.Identifier.{Identifier}
+use Rattle.woot.specs.declared.Character.{Character}
+
+-- the site above the clock's 16 bits
+unfoldable pub key : Identifier → ℕ
+key x = x .site * 65536 + x .clock
+
+-- the clock has its 16 bits, as in every value of the type
+abbrev pub Small : Identifier → Type 0
+Small x = x .clock < 65536
+
+-- so have the clocks of each character's identifier and neighbours
+pub record SmallParts (c : Character) : Type 0 where
+  pub id : Small (c .id)
+  pub previous : Small (c .previous)
+  pub next : Small (c .next)
+
+abbrev pub AllSmall : List Character → Type 0
+AllSmall cs = (c : Character) → List·Memᴰ c cs → SmallParts c
+
+abbrev pub keys : List Character → List ℕ
+keys cs = map (λ c. key (c .id)) cs
+
+abbrev pub previousKeys : List Character → List ℕ
+previousKeys cs = map (λ c. key (c .previous)) cs
+
+abbrev pub nextKeys : List Character → List ℕ
+nextKeys cs = map (λ c. key (c .next)) cs
+
+-- the first index of k, or the length where it does not occur
+unfoldable pub indexIn : ℕ → List ℕ → ℕ
+indexIn k [] = 0
+indexIn k (x ∷ xs) = cond (eqb k x) 0 (suc (indexIn k xs))
+
+-- where k stands among the keys, the begin mark's above them and the end mark's below
+unfoldable pub placeIn : List ℕ → ℕ → ℕ
+placeIn ks k = indexIn k (0 ∷ (ks ++ 1 ∷ []))
