@@ -1,2 +1,3 @@
 pub mod Keys
-pub mod Places
+pub mod Indices
+pub mod Packing

@@ -7,7 +7,7 @@ use mathlib.Core.List.{List, [], _∷_, _++_}
 use lib.ListN.{length, getD, drop, drop-of-length-le}
 use lib.Seq.{drop-cons}
 use Rattle.order.specs.Keys.{indexIn, placeIn}
-use Rattle.order.proofs.Places.{index-here, index-later}
+use Rattle.order.proofs.Indices.{index-here, index-later}
 use Rattle.order.proofs.place_of.Statement.{statement}
 use Rattle.order.proofs.place_of.Tie as tie
 

@@ -1,0 +1,99 @@
+-- A padded list is filled from the front: a store just past its elements is one element more.
+use Prim.Native.Nat.{ℕ, suc, _+_, _-_, _≤_, _<_, min}
+use native.Mathlib.Numerals.{add-one}
+use native.Mathlib.Omega.{arith}
+use mathlib.Core.Path.{_≡_, refl, ap₂, sym, _∙_, subst}
+use mathlib.Core.List.{List, [], _∷_, _++_, map, map-append, List·Memᴰ, List·Memᴰ·head, List·Memᴰ·tail, List·Memᴰ·append-cases, List·Memᴰ·eq-of-singleton}
+use mathlib.Core.Logic.{⊎-elim}
+use lib.ListN.{length, take, getD, set, replicate, length-append, length-map, length-replicate}
+use lib.Seq.{take-at, take-all, take-suc, set-append-seam, append-snoc, length-take-le}
+use Rattle.woot.specs.declared.Identifier.{Identifier}
+use Rattle.woot.specs.declared.Character.{Character}
+use Rattle.woot.specs.Placing.{placeOf}
+use Rattle.woot.specs.State.{characterSlots, pad}
+use Rattle.woot.proofs.Places.{side}
+use Rattle.order.specs.declared.Packed.{Packed}
+use Rattle.order.specs.Keys.{key, Small, AllSmall, SmallParts, keys, previousKeys, nextKeys, placeIn}
+use Rattle.order.specs.Packing.{packed, placesIn, previousPlaces, nextPlaces}
+use Rattle.order.proofs.Indices.{place-keys}
+
+module _ {A : Type 0} (m : ℕ) (z : A) where
+  pub pad-none : pad m z [] ≡ replicate m z
+  unfolding pad
+  pad-none = let all : m - 0 ≡ m = omega arith in rw all
+
+  pub pad-length : (xs : List A) → length xs ≤ m → length (pad m z xs) ≡ m
+  unfolding pad
+  pad-length xs h = omega (arith, length-append xs (replicate (m - length xs) z), length-replicate (m - length xs) z)
+
+  -- what the slots in use hold
+  pub pad-take : (xs : List A) (n : ℕ) → length xs ≡ n → take n (pad m z xs) ≡ xs
+  unfolding pad
+  pad-take xs n e = take-at xs (replicate (m - length xs) z) n e
+
+  pub pad-push : (xs : List A) (v : A) → length xs < m → set (pad m z xs) (length xs) v ≡ pad m z (xs ++ v ∷ [])
+  unfolding pad
+  pad-push xs v h =
+      let room : m - length xs ≡ suc (m - suc (length xs)) = omega arith in
+      let more : length (xs ++ v ∷ []) ≡ suc (length xs) = length-append xs (v ∷ []) ∙ add-one (length xs) in
+      rw (room, more) (set-append-seam xs z (replicate (m - suc (length xs)) z) v ∙ sym (append-snoc xs v (replicate (m - suc (length xs)) z)))
+
+  -- a loop that stores f of each element
+  pub pad-map : {B : Type 0} (f : B → A) (d : B) (ys : List B) (i : ℕ) → i < length ys → i < m → set (pad m z (map f (take i ys))) i (f (getD ys i d)) ≡ pad m z (map f (take (i + 1) ys))
+  pad-map f d ys i h g =
+      let used : length (map f (take i ys)) ≡ i = length-map (take i ys) f ∙ length-take-le i ys (omega arith) in
+      let more : map f (take (suc i) ys) ≡ map f (take i ys) ++ f (getD ys i d) ∷ [] = rw (take-suc ys i d h) (map-append f (take i ys) (getD ys i d ∷ [])) in
+      rw (add-one i, more) (subst (λ (k : ℕ). set (pad m z (map f (take i ys))) k (f (getD ys i d)) ≡ pad m z (map f (take i ys) ++ f (getD ys i d) ∷ [])) used (pad-push (map f (take i ys)) (f (getD ys i d)) (omega arith)))
+
+-- a list of k elements cut at n, or at its end
+pub take-lesser : {A : Type 0} (k n : ℕ) (xs : List A) → length xs ≡ k → take (min k n) xs ≡ take n xs
+take-lesser k n xs e = ⊎-elim short long (side k n)
+  where
+    short : k ≤ n → take (min k n) xs ≡ take n xs
+    short h = take-all (min k n) xs (omega arith) ∙ sym (take-all n xs (omega arith))
+
+    long : n < k → take (min k n) xs ≡ take n xs
+    long h = let cut : min k n ≡ n = omega arith in rw cut
+
+-- small so far, and the next
+pub small-more : (cs : List Character) (i : ℕ) (d : Character) → i < length cs → AllSmall (take i cs) → SmallParts (getD cs i d) → AllSmall (take (i + 1) cs)
+small-more cs i d h s p c m = ⊎-elim (s c) (λ n. subst SmallParts (sym (List·Memᴰ·eq-of-singleton n)) p) (List·Memᴰ·append-cases (take i cs) (rw (add-one i, take-suc cs i d h) at m))
+
+pub packed-path : (cs : List Character) (r : Packed) → r .ids ≡ pad characterSlots 0 (keys cs) → r .previous ≡ pad characterSlots 0 (previousKeys cs) → r .next ≡ pad characterSlots 0 (nextKeys cs) → r ≡ packed cs
+unfolding packed
+packed-path cs r p q t = λ i. record { ids = p i; previous = q i; next = t i }
+
+-- what a caller lends: the slots in use are the keys, and their places those of the rules
+module _ (cs : List Character) (n : ℕ) (e : length cs ≡ n) where
+  used : {B : Type 0} (f : Character → B) (z : B) → take n (pad characterSlots z (map f cs)) ≡ map f cs
+  used f z = pad-take characterSlots z (map f cs) n (length-map cs f ∙ e)
+
+  pub packed-ids : take n (packed cs .ids) ≡ keys cs
+  unfolding packed
+  packed-ids = used (λ c. key (c .id)) 0
+
+  pub packed-previous : take n (packed cs .previous) ≡ previousKeys cs
+  unfolding packed
+  packed-previous = used (λ c. key (c .previous)) 0
+
+  pub packed-next : take n (packed cs .next) ≡ nextKeys cs
+  unfolding packed
+  packed-next = used (λ c. key (c .next)) 0
+
+  module _ (few : n ≤ characterSlots) (s : AllSmall cs) where
+    place-each : (f : Character → Identifier) (ds : List Character) → ((c : Character) → List·Memᴰ c ds → Small (f c)) → map (placeIn (keys cs)) (map (λ c. key (f c)) ds) ≡ map (λ c. placeOf cs (f c)) ds
+    place-each f [] t = refl
+    place-each f (d ∷ ds) t = ap₂ (λ (k : ℕ) (ks : List ℕ). k ∷ ks) (place-keys (f d) (t d (List·Memᴰ·head refl)) cs s) (place-each f ds (λ c m. t c (List·Memᴰ·tail m)))
+
+    places-of : (f : Character → Identifier) → ((c : Character) → List·Memᴰ c cs → Small (f c)) → take n (placesIn (keys cs) (map (λ c. key (f c)) cs)) ≡ map (λ c. placeOf cs (f c)) cs
+    unfolding placesIn
+    places-of f t =
+        let ids = take-all characterSlots (keys cs) (omega (arith, length-map cs (λ (c : Character). key (c .id)))) in
+        let of = take-all characterSlots (map (λ c. key (f c)) cs) (omega (arith, length-map cs (λ (c : Character). key (f c)))) in
+        rw (ids, of, place-each f cs t) (used (λ c. placeOf cs (f c)) 0)
+
+    pub places-previous : take n (placesIn (keys cs) (previousKeys cs)) ≡ previousPlaces cs
+    places-previous = places-of (λ c. c .previous) (λ c m. s c m .previous)
+
+    pub places-next : take n (placesIn (keys cs) (nextKeys cs)) ≡ nextPlaces cs
+    places-next = places-of (λ c. c .next) (λ c m. s c m .next)
