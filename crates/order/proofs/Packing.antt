@@ -11,7 +11,7 @@ use Rattle.woot.specs.declared.Identifier.{Identifier}
 use Rattle.woot.specs.declared.Character.{Character}
 use Rattle.woot.specs.Placing.{placeOf}
 use Rattle.woot.specs.State.{characterSlots, pad}
-use Rattle.woot.proofs.Places.{side}
+use Rattle.convergence.proofs.Places.{side}
 use Rattle.order.specs.declared.Packed.{Packed}
 use Rattle.order.specs.Keys.{key, Small, AllSmall, SmallParts, keys, previousKeys, nextKeys, placeIn}
 use Rattle.order.specs.Packing.{packed, placesIn, previousPlaces, nextPlaces}
