@@ -1,3 +1,4 @@
 pub mod Keys
 pub mod Indices
 pub mod Packing
+pub mod Walks

@@ -1,10 +1,11 @@
 // Where characters stand, found on identifiers packed into numbers: a call packs them once, and lends the numbers to every
 // search that it makes.
 ghost use mathlib.Core.Path.{_≡_};
-ghost use Prim.Native.Nat.{min};
+ghost use Prim.Native.Nat.{_<_, min};
 ghost use lib.ListN.{take};
 ghost use Rattle.order.specs.Keys.{key, placeIn, Small, AllSmall};
 ghost use Rattle.order.specs.Packing.{packed, placesIn};
+ghost use Rattle.order.specs.Passes.{entries, outside, passIn, width, positionIn, found};
 use woot::Character;
 use woot::Identifier;
 
@@ -13,6 +14,19 @@ pub struct Packed {
     pub ids: [u32; 1024],
     pub previous: [u32; 1024],
     pub next: [u32; 1024],
+}
+
+// What a search answers.
+pub enum Found {
+    // The place.
+    At(usize),
+    Nothing,
+}
+
+// The places strictly between which a character is to be put.
+struct Interval {
+    upper: usize,
+    lower: usize,
 }
 
 // An identifier as one number. Numbers are ordered as their identifiers are, and the marks are 0 and 1.
@@ -87,4 +101,72 @@ pub fn places(ids: &[u32], of: &[u32]) -> [u16; 1024]
         i += 1;
     }
     out
+}
+
+// How far apart the ends are.
+fn width(v: Interval) -> usize
+    ensures { λ r. ⌜ r ≡ width v ⌝ }
+{
+    if v.lower <= v.upper {
+        return 0;
+    }
+    v.lower - v.upper
+}
+
+// Whether the places of both neighbours are outside the interval, or its ends.
+fn outside(above: u16, below: u16, v: Interval) -> bool
+    ensures { λ r. ⌜ r ≡ outside above below v ⌝ }
+{
+    if v.upper < above as usize {
+        return false;
+    }
+    v.lower <= below as usize
+}
+
+// One pass over the candidates: the interval between the last that the key passes and the one that it stops at.
+fn pass(ids: &[u32], above: &[u16], below: &[u16], key: u32, v: Interval) -> Interval
+    requires { ⌜ v .upper < v .lower ⌝ }
+    ensures { λ r. ⌜ r ≡ passIn (entries 1 (now (ids .entry)) (now (above .entry)) (now (below .entry))) key v ⌝ }
+{
+    let shortest = lesser(ids.len(), lesser(above.len(), below.len()));
+    let end = lesser(shortest, v.lower - 1);
+    let mut upper = v.upper;
+    let mut i = upper;
+    while i < end {
+        let at = i;
+        i += 1;
+        if outside(above[at], below[at], v) {
+            if key <= ids[at] {
+                return Interval { upper, lower: i };
+            }
+            upper = i;
+        }
+    }
+    Interval {
+        upper,
+        lower: v.lower,
+    }
+}
+
+// Where the key goes in between the upper and the lower place: each pass narrows the interval, until nothing is between or
+// no candidate is.
+pub fn position(
+    ids: &[u32],
+    above: &[u16],
+    below: &[u16],
+    key: u32,
+    upper: usize,
+    lower: usize,
+) -> Found
+    ensures { λ r. ⌜ r ≡ found (positionIn (now (ids .entry)) (now (above .entry)) (now (below .entry)) key upper lower) ⌝ }
+{
+    let mut v = Interval { upper, lower };
+    while 1 < width(v) {
+        let next = pass(ids, above, below, key, v);
+        if width(v) <= width(next) {
+            return Found::Nothing;
+        }
+        v = next;
+    }
+    Found::At(v.upper)
 }
