@@ -1,1 +1,2 @@
 pub mod Replicas
+pub mod Edit

@@ -1,1 +1,2 @@
 // The calls on a replica: receiving, inserting, deleting, the check of its form and the visible text.
+mod edit;

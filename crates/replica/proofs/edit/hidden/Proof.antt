@@ -1,0 +1,77 @@
+-- `replica::edit::hidden` meets its contract. The loop's invariant: the first i characters are in, the target hidden.
+use mathlib.Core.Path.{_≡_, sym}
+use Prim.Native.Nat.{_-_, _≤_, zero-le}
+use native.Mathlib.Omega.{arith}
+use borrow.Author.Needs.{needs}
+use lib.ListN.{length, take}
+use Rattle.woot.specs.State.{pad, blankCharacter}
+use Rattle.woot.specs.Placing.{integrateDelete}
+use Rattle.convergence.proofs.Deletion.{marked}
+use Rattle.order.proofs.Packing.{pad-none, pad-map}
+use Rattle.replica.proofs.edit.hidden.Statement.{statement}
+use Rattle.replica.proofs.edit.hidden.Tie as tie
+
+abbrev Inv-loop : tie.InvT-loop
+Inv-loop n target cs out₀ i₀ out i =
+    (i ≤ n) × (out ≡ pad 1024 blankCharacter (integrateDelete (take i cs) target)) × (length cs ≡ 1024)
+
+abbrev μ-loop : tie.MeasureT-loop
+μ-loop n target cs out₀ i₀ out i = n - i
+
+blank-character-requires : tie.Need-blank-character-requires Inv-loop μ-loop
+blank-character-requires c κs = search needs
+
+loop-holds : tie.Need-loop-holds Inv-loop μ-loop
+unfolding integrateDelete
+loop-holds c = (zero-le, rw (c .blank-character .ensures) (sym (pad-none 1024 blankCharacter)), c .before .good .0 .1 .0 .1)
+
+mul-c : tie.Need-mul-c Inv-loop μ-loop
+mul-c c = omega arith
+
+array-copy-out-c : tie.Need-array-copy-out-c Inv-loop μ-loop
+array-copy-out-c c = omega arith
+
+marked-requires : tie.Need-marked-requires Inv-loop μ-loop
+marked-requires c κs = search needs
+
+mul-out : tie.Need-mul-out Inv-loop μ-loop
+mul-out c = omega arith
+
+array-set-from-out : tie.Need-array-set-from-out Inv-loop μ-loop
+array-set-from-out c = omega arith
+
+add-i : tie.Need-add-i Inv-loop μ-loop
+add-i c = omega arith
+
+loop-less : tie.Need-loop-less Inv-loop μ-loop
+loop-less c = omega arith
+
+loop-again : tie.Need-loop-again Inv-loop μ-loop
+unfolding integrateDelete
+loop-again c =
+    let l = c .before .before .before .loop in
+    let a = c .before .before .before .before .before .args in
+    (omega arith, rw (l .inv .1, c .marked .ensures) (pad-map 1024 blankCharacter (marked (a .target)) _ (a .t1) (l .i) (omega arith) (omega arith)), l .inv .2)
+
+returns : tie.Need-returns Inv-loop μ-loop
+returns c =
+    let all : c .before .loop .i ≡ c .before .before .before .args .n = omega arith in
+    rw (← all) (c .before .loop .inv .1)
+
+pub hidden-spec : {M : Type 1} → statement M
+hidden-spec =
+    tie.close
+    (tie.spec
+    Inv-loop
+    μ-loop
+    blank-character-requires
+    loop-holds
+    mul-c
+    array-copy-out-c
+    marked-requires
+    mul-out
+    array-set-from-out
+    add-i
+    loop-less
+    loop-again
+    returns)
