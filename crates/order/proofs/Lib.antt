@@ -2,3 +2,4 @@ pub mod Keys
 pub mod Indices
 pub mod Packing
 pub mod Walks
+pub mod Placing
