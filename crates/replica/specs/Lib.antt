@@ -1,2 +1,3 @@
 pub mod Replicas
 pub mod Edit
+pub mod Queue

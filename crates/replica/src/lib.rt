@@ -1,2 +1,3 @@
 // The calls on a replica: receiving, inserting, deleting, the check of its form and the visible text.
 mod edit;
+mod queue;

@@ -1,0 +1,78 @@
+-- A search in a list of numbers goes by what is left of it: one law for an element that is passed, one for the end.
+use mathlib.Core.Path.{_≡_, refl, sym, ap, _∙_}
+use mathlib.Core.Bool.{Bool, true, false, _&&_, _||_, cond}
+use mathlib.Core.List.{List, [], _∷_}
+use Prim.Native.Nat.{ℕ, suc, _+_, _≤_, _<_}
+use native.Mathlib.Numerals.{add-one}
+use native.Mathlib.Omega.{arith}
+use borrow.Author.Tests.{lt-ltb, le-ltb}
+use lib.Dec.{eqb, ltb}
+use lib.ListN.{length, drop, getD, drop-of-length-le}
+use lib.Seq.{drop-cons}
+use Rattle.woot.specs.Lists.{keep}
+use Rattle.order.specs.Keys.{indexIn}
+use Rattle.order.proofs.Indices.{index-here, index-later}
+use Rattle.replica.specs.declared.queue.Found.{Found}
+use Rattle.replica.specs.declared.queue.Found.the-variants.{At, Nothing}
+use Rattle.replica.specs.Queue.{found, hasDelete}
+
+-- ---- counting
+
+-- how many of the elements from i on pass the test
+abbrev pub left : {A : Type 0} → (A → Bool) → List A → ℕ → ℕ
+left p xs i = length (keep p (drop i xs))
+
+module _ {A : Type 0} (p : A → Bool) (xs : List A) (i : ℕ) (d : A) (h : i < length xs) where
+  pub left-counted : p (getD xs i d) ≡ true → left p xs i ≡ left p xs (i + 1) + 1
+  left-counted e = rw (drop-cons xs i d h, add-one i, e) (sym (add-one (left p xs (suc i))))
+
+  pub left-passed : p (getD xs i d) ≡ false → left p xs i ≡ left p xs (i + 1)
+  left-passed e = rw (drop-cons xs i d h, add-one i, e)
+
+pub left-none : {A : Type 0} (p : A → Bool) (xs : List A) (i : ℕ) → length xs ≤ i → left p xs i ≡ 0
+left-none p xs i h = rw (drop-of-length-le xs {i = i} h)
+
+-- ---- finding
+
+module _ (k : ℕ) (xs : List ℕ) (i : ℕ) where
+  pub index-stop : i < length xs → getD xs i 0 ≡ k → indexIn k (drop i xs) ≡ 0
+  index-stop h e = rw (drop-cons xs i 0 h) (index-here k (getD xs i 0) (drop (suc i) xs) (sym e))
+
+  pub index-pass : i < length xs → (getD xs i 0 ≡ k → ⊥) → indexIn k (drop i xs) ≡ indexIn k (drop (i + 1) xs) + 1
+  index-pass h n =
+      rw (drop-cons xs i 0 h, add-one i)
+      (index-later k (getD xs i 0) (drop (suc i) xs) (λ e. n (sym e)) ∙ sym (add-one (indexIn k (drop (suc i) xs))))
+
+  pub found-at : indexIn k xs ≡ i → i < length xs → found k xs ≡ At i
+  unfolding found
+  found-at e h = rw (e, lt-ltb i (length xs) h)
+
+pub found-nothing : (k : ℕ) (xs : List ℕ) → length xs ≤ indexIn k xs → found k xs ≡ Nothing
+unfolding found
+found-nothing k xs h = rw (le-ltb (indexIn k xs) (length xs) h)
+
+-- ---- a delete
+
+module _ (k n : ℕ) (os fs ss : List ℕ) where
+  -- among the operations from i on
+  abbrev pub deleteLeft : ℕ → Bool
+  deleteLeft i = hasDelete k n (drop i os) (drop i fs) (drop i ss)
+
+  -- the operation at i
+  abbrev pub deleteAt : ℕ → Bool
+  deleteAt i = eqb (getD os i 0) 0 && eqb (getD fs i 0) k && eqb (getD ss i 0) n
+
+  module _ (i : ℕ) (p : i < length os) (q : i < length fs) (r : i < length ss) where
+    delete-step : deleteLeft i ≡ (deleteAt i || deleteLeft (i + 1))
+    unfolding hasDelete
+    delete-step = rw (drop-cons os i 0 p, drop-cons fs i 0 q, drop-cons ss i 0 r, add-one i)
+
+    pub delete-here : deleteAt i ≡ true → deleteLeft i ≡ true
+    delete-here e = delete-step ∙ rw e
+
+    pub delete-passed : deleteAt i ≡ false → deleteLeft i ≡ deleteLeft (i + 1)
+    delete-passed e = delete-step ∙ rw e
+
+  pub delete-none : (i : ℕ) → length os ≤ i → deleteLeft i ≡ false
+  unfolding hasDelete
+  delete-none i h = rw (drop-of-length-le os {i = i} h)
