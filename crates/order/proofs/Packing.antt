@@ -63,6 +63,13 @@ pub packed-path : (cs : List Character) (r : Packed) → r .ids ≡ pad characte
 unfolding packed
 packed-path cs r p q t = λ i. record { ids = p i; previous = q i; next = t i }
 
+pub packed-sizes : (cs : List Character) → length cs ≤ characterSlots → (length (packed cs .ids) ≡ characterSlots) × (length (packed cs .previous) ≡ characterSlots) × (length (packed cs .next) ≡ characterSlots)
+unfolding packed
+packed-sizes cs h = (size (λ c. key (c .id)), size (λ c. key (c .previous)), size (λ c. key (c .next)))
+  where
+    size : (f : Character → ℕ) → length (pad characterSlots 0 (map f cs)) ≡ characterSlots
+    size f = pad-length characterSlots 0 (map f cs) (omega (arith, length-map cs f))
+
 -- what a caller lends: the slots in use are the keys, and their places those of the rules
 module _ (cs : List Character) (n : ℕ) (e : length cs ≡ n) where
   used : {B : Type 0} (f : Character → B) (z : B) → take n (pad characterSlots z (map f cs)) ≡ map f cs
@@ -85,15 +92,22 @@ module _ (cs : List Character) (n : ℕ) (e : length cs ≡ n) where
     place-each f [] t = refl
     place-each f (d ∷ ds) t = ap₂ (λ (k : ℕ) (ks : List ℕ). k ∷ ks) (place-keys (f d) (t d (List·Memᴰ·head refl)) cs s) (place-each f ds (λ c m. t c (List·Memᴰ·tail m)))
 
-    places-of : (f : Character → Identifier) → ((c : Character) → List·Memᴰ c cs → Small (f c)) → take n (placesIn (keys cs) (map (λ c. key (f c)) cs)) ≡ map (λ c. placeOf cs (f c)) cs
+    -- the array of the places
+    padded-places : (f : Character → Identifier) → ((c : Character) → List·Memᴰ c cs → Small (f c)) → placesIn (keys cs) (map (λ c. key (f c)) cs) ≡ pad characterSlots 0 (map (λ c. placeOf cs (f c)) cs)
     unfolding placesIn
-    places-of f t =
+    padded-places f t =
         let ids = take-all characterSlots (keys cs) (omega (arith, length-map cs (λ (c : Character). key (c .id)))) in
         let of = take-all characterSlots (map (λ c. key (f c)) cs) (omega (arith, length-map cs (λ (c : Character). key (f c)))) in
-        rw (ids, of, place-each f cs t) (used (λ c. placeOf cs (f c)) 0)
+        rw (ids, of, place-each f cs t)
+
+    pub padded-previous : placesIn (keys cs) (previousKeys cs) ≡ pad characterSlots 0 (previousPlaces cs)
+    padded-previous = padded-places (λ c. c .previous) (λ c m. s c m .previous)
+
+    pub padded-next : placesIn (keys cs) (nextKeys cs) ≡ pad characterSlots 0 (nextPlaces cs)
+    padded-next = padded-places (λ c. c .next) (λ c m. s c m .next)
 
     pub places-previous : take n (placesIn (keys cs) (previousKeys cs)) ≡ previousPlaces cs
-    places-previous = places-of (λ c. c .previous) (λ c m. s c m .previous)
+    places-previous = rw padded-previous (used (λ c. placeOf cs (c .previous)) 0)
 
     pub places-next : take n (placesIn (keys cs) (nextKeys cs)) ≡ nextPlaces cs
-    places-next = places-of (λ c. c .next) (λ c m. s c m .next)
+    places-next = rw padded-next (used (λ c. placeOf cs (c .next)) 0)

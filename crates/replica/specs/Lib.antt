@@ -1,3 +1,4 @@
 pub mod Replicas
 pub mod Edit
 pub mod Queue
+pub mod Index
