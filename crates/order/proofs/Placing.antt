@@ -12,8 +12,8 @@ use Rattle.woot.specs.declared.Character.{Character}
 use Rattle.woot.specs.Identifiers.{below}
 use Rattle.woot.specs.Lists.{keep}
 use Rattle.woot.specs.Placing.{Interval as Between, Located, located, placeOf, adjacent, candidate, candidates, narrowed, search, position}
-use Rattle.woot.proofs.Tests.{either, agree}
-use Rattle.woot.proofs.Placing.{narrowing}
+use Rattle.convergence.proofs.Tests.{either, agree}
+use Rattle.convergence.proofs.Placing.{narrowing}
 use Rattle.order.specs.declared.Interval.{Interval}
 use Rattle.order.specs.Keys.{key, Small, AllSmall, keys}
 use Rattle.order.specs.Packing.{previousPlaces, nextPlaces}

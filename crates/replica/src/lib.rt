@@ -1,4 +1,4 @@
 // The calls on a replica: receiving, inserting, deleting, the check of its form and the visible text.
 mod edit;
-mod queue;
 mod index;
+mod queue;
