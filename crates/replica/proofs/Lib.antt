@@ -2,3 +2,4 @@ pub mod Padding
 pub mod Searches
 pub mod Queues
 pub mod Indexes
+pub mod Runs

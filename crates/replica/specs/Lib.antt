@@ -2,3 +2,4 @@ pub mod Replicas
 pub mod Edit
 pub mod Queue
 pub mod Index
+pub mod Theorems

@@ -24,21 +24,22 @@ use Rattle.woot.specs.Text.{text}
 use Rattle.output.specs.Output.{placed}
 
 -- the very replica that was passed where nothing is changed, else the new state as it is stored
+unfoldable pub afterAnswer : Replica → State → Answer → Replica
+afterAnswer r s (Done n m) = stored s
+afterAnswer r s Deferred = stored s
+afterAnswer r s Duplicate = r
+afterAnswer r s (Refused q) = r
+
+unfoldable pub afterSent : Replica → State → Sent → Replica
+afterSent r s (sentDone o n m) = stored s
+afterSent r s (sentRefused q) = r
+
+-- what is returned: the answer, and the replica as it is then
 unfoldable pub receipt : Replica → Outcome Answer → Receipt
-receipt r w = record { answer = w .answer; replica = after (w .answer) }
-  where
-    after : Answer → Replica
-    after (Done n m) = stored (w .state)
-    after Deferred = stored (w .state)
-    after Duplicate = r
-    after (Refused q) = r
+receipt r w = record { answer = w .answer; replica = afterAnswer r (w .state) (w .answer) }
 
 unfoldable pub generated : Replica → Outcome Sent → Generated
-generated r w = record { answer = w .answer; replica = after (w .answer) }
-  where
-    after : Sent → Replica
-    after (sentDone o n m) = stored (w .state)
-    after (sentRefused q) = r
+generated r w = record { answer = w .answer; replica = afterSent r (w .state) (w .answer) }
 
 -- receiving, typing and erasing on a replica
 unfoldable pub received : Replica → Operation → Receipt

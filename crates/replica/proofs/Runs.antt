@@ -1,0 +1,141 @@
+-- A replica that stores a state within the arrays means that state, so that a call on it returns what the rules leave, as
+-- it is stored.
+use Prim.Native.Nat.{ℕ, _+_, _≤_}
+use native.Mathlib.Omega.{arith}
+use mathlib.Core.Path.{_≡_, refl, ap, sym, _∙_, subst}
+use mathlib.Core.Bool.{Bool, true, false, _&&_}
+use mathlib.Core.Option.{Option, none, some}
+use mathlib.Core.Logic.{⊎-elim}
+use mathlib.Core.List.{List, [], _∷_, _++_, map}
+use lib.ListN.{length, take, length-map}
+use lib.Seq.{take-append-seam}
+use borrow.Author.Tests.{le-leb}
+use Rattle.woot.specs.declared.Operation.{Operation}
+use Rattle.woot.specs.declared.Character.{Character}
+use Rattle.woot.specs.declared.Replica.{Replica}
+use Rattle.woot.specs.declared.Refusal.{Refusal}
+use Rattle.woot.specs.declared.Answer.{Answer}
+use Rattle.woot.specs.declared.Answer.the-variants.{Done, Deferred, Duplicate, Refused}
+use Rattle.woot.specs.declared.Sent.{Sent}
+use Rattle.woot.specs.declared.Sent.the-variants.{Done as sentDone, Refused as sentRefused}
+use Rattle.woot.specs.State.{State, initial, characterSlots, pendingSlots, waiting, blankCharacter, blankPending, pad, meaning, documentOf, stored, counted}
+use Rattle.woot.specs.Form.{wellFormed, replicaWellFormed}
+use Rattle.woot.specs.Answers.{answerOf, first}
+use Rattle.woot.specs.Calls.{Outcome, unchanged, decided, receiveWhen, receive, localInsertWhen, localInsert, localDeleteWhen, localDelete}
+use Rattle.woot.specs.Histories.{Call, inserting, deleting, receiving, withAnswer, outcome, run}
+use Rattle.convergence.proofs.Tests.{either, clash}
+use Rattle.convergence.proofs.Forms.{formed, reformed}
+use Rattle.convergence.proofs.Shares.{pending-bound}
+use Rattle.convergence.proofs.Steps.{Step, turned, adds, removes, defers, step}
+use Rattle.convergence.proofs.Kept.{form-kept}
+use Rattle.convergence.proofs.Refusals.{refused-unchanged, known-unchanged}
+use Rattle.convergence.proofs.Convergence.{convergence}
+use Rattle.replica.specs.Replicas.{afterAnswer, afterSent, receipt, generated, received, inserted, deleted, textOf}
+use Rattle.replica.specs.Theorems.{called, ran, ReplicasFollow, ReplicasConverge}
+
+-- the lists are within the arrays
+pub record Within (s : State) : Type 0 where
+  pub characters-fit : length (s .characters) ≤ characterSlots
+  pub pending-fit : length (s .pending) ≤ pendingSlots
+
+pub formed-within : (s : State) → wellFormed s ≡ true → Within s
+formed-within s h =
+    let f = formed s h in
+    record { characters-fit = omega (arith, f .sound .room); pending-fit = pending-bound (f .sound) }
+
+operations-back : (os : List Operation) → map (λ p. p .operation) (map waiting os) ≡ os
+unfolding waiting
+operations-back [] = refl
+operations-back (o ∷ os) = ap (λ ps. o ∷ ps) (operations-back os)
+
+-- the part of an array that a list fills is the list
+pad-front : {A : Type 0} (m : ℕ) (z : A) (xs : List A) → take (length xs) (pad m z xs) ≡ xs
+unfolding pad
+pad-front m z xs = take-append-seam xs _
+
+-- what is stored is what is meant
+pub meaning-stored : (s : State) → meaning (stored s) ≡ s
+unfolding meaning stored documentOf
+meaning-stored s =
+    let n : length (s .pending) ≡ length (map waiting (s .pending)) = sym (length-map (s .pending) waiting) in
+    let queue : map (λ p. p .operation) (take (length (s .pending)) (pad pendingSlots blankPending (map waiting (s .pending)))) ≡ s .pending =
+    ap (λ k. map (λ p. p .operation) (take k (pad pendingSlots blankPending (map waiting (s .pending))))) n
+    ∙ ap (map (λ p. p .operation)) (pad-front pendingSlots blankPending (map waiting (s .pending)))
+    ∙ operations-back (s .pending)
+    in
+    λ i. record { site = s .site; characters = pad-front characterSlots blankCharacter (s .characters) i; pending = queue i }
+
+pub counted-stored : (s : State) → Within s → counted (stored s) ≡ true
+unfolding counted stored documentOf
+counted-stored s w = rw (le-leb (length (s .characters)) characterSlots (w .characters-fit), le-leb (length (s .pending)) pendingSlots (w .pending-fit))
+
+pub form-stored : (s : State) → Within s → replicaWellFormed (stored s) ≡ wellFormed s
+unfolding replicaWellFormed
+form-stored s w = rw (counted-stored s w, meaning-stored s)
+
+-- ---- one call
+
+answer-stored : (s t : State) (a : Answer) → (a ≡ Duplicate → t ≡ s) → ((r : Refusal) → a ≡ Refused r → t ≡ s) → afterAnswer (stored s) t a ≡ stored t
+unfolding afterAnswer
+answer-stored s t (Done n m) k f = refl
+answer-stored s t Deferred k f = refl
+answer-stored s t Duplicate k f = ap stored (sym (k refl))
+answer-stored s t (Refused r) k f = ap stored (sym (f r refl))
+
+sent-stored : (s t : State) (a : Sent) → ((r : Refusal) → a ≡ sentRefused r → t ≡ s) → afterSent (stored s) t a ≡ stored t
+unfolding afterSent
+sent-stored s t (sentDone o n m) f = refl
+sent-stored s t (sentRefused r) f = ap stored (sym (f r refl))
+
+-- a refused call leaves the state
+refused-state : (s : State) (c : Call) (r : Refusal) → outcome s c .answer ≡ Refused r → outcome s c .state ≡ s
+unfolding unchanged
+refused-state s c r e = ap (λ w. w .state) (refused-unchanged s c r e)
+
+known-state : (s : State) (c : Call) → outcome s c .answer ≡ Duplicate → outcome s c .state ≡ s
+unfolding unchanged
+known-state s c e = ap (λ w. w .state) (known-unchanged s c e)
+
+called-stored : (s : State) (c : Call) → Within s → called (stored s) c ≡ stored (outcome s c .state)
+unfolding called received inserted deleted receipt generated outcome localInsert localDelete receive answerOf
+called-stored s (inserting g n) w =
+    rw (form-stored s w, meaning-stored s)
+    (sent-stored s (localInsert s g n .state) (localInsert s g n .answer) (λ r e. refused-state s (inserting g n) r (ap answerOf e)))
+called-stored s (deleting p) w =
+    rw (form-stored s w, meaning-stored s)
+    (sent-stored s (localDelete s p .state) (localDelete s p .answer) (λ r e. refused-state s (deleting p) r (ap answerOf e)))
+called-stored s (receiving o) w =
+    rw (form-stored s w, meaning-stored s)
+    (answer-stored s (receive s o .state) (receive s o .answer) (known-state s (receiving o)) (refused-state s (receiving o)))
+
+-- ---- lists of calls
+
+-- a state out of form stays as it is
+unformed-step : (s : State) {r : Outcome Answer} → Step s r → wellFormed s ≡ false → r .state ≡ s
+unfolding unchanged
+unformed-step s (turned a w) h = refl
+unformed-step s (adds t i a) h = clash (reformed s (a .formed)) h
+unformed-step s (removes d a) h = clash (reformed s (a .formed)) h
+unformed-step s (defers o a) h = clash (reformed s (a .formed)) h
+
+within-kept : (s : State) (c : Call) → Within s → Within (outcome s c .state)
+within-kept s c w =
+    ⊎-elim (λ h. formed-within (outcome s c .state) (form-kept s c h)) (λ h. subst Within (sym (unformed-step s (step s c) h)) w)
+    (either (wellFormed s))
+
+ran-stored : (s : State) (cs : List Call) → Within s → ran (stored s) cs ≡ stored (run s cs)
+ran-stored s [] w = refl
+ran-stored s (c ∷ cs) w = ap (λ r. ran r cs) (called-stored s c w) ∙ ran-stored (outcome s c .state) cs (within-kept s c w)
+
+initial-within : (n : ℕ) → Within (initial n)
+unfolding initial
+initial-within n = record { characters-fit = omega arith; pending-fit = omega arith }
+
+pub replicas-follow : ReplicasFollow
+replicas-follow n cs = ran-stored (initial n) cs (initial-within n)
+
+pub replicas-converge : ReplicasConverge
+unfolding textOf
+replicas-converge m n cs ds inserted deleted =
+    rw (replicas-follow m cs, replicas-follow n ds, meaning-stored (run (initial m) cs), meaning-stored (run (initial n) ds))
+    (convergence m n cs ds inserted deleted)

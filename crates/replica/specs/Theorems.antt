@@ -1,0 +1,31 @@
+-- Demand 3 for replicas in memory: lists of the calls whose contracts cite `received`, `inserted` and `deleted`.
+use Prim.Native.Nat.{ℕ}
+use mathlib.Core.Path.{_≡_}
+use mathlib.Core.List.{List, [], _∷_}
+use Rattle.woot.specs.declared.Replica.{Replica}
+use Rattle.woot.specs.State.{State, initial, meaning, stored}
+use Rattle.woot.specs.Histories.{Call, inserting, deleting, receiving, run, historyOf, SameInserted, SameDeleted}
+use Rattle.replica.specs.Replicas.{received, inserted, deleted, textOf}
+
+-- the replica that a call returns: `replica::insert`, `replica::delete` and `replica::receive`
+unfoldable pub called : Replica → Call → Replica
+called r (inserting g n) = inserted r g n .replica
+called r (deleting p) = deleted r p .replica
+called r (receiving o) = received r o .replica
+
+-- "every call gets the sheet, record included, as the call before returned or left it"
+abbrev pub ran : Replica → List Call → Replica
+ran r [] = r
+ran r (c ∷ cs) = ran (called r c) cs
+
+-- replicas in memory, begun by `Replica::empty`, are at every moment the states of the rules as they are stored
+abbrev pub ReplicasFollow : Type 0
+ReplicasFollow = (n : ℕ) (cs : List Call) → ran (stored (initial n)) cs ≡ stored (run (initial n) cs)
+
+-- demand 3: the same inserts carried out and the same characters deleted give equal characters and equal visible bytes
+abbrev pub ReplicasConverge : Type 0
+ReplicasConverge =
+    (m n : ℕ) (cs ds : List Call) →
+    SameInserted (historyOf m cs) (historyOf n ds) → SameDeleted (historyOf m cs) (historyOf n ds) →
+    (meaning (ran (stored (initial m)) cs) .characters ≡ meaning (ran (stored (initial n)) ds) .characters)
+    × (textOf (ran (stored (initial m)) cs) ≡ textOf (ran (stored (initial n)) ds))
