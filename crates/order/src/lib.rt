@@ -51,10 +51,11 @@ pub fn place_of(ids: &[u32], key: u32) -> usize
         }
         i += 1;
     }
+    let end = i + 1;
     if key == 1 {
-        return i + 1;
+        return end;
     }
-    i + 2
+    end + 1
 }
 
 // The lesser of two numbers.

@@ -76,16 +76,16 @@ loop-again c =
     let a = c .before .before .before .before .before .args in
     (omega arith, omega (arith, passed (a .ids .now) (a .key) (l .i) (omega arith) (c .if2 .left)))
 
-add-result-2 : tie.Need-add-result-2 Inv-loop μ-loop
-add-result-2 c = omega arith
+add-end : tie.Need-add-end Inv-loop μ-loop
+add-end c = omega arith
 
 returns-3 : tie.Need-returns-3 Inv-loop μ-loop
 returns-3 c =
     let a = c .before .before .before .before .args in
     omega (arith, ended (a .ids .now) (a .key) (c .before .before .loop .i) (omega arith) (c .if3 .taken))
 
-add-result-3 : tie.Need-add-result-3 Inv-loop μ-loop
-add-result-3 c = omega arith
+add-result-2 : tie.Need-add-result-2 Inv-loop μ-loop
+add-result-2 c = omega arith
 
 returns-4 : tie.Need-returns-4 Inv-loop μ-loop
 returns-4 c =
@@ -107,7 +107,7 @@ place-of-spec =
     add-i
     loop-less
     loop-again
-    add-result-2
+    add-end
     returns-3
-    add-result-3
+    add-result-2
     returns-4)
