@@ -5,7 +5,7 @@ use native.Mathlib.Omega.{arith}
 use mathlib.Core.Path.{_≡_, refl, ap₂, sym, _∙_, subst}
 use mathlib.Core.List.{List, [], _∷_, _++_, map, map-append, List·Memᴰ, List·Memᴰ·head, List·Memᴰ·tail, List·Memᴰ·append-cases, List·Memᴰ·eq-of-singleton}
 use mathlib.Core.Logic.{⊎-elim}
-use lib.ListN.{length, take, getD, set, replicate, length-append, length-map, length-replicate}
+use lib.ListN.{length, take, getD, set, replicate, length-append, length-map, length-replicate, length-take}
 use lib.Seq.{take-at, take-all, take-suc, set-append-seam, append-snoc, length-take-le}
 use Rattle.woot.specs.declared.Identifier.{Identifier}
 use Rattle.woot.specs.declared.Character.{Character}
@@ -63,12 +63,17 @@ pub packed-path : (cs : List Character) (r : Packed) → r .ids ≡ pad characte
 unfolding packed
 packed-path cs r p q t = λ i. record { ids = p i; previous = q i; next = t i }
 
+-- the arrays have their length
 pub packed-sizes : (cs : List Character) → length cs ≤ characterSlots → (length (packed cs .ids) ≡ characterSlots) × (length (packed cs .previous) ≡ characterSlots) × (length (packed cs .next) ≡ characterSlots)
 unfolding packed
 packed-sizes cs h = (size (λ c. key (c .id)), size (λ c. key (c .previous)), size (λ c. key (c .next)))
   where
     size : (f : Character → ℕ) → length (pad characterSlots 0 (map f cs)) ≡ characterSlots
     size f = pad-length characterSlots 0 (map f cs) (omega (arith, length-map cs f))
+
+pub places-length : (ids of : List ℕ) → length (placesIn ids of) ≡ characterSlots
+unfolding placesIn
+places-length ids of = pad-length characterSlots 0 _ (omega (arith, length-map (take characterSlots of) (placeIn (take characterSlots ids)), length-take characterSlots of))
 
 -- what a caller lends: the slots in use are the keys, and their places those of the rules
 module _ (cs : List Character) (n : ℕ) (e : length cs ≡ n) where

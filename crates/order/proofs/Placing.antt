@@ -35,10 +35,10 @@ adjacent-width v = agree _ _ (λ e. le-leb (width v) 1 (near (leb-true _ _ e))) 
     far h = omega arith
 
 module _ (cs : List Character) (x : Identifier) (p : Small x) where
-  -- a character as a pass sees it
   abbrev entry : ℕ → Character → Entry
   entry k c = record { place = k; id = key (c .id); above = placeOf cs (c .previous); below = placeOf cs (c .next) }
 
+  -- characters as a pass sees them, the first at place k
   abbrev seen : ℕ → List Character → List Entry
   seen k ds = entries k (keys ds) (map (λ c. placeOf cs (c .previous)) ds) (map (λ c. placeOf cs (c .next)) ds)
 
@@ -46,6 +46,7 @@ module _ (cs : List Character) (x : Identifier) (p : Small x) where
   unfolding candidateIn outside candidate
   candidate-same v k c = sym (and-assoc (ltb (v .upper) k && ltb k (v .lower)) (leb (placeOf cs (c .previous)) (v .upper)) (leb (v .lower) (placeOf cs (c .next))))
 
+  -- passing what is no candidate over is keeping the candidates
   walk-narrowed : (v : Interval) (u k : ℕ) (ds : List Character) → AllSmall ds → rules (walkIn (key x) v u (seen k ds)) ≡ narrowed x (record { upper = u; lower = v .lower }) (keep (candidate cs (rules v)) (located k ds))
   unfolding walkIn entries narrowed
   walk-narrowed v u k [] s = refl
@@ -71,10 +72,12 @@ module _ (cs : List Character) (s : AllSmall cs) (x : Identifier) (p : Small x) 
   abbrev all : List Entry
   all = entries 1 (keys cs) (previousPlaces cs) (nextPlaces cs)
 
-  pub pass-narrowed : (v : Interval) → rules (passIn all (key x) v) ≡ narrowed x (rules v) (candidates cs (rules v))
+  -- each step of the rules is one pass
+  pass-narrowed : (v : Interval) → rules (passIn all (key x) v) ≡ narrowed x (rules v) (candidates cs (rules v))
   unfolding passIn candidates
   pass-narrowed v = walk-narrowed cs x p v (v .upper) 1 cs s
 
+  -- with no candidate a pass leaves the interval as it was, and with one it is narrower
   search-none : (n : ℕ) (v : Interval) → leb (width v) 1 ≡ false → candidates cs (rules v) ≡ [] → searchIn (suc n) all (key x) v ≡ search (suc n) cs x (rules v)
   unfolding searchIn search narrowed
   search-none n v a e =

@@ -43,12 +43,12 @@ module _ (k : ℕ) (v : Interval) (u : ℕ) (e : Entry) (es : List Entry) where
   walk-stopped c h = rw (c, le-ltb (e .id) k h)
 
 module _ (k : ℕ) (v : Interval) where
-  pub walk-none : (u : ℕ) → walkIn k v u [] ≡ record { upper = u; lower = v .lower }
+  walk-none : (u : ℕ) → walkIn k v u [] ≡ record { upper = u; lower = v .lower }
   unfolding walkIn
   walk-none u = refl
 
   -- nothing at the lower end or past it is a candidate
-  pub walk-below : (u p : ℕ) (ids above below : List ℕ) → v .lower ≤ p → walkIn k v u (entries p ids above below) ≡ record { upper = u; lower = v .lower }
+  walk-below : (u p : ℕ) (ids above below : List ℕ) → v .lower ≤ p → walkIn k v u (entries p ids above below) ≡ record { upper = u; lower = v .lower }
   unfolding entries
   walk-below u p [] above below h = walk-none u
   walk-below u p (x ∷ ids) [] below h = walk-none u
@@ -67,7 +67,7 @@ short-below p (x ∷ ids) [] = refl
 short-below p (x ∷ ids) (a ∷ above) = refl
 
 -- nothing down to the upper end is one either
-pub walk-above : (k : ℕ) (v : Interval) (u n p : ℕ) (ids above below : List ℕ) → p + n ≤ suc (v .upper) → walkIn k v u (entries p ids above below) ≡ walkIn k v u (entries (p + n) (drop n ids) (drop n above) (drop n below))
+walk-above : (k : ℕ) (v : Interval) (u n p : ℕ) (ids above below : List ℕ) → p + n ≤ suc (v .upper) → walkIn k v u (entries p ids above below) ≡ walkIn k v u (entries (p + n) (drop n ids) (drop n above) (drop n below))
 unfolding entries
 walk-above k v u zero p ids above below h = rw (add-zero p)
 walk-above k v u (suc n) p [] above below h = refl

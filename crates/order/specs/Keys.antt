@@ -23,6 +23,7 @@ pub record SmallParts (c : Character) : Type 0 where
 abbrev pub AllSmall : List Character → Type 0
 AllSmall cs = (c : Character) → List·Memᴰ c cs → SmallParts c
 
+-- the keys of the characters, of their previous and of their next
 abbrev pub keys : List Character → List ℕ
 keys cs = map (λ c. key (c .id)) cs
 

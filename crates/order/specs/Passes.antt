@@ -42,7 +42,7 @@ walkIn k v u (e ∷ es) =
 unfoldable pub passIn : List Entry → ℕ → Interval → Interval
 passIn es k v = walkIn k v (v .upper) es
 
--- how far apart the ends are; 1 where nothing is between
+-- how far apart the ends are, at most 1 where nothing is between
 abbrev pub width : Interval → ℕ
 width v = v .lower - v .upper
 
@@ -53,10 +53,12 @@ searchIn (suc n) es k v =
     cond (leb (width v) 1) (some (v .upper))
     (cond (ltb (width (passIn es k v)) (width v)) (searchIn n es k (passIn es k v)) none)
 
+-- each pass narrows the interval, so as many passes as its lower place are enough
 unfoldable pub positionIn : List ℕ → List ℕ → List ℕ → ℕ → ℕ → ℕ → Option ℕ
 positionIn ids above below k upper lower =
     searchIn lower (entries 1 ids above below) k (record { upper = upper; lower = lower })
 
+-- as the code answers it
 abbrev pub found : Option ℕ → Found
 found none = Nothing
 found (some n) = At n

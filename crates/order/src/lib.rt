@@ -18,8 +18,9 @@ pub struct Packed {
 
 // What a search answers.
 pub enum Found {
-    // The place.
+    // The place sought.
     At(usize),
+    // There is none.
     Nothing,
 }
 
@@ -149,8 +150,8 @@ fn pass(ids: &[u32], above: &[u16], below: &[u16], key: u32, v: Interval) -> Int
     }
 }
 
-// Where the key goes in between the upper and the lower place: each pass narrows the interval, until nothing is between or
-// no candidate is.
+// The place just above which the key goes in, between the upper and the lower place. `above` and `below` have the places
+// of the previous and the next of each of `ids`. Each pass narrows the interval, until nothing is between, or no candidate.
 pub fn position(
     ids: &[u32],
     above: &[u16],

@@ -36,8 +36,9 @@ lesser-requires c κs = search needs
 
 loop-holds : tie.Need-loop-holds Inv-loop μ-loop
 loop-holds c =
+    let blank = sym (pad-none {A = ℕ} characterSlots 0) in
     let none : AllSmall [] = λ d m. absurd (List·Memᴰ·not-nil m) in
-    (c .before .good .0 .1 .0 .1, c .lesser .ensures, omega arith, record { of-ids = sym (pad-none characterSlots 0); of-previous = sym (pad-none characterSlots 0); of-next = sym (pad-none characterSlots 0); small = none })
+    (c .before .good .0 .1 .0 .1, c .lesser .ensures, omega arith, record { of-ids = blank; of-previous = blank; of-next = blank; small = none })
 
 mul-c : tie.Need-mul-c Inv-loop μ-loop
 mul-c c = omega arith

@@ -58,8 +58,12 @@ lesser-requires-3 c κs = search needs
 
 loop-holds : tie.Need-loop-holds Inv-loop μ-loop
 loop-holds c =
-    let a = c .before .before .before .before .before .before .before .args in
-    (c .before .before .before .before .before .before .before .pre, c .lesser3 .ensures ∙ rw (c .before .before .lesser2 .ensures, c .before .before .before .lesser .ensures), omega arith, sym (pass-from (a .ids .now) (a .above .now) (a .below .now) (a .key) (a .v)))
+    let a = c .before .before .before .before .before .before .before .args in (
+      c .before .before .before .before .before .before .before .pre,
+      c .lesser3 .ensures ∙ rw (c .before .before .lesser2 .ensures, c .before .before .before .lesser .ensures),
+      omega arith,
+      sym (pass-from (a .ids .now) (a .above .now) (a .below .now) (a .key) (a .v)),
+    )
 
 add-i : tie.Need-add-i Inv-loop μ-loop
 add-i c = omega arith
@@ -89,7 +93,8 @@ returns : tie.Need-returns Inv-loop μ-loop
 returns c =
     let a = c .before .before .before .before .before .before .before .before .before .before .before .before .before .before .before .args in
     let l = c .before .before .before .before .before .before .before .loop in
-    stopped (a .ids .now) (a .above .now) (a .below .now) (a .key) (a .v) _ (l .i) _ (l .inv .1) (l .inv .2) (c .before .before .before .before .before .before .loop-test .taken) (sym (c .before .before .before .outside .ensures) ∙ c .before .before .if1 .taken) (c .if2 .taken) ∙ l .inv .3
+    let here = stopped (a .ids .now) (a .above .now) (a .below .now) (a .key) (a .v) (l .upper) (l .i) _ (l .inv .1) (l .inv .2) (c .before .before .before .before .before .before .loop-test .taken) in
+    here (sym (c .before .before .before .outside .ensures) ∙ c .before .before .if1 .taken) (c .if2 .taken) ∙ l .inv .3
 
 loop-less : tie.Need-loop-less Inv-loop μ-loop
 loop-less c = falls _ _ (c .before .before .before .before .before .before .loop-test .taken)
@@ -98,7 +103,8 @@ loop-again : tie.Need-loop-again Inv-loop μ-loop
 loop-again c =
     let a = c .before .before .before .before .before .before .before .before .before .before .before .before .before .before .before .args in
     let l = c .before .before .before .before .before .before .before .loop in
-    (l .inv .0, l .inv .1, omega arith, passed (a .ids .now) (a .above .now) (a .below .now) (a .key) (a .v) _ (l .i) _ (l .inv .1) (l .inv .2) (c .before .before .before .before .before .before .loop-test .taken) (sym (c .before .before .before .outside .ensures) ∙ c .before .before .if1 .taken) (c .if2 .left) ∙ l .inv .3)
+    let here = passed (a .ids .now) (a .above .now) (a .below .now) (a .key) (a .v) (l .upper) (l .i) _ (l .inv .1) (l .inv .2) (c .before .before .before .before .before .before .loop-test .taken) in
+    (l .inv .0, l .inv .1, omega arith, here (sym (c .before .before .before .outside .ensures) ∙ c .before .before .if1 .taken) (c .if2 .left) ∙ l .inv .3)
 
 loop-less-2 : tie.Need-loop-less-2 Inv-loop μ-loop
 loop-less-2 c = falls _ _ (c .before .before .before .before .loop-test .taken)
@@ -107,13 +113,15 @@ loop-again-2 : tie.Need-loop-again-2 Inv-loop μ-loop
 loop-again-2 c =
     let a = c .before .before .before .before .before .before .before .before .before .before .before .before .before .args in
     let l = c .before .before .before .before .before .loop in
-    (l .inv .0, l .inv .1, omega arith, over (a .ids .now) (a .above .now) (a .below .now) (a .key) (a .v) _ (l .i) _ (l .inv .1) (l .inv .2) (c .before .before .before .before .loop-test .taken) (sym (c .before .outside .ensures) ∙ c .if1 .left) ∙ l .inv .3)
+    let here = over (a .ids .now) (a .above .now) (a .below .now) (a .key) (a .v) (l .upper) (l .i) _ (l .inv .1) (l .inv .2) (c .before .before .before .before .loop-test .taken) in
+    (l .inv .0, l .inv .1, omega arith, here (sym (c .before .outside .ensures) ∙ c .if1 .left) ∙ l .inv .3)
 
 returns-2 : tie.Need-returns-2 Inv-loop μ-loop
 returns-2 c =
     let a = c .before .before .before .before .before .before .before .before .before .args in
     let l = c .before .loop in
-    sym (from-end (a .ids .now) (a .above .now) (a .below .now) (a .key) (a .v) (l .upper) (l .i) (subst (λ (n : ℕ). n ≤ l .i) (l .inv .1) (c .loop-test .left))) ∙ l .inv .3
+    let done = subst (λ (n : ℕ). n ≤ l .i) (l .inv .1) (c .loop-test .left) in
+    sym (from-end (a .ids .now) (a .above .now) (a .below .now) (a .key) (a .v) (l .upper) (l .i) done) ∙ l .inv .3
 
 pub pass-spec : {M : Type 1} → statement M
 pass-spec =

@@ -68,13 +68,18 @@ width-requires-3 : tie.Need-width-requires-3 Inv-loop μ-loop
 width-requires-3 c κs = search needs
 
 returns : tie.Need-returns Inv-loop μ-loop
-returns c = ap found (nowhere _ _ _ _ _ (c .before .before .before .pass .ensures) (omega (arith, c .before .before .before .before .before .width .ensures)) (omega (arith, c .before .before .width2 .ensures, c .before .width3 .ensures)) (c .before .before .before .before .before .before .loop .inv))
+returns c =
+    ap found
+    (nowhere _ _ _ _ _ (c .before .before .before .pass .ensures) (omega (arith, c .before .before .before .before .before .width .ensures))
+    (omega (arith, c .before .before .width2 .ensures, c .before .width3 .ensures)) (c .before .before .before .before .before .before .loop .inv))
 
 loop-less : tie.Need-loop-less Inv-loop μ-loop
 loop-less c = omega (arith, c .before .before .width2 .ensures, c .before .width3 .ensures)
 
 loop-again : tie.Need-loop-again Inv-loop μ-loop
-loop-again c = again _ _ _ _ _ (c .before .before .before .pass .ensures) (omega (arith, c .before .before .before .before .before .width .ensures)) (omega (arith, c .before .before .width2 .ensures, c .before .width3 .ensures)) (c .before .before .before .before .before .before .loop .inv)
+loop-again c =
+    again _ _ _ _ _ (c .before .before .before .pass .ensures) (omega (arith, c .before .before .before .before .before .width .ensures))
+    (omega (arith, c .before .before .width2 .ensures, c .before .width3 .ensures)) (c .before .before .before .before .before .before .loop .inv)
 
 returns-2 : tie.Need-returns-2 Inv-loop μ-loop
 returns-2 c = ap found (arrived _ _ _ _ (omega (arith, c .before .width .ensures)) (c .before .before .loop .inv))
