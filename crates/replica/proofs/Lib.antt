@@ -3,3 +3,4 @@ pub mod Searches
 pub mod Queues
 pub mod Indexes
 pub mod Runs
+pub mod Pending

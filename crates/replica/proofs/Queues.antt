@@ -1,15 +1,17 @@
--- What is packed of the pending operations: the numbers of the first so many fill the arrays from the front.
-use mathlib.Core.Path.{_≡_, sym, ap, _∙_}
-use mathlib.Core.List.{List, [], map, map-map}
-use Prim.Native.Nat.{ℕ, _+_, _<_}
-use lib.ListN.{length, take, getD, set, replicate}
+-- The pending operations in their slots, packed and stored: the numbers of the first so many fill the arrays from the
+-- front.
+use mathlib.Core.Path.{_≡_, refl, sym, ap, _∙_}
+use mathlib.Core.List.{List, [], _∷_, _++_, map, map-append, map-map}
+use Prim.Native.Nat.{ℕ, zero, suc, _+_, _<_}
+use lib.ListN.{length, take, getD, set, replicate, length-map}
 use Rattle.woot.specs.declared.Operation.{Operation}
 use Rattle.woot.specs.declared.Pending.{Pending}
 use Rattle.woot.specs.Operations.{sender}
-use Rattle.woot.specs.State.{pendingSlots, pad}
-use Rattle.order.proofs.Packing.{pad-none, pad-map}
+use Rattle.woot.specs.State.{pendingSlots, pad, waiting}
+use Rattle.order.proofs.Packing.{pad-none, pad-map, pad-take}
 use Rattle.replica.specs.declared.queue.Queue.{Queue}
 use Rattle.replica.specs.declared.queue.Entry.{Entry}
+use Rattle.replica.specs.Edit.{removed}
 use Rattle.replica.specs.Queue.{operations, ownKey, firstKey, secondKey, entryOf, packed}
 
 -- the array holds the numbers of the first i
@@ -55,3 +57,41 @@ filled-packed {ps} {n} f = λ i. record {
   where
     whole : (g : Operation → ℕ) → filled g ps n ≡ pad pendingSlots 0 (map g (operations (take n ps)))
     whole g = ap (pad pendingSlots 0) (sym (map-map g (λ (p : Pending). p .operation) (take n ps)))
+
+-- what a caller lends: the slots in use are the numbers
+module _ (os : List Operation) (n : ℕ) (e : length os ≡ n) where
+  used : (f : Operation → ℕ) → take n (pad pendingSlots 0 (map f os)) ≡ map f os
+  used f = pad-take pendingSlots 0 (map f os) n (length-map os f ∙ e)
+
+  pub packed-own : take n (packed os .own) ≡ map ownKey os
+  unfolding packed
+  packed-own = used ownKey
+
+  pub packed-first : take n (packed os .first) ≡ map firstKey os
+  unfolding packed
+  packed-first = used firstKey
+
+  pub packed-second : take n (packed os .second) ≡ map secondKey os
+  unfolding packed
+  packed-second = used secondKey
+
+  pub packed-senders : take n (packed os .senders) ≡ map sender os
+  unfolding packed
+  packed-senders = used sender
+
+-- what a change of the slots is to the operations that are stored
+pub waiting-operations : (ps : List Pending) → map waiting (operations ps) ≡ ps
+unfolding waiting
+waiting-operations [] = refl
+waiting-operations (p ∷ ps) = ap (λ (qs : List Pending). p ∷ qs) (waiting-operations ps)
+
+pub waiting-pushed : (ps : List Pending) (o : Operation) → map waiting (operations ps ++ o ∷ []) ≡ ps ++ waiting o ∷ []
+waiting-pushed ps o =
+    map-append waiting (operations ps) (o ∷ []) ∙ ap (λ (qs : List Pending). qs ++ waiting o ∷ []) (waiting-operations ps)
+
+pub waiting-removed : (ps : List Pending) (j : ℕ) → map waiting (removed j (operations ps)) ≡ removed j ps
+unfolding removed waiting
+waiting-removed [] zero = refl
+waiting-removed [] (suc j) = refl
+waiting-removed (p ∷ ps) zero = waiting-operations ps
+waiting-removed (p ∷ ps) (suc j) = ap (λ (qs : List Pending). p ∷ qs) (waiting-removed ps j)

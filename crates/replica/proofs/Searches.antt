@@ -1,18 +1,17 @@
 -- A search in a list of numbers goes by what is left of it: one law for an element that is passed, one for the end.
-use mathlib.Core.Path.{_≡_, refl, sym, ap, _∙_}
+use mathlib.Core.Path.{_≡_, refl, sym, _∙_}
 use mathlib.Core.Bool.{Bool, true, false, _&&_, _||_, cond}
-use mathlib.Core.List.{List, [], _∷_}
+use mathlib.Core.List.{List}
 use Prim.Native.Nat.{ℕ, suc, _+_, _≤_, _<_}
 use native.Mathlib.Numerals.{add-one}
 use native.Mathlib.Omega.{arith}
-use borrow.Author.Tests.{lt-ltb, le-ltb}
+use borrow.Author.Tests.{lt-ltb, le-ltb, ltb-true, ltb-false}
 use lib.Dec.{eqb, ltb}
 use lib.ListN.{length, drop, getD, drop-of-length-le}
 use lib.Seq.{drop-cons}
 use Rattle.woot.specs.Lists.{keep}
 use Rattle.order.specs.Keys.{indexIn}
 use Rattle.order.proofs.Indices.{index-here, index-later}
-use Rattle.replica.specs.declared.queue.Found.{Found}
 use Rattle.replica.specs.declared.queue.Found.the-variants.{At, Nothing}
 use Rattle.replica.specs.Queue.{found, hasDelete}
 
@@ -51,6 +50,23 @@ pub found-nothing : (k : ℕ) (xs : List ℕ) → length xs ≤ indexIn k xs →
 unfolding found
 found-nothing k xs h = rw (le-ltb (indexIn k xs) (length xs) h)
 
+-- what an answer says
+pub at-found : (k : ℕ) (xs : List ℕ) {n : ℕ} → found k xs ≡ At n → (indexIn k xs ≡ n) × (n < length xs)
+unfolding found
+at-found k xs {n} = go (ltb (indexIn k xs) (length xs)) refl
+  where
+    go : (b : Bool) → ltb (indexIn k xs) (length xs) ≡ b → cond b (At (indexIn k xs)) Nothing ≡ At n → (indexIn k xs ≡ n) × (n < length xs)
+    go true e f = let is : indexIn k xs ≡ n = cc in (is, omega (arith, ltb-true (indexIn k xs) (length xs) e))
+    go false e f = let z : _≡_ {A = ℕ} 0 1 = cc in absurd (omega arith)
+
+pub nothing-found : (k : ℕ) (xs : List ℕ) → found k xs ≡ Nothing → length xs ≤ indexIn k xs
+unfolding found
+nothing-found k xs = go (ltb (indexIn k xs) (length xs)) refl
+  where
+    go : (b : Bool) → ltb (indexIn k xs) (length xs) ≡ b → cond b (At (indexIn k xs)) Nothing ≡ Nothing → length xs ≤ indexIn k xs
+    go true e f = let z : _≡_ {A = ℕ} 0 1 = cc in absurd (omega arith)
+    go false e f = ltb-false (indexIn k xs) (length xs) e
+
 -- ---- a delete
 
 module _ (k n : ℕ) (os fs ss : List ℕ) where
@@ -60,7 +76,7 @@ module _ (k n : ℕ) (os fs ss : List ℕ) where
 
   -- the operation at i
   abbrev pub deleteAt : ℕ → Bool
-  deleteAt i = eqb (getD os i 0) 0 && eqb (getD fs i 0) k && eqb (getD ss i 0) n
+  deleteAt i = eqb (getD os i 0) 0 && (eqb n (getD ss i 0) && eqb k (getD fs i 0))
 
   module _ (i : ℕ) (p : i < length os) (q : i < length fs) (r : i < length ss) where
     delete-step : deleteLeft i ≡ (deleteAt i || deleteLeft (i + 1))

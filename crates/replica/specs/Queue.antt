@@ -1,6 +1,6 @@
 -- The pending operations as numbers, and what the searches in them find.
 use Prim.Native.Nat.{ℕ}
-use mathlib.Core.Bool.{Bool, true, false, _&&_, _||_, cond}
+use mathlib.Core.Bool.{Bool, false, _&&_, _||_, cond}
 use mathlib.Core.List.{List, [], _∷_, map}
 use lib.Dec.{eqb, ltb}
 use lib.ListN.{length}
@@ -54,4 +54,4 @@ unfoldable pub hasDelete : ℕ → ℕ → List ℕ → List ℕ → List ℕ �
 hasDelete k n [] fs ss = false
 hasDelete k n (o ∷ os) [] ss = false
 hasDelete k n (o ∷ os) (f ∷ fs) [] = false
-hasDelete k n (o ∷ os) (f ∷ fs) (s ∷ ss) = (eqb o 0 && eqb f k && eqb s n) || hasDelete k n os fs ss
+hasDelete k n (o ∷ os) (f ∷ fs) (s ∷ ss) = (eqb o 0 && (eqb n s && eqb k f)) || hasDelete k n os fs ss

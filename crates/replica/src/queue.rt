@@ -134,15 +134,15 @@ pub(crate) fn find(own: &[u32], key: u32) -> Found
 
 // Whether the numbers of an operation are those of a delete of the key by the sender.
 fn is_delete(own: u32, first: u32, sender: u8, key: u32, by: u8) -> bool
-    ensures { λ r. ⌜ r ≡ eqb own 0 && eqb first key && eqb sender by ⌝ }
+    ensures { λ r. ⌜ r ≡ eqb own 0 && (eqb by sender && eqb key first) ⌝ }
 {
     if own != 0 {
         return false;
     }
-    if first != key {
+    if by != sender {
         return false;
     }
-    sender == by
+    key == first
 }
 
 // Whether one of the operations is a delete of the key by the sender.

@@ -1,5 +1,4 @@
 -- `replica::queue::entry_of` has each number by the kind of the operation.
-use mathlib.Core.Path.{_≡_, refl}
 use borrow.Author.Needs.{needs}
 use Rattle.woot.specs.Operations.{sender}
 use Rattle.replica.specs.Queue.{entryOf, ownKey, firstKey, secondKey}

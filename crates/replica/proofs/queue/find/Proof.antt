@@ -1,6 +1,6 @@
 -- `replica::queue::find` meets its contract. The loop's invariant: the index is i further than in what is left.
 use mathlib.Core.Path.{_≡_, sym}
-use Prim.Native.Nat.{ℕ, _+_, _-_, _≤_}
+use Prim.Native.Nat.{_+_, _-_, _≤_}
 use native.Mathlib.Omega.{arith}
 use lib.ListN.{length, drop}
 use Rattle.order.specs.Keys.{indexIn}

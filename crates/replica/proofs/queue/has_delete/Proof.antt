@@ -42,7 +42,8 @@ returns : tie.Need-returns Inv-loop μ-loop
 returns c =
     let a = c .before .before .before .before .before .before .before .before .before .before .args in
     let l = c .before .before .before .before .before .before .loop in
-    sym (l .inv .1 ∙ delete-here (a .key) (a .sender) (a .own .now) (a .first .now) (a .senders .now) (l .i) (omega arith) (omega arith) (omega arith) (rw (c .before .is-delete .ensures) at (c .if1 .taken)))
+    let here = delete-here (a .key) (a .sender) (a .own .now) (a .first .now) (a .senders .now) (l .i) in
+    sym (l .inv .1 ∙ here (omega arith) (omega arith) (omega arith) (rw (c .before .is-delete .ensures) at (c .if1 .taken)))
 
 add-i : tie.Need-add-i Inv-loop μ-loop
 add-i c = omega arith
@@ -54,7 +55,8 @@ loop-again : tie.Need-loop-again Inv-loop μ-loop
 loop-again c =
     let a = c .before .before .before .before .before .before .before .before .before .before .args in
     let l = c .before .before .before .before .before .before .loop in
-    (omega arith, l .inv .1 ∙ delete-passed (a .key) (a .sender) (a .own .now) (a .first .now) (a .senders .now) (l .i) (omega arith) (omega arith) (omega arith) (rw (c .before .is-delete .ensures) at (c .if1 .left)))
+    let passed = delete-passed (a .key) (a .sender) (a .own .now) (a .first .now) (a .senders .now) (l .i) in
+    (omega arith, l .inv .1 ∙ passed (omega arith) (omega arith) (omega arith) (rw (c .before .is-delete .ensures) at (c .if1 .left)))
 
 returns-2 : tie.Need-returns-2 Inv-loop μ-loop
 returns-2 c =

@@ -1,6 +1,5 @@
 -- `replica::queue::is_delete` makes the three tests one after the other.
 use borrow.Author.Tests.{eq-eqb, ne-eqb}
-use borrow.Author.Needs.{needs}
 use Rattle.replica.proofs.queue.is_delete.Statement.{statement}
 use Rattle.replica.proofs.queue.is_delete.Tie as tie
 
