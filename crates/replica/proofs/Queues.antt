@@ -2,13 +2,14 @@
 -- front.
 use mathlib.Core.Path.{_≡_, refl, sym, ap, _∙_}
 use mathlib.Core.List.{List, [], _∷_, _++_, map, map-append, map-map}
-use Prim.Native.Nat.{ℕ, zero, suc, _+_, _<_}
+use Prim.Native.Nat.{ℕ, zero, suc, _+_, _≤_, _<_}
+use native.Mathlib.Omega.{arith}
 use lib.ListN.{length, take, getD, set, replicate, length-map}
 use Rattle.woot.specs.declared.Operation.{Operation}
 use Rattle.woot.specs.declared.Pending.{Pending}
 use Rattle.woot.specs.Operations.{sender}
 use Rattle.woot.specs.State.{pendingSlots, pad, waiting}
-use Rattle.order.proofs.Packing.{pad-none, pad-map, pad-take}
+use Rattle.order.proofs.Packing.{pad-none, pad-length, pad-map, pad-take}
 use Rattle.replica.specs.declared.queue.Queue.{Queue}
 use Rattle.replica.specs.declared.queue.Entry.{Entry}
 use Rattle.replica.specs.Edit.{removed}
@@ -57,6 +58,21 @@ filled-packed {ps} {n} f = λ i. record {
   where
     whole : (g : Operation → ℕ) → filled g ps n ≡ pad pendingSlots 0 (map g (operations (take n ps)))
     whole g = ap (pad pendingSlots 0) (sym (map-map g (λ (p : Pending). p .operation) (take n ps)))
+
+-- the arrays have their lengths
+pub record FullQueue (q : Queue) : Type 0 where
+  pub own : length (q .own) ≡ pendingSlots
+  pub first : length (q .first) ≡ pendingSlots
+  pub second : length (q .second) ≡ pendingSlots
+  pub senders : length (q .senders) ≡ pendingSlots
+
+pub packed-full : (os : List Operation) → length os ≤ pendingSlots → FullQueue (packed os)
+unfolding packed
+packed-full os h =
+    record { own = full ownKey; first = full firstKey; second = full secondKey; senders = full sender }
+  where
+    full : (f : Operation → ℕ) → length (pad pendingSlots 0 (map f os)) ≡ pendingSlots
+    full f = pad-length pendingSlots 0 (map f os) (omega (arith, length-map os f))
 
 -- what a caller lends: the slots in use are the numbers
 module _ (os : List Operation) (n : ℕ) (e : length os ≡ n) where

@@ -9,8 +9,8 @@ ghost use lib.ListN.{length, take};
 ghost use Rattle.woot.specs.Lists.{keep};
 ghost use Rattle.replica.specs.Queue.{operations, entryOf, packed, found, hasDelete};
 
-// A pending operation as numbers: an insert's own key and its neighbours', or 0, a delete's target's key and 0; and the
-// sender.
+// A pending operation as numbers: of an insert its own key, its previous's and its next's, of a delete 0, its target's key
+// and 0; and the sender.
 pub(crate) struct Entry {
     pub(crate) own: u32,
     pub(crate) first: u32,
