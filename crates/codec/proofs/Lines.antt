@@ -1,0 +1,89 @@
+-- Laws of lines and fields: a list of bytes is taken apart at the first tab or line feed, and put together again.
+use mathlib.Core.Path.{_≡_, refl, ap}
+use mathlib.Core.List.{List, [], _∷_, _++_}
+use mathlib.Core.Bool.{Bool, true, false}
+use Prim.Native.Nat.{ℕ, _+_, _-_, _≤_}
+use native.Mathlib.Omega.{arith}
+use lib.Dec.{eqb}
+use lib.ListN.{length, take, drop, length-drop}
+use borrow.Author.Tests.{eq-eqb, eqb-true}
+use Rattle.codec.specs.Lines.{tab, has, before, after, onFirst, fields}
+
+-- ---- at the first byte b
+
+module _ (b : ℕ) where
+  -- the bytes before it are a front of the whole
+  pub take-before : (s : List ℕ) → take (length (before b s)) s ≡ before b s
+  take-before [] = refl
+  take-before (x ∷ s) = go (eqb x b) refl (take-before s)
+    where
+      go : (t : Bool) → eqb x b ≡ t → take (length (before b s)) s ≡ before b s → take (length (before b (x ∷ s))) (x ∷ s) ≡ before b (x ∷ s)
+      go true e rest = rw e
+      go false e rest = rw e (ap (λ (l : List ℕ). x ∷ l) rest)
+
+  pub before-le : (s : List ℕ) → length (before b s) ≤ length s
+  before-le [] = omega arith
+  before-le (x ∷ s) = go (eqb x b) refl (before-le s)
+    where
+      go : (t : Bool) → eqb x b ≡ t → length (before b s) ≤ length s → length (before b (x ∷ s)) ≤ length (x ∷ s)
+      go true e h = rw e (omega arith)
+      go false e h = rw e (omega arith)
+
+  -- what `find` answers is within the bytes, and cuts the bytes before it out
+  module _ (s : List ℕ) (start at : ℕ) (e : at ≡ start + length (before b (drop start s))) where
+    pub found-le : start ≤ length s → at ≤ length s
+    found-le h = omega (arith, before-le (drop start s), length-drop start s)
+
+    pub found-part : take (at - start) (drop start s) ≡ before b (drop start s)
+    found-part = let gap : at - start ≡ length (before b (drop start s)) = omega arith in rw gap (take-before (drop start s))
+
+  -- where it is there, the whole is the bytes before it, itself and the bytes after it
+  pub split : (s : List ℕ) → has b s ≡ true → s ≡ before b s ++ b ∷ after b s
+  split [] h = cc
+  split (x ∷ s) h = go (eqb x b) refl (split s)
+    where
+      go : (t : Bool) → eqb x b ≡ t → (has b s ≡ true → s ≡ before b s ++ b ∷ after b s) → x ∷ s ≡ before b (x ∷ s) ++ b ∷ after b (x ∷ s)
+      go true e rest = rw (e, eqb-true x b e)
+      go false e rest = rw e (ap (λ (l : List ℕ). x ∷ l) (rest (rw e at h)))
+
+  -- where it is not, every byte is before it
+  pub whole : (s : List ℕ) → has b s ≡ false → before b s ≡ s
+  whole [] h = refl
+  whole (x ∷ s) h = go (eqb x b) refl (whole s)
+    where
+      go : (t : Bool) → eqb x b ≡ t → (has b s ≡ false → before b s ≡ s) → before b (x ∷ s) ≡ x ∷ s
+      go true e rest = cc
+      go false e rest = rw e (ap (λ (l : List ℕ). x ∷ l) (rest (rw e at h)))
+
+  -- bytes in front among which it is not
+  pub before-append : (p s : List ℕ) → has b p ≡ false → before b (p ++ b ∷ s) ≡ p
+  before-append [] s h = rw (eq-eqb b b refl)
+  before-append (x ∷ p) s h = go (eqb x b) refl (before-append p s)
+    where
+      go : (t : Bool) → eqb x b ≡ t → (has b p ≡ false → before b (p ++ b ∷ s) ≡ p) → before b (x ∷ p ++ b ∷ s) ≡ x ∷ p
+      go true e rest = cc
+      go false e rest = rw e (ap (λ (l : List ℕ). x ∷ l) (rest (rw e at h)))
+
+-- ---- fields
+
+-- what is left of the bytes where the first field ends
+abbrev pub onward : List ℕ → List ℕ
+onward s = drop (length (before tab s)) s
+
+-- the first field, and the others where it ends
+pub fields-first : (s : List ℕ) → fields s ≡ before tab s ∷ drop 1 (fields (onward s))
+fields-first [] = refl
+fields-first (x ∷ s) = go (eqb x tab) refl (fields-first s)
+  where
+    go : (t : Bool) → eqb x tab ≡ t → fields s ≡ before tab s ∷ drop 1 (fields (onward s)) → fields (x ∷ s) ≡ before tab (x ∷ s) ∷ drop 1 (fields (onward (x ∷ s)))
+    go true e rest = rw (e, e)
+    go false e rest = rw e (ap (onFirst x) rest)
+
+-- where a field ends there is an empty one, and the others
+pub fields-next : (s : List ℕ) → fields (onward s) ≡ [] ∷ drop 1 (fields (onward s))
+fields-next [] = refl
+fields-next (x ∷ s) = go (eqb x tab) refl (fields-next s)
+  where
+    go : (t : Bool) → eqb x tab ≡ t → fields (onward s) ≡ [] ∷ drop 1 (fields (onward s)) → fields (onward (x ∷ s)) ≡ [] ∷ drop 1 (fields (onward (x ∷ s)))
+    go true e rest = rw (e, e)
+    go false e rest = rw e rest

@@ -1,0 +1,75 @@
+-- The calls on operation lines: reading the first line of the bytes, and writing a line into a lent slice. Each has its
+-- conditions in checking order; where none holds, what is done stands below them.
+use Prim.Native.Nat.{ℕ}
+use mathlib.Core.List.{List, [], _∷_}
+use mathlib.Core.Bool.{Bool, true, false, _&&_, _||_, not, cond}
+use mathlib.Core.Option.{Option, none, some}
+use lib.Dec.{ltb}
+use lib.ListN.{length}
+use Rattle.output.specs.Output.{placed}
+use Rattle.woot.specs.declared.Operation.{Operation}
+use Rattle.woot.specs.declared.Refusal.{Refusal}
+use Rattle.woot.specs.declared.Refusal.the-variants.{Layout, Range, Output}
+use Rattle.woot.specs.Answers.{Check, _⇒_, first, number}
+use Rattle.woot.specs.Ranges.{inRange}
+use Rattle.codec.specs.declared.Read.{Read}
+use Rattle.codec.specs.declared.Read.the-variants.{Operation as readsAs, Refused as readRefused}
+use Rattle.codec.specs.declared.Written.{Written}
+use Rattle.codec.specs.declared.Written.the-variants.{Length, Refused as writtenRefused}
+use Rattle.codec.specs.Lines.{ended, firstLine, fields}
+use Rattle.codec.specs.Operations.{isInsert, isDelete, said, operationLine}
+
+-- the answer at the first condition that holds; where none does, the other
+unfoldable pub decided : {A : Type 0} → Option A → A → A
+decided none a = a
+decided (some b) a = b
+
+-- ---- reading
+
+-- the fields are those of an insert or of a delete
+unfoldable pub lineLaidOut : List ℕ → Bool
+lineLaidOut line = isInsert (fields line) || isDelete (fields line)
+
+-- condition 1: "a line lacks the layout"; a first line that no line feed ends lacks it too
+unfoldable pub laidOut : List ℕ → Bool
+laidOut s = ended s && lineLaidOut (firstLine s)
+
+-- conditions 1 and 2
+unfoldable pub readChecks : Bool → Operation → List (Check Read)
+readChecks laid o = (not laid ⇒ readRefused Layout) ∷ (not (inRange o) ⇒ readRefused Range) ∷ []
+
+unfoldable pub readAs : Bool → Operation → Read
+readAs laid o = decided (first (readChecks laid o)) (readsAs o)
+
+-- what a line without its line feed is read as
+unfoldable pub readLine : List ℕ → Read
+readLine line = readAs (lineLaidOut line) (said (fields line))
+
+-- what the first line of the bytes is read as
+unfoldable pub readOperation : List ℕ → Read
+readOperation s = readAs (laidOut s) (said (fields (firstLine s)))
+
+-- the refusal's number, or 0
+unfoldable pub readNumber : Read → ℕ
+readNumber (readsAs o) = 0
+readNumber (readRefused r) = number r
+
+-- ---- writing
+
+-- conditions 2 and 12
+unfoldable pub writeChecks : Operation → List ℕ → List (Check Written)
+writeChecks o out =
+    (not (inRange o) ⇒ writtenRefused Range) ∷ (ltb (length out) (length (operationLine o)) ⇒ writtenRefused Output) ∷ []
+
+-- the length of the line, or a refusal
+unfoldable pub written : Operation → List ℕ → Written
+written o out = decided (first (writeChecks o out)) (Length (length (operationLine o)))
+
+-- the lent slice afterwards: the line at its front, or every byte as it was
+unfoldable pub outAfter : Operation → List ℕ → List ℕ
+outAfter o out = cond (inRange o) (placed out 0 (operationLine o)) out
+
+-- the refusal's number, or 0
+unfoldable pub writtenNumber : Written → ℕ
+writtenNumber (Length n) = 0
+writtenNumber (writtenRefused r) = number r

@@ -1,0 +1,4 @@
+pub mod Lines
+pub mod Numbers
+pub mod Operations
+pub mod Calls

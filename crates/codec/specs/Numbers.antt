@@ -1,0 +1,36 @@
+-- What reading the numbers of a line answers, as a value of its type.
+use Prim.Native.Nat.{ℕ}
+use mathlib.Core.List.{List, [], _∷_}
+use mathlib.Core.Bool.{Bool, true, false, _&&_, cond}
+use lib.Dec.{eqb, leb}
+use lib.ListN.{length}
+use Rattle.woot.specs.State.{pad}
+use Rattle.codec.specs.declared.fields.Verdict.{Verdict}
+use Rattle.codec.specs.declared.fields.Verdict.the-variants.{Malformed, Above, Within}
+use Rattle.codec.specs.declared.fields.Numbers.{Numbers}
+use Rattle.codec.specs.Lines.{numerals, numbers}
+
+-- how many numbers a line can have
+abbrev pub slots : ℕ
+slots = 8
+
+-- each number is at most its limit
+abbrev pub within : List ℕ → List ℕ → Bool
+within [] ns = true
+within (l ∷ ls) [] = true
+within (l ∷ ls) (n ∷ ns) = leb n l && within ls ns
+
+-- bytes that end a field, and go on with as many numerals as given
+unfoldable pub goesOn : ℕ → List (List ℕ) → Bool
+goesOn count [] = false
+goesOn count (f ∷ fs) = eqb (length f) 0 && numerals count fs
+
+unfoldable pub holding : Verdict → List ℕ → Numbers
+holding v ns = record { verdict = v; values = pad slots 0 ns }
+
+-- the numbers where each is at most its limit; none where the layout lacks or one is above
+unfoldable pub numbersOf : List ℕ → List (List ℕ) → Numbers
+numbersOf limits fs =
+    cond (goesOn (length limits) fs)
+    (cond (within limits (numbers fs)) (holding Within (numbers fs)) (holding Above []))
+    (holding Malformed [])
