@@ -1,3 +1,4 @@
 pub mod Lines
 pub mod Numbers
 pub mod Reading
+pub mod Writing

@@ -1,54 +1,67 @@
+-- `codec::fields::line_length` meets its contract. The loop's invariant: with the columns that are left, the size is the line's.
+use mathlib.Core.Path.{_≡_, ap}
+use mathlib.Core.List.{List, []}
+use Prim.Native.Nat.{ℕ, _+_, _-_, _*_, _<_, _≤_}
+use native.Mathlib.Omega.{arith}
+use lib.ListN.{length, drop, getD, drop-of-length-le}
+use borrow.Author.Needs.{needs}
+use Rattle.decimal.specs.Numeral.{digits}
+use Rattle.decimal.proofs.Laws.{width-le}
+use Rattle.codec.specs.Lines.{columns}
+use Rattle.codec.specs.Numbers.{slots}
+use Rattle.codec.proofs.Writing.{columns-length}
 use Rattle.codec.proofs.fields.line_length.Statement.{statement}
 use Rattle.codec.proofs.fields.line_length.Tie as tie
-use Rattle.codec.proofs.fields.line_length.Reads as reads
-use Rattle.codec.proofs.fields.line_length.Lts as lts
-use Rattle.decimal.proofs.width.Reads as width-reads
 
 abbrev Inv-loop : tie.InvT-loop
-Inv-loop numbers size₀ i₀ size i = ?
+Inv-loop numbers size₀ i₀ size i =
+    (i ≤ length numbers) × (length numbers ≤ slots) × (size + length (columns (drop i numbers)) ≡ 2 + length (columns numbers))
+    × (size ≤ 2 + 21 * i)
 
 abbrev μ-loop : tie.MeasureT-loop
-μ-loop numbers size₀ i₀ size i = ?
+μ-loop numbers size₀ i₀ size i = length numbers - i
 
--- src/fields.rt:114:5
 loop-holds : tie.Need-loop-holds Inv-loop μ-loop
-loop-holds c = ?
+loop-holds c = omega arith
 
--- src/fields.rt:115:36
 mul-width : tie.Need-mul-width Inv-loop μ-loop
-mul-width c = ?
+mul-width c = omega arith
 
--- src/fields.rt:115:36
 shared-slice-read-width : tie.Need-shared-slice-read-width Inv-loop μ-loop
-shared-slice-read-width c = ?
+shared-slice-read-width c = omega arith
 
--- src/fields.rt:115:21
 width-requires : tie.Need-width-requires Inv-loop μ-loop
-width-requires c κs = ?
+width-requires c κs = search needs
 
--- src/fields.rt:115:17
+-- a number of 64 bits has few digits
+few : (c : tie.After-width Inv-loop μ-loop) → c .width .result ≤ 20
+few c =
+    let l = c .before .before .before .loop in
+    let n : ℕ = getD (c .before .before .before .before .before .args .numbers .now) (l .i) 0 in
+    omega (arith, c .width .ensures, width-le n (omega (arith, c .before .shared-slice-known2 .given (l .i))))
+
 add-size : tie.Need-add-size Inv-loop μ-loop
-add-size c = ?
+add-size c = omega (arith, few c)
 
--- src/fields.rt:115:9
 add-size-2 : tie.Need-add-size-2 Inv-loop μ-loop
-add-size-2 c = ?
+add-size-2 c = omega (arith, few c)
 
--- src/fields.rt:116:9
 add-i : tie.Need-add-i Inv-loop μ-loop
-add-i c = ?
+add-i c = omega arith
 
--- src/fields.rt:114:5
 loop-less : tie.Need-loop-less Inv-loop μ-loop
-loop-less c = ?
+loop-less c = omega arith
 
--- src/fields.rt:114:5
 loop-again : tie.Need-loop-again Inv-loop μ-loop
-loop-again c = ?
+loop-again c =
+    let l = c .before .before .before .loop in
+    omega (arith, few c, c .width .ensures, columns-length (c .before .before .before .before .before .args .numbers .now) (l .i) (omega arith))
 
--- src/fields.rt:108:1
 returns : tie.Need-returns Inv-loop μ-loop
-returns c = ?
+returns c =
+    let l = c .before .loop in
+    let none : drop (l .i) (c .before .before .before .args .numbers .now) ≡ [] = drop-of-length-le _ {i = l .i} (omega arith) in
+    omega (arith, ap (λ (ns : List ℕ). length (columns ns)) none)
 
 pub line-length-spec : {M : Type 1} → statement M
 line-length-spec =

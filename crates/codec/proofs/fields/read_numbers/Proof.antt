@@ -18,84 +18,64 @@ Inv-loop line from limits values₀ above₀ at₀ i₀ values above at i = Read
 abbrev μ-loop : tie.MeasureT-loop
 μ-loop line from limits values₀ above₀ at₀ i₀ values above at i = length limits - i
 
--- src/fields.rt:77:5
 loop-holds : tie.Need-loop-holds Inv-loop μ-loop
 loop-holds c = begun _ _ _ (c .before .before .pre)
 
--- src/fields.rt:79:13
 without-requires : tie.Need-without-requires Inv-loop μ-loop
 without-requires c κs = search needs
 
--- src/fields.rt:79:13
 returns : tie.Need-returns Inv-loop μ-loop
 returns c = c .without .ensures ∙ short (c .before .before .before .loop .inv) (c .before .before .loop-test .taken) (c .before .if1 .taken)
 
--- src/fields.rt:81:12
 shared-slice-read-if2 : tie.Need-shared-slice-read-if2 Inv-loop μ-loop
 shared-slice-read-if2 c = omega arith
 
--- src/fields.rt:82:13
 without-requires-2 : tie.Need-without-requires-2 Inv-loop μ-loop
 without-requires-2 c κs = search needs
 
--- src/fields.rt:82:13
 returns-2 : tie.Need-returns-2 Inv-loop μ-loop
 returns-2 c =
     c .without2 .ensures ∙ no-tab (c .before .before .before .before .before .loop .inv) (c .before .before .before .before .loop-test .taken) (c .before .before .before .if1 .left) (c .before .if2 .taken)
 
--- src/fields.rt:84:21
 add-start : tie.Need-add-start Inv-loop μ-loop
 add-start c = omega arith
 
--- src/fields.rt:85:9
 find-requires : tie.Need-find-requires Inv-loop μ-loop
 find-requires c κs = search needs
 
--- src/fields.rt:86:21
 mul-limit : tie.Need-mul-limit Inv-loop μ-loop
 mul-limit c = omega arith
 
--- src/fields.rt:86:21
 shared-slice-read-limit : tie.Need-shared-slice-read-limit Inv-loop μ-loop
 shared-slice-read-limit c = omega arith
 
--- src/fields.rt:86:21
 cast-limit : tie.Need-cast-limit Inv-loop μ-loop
 cast-limit c = omega (arith, c .shared-slice-known4 .given (c .before .before .before .before .before .before .loop .i))
 
--- src/fields.rt:87:35
 sub-read : tie.Need-sub-read Inv-loop μ-loop
 sub-read c = omega arith
 
--- src/fields.rt:87:35
 part-read-start : tie.Need-part-read-start Inv-loop μ-loop
 part-read-start c = omega arith
 
--- src/fields.rt:87:35
 part-read-end : tie.Need-part-read-end Inv-loop μ-loop
 part-read-end c = found-le tab _ _ _ (c .before .find .ensures) (omega arith)
 
--- src/fields.rt:87:53
 add-read : tie.Need-add-read Inv-loop μ-loop
 add-read c = omega (arith, c .before .shared-slice-known4 .given (c .before .before .before .before .before .before .before .loop .i))
 
--- src/fields.rt:87:13
 read-requires : tie.Need-read-requires Inv-loop μ-loop
 read-requires c κs = search needs
 
--- src/fields.rt:88:36
 enum-known-field : tie.Need-enum-known-field Inv-loop μ-loop
 enum-known-field c = search needs
 
--- src/fields.rt:89:28
 enum-told : tie.Need-enum-told Inv-loop μ-loop
 enum-told c = search needs
 
--- src/fields.rt:89:13
 without-requires-3 : tie.Need-without-requires-3 Inv-loop μ-loop
 without-requires-3 c κs = search needs
 
--- src/fields.rt:89:13
 returns-3 : tie.Need-returns-3 Inv-loop μ-loop
 returns-3 c =
     c .without3 .ensures
@@ -104,27 +84,21 @@ returns-3 c =
     _
     (sym (c .before .before .before .read .ensures) ∙ c .before .enum-told .given .1)
 
--- src/fields.rt:91:9
 exceeds-requires : tie.Need-exceeds-requires Inv-loop μ-loop
 exceeds-requires c κs = search needs
 
--- src/fields.rt:92:9
 mul-values : tie.Need-mul-values Inv-loop μ-loop
 mul-values c = omega arith
 
--- src/fields.rt:92:9
 array-write-values : tie.Need-array-write-values Inv-loop μ-loop
 array-write-values c = omega arith
 
--- src/fields.rt:93:9
 add-i : tie.Need-add-i Inv-loop μ-loop
 add-i c = omega arith
 
--- src/fields.rt:77:5
 loop-less : tie.Need-loop-less Inv-loop μ-loop
 loop-less c = omega arith
 
--- src/fields.rt:77:5
 loop-again : tie.Need-loop-again Inv-loop μ-loop
 loop-again c =
     next (c .before .before .before .before .before .before .before .before .before .before .before .before .loop .inv) (c .before .before .before .before .before .before .before .before .before .before .before .loop-test .taken) (c .before .before .before .before .before .before .before .before .before .before .if1 .left) (c .before .before .before .before .before .before .before .before .if2 .left)
@@ -133,24 +107,19 @@ loop-again c =
     (sym (c .before .before .before .before .read .ensures) ∙ c .before .before .field .given .1)
     (c .exceeds .ensures)
 
--- src/fields.rt:96:9
 without-requires-4 : tie.Need-without-requires-4 Inv-loop μ-loop
 without-requires-4 c κs = search needs
 
--- src/fields.rt:96:9
 returns-4 : tie.Need-returns-4 Inv-loop μ-loop
 returns-4 c = c .without4 .ensures ∙ too-long (c .before .before .before .loop .inv) (c .before .before .loop-test .left) (c .before .if3 .taken)
 
--- src/fields.rt:99:9
 without-requires-5 : tie.Need-without-requires-5 Inv-loop μ-loop
 without-requires-5 c κs = search needs
 
--- src/fields.rt:99:9
 returns-5 : tie.Need-returns-5 Inv-loop μ-loop
 returns-5 c =
     c .without5 .ensures ∙ above-limit (c .before .before .before .before .loop .inv) (c .before .before .before .loop-test .left) (c .before .before .if3 .left) (c .before .if4 .taken)
 
--- src/fields.rt:69:1
 returns-6 : tie.Need-returns-6 Inv-loop μ-loop
 returns-6 c = in-limits (c .before .before .before .loop .inv) (c .before .before .loop-test .left) (c .before .if3 .left) (c .if4 .left)
 

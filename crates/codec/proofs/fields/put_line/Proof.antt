@@ -1,0 +1,106 @@
+-- `codec::fields::put_line` meets its contract, by the invariant of `proofs/Writing.antt`.
+use mathlib.Core.Path.{_≡_, refl, sym, ap, _∙_}
+use Prim.Native.Nat.{ℕ, _+_, _-_, _<_, _≤_}
+use native.Mathlib.Omega.{arith}
+use lib.ListN.{length, getD}
+use borrow.Author.Needs.{needs}
+use borrow.Author.Tests.{not-true, not-false}
+use Rattle.output.proofs.Laws.{placed-short, past-short, has-room, lacks-room, length-placed}
+use Rattle.codec.specs.Lines.{columns, lineOf}
+use Rattle.codec.proofs.Writing.{line-length, Putting, begun, more, last, line-put}
+use Rattle.codec.proofs.fields.put_line.Statement.{statement}
+use Rattle.codec.proofs.fields.put_line.Tie as tie
+
+abbrev Inv-loop : tie.InvT-loop
+Inv-loop letter numbers out₀ at end₀ i₀ out end i = Putting numbers out₀ end₀ out end i
+
+abbrev μ-loop : tie.MeasureT-loop
+μ-loop letter numbers out₀ at end₀ i₀ out end i = length numbers - i
+
+line-length-requires : tie.Need-line-length-requires Inv-loop μ-loop
+line-length-requires c κs = search needs
+
+has-room-requires : tie.Need-has-room-requires Inv-loop μ-loop
+has-room-requires c κs = search needs
+
+returns : tie.Need-returns Inv-loop μ-loop
+returns c =
+    let a = c .before .before .before .before .before .args in
+    let size = line-length (a .letter) (a .numbers .now) in
+    let low = lacks-room _ _ _ (sym (c .before .has-room .ensures) ∙ not-true _ (c .if1 .taken)) in
+    let short : length (a .out .now) < a .at + length (lineOf (a .letter) (a .numbers .now)) = omega (arith, c .before .before .line-length .ensures) in
+    (sym (past-short _ _ _ short), sym (placed-short _ _ _ short))
+
+-- there is room for the line
+fits : (c : tie.Else1 Inv-loop μ-loop) → c .before .before .before .before .before .args .at + (2 + length (columns (c .before .before .before .before .before .args .numbers .now))) ≤ length (c .before .before .before .before .before .args .out .now)
+fits c =
+    omega (arith, has-room _ _ _ (sym (c .before .has-room .ensures) ∙ not-false _ (c .if1 .left)), c .before .before .line-length .ensures)
+
+put-requires : tie.Need-put-requires Inv-loop μ-loop
+put-requires c κs = search needs
+
+loop-holds : tie.Need-loop-holds Inv-loop μ-loop
+loop-holds c =
+    let a = c .before .before .before .before .before .before .before .before .before .args in
+    let p = c .before .before .put .ensures in
+    begun (a .letter) (a .numbers .now) (a .out .now) (a .at) (fits (c .before .before .before .before)) (p .0) (p .1)
+
+put-requires-2 : tie.Need-put-requires-2 Inv-loop μ-loop
+put-requires-2 c κs = search needs
+
+mul-write : tie.Need-mul-write Inv-loop μ-loop
+mul-write c = omega arith
+
+shared-slice-read-write : tie.Need-shared-slice-read-write Inv-loop μ-loop
+shared-slice-read-write c = omega arith
+
+write-requires : tie.Need-write-requires Inv-loop μ-loop
+write-requires c κs = search needs
+
+add-i : tie.Need-add-i Inv-loop μ-loop
+add-i c = omega arith
+
+loop-less : tie.Need-loop-less Inv-loop μ-loop
+loop-less c = omega arith
+
+loop-again : tie.Need-loop-again Inv-loop μ-loop
+loop-again c =
+    let p = c .before .before .before .before .before .before .before .put2 .ensures in
+    let q = c .before .before .write .ensures in
+    more (c .before .before .before .before .before .before .before .before .before .before .loop .inv) (c .before .before .before .before .before .before .before .before .before .loop-test .taken) (p .0) (p .1) (q .0) (q .1)
+
+put-requires-3 : tie.Need-put-requires-3 Inv-loop μ-loop
+put-requires-3 c κs = search needs
+
+returns-2 : tie.Need-returns-2 Inv-loop μ-loop
+returns-2 c =
+    let a = c .before .before .before .before .before .before .before .before .before .before .before .before .before .before .before .args in
+    let p = c .before .before .before .before .before .before .before .before .put .ensures in
+    let q = c .before .before .put3 .ensures in
+    line-put (a .letter) (a .numbers .now) (a .out .now) (a .at) (fits (c .before .before .before .before .before .before .before .before .before .before)) (p .0) (p .1)
+    (last (c .before .before .before .before .before .loop .inv) (c .before .before .before .before .loop-test .left) (q .0) (q .1))
+
+same-length : tie.Need-same-length Inv-loop μ-loop
+same-length c = ap length (returns-2 c .1) ∙ length-placed _ _ _
+
+pub put-line-spec : {M : Type 1} → statement M
+put-line-spec =
+    tie.close
+    (tie.spec
+    Inv-loop
+    μ-loop
+    line-length-requires
+    has-room-requires
+    returns
+    put-requires
+    loop-holds
+    put-requires-2
+    mul-write
+    shared-slice-read-write
+    write-requires
+    add-i
+    loop-less
+    loop-again
+    put-requires-3
+    same-length
+    returns-2)
