@@ -2,11 +2,12 @@
 use mathlib.Core.Path.{_≡_, refl, ap}
 use mathlib.Core.List.{List, [], _∷_, _++_}
 use mathlib.Core.Bool.{Bool, true, false}
-use Prim.Native.Nat.{ℕ, _+_, _-_, _≤_}
+use Prim.Native.Nat.{ℕ, suc, _+_, _-_, _<_, _≤_}
 use native.Mathlib.Omega.{arith}
 use lib.Dec.{eqb}
-use lib.ListN.{length, take, drop, length-drop}
+use lib.ListN.{length, take, drop, length-drop, length-append}
 use borrow.Author.Tests.{eq-eqb, eqb-true}
+use Rattle.woot.proofs.Tests.{passes, fails}
 use Rattle.codec.specs.Lines.{tab, has, before, after, onFirst, fields}
 
 -- ---- at the first byte b
@@ -54,6 +55,23 @@ module _ (b : ℕ) where
       go : (t : Bool) → eqb x b ≡ t → (has b s ≡ false → before b s ≡ s) → before b (x ∷ s) ≡ x ∷ s
       go true e rest = cc
       go false e rest = rw e (ap (λ (l : List ℕ). x ∷ l) (rest (rw e at h)))
+
+  -- it is there exactly where the bytes before it are not all
+  pub is-there : (s : List ℕ) → length (before b s) < length s → has b s ≡ true
+  is-there s h = passes (has b s) (λ e. omega (arith, ap length (whole s e)))
+
+  pub is-absent : (s : List ℕ) → length s ≤ length (before b s) → has b s ≡ false
+  is-absent s h =
+      fails (has b s) (λ e. omega (arith, ap length (split s e), length-append (before b s) (b ∷ after b s)))
+
+  -- the bytes after it, by the number of those before it
+  pub drop-before : (s : List ℕ) → drop (suc (length (before b s))) s ≡ after b s
+  drop-before [] = refl
+  drop-before (x ∷ s) = go (eqb x b) refl (drop-before s)
+    where
+      go : (t : Bool) → eqb x b ≡ t → drop (suc (length (before b s))) s ≡ after b s → drop (suc (length (before b (x ∷ s)))) (x ∷ s) ≡ after b (x ∷ s)
+      go true e rest = rw e
+      go false e rest = rw e rest
 
   -- bytes in front among which it is not
   pub before-append : (p s : List ℕ) → has b p ≡ false → before b (p ++ b ∷ s) ≡ p

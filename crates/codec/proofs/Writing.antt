@@ -99,7 +99,6 @@ module _ (letter : ℕ) (ns out₀ : List ℕ) (at : ℕ) {out₁ : List ℕ} {e
       (run-on {a = letter ∷ []} (record { offset = start; bytes = p }) (columns ns ++ (lineFeed ∷ [])) (omega arith) (w .0) (w .1))
 
 module _ {ns out₀ : List ℕ} {at : ℕ} where
-
   module _ {out : List ℕ} {end i : ℕ} (g : Putting ns out₀ at out end i) where
     pub more : {out₁ out₂ : List ℕ} {end₁ end₂ : ℕ} → i < length ns
         → end₁ ≡ past out end (tab ∷ []) → out₁ ≡ placed out end (tab ∷ [])

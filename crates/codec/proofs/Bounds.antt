@@ -1,0 +1,107 @@
+-- What refusal 2 lets pass is within the limits of the fields: a number above its limit is no part of an operation in range.
+use mathlib.Core.Path.{_≡_, refl, sym, ap}
+use mathlib.Core.List.{List, []}
+use mathlib.Core.Logic.{_⊎_, inl, inr}
+use mathlib.Core.Bool.{Bool, true, false, _&&_, _||_, not}
+use Prim.Native.Nat.{ℕ, _≤_}
+use native.Mathlib.Omega.{arith}
+use lib.Dec.{leb}
+use lib.ListN.{drop, getD}
+use borrow.Author.Tests.{leb-true}
+use Rattle.woot.specs.declared.Identifier.{Identifier}
+use Rattle.woot.specs.declared.Insert.{Insert}
+use Rattle.woot.specs.declared.Delete.{Delete}
+use Rattle.woot.specs.declared.Operation.the-variants.{Insert as insert, Delete as delete}
+use Rattle.woot.specs.Limits.{lastSite, lastClock, lastCodePoint, firstSurrogate, lastSurrogate}
+use Rattle.woot.specs.Identifiers.{begin, end, same}
+use Rattle.woot.specs.Ranges.{within as inside, siteNumber, codePoint, characterId, previousId, nextId, insertInRange, deleteInRange, inRange}
+use Rattle.woot.proofs.Tests.{and-left, and-right, or-cases}
+use Rattle.woot.proofs.Identifiers.{same-eq}
+use Rattle.codec.specs.Numbers.{within}
+use Rattle.codec.specs.Operations.{insertLimits, deleteLimits, identifierAt, insertOf, deleteOf}
+use Rattle.codec.proofs.Numbers.{within-from}
+
+upper : (low high n : ℕ) → inside low high n ≡ true → n ≤ high
+unfolding inside
+upper low high n e = leb-true n high (and-right (leb low n) (leb n high) e)
+
+site-bound : (n : ℕ) → siteNumber n ≡ true → n ≤ lastSite
+unfolding siteNumber
+site-bound n e = upper 1 lastSite n e
+
+code-point-bound : (n : ℕ) → codePoint n ≡ true → n ≤ lastCodePoint
+unfolding codePoint
+code-point-bound n e = upper 0 lastCodePoint n (and-left (inside 0 lastCodePoint n) (not (inside firstSurrogate lastSurrogate n)) e)
+
+-- an identifier whose numbers are at most the limits
+pub record Bounded (x : Identifier) : Type 0 where
+  pub site-le : x .site ≤ lastSite
+  pub clock-le : x .clock ≤ lastClock
+
+character-bounds : (x : Identifier) → characterId x ≡ true → Bounded x
+unfolding characterId
+character-bounds x e = record {
+  site-le = site-bound (x .site) (and-left (siteNumber (x .site)) (inside 1 lastClock (x .clock)) e);
+  clock-le = upper 1 lastClock (x .clock) (and-right (siteNumber (x .site)) (inside 1 lastClock (x .clock)) e);
+}
+
+-- a mark or a character
+neighbour-bounds : (x mark : Identifier) → Bounded mark → same x mark || characterId x ≡ true → Bounded x
+neighbour-bounds x mark b e = go (or-cases (same x mark) (characterId x) e)
+  where
+    go : (same x mark ≡ true) ⊎ (characterId x ≡ true) → Bounded x
+    go (inl p) = rw (same-eq x mark p) b
+    go (inr p) = character-bounds x p
+
+-- the numbers of an operation in range
+pub record InsertBounds (i : Insert) : Type 0 where
+  pub id-bounds : Bounded (i .id)
+  pub code-bound : i .«code_point» ≤ lastCodePoint
+  pub previous-bounds : Bounded (i .previous)
+  pub next-bounds : Bounded (i .next)
+
+pub record DeleteBounds (d : Delete) : Type 0 where
+  pub sender-bound : d .sender ≤ lastSite
+  pub target-bounds : Bounded (d .target)
+
+pub insert-bounds : (i : Insert) → insertInRange i ≡ true → InsertBounds i
+unfolding insertInRange previousId nextId
+insert-bounds i e =
+    let p = characterId (i .id) in
+    let q = codePoint (i .«code_point») in
+    let r = previousId (i .previous) in
+    let s = nextId (i .next) in
+    let four : p && q && r && s ≡ true = and-left (p && q && r && s) _ (and-left (p && q && r && s && not (same (i .id) (i .previous))) _ e) in
+    let three : p && q && r ≡ true = and-left (p && q && r) s four in
+    record {
+      id-bounds = character-bounds (i .id) (and-left p q (and-left (p && q) r three));
+      code-bound = code-point-bound (i .«code_point») (and-right p q (and-left (p && q) r three));
+      previous-bounds = neighbour-bounds (i .previous) begin (record { site-le = omega arith; clock-le = omega arith }) (and-right (p && q) r three);
+      next-bounds = neighbour-bounds (i .next) end (record { site-le = omega arith; clock-le = omega arith }) (and-right (p && q && r) s four);
+    }
+
+pub delete-bounds : (d : Delete) → deleteInRange d ≡ true → DeleteBounds d
+unfolding deleteInRange
+delete-bounds d e = record {
+  sender-bound = site-bound (d .sender) (and-left (siteNumber (d .sender)) (characterId (d .target)) e);
+  target-bounds = character-bounds (d .target) (and-right (siteNumber (d .sender)) (characterId (d .target)) e);
+}
+
+-- so numbers that say an operation in range are within the limits of its line
+pub insert-within : (ns : List ℕ) → inRange (insert (insertOf ns)) ≡ true → within insertLimits ns ≡ true
+unfolding inRange insertOf identifierAt
+insert-within ns e =
+    let b = insert-bounds (insertOf ns) e in
+    within-from 0 insertLimits ns (b .id-bounds .site-le)
+    (within-from 1 insertLimits ns (b .id-bounds .clock-le)
+    (within-from 2 insertLimits ns (b .code-bound)
+    (within-from 3 insertLimits ns (b .previous-bounds .site-le)
+    (within-from 4 insertLimits ns (b .previous-bounds .clock-le)
+    (within-from 5 insertLimits ns (b .next-bounds .site-le) (within-from 6 insertLimits ns (b .next-bounds .clock-le) refl))))))
+
+pub delete-within : (ns : List ℕ) → inRange (delete (deleteOf ns)) ≡ true → within deleteLimits ns ≡ true
+unfolding inRange deleteOf identifierAt
+delete-within ns e =
+    let b = delete-bounds (deleteOf ns) e in
+    within-from 0 deleteLimits ns (b .sender-bound)
+    (within-from 1 deleteLimits ns (b .target-bounds .site-le) (within-from 2 deleteLimits ns (b .target-bounds .clock-le) refl))

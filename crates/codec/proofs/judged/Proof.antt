@@ -1,0 +1,18 @@
+-- `codec::judged` meets its contract: the answer goes by the range alone.
+use mathlib.Core.Path.{sym, _∙_}
+use borrow.Author.Needs.{needs}
+use Rattle.codec.proofs.Judging.{read-range, read-operation}
+use Rattle.codec.proofs.judged.Statement.{statement}
+use Rattle.codec.proofs.judged.Tie as tie
+
+in-range-requires : tie.Need-in-range-requires
+in-range-requires c κs = search needs
+
+returns : tie.Need-returns
+returns c = sym (read-operation _ (sym (c .before .in-range .ensures) ∙ c .if1 .taken))
+
+returns-2 : tie.Need-returns-2
+returns-2 c = sym (read-range _ (sym (c .before .in-range .ensures) ∙ c .if1 .left))
+
+pub judged-spec : {M : Type 1} → statement M
+judged-spec = tie.close (tie.spec in-range-requires returns returns-2)

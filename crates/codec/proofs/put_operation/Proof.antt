@@ -1,0 +1,71 @@
+-- `codec::put_operation` meets its contract: the arm knows the variant, and the definition goes by it.
+use mathlib.Core.Path.{_≡_, sym, ap, _∙_}
+use mathlib.Core.List.{List}
+use Prim.Native.Nat.{ℕ}
+use lib.ListN.{length}
+use borrow.Author.Needs.{needs}
+use Rattle.output.specs.Output.{placed, past}
+use Rattle.output.proofs.Laws.{length-placed}
+use Rattle.codec.specs.Lines.{lineOf}
+use Rattle.codec.specs.Operations.{insertLetter, deleteLetter, operationLine}
+use Rattle.codec.proofs.put_operation.Statement.{statement}
+use Rattle.codec.proofs.put_operation.Tie as tie
+
+enum-known-o : tie.Need-enum-known-o
+enum-known-o c = search needs
+
+insert-numbers-requires : tie.Need-insert-numbers-requires
+insert-numbers-requires c κs = search needs
+
+slice-aggregate-put-line : tie.Need-slice-aggregate-put-line
+slice-aggregate-put-line c = search needs
+
+put-line-requires : tie.Need-put-line-requires
+put-line-requires c κs = search needs
+
+enum-known-o-2 : tie.Need-enum-known-o-2
+enum-known-o-2 c = search needs
+
+delete-numbers-requires : tie.Need-delete-numbers-requires
+delete-numbers-requires c κs = search needs
+
+slice-aggregate-put-line-2 : tie.Need-slice-aggregate-put-line-2
+slice-aggregate-put-line-2 c = search needs
+
+put-line-requires-2 : tie.Need-put-line-requires-2
+put-line-requires-2 c κs = search needs
+
+same-length : tie.Need-same-length
+same-length c = search needs
+
+returns : tie.Need-returns
+unfolding operationLine
+returns c = let p = c .before .before .put-line .ensures in
+    let e = ap (lineOf insertLetter) (c .before .before .before .before .before .insert-numbers .ensures) ∙ sym (ap operationLine (c .before .before .before .before .before .before .before .o .given .1)) in
+    (p .0 ∙ ap (past _ _) e, p .1 ∙ ap (placed _ _) e)
+
+same-length-2 : tie.Need-same-length-2
+same-length-2 c = search needs
+
+returns-2 : tie.Need-returns-2
+unfolding operationLine
+returns-2 c = let p = c .before .before .put-line2 .ensures in
+    let e = ap (lineOf deleteLetter) (c .before .before .before .before .before .delete-numbers .ensures) ∙ sym (ap operationLine (c .before .before .before .before .before .before .before .o2 .given .1)) in
+    (p .0 ∙ ap (past _ _) e, p .1 ∙ ap (placed _ _) e)
+
+pub put-operation-spec : {M : Type 1} → statement M
+put-operation-spec =
+    tie.close
+    (tie.spec
+    enum-known-o
+    insert-numbers-requires
+    slice-aggregate-put-line
+    put-line-requires
+    enum-known-o-2
+    delete-numbers-requires
+    slice-aggregate-put-line-2
+    put-line-requires-2
+    same-length
+    returns
+    same-length-2
+    returns-2)

@@ -1,0 +1,45 @@
+-- `codec::write_operation` meets its contract: an offset that did not move is a line that had no room.
+use mathlib.Core.Path.{_≡_, sym, ap, _∙_}
+use borrow.Author.Needs.{needs}
+use borrow.Author.Tests.{not-true, not-false}
+use Rattle.codec.specs.declared.Written.the-variants.{Length}
+use Rattle.codec.proofs.Answers.{not-in-range, out-after, too-short, done}
+use Rattle.codec.proofs.write_operation.Statement.{statement}
+use Rattle.codec.proofs.write_operation.Tie as tie
+
+in-range-requires : tie.Need-in-range-requires
+in-range-requires c κs = search needs
+
+returns : tie.Need-returns
+returns c = not-in-range _ _ (sym (c .before .in-range .ensures) ∙ not-true _ (c .if1 .taken))
+
+put-operation-requires : tie.Need-put-operation-requires
+put-operation-requires c κs = search needs
+
+same-length : tie.Need-same-length
+same-length c = search needs
+
+returns-2 : tie.Need-returns-2
+returns-2 c = let p = c .before .before .before .put-operation .ensures in
+    let e = sym (c .before .before .before .before .before .before .in-range .ensures) ∙ not-false _ (c .before .before .before .before .before .if1 .left) in
+    (too-short _ _ e (sym (p .0) ∙ c .if2 .taken), p .1 ∙ out-after _ _ e)
+
+same-length-2 : tie.Need-same-length-2
+same-length-2 c = search needs
+
+returns-3 : tie.Need-returns-3
+returns-3 c = let p = c .before .before .before .put-operation .ensures in
+    let e = sym (c .before .before .before .before .before .before .in-range .ensures) ∙ not-false _ (c .before .before .before .before .before .if1 .left) in
+    (ap Length (p .0) ∙ done _ _ e (λ z. c .if2 .left (p .0 ∙ z)), p .1 ∙ out-after _ _ e)
+
+pub write-operation-spec : {M : Type 1} → statement M
+write-operation-spec =
+    tie.close
+    (tie.spec
+    in-range-requires
+    returns
+    put-operation-requires
+    same-length
+    returns-2
+    same-length-2
+    returns-3)
