@@ -19,7 +19,7 @@ use Rattle.codec.specs.declared.Written.{Written}
 use Rattle.codec.specs.declared.Written.the-variants.{Length, Refused as writtenRefused}
 use Rattle.codec.specs.Lines.{lineFeed, before, after, ended, firstLine, rest, columns, lineOf}
 use Rattle.codec.specs.Operations.{insertLetter, deleteLetter, insertNumbers, deleteNumbers, operationLine, said}
-use Rattle.codec.specs.Calls.{decided, laidOut, lineLaidOut, readLine, readOperation, writeChecks, written, outAfter}
+use Rattle.codec.specs.Calls.{decided, laidOut, lineLaidOut, saidBy, readLine, readOperation, writeChecks, written, outAfter}
 use Rattle.codec.proofs.Lines.{take-before, is-there, is-absent, drop-before}
 use Rattle.codec.proofs.Writing.{line-length}
 use Rattle.codec.proofs.Judging.{read-layout}
@@ -31,11 +31,11 @@ module _ (s : List ℕ) (end : ℕ) (e : end ≡ 0 + length (before lineFeed s))
   at-end = omega arith
 
   pub unended : length s ≤ end → readRefused Layout ≡ readOperation s
-  unfolding readOperation laidOut ended
+  unfolding readOperation laidOut saidBy ended
   unended h = rw (is-absent lineFeed s (omega (arith, at-end))) (sym (read-layout (said _)))
 
   pub first-line : end < length s → readLine (take end s) ≡ readOperation s
-  unfolding readOperation readLine laidOut ended firstLine
+  unfolding readOperation saidBy readLine laidOut ended firstLine
   first-line h = rw (at-end, take-before lineFeed s, is-there lineFeed s (omega (arith, at-end)))
 
   pub rest-none : length s ≤ end → take (length s - end) (drop end s) ≡ rest s

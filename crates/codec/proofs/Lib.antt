@@ -6,3 +6,7 @@ pub mod Bounds
 pub mod Judging
 pub mod Letters
 pub mod Answers
+pub mod Spelling
+pub mod Trips
+pub mod Sizes
+pub mod Refusals

@@ -7,7 +7,7 @@ use native.Mathlib.Omega.{arith}
 use lib.Dec.{eqb}
 use lib.ListN.{length, take, drop, length-drop, length-append}
 use borrow.Author.Tests.{eq-eqb, eqb-true}
-use Rattle.woot.proofs.Tests.{passes, fails}
+use Rattle.woot.proofs.Tests.{passes, fails, or-right}
 use Rattle.codec.specs.Lines.{tab, has, before, after, onFirst, fields}
 
 -- ---- at the first byte b
@@ -81,6 +81,18 @@ module _ (b : ℕ) where
       go : (t : Bool) → eqb x b ≡ t → (has b p ≡ false → before b (p ++ b ∷ s) ≡ p) → before b (x ∷ p ++ b ∷ s) ≡ x ∷ p
       go true e rest = cc
       go false e rest = rw e (ap (λ (l : List ℕ). x ∷ l) (rest (rw e at h)))
+
+  pub after-append : (p s : List ℕ) → has b p ≡ false → after b (p ++ b ∷ s) ≡ s
+  after-append [] s h = rw (eq-eqb b b refl)
+  after-append (x ∷ p) s h = go (eqb x b) refl (after-append p s)
+    where
+      go : (t : Bool) → eqb x b ≡ t → (has b p ≡ false → after b (p ++ b ∷ s) ≡ s) → after b (x ∷ p ++ b ∷ s) ≡ s
+      go true e rest = cc
+      go false e rest = rw e (rest (rw e at h))
+
+  pub has-append-seam : (p s : List ℕ) → has b (p ++ b ∷ s) ≡ true
+  has-append-seam [] s = rw (eq-eqb b b refl)
+  has-append-seam (x ∷ p) s = or-right (eqb x b) (has b (p ++ b ∷ s)) (has-append-seam p s)
 
 -- ---- fields
 

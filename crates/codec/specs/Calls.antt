@@ -45,9 +45,13 @@ readAs laid o = decided (first (readChecks laid o)) (readsAs o)
 unfoldable pub readLine : List ℕ → Read
 readLine line = readAs (lineLaidOut line) (said (fields line))
 
+-- the operation that the first line of the bytes says
+unfoldable pub saidBy : List ℕ → Operation
+saidBy s = said (fields (firstLine s))
+
 -- what the first line of the bytes is read as
 unfoldable pub readOperation : List ℕ → Read
-readOperation s = readAs (laidOut s) (said (fields (firstLine s)))
+readOperation s = readAs (laidOut s) (saidBy s)
 
 -- the refusal's number, or 0
 unfoldable pub readNumber : Read → ℕ

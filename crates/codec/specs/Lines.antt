@@ -1,10 +1,10 @@
 -- Lines and their fields. (Document 01, "Lines": fields parted by one tab, ended by one line feed.)
 use Prim.Native.Nat.{ℕ}
 use mathlib.Core.List.{List, [], _∷_, _++_, map}
-use mathlib.Core.Bool.{Bool, true, false, _&&_, _||_, cond}
+use mathlib.Core.Bool.{Bool, false, _&&_, cond}
 use lib.Dec.{eqb}
 use lib.ListN.{length, getD}
-use Rattle.woot.specs.Lists.{every}
+use Rattle.woot.specs.Lists.{any, every}
 use Rattle.decimal.specs.Numeral.{isNumeral, valueOf, digits}
 
 -- "one tab (byte 9)"
@@ -17,8 +17,7 @@ lineFeed = 10
 
 -- whether a byte b is there
 abbrev pub has : ℕ → List ℕ → Bool
-has b [] = false
-has b (x ∷ xs) = eqb x b || has b xs
+has b s = any (λ x. eqb x b) s
 
 -- the bytes before the first b, or all of them
 abbrev pub before : ℕ → List ℕ → List ℕ

@@ -1,0 +1,89 @@
+-- The promises about operation lines, each proved in proofs/ under its name in small letters.
+use Prim.Native.Nat.{ℕ, suc, _≤_, _<_}
+use mathlib.Core.Path.{_≡_}
+use mathlib.Core.Logic.{_↔_}
+use mathlib.Core.Bool.{true, false}
+use mathlib.Core.List.{List, _++_}
+use lib.ListN.{length, getD}
+use Rattle.woot.specs.declared.Insert.{Insert}
+use Rattle.woot.specs.declared.Delete.{Delete}
+use Rattle.woot.specs.declared.Operation.{Operation}
+use Rattle.woot.specs.declared.Operation.the-variants.{Insert as insert, Delete as delete}
+use Rattle.woot.specs.declared.Refusal.{Refusal}
+use Rattle.woot.specs.Answers.{Reported}
+use Rattle.woot.specs.Ranges.{inRange}
+use Rattle.codec.specs.declared.Read.the-variants.{Operation as readsAs, Refused as readRefused}
+use Rattle.codec.specs.declared.Written.the-variants.{Refused as writtenRefused}
+use Rattle.codec.specs.Lines.{lineFeed, rest}
+use Rattle.codec.specs.Operations.{operationLine}
+use Rattle.codec.specs.Calls.{laidOut, saidBy, readChecks, readAs, readOperation, readNumber, writeChecks, written, outAfter, writtenNumber}
+
+-- ---- round trips
+
+-- the line of any operation, its numbers in range or not, has the layout and says it, whatever bytes follow
+abbrev pub LineSays : Type 0
+LineSays = (o : Operation) (bytes : List ℕ) → readOperation (operationLine o ++ bytes) ≡ readAs true o
+
+-- so what is written is read as it was, and the bytes that follow are the rest
+abbrev pub WrittenReadsBack : Type 0
+WrittenReadsBack =
+    (o : Operation) → inRange o ≡ true → (bytes : List ℕ) →
+    (readOperation (operationLine o ++ bytes) ≡ readsAs o) × (rest (operationLine o ++ bytes) ≡ bytes)
+
+-- and what is read was written so: the first line with its line feed is the operation's
+abbrev pub ReadWritesBack : Type 0
+ReadWritesBack = (s : List ℕ) (o : Operation) → readOperation s ≡ readsAs o → s ≡ operationLine o ++ rest s
+
+-- ---- sizes
+
+abbrev pub longestInsert : Operation
+longestInsert =
+    insert (record {
+      id = record { site = 16; clock = 65535 };
+      «code_point» = 1114111;
+      previous = record { site = 16; clock = 65534 };
+      next = record { site = 16; clock = 65533 };
+    })
+
+abbrev pub longestDelete : Operation
+longestDelete = delete (record { sender = 16; target = record { site = 16; clock = 65535 } })
+
+-- "at most 37 bytes", "at most 14 bytes"
+abbrev pub LineLengths : Type 0
+LineLengths =
+    ((i : Insert) → inRange (insert i) ≡ true → length (operationLine (insert i)) ≤ 37)
+    × ((d : Delete) → inRange (delete d) ≡ true → length (operationLine (delete d)) ≤ 14)
+
+-- and some have that many: `I 16 65535 1114111 16 65534 16 65533` and `D 16 16 65535`
+abbrev pub LongestLines : Type 0
+LongestLines =
+    ((inRange longestInsert ≡ true) × (length (operationLine longestInsert) ≡ 37))
+    × ((inRange longestDelete ≡ true) × (length (operationLine longestDelete) ≡ 14))
+
+-- each byte is a byte, and the last alone is a line feed
+abbrev pub LineBytes : Type 0
+LineBytes =
+    (o : Operation) (k : ℕ) → k < length (operationLine o) →
+    (getD (operationLine o) k 0 < 256) × ((getD (operationLine o) k 0 ≡ lineFeed) ↔ (suc k ≡ length (operationLine o)))
+
+-- ---- refusals: any bytes, any operation, any slice
+
+-- the reader answers refusal r exactly when its condition holds and none before it
+abbrev pub ReadRefuses : Type 0
+ReadRefuses =
+    (s : List ℕ) (r : Refusal) → (readOperation s ≡ readRefused r) ↔ Reported (readRefused r) (readChecks (laidOut s) (saidBy s))
+
+-- by number: 1 where the layout lacks, 2 where it does not and the operation is out of range, else the operation
+abbrev pub ReadNumbers : Type 0
+ReadNumbers =
+    (s : List ℕ) →
+    ((readNumber (readOperation s) ≡ 1) ↔ (laidOut s ≡ false))
+    × ((readNumber (readOperation s) ≡ 2) ↔ ((laidOut s ≡ true) × (inRange (saidBy s) ≡ false)))
+    × ((readOperation s ≡ readsAs (saidBy s)) ↔ ((laidOut s ≡ true) × (inRange (saidBy s) ≡ true)))
+
+-- the writer answers refusal r exactly when its condition holds and none before it, and changes no byte then
+abbrev pub WriteRefuses : Type 0
+WriteRefuses =
+    (o : Operation) (out : List ℕ) (r : Refusal) →
+    ((written o out ≡ writtenRefused r) ↔ Reported (writtenRefused r) (writeChecks o out))
+    × (written o out ≡ writtenRefused r → outAfter o out ≡ out)
