@@ -10,8 +10,8 @@ use Rattle.woot.specs.declared.Operation.the-variants.{Insert as insert, Delete
 use Rattle.woot.specs.declared.Refusal.the-variants.{Layout, Range}
 use Rattle.woot.specs.State.{pad}
 use Rattle.woot.specs.Ranges.{inRange}
-use Rattle.woot.proofs.Tests.{fails, clash}
-use Rattle.woot.proofs.Identifiers.{identifier-path}
+use Rattle.convergence.proofs.Tests.{fails, clash}
+use Rattle.convergence.proofs.Identifiers.{identifier-path}
 use Rattle.codec.specs.declared.Read.{Read}
 use Rattle.codec.specs.declared.Read.the-variants.{Operation as readsAs, Refused as readRefused}
 use Rattle.codec.specs.declared.fields.Verdict.{Verdict}

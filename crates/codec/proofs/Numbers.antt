@@ -10,7 +10,7 @@ use lib.Seq.{append-snoc, set-at}
 use borrow.Author.Tests.{ne-eqb, eq-eqb, le-leb, lt-leb, lt-ltb, le-ltb, leb-true, leb-false}
 use Rattle.woot.specs.Lists.{every}
 use Rattle.woot.specs.State.{pad}
-use Rattle.woot.proofs.Tests.{and-left, and-right}
+use Rattle.convergence.proofs.Tests.{and-left, and-right}
 use Rattle.decimal.specs.Numeral.{isNumeral, valueOf}
 use Rattle.codec.specs.Lines.{tab, before, onFirst, fields, numerals, numbers}
 use Rattle.codec.specs.Numbers.{within, goesOn}

@@ -16,8 +16,8 @@ use Rattle.woot.specs.declared.Refusal.{Refusal}
 use Rattle.woot.specs.declared.Refusal.the-variants.{Layout, Range, Output}
 use Rattle.woot.specs.Answers.{Check, first, Reported, number}
 use Rattle.woot.specs.Ranges.{inRange}
-use Rattle.woot.proofs.Tests.{either, clash}
-use Rattle.woot.proofs.Refusals.{first-reported, reported-first}
+use Rattle.convergence.proofs.Tests.{either, clash}
+use Rattle.convergence.proofs.Refusals.{first-reported, reported-first}
 use Rattle.codec.specs.declared.Read.{Read}
 use Rattle.codec.specs.declared.Read.the-variants.{Operation as readsAs, Refused as readRefused}
 use Rattle.codec.specs.declared.Written.{Written}

@@ -16,8 +16,8 @@ use Rattle.woot.specs.declared.Operation.the-variants.{Insert as insert, Delete
 use Rattle.woot.specs.Lists.{every}
 use Rattle.woot.specs.Identifiers.{same}
 use Rattle.woot.specs.Ranges.{inRange, insertInRange, deleteInRange, characterId, previousId, nextId, siteNumber, codePoint, within as inside}
-use Rattle.woot.proofs.Tests.{clash, and-left, and-right, and-intro, or-left, or-false-left, or-false-right, either}
-use Rattle.woot.proofs.Members.{every-append}
+use Rattle.convergence.proofs.Tests.{clash, and-left, and-right, and-intro, or-left, or-false-left, or-false-right, either}
+use Rattle.convergence.proofs.Members.{every-append}
 use Rattle.decimal.specs.Numeral.{isDigit, allDigits, digitsIn, digits}
 use Rattle.decimal.proofs.Laws.{width-monotone, digit-range, all-digits}
 use Rattle.codec.specs.Lines.{tab, lineFeed, has, columns, lineOf}
@@ -35,12 +35,13 @@ columns-le : (ls ns : List ℕ) → length ns ≤ length ls → within ls ns ≡
 columns-le ls [] h e = omega arith
 columns-le [] (n ∷ ns) h e = absurd (omega arith)
 columns-le (l ∷ ls) (n ∷ ns) h e =
-    omega
-    (arith,
-    columns-le ls ns (omega arith) (and-right (leb n l) (within ls ns) e),
-    width-monotone n l (leb-true n l (and-left (leb n l) (within ls ns) e)),
-    length-append (digits n) (columns ns),
-    length-append (digits l) (columns ls))
+    omega (
+      arith,
+      columns-le ls ns (omega arith) (and-right (leb n l) (within ls ns) e),
+      width-monotone n l (leb-true n l (and-left (leb n l) (within ls ns) e)),
+      length-append (digits n) (columns ns),
+      length-append (digits l) (columns ls),
+    )
 
 line-le : (letter : ℕ) (ls ns : List ℕ) → length ns ≤ length ls → within ls ns ≡ true → length (lineOf letter ns) ≤ 2 + length (columns ls)
 line-le letter ls ns h e = omega (arith, line-length letter ns, columns-le ls ns h e)

@@ -9,8 +9,8 @@ use lib.Dec.{eqb}
 use lib.ListN.{length, drop, getD, length-map}
 use borrow.Author.Tests.{eqb-true, eq-eqb, ne-eqb}
 use Rattle.woot.specs.Lists.{every}
-use Rattle.woot.proofs.Tests.{and-left, and-right, and-intro, or-false}
-use Rattle.woot.proofs.Members.{any-append}
+use Rattle.convergence.proofs.Tests.{and-left, and-right, and-intro, or-false}
+use Rattle.convergence.proofs.Members.{any-append}
 use Rattle.decimal.specs.Numeral.{isDigit, allDigits, isNumeral, valueOf, digits}
 use Rattle.decimal.proofs.Laws.{digit-range, all-digits, digits-are-numeral, digits-read-back, numeral-writes-back}
 use Rattle.codec.specs.Lines.{tab, lineFeed, has, before, onFirst, fields, isLetter, numerals, hasLayout, numbers, columns}

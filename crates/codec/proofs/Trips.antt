@@ -14,7 +14,7 @@ use Rattle.woot.specs.declared.Operation.{Operation}
 use Rattle.woot.specs.declared.Operation.the-variants.{Insert as insert, Delete as delete}
 use Rattle.woot.specs.declared.Refusal.the-variants.{Layout, Range}
 use Rattle.woot.specs.Ranges.{inRange}
-use Rattle.woot.proofs.Tests.{either, and-left, and-right, or-cases, or-false}
+use Rattle.convergence.proofs.Tests.{either, and-left, and-right, or-cases, or-false}
 use Rattle.codec.specs.declared.Read.{Read}
 use Rattle.codec.specs.declared.Read.the-variants.{Operation as readsAs, Refused as readRefused}
 use Rattle.codec.specs.Lines.{tab, lineFeed, has, before, after, ended, firstLine, rest, fields, isLetter, hasLayout, numbers, columns, lineOf}
