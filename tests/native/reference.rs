@@ -1,0 +1,494 @@
+//! Document 01 written out plainly: sheets, placing, waiting, lines and saved sheets, for comparison with the library.
+//! It follows the paper's sentences and words, with plain searches, and shares nothing with the library.
+
+#[derive(Clone, Copy, PartialEq, Eq, PartialOrd, Ord, Debug)]
+pub struct Id {
+    pub laptop: u8,
+    pub clock: u16,
+}
+
+pub const BEGIN: Id = Id { laptop: 0, clock: 0 };
+pub const END: Id = Id { laptop: 0, clock: 1 };
+
+#[derive(Clone, Copy, PartialEq, Eq, Debug)]
+pub struct Insert {
+    pub id: Id,
+    pub code: u32,
+    pub previous: Id,
+    pub next: Id,
+}
+
+#[derive(Clone, Copy, PartialEq, Eq, Debug)]
+pub struct Erase {
+    pub sender: u8,
+    pub id: Id,
+}
+
+#[derive(Clone, Copy, PartialEq, Eq, Debug)]
+pub enum Operation {
+    Insert(Insert),
+    Erase(Erase),
+}
+
+#[derive(Clone, Copy, PartialEq, Eq, Debug)]
+pub struct Row {
+    pub insert: Insert,
+    pub shown: bool,
+}
+
+#[derive(Clone, PartialEq, Eq, Debug)]
+pub struct Sheet {
+    pub laptop: u8,
+    pub clock: u16,
+    pub rows: Vec<Row>,
+    pub waiting: Vec<Operation>,
+}
+
+#[derive(Clone, Copy, PartialEq, Eq, Debug)]
+pub enum Reply {
+    Done { carried: usize, thrown: usize },
+    Waits,
+    Known,
+    Refused(u8),
+}
+
+const MOST_ROWS: usize = 1024;
+const MOST_WAITING: usize = 32;
+
+fn is_laptop(n: u8) -> bool {
+    (1..=16).contains(&n)
+}
+
+fn is_character(id: Id) -> bool {
+    is_laptop(id.laptop) && id.clock >= 1
+}
+
+pub fn is_code_point(n: u32) -> bool {
+    n <= 1_114_111 && !(55_296..=57_343).contains(&n)
+}
+
+impl Insert {
+    fn passes(&self) -> bool {
+        is_character(self.id)
+            && is_code_point(self.code)
+            && (self.previous == BEGIN || is_character(self.previous))
+            && (self.next == END || is_character(self.next))
+            && self.previous != self.id
+            && self.next != self.id
+    }
+}
+
+impl Operation {
+    /// What refusal 2 lets pass.
+    pub fn passes(&self) -> bool {
+        match self {
+            Operation::Insert(i) => i.passes(),
+            Operation::Erase(e) => is_laptop(e.sender) && is_character(e.id),
+        }
+    }
+
+    fn sender(&self) -> u8 {
+        match self {
+            Operation::Insert(i) => i.id.laptop,
+            Operation::Erase(e) => e.sender,
+        }
+    }
+}
+
+/// Where placing stops, or that there are rows between and no candidate.
+enum Place {
+    After(usize),
+    NoCandidate,
+}
+
+impl Sheet {
+    pub fn empty(laptop: u8) -> Sheet {
+        Sheet { laptop, clock: 0, rows: Vec::new(), waiting: Vec::new() }
+    }
+
+    /// The begin mark is at 0, row k (from 1) at k, the end mark one past the last row.
+    fn place(&self, id: Id) -> Option<usize> {
+        if id == BEGIN {
+            return Some(0);
+        }
+        if id == END {
+            return Some(self.rows.len() + 1);
+        }
+        self.rows.iter().position(|r| r.insert.id == id).map(|k| k + 1)
+    }
+
+    fn has_all(&self, o: &Operation) -> bool {
+        match o {
+            Operation::Insert(i) => self.place(i.previous).is_some() && self.place(i.next).is_some(),
+            Operation::Erase(e) => self.place(e.id).is_some(),
+        }
+    }
+
+    fn waiting_inserts(&self) -> impl Iterator<Item = &Insert> {
+        self.waiting.iter().filter_map(|o| match o {
+            Operation::Insert(i) => Some(i),
+            Operation::Erase(_) => None,
+        })
+    }
+
+    fn inserts(&self) -> usize {
+        self.rows.len() + self.waiting_inserts().count()
+    }
+
+    fn identifier_used(&self, id: Id) -> bool {
+        self.rows.iter().any(|r| r.insert.id == id) || self.waiting_inserts().any(|i| i.id == id)
+    }
+
+    pub fn in_form(&self) -> bool {
+        if !is_laptop(self.laptop) || !self.rows.iter().all(|r| r.insert.passes()) {
+            return false;
+        }
+        if !self.waiting.iter().all(|o| o.passes()) || self.inserts() > MOST_ROWS {
+            return false;
+        }
+        for laptop in 1..=16 {
+            if self.waiting.iter().filter(|o| o.sender() == laptop).count() > MOST_WAITING {
+                return false;
+            }
+        }
+        for (k, r) in self.rows.iter().enumerate() {
+            if self.place(r.insert.id) != Some(k + 1) {
+                return false;
+            }
+        }
+        for (k, o) in self.waiting.iter().enumerate() {
+            let before = &self.waiting[..k];
+            let twice = match o {
+                Operation::Insert(i) => {
+                    self.place(i.id).is_some()
+                        || before.iter().any(|p| matches!(p, Operation::Insert(j) if j.id == i.id))
+                }
+                Operation::Erase(_) => before.contains(o),
+            };
+            if twice || self.has_all(o) {
+                return false;
+            }
+        }
+        self.rows.iter().enumerate().all(|(k, r)| {
+            matches!(self.place(r.insert.previous), Some(p) if p < k + 1)
+                && matches!(self.place(r.insert.next), Some(n) if k + 1 < n)
+        })
+    }
+
+    fn place_between(&self, c: Id, mut a: usize, mut b: usize) -> Place {
+        while a + 1 < b {
+            let mut candidates = Vec::new();
+            for k in a + 1..b {
+                let row = &self.rows[k - 1].insert;
+                let above = matches!(self.place(row.previous), Some(p) if p <= a);
+                if above && matches!(self.place(row.next), Some(n) if n >= b) {
+                    candidates.push(k);
+                }
+            }
+            if candidates.is_empty() {
+                return Place::NoCandidate;
+            }
+            for k in candidates {
+                if self.rows[k - 1].insert.id < c {
+                    a = k;
+                } else {
+                    b = k;
+                    break;
+                }
+            }
+        }
+        Place::After(a)
+    }
+
+    /// Condition 8 or 9, or the place above the new row. Both neighbours are held.
+    fn find_place(&self, i: &Insert) -> Result<usize, u8> {
+        let a = self.place(i.previous).unwrap();
+        let b = self.place(i.next).unwrap();
+        if a >= b {
+            return Err(8);
+        }
+        match self.place_between(i.id, a, b) {
+            Place::After(k) => Ok(k),
+            Place::NoCandidate => Err(9),
+        }
+    }
+
+    fn hide(&mut self, id: Id) {
+        for r in self.rows.iter_mut().filter(|r| r.insert.id == id) {
+            r.shown = false;
+        }
+    }
+
+    /// Puts the row in, and carries out what that releases.
+    fn carry_insert(&mut self, i: Insert, k: usize) -> Reply {
+        self.rows.insert(k, Row { insert: i, shown: true });
+        let (mut carried, mut thrown) = (1, 0);
+        while let Some(j) = self.waiting.iter().position(|o| self.has_all(o)) {
+            match self.waiting.remove(j) {
+                Operation::Erase(e) => {
+                    self.hide(e.id);
+                    carried += 1;
+                }
+                Operation::Insert(i) => match self.find_place(&i) {
+                    Ok(k) => {
+                        self.rows.insert(k, Row { insert: i, shown: true });
+                        carried += 1;
+                    }
+                    Err(_) => thrown += 1,
+                },
+            }
+        }
+        Reply::Done { carried, thrown }
+    }
+
+    fn known(&self, o: &Operation) -> bool {
+        let held = match o {
+            Operation::Insert(i) => self.rows.iter().any(|r| r.insert == *i),
+            Operation::Erase(e) => self.rows.iter().any(|r| r.insert.id == e.id && !r.shown),
+        };
+        held || self.waiting.contains(o)
+    }
+
+    pub fn receive(&mut self, o: &Operation) -> Reply {
+        if !o.passes() {
+            return Reply::Refused(2);
+        }
+        if !self.in_form() {
+            return Reply::Refused(3);
+        }
+        if self.known(o) {
+            return Reply::Known;
+        }
+        if let Operation::Insert(i) = o {
+            if self.identifier_used(i.id) {
+                return Reply::Refused(7);
+            }
+        }
+        let ready = self.has_all(o);
+        let mut place = 0;
+        if let (true, Operation::Insert(i)) = (ready, o) {
+            match self.find_place(i) {
+                Ok(k) => place = k,
+                Err(n) => return Reply::Refused(n),
+            }
+        }
+        if !ready && self.waiting.iter().filter(|w| w.sender() == o.sender()).count() >= MOST_WAITING {
+            return Reply::Refused(10);
+        }
+        if matches!(o, Operation::Insert(_)) && self.inserts() >= MOST_ROWS {
+            return Reply::Refused(11);
+        }
+        match (ready, o) {
+            (true, Operation::Insert(i)) => self.carry_insert(*i, place),
+            (true, Operation::Erase(e)) => {
+                self.hide(e.id);
+                Reply::Done { carried: 1, thrown: 0 }
+            }
+            (false, _) => {
+                self.waiting.push(*o);
+                Reply::Waits
+            }
+        }
+    }
+
+    fn shown(&self) -> Vec<Id> {
+        self.rows.iter().filter(|r| r.shown).map(|r| r.insert.id).collect()
+    }
+
+    /// Typing at a gap: the reply, and the operation to be sent.
+    pub fn type_at(&mut self, gap: u64, code: u32) -> (Reply, Option<Operation>) {
+        let refused = |n| (Reply::Refused(n), None);
+        if !is_code_point(code) {
+            return refused(2);
+        }
+        if !self.in_form() {
+            return refused(3);
+        }
+        let shown = self.shown();
+        if gap > shown.len() as u64 {
+            return refused(4);
+        }
+        if self.clock == 65_535 {
+            return refused(5);
+        }
+        let gap = gap as usize;
+        let id = Id { laptop: self.laptop, clock: self.clock + 1 };
+        if self.identifier_used(id) {
+            return refused(6);
+        }
+        let previous = if gap == 0 { BEGIN } else { shown[gap - 1] };
+        let next = if gap == shown.len() { END } else { shown[gap] };
+        let i = Insert { id, code, previous, next };
+        let place = match self.find_place(&i) {
+            Ok(k) => k,
+            Err(n) => return refused(n),
+        };
+        if self.inserts() >= MOST_ROWS {
+            return refused(11);
+        }
+        self.clock += 1;
+        (self.carry_insert(i, place), Some(Operation::Insert(i)))
+    }
+
+    /// Erasing at a place, counted from 1.
+    pub fn erase_at(&mut self, place: u64) -> (Reply, Option<Operation>) {
+        if !self.in_form() {
+            return (Reply::Refused(3), None);
+        }
+        let shown = self.shown();
+        if place == 0 || place > shown.len() as u64 {
+            return (Reply::Refused(4), None);
+        }
+        let id = shown[place as usize - 1];
+        self.hide(id);
+        let e = Operation::Erase(Erase { sender: self.laptop, id });
+        (Reply::Done { carried: 1, thrown: 0 }, Some(e))
+    }
+
+    /// The visible text, if the sheet is in form.
+    pub fn text(&self) -> Result<Vec<u8>, u8> {
+        if !self.in_form() {
+            return Err(3);
+        }
+        let text: String = self
+            .rows
+            .iter()
+            .filter(|r| r.shown)
+            .map(|r| char::from_u32(r.insert.code).unwrap())
+            .collect();
+        Ok(text.into_bytes())
+    }
+}
+
+// ---- lines
+
+/// A field of digits; what is too large for the paper's numbers is told as one larger than all of them.
+fn number(field: &[u8]) -> Option<u64> {
+    if field.is_empty() || (field.len() > 1 && field[0] == b'0') {
+        return None;
+    }
+    let mut n: u64 = 0;
+    for b in field {
+        if !b.is_ascii_digit() {
+            return None;
+        }
+        n = (n * 10 + u64::from(b - b'0')).min(1 << 40);
+    }
+    Some(n)
+}
+
+fn numbers(line: &[u8], letter: u8, count: usize) -> Option<Vec<u64>> {
+    let mut fields = line.split(|b| *b == b'\t');
+    if fields.next() != Some(&[letter][..]) {
+        return None;
+    }
+    let all: Option<Vec<u64>> = fields.map(number).collect();
+    all.filter(|ns| ns.len() == count)
+}
+
+fn id(laptop: u64, clock: u64) -> Option<Id> {
+    Some(Id { laptop: u8::try_from(laptop).ok()?, clock: u16::try_from(clock).ok()? })
+}
+
+fn insert_of(ns: &[u64]) -> Option<Insert> {
+    let i = Insert {
+        id: id(ns[0], ns[1])?,
+        code: u32::try_from(ns[2]).ok()?,
+        previous: id(ns[3], ns[4])?,
+        next: id(ns[5], ns[6])?,
+    };
+    Some(i).filter(Insert::passes)
+}
+
+fn erase_of(ns: &[u64]) -> Option<Operation> {
+    let e = Operation::Erase(Erase { sender: u8::try_from(ns[0]).ok()?, id: id(ns[1], ns[2])? });
+    Some(e).filter(Operation::passes)
+}
+
+/// A line without its line feed: no layout, or the operation if its numbers pass.
+fn operation_of(line: &[u8]) -> Option<Option<Operation>> {
+    if let Some(ns) = numbers(line, b'I', 7) {
+        return Some(insert_of(&ns).map(Operation::Insert));
+    }
+    numbers(line, b'D', 3).map(|ns| erase_of(&ns))
+}
+
+/// The operation of the first line, whatever follows it.
+pub fn read_operation(bytes: &[u8]) -> Result<Operation, u8> {
+    let end = bytes.iter().position(|b| *b == b'\n').ok_or(1)?;
+    operation_of(&bytes[..end]).ok_or(1)?.ok_or(2)
+}
+
+pub fn operation_line(o: &Operation) -> Vec<u8> {
+    let line = match o {
+        Operation::Insert(i) => format!(
+            "I\t{}\t{}\t{}\t{}\t{}\t{}\t{}\n",
+            i.id.laptop, i.id.clock, i.code, i.previous.laptop, i.previous.clock, i.next.laptop, i.next.clock
+        ),
+        Operation::Erase(e) => format!("D\t{}\t{}\t{}\n", e.sender, e.id.laptop, e.id.clock),
+    };
+    line.into_bytes()
+}
+
+/// A saved sheet: refusals 1, 2 and 3 over the whole of it, in this order.
+pub fn read_sheet(bytes: &[u8]) -> Result<Sheet, u8> {
+    if bytes.last() != Some(&b'\n') {
+        return Err(1);
+    }
+    let mut lines = bytes[..bytes.len() - 1].split(|b| *b == b'\n');
+    let head = numbers(lines.next().unwrap(), b'S', 2).ok_or(1)?;
+    let mut passes = (1..=16).contains(&head[0]) && head[1] <= 65_535;
+    let mut sheet = Sheet::empty(head[0].min(255) as u8);
+    sheet.clock = head[1].min(65_535) as u16;
+    let mut rows_over = false;
+    for line in lines {
+        if let Some(ns) = numbers(line, b'C', 8) {
+            if rows_over {
+                return Err(1);
+            }
+            let fields = [ns[0], ns[1], ns[2], ns[4], ns[5], ns[6], ns[7]];
+            match insert_of(&fields) {
+                Some(insert) if ns[3] <= 1 => sheet.rows.push(Row { insert, shown: ns[3] == 1 }),
+                _ => passes = false,
+            }
+        } else {
+            rows_over = true;
+            match operation_of(line).ok_or(1)? {
+                Some(o) => sheet.waiting.push(o),
+                None => passes = false,
+            }
+        }
+    }
+    if !passes {
+        return Err(2);
+    }
+    if !sheet.in_form() {
+        return Err(3);
+    }
+    Ok(sheet)
+}
+
+pub fn sheet_bytes(s: &Sheet) -> Vec<u8> {
+    let mut out = format!("S\t{}\t{}\n", s.laptop, s.clock).into_bytes();
+    for r in &s.rows {
+        let i = &r.insert;
+        out.extend(
+            format!(
+                "C\t{}\t{}\t{}\t{}\t{}\t{}\t{}\t{}\n",
+                i.id.laptop,
+                i.id.clock,
+                i.code,
+                u8::from(r.shown),
+                i.previous.laptop,
+                i.previous.clock,
+                i.next.laptop,
+                i.next.clock
+            )
+            .into_bytes(),
+        );
+    }
+    for o in &s.waiting {
+        out.extend(operation_line(o));
+    }
+    out
+}
