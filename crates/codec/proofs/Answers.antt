@@ -1,6 +1,6 @@
 -- What the two calls answer, by their conditions.
-use mathlib.Core.Path.{_≡_, refl, sym, ap, _∙_}
-use mathlib.Core.List.{List, []}
+use mathlib.Core.Path.{_≡_, refl, sym, ap}
+use mathlib.Core.List.{List}
 use mathlib.Core.Bool.{Bool, true, false}
 use Prim.Native.Nat.{ℕ, suc, _+_, _-_, _<_, _≤_}
 use native.Mathlib.Omega.{arith}
@@ -15,11 +15,10 @@ use Rattle.woot.specs.declared.Operation.the-variants.{Insert as insert, Delete
 use Rattle.woot.specs.declared.Refusal.the-variants.{Layout, Range, Output}
 use Rattle.woot.specs.Ranges.{inRange}
 use Rattle.codec.specs.declared.Read.the-variants.{Refused as readRefused}
-use Rattle.codec.specs.declared.Written.{Written}
-use Rattle.codec.specs.declared.Written.the-variants.{Length, Refused as writtenRefused}
-use Rattle.codec.specs.Lines.{lineFeed, before, after, ended, firstLine, rest, columns, lineOf}
+use Rattle.woot.specs.declared.Written.the-variants.{Length, Refused as writtenRefused}
+use Rattle.codec.specs.Lines.{lineFeed, before, ended, firstLine, rest}
 use Rattle.codec.specs.Operations.{insertLetter, deleteLetter, insertNumbers, deleteNumbers, operationLine, said}
-use Rattle.codec.specs.Calls.{decided, laidOut, lineLaidOut, saidBy, readLine, readOperation, writeChecks, written, outAfter}
+use Rattle.codec.specs.Calls.{decided, laidOut, saidBy, readLine, readOperation, writeChecks, written, outAfter}
 use Rattle.codec.proofs.Lines.{take-before, is-there, is-absent, drop-before}
 use Rattle.codec.proofs.Writing.{line-length}
 use Rattle.codec.proofs.Judging.{read-layout}

@@ -1,10 +1,10 @@
 -- From what the reader of numbers answers to what the line says: one argument for every kind of line, over the operation
 -- that numbers say and over their limits.
 use mathlib.Core.Path.{_≡_, refl, sym, subst}
-use mathlib.Core.List.{List, [], _∷_, _++_}
-use mathlib.Core.Bool.{Bool, true, false, not, cond}
+use mathlib.Core.List.{List, _++_}
+use mathlib.Core.Bool.{Bool, true, false}
 use Prim.Native.Nat.{ℕ, _+_, _-_}
-use lib.ListN.{length, getD, replicate}
+use lib.ListN.{length, replicate}
 use Rattle.woot.specs.declared.Operation.{Operation}
 use Rattle.woot.specs.declared.Operation.the-variants.{Insert as insert, Delete as delete}
 use Rattle.woot.specs.declared.Refusal.the-variants.{Layout, Range}
@@ -12,7 +12,6 @@ use Rattle.woot.specs.State.{pad}
 use Rattle.woot.specs.Ranges.{inRange}
 use Rattle.convergence.proofs.Tests.{fails, clash}
 use Rattle.convergence.proofs.Identifiers.{identifier-path}
-use Rattle.codec.specs.declared.Read.{Read}
 use Rattle.codec.specs.declared.Read.the-variants.{Operation as readsAs, Refused as readRefused}
 use Rattle.codec.specs.declared.fields.Verdict.{Verdict}
 use Rattle.codec.specs.declared.fields.Verdict.the-variants.{Malformed, Above, Within}

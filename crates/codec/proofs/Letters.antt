@@ -1,16 +1,15 @@
 -- A line goes by its first byte: the letter tells which layout it can have, and what follows decides.
-use mathlib.Core.Path.{_≡_, refl, sym, ap, _∙_}
+use mathlib.Core.Path.{_≡_, refl, sym, _∙_}
 use mathlib.Core.List.{List, [], _∷_}
 use mathlib.Core.Bool.{Bool, true, false, _&&_, _||_, cond}
-use Prim.Native.Nat.{ℕ, suc}
+use Prim.Native.Nat.{ℕ}
 use lib.Dec.{eqb, eqb·suc-suc}
 use lib.ListN.{length, drop}
 use borrow.Author.Tests.{eqb-true, eqb-false, ne-eqb}
-use Rattle.woot.specs.declared.Operation.{Operation}
 use Rattle.woot.specs.declared.Operation.the-variants.{Insert as insert, Delete as delete}
 use Rattle.woot.specs.declared.Refusal.the-variants.{Layout}
 use Rattle.codec.specs.declared.Read.the-variants.{Refused as readRefused}
-use Rattle.codec.specs.Lines.{tab, before, onFirst, fields, isLetter, numerals, hasLayout, numbers}
+use Rattle.codec.specs.Lines.{tab, before, fields, isLetter, numerals, hasLayout, numbers}
 use Rattle.codec.specs.Numbers.{goesOn}
 use Rattle.codec.specs.Operations.{insertLetter, deleteLetter, insertOf, deleteOf, isInsert, isDelete, said}
 use Rattle.codec.specs.Calls.{lineLaidOut, readAs, readLine}

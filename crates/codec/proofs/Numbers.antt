@@ -1,20 +1,19 @@
 -- Laws of reading numbers: the layout, the limits and the array, each by one number more.
-use mathlib.Core.Path.{_≡_, refl, sym, ap, _∙_}
+use mathlib.Core.Path.{_≡_, refl, sym}
 use mathlib.Core.List.{List, [], _∷_, _++_}
-use mathlib.Core.Bool.{Bool, true, false, not, _&&_, _||_}
+use mathlib.Core.Bool.{Bool, true, false, not, _&&_}
 use Prim.Native.Nat.{ℕ, zero, suc, _+_, _-_, _<_, _≤_, min, zero-le}
 use native.Mathlib.Omega.{arith}
 use lib.Dec.{eqb, leb, ltb, eqb·suc-suc, eqb·suc-zero, eqb·zero-suc}
 use lib.ListN.{length, drop, getD, set, replicate, length-append}
 use lib.Seq.{append-snoc, set-at}
-use borrow.Author.Tests.{ne-eqb, eq-eqb, le-leb, lt-leb, lt-ltb, le-ltb, leb-true, leb-false}
-use Rattle.woot.specs.Lists.{every}
+use borrow.Author.Tests.{ne-eqb, le-leb, lt-ltb, le-ltb, leb-true, leb-false}
 use Rattle.woot.specs.State.{pad}
 use Rattle.convergence.proofs.Tests.{and-left, and-right}
-use Rattle.decimal.specs.Numeral.{isNumeral, valueOf}
-use Rattle.codec.specs.Lines.{tab, before, onFirst, fields, numerals, numbers}
+use Rattle.decimal.specs.Numeral.{isNumeral}
+use Rattle.codec.specs.Lines.{tab, fields, numerals}
 use Rattle.codec.specs.Numbers.{within, goesOn}
-use Rattle.codec.proofs.Lines.{onward, fields-first, fields-next}
+use Rattle.codec.proofs.Lines.{fields-first}
 
 -- ---- the layout
 

@@ -1,13 +1,13 @@
 -- The invariant of `read_numbers`: of the whole, what is left decides on the layout; the numbers read are the first of
 -- all, and, unless one was above its limit, they stand in the array.
 use mathlib.Core.Path.{_≡_, refl, sym, ap, _∙_}
-use mathlib.Core.List.{List, [], _∷_, _++_, append-nil, append-assoc}
-use mathlib.Core.Bool.{Bool, true, false, not, _&&_, _||_, cond}
-use Prim.Native.Nat.{ℕ, suc, _+_, _-_, _<_, _≤_, min}
+use mathlib.Core.List.{List, [], _∷_, _++_, append-nil}
+use mathlib.Core.Bool.{Bool, true, false, not, _&&_, _||_}
+use Prim.Native.Nat.{ℕ, suc, _+_, _<_, _≤_, min}
 use native.Mathlib.Numerals.{add-one}
 use native.Mathlib.Omega.{arith}
 use lib.Dec.{leb, ltb}
-use lib.ListN.{length, take, drop, set, getD, length-append, length-drop, drop-of-length-le}
+use lib.ListN.{length, drop, set, getD, length-append, drop-of-length-le}
 use lib.Seq.{append-snoc, drop-cons, drop-drop}
 use borrow.Author.Tests.{ltb-false}
 use Rattle.woot.specs.State.{pad}
@@ -19,7 +19,7 @@ use Rattle.codec.specs.declared.fields.Verdict.the-variants.{Malformed, 
 use Rattle.codec.specs.declared.fields.Numbers.{Numbers}
 use Rattle.codec.specs.Lines.{tab, before, fields, numerals, numbers}
 use Rattle.codec.specs.Numbers.{slots, within, goesOn, holding, numbersOf}
-use Rattle.codec.proofs.Lines.{onward, fields-first, fields-next, before-le, take-before}
+use Rattle.codec.proofs.Lines.{onward, fields-first, fields-next}
 use Rattle.codec.proofs.Numbers.{goes-further, goes-wrong, ends-early, goes-on-field, left-over, capped-above, push}
 
 pub record Reading (line limits : List ℕ) (from : ℕ) (values : List ℕ) (above : Bool) (at i : ℕ) : Type 0 where

@@ -1,31 +1,26 @@
 -- A refusal is answered exactly when its condition is the first to hold.
-use mathlib.Core.Path.{_≡_, refl, sym, ap, _∙_}
-use mathlib.Core.List.{List}
-use mathlib.Core.Logic.{_⊎_, inl, inr, _↔_}
-use mathlib.Core.Bool.{Bool, true, false, not}
+use mathlib.Core.Path.{_≡_, refl, sym, ap}
+use mathlib.Core.List.{List, [], _∷_}
+use mathlib.Core.Logic.{_↔_}
+use mathlib.Core.Bool.{Bool, true, false, not, true≢false, false≢true}
 use mathlib.Core.Option.{Option, none, some}
-use Prim.Native.Nat.{ℕ, _<_, _≤_}
+use Prim.Native.Nat.{ℕ}
 use native.Mathlib.Omega.{arith}
 use lib.Dec.{ltb}
 use lib.ListN.{length}
-use borrow.Author.Tests.{lt-ltb, le-ltb, ltb-true}
-use Rattle.output.specs.Output.{placed}
+use borrow.Author.Tests.{lt-ltb, le-ltb, ltb-true, ltb-false, not-true, not-false}
 use Rattle.output.proofs.Laws.{placed-short}
 use Rattle.woot.specs.declared.Operation.{Operation}
 use Rattle.woot.specs.declared.Refusal.{Refusal}
 use Rattle.woot.specs.declared.Refusal.the-variants.{Layout, Range, Output}
-use Rattle.woot.specs.Answers.{Check, first, Reported, number}
+use Rattle.woot.specs.Answers.{Check, _⇒_, first, Reported, number}
 use Rattle.woot.specs.Ranges.{inRange}
-use Rattle.convergence.proofs.Tests.{either, clash}
 use Rattle.convergence.proofs.Refusals.{first-reported, reported-first}
-use Rattle.codec.specs.declared.Read.{Read}
 use Rattle.codec.specs.declared.Read.the-variants.{Operation as readsAs, Refused as readRefused}
-use Rattle.codec.specs.declared.Written.{Written}
-use Rattle.codec.specs.declared.Written.the-variants.{Length, Refused as writtenRefused}
+use Rattle.woot.specs.declared.Written.the-variants.{Length, Refused as writtenRefused}
 use Rattle.codec.specs.Operations.{operationLine}
 use Rattle.codec.specs.Calls.{decided, laidOut, saidBy, readChecks, readAs, readOperation, readNumber, writeChecks, written, outAfter, writtenNumber}
-use Rattle.codec.specs.Theorems.{ReadRefuses, ReadNumbers, WriteRefuses}
-use Rattle.codec.proofs.Judging.{read-layout, read-range, read-operation}
+use Rattle.codec.specs.Theorems.{ReadRefuses, ReadNumbers, WriteRefuses, WriteNumbers}
 
 -- an answer that what is done never gives is the first of the checks
 module _ {A : Type 0} where
@@ -44,35 +39,38 @@ pub read-refuses : ReadRefuses
 unfolding readOperation readAs
 read-refuses s r = decided-exactly (readChecks (laidOut s) (saidBy s)) (readsAs (saidBy s)) (readRefused r) (read-never (saidBy s) r)
 
+-- two checks, of which the first asks that a test fails, by the numbers of their answers
+module _ {A : Type 0} (num : A → ℕ) (x y done : A) (xy : num x ≡ num y → ⊥) (dx : num done ≡ num x → ⊥) (dy : num done ≡ num y → ⊥) where
+  by-number : (a q : Bool)
+      → ((num (decided (first ((not a ⇒ x) ∷ (q ⇒ y) ∷ [])) done) ≡ num x) ↔ (a ≡ false))
+      × ((num (decided (first ((not a ⇒ x) ∷ (q ⇒ y) ∷ [])) done) ≡ num y) ↔ ((a ≡ true) × (q ≡ true)))
+      × ((decided (first ((not a ⇒ x) ∷ (q ⇒ y) ∷ [])) done ≡ done) ↔ ((a ≡ true) × (q ≡ false)))
+  unfolding decided
+  by-number true true = (
+    (λ e. absurd (xy (sym e)), λ e. absurd (true≢false e)),
+    (λ e. (refl, refl), λ w. refl),
+    (λ e. absurd (dy (sym (ap num e))), λ w. absurd (true≢false (w .1))),
+  )
+  by-number true false = (
+    (λ e. absurd (dx e), λ e. absurd (true≢false e)),
+    (λ e. absurd (dy e), λ w. absurd (false≢true (w .1))),
+    (λ e. (refl, refl), λ w. refl),
+  )
+  by-number false q = (
+    (λ e. refl, λ e. refl),
+    (λ e. absurd (xy e), λ w. absurd (false≢true (w .0))),
+    (λ e. absurd (dx (sym (ap num e))), λ w. absurd (false≢true (w .0))),
+  )
+
 pub read-numbers : ReadNumbers
-unfolding readOperation readNumber number
-read-numbers s = go (laidOut s) (inRange (saidBy s)) refl refl
-  where
-    go : (a b : Bool) → laidOut s ≡ a → inRange (saidBy s) ≡ b
-        → ((readNumber (readOperation s) ≡ 1) ↔ (laidOut s ≡ false))
-        × ((readNumber (readOperation s) ≡ 2) ↔ ((laidOut s ≡ true) × (inRange (saidBy s) ≡ false)))
-        × ((readOperation s ≡ readsAs (saidBy s)) ↔ ((laidOut s ≡ true) × (inRange (saidBy s) ≡ true)))
-    go false b p q =
-        let ans : readOperation s ≡ readRefused Layout = rw p (read-layout (saidBy s)) in
-        let num : readNumber (readOperation s) ≡ 1 = ap readNumber ans in (
-          (λ e. p, λ e. num),
-          (λ e. absurd (omega arith), λ w. clash (w .0) p),
-          (λ e. absurd (read-never (saidBy s) Layout (sym e ∙ ans)), λ w. clash (w .0) p),
-        )
-    go true false p q =
-        let ans : readOperation s ≡ readRefused Range = rw p (read-range (saidBy s) q) in
-        let num : readNumber (readOperation s) ≡ 2 = ap readNumber ans in (
-          (λ e. absurd (omega arith), λ e. clash p e),
-          (λ e. (p, q), λ w. num),
-          (λ e. absurd (read-never (saidBy s) Range (sym e ∙ ans)), λ w. clash (w .1) q),
-        )
-    go true true p q =
-        let ans : readOperation s ≡ readsAs (saidBy s) = rw p (read-operation (saidBy s) q) in
-        let num : readNumber (readOperation s) ≡ 0 = ap readNumber ans in (
-          (λ e. absurd (omega arith), λ e. clash p e),
-          (λ e. absurd (omega arith), λ w. clash q (w .1)),
-          (λ e. (p, q), λ w. ans),
-        )
+unfolding readOperation readAs readChecks readNumber number
+read-numbers s =
+    let o = saidBy s in
+    let t = by-number readNumber (readRefused Layout) (readRefused Range) (readsAs o) (λ e. omega arith) (λ e. omega arith) (λ e. omega arith) (laidOut s) (not (inRange o)) in (
+      t .0,
+      (λ e. let w = t .1 .0 e in (w .0, not-true (inRange o) (w .1)), λ w. t .1 .1 (w .0, ap not (w .1))),
+      (λ e. let w = t .2 .0 e in (w .0, not-false (inRange o) (w .1)), λ w. t .2 .1 (w .0, ap not (w .1))),
+    )
 
 written-never : (n : ℕ) (r : Refusal) → Length n ≡ writtenRefused r → ⊥
 written-never n r e = let z : _≡_ {A = ℕ} 0 1 = cc in omega arith
@@ -93,3 +91,14 @@ write-refuses o out r = (
   decided-exactly (writeChecks o out) (Length (length (operationLine o))) (writtenRefused r) (written-never (length (operationLine o)) r),
   refused-unchanged o out r,
 )
+
+pub write-numbers : WriteNumbers
+unfolding written writeChecks writtenNumber number
+write-numbers o out =
+    let m = length out in
+    let n = length (operationLine o) in
+    let t = by-number writtenNumber (writtenRefused Range) (writtenRefused Output) (Length n) (λ e. omega arith) (λ e. omega arith) (λ e. omega arith) (inRange o) (ltb m n) in (
+      t .0,
+      (λ e. let w = t .1 .0 e in (w .0, ltb-true m n (w .1)), λ w. t .1 .1 (w .0, lt-ltb m n (w .1))),
+      (λ e. let w = t .2 .0 e in (w .0, ltb-false m n (w .1)), λ w. t .2 .1 (w .0, le-ltb m n (w .1))),
+    )

@@ -1,26 +1,23 @@
 -- How long lines are, and which bytes they have. A number within its limit has no more digits than the limit.
-use mathlib.Core.Path.{_≡_, refl, sym, ap, _∙_}
+use mathlib.Core.Path.{_≡_, refl, _∙_}
 use mathlib.Core.List.{List, [], _∷_, _++_}
-use mathlib.Core.Logic.{_⊎_, inl, inr, _↔_}
-use mathlib.Core.Bool.{Bool, true, false, _&&_}
+use mathlib.Core.Logic.{_↔_}
+use mathlib.Core.Bool.{Bool, true, false}
 use Prim.Native.Nat.{ℕ, zero, suc, _+_, _≤_, _<_}
 use native.Mathlib.Omega.{arith}
 use lib.Dec.{leb, ltb, eqb}
 use lib.ListN.{length, getD, length-append, List·getD-append}
 use lib.Seq.{getD-append-seam}
-use borrow.Author.Tests.{leb-true, lt-ltb, ltb-true, ltb-false, eqb-false, eq-eqb, ne-eqb}
-use Rattle.woot.specs.declared.Insert.{Insert}
-use Rattle.woot.specs.declared.Delete.{Delete}
-use Rattle.woot.specs.declared.Operation.{Operation}
+use borrow.Author.Tests.{leb-true, lt-ltb, ltb-true, ltb-false, eqb-false}
 use Rattle.woot.specs.declared.Operation.the-variants.{Insert as insert, Delete as delete}
 use Rattle.woot.specs.Lists.{every}
 use Rattle.woot.specs.Identifiers.{same}
 use Rattle.woot.specs.Ranges.{inRange, insertInRange, deleteInRange, characterId, previousId, nextId, siteNumber, codePoint, within as inside}
-use Rattle.convergence.proofs.Tests.{clash, and-left, and-right, and-intro, or-left, or-false-left, or-false-right, either}
+use Rattle.convergence.proofs.Tests.{and-left, and-right, and-intro, or-false-left, or-false-right}
 use Rattle.convergence.proofs.Members.{every-append}
 use Rattle.decimal.specs.Numeral.{isDigit, allDigits, digitsIn, digits}
 use Rattle.decimal.proofs.Laws.{width-monotone, digit-range, all-digits}
-use Rattle.codec.specs.Lines.{tab, lineFeed, has, columns, lineOf}
+use Rattle.codec.specs.Lines.{lineFeed, has, columns, lineOf}
 use Rattle.codec.specs.Numbers.{within}
 use Rattle.codec.specs.Operations.{insertLetter, deleteLetter, insertNumbers, insertLimits, deleteNumbers, deleteLimits, identifierAt, insertOf, deleteOf, operationLine}
 use Rattle.codec.specs.Theorems.{LineLengths, LongestLines, LineBytes}

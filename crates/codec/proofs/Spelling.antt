@@ -1,19 +1,19 @@
 -- A line is spelled in one way only: the fields of what is written are the letter and the digits, and fields that are a
 -- letter and numerals are those of what is written.
 use mathlib.Core.Path.{_≡_, refl, sym, ap, _∙_}
-use mathlib.Core.List.{List, [], _∷_, _++_, map, append-assoc}
-use mathlib.Core.Bool.{Bool, true, false, _&&_, _||_}
-use Prim.Native.Nat.{ℕ, suc, _<_, _≤_}
+use mathlib.Core.List.{List, [], _∷_, _++_, map}
+use mathlib.Core.Bool.{Bool, true, false, _&&_}
+use Prim.Native.Nat.{ℕ, suc, _<_}
 use native.Mathlib.Omega.{arith}
 use lib.Dec.{eqb}
-use lib.ListN.{length, drop, getD, length-map}
+use lib.ListN.{length, drop, length-map}
 use borrow.Author.Tests.{eqb-true, eq-eqb, ne-eqb}
 use Rattle.woot.specs.Lists.{every}
 use Rattle.convergence.proofs.Tests.{and-left, and-right, and-intro, or-false}
 use Rattle.convergence.proofs.Members.{any-append}
 use Rattle.decimal.specs.Numeral.{isDigit, allDigits, isNumeral, valueOf, digits}
 use Rattle.decimal.proofs.Laws.{digit-range, all-digits, digits-are-numeral, digits-read-back, numeral-writes-back}
-use Rattle.codec.specs.Lines.{tab, lineFeed, has, before, onFirst, fields, isLetter, numerals, hasLayout, numbers, columns}
+use Rattle.codec.specs.Lines.{tab, has, before, onFirst, fields, isLetter, numerals, hasLayout, numbers, columns}
 use Rattle.codec.proofs.Lines.{onward, fields-first}
 
 -- ---- what is written, read
@@ -109,7 +109,10 @@ by-fields letter count line [] j e = (cc, cc)
 by-fields letter count line (f ∷ fs) j e =
     let p = and-left (isLetter letter f) (eqb (length fs) count && every isNumeral fs) e in
     let q = and-right (isLetter letter f) (eqb (length fs) count && every isNumeral fs) e in
-    (sym j ∙ (λ k. letter-is letter f p k ++ written-back fs (and-right (eqb (length fs) count) (every isNumeral fs) q) k), length-map fs valueOf ∙ eqb-true (length fs) count (and-left (eqb (length fs) count) (every isNumeral fs) q))
+    let r = and-right (eqb (length fs) count) (every isNumeral fs) q in (
+      sym j ∙ (λ k. letter-is letter f p k ++ written-back fs r k),
+      length-map fs valueOf ∙ eqb-true (length fs) count (and-left (eqb (length fs) count) (every isNumeral fs) q),
+    )
 
 -- a line with the layout is what its letter and its numbers are written as
 pub spelled : (letter count : ℕ) (line : List ℕ) → hasLayout letter count (fields line) ≡ true

@@ -1,9 +1,9 @@
 -- The round trips: a written line is read as its operation, and a line that is read was written so.
 use mathlib.Core.Path.{_≡_, refl, sym, ap, _∙_}
-use mathlib.Core.List.{List, [], _∷_, _++_, append-assoc}
+use mathlib.Core.List.{List, _∷_, _++_}
 use mathlib.Core.Logic.{_⊎_, inl, inr}
-use mathlib.Core.Bool.{Bool, true, false, _&&_, _||_}
-use Prim.Native.Nat.{ℕ, suc, _<_, _≤_}
+use mathlib.Core.Bool.{true, false, _||_}
+use Prim.Native.Nat.{ℕ, suc, _<_}
 use native.Mathlib.Omega.{arith}
 use lib.ListN.{length, drop, getD, drop-of-length-le}
 use lib.Seq.{append-snoc, drop-cons}
@@ -14,17 +14,16 @@ use Rattle.woot.specs.declared.Operation.{Operation}
 use Rattle.woot.specs.declared.Operation.the-variants.{Insert as insert, Delete as delete}
 use Rattle.woot.specs.declared.Refusal.the-variants.{Layout, Range}
 use Rattle.woot.specs.Ranges.{inRange}
-use Rattle.convergence.proofs.Tests.{either, and-left, and-right, or-cases, or-false}
-use Rattle.codec.specs.declared.Read.{Read}
+use Rattle.convergence.proofs.Tests.{either, and-left, and-right, or-false}
 use Rattle.codec.specs.declared.Read.the-variants.{Operation as readsAs, Refused as readRefused}
-use Rattle.codec.specs.Lines.{tab, lineFeed, has, before, after, ended, firstLine, rest, fields, isLetter, hasLayout, numbers, columns, lineOf}
+use Rattle.codec.specs.Lines.{tab, lineFeed, has, after, ended, firstLine, rest, fields, numbers, columns, lineOf}
 use Rattle.codec.specs.Operations.{insertLetter, deleteLetter, insertNumbers, deleteNumbers, identifierAt, insertOf, deleteOf, isInsert, isDelete, said, operationLine}
 use Rattle.codec.specs.Calls.{lineLaidOut, laidOut, saidBy, readAs, readLine, readOperation}
 use Rattle.codec.specs.Theorems.{LineSays, WrittenReadsBack, ReadWritesBack}
 use Rattle.codec.proofs.Lines.{split, before-append, after-append, has-append-seam}
 use Rattle.codec.proofs.Judging.{read-layout, read-range, read-operation}
 use Rattle.codec.proofs.Letters.{by-letter}
-use Rattle.codec.proofs.Spelling.{no-columns, fields-line, layout-line, numbers-line, spelled}
+use Rattle.codec.proofs.Spelling.{no-columns, layout-line, numbers-line, spelled}
 
 -- ---- a line before any bytes
 

@@ -2,20 +2,19 @@
 -- conditions in checking order; where none holds, what is done stands below them.
 use Prim.Native.Nat.{ℕ}
 use mathlib.Core.List.{List, [], _∷_}
-use mathlib.Core.Bool.{Bool, true, false, _&&_, _||_, not, cond}
+use mathlib.Core.Bool.{Bool, _&&_, _||_, not, cond}
 use mathlib.Core.Option.{Option, none, some}
 use lib.Dec.{ltb}
 use lib.ListN.{length}
 use Rattle.output.specs.Output.{placed}
 use Rattle.woot.specs.declared.Operation.{Operation}
-use Rattle.woot.specs.declared.Refusal.{Refusal}
 use Rattle.woot.specs.declared.Refusal.the-variants.{Layout, Range, Output}
 use Rattle.woot.specs.Answers.{Check, _⇒_, first, number}
 use Rattle.woot.specs.Ranges.{inRange}
 use Rattle.codec.specs.declared.Read.{Read}
 use Rattle.codec.specs.declared.Read.the-variants.{Operation as readsAs, Refused as readRefused}
-use Rattle.codec.specs.declared.Written.{Written}
-use Rattle.codec.specs.declared.Written.the-variants.{Length, Refused as writtenRefused}
+use Rattle.woot.specs.declared.Written.{Written}
+use Rattle.woot.specs.declared.Written.the-variants.{Length, Refused as writtenRefused}
 use Rattle.codec.specs.Lines.{ended, firstLine, fields}
 use Rattle.codec.specs.Operations.{isInsert, isDelete, said, operationLine}
 

@@ -13,7 +13,7 @@ use Rattle.woot.specs.declared.Refusal.{Refusal}
 use Rattle.woot.specs.Answers.{Reported}
 use Rattle.woot.specs.Ranges.{inRange}
 use Rattle.codec.specs.declared.Read.the-variants.{Operation as readsAs, Refused as readRefused}
-use Rattle.codec.specs.declared.Written.the-variants.{Refused as writtenRefused}
+use Rattle.woot.specs.declared.Written.the-variants.{Length, Refused as writtenRefused}
 use Rattle.codec.specs.Lines.{lineFeed, rest}
 use Rattle.codec.specs.Operations.{operationLine}
 use Rattle.codec.specs.Calls.{laidOut, saidBy, readChecks, readAs, readOperation, readNumber, writeChecks, written, outAfter, writtenNumber}
@@ -87,3 +87,12 @@ WriteRefuses =
     (o : Operation) (out : List ℕ) (r : Refusal) →
     ((written o out ≡ writtenRefused r) ↔ Reported (writtenRefused r) (writeChecks o out))
     × (written o out ≡ writtenRefused r → outAfter o out ≡ out)
+
+-- by number: 2 where the operation is out of range, 12 where it is not and the slice is shorter than the line, else the
+-- line's length
+abbrev pub WriteNumbers : Type 0
+WriteNumbers =
+    (o : Operation) (out : List ℕ) →
+    ((writtenNumber (written o out) ≡ 2) ↔ (inRange o ≡ false))
+    × ((writtenNumber (written o out) ≡ 12) ↔ ((inRange o ≡ true) × (length out < length (operationLine o))))
+    × ((written o out ≡ Length (length (operationLine o))) ↔ ((inRange o ≡ true) × (length (operationLine o) ≤ length out)))

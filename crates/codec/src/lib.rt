@@ -8,6 +8,7 @@ use woot::Identifier;
 use woot::Insert;
 use woot::Operation;
 use woot::Refusal;
+use woot::Written;
 ghost use mathlib.Core.Path.{_≡_};
 ghost use mathlib.Core.Bool.{true};
 ghost use Prim.Native.Nat.{_<_};
@@ -26,13 +27,6 @@ const DELETE: u8 = 68;
 // What the reader answers. (Document 01: the reader's reply.)
 pub enum Read {
     Operation(Operation),
-    Refused(Refusal),
-}
-
-// What the writer answers.
-pub enum Written {
-    // How many bytes the line takes.
-    Length(usize),
     Refused(Refusal),
 }
 
@@ -141,10 +135,10 @@ pub fn rest(s: &[u8]) -> &[u8]
     ensures { λ r. ⌜ now r ≡ rest (now (s .entry)) ⌝ }
 {
     let end = fields::find(s, 0, LINE_FEED);
-    if s.len() <= end {
-        return &s[end..];
+    if end < s.len() {
+        return &s[end + 1..];
     }
-    &s[end + 1..]
+    &s[end..]
 }
 
 // The numbers of an insert's line.

@@ -1,5 +1,4 @@
 -- `codec::insert_of` meets its contract: each number fits its field, since its limit does.
-use mathlib.Core.Path.{_≡_}
 use native.Mathlib.Omega.{arith}
 use lib.ListN.{getD}
 use borrow.Author.Needs.{needs}

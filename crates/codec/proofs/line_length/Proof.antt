@@ -1,5 +1,5 @@
 -- `codec::line_length` meets its contract: the arm knows the variant, and the definition goes by it.
-use mathlib.Core.Path.{_≡_, sym, ap, _∙_}
+use mathlib.Core.Path.{sym, ap, _∙_}
 use mathlib.Core.List.{List}
 use Prim.Native.Nat.{ℕ, _+_}
 use lib.ListN.{length}
@@ -36,11 +36,15 @@ line-length-requires-2 c κs = search needs
 
 returns : tie.Need-returns
 unfolding operationLine
-returns c = c .line-length .ensures ∙ ap (λ (ns : List ℕ). 2 + length (columns ns)) (c .before .before .insert-numbers .ensures) ∙ sym (ap (λ o. length (operationLine o)) (c .before .before .before .before .o .given .1) ∙ line-length insertLetter _)
+returns c = c .line-length .ensures
+    ∙ ap (λ (ns : List ℕ). 2 + length (columns ns)) (c .before .before .insert-numbers .ensures)
+    ∙ sym (ap (λ o. length (operationLine o)) (c .before .before .before .before .o .given .1) ∙ line-length insertLetter _)
 
 returns-2 : tie.Need-returns-2
 unfolding operationLine
-returns-2 c = c .line-length2 .ensures ∙ ap (λ (ns : List ℕ). 2 + length (columns ns)) (c .before .before .delete-numbers .ensures) ∙ sym (ap (λ o. length (operationLine o)) (c .before .before .before .before .o2 .given .1) ∙ line-length deleteLetter _)
+returns-2 c = c .line-length2 .ensures
+    ∙ ap (λ (ns : List ℕ). 2 + length (columns ns)) (c .before .before .delete-numbers .ensures)
+    ∙ sym (ap (λ o. length (operationLine o)) (c .before .before .before .before .o2 .given .1) ∙ line-length deleteLetter _)
 
 pub line-length-spec : {M : Type 1} → statement M
 line-length-spec =

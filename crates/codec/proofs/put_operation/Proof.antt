@@ -1,11 +1,7 @@
 -- `codec::put_operation` meets its contract: the arm knows the variant, and the definition goes by it.
-use mathlib.Core.Path.{_≡_, sym, ap, _∙_}
-use mathlib.Core.List.{List}
-use Prim.Native.Nat.{ℕ}
-use lib.ListN.{length}
+use mathlib.Core.Path.{sym, ap, _∙_}
 use borrow.Author.Needs.{needs}
 use Rattle.output.specs.Output.{placed, past}
-use Rattle.output.proofs.Laws.{length-placed}
 use Rattle.codec.specs.Lines.{lineOf}
 use Rattle.codec.specs.Operations.{insertLetter, deleteLetter, operationLine}
 use Rattle.codec.proofs.put_operation.Statement.{statement}

@@ -1,5 +1,5 @@
 -- `codec::read_delete` meets its contract: each verdict on the numbers is one of the three answers.
-use mathlib.Core.Path.{_≡_, ap, _∙_}
+use mathlib.Core.Path.{ap, _∙_}
 use mathlib.Core.List.{List}
 use Prim.Native.Nat.{ℕ}
 use borrow.Author.Needs.{needs}
@@ -43,7 +43,9 @@ returns-2 : tie.Need-returns-2
 returns-2 c = above say deleteLimits _ _ (c .before .before .before .read-numbers .ensures) delete-within (c .enum-told2 .given .1)
 
 returns-3 : tie.Need-returns-3
-returns-3 c = c .judged .ensures ∙ ap (readAs _) (ap delete (c .before .delete-of .ensures)) ∙ array-says say deleteLimits _ _ (c .before .before .before .before .before .read-numbers .ensures) delete-padded (c .before .before .enum-told3 .given .1)
+returns-3 c = c .judged .ensures
+    ∙ ap (readAs _) (ap delete (c .before .delete-of .ensures))
+    ∙ array-says say deleteLimits _ _ (c .before .before .before .before .before .read-numbers .ensures) delete-padded (c .before .before .enum-told3 .given .1)
 
 pub read-delete-spec : {M : Type 1} → statement M
 read-delete-spec =

@@ -1,8 +1,8 @@
 -- `codec::write_operation` meets its contract: an offset that did not move is a line that had no room.
-use mathlib.Core.Path.{_≡_, sym, ap, _∙_}
+use mathlib.Core.Path.{sym, ap, _∙_}
 use borrow.Author.Needs.{needs}
 use borrow.Author.Tests.{not-true, not-false}
-use Rattle.codec.specs.declared.Written.the-variants.{Length}
+use Rattle.woot.specs.declared.Written.the-variants.{Length}
 use Rattle.codec.proofs.Answers.{not-in-range, out-after, too-short, done}
 use Rattle.codec.proofs.write_operation.Statement.{statement}
 use Rattle.codec.proofs.write_operation.Tie as tie

@@ -1,11 +1,7 @@
 -- `ranges::character_clock` meets its contract: a clock of 16 bits is within the limit.
-use mathlib.Core.Path.{_≡_, sym}
-use Prim.Native.Nat.{ℕ, _≤_, _<_}
+use mathlib.Core.Path.{sym}
 use native.Mathlib.Omega.{arith}
-use lib.Dec.{leb}
-use borrow.Author.Tests.{le-leb}
 use Rattle.woot.specs.Limits.{lastClock}
-use Rattle.woot.specs.Ranges.{within}
 use Rattle.ranges.proofs.Laws.{within-below}
 use Rattle.ranges.proofs.character_clock.Statement.{statement}
 use Rattle.ranges.proofs.character_clock.Tie as tie

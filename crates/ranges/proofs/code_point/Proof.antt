@@ -1,10 +1,10 @@
 -- `ranges::code_point` meets its contract: each comparison is one of the definition's four tests.
 use mathlib.Core.Path.{_≡_, sym}
-use mathlib.Core.Bool.{true, false, not}
+use mathlib.Core.Bool.{true, false}
 use Prim.Native.Nat.{ℕ, _≤_, _<_, zero-le}
 use native.Mathlib.Omega.{arith}
-use lib.Dec.{leb, ltb}
-use borrow.Author.Tests.{le-leb, lt-leb, lt-ltb, le-ltb}
+use lib.Dec.{ltb}
+use borrow.Author.Tests.{le-leb}
 use Rattle.woot.specs.Limits.{lastCodePoint, firstSurrogate, lastSurrogate}
 use Rattle.woot.specs.Ranges.{within, codePoint}
 use Rattle.ranges.proofs.Laws.{within-above, within-under, within-below, not-leb}

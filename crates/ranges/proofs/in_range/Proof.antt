@@ -1,5 +1,5 @@
 -- `ranges::in_range` meets its contract: the arm knows the variant, and the definition goes by it.
-use mathlib.Core.Path.{_≡_, sym, ap, _∙_}
+use mathlib.Core.Path.{sym, ap, _∙_}
 use borrow.Author.Needs.{needs}
 use Rattle.woot.specs.Ranges.{inRange}
 use Rattle.ranges.proofs.in_range.Statement.{statement}

@@ -1,5 +1,4 @@
 -- `codec::fields::exceeds` meets its contract: each arm is one of the two tests.
-use mathlib.Core.Path.{_≡_, refl}
 use borrow.Author.Needs.{needs}
 use Rattle.codec.proofs.fields.exceeds.Statement.{statement}
 use Rattle.codec.proofs.fields.exceeds.Tie as tie

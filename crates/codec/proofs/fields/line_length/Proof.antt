@@ -1,11 +1,10 @@
 -- `codec::fields::line_length` meets its contract. The loop's invariant: with the columns that are left, the size is the line's.
 use mathlib.Core.Path.{_≡_, ap}
 use mathlib.Core.List.{List, []}
-use Prim.Native.Nat.{ℕ, _+_, _-_, _*_, _<_, _≤_}
+use Prim.Native.Nat.{ℕ, _+_, _-_, _*_, _≤_}
 use native.Mathlib.Omega.{arith}
 use lib.ListN.{length, drop, getD, drop-of-length-le}
 use borrow.Author.Needs.{needs}
-use Rattle.decimal.specs.Numeral.{digits}
 use Rattle.decimal.proofs.Laws.{width-le}
 use Rattle.codec.specs.Lines.{columns}
 use Rattle.codec.specs.Numbers.{slots}

@@ -1,10 +1,8 @@
 -- `codec::fields::read_numbers` meets its contract, by the invariant of `proofs/Reading.antt`.
-use mathlib.Core.Path.{_≡_, refl, sym, ap, _∙_}
-use mathlib.Core.List.{List}
-use mathlib.Core.Bool.{false}
-use Prim.Native.Nat.{ℕ, _+_, _-_, _<_, _≤_, min}
+use mathlib.Core.Path.{sym, _∙_}
+use Prim.Native.Nat.{_-_}
 use native.Mathlib.Omega.{arith}
-use lib.ListN.{length, drop}
+use lib.ListN.{length}
 use borrow.Author.Needs.{needs}
 use Rattle.codec.specs.Lines.{tab}
 use Rattle.codec.proofs.Lines.{found-le, found-part}

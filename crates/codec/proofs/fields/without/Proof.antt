@@ -1,5 +1,5 @@
 -- `codec::fields::without` meets its contract: eight zeros are no numbers, padded.
-use mathlib.Core.Path.{_≡_, refl}
+use mathlib.Core.Path.{refl}
 use Rattle.woot.specs.State.{pad}
 use Rattle.codec.specs.Numbers.{holding}
 use Rattle.codec.proofs.fields.without.Statement.{statement}
