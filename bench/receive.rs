@@ -1,0 +1,65 @@
+//! Times 1,024 inserts and then 1,024 deletes through the library's `receive` against the plain Rust of
+//! tests/native/reference.rs: the same operations, the same checks, both optimised. Prints both times and their ratio.
+
+#[path = "../tests/native/reference.rs"]
+#[allow(dead_code)]
+mod reference;
+
+use reference::{Erase, Id, Insert, Operation, Reply, Sheet, BEGIN, END};
+use std::time::{Duration, Instant};
+
+extern "C" {
+    /// Runs the operations of `crates/workload` on an empty replica and returns how many were carried out.
+    fn workload_run() -> u64;
+}
+
+const COUNT: usize = 1024;
+const ROUNDS: usize = 5;
+
+fn id(k: usize) -> Id {
+    Id { laptop: (k % 16 + 1) as u8, clock: (k / 16 + 1) as u16 }
+}
+
+/// Sixteen laptops in turn: each types after the character typed before, or between the marks.
+fn insert(k: usize) -> Operation {
+    let previous = if k % 4 == 0 { BEGIN } else { id(k - 1) };
+    Operation::Insert(Insert { id: id(k), code: 97 + (k % 26) as u32, previous, next: END })
+}
+
+fn erase(k: usize) -> Operation {
+    Operation::Erase(Erase { sender: (k % 16 + 1) as u8, id: id(k) })
+}
+
+fn reference_run() -> u64 {
+    let mut sheet = Sheet::empty(16);
+    let mut carried = 0;
+    for o in (0..COUNT).map(insert).chain((0..COUNT).map(erase)) {
+        if let Reply::Done { .. } = sheet.receive(&o) {
+            carried += 1;
+        }
+    }
+    carried
+}
+
+/// The shortest of several runs.
+fn best(run: impl Fn() -> u64) -> (u64, Duration) {
+    let mut shortest = Duration::MAX;
+    let mut carried = 0;
+    for _ in 0..ROUNDS {
+        let began = Instant::now();
+        carried = run();
+        shortest = shortest.min(began.elapsed());
+    }
+    (carried, shortest)
+}
+
+fn main() {
+    let (theirs, plain) = best(reference_run);
+    let (ours, library) = best(|| unsafe { workload_run() });
+    assert_eq!(theirs, 2 * COUNT as u64);
+    assert_eq!(ours, theirs);
+    println!("receive, {COUNT} inserts and {COUNT} deletes, shortest of {ROUNDS} runs");
+    println!("plain Rust  {:>8.1} ms", plain.as_secs_f64() * 1e3);
+    println!("library     {:>8.1} ms", library.as_secs_f64() * 1e3);
+    println!("ratio       {:>8.2}", library.as_secs_f64() / plain.as_secs_f64());
+}
