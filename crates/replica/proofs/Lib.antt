@@ -4,3 +4,5 @@ pub mod Queues
 pub mod Indexes
 pub mod Runs
 pub mod Pending
+pub mod Placements
+pub mod Fullness

@@ -3,3 +3,4 @@ pub mod Edit
 pub mod Queue
 pub mod Index
 pub mod Theorems
+pub mod Work

@@ -1,4 +1,5 @@
 // The calls on a replica: receiving, inserting, deleting, the check of its form and the visible text.
 mod edit;
 mod index;
+mod placing;
 mod queue;
