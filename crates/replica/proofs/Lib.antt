@@ -6,3 +6,4 @@ pub mod Runs
 pub mod Pending
 pub mod Placements
 pub mod Fullness
+pub mod Earliest

@@ -3,3 +3,4 @@ mod edit;
 mod index;
 mod placing;
 mod queue;
+mod ready;
