@@ -7,3 +7,4 @@ pub mod Pending
 pub mod Placements
 pub mod Fullness
 pub mod Earliest
+pub mod Visibility

@@ -4,3 +4,4 @@ pub mod Queue
 pub mod Index
 pub mod Theorems
 pub mod Work
+pub mod Visible

@@ -4,3 +4,4 @@ mod index;
 mod placing;
 mod queue;
 mod ready;
+mod visible;

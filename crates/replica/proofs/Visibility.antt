@@ -1,0 +1,129 @@
+-- A search among flags goes by what is left of them, and what it finds among the flags of characters are the visible ones.
+use mathlib.Core.Path.{_≡_, refl, sym, ap, subst, _∙_}
+use mathlib.Core.Bool.{Bool, true, false, cond}
+use mathlib.Core.List.{List, [], _∷_, _++_, map}
+use Prim.Native.Nat.{ℕ, zero, suc, _+_, _-_, _≤_, _<_}
+use native.Mathlib.Numerals.{add-one, unary-clauses}
+use native.Mathlib.Omega.{arith}
+use borrow.Author.Tests.{eq-eqb, ne-eqb}
+use lib.Dec.{eqb}
+use lib.ListN.{length, drop, getD, drop-of-length-le}
+use lib.Seq.{drop-cons}
+use Rattle.woot.specs.declared.Identifier.{Identifier}
+use Rattle.woot.specs.declared.Character.{Character}
+use Rattle.woot.specs.Lists.{keep}
+use Rattle.woot.specs.Placing.{identifiers}
+use Rattle.woot.specs.Calls.{visibles}
+use Rattle.replica.specs.declared.queue.Found.{Found}
+use Rattle.replica.specs.declared.queue.Found.the-variants.{At, Nothing}
+use Rattle.replica.specs.Visible.{visibility, countIn, nthFrom}
+
+-- ---- counting down to a set flag
+
+-- the search among the flags from i on
+abbrev pub nthLeft : List Bool → ℕ → ℕ → Found
+nthLeft fs k i = nthFrom i (drop i fs) k
+
+module _ (fs : List Bool) (k i : ℕ) where
+  module _ (h : i < length fs) where
+    pub nth-here : getD fs i false ≡ true → k ≡ 0 → nthLeft fs k i ≡ At i
+    unfolding nthFrom
+    nth-here e z = rw (drop-cons fs i false h, e, eq-eqb k 0 z)
+
+    pub nth-counted : getD fs i false ≡ true → (k ≡ 0 → ⊥) → nthLeft fs k i ≡ nthLeft fs (k - 1) (i + 1)
+    unfolding nthFrom
+    nth-counted e n = rw (drop-cons fs i false h, e, ne-eqb k 0 n, add-one i)
+
+    pub nth-passed : getD fs i false ≡ false → nthLeft fs k i ≡ nthLeft fs k (i + 1)
+    unfolding nthFrom
+    nth-passed e = rw (drop-cons fs i false h, e, add-one i)
+
+  pub nth-none : length fs ≤ i → nthLeft fs k i ≡ Nothing
+  unfolding nthFrom
+  nth-none h = rw (drop-of-length-le fs {i = i} h)
+
+-- ---- the flags of characters
+
+visible-cons : (c : Character) (cs : List Character) → visibles (c ∷ cs) ≡ cond (c .visible) (c .id ∷ visibles cs) (visibles cs)
+unfolding visibles
+visible-cons c cs = go (c .visible)
+  where
+    go : (b : Bool) → identifiers (cond b (c ∷ keep (λ c. c .visible) cs) (keep (λ c. c .visible) cs)) ≡ cond b (c .id ∷ identifiers (keep (λ c. c .visible) cs)) (identifiers (keep (λ c. c .visible) cs))
+    go true = refl
+    go false = refl
+
+-- as many flags are set as characters are visible
+pub count-visible : (cs : List Character) → countIn (visibility cs) ≡ length (visibles cs)
+unfolding visibles
+count-visible [] = refl
+count-visible (c ∷ cs) = rw (visible-cons c cs) (go (c .visible) (count-visible cs))
+  where
+    go : (b : Bool) → countIn (visibility cs) ≡ length (visibles cs) → length (cond b (b ∷ keep (λ f. f) (visibility cs)) (keep (λ f. f) (visibility cs))) ≡ length (cond b (c .id ∷ visibles cs) (visibles cs))
+    go true e = ap suc e
+    go false e = e
+
+-- the character at the index i is the visible one counted k from 0
+pub record Nth (cs : List Character) (k i : ℕ) : Type 0 where
+  pub within : i < length cs
+  pub counted : k < length (visibles cs)
+  pub named : (d : Character) (e : Identifier) → getD cs i d .id ≡ getD (visibles cs) k e
+
+nth-one : (c : Character) (cs : List Character) → c .visible ≡ true → Nth (c ∷ cs) 0 0
+nth-one c cs v =
+    let e : visibles (c ∷ cs) ≡ c .id ∷ visibles cs = visible-cons c cs ∙ rw v in
+    record { within = omega arith; counted = rw e (omega arith); named = λ d x. rw e }
+
+nth-more : (c : Character) (cs : List Character) (k i : ℕ) → c .visible ≡ true → Nth cs k i → Nth (c ∷ cs) (suc k) (suc i)
+nth-more c cs k i v n =
+    let e : visibles (c ∷ cs) ≡ c .id ∷ visibles cs = visible-cons c cs ∙ rw v in
+    record { within = omega (arith, n .within); counted = rw e (omega (arith, n .counted)); named = λ d x. rw e (n .named d x) }
+
+nth-hidden : (c : Character) (cs : List Character) (k i : ℕ) → c .visible ≡ false → Nth cs k i → Nth (c ∷ cs) k (suc i)
+nth-hidden c cs k i v n =
+    let e : visibles (c ∷ cs) ≡ visibles cs = visible-cons c cs ∙ rw v in
+    record { within = omega (arith, n .within); counted = rw e (n .counted); named = λ d x. rw e (n .named d x) }
+
+-- what the search among the characters' flags answers, the first at index b
+data Sought (cs : List Character) (k b : ℕ) : Found → Type 0 where
+  at : {i j : ℕ} → Nth cs k i → j ≡ i + b → Sought cs k b (At j)
+  nothing : length (visibles cs) ≤ k → Sought cs k b Nothing
+
+sought : (cs : List Character) (k b : ℕ) → Sought cs k b (nthFrom b (visibility cs) k)
+unfolding nthFrom visibles
+sought [] k b = nothing (omega arith)
+sought (c ∷ cs) k b = go (c .visible) refl k (sought cs k (suc b)) (sought cs (k - 1) (suc b))
+  where
+    hidden : c .visible ≡ false → (k : ℕ) {f : Found} → Sought cs k (suc b) f → Sought (c ∷ cs) k b f
+    hidden v k (at {i = i} {j = j} n e) = at {j = j} (nth-hidden c cs k i v n) (omega arith)
+    hidden v k (nothing h) = nothing (rw (visible-cons c cs, v) h)
+
+    counted : c .visible ≡ true → (k : ℕ) {f : Found} → Sought cs k (suc b) f → Sought (c ∷ cs) (suc k) b f
+    counted v k (at {i = i} {j = j} n e) = at {j = j} (nth-more c cs k i v n) (omega arith)
+    counted v k (nothing h) = nothing (rw (visible-cons c cs, v) (omega arith))
+
+    go : (f : Bool) → c .visible ≡ f → (k : ℕ) → Sought cs k (suc b) (nthFrom (suc b) (visibility cs) k) → Sought cs (k - 1) (suc b) (nthFrom (suc b) (visibility cs) (k - 1)) → Sought (c ∷ cs) k b (cond f (cond (eqb k 0) (At b) (nthFrom (suc b) (visibility cs) (k - 1))) (nthFrom (suc b) (visibility cs) k))
+    go true v zero s t = at {j = b} (nth-one c cs v) (omega arith)
+    go true v (suc k) s t =
+        let e : suc k - 1 ≡ k = omega arith in
+        rw (ne-eqb (suc k) 0 (λ z. omega arith), e) (counted v k (rw e at t))
+    go false v k s t = hidden v k s
+
+module _ (cs : List Character) (k : ℕ) where
+  pub nth-at : (i : ℕ) → nthFrom 0 (visibility cs) k ≡ At i → Nth cs k i
+  nth-at i e = go (subst (Sought cs k 0) e (sought cs k 0))
+    where
+      go : Sought cs k 0 (At i) → Nth cs k i
+      go (at n p) = rw p (simp unary-clauses n)
+
+  pub nth-nothing : nthFrom 0 (visibility cs) k ≡ Nothing → length (visibles cs) ≤ k
+  nth-nothing e = go (subst (Sought cs k 0) e (sought cs k 0))
+    where
+      go : Sought cs k 0 Nothing → length (visibles cs) ≤ k
+      go (nothing h) = h
+
+  pub nth-beyond : length (visibles cs) ≤ k → nthFrom 0 (visibility cs) k ≡ Nothing
+  nth-beyond h = go (nthFrom 0 (visibility cs) k) (sought cs k 0)
+    where
+      go : (f : Found) → Sought cs k 0 f → f ≡ Nothing
+      go (At j) (at n p) = absurd (omega (arith, n .counted))
+      go Nothing s = refl

@@ -1,0 +1,63 @@
+// The visible characters: which they are, those beside an insertion point, and their text. A call notes once which
+// characters are visible, and lends that to every search that it makes.
+use crate::queue::Found;
+use woot::Character;
+ghost use mathlib.Core.Path.{_≡_};
+ghost use mathlib.Core.Bool.{false};
+ghost use mathlib.Core.List.{_++_, _∷_, []};
+ghost use Prim.Native.Nat.{_≤_};
+ghost use lib.ListN.{length, take, getD};
+ghost use Rattle.output.specs.Output.{placed, past};
+ghost use Rattle.woot.specs.Identifiers.{begin, end};
+ghost use Rattle.woot.specs.State.{pad};
+ghost use Rattle.woot.specs.Calls.{visibles};
+ghost use Rattle.woot.specs.Text.{text};
+ghost use Rattle.replica.specs.Visible.{visibility, countIn, nthFrom, spelt, writtenIn};
+
+// Which of the first n characters are visible.
+pub(crate) fn flags(cs: [Character; 1024], n: usize) -> [bool; 1024]
+    requires { ⌜ n ≤ 1024 ⌝ }
+    ensures { λ r. ⌜ r ≡ pad 1024 false (visibility (take n cs)) ⌝ }
+{
+    let mut out = [false; 1024];
+    let mut i = 0;
+    while i < n {
+        let c = cs[i];
+        out[i] = c.visible;
+        i += 1;
+    }
+    out
+}
+
+// How many are visible.
+pub(crate) fn count(flags: &[bool]) -> usize
+    ensures { λ r. ⌜ r ≡ countIn (now (flags .entry)) ⌝ }
+{
+    let mut n = 0;
+    let mut i = 0;
+    while i < flags.len() {
+        if flags[i] {
+            n += 1;
+        }
+        i += 1;
+    }
+    n
+}
+
+// The index of the visible character counted k from 0.
+pub(crate) fn nth(flags: &[bool], k: usize) -> Found
+    ensures { λ r. ⌜ r ≡ nthFrom 0 (now (flags .entry)) k ⌝ }
+{
+    let mut rest = k;
+    let mut i = 0;
+    while i < flags.len() {
+        if flags[i] {
+            if rest == 0 {
+                return Found::At(i);
+            }
+            rest -= 1;
+        }
+        i += 1;
+    }
+    Found::Nothing
+}
