@@ -7,13 +7,15 @@ use native.Mathlib.Numerals.{add-one, unary-clauses}
 use native.Mathlib.Omega.{arith}
 use borrow.Author.Tests.{eq-eqb, ne-eqb}
 use lib.Dec.{eqb}
-use lib.ListN.{length, drop, getD, drop-of-length-le}
-use lib.Seq.{drop-cons}
+use lib.ListN.{length, take, drop, getD, length-map, drop-of-length-le, List·getD-eq-default}
+use lib.Seq.{drop-cons, getD-take, length-take-le}
 use Rattle.woot.specs.declared.Identifier.{Identifier}
 use Rattle.woot.specs.declared.Character.{Character}
 use Rattle.woot.specs.Lists.{keep}
 use Rattle.woot.specs.Placing.{identifiers}
 use Rattle.woot.specs.Calls.{visibles}
+use Rattle.woot.specs.State.{pad}
+use Rattle.order.proofs.Packing.{pad-take}
 use Rattle.replica.specs.declared.queue.Found.{Found}
 use Rattle.replica.specs.declared.queue.Found.the-variants.{At, Nothing}
 use Rattle.replica.specs.Visible.{visibility, countIn, nthFrom}
@@ -127,3 +129,44 @@ module _ (cs : List Character) (k : ℕ) where
       go : (f : Found) → Sought cs k 0 f → f ≡ Nothing
       go (At j) (at n p) = absurd (omega (arith, n .counted))
       go Nothing s = refl
+
+-- ---- what a caller lends: the first n of the flags
+
+module _ (m n : ℕ) (cs : List Character) (few : n ≤ length cs) (fs : List Bool) (e : fs ≡ pad m false (visibility (take n cs))) where
+  size : length (visibility (take n cs)) ≡ n
+  size = length-map (take n cs) (λ (c : Character). c .visible) ∙ length-take-le n cs few
+
+  lent : take n fs ≡ visibility (take n cs)
+  lent = rw e (pad-take m false (visibility (take n cs)) n size)
+
+  pub lent-size : length (take n fs) ≡ n
+  lent-size = rw lent size
+
+  pub lent-count : countIn (take n fs) ≡ length (visibles (take n cs))
+  lent-count = rw lent (count-visible (take n cs))
+
+  module _ (k : ℕ) where
+    pub lent-at : (i : ℕ) → nthFrom 0 (take n fs) k ≡ At i → Nth (take n cs) k i
+    lent-at i p = nth-at (take n cs) k i (rw lent at p)
+
+    pub lent-within : (i : ℕ) → nthFrom 0 (take n fs) k ≡ At i → i < n
+    lent-within i p = omega (arith, lent-at i p .within, length-take-le n cs few)
+
+    pub lent-id : (i : ℕ) → nthFrom 0 (take n fs) k ≡ At i → (d : Character) (x : Identifier) → getD cs i d .id ≡ getD (visibles (take n cs)) k x
+    lent-id i p d x = rw (← getD-take n cs i d (lent-within i p)) (lent-at i p .named d x)
+
+    pub lent-nothing : nthFrom 0 (take n fs) k ≡ Nothing → (x : Identifier) → x ≡ getD (visibles (take n cs)) k x
+    lent-nothing p x = sym (List·getD-eq-default (visibles (take n cs)) x {n = k} (nth-nothing (take n cs) k (rw lent at p)))
+
+-- ---- a mark before the visible ones, and one after them
+
+module _ {A : Type 0} where
+  pub getD-past : (x : A) (xs : List A) (g : ℕ) (d : A) → (g ≡ 0 → ⊥) → getD xs (g - 1) d ≡ getD (x ∷ xs) g d
+  getD-past x xs zero d n = absurd (n refl)
+  getD-past x xs (suc g) d n = let e : suc g - 1 ≡ g = omega arith in rw e
+
+  pub getD-last : (xs : List A) (g : ℕ) (d : A) → getD xs g d ≡ getD (xs ++ d ∷ []) g d
+  getD-last [] zero d = refl
+  getD-last [] (suc g) d = refl
+  getD-last (x ∷ xs) zero d = refl
+  getD-last (x ∷ xs) (suc g) d = getD-last xs g d

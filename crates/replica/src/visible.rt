@@ -2,6 +2,9 @@
 // characters are visible, and lends that to every search that it makes.
 use crate::queue::Found;
 use woot::Character;
+use woot::Identifier;
+use woot::Refusal;
+use woot::Written;
 ghost use mathlib.Core.Path.{_≡_};
 ghost use mathlib.Core.Bool.{false};
 ghost use mathlib.Core.List.{_++_, _∷_, []};
@@ -60,4 +63,44 @@ pub(crate) fn nth(flags: &[bool], k: usize) -> Found
         i += 1;
     }
     Found::Nothing
+}
+
+// The identifier of the visible character counted k from 0, or the mark where there is none.
+fn identifier(
+    cs: [Character; 1024],
+    n: usize,
+    flags: [bool; 1024],
+    k: usize,
+    mark: Identifier,
+) -> Identifier
+    requires { ⌜ (n ≤ 1024) × (flags ≡ pad 1024 false (visibility (take n cs))) ⌝ }
+    ensures { λ r. ⌜ r ≡ getD (visibles (take n cs)) k mark ⌝ }
+{
+    match nth(&flags[..n], k) {
+        Found::At(i) => {
+            let c = cs[i];
+            c.id
+        }
+        Found::Nothing => mark,
+    }
+}
+
+// The identifier on the left of the insertion point g among the first n characters: that of the visible character counted
+// g from 1, or the begin mark.
+pub(crate) fn left(cs: [Character; 1024], n: usize, flags: [bool; 1024], g: usize) -> Identifier
+    requires { ⌜ (n ≤ 1024) × (flags ≡ pad 1024 false (visibility (take n cs))) ⌝ }
+    ensures { λ r. ⌜ r ≡ getD (begin ∷ visibles (take n cs)) g begin ⌝ }
+{
+    if g == 0 {
+        return Identifier::BEGIN;
+    }
+    identifier(cs, n, flags, g - 1, Identifier::BEGIN)
+}
+
+// The identifier on its right: that of the visible character counted g from 0, or the end mark.
+pub(crate) fn right(cs: [Character; 1024], n: usize, flags: [bool; 1024], g: usize) -> Identifier
+    requires { ⌜ (n ≤ 1024) × (flags ≡ pad 1024 false (visibility (take n cs))) ⌝ }
+    ensures { λ r. ⌜ r ≡ getD (visibles (take n cs) ++ end ∷ []) g end ⌝ }
+{
+    identifier(cs, n, flags, g, Identifier::END)
 }
