@@ -8,3 +8,4 @@ pub mod Placements
 pub mod Fullness
 pub mod Earliest
 pub mod Visibility
+pub mod Texts

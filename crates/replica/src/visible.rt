@@ -104,3 +104,65 @@ pub(crate) fn right(cs: [Character; 1024], n: usize, flags: [bool; 1024], g: usi
 {
     identifier(cs, n, flags, g, Identifier::END)
 }
+
+// How many bytes a character adds to the text.
+fn size(c: Character) -> usize
+    ensures { λ r. ⌜ r ≡ length (spelt c) ⌝ }
+{
+    if c.visible {
+        return utf8::encoded_length(c.code_point);
+    }
+    0
+}
+
+// How many bytes the text of the first n characters has.
+fn text_length(cs: [Character; 1024], n: usize) -> usize
+    requires { ⌜ n ≤ 1024 ⌝ }
+    ensures { λ r. ⌜ r ≡ length (text (take n cs)) ⌝ }
+{
+    let mut bytes = 0;
+    let mut i = 0;
+    while i < n {
+        let c = cs[i];
+        bytes += size(c);
+        i += 1;
+    }
+    bytes
+}
+
+// Puts the bytes that a character adds to the text into the slice at the offset, and answers the offset just past them.
+fn put(c: Character, out: &mut [u8], at: usize) -> usize
+    ensures { λ r. ⌜ (r ≡ past (now (out .entry)) at (spelt c)) × (now (out .exit) ≡ placed (now (out .entry)) at (spelt c)) ⌝ }
+{
+    if c.visible {
+        return utf8::write(c.code_point, out, at);
+    }
+    at
+}
+
+// Puts the text of the first n characters, for which there is room, at the front of the slice.
+fn put_text(cs: [Character; 1024], n: usize, out: &mut [u8])
+    requires { ⌜ (n ≤ 1024) × (length (text (take n cs)) ≤ length (now out)) ⌝ }
+    ensures { λ r. ⌜ now (out .exit) ≡ placed (now (out .entry)) 0 (text (take n cs)) ⌝ }
+{
+    let mut at = 0;
+    let mut i = 0;
+    while i < n {
+        let c = cs[i];
+        at = put(c, out, at);
+        i += 1;
+    }
+}
+
+// Writes the text of the first n characters, or refuses where the slice is too short, and leaves it as it was then.
+fn write_text(cs: [Character; 1024], n: usize, out: &mut [u8]) -> Written
+    requires { ⌜ n ≤ 1024 ⌝ }
+    ensures { λ r. ⌜ (r ≡ writtenIn (length (now (out .entry))) (text (take n cs))) × (now (out .exit) ≡ placed (now (out .entry)) 0 (text (take n cs))) ⌝ }
+{
+    let bytes = text_length(cs, n);
+    if out.len() < bytes {
+        return Written::Refused(Refusal::Output);
+    }
+    put_text(cs, n, out);
+    Written::Length(bytes)
+}
