@@ -1,25 +1,32 @@
 -- The text goes by what is left of the characters: each adds the bytes that it spells.
 use mathlib.Core.Path.{_≡_, refl, sym, ap, _∙_}
 use mathlib.Core.Bool.{Bool, true, false, cond}
+use mathlib.Core.Option.{Option, none, some}
 use mathlib.Core.Logic.{_⊎_, inl, inr}
 use mathlib.Core.List.{List, [], _∷_, _++_, append-nil}
 use Prim.Native.Nat.{ℕ, suc, _+_, _≤_, _<_, zero-le}
 use native.Mathlib.Nat.{add-zero}
 use native.Mathlib.Numerals.{add-one}
 use native.Mathlib.Omega.{arith}
-use borrow.Author.Tests.{lt-ltb, le-ltb}
+use borrow.Author.Tests.{ltb-true, leb-true, lt-ltb, le-ltb}
+use lib.Dec.{leb, ltb}
 use lib.ListN.{length, take, drop, getD, length-append, length-take, take-append-drop, drop-of-length-le}
 use lib.Seq.{drop-cons, getD-take, length-take-le}
 use Rattle.woot.specs.declared.Character.{Character}
-use Rattle.woot.specs.declared.Refusal.the-variants.{Output}
+use Rattle.woot.specs.declared.Replica.{Replica}
+use Rattle.woot.specs.declared.Refusal.the-variants.{Form, Output}
 use Rattle.woot.specs.declared.Written.the-variants.{Length, Refused}
 use Rattle.woot.specs.Lists.{keep}
+use Rattle.woot.specs.State.{meaning, counted}
+use Rattle.woot.specs.Form.{wellFormed, replicaWellFormed}
 use Rattle.woot.specs.Text.{text, encoded}
 use Rattle.utf8.specs.Encoding.{encode, encodedLength}
 use Rattle.utf8.proofs.Laws.{length-encode, length-bounds}
+use Rattle.convergence.proofs.Tests.{and-left}
 use Rattle.convergence.proofs.Places.{side}
 use Rattle.output.specs.Output.{placed, past}
 use Rattle.output.proofs.Laws.{placed-append, placed-room, past-room, placed-short, past-short, length-placed}
+use Rattle.replica.specs.Replicas.{textOf, textChecks, textWritten, textOut}
 use Rattle.replica.specs.Visible.{spelt, writtenIn}
 
 -- ---- one character
@@ -109,3 +116,28 @@ module _ (size : ℕ) (bytes : List ℕ) where
   pub written-room : length bytes ≤ size → Length (length bytes) ≡ writtenIn size bytes
   unfolding writtenIn
   written-room h = rw (le-ltb size (length bytes) h)
+
+-- ---- a replica's text
+
+module _ (r : Replica) where
+  pub formed-few : replicaWellFormed r ≡ true → r .document .length ≤ 1024
+  unfolding replicaWellFormed counted
+  formed-few e = leb-true (r .document .length) 1024 (and-left (leb (r .document .length) 1024) _ (and-left (counted r) (wellFormed (meaning r)) e))
+
+  module _ (out : List ℕ) where
+    -- the two parts of the contract, of a replica that is well formed
+    pub formed-text : replicaWellFormed r ≡ true → (writtenIn (length out) (textOf r) ≡ textWritten r out) × (placed out 0 (textOf r) ≡ textOut r out)
+    unfolding textWritten textOut textChecks writtenIn
+    formed-text e = rw (e, textWritten, textOut) (go (ltb (length out) (length (textOf r))) refl)
+      where
+        t : List ℕ
+        t = textOf r
+
+        go : (b : Bool) → ltb (length out) (length t) ≡ b → (cond b (Refused Output) (Length (length t)) ≡ elim (cond b (some (Refused Output)) none) [ none ↦ Length (length t) | some a ↦ a ]) × (placed out 0 t ≡ elim (cond b (some (Refused Output)) none) [ none ↦ placed out 0 t | some a ↦ out ])
+        go true h = (refl, placed-short out 0 t (omega (arith, ltb-true (length out) (length t) h)))
+        go false h = (refl, refl)
+
+    -- of one that is not
+    pub unformed-text : replicaWellFormed r ≡ false → (Refused Form ≡ textWritten r out) × (out ≡ textOut r out)
+    unfolding textWritten textOut textChecks
+    unformed-text e = rw (e, textWritten, textOut) (refl, refl)

@@ -4,6 +4,7 @@ use crate::queue::Found;
 use woot::Character;
 use woot::Identifier;
 use woot::Refusal;
+use woot::Replica;
 use woot::Written;
 ghost use mathlib.Core.Path.{_≡_};
 ghost use mathlib.Core.Bool.{false};
@@ -14,7 +15,9 @@ ghost use Rattle.output.specs.Output.{placed, past};
 ghost use Rattle.woot.specs.Identifiers.{begin, end};
 ghost use Rattle.woot.specs.State.{pad};
 ghost use Rattle.woot.specs.Calls.{visibles};
+ghost use Rattle.woot.specs.Form.{replicaWellFormed};
 ghost use Rattle.woot.specs.Text.{text};
+ghost use Rattle.replica.specs.Replicas.{textWritten, textOut};
 ghost use Rattle.replica.specs.Visible.{visibility, countIn, nthFrom, spelt, writtenIn};
 
 // Which of the first n characters are visible.
@@ -165,4 +168,17 @@ fn write_text(cs: [Character; 1024], n: usize, out: &mut [u8]) -> Written
     }
     put_text(cs, n, out);
     Written::Length(bytes)
+}
+
+// The visible text of a replica, where it is known whether the replica is well formed.
+pub(crate) fn text_when(formed: bool, r: Replica, out: &mut [u8]) -> Written
+    requires { ⌜ formed ≡ replicaWellFormed r ⌝ }
+    ensures { λ x. ⌜ (x ≡ textWritten r (now (out .entry))) × (now (out .exit) ≡ textOut r (now (out .entry))) ⌝ }
+{
+    if formed {
+        let d = r.document;
+        let cs = d.characters;
+        return write_text(cs, d.length, out);
+    }
+    Written::Refused(Refusal::Form)
 }
