@@ -1,5 +1,5 @@
 -- The text goes by what is left of the characters: each adds the bytes that it spells.
-use mathlib.Core.Path.{_≡_, refl, sym, ap, _∙_}
+use mathlib.Core.Path.{_≡_, refl, _∙_}
 use mathlib.Core.Bool.{Bool, true, false, cond}
 use mathlib.Core.Option.{Option, none, some}
 use mathlib.Core.Logic.{_⊎_, inl, inr}
@@ -15,12 +15,13 @@ use lib.Seq.{drop-cons, getD-take, length-take-le}
 use Rattle.woot.specs.declared.Character.{Character}
 use Rattle.woot.specs.declared.Replica.{Replica}
 use Rattle.woot.specs.declared.Refusal.the-variants.{Form, Output}
+use Rattle.woot.specs.declared.Written.{Written}
 use Rattle.woot.specs.declared.Written.the-variants.{Length, Refused}
 use Rattle.woot.specs.Lists.{keep}
 use Rattle.woot.specs.State.{meaning, counted}
 use Rattle.woot.specs.Form.{wellFormed, replicaWellFormed}
 use Rattle.woot.specs.Text.{text, encoded}
-use Rattle.utf8.specs.Encoding.{encode, encodedLength}
+use Rattle.utf8.specs.Encoding.{encode}
 use Rattle.utf8.proofs.Laws.{length-encode, length-bounds}
 use Rattle.convergence.proofs.Tests.{and-left}
 use Rattle.convergence.proofs.Places.{side}
@@ -71,7 +72,8 @@ module _ (cs : List Character) (n i : ℕ) where
       rw (drop-cons (take n cs) i d (omega (arith, length-take-le n cs g)), getD-take n cs i d h, add-one i)
       (text-cons (getD cs i d) (drop (suc i) (take n cs)))
 
-  pub length-more : (d : Character) (m : ℕ) → m ≡ length (spelt (getD cs i d)) → i < n → n ≤ length cs → length (textLeft cs n i) ≡ m + length (textLeft cs n (i + 1))
+  pub length-more : (d : Character) (m : ℕ) → m ≡ length (spelt (getD cs i d)) → i < n → n ≤ length cs
+      → length (textLeft cs n i) ≡ m + length (textLeft cs n (i + 1))
   length-more d m e h g = rw (text-more d h g, e) (length-append (spelt (getD cs i d)) (textLeft cs n (i + 1)))
 
   pub text-done : n ≤ i → textLeft cs n i ≡ []
@@ -126,14 +128,20 @@ module _ (r : Replica) where
 
   module _ (out : List ℕ) where
     -- the two parts of the contract, of a replica that is well formed
-    pub formed-text : replicaWellFormed r ≡ true → (writtenIn (length out) (textOf r) ≡ textWritten r out) × (placed out 0 (textOf r) ≡ textOut r out)
+    pub formed-text : replicaWellFormed r ≡ true
+        → (writtenIn (length out) (textOf r) ≡ textWritten r out) × (placed out 0 (textOf r) ≡ textOut r out)
     unfolding textWritten textOut textChecks writtenIn
     formed-text e = rw (e, textWritten, textOut) (go (ltb (length out) (length (textOf r))) refl)
       where
         t : List ℕ
         t = textOf r
 
-        go : (b : Bool) → ltb (length out) (length t) ≡ b → (cond b (Refused Output) (Length (length t)) ≡ elim (cond b (some (Refused Output)) none) [ none ↦ Length (length t) | some a ↦ a ]) × (placed out 0 t ≡ elim (cond b (some (Refused Output)) none) [ none ↦ placed out 0 t | some a ↦ out ])
+        refusal : Bool → Option Written
+        refusal b = cond b (some (Refused Output)) none
+
+        go : (b : Bool) → ltb (length out) (length t) ≡ b
+            → (cond b (Refused Output) (Length (length t)) ≡ elim (refusal b) [ none ↦ Length (length t) | some a ↦ a ])
+            × (placed out 0 t ≡ elim (refusal b) [ none ↦ placed out 0 t | some a ↦ out ])
         go true h = (refl, placed-short out 0 t (omega (arith, ltb-true (length out) (length t) h)))
         go false h = (refl, refl)
 

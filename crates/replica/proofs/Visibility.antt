@@ -1,7 +1,7 @@
 -- A search among flags goes by what is left of them, and what it finds among the flags of characters are the visible ones.
 use mathlib.Core.Path.{_≡_, refl, sym, ap, subst, _∙_}
 use mathlib.Core.Bool.{Bool, true, false, cond}
-use mathlib.Core.List.{List, [], _∷_, _++_, map}
+use mathlib.Core.List.{List, [], _∷_, _++_}
 use Prim.Native.Nat.{ℕ, zero, suc, _+_, _-_, _≤_, _<_}
 use native.Mathlib.Numerals.{add-one, unary-clauses}
 use native.Mathlib.Omega.{arith}
@@ -50,7 +50,10 @@ visible-cons : (c : Character) (cs : List Character) → visibles (c ∷ cs) ≡
 unfolding visibles
 visible-cons c cs = go (c .visible)
   where
-    go : (b : Bool) → identifiers (cond b (c ∷ keep (λ c. c .visible) cs) (keep (λ c. c .visible) cs)) ≡ cond b (c .id ∷ identifiers (keep (λ c. c .visible) cs)) (identifiers (keep (λ c. c .visible) cs))
+    rest : List Character
+    rest = keep (λ c. c .visible) cs
+
+    go : (b : Bool) → identifiers (cond b (c ∷ rest) rest) ≡ cond b (c .id ∷ identifiers rest) (identifiers rest)
     go true = refl
     go false = refl
 
@@ -60,7 +63,10 @@ unfolding visibles
 count-visible [] = refl
 count-visible (c ∷ cs) = rw (visible-cons c cs) (go (c .visible) (count-visible cs))
   where
-    go : (b : Bool) → countIn (visibility cs) ≡ length (visibles cs) → length (cond b (b ∷ keep (λ f. f) (visibility cs)) (keep (λ f. f) (visibility cs))) ≡ length (cond b (c .id ∷ visibles cs) (visibles cs))
+    set : List Bool
+    set = keep (λ f. f) (visibility cs)
+
+    go : (b : Bool) → length set ≡ length (visibles cs) → length (cond b (b ∷ set) set) ≡ length (cond b (c .id ∷ visibles cs) (visibles cs))
     go true e = ap suc e
     go false e = e
 
@@ -103,7 +109,11 @@ sought (c ∷ cs) k b = go (c .visible) refl k (sought cs k (suc b)) (sought cs 
     counted v k (at {i = i} {j = j} n e) = at {j = j} (nth-more c cs k i v n) (omega arith)
     counted v k (nothing h) = nothing (rw (visible-cons c cs, v) (omega arith))
 
-    go : (f : Bool) → c .visible ≡ f → (k : ℕ) → Sought cs k (suc b) (nthFrom (suc b) (visibility cs) k) → Sought cs (k - 1) (suc b) (nthFrom (suc b) (visibility cs) (k - 1)) → Sought (c ∷ cs) k b (cond f (cond (eqb k 0) (At b) (nthFrom (suc b) (visibility cs) (k - 1))) (nthFrom (suc b) (visibility cs) k))
+    next : ℕ → Found
+    next k = nthFrom (suc b) (visibility cs) k
+
+    go : (f : Bool) → c .visible ≡ f → (k : ℕ) → Sought cs k (suc b) (next k) → Sought cs (k - 1) (suc b) (next (k - 1))
+        → Sought (c ∷ cs) k b (cond f (cond (eqb k 0) (At b) (next (k - 1))) (next k))
     go true v zero s t = at {j = b} (nth-one c cs v) (omega arith)
     go true v (suc k) s t =
         let e : suc k - 1 ≡ k = omega arith in

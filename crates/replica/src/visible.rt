@@ -137,10 +137,10 @@ fn text_length(cs: [Character; 1024], n: usize) -> usize
 fn put(c: Character, out: &mut [u8], at: usize) -> usize
     ensures { λ r. ⌜ (r ≡ past (now (out .entry)) at (spelt c)) × (now (out .exit) ≡ placed (now (out .entry)) at (spelt c)) ⌝ }
 {
-    if c.visible {
-        return utf8::write(c.code_point, out, at);
+    if !c.visible {
+        return at;
     }
-    at
+    utf8::write(c.code_point, out, at)
 }
 
 // Puts the text of the first n characters, for which there is room, at the front of the slice.

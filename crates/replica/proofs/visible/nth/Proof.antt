@@ -2,7 +2,7 @@
 -- the flags, gives what the whole search gives.
 use mathlib.Core.Path.{_≡_, refl, sym, _∙_}
 use mathlib.Core.Logic.{⊎-elim}
-use Prim.Native.Nat.{ℕ, _+_, _-_, _≤_}
+use Prim.Native.Nat.{_-_, _≤_}
 use native.Mathlib.Omega.{arith}
 use lib.ListN.{length}
 use Rattle.replica.proofs.Visibility.{nthLeft, nth-here, nth-counted, nth-passed, nth-none}

@@ -21,7 +21,8 @@ record Going (cs : List Character) (n : ℕ) (out₀ out : List ℕ) (at i : ℕ
   kept : length out ≡ length out₀
 
 module _ (cs : List Character) (n : ℕ) (out₀ out : List ℕ) (at i : ℕ) (g : Going cs n out₀ out at i) where
-  onward : (d : Character) {at′ : ℕ} {out′ : List ℕ} → at′ ≡ past out at (spelt (getD cs i d)) → out′ ≡ placed out at (spelt (getD cs i d)) → i < n → n ≤ length cs → Going cs n out₀ out′ at′ (i + 1)
+  onward : (d : Character) {at′ : ℕ} {out′ : List ℕ} → at′ ≡ past out at (spelt (getD cs i d))
+      → out′ ≡ placed out at (spelt (getD cs i d)) → i < n → n ≤ length cs → Going cs n out₀ out′ at′ (i + 1)
   onward d p q h few =
       let a = spelt (getD cs i d) in
       let b = textLeft cs n (i + 1) in
