@@ -9,3 +9,4 @@ pub mod Fullness
 pub mod Earliest
 pub mod Visibility
 pub mod Texts
+pub mod Throughout

@@ -5,3 +5,4 @@ pub mod Index
 pub mod Theorems
 pub mod Work
 pub mod Visible
+pub mod Form
