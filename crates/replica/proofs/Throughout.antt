@@ -10,6 +10,7 @@ use mathlib.Core.Logic.{⊎-elim}
 use lib.ListN.{length, take, getD}
 use lib.Seq.{take-suc, take-length}
 use Rattle.woot.specs.Lists.{every}
+use Rattle.woot.specs.Form.{numbers}
 use Rattle.convergence.proofs.Tests.{and-left, and-right, and-intro}
 use Rattle.convergence.proofs.Members.{every-append}
 use Rattle.convergence.proofs.Places.{side}
@@ -61,3 +62,20 @@ module _ {A : Type 0} (p : A → Bool) (xs : List A) (d : A) where
 
   pub every-throughout : every p xs ≡ throughout elementAt (length xs)
   every-throughout = ap (every p) (sym (take-length xs)) ∙ every-prefix (length xs) (omega arith)
+
+-- a test of what is made of each element
+pub every-map : {A B : Type 0} (f : A → B) (p : B → Bool) (xs : List A) → every p (map f xs) ≡ every (λ x. p (f x)) xs
+every-map f p [] = refl
+every-map f p (x ∷ xs) = ap (λ (b : Bool). p (f x) && b) (every-map f p xs)
+
+-- a loop that counts up to n and tests each number
+module _ (p : ℕ → Bool) where
+  pub numbers-more : (k : ℕ) → every p (numbers k) ≡ true → p (k + 1) ≡ true → every p (numbers (k + 1)) ≡ true
+  numbers-more k h e = let f : p (suc k) ≡ true = rw add-one at e in rw (add-one k) (and-intro f h)
+
+  pub numbers-fail : (n k : ℕ) → k < n → p (k + 1) ≡ false → every p (numbers n) ≡ false
+  numbers-fail zero k h e = absurd (not-suc-le-zero h)
+  numbers-fail (suc n) k h e = ⊎-elim last (λ l. and-fails (p (suc n)) (every p (numbers n)) (numbers-fail n k l e)) (side n k)
+    where
+      last : n ≤ k → every p (numbers (suc n)) ≡ false
+      last l = let same : k + 1 ≡ suc n = omega arith in let f : p (suc n) ≡ false = rw same at e in rw f

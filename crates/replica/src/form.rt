@@ -1,15 +1,18 @@
 // The check of a replica's form. The ranges are checked first, on the arrays; then every number is small and no character
 // has a mark's identifier, and the other conditions are checked on what is packed.
 use crate::index;
+use crate::queue;
 use woot::Character;
 use woot::Insert;
+use woot::Pending;
 ghost use mathlib.Core.Path.{_≡_};
 ghost use mathlib.Core.Bool.{not, _&&_};
-ghost use Prim.Native.Nat.{_≤_};
+ghost use Prim.Native.Nat.{_≤_, _<_};
 ghost use lib.ListN.{length, take};
 ghost use Rattle.woot.specs.Lists.{every};
-ghost use Rattle.woot.specs.Ranges.{characterInRange};
-ghost use Rattle.replica.specs.Form.{keysDistinct, placesOrdered, noneReady};
+ghost use Rattle.woot.specs.Ranges.{characterInRange, inRange};
+ghost use Rattle.replica.specs.Queue.{operations};
+ghost use Rattle.replica.specs.Form.{sharesIn, firstAt, keysDistinct, unheldKey, noneHeld, freshAt, noneRepeated, placesOrdered, noneReady};
 
 // Whether refusal 2 would let a character's numbers and marks pass.
 fn character_in_range(c: Character) -> bool
@@ -42,16 +45,109 @@ fn characters_in_range(cs: [Character; 1024], n: usize) -> bool
     true
 }
 
-// Whether no key occurs twice: each is first found in its own place.
+// Whether refusal 2 would let the first n pending operations pass.
+fn pending_in_range(ps: [Pending; 512], n: usize) -> bool
+    requires { ⌜ n ≤ 512 ⌝ }
+    ensures { λ r. ⌜ r ≡ every inRange (operations (take n ps)) ⌝ }
+{
+    let mut i = 0;
+    while i < n {
+        let p = ps[i];
+        let o = p.operation;
+        if !ranges::in_range(o) {
+            return false;
+        }
+        i += 1;
+    }
+    true
+}
+
+// Whether no site has more than its share pending.
+fn shares_kept(senders: &[u8]) -> bool
+    ensures { λ r. ⌜ r ≡ sharesIn (now (senders .entry)) ⌝ }
+{
+    let mut site = 0u8;
+    while site < 16 {
+        site += 1;
+        if 32 < queue::count_sender(senders, site) {
+            return false;
+        }
+    }
+    true
+}
+
+// Whether a key is a delete's, or is first found where it stands.
+fn first_at(keys: &[u32], i: usize) -> bool
+    requires { ⌜ i < length (now keys) ⌝ }
+    ensures { λ r. ⌜ r ≡ firstAt (now (keys .entry)) i ⌝ }
+{
+    let key = keys[i];
+    if key == 0 {
+        return true;
+    }
+    order::place_of(keys, key) == i + 1
+}
+
+// Whether no key but 0 occurs twice.
 fn keys_distinct(keys: &[u32]) -> bool
     ensures { λ r. ⌜ r ≡ keysDistinct (now (keys .entry)) ⌝ }
 {
     let mut i = 0;
     while i < keys.len() {
-        if order::place_of(keys, keys[i]) != i + 1 {
+        if !first_at(keys, i) {
             return false;
         }
         i += 1;
+    }
+    true
+}
+
+// Whether a key is a delete's, or no character's.
+fn unheld(ids: &[u32], key: u32) -> bool
+    ensures { λ r. ⌜ r ≡ unheldKey (now (ids .entry)) key ⌝ }
+{
+    if key == 0 {
+        return true;
+    }
+    !index::holds(ids, key)
+}
+
+// Whether no pending insert's key is a character's.
+fn none_held(ids: &[u32], own: &[u32]) -> bool
+    ensures { λ r. ⌜ r ≡ noneHeld (now (ids .entry)) (now (own .entry)) ⌝ }
+{
+    let mut j = 0;
+    while j < own.len() {
+        if !unheld(ids, own[j]) {
+            return false;
+        }
+        j += 1;
+    }
+    true
+}
+
+// Whether an operation is an insert, or a delete that is not pending before it.
+fn fresh_at<'a>(own: &'a [u32], first: &'a [u32], senders: &'a [u8], j: usize) -> bool
+    requires { ⌜ (j < length (now own)) × (length (now first) ≡ length (now own)) × (length (now senders) ≡ length (now own)) ⌝ }
+    ensures { λ r. ⌜ r ≡ freshAt (now (own .entry)) (now (first .entry)) (now (senders .entry)) j ⌝ }
+{
+    if own[j] != 0 {
+        return true;
+    }
+    !queue::has_delete(&own[..j], &first[..j], &senders[..j], first[j], senders[j])
+}
+
+// Whether no delete is pending twice from one sender.
+fn none_repeated<'a>(own: &'a [u32], first: &'a [u32], senders: &'a [u8]) -> bool
+    requires { ⌜ (length (now first) ≡ length (now own)) × (length (now senders) ≡ length (now own)) ⌝ }
+    ensures { λ r. ⌜ r ≡ noneRepeated (now (own .entry)) (now (first .entry)) (now (senders .entry)) ⌝ }
+{
+    let mut j = 0;
+    while j < own.len() {
+        if !fresh_at(own, first, senders, j) {
+            return false;
+        }
+        j += 1;
     }
     true
 }

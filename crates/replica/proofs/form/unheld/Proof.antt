@@ -1,0 +1,23 @@
+-- `replica::form::unheld` meets its contract.
+use mathlib.Core.Path.{ap}
+use mathlib.Core.Bool.{not}
+use borrow.Author.Tests.{eq-eqb, ne-eqb}
+use borrow.Author.Needs.{needs}
+use native.Mathlib.Omega.{arith}
+use Rattle.replica.specs.Form.{unheldKey}
+use Rattle.replica.proofs.form.unheld.Statement.{statement}
+use Rattle.replica.proofs.form.unheld.Tie as tie
+
+returns : tie.Need-returns
+unfolding unheldKey
+returns c = rw (eq-eqb _ 0 (c .if1 .taken))
+
+holds-requires : tie.Need-holds-requires
+holds-requires c κs = search needs
+
+returns-2 : tie.Need-returns-2
+unfolding unheldKey
+returns-2 c = rw (ne-eqb _ 0 (c .before .if1 .left)) (ap not (c .holds .ensures))
+
+pub unheld-spec : {M : Type 1} → statement M
+unheld-spec = tie.close (tie.spec returns holds-requires returns-2)
