@@ -13,6 +13,12 @@ use Rattle.order.proofs.Packing.{pad-take}
 use Rattle.replica.specs.declared.index.Index.{Index}
 use Rattle.replica.specs.Index.{indexOf}
 
+-- the arrays have their lengths
+pub record FullIndex (x : Index) : Type 0 where
+  pub ids : length (x .ids) ≡ characterSlots
+  pub above : length (x .above) ≡ characterSlots
+  pub below : length (x .below) ≡ characterSlots
+
 pub index-path : (cs : List Character) (r : Index) → r .ids ≡ pad characterSlots 0 (keys cs) → r .above ≡ pad characterSlots 0 (previousPlaces cs) → r .below ≡ pad characterSlots 0 (nextPlaces cs) → r ≡ indexOf cs
 unfolding indexOf
 index-path cs r p q t = λ i. record { ids = p i; above = q i; below = t i }

@@ -4,12 +4,12 @@ use native.Mathlib.Nat.{not-suc-le-zero}
 use native.Mathlib.Numerals.{add-one}
 use native.Mathlib.Omega.{arith}
 use mathlib.Core.Path.{_≡_, refl, ap, ap₂, sym, _∙_}
-use mathlib.Core.Bool.{Bool, true, false, _&&_}
+use mathlib.Core.Bool.{Bool, true, false, _&&_, cond}
 use mathlib.Core.List.{List, [], _∷_, map}
 use mathlib.Core.Logic.{⊎-elim}
 use lib.ListN.{length, take, getD}
 use lib.Seq.{take-suc, take-length}
-use Rattle.woot.specs.Lists.{every}
+use Rattle.woot.specs.Lists.{every, keep}
 use Rattle.woot.specs.Form.{numbers}
 use Rattle.convergence.proofs.Tests.{and-left, and-right, and-intro}
 use Rattle.convergence.proofs.Members.{every-append}
@@ -67,6 +67,14 @@ module _ {A : Type 0} (p : A → Bool) (xs : List A) (d : A) where
 pub every-map : {A B : Type 0} (f : A → B) (p : B → Bool) (xs : List A) → every p (map f xs) ≡ every (λ x. p (f x)) xs
 every-map f p [] = refl
 every-map f p (x ∷ xs) = ap (λ (b : Bool). p (f x) && b) (every-map f p xs)
+
+pub keep-length : {A : Type 0} (p : A → Bool) (xs : List A) → length (keep p xs) ≤ length xs
+keep-length p [] = omega arith
+keep-length p (x ∷ xs) = go (p x) (keep-length p xs)
+  where
+    go : (b : Bool) → length (keep p xs) ≤ length xs → length (cond b (x ∷ keep p xs) (keep p xs)) ≤ suc (length xs)
+    go true h = omega arith
+    go false h = omega arith
 
 -- a loop that counts up to n and tests each number
 module _ (p : ℕ → Bool) where

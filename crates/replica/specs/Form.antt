@@ -4,10 +4,9 @@ use mathlib.Core.Bool.{Bool, true, _&&_, _||_, not}
 use mathlib.Core.List.{List}
 use lib.Dec.{leb, ltb, eqb}
 use lib.ListN.{length, take, getD}
-use Rattle.woot.specs.Limits.{lastSite, share}
+use Rattle.woot.specs.Limits.{lastSite, capacity, share}
 use Rattle.woot.specs.Lists.{every, keep}
 use Rattle.woot.specs.Form.{numbers}
-use Rattle.order.specs.Keys.{placeIn}
 use Rattle.replica.specs.Index.{holdsKey, holdsBoth}
 use Rattle.replica.specs.Queue.{hasDelete}
 
@@ -23,16 +22,20 @@ senderWithin senders n = leb (length (keep (λ s. eqb s n) senders)) share
 unfoldable pub sharesIn : List ℕ → Bool
 sharesIn senders = every (senderWithin senders) (numbers lastSite)
 
--- the key with index i is 0, as a delete has it, or is first found there
-unfoldable pub firstAt : List ℕ → ℕ → Bool
-firstAt ks i = eqb (getD ks i 0) 0 || eqb (placeIn ks (getD ks i 0)) (i + 1)
+-- there is room for the characters and the pending inserts
+unfoldable pub roomKept : List ℕ → List ℕ → Bool
+roomKept ids own = leb (length ids + length (keep (λ k. not (eqb k 0)) own)) capacity
+
+-- the key is 0, as a delete has it, or not among the others
+unfoldable pub unheldKey : List ℕ → ℕ → Bool
+unheldKey ks k = eqb k 0 || not (holdsKey ks k)
+
+-- the key with index i is not among those before it
+abbrev pub newAt : List ℕ → ℕ → Bool
+newAt ks i = unheldKey (take i ks) (getD ks i 0)
 
 abbrev pub keysDistinct : List ℕ → Bool
-keysDistinct ks = throughout (firstAt ks) (length ks)
-
--- the key is 0, or not among the characters'
-unfoldable pub unheldKey : List ℕ → ℕ → Bool
-unheldKey ids k = eqb k 0 || not (holdsKey ids k)
+keysDistinct ks = throughout (newAt ks) (length ks)
 
 abbrev pub noneHeld : List ℕ → List ℕ → Bool
 noneHeld ids own = every (unheldKey ids) own
@@ -59,3 +62,13 @@ unreadyAt ids first second j = not (holdsBoth ids (getD first j 0) (getD second 
 
 abbrev pub noneReady : List ℕ → List ℕ → List ℕ → Bool
 noneReady ids first second = throughout (unreadyAt ids first second) (length first)
+
+-- the conditions on the characters alone, but for the ranges
+unfoldable pub charactersFormed : List ℕ → List ℕ → List ℕ → Bool
+charactersFormed ids above below = keysDistinct ids && placesOrdered above below
+
+-- the conditions on the pending operations, but for the ranges
+unfoldable pub pendingFormed : List ℕ → List ℕ → List ℕ → List ℕ → List ℕ → Bool
+pendingFormed ids own first second senders =
+    sharesIn senders && roomKept ids own && keysDistinct own && noneHeld ids own && noneRepeated own first senders
+    && noneReady ids first second

@@ -1,10 +1,13 @@
 // The check of a replica's form. The ranges are checked first, on the arrays; then every number is small and no character
 // has a mark's identifier, and the other conditions are checked on what is packed.
 use crate::index;
+use crate::index::Index;
 use crate::queue;
+use crate::queue::Queue;
 use woot::Character;
 use woot::Insert;
 use woot::Pending;
+use woot::Replica;
 ghost use mathlib.Core.Path.{_≡_};
 ghost use mathlib.Core.Bool.{not, _&&_};
 ghost use Prim.Native.Nat.{_≤_, _<_};
@@ -12,7 +15,7 @@ ghost use lib.ListN.{length, take};
 ghost use Rattle.woot.specs.Lists.{every};
 ghost use Rattle.woot.specs.Ranges.{characterInRange, inRange};
 ghost use Rattle.replica.specs.Queue.{operations};
-ghost use Rattle.replica.specs.Form.{sharesIn, firstAt, keysDistinct, unheldKey, noneHeld, freshAt, noneRepeated, placesOrdered, noneReady};
+ghost use Rattle.replica.specs.Form.{sharesIn, keysDistinct, unheldKey, noneHeld, freshAt, noneRepeated, placesOrdered, noneReady, charactersFormed, pendingFormed};
 
 // Whether refusal 2 would let a character's numbers and marks pass.
 fn character_in_range(c: Character) -> bool
@@ -76,16 +79,14 @@ fn shares_kept(senders: &[u8]) -> bool
     true
 }
 
-// Whether a key is a delete's, or is first found where it stands.
-fn first_at(keys: &[u32], i: usize) -> bool
-    requires { ⌜ i < length (now keys) ⌝ }
-    ensures { λ r. ⌜ r ≡ firstAt (now (keys .entry)) i ⌝ }
+// Whether a key is a delete's, or is not among the others.
+fn unheld(ids: &[u32], key: u32) -> bool
+    ensures { λ r. ⌜ r ≡ unheldKey (now (ids .entry)) key ⌝ }
 {
-    let key = keys[i];
     if key == 0 {
         return true;
     }
-    order::place_of(keys, key) == i + 1
+    !index::holds(ids, key)
 }
 
 // Whether no key but 0 occurs twice.
@@ -94,22 +95,12 @@ fn keys_distinct(keys: &[u32]) -> bool
 {
     let mut i = 0;
     while i < keys.len() {
-        if !first_at(keys, i) {
+        if !unheld(&keys[..i], keys[i]) {
             return false;
         }
         i += 1;
     }
     true
-}
-
-// Whether a key is a delete's, or no character's.
-fn unheld(ids: &[u32], key: u32) -> bool
-    ensures { λ r. ⌜ r ≡ unheldKey (now (ids .entry)) key ⌝ }
-{
-    if key == 0 {
-        return true;
-    }
-    !index::holds(ids, key)
 }
 
 // Whether no pending insert's key is a character's.
@@ -188,4 +179,47 @@ fn none_ready<'a>(ids: &'a [u32], first: &'a [u32], second: &'a [u32]) -> bool
         j += 1;
     }
     true
+}
+
+// The conditions of form on the characters alone, but for their ranges.
+fn characters_formed(x: Index, n: usize) -> bool
+    requires { ⌜ n ≤ 1024 ⌝ }
+    ensures { λ r. ⌜ r ≡ charactersFormed (take n (x .ids)) (take n (x .above)) (take n (x .below)) ⌝ }
+{
+    let ids = x.ids;
+    let above = x.above;
+    let below = x.below;
+    if !keys_distinct(&ids[..n]) {
+        return false;
+    }
+    places_ordered(&above[..n], &below[..n])
+}
+
+// The conditions of form on the pending operations, but for their ranges.
+fn pending_formed<'a>(
+    ids: &'a [u32],
+    own: &'a [u32],
+    first: &'a [u32],
+    second: &'a [u32],
+    senders: &'a [u8],
+) -> bool
+    requires { ⌜ (length (now first) ≡ length (now own)) × (length (now second) ≡ length (now own)) × (length (now senders) ≡ length (now own)) ⌝ }
+    ensures { λ r. ⌜ r ≡ pendingFormed (now (ids .entry)) (now (own .entry)) (now (first .entry)) (now (second .entry)) (now (senders .entry)) ⌝ }
+{
+    if !shares_kept(senders) {
+        return false;
+    }
+    if 1024 < ids.len() + queue::count_inserts(own) {
+        return false;
+    }
+    if !keys_distinct(own) {
+        return false;
+    }
+    if !none_held(ids, own) {
+        return false;
+    }
+    if !none_repeated(own, first, senders) {
+        return false;
+    }
+    none_ready(ids, first, second)
 }
