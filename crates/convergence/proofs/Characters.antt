@@ -68,7 +68,7 @@ somewhere k (d ∷ cs) {c} m = ⊎-elim (λ e. (k, List·Memᴰ·head (ap (spot 
     later r = (r .0, List·Memᴰ·tail (r .1))
 
 -- the index of an identifier, where they are distinct
-located-index : (k : ℕ) (cs : List Character) (ys : List Identifier) {l : Located} → distinct same (identifiers cs) ≡ true → List·Memᴰ l (located k cs)
+pub located-index : (k : ℕ) (cs : List Character) (ys : List Identifier) {l : Located} → distinct same (identifiers cs) ≡ true → List·Memᴰ l (located k cs)
     → k + indexOf (l .at .id) (identifiers cs ++ ys) ≡ l .place
 located-index k [] ys d m = absurd (List·Memᴰ·not-nil m)
 located-index k (c ∷ cs) ys {l} d m = ⊎-elim here (λ n. later n (located-index (suc k) cs ys rest n)) (List·Memᴰ·cases-cons m)

@@ -75,7 +75,7 @@ eqb-sym m n =
     ⊎-elim (λ h. h ∙ sym (eq-eqb n m (sym (eqb-true m n h)))) (λ h. h ∙ sym (ne-eqb n m (λ e. eqb-false m n h (sym e))))
     (either (eqb m n))
 
-sameDelete-sym : (d e : Delete) → sameDelete d e ≡ sameDelete e d
+pub sameDelete-sym : (d e : Delete) → sameDelete d e ≡ sameDelete e d
 unfolding sameDelete
 sameDelete-sym d e = rw (same-sym (d .target) (e .target), eqb-sym (d .sender) (e .sender))
 

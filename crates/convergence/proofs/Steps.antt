@@ -131,7 +131,7 @@ inserts-member (insert j ∷ ps) (List·Memᴰ·head e) = List·Memᴰ·head (ap
 inserts-member (insert j ∷ ps) (List·Memᴰ·tail m) = List·Memᴰ·tail (inserts-member ps m)
 inserts-member (delete d ∷ ps) m = List·Memᴰ·tail (inserts-member ps m)
 
-any-deletes : (d : Delete) (ps : List Operation) → any (sameDelete d) (deletes ps) ≡ any (sameOperation (delete d)) ps
+pub any-deletes : (d : Delete) (ps : List Operation) → any (sameDelete d) (deletes ps) ≡ any (sameOperation (delete d)) ps
 unfolding sameOperation
 any-deletes d [] = refl
 any-deletes d (insert j ∷ ps) = any-deletes d ps

@@ -1,3 +1,7 @@
+pub mod Indexes
+pub mod Throughout
+pub mod Conditions
+pub mod Checks
 pub mod Padding
 pub mod Searches
 pub mod Queues

@@ -16,11 +16,11 @@ use Rattle.convergence.proofs.Members.{every-append}
 use Rattle.convergence.proofs.Places.{side}
 use Rattle.replica.specs.Form.{throughout}
 
-and-fails : (a b : Bool) → b ≡ false → a && b ≡ false
+pub and-fails : (a b : Bool) → b ≡ false → a && b ≡ false
 and-fails true b e = e
 and-fails false b e = refl
 
-and-true : (b : Bool) → b && true ≡ b
+pub and-true : (b : Bool) → b && true ≡ b
 and-true true = refl
 and-true false = refl
 

@@ -1,14 +1,17 @@
 -- The conditions of form on packed numbers.
 use Prim.Native.Nat.{ℕ, zero, suc, _+_}
-use mathlib.Core.Bool.{Bool, true, _&&_, _||_, not}
-use mathlib.Core.List.{List}
+use mathlib.Core.Bool.{Bool, true, false, _&&_, _||_, not, cond}
+use mathlib.Core.List.{List, []}
 use lib.Dec.{leb, ltb, eqb}
 use lib.ListN.{length, take, getD}
+use Rattle.woot.specs.declared.Replica.{Replica}
 use Rattle.woot.specs.Limits.{lastSite, capacity, share}
 use Rattle.woot.specs.Lists.{every, keep}
-use Rattle.woot.specs.Form.{numbers}
-use Rattle.replica.specs.Index.{holdsKey, holdsBoth}
-use Rattle.replica.specs.Queue.{hasDelete}
+use Rattle.woot.specs.State.{State, meaning, counted}
+use Rattle.woot.specs.Form.{numbers, allInRange, replicaWellFormed}
+use Rattle.replica.specs.declared.form.Checked.{Checked}
+use Rattle.replica.specs.Index.{indexOf, holdsKey, holdsBoth}
+use Rattle.replica.specs.Queue.{packed, hasDelete}
 
 -- p passes every number below n
 abbrev pub throughout : (ℕ → Bool) → ℕ → Bool
@@ -37,8 +40,12 @@ newAt ks i = unheldKey (take i ks) (getD ks i 0)
 abbrev pub keysDistinct : List ℕ → Bool
 keysDistinct ks = throughout (newAt ks) (length ks)
 
-abbrev pub noneHeld : List ℕ → List ℕ → Bool
-noneHeld ids own = every (unheldKey ids) own
+-- the key with index j is neither among the characters' nor among those before it
+unfoldable pub freeAt : List ℕ → List ℕ → ℕ → Bool
+freeAt ids own j = unheldKey ids (getD own j 0) && newAt own j
+
+abbrev pub keysNew : List ℕ → List ℕ → Bool
+keysNew ids own = throughout (freeAt ids own) (length own)
 
 -- the operation with index j is no delete that stands before it too
 unfoldable pub freshAt : List ℕ → List ℕ → List ℕ → ℕ → Bool
@@ -70,5 +77,20 @@ charactersFormed ids above below = keysDistinct ids && placesOrdered above below
 -- the conditions on the pending operations, but for the ranges
 unfoldable pub pendingFormed : List ℕ → List ℕ → List ℕ → List ℕ → List ℕ → Bool
 pendingFormed ids own first second senders =
-    sharesIn senders && roomKept ids own && keysDistinct own && noneHeld ids own && noneRepeated own first senders
+    sharesIn senders && roomKept ids own && keysNew ids own && noneRepeated own first senders
     && noneReady ids first second
+
+-- the counts are within the arrays, and every number, mark and neighbour in its range
+unfoldable pub rangesKept : Replica → Bool
+rangesKept r = counted r && allInRange (meaning r)
+
+-- what the check answers of a replica that is well formed
+unfoldable pub formedWith : State → Checked
+formedWith s = record { formed = true; index = indexOf (s .characters); queue = packed (s .pending) }
+
+-- what it answers of any other, with nothing packed
+unfoldable pub unformed : Checked
+unformed = record { formed = false; index = indexOf []; queue = packed [] }
+
+unfoldable pub checked : Replica → Checked
+checked r = cond (replicaWellFormed r) (formedWith (meaning r)) unformed

@@ -8,14 +8,15 @@ use woot::Character;
 use woot::Insert;
 use woot::Pending;
 use woot::Replica;
+use woot::Site;
 ghost use mathlib.Core.Path.{_≡_};
 ghost use mathlib.Core.Bool.{not, _&&_};
 ghost use Prim.Native.Nat.{_≤_, _<_};
 ghost use lib.ListN.{length, take};
 ghost use Rattle.woot.specs.Lists.{every};
-ghost use Rattle.woot.specs.Ranges.{characterInRange, inRange};
+ghost use Rattle.woot.specs.Ranges.{siteInRange, characterInRange, inRange};
 ghost use Rattle.replica.specs.Queue.{operations};
-ghost use Rattle.replica.specs.Form.{sharesIn, keysDistinct, unheldKey, noneHeld, freshAt, noneRepeated, placesOrdered, noneReady, charactersFormed, pendingFormed};
+ghost use Rattle.replica.specs.Form.{sharesIn, keysDistinct, unheldKey, keysNew, freshAt, noneRepeated, placesOrdered, noneReady, charactersFormed, pendingFormed, rangesKept, unformed, checked};
 
 // Whether refusal 2 would let a character's numbers and marks pass.
 fn character_in_range(c: Character) -> bool
@@ -103,13 +104,17 @@ fn keys_distinct(keys: &[u32]) -> bool
     true
 }
 
-// Whether no pending insert's key is a character's.
-fn none_held(ids: &[u32], own: &[u32]) -> bool
-    ensures { λ r. ⌜ r ≡ noneHeld (now (ids .entry)) (now (own .entry)) ⌝ }
+// Whether no pending insert's key is a character's or an earlier one's.
+fn keys_new(ids: &[u32], own: &[u32]) -> bool
+    ensures { λ r. ⌜ r ≡ keysNew (now (ids .entry)) (now (own .entry)) ⌝ }
 {
     let mut j = 0;
     while j < own.len() {
-        if !unheld(ids, own[j]) {
+        let key = own[j];
+        if !unheld(ids, key) {
+            return false;
+        }
+        if !unheld(&own[..j], key) {
             return false;
         }
         j += 1;
@@ -212,14 +217,116 @@ fn pending_formed<'a>(
     if 1024 < ids.len() + queue::count_inserts(own) {
         return false;
     }
-    if !keys_distinct(own) {
-        return false;
-    }
-    if !none_held(ids, own) {
+    if !keys_new(ids, own) {
         return false;
     }
     if !none_repeated(own, first, senders) {
         return false;
     }
     none_ready(ids, first, second)
+}
+
+// The same of the first w pending operations, with the first n characters.
+fn queue_formed(ids: [u32; 1024], n: usize, q: Queue, w: usize) -> bool
+    requires { ⌜ (n ≤ 1024) × (w ≤ 512) ⌝ }
+    ensures { λ r. ⌜ r ≡ pendingFormed (take n ids) (take w (q .own)) (take w (q .first)) (take w (q .second)) (take w (q .senders)) ⌝ }
+{
+    let own = q.own;
+    let first = q.first;
+    let second = q.second;
+    let senders = q.senders;
+    pending_formed(
+        &ids[..n],
+        &own[..w],
+        &first[..w],
+        &second[..w],
+        &senders[..w],
+    )
+}
+
+// Whether refusal 2 would let a site's numbers pass.
+fn site_in_range(s: Site) -> bool
+    ensures { λ r. ⌜ r ≡ siteInRange s ⌝ }
+{
+    ranges::site_number(s.number)
+}
+
+// The counts are within the arrays, and refusal 2 would let every number, mark and neighbour pass.
+fn in_ranges(r: Replica) -> bool
+    ensures { λ x. ⌜ x ≡ rangesKept r ⌝ }
+{
+    let site = r.site;
+    let d = r.document;
+    let n = d.length;
+    let w = d.waiting;
+    if 1024 < n {
+        return false;
+    }
+    if 512 < w {
+        return false;
+    }
+    if !site_in_range(site) {
+        return false;
+    }
+    let cs = d.characters;
+    if !characters_in_range(cs, n) {
+        return false;
+    }
+    let ps = d.pending;
+    pending_in_range(ps, w)
+}
+
+// What the check finds: whether the replica is well formed, and what was packed of it to find that out.
+pub(crate) struct Checked {
+    pub(crate) formed: bool,
+    pub(crate) index: Index,
+    pub(crate) queue: Queue,
+}
+
+// What is answered of a replica that is not well formed.
+fn unformed() -> Checked
+    ensures { λ r. ⌜ r ≡ unformed ⌝ }
+{
+    Checked {
+        formed: false,
+        index: Index {
+            ids: [0u32; 1024],
+            above: [0u16; 1024],
+            below: [0u16; 1024],
+        },
+        queue: Queue {
+            own: [0u32; 512],
+            first: [0u32; 512],
+            second: [0u32; 512],
+            senders: [0u8; 512],
+        },
+    }
+}
+
+// Checks a replica's form.
+pub(crate) fn check(r: Replica) -> Checked
+    ensures { λ x. ⌜ x ≡ checked r ⌝ }
+{
+    if !in_ranges(r) {
+        return unformed();
+    }
+    let d = r.document;
+    let n = d.length;
+    let w = d.waiting;
+    let cs = d.characters;
+    let index = index::index_of(cs, n);
+    if !characters_formed(index, n) {
+        return unformed();
+    }
+    let ids = index.ids;
+    let ps = d.pending;
+    let queue = queue::pack(ps, w);
+    if !queue_formed(ids, n, queue, w) {
+        return unformed();
+    }
+    Checked {
+        formed: true,
+        index,
+        queue,
+    }
 }

@@ -6,3 +6,13 @@ mod placing;
 mod queue;
 mod ready;
 mod visible;
+use woot::Replica;
+ghost use mathlib.Core.Path.{_≡_};
+ghost use Rattle.woot.specs.Form.{replicaWellFormed};
+// Whether a replica is well formed. (Document 01: in form.)
+pub fn well_formed(r: Replica) -> bool
+    ensures { λ x. ⌜ x ≡ replicaWellFormed r ⌝ }
+{
+    let c = form::check(r);
+    c.formed
+}
