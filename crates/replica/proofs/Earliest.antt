@@ -1,33 +1,32 @@
 -- The search for a pending operation that is due goes by what is left of the list; what it finds on keys is what the rules
 -- take out.
-use Prim.Native.Nat.{ℕ, zero, suc, _+_, _≤_, _<_, zero-le}
+use Prim.Native.Nat.{ℕ, suc, _+_, _≤_, _<_, zero-le}
 use native.Mathlib.Numerals.{add-one, one-add}
 use native.Mathlib.Omega.{arith}
 use mathlib.Core.Path.{_≡_, refl, ap, sym, _∙_, subst}
 use mathlib.Core.Bool.{Bool, true, false, _&&_, cond, and-true}
-use mathlib.Core.Option.{Option, none, some}
+use mathlib.Core.Option.{none, some}
 use mathlib.Core.List.{List, [], _∷_, _++_, map}
 use borrow.Author.Tests.{le-leb}
-use lib.ListN.{length, take, drop, getD, drop-of-length-le, length-map}
+use lib.ListN.{length, drop, getD, drop-of-length-le, length-map}
 use lib.Seq.{drop-cons}
 use Rattle.woot.specs.declared.Identifier.{Identifier}
 use Rattle.woot.specs.declared.Operation.{Operation}
 use Rattle.woot.specs.declared.Operation.the-variants.{Insert as insert, Delete as delete}
 use Rattle.woot.specs.declared.Character.{Character}
 use Rattle.woot.specs.Lists.{every}
-use Rattle.woot.specs.Operations.{character, origin}
-use Rattle.woot.specs.Ranges.{siteNumber, characterId, insertInRange, characterInRange, deleteInRange, inRange}
+use Rattle.woot.specs.Ranges.{inRange}
 use Rattle.woot.specs.Placing.{held}
-use Rattle.woot.specs.Pending.{executable, Taken, behind, earliest}
+use Rattle.woot.specs.Pending.{executable, earliest}
 use Rattle.convergence.proofs.Tests.{and-left, and-right}
 use Rattle.order.specs.declared.Found.{Found}
 use Rattle.order.specs.declared.Found.the-variants.{At, Nothing}
-use Rattle.order.specs.Keys.{key, Small, AllSmall, keys, indexIn, placeIn}
-use Rattle.order.proofs.Keys.{character-small, range-small}
+use Rattle.order.specs.Keys.{key, Small, AllSmall, keys, placeIn}
 use Rattle.order.proofs.Indices.{index-here, place-keys}
 use Rattle.replica.specs.Edit.{removed}
 use Rattle.replica.specs.Queue.{firstKey, secondKey}
 use Rattle.replica.specs.Work.{further, firstIndex, heldIn, readyIn}
+use Rattle.replica.proofs.Pending.{range-keyed}
 
 further-none : (r : Found) → further 0 r ≡ r
 further-none (At j) = ap At (omega arith)
@@ -74,12 +73,11 @@ module _ (cs : List Character) (s : AllSmall cs) where
   held-begin = rw (index-here 0 0 (keys cs ++ 1 ∷ []) refl) (le-leb 0 (suc (length (keys cs))) zero-le)
 
   both-held : (o : Operation) → inRange o ≡ true → heldIn (keys cs) (firstKey o) && heldIn (keys cs) (secondKey o) ≡ executable cs o
-  unfolding firstKey secondKey executable inRange characterInRange origin character deleteInRange
+  unfolding firstKey secondKey executable
   both-held (insert i) h =
-      let p = range-small (character i) h in
+      let p = range-keyed (insert i) h in
       rw (held-keys (i .previous) (p .previous), held-keys (i .next) (p .next))
-  both-held (delete d) h =
-      rw (held-begin, held-keys (d .target) (character-small (d .target) (and-right (siteNumber (d .sender)) _ h)), and-true)
+  both-held (delete d) h = rw (held-begin, held-keys (d .target) (range-keyed (delete d) h), and-true)
 
   pub ready-executable : (ps : List Operation) → every inRange ps ≡ true → readyIn (keys cs) (map firstKey ps) (map secondKey ps) ≡ firstIndex (executable cs) ps
   unfolding readyIn firstIndex

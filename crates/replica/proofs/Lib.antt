@@ -14,3 +14,7 @@ pub mod Earliest
 pub mod Visibility
 pub mod Texts
 pub mod Throughout
+pub mod Runs
+pub mod Pending
+pub mod Works
+pub mod Stepping

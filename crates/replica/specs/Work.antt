@@ -1,6 +1,7 @@
 -- The steps of a call on a document: where an insert goes, which pending operation is due, and what draining leaves.
-use Prim.Native.Nat.{ℕ, zero, suc, _+_}
-use mathlib.Core.Bool.{Bool, true, false, _&&_, cond}
+use Prim.Native.Nat.{ℕ, suc, _+_, _^_, _≤_, _<_}
+use mathlib.Core.Path.{_≡_}
+use mathlib.Core.Bool.{Bool, true, false, _&&_, _||_, cond}
 use mathlib.Core.Option.{Option, none, some}
 use mathlib.Core.List.{List, [], _∷_, map}
 use lib.Dec.{leb}
@@ -10,12 +11,17 @@ use Rattle.woot.specs.declared.Operation.{Operation}
 use Rattle.woot.specs.declared.Operation.the-variants.{Insert as insert}
 use Rattle.woot.specs.declared.Character.{Character}
 use Rattle.woot.specs.declared.Document.{Document}
+use Rattle.woot.specs.Lists.{every}
+use Rattle.woot.specs.Operations.{inserts}
+use Rattle.woot.specs.Ranges.{characterInRange}
 use Rattle.woot.specs.State.{documentOf}
 use Rattle.woot.specs.Placing.{above, position, between}
-use Rattle.woot.specs.Pending.{executable, Drained, drain}
+use Rattle.woot.specs.Pending.{executable, crossed, unplaceable, integrate, Taken, Drained, drain}
+use Rattle.convergence.proofs.Forms.{Sound}
 use Rattle.order.specs.Keys.{placeIn}
 use Rattle.order.specs.declared.Found.{Found}
 use Rattle.order.specs.declared.Found.the-variants.{At, Nothing}
+use Rattle.replica.specs.declared.work.Work.{Work}
 use Rattle.replica.specs.declared.placing.Placement.{Placement}
 use Rattle.replica.specs.declared.placing.Placement.the-variants.{Missing, Crossed, Unplaceable, Below}
 
@@ -60,3 +66,45 @@ unfoldable pub readyIn : List ℕ → List ℕ → List ℕ → Found
 readyIn ids [] ss = Nothing
 readyIn ids (f ∷ fs) [] = Nothing
 readyIn ids (f ∷ fs) (s ∷ ss) = cond (heldIn ids f && heldIn ids s) (At 0) (further 1 (readyIn ids fs ss))
+
+-- ---- a document at work
+
+-- two lists in a document, with n operations carried out so far and m discarded
+unfoldable pub workOf : List Character → List Operation → ℕ → ℕ → Work
+workOf cs ps n m = record { document = documentOf cs ps; integrated = n; discarded = m }
+
+-- the document is determined by its lists
+abbrev pub Tidy : Work → Type 0
+Tidy w = w ≡ workOf (charactersIn (w .document)) (pendingIn (w .document)) (w .integrated) (w .discarded)
+
+-- what draining needs: sound lists, and counts that fit whatever becomes of what is pending
+pub record Workable (w : Work) : Type 0 where
+  pub tidy : Tidy w
+  pub sound : Sound (charactersIn (w .document)) (pendingIn (w .document))
+  pub integrated-fits : w .integrated + w .document .waiting < 2 ^ 64
+  pub discarded-fits : w .discarded + w .document .waiting < 2 ^ 64
+
+-- what carrying out one operation needs: it is executable, and there is room for it and for its count
+pub record Due (w : Work) (o : Operation) : Type 0 where
+  pub tidy : Tidy w
+  pub ready : executable (charactersIn (w .document)) o ≡ true
+  pub ranges : every characterInRange (charactersIn (w .document)) ≡ true
+  pub room : w .document .length + length (inserts (o ∷ [])) ≤ 1024
+  pub integrated-fits : w .integrated + 1 < 2 ^ 64
+  pub discarded-fits : w .discarded + 1 < 2 ^ 64
+
+-- o carried out, or discarded where condition 8 or 9 holds
+unfoldable pub carried : List Character → List Operation → ℕ → ℕ → Operation → Work
+carried cs ps n m o =
+    cond (crossed cs o || unplaceable cs o) (workOf cs ps n (m + 1)) (workOf (integrate cs o) ps (n + 1) m)
+
+-- one step of draining: the operation that was taken out is carried out or discarded
+unfoldable pub stepped : List Character → List Operation → ℕ → ℕ → Option Taken → Work
+stepped cs ps n m none = workOf cs ps n m
+stepped cs ps n m (some t) = carried cs (t .others) n m (t .operation)
+
+-- what draining leaves, with what it carried out and discarded counted
+unfoldable pub finished : List Character → List Operation → ℕ → ℕ → Work
+finished cs ps n m =
+    let d : Drained = drain cs ps in
+    workOf (d .characters) (d .pending) (n + length (d .integrated)) (m + length (d .discarded))

@@ -16,3 +16,4 @@ pub fn well_formed(r: Replica) -> bool
     let c = form::check(r);
     c.formed
 }
+mod work;

@@ -1,0 +1,39 @@
+-- `replica::work::carry_insert` has the array with the character in it, one longer.
+use native.Mathlib.Omega.{arith}
+use mathlib.Core.Path.{refl}
+use Rattle.woot.specs.Operations.{character}
+use Rattle.replica.specs.Work.{charactersIn}
+use Rattle.replica.proofs.Works.{parts, work-path, length-inserted}
+use borrow.Author.Needs.{needs}
+use Rattle.replica.proofs.work.carry_insert.Statement.{statement}
+use Rattle.replica.proofs.work.carry_insert.Tie as tie
+
+character-requires : tie.Need-character-requires
+character-requires c κs = search needs
+
+inserted-requires : tie.Need-inserted-requires
+inserted-requires c κs = search needs
+
+add-t10 : tie.Need-add-t10
+add-t10 c = search needs
+
+add-t10-2 : tie.Need-add-t10-2
+add-t10-2 c = search needs
+
+returns : tie.Need-returns
+returns c =
+    let a = c .before .before .before .before .before .before .before .args in
+    let p = parts (c .before .before .before .before .before .before .before .pre .0) in
+    work-path
+    (record {
+      characters = rw (c .before .before .before .inserted .ensures, c .before .before .before .before .character .ensures);
+      length-is = omega (arith, p .length-is, length-inserted (a .k) (character (a .i)) (charactersIn (a .w .document)));
+      pending = p .pending;
+      waiting-is = p .waiting-is;
+    })
+    refl
+    refl
+
+pub carry-insert-spec : {M : Type 1} → statement M
+carry-insert-spec =
+    tie.close (tie.spec character-requires inserted-requires add-t10 add-t10-2 returns)

@@ -1,0 +1,15 @@
+-- `replica::work::discard` keeps the document.
+use mathlib.Core.Path.{refl}
+use Rattle.replica.proofs.Works.{parts, work-path}
+use borrow.Author.Needs.{needs}
+use Rattle.replica.proofs.work.discard.Statement.{statement}
+use Rattle.replica.proofs.work.discard.Tie as tie
+
+add-t3 : tie.Need-add-t3
+add-t3 c = search needs
+
+returns : tie.Need-returns
+returns c = work-path (parts (c .before .before .pre .0)) refl refl
+
+pub discard-spec : {M : Type 1} → statement M
+discard-spec = tie.close (tie.spec add-t3 returns)

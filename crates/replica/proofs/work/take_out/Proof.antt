@@ -1,0 +1,33 @@
+-- `replica::work::take_out` has the array without the one at j, one shorter.
+use native.Mathlib.Omega.{arith}
+use mathlib.Core.Path.{refl, sym, ap, _∙_}
+use Rattle.woot.specs.State.{pad, blankPending}
+use Rattle.replica.specs.Work.{pendingIn}
+use Rattle.replica.proofs.Queues.{waiting-removed}
+use Rattle.replica.proofs.Works.{parts, work-path, length-removed}
+use borrow.Author.Needs.{needs}
+use Rattle.replica.proofs.work.take_out.Statement.{statement}
+use Rattle.replica.proofs.work.take_out.Tie as tie
+
+without-requires : tie.Need-without-requires
+without-requires c κs = search needs
+
+sub-t8 : tie.Need-sub-t8
+sub-t8 c = search needs
+
+returns : tie.Need-returns
+returns c =
+    let a = c .before .before .before .before .before .args in
+    let p = parts (c .before .before .before .before .before .pre .0) in
+    work-path
+    (record {
+      characters = p .characters;
+      length-is = p .length-is;
+      pending = c .before .before .without .ensures ∙ ap (pad 512 blankPending) (sym (waiting-removed _ _));
+      waiting-is = omega (arith, p .waiting-is, length-removed (a .j) (pendingIn (a .w .document)) (omega arith));
+    })
+    refl
+    refl
+
+pub take-out-spec : {M : Type 1} → statement M
+take-out-spec = tie.close (tie.spec without-requires sub-t8 returns)

@@ -1,0 +1,202 @@
+// A document at work in a call: operations are carried out on it one by one, and counted.
+use crate::edit;
+use crate::index;
+use crate::placing;
+use crate::placing::Placement;
+use crate::queue;
+use crate::ready;
+use order::Found;
+use woot::Character;
+use woot::Document;
+use woot::Identifier;
+use woot::Insert;
+use woot::Operation;
+ghost use mathlib.Core.Path.{_≡_};
+ghost use Prim.Native.Nat.{_+_, _≤_, _<_, _^_};
+ghost use Rattle.woot.specs.declared.Operation.the-variants.{Insert as insert};
+ghost use Rattle.woot.specs.Operations.{character};
+ghost use Rattle.woot.specs.Placing.{insertAt, integrateDelete};
+ghost use Rattle.woot.specs.Pending.{executable, earliest};
+ghost use Rattle.order.specs.declared.Found.the-variants.{At};
+ghost use Rattle.replica.specs.Edit.{removed};
+ghost use Rattle.replica.specs.Work.{charactersIn, pendingIn, firstIndex, workOf, Tidy, Workable, Due, carried, stepped, finished};
+
+// The document, and how many operations have been carried out and how many discarded.
+pub(crate) struct Work {
+    pub(crate) document: Document,
+    pub(crate) integrated: usize,
+    pub(crate) discarded: usize,
+}
+
+// The character that an insert brings.
+fn character(i: Insert) -> Character
+    ensures { λ r. ⌜ r ≡ character i ⌝ }
+{
+    let id = i.id;
+    let previous = i.previous;
+    let next = i.next;
+    Character {
+        id,
+        code_point: i.code_point,
+        visible: true,
+        previous,
+        next,
+    }
+}
+
+// Carries out an insert: its character goes in after the first k.
+pub(crate) fn carry_insert(w: Work, i: Insert, k: usize) -> Work
+    requires { ⌜ Tidy w × (k ≤ w .document .length) × (w .document .length < 1024) × (w .integrated + 1 < 2 ^ 64) ⌝ }
+    ensures { λ r. ⌜ r ≡ workOf (insertAt k (character i) (charactersIn (w .document))) (pendingIn (w .document)) (w .integrated + 1) (w .discarded) ⌝ }
+{
+    let d = w.document;
+    let cs = d.characters;
+    let characters = edit::inserted(cs, d.length, k, character(i));
+    let pending = d.pending;
+    let document = Document {
+        characters,
+        length: d.length + 1,
+        pending,
+        waiting: d.waiting,
+    };
+    Work {
+        document,
+        integrated: w.integrated + 1,
+        discarded: w.discarded,
+    }
+}
+
+// Carries out a delete: the target is hidden.
+pub(crate) fn carry_delete(w: Work, target: Identifier) -> Work
+    requires { ⌜ Tidy w × (w .document .length ≤ 1024) × (w .integrated + 1 < 2 ^ 64) ⌝ }
+    ensures { λ r. ⌜ r ≡ workOf (integrateDelete (charactersIn (w .document)) target) (pendingIn (w .document)) (w .integrated + 1) (w .discarded) ⌝ }
+{
+    let d = w.document;
+    let cs = d.characters;
+    let characters = edit::hidden(cs, d.length, target);
+    let pending = d.pending;
+    let document = Document {
+        characters,
+        length: d.length,
+        pending,
+        waiting: d.waiting,
+    };
+    Work {
+        document,
+        integrated: w.integrated + 1,
+        discarded: w.discarded,
+    }
+}
+
+// One operation more discarded.
+fn discard(w: Work) -> Work
+    requires { ⌜ Tidy w × (w .discarded + 1 < 2 ^ 64) ⌝ }
+    ensures { λ r. ⌜ r ≡ workOf (charactersIn (w .document)) (pendingIn (w .document)) (w .integrated) (w .discarded + 1) ⌝ }
+{
+    let document = w.document;
+    Work {
+        document,
+        integrated: w.integrated,
+        discarded: w.discarded + 1,
+    }
+}
+
+// Carries out an insert where the index has a place for it, or discards it.
+fn place_insert(w: Work, i: Insert) -> Work
+    requires { ⌜ Due w (insert i) ⌝ }
+    ensures { λ r. ⌜ r ≡ carried (charactersIn (w .document)) (pendingIn (w .document)) (w .integrated) (w .discarded) (insert i) ⌝ }
+{
+    let d = w.document;
+    let cs = d.characters;
+    let n = d.length;
+    match placing::find_place(index::index_of(cs, n), n, i) {
+        Placement::Missing => discard(w),
+        Placement::Crossed => discard(w),
+        Placement::Unplaceable => discard(w),
+        Placement::Below(k) => carry_insert(w, i, k),
+    }
+}
+
+// Carries out an operation that is executable, or discards it.
+fn carry(w: Work, o: Operation) -> Work
+    requires { ⌜ Due w o ⌝ }
+    ensures { λ r. ⌜ r ≡ carried (charactersIn (w .document)) (pendingIn (w .document)) (w .integrated) (w .discarded) o ⌝ }
+{
+    match o {
+        Operation::Insert(i) => place_insert(w, i),
+        Operation::Delete(d) => {
+            let target = d.target;
+            carry_delete(w, target)
+        }
+    }
+}
+
+// Takes out the pending operation at the index.
+fn take_out(w: Work, j: usize) -> Work
+    requires { ⌜ Tidy w × (j < w .document .waiting) × (w .document .waiting ≤ 512) ⌝ }
+    ensures { λ r. ⌜ r ≡ workOf (charactersIn (w .document)) (removed j (pendingIn (w .document))) (w .integrated) (w .discarded) ⌝ }
+{
+    let d = w.document;
+    let ps = d.pending;
+    let pending = edit::without(ps, d.waiting, j);
+    let characters = d.characters;
+    let document = Document {
+        characters,
+        length: d.length,
+        pending,
+        waiting: d.waiting - 1,
+    };
+    Work {
+        document,
+        integrated: w.integrated,
+        discarded: w.discarded,
+    }
+}
+
+// The index of the earliest pending operation that is executable.
+fn due(w: Work) -> Found
+    requires { ⌜ Workable w ⌝ }
+    ensures { λ r. ⌜ r ≡ firstIndex (executable (charactersIn (w .document))) (pendingIn (w .document)) ⌝ }
+{
+    let d = w.document;
+    let cs = d.characters;
+    let ps = d.pending;
+    let n = d.length;
+    let m = d.waiting;
+    let packed = order::pack(cs, n);
+    let queue = queue::pack(ps, m);
+    let ids = packed.ids;
+    let first = queue.first;
+    let second = queue.second;
+    ready::ready(&ids[..n], &first[..m], &second[..m])
+}
+
+// Takes out the pending operation that is due, and carries it out or discards it.
+fn step(w: Work, j: usize) -> Work
+    requires { ⌜ Workable w × (firstIndex (executable (charactersIn (w .document))) (pendingIn (w .document)) ≡ At j) ⌝ }
+    ensures { λ r. ⌜ r ≡ stepped (charactersIn (w .document)) (pendingIn (w .document)) (w .integrated) (w .discarded) (earliest (executable (charactersIn (w .document))) (pendingIn (w .document))) ⌝ }
+{
+    let d = w.document;
+    let ps = d.pending;
+    let p = ps[j];
+    let o = p.operation;
+    carry(take_out(w, j), o)
+}
+
+// Carries out or discards pending operations, the earliest that is executable first, until none is.
+pub(crate) fn drain(mut w: Work) -> Work
+    requires { ⌜ Workable w ⌝ }
+    ensures { λ r. ⌜ r ≡ finished (charactersIn (w .document)) (pendingIn (w .document)) (w .integrated) (w .discarded) ⌝ }
+{
+    while 0 < w.document.waiting {
+        match due(w) {
+            Found::At(j) => {
+                w = step(w, j);
+            }
+            Found::Nothing => {
+                return w;
+            }
+        }
+    }
+    w
+}
