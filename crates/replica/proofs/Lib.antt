@@ -5,7 +5,6 @@ pub mod Checks
 pub mod Padding
 pub mod Searches
 pub mod Queues
-pub mod Indexes
 pub mod Runs
 pub mod Pending
 pub mod Placements
@@ -13,8 +12,5 @@ pub mod Fullness
 pub mod Earliest
 pub mod Visibility
 pub mod Texts
-pub mod Throughout
-pub mod Runs
-pub mod Pending
 pub mod Works
 pub mod Stepping

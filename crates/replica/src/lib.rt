@@ -6,9 +6,14 @@ mod placing;
 mod queue;
 mod ready;
 mod visible;
+mod work;
+
 use woot::Replica;
+use woot::Written;
 ghost use mathlib.Core.Path.{_≡_};
 ghost use Rattle.woot.specs.Form.{replicaWellFormed};
+ghost use Rattle.replica.specs.Replicas.{textWritten, textOut};
+
 // Whether a replica is well formed. (Document 01: in form.)
 pub fn well_formed(r: Replica) -> bool
     ensures { λ x. ⌜ x ≡ replicaWellFormed r ⌝ }
@@ -16,4 +21,10 @@ pub fn well_formed(r: Replica) -> bool
     let c = form::check(r);
     c.formed
 }
-mod work;
+
+// The visible text of a replica as UTF-8 into the slice: its length, or refusal 3 or 12, and then no byte is changed.
+pub fn visible_text(r: Replica, out: &mut [u8]) -> Written
+    ensures { λ x. ⌜ (x ≡ textWritten r (now (out .entry))) × (now (out .exit) ≡ textOut r (now (out .entry))) ⌝ }
+{
+    visible::text_when(well_formed(r), r, out)
+}
