@@ -52,17 +52,15 @@ pub(crate) fn carry_insert(w: Work, i: Insert, k: usize) -> Work
     let d = w.document;
     let cs = d.characters;
     let characters = edit::inserted(cs, d.length, k, character(i));
-    let pending = d.pending;
     let document = Document {
         characters,
         length: d.length + 1,
-        pending,
-        waiting: d.waiting,
+        ..d
     };
     Work {
         document,
         integrated: w.integrated + 1,
-        discarded: w.discarded,
+        ..w
     }
 }
 
@@ -74,17 +72,11 @@ pub(crate) fn carry_delete(w: Work, target: Identifier) -> Work
     let d = w.document;
     let cs = d.characters;
     let characters = edit::hidden(cs, d.length, target);
-    let pending = d.pending;
-    let document = Document {
-        characters,
-        length: d.length,
-        pending,
-        waiting: d.waiting,
-    };
+    let document = Document { characters, ..d };
     Work {
         document,
         integrated: w.integrated + 1,
-        discarded: w.discarded,
+        ..w
     }
 }
 
@@ -93,11 +85,9 @@ fn discard(w: Work) -> Work
     requires { ⌜ Tidy w × (w .discarded + 1 < 2 ^ 64) ⌝ }
     ensures { λ r. ⌜ r ≡ workOf (charactersIn (w .document)) (pendingIn (w .document)) (w .integrated) (w .discarded + 1) ⌝ }
 {
-    let document = w.document;
     Work {
-        document,
-        integrated: w.integrated,
         discarded: w.discarded + 1,
+        ..w
     }
 }
 
@@ -139,18 +129,12 @@ fn take_out(w: Work, j: usize) -> Work
     let d = w.document;
     let ps = d.pending;
     let pending = edit::without(ps, d.waiting, j);
-    let characters = d.characters;
     let document = Document {
-        characters,
-        length: d.length,
         pending,
         waiting: d.waiting - 1,
+        ..d
     };
-    Work {
-        document,
-        integrated: w.integrated,
-        discarded: w.discarded,
-    }
+    Work { document, ..w }
 }
 
 // The index of the earliest pending operation that is executable.

@@ -9,8 +9,8 @@ use Rattle.replica.proofs.work.carry_delete.Tie as tie
 hidden-requires : tie.Need-hidden-requires
 hidden-requires c κs = search needs
 
-add-t8 : tie.Need-add-t8
-add-t8 c = search needs
+add-t10 : tie.Need-add-t10
+add-t10 c = search needs
 
 returns : tie.Need-returns
 returns c =
@@ -26,4 +26,4 @@ returns c =
     refl
 
 pub carry-delete-spec : {M : Type 1} → statement M
-carry-delete-spec = tie.close (tie.spec hidden-requires add-t8 returns)
+carry-delete-spec = tie.close (tie.spec hidden-requires add-t10 returns)

@@ -14,11 +14,11 @@ character-requires c κs = search needs
 inserted-requires : tie.Need-inserted-requires
 inserted-requires c κs = search needs
 
-add-t10 : tie.Need-add-t10
-add-t10 c = search needs
+add-t9 : tie.Need-add-t9
+add-t9 c = search needs
 
-add-t10-2 : tie.Need-add-t10-2
-add-t10-2 c = search needs
+add-t9-2 : tie.Need-add-t9-2
+add-t9-2 c = search needs
 
 returns : tie.Need-returns
 returns c =
@@ -36,4 +36,4 @@ returns c =
 
 pub carry-insert-spec : {M : Type 1} → statement M
 carry-insert-spec =
-    tie.close (tie.spec character-requires inserted-requires add-t10 add-t10-2 returns)
+    tie.close (tie.spec character-requires inserted-requires add-t9 add-t9-2 returns)

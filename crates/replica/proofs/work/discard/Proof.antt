@@ -5,11 +5,11 @@ use borrow.Author.Needs.{needs}
 use Rattle.replica.proofs.work.discard.Statement.{statement}
 use Rattle.replica.proofs.work.discard.Tie as tie
 
-add-t3 : tie.Need-add-t3
-add-t3 c = search needs
+add-t2 : tie.Need-add-t2
+add-t2 c = search needs
 
 returns : tie.Need-returns
 returns c = work-path (parts (c .before .before .pre .0)) refl refl
 
 pub discard-spec : {M : Type 1} → statement M
-discard-spec = tie.close (tie.spec add-t3 returns)
+discard-spec = tie.close (tie.spec add-t2 returns)

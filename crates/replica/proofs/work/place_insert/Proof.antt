@@ -1,22 +1,34 @@
 -- `replica::work::place_insert` does with an insert what is found for it.
 use native.Mathlib.Omega.{arith}
 use mathlib.Core.Path.{_≡_, sym, _∙_}
-use Rattle.convergence.proofs.Members.{every-member}
-use Rattle.woot.specs.Ranges.{characterInRange}
-use Rattle.order.proofs.Keys.{all-range-small}
-use Rattle.replica.specs.declared.placing.Placement.the-variants.{Missing, Crossed, Unplaceable}
-use Rattle.replica.specs.Work.{charactersIn, pendingIn, placementOf}
-use Rattle.replica.proofs.Placements.{says}
-use Rattle.replica.proofs.Works.{parts, carried-insert}
 use borrow.Author.Needs.{needs}
+use Rattle.woot.specs.declared.Insert.{Insert}
+use Rattle.woot.specs.declared.Operation.the-variants.{Insert as insert}
+use Rattle.woot.specs.Ranges.{characterInRange}
+use Rattle.convergence.proofs.Members.{every-member}
+use Rattle.order.proofs.Keys.{all-range-small}
+use Rattle.replica.specs.declared.placing.Placement.{Placement}
+use Rattle.replica.specs.declared.placing.Placement.the-variants.{Missing, Crossed, Unplaceable}
+use Rattle.replica.specs.declared.work.Work.{Work}
+use Rattle.replica.specs.Work.{charactersIn, pendingIn, carried}
+use Rattle.replica.proofs.Placements.{Says, says}
+use Rattle.replica.proofs.Works.{parts, judged, carried-insert}
 use Rattle.replica.proofs.work.place_insert.Statement.{statement}
 use Rattle.replica.proofs.work.place_insert.Tie as tie
 
--- what is found for the insert is what the rules say of it
-on : (c : tie.After-find-place) → let a = c .before .before .before .before .args in c .find-place .result ≡ placementOf (charactersIn (a .w .document)) (a .i)
-on c =
+-- what is found for the insert is what the rules say of it, and what becomes of it goes by that
+record Judges (w : Work) (i : Insert) (p : Placement) : Type 0 where
+  says-so : Says (charactersIn (w .document)) i p
+  becomes :
+      carried (charactersIn (w .document)) (pendingIn (w .document)) (w .integrated) (w .discarded) (insert i)
+      ≡ judged (charactersIn (w .document)) (pendingIn (w .document)) (w .integrated) (w .discarded) i p
+
+on : (c : tie.After-find-place) (p : Placement) → c .find-place .result ≡ p → let a = c .before .before .before .before .args in Judges (a .w) (a .i) p
+on c p e =
     let d = c .before .before .before .before .pre in
-    c .find-place .ensures _ (c .before .index-of .ensures) (sym (parts (d .tidy) .length-is)) (all-range-small _ (λ e m. every-member characterInRange (d .ranges) m))
+    let small = all-range-small _ (λ b m. every-member characterInRange (d .ranges) m) in
+    let is = sym (c .find-place .ensures _ (c .before .index-of .ensures) (sym (parts (d .tidy) .length-is)) small) ∙ e in
+    record { says-so = says _ _ p is; becomes = carried-insert _ _ _ _ _ (d .ready) p is }
 
 index-of-requires : tie.Need-index-of-requires
 index-of-requires c κs = search needs
@@ -47,35 +59,22 @@ enum-known-k c = search needs
 
 carry-insert-requires : tie.Need-carry-insert-requires
 carry-insert-requires c κs =
-    let a = c .before .before .before .before .before .before .before .args in
     let d = c .before .before .before .before .before .before .before .pre in
-    let p = parts (d .tidy) in
-    let s = says (charactersIn (a .w .document)) (a .i) _ (sym (on (c .before .before .before)) ∙ c .before .k .given .1) in
-    (d .tidy, omega (arith, s .4, p .length-is), omega (arith, d .room), d .integrated-fits)
+    let s = on (c .before .before .before) _ (c .before .k .given .1) .says-so in
+    (d .tidy, omega (arith, s .4, parts (d .tidy) .length-is), omega (arith, d .room), d .integrated-fits)
 
 returns : tie.Need-returns
-returns c =
-    let a = c .before .before .before .before .before .before .before .args in
-    let d = c .before .before .before .before .before .before .before .pre in
-    c .discard .ensures ∙ sym (carried-insert (charactersIn (a .w .document)) (pendingIn (a .w .document)) (a .w .integrated) (a .w .discarded) (a .i) (d .ready) Missing (sym (on (c .before .before .before)) ∙ c .before .enum-told .given .1))
+returns c = rw (c .discard .ensures) (sym (on (c .before .before .before) Missing (c .before .enum-told .given .1) .becomes))
 
 returns-2 : tie.Need-returns-2
-returns-2 c =
-    let a = c .before .before .before .before .before .before .before .args in
-    let d = c .before .before .before .before .before .before .before .pre in
-    c .discard2 .ensures ∙ sym (carried-insert (charactersIn (a .w .document)) (pendingIn (a .w .document)) (a .w .integrated) (a .w .discarded) (a .i) (d .ready) Crossed (sym (on (c .before .before .before)) ∙ c .before .enum-told2 .given .1))
+returns-2 c = rw (c .discard2 .ensures) (sym (on (c .before .before .before) Crossed (c .before .enum-told2 .given .1) .becomes))
 
 returns-3 : tie.Need-returns-3
-returns-3 c =
-    let a = c .before .before .before .before .before .before .before .args in
-    let d = c .before .before .before .before .before .before .before .pre in
-    c .discard3 .ensures ∙ sym (carried-insert (charactersIn (a .w .document)) (pendingIn (a .w .document)) (a .w .integrated) (a .w .discarded) (a .i) (d .ready) Unplaceable (sym (on (c .before .before .before)) ∙ c .before .enum-told3 .given .1))
+returns-3 c = rw (c .discard3 .ensures) (sym (on (c .before .before .before) Unplaceable (c .before .enum-told3 .given .1) .becomes))
 
 returns-4 : tie.Need-returns-4
 returns-4 c =
-    let a = c .before .before .before .before .before .before .before .before .args in
-    let d = c .before .before .before .before .before .before .before .before .pre in
-    c .carry-insert .ensures ∙ sym (carried-insert (charactersIn (a .w .document)) (pendingIn (a .w .document)) (a .w .integrated) (a .w .discarded) (a .i) (d .ready) _ (sym (on (c .before .before .before .before)) ∙ c .before .before .k .given .1))
+    rw (c .carry-insert .ensures) (sym (on (c .before .before .before .before) _ (c .before .before .k .given .1) .becomes))
 
 pub place-insert-spec : {M : Type 1} → statement M
 place-insert-spec =

@@ -12,8 +12,8 @@ use Rattle.replica.proofs.work.take_out.Tie as tie
 without-requires : tie.Need-without-requires
 without-requires c κs = search needs
 
-sub-t8 : tie.Need-sub-t8
-sub-t8 c = search needs
+sub-t7 : tie.Need-sub-t7
+sub-t7 c = search needs
 
 returns : tie.Need-returns
 returns c =
@@ -30,4 +30,4 @@ returns c =
     refl
 
 pub take-out-spec : {M : Type 1} → statement M
-take-out-spec = tie.close (tie.spec without-requires sub-t8 returns)
+take-out-spec = tie.close (tie.spec without-requires sub-t7 returns)
