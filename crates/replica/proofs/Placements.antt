@@ -14,7 +14,6 @@ use Rattle.woot.specs.Operations.{character}
 use Rattle.woot.specs.Placing.{placeOf, held, above, position, between, insertAt, integrateInsert}
 use Rattle.woot.specs.Pending.{executable, crossed, unplaceable}
 use Rattle.convergence.proofs.Standing.{placement-at}
-use Rattle.order.specs.declared.Found.{Found}
 use Rattle.order.specs.declared.Found.the-variants.{At, Nothing}
 use Rattle.order.specs.Passes.{found}
 use Rattle.replica.specs.declared.placing.Placement.{Placement}

@@ -1,6 +1,5 @@
 -- `replica::placing::find_place` lends the slots of the index that are in use.
 use native.Mathlib.Omega.{arith}
-use mathlib.Core.Path.{_∙_}
 use lib.ListN.{length-take}
 use Rattle.replica.proofs.Indexes.{index-ids, index-above, index-below}
 use Rattle.replica.proofs.Fullness.{FullIndex, full-index}

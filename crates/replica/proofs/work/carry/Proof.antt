@@ -1,5 +1,5 @@
 -- `replica::work::carry` goes by the kind of the operation.
-use mathlib.Core.Path.{_≡_, sym, _∙_}
+use mathlib.Core.Path.{sym, _∙_}
 use Rattle.replica.proofs.Works.{carried-delete}
 use borrow.Author.Needs.{needs}
 use Rattle.replica.proofs.work.carry.Statement.{statement}
