@@ -1,14 +1,16 @@
 // What refusal 2 lets pass: the ranges of the numbers, where a mark may stand, and that an insert does not name itself.
 // The rules are in the specs of `woot`.
+use woot::Character;
 use woot::Delete;
 use woot::Identifier;
 use woot::Insert;
 use woot::Operation;
+use woot::Site;
 ghost use mathlib.Core.Path.{_≡_};
 ghost use mathlib.Core.Bool.{_||_};
 ghost use Rattle.woot.specs.Limits.{lastClock};
 ghost use Rattle.woot.specs.Identifiers.{same};
-ghost use Rattle.woot.specs.Ranges.{within, siteNumber, codePoint, characterId, previousId, nextId, insertInRange, deleteInRange, inRange};
+ghost use Rattle.woot.specs.Ranges.{within, siteNumber, codePoint, characterId, previousId, nextId, siteInRange, insertInRange, deleteInRange, inRange, characterInRange};
 
 // Whether a number is one of a site.
 pub fn site_number(n: u8) -> bool
@@ -128,4 +130,26 @@ pub fn in_range(o: Operation) -> bool
         Operation::Insert(i) => insert_in_range(i),
         Operation::Delete(d) => delete_in_range(d),
     }
+}
+
+// Whether refusal 2 lets a character pass.
+pub fn character_in_range(c: Character) -> bool
+    ensures { λ r. ⌜ r ≡ characterInRange c ⌝ }
+{
+    let id = c.id;
+    let previous = c.previous;
+    let next = c.next;
+    insert_in_range(Insert {
+        id,
+        code_point: c.code_point,
+        previous,
+        next,
+    })
+}
+
+// Whether refusal 2 lets a site's number and clock pass.
+pub fn site_in_range(s: Site) -> bool
+    ensures { λ r. ⌜ r ≡ siteInRange s ⌝ }
+{
+    site_number(s.number)
 }

@@ -1,86 +1,58 @@
 -- The conditions on packed numbers are those of the rules, for characters and operations in range: keys are then found as
 -- their identifiers are. A list is distinct where each element is not among those before it.
-use Prim.Native.Nat.{ℕ, zero, suc, _+_, _≤_, _<_}
-use native.Mathlib.Nat.{not-suc-le-zero, le-of-suc-le-suc}
+use Prim.Native.Nat.{ℕ, suc, _+_, _<_}
 use native.Mathlib.Numerals.{add-one}
 use native.Mathlib.Omega.{arith}
-use mathlib.Core.Path.{_≡_, refl, ap, ap₂, sym, _∙_, subst}
-use mathlib.Core.Bool.{Bool, true, false, _&&_, _||_, not, cond}
+use mathlib.Core.Path.{_≡_, refl, ap, ap₂, sym, _∙_}
+use mathlib.Core.Bool.{Bool, true, false, _&&_, _||_, not, cond, and-true, or-false}
 use mathlib.Core.List.{List, [], _∷_, _++_, map, append-nil, List·Memᴰ, List·Memᴰ·head, List·Memᴰ·tail}
-use mathlib.Core.Logic.{⊎-elim}
-use borrow.Author.Tests.{not-true, eq-eqb, ne-eqb, lt-ltb, le-leb}
+use borrow.Author.Tests.{not-true, ne-eqb, le-leb}
 use lib.Dec.{leb, ltb, eqb, leb·zero, leb·suc-suc}
 use lib.ListN.{length, take, getD, length-append, length-map}
-use lib.Seq.{take-suc, take-length, length-take-le}
 use Rattle.woot.specs.declared.Identifier.{Identifier}
 use Rattle.woot.specs.declared.Insert.{Insert}
-use Rattle.woot.specs.declared.Delete.{Delete}
 use Rattle.woot.specs.declared.Operation.{Operation}
 use Rattle.woot.specs.declared.Operation.the-variants.{Insert as insert, Delete as delete}
 use Rattle.woot.specs.declared.Character.{Character}
 use Rattle.woot.specs.Identifiers.{begin, end, same}
-use Rattle.woot.specs.Limits.{lastSite, capacity, share}
+use Rattle.woot.specs.Limits.{lastSite, share}
 use Rattle.woot.specs.Lists.{any, every, distinct}
-use Rattle.woot.specs.Operations.{sender, origin, inserts, deletes, sameDelete, sameOperation}
+use Rattle.woot.specs.Operations.{sender, origin, inserts, deletes, sameDelete}
 use Rattle.woot.specs.Placing.{identifiers, sequence, placeOf, held, above}
 use Rattle.woot.specs.Ranges.{siteInRange, characterId, characterInRange, inRange}
 use Rattle.woot.specs.State.{State, blankCharacter, blankPending}
 use Rattle.woot.specs.Pending.{executable}
-use Rattle.woot.specs.Form.{known, numbers, wellFormed, allInRange, sharesKept, capacityKept, identifiersDistinct, deletesDistinct, ordered, neighboursOrdered, noneExecutable}
-use Rattle.convergence.proofs.Tests.{agree, either, three, and-left, and-right, and-intro, not-intro}
+use Rattle.woot.specs.Form.{numbers, wellFormed, allInRange, sharesKept, capacityKept, identifiersDistinct, deletesDistinct, ordered, neighboursOrdered, noneExecutable}
+use Rattle.convergence.proofs.Tests.{agree, three, and-left, and-right, and-intro, not-intro}
 use Rattle.convergence.proofs.Members.{any-append, every-member}
 use Rattle.convergence.proofs.Identifiers.{same-sym}
 use Rattle.convergence.proofs.Extract.{Extract, extract-last, extract-map, distinct-extract, extract-distinct}
 use Rattle.convergence.proofs.Ranges.{in-range, character-site}
 use Rattle.convergence.proofs.Forms.{pendingIds, known-ids, known-length}
-use Rattle.convergence.proofs.Places.{index-later, not-begin, held-begin}
+use Rattle.convergence.proofs.Places.{index-later, not-begin}
 use Rattle.convergence.proofs.Characters.{located-index, located-at}
-use Rattle.convergence.proofs.Soundness.{inserts-extract, inserts-same, deletes-extract, deletes-same, ids-extract, sameDelete-sym}
+use Rattle.convergence.proofs.Soundness.{inserts-same, deletes-extract, deletes-same, ids-extract, sameDelete-sym}
 use Rattle.convergence.proofs.Steps.{any-deletes}
+use Rattle.order.specs.declared.Found.{Found}
+use Rattle.order.specs.declared.Found.the-variants.{At, Nothing}
 use Rattle.order.specs.Keys.{key, Small, AllSmall, keys, indexIn, placeIn}
 use Rattle.order.specs.Packing.{previousPlaces, nextPlaces}
-use Rattle.order.proofs.Keys.{key-begin, key-same, character-small, all-range-small}
-use Rattle.order.proofs.Indices.{index-here, index-later as key-later, place-keys}
-use Rattle.replica.specs.Index.{holdsKey, holdsBoth}
+use Rattle.order.proofs.Keys.{key-same, character-small, all-range-small}
+use Rattle.order.proofs.Indices.{index-later as key-later}
 use Rattle.replica.specs.Queue.{ownKey, firstKey, secondKey, hasDelete}
-use Rattle.replica.specs.Form.{charactersFormed, pendingFormed, throughout, sharesIn, roomKept, unheldKey, newAt, keysDistinct, freeAt, keysNew, freshAt, noneRepeated, orderedAt, placesOrdered, unreadyAt, noneReady}
-use Rattle.replica.proofs.Throughout.{throughout-cong, every-throughout, elementAt, and-true}
+use Rattle.replica.specs.Work.{further, firstIndex, heldIn}
+use Rattle.replica.specs.Form.{charactersFormed, pendingFormed, throughout, sharesIn, roomKept, unheldKey, newAt, keysDistinct, freeAt, keysNew, freshAt, noneRepeated, orderedAt, placesOrdered, nothing, noneReady}
+use Rattle.replica.proofs.Throughout.{throughout-cong, every-throughout, elementAt, getD-member, take-member, take-map, map-getD, grown}
+use Rattle.replica.proofs.Earliest.{ready-executable}
 use Rattle.replica.proofs.Pending.{Keyed, AllKeyed, all-keyed, count-senders, count-own, delete-found}
 
--- ---- lists
-
-and-assoc : (a b c : Bool) → (a && b) && c ≡ a && (b && c)
-and-assoc true b c = refl
-and-assoc false b c = refl
+-- ---- distinct lists
 
 not-or : (a b : Bool) → not (a || b) ≡ not a && not b
 not-or true b = refl
 not-or false b = refl
 
-not-any : {A : Type 0} (p : A → Bool) (xs : List A) → not (any p xs) ≡ every (λ x. not (p x)) xs
-not-any p [] = refl
-not-any p (x ∷ xs) = not-or (p x) (any p xs) ∙ ap (λ (b : Bool). not (p x) && b) (not-any p xs)
-
 module _ {A : Type 0} where
-  pub getD-member : (xs : List A) (i : ℕ) (d : A) → i < length xs → List·Memᴰ (getD xs i d) xs
-  getD-member [] i d h = absurd (not-suc-le-zero h)
-  getD-member (x ∷ xs) zero d h = List·Memᴰ·head refl
-  getD-member (x ∷ xs) (suc i) d h = List·Memᴰ·tail (getD-member xs i d (le-of-suc-le-suc h))
-
-  pub take-member : (n : ℕ) (xs : List A) {x : A} → List·Memᴰ x (take n xs) → List·Memᴰ x xs
-  take-member (suc n) (y ∷ xs) (List·Memᴰ·head e) = List·Memᴰ·head e
-  take-member (suc n) (y ∷ xs) (List·Memᴰ·tail m) = List·Memᴰ·tail (take-member n xs m)
-
-  -- a condition that one element more adds a test to
-  pub grown : (D : List A → Bool) (t : ℕ → Bool) (xs : List A) (d : A)
-      → ((i : ℕ) → i < length xs → D (take i xs ++ getD xs i d ∷ []) ≡ D (take i xs) && t i)
-      → D xs ≡ D [] && throughout t (length xs)
-  grown D t xs d step = ap D (sym (take-length xs)) ∙ go (length xs) (omega arith)
-    where
-      go : (n : ℕ) → n ≤ length xs → D (take n xs) ≡ D [] && throughout t n
-      go zero h = sym (and-true (D []))
-      go (suc n) h = rw (take-suc xs n d (omega arith), step n (omega arith), go n (omega arith)) (and-assoc (D []) (throughout t n) (t n))
-
   -- one element more, at any place
   distinct-one : (same : A → A → Bool) → ((a b : A) → same a b ≡ same b a) → {x : A} {ys zs : List A} → Extract x ys zs
       → distinct same zs ≡ distinct same ys && not (any (same x) ys)
@@ -91,17 +63,6 @@ module _ {A : Type 0} where
 
       back : distinct same ys && not (any (same x) ys) ≡ true → distinct same zs ≡ true
       back h = extract-distinct same swap e (not-true _ (and-right (distinct same ys) _ h)) (and-left (distinct same ys) _ h)
-
-module _ {A B : Type 0} (f : A → B) where
-  take-map : (n : ℕ) (xs : List A) → take n (map f xs) ≡ map f (take n xs)
-  take-map zero xs = refl
-  take-map (suc n) [] = refl
-  take-map (suc n) (x ∷ xs) = ap (λ (ys : List B). f x ∷ ys) (take-map n xs)
-
-  map-getD : (xs : List A) (i : ℕ) (z : B) (d : A) → i < length xs → getD (map f xs) i z ≡ f (getD xs i d)
-  map-getD [] i z d h = absurd (not-suc-le-zero h)
-  map-getD (x ∷ xs) zero z d h = refl
-  map-getD (x ∷ xs) (suc i) z d h = map-getD xs i z d (le-of-suc-le-suc h)
 
 -- ---- keys
 
@@ -115,21 +76,17 @@ key-any k (x ∷ xs) = go (eqb k x) (key-any k xs)
     go false h = leb·suc-suc (suc (indexIn k xs)) (length xs) ∙ h
 
 -- a key that is no mark's is held where it is among the others
-holds-any : (ks : List ℕ) (k : ℕ) → 1 < k → holdsKey ks k ≡ any (eqb k) ks
-unfolding holdsKey placeIn
-holds-any ks k h =
-    let size : length (ks ++ 1 ∷ []) ≡ length ks + 1 = length-append ks (1 ∷ []) in
+held-any : (ks : List ℕ) (k : ℕ) → 1 < k → heldIn ks k ≡ any (eqb k) ks
+unfolding heldIn placeIn
+held-any ks k h =
+    let size : length (ks ++ 1 ∷ []) ≡ suc (length ks) = length-append ks (1 ∷ []) ∙ add-one (length ks) in
     let other : eqb k 1 ≡ false = ne-eqb k 1 (λ (e : k ≡ 1). omega arith) in
     rw (key-later k 0 (ks ++ 1 ∷ []) (λ (e : k ≡ 0). omega arith), ← size)
-    (key-any k (ks ++ 1 ∷ []) ∙ any-append (eqb k) ks (1 ∷ []) ∙ rw other (or-none (any (eqb k) ks)))
-  where
-    or-none : (b : Bool) → b || false ≡ b
-    or-none true = refl
-    or-none false = refl
+    (key-any k (ks ++ 1 ∷ []) ∙ any-append (eqb k) ks (1 ∷ []) ∙ rw other (or-false (any (eqb k) ks)))
 
 unheld-any : (ks : List ℕ) (k : ℕ) → 1 < k → unheldKey ks k ≡ not (any (eqb k) ks)
 unfolding unheldKey
-unheld-any ks k h = rw (ne-eqb k 0 (λ (e : k ≡ 0). omega arith), holds-any ks k h)
+unheld-any ks k h = rw (ne-eqb k 0 (λ (e : k ≡ 0). omega arith), held-any ks k h)
 
 unheld-zero : (ks : List ℕ) → unheldKey ks 0 ≡ true
 unfolding unheldKey
@@ -202,18 +159,7 @@ module _ (cs : List Character) (ranges : every characterInRange cs ≡ true) whe
         ∙ throughout-cong (elementAt (ordered cs) cs blankCharacter) (orderedAt (previousPlaces cs) (nextPlaces cs)) (length cs) ordered-at
         ∙ ap (throughout (orderedAt (previousPlaces cs) (nextPlaces cs))) (sym (length-map cs (λ (c : Character). placeOf cs (c .previous))))
 
-  holds-held : (x : Identifier) → Small x → holdsKey (keys cs) (key x) ≡ held cs x
-  unfolding holdsKey held
-  holds-held x s = rw (place-keys x s cs all-small, length-map cs (λ (c : Character). key (c .id)), add-one (length cs))
-
   -- ---- the pending operations
-
-  executable-keys : (o : Operation) → Keyed o → holdsBoth (keys cs) (firstKey o) (secondKey o) ≡ executable cs o
-  unfolding holdsBoth firstKey secondKey executable
-  executable-keys (insert i) k = ap₂ (λ (a b : Bool). a && b) (holds-held (i .previous) (k .previous)) (holds-held (i .next) (k .next))
-  executable-keys (delete d) k =
-      let mark : holdsKey (keys cs) 0 ≡ true = ap (holdsKey (keys cs)) (sym key-begin) ∙ holds-held begin (omega arith) ∙ held-begin cs in
-      rw mark (and-true (holdsKey (keys cs) (key (d .target))) ∙ holds-held (d .target) k)
 
   -- one insert more is new among the characters and the pending inserts
   insert-step : (ps : List Operation) (o : Operation) → AllKeyed ps → inRange o ≡ true
@@ -228,6 +174,17 @@ module _ (cs : List Character) (ranges : every characterInRange cs ≡ true) whe
   insert-step ps (delete d) a r =
       rw (unheld-zero (keys cs), unheld-zero (map ownKey ps))
       (ap (λ (js : List Insert). distinct same (identifiers cs ++ map (λ j. j .id) js)) (inserts-same (extract-last (delete d) ps)) ∙ sym (and-true _))
+
+-- nothing passes where nothing is found
+none-first : {A : Type 0} (p : A → Bool) (xs : List A) → nothing (firstIndex p xs) ≡ not (any p xs)
+unfolding firstIndex
+none-first p [] = refl
+none-first p (x ∷ xs) = go (p x) (firstIndex p xs) (none-first p xs)
+  where
+    go : (b : Bool) (r : Found) → nothing r ≡ not (any p xs) → nothing (cond b (At 0) (further 1 r)) ≡ not (b || any p xs)
+    go true r h = refl
+    go false (At j) h = h
+    go false Nothing h = h
 
 -- one delete more is not among those before it
 delete-step : (ps : List Operation) (o : Operation) → AllKeyed ps → Keyed o
@@ -282,16 +239,7 @@ module _ (os : List Operation) (ranges : every inRange os ≡ true) where
             (insert-step cs character-ranges (take j os) (operationAt j) (keyed-before j) (every-member inRange ranges (member j h)))
 
     pub none-executable : not (any (executable cs) os) ≡ noneReady (keys cs) (map firstKey os) (map secondKey os)
-    unfolding unreadyAt
-    none-executable =
-        not-any (executable cs) os ∙ every-throughout (λ o. not (executable cs o)) os (blankPending .operation)
-        ∙ throughout-cong (elementAt (λ o. not (executable cs o)) os (blankPending .operation)) (unreadyAt (keys cs) (map firstKey os) (map secondKey os)) (length os) at-each
-        ∙ ap (throughout (unreadyAt (keys cs) (map firstKey os) (map secondKey os))) (sym (length-map os firstKey))
-      where
-        at-each : (j : ℕ) → j < length os → not (executable cs (operationAt j)) ≡ unreadyAt (keys cs) (map firstKey os) (map secondKey os) j
-        at-each j h =
-            rw (number firstKey j h, number secondKey j h)
-            (ap not (sym (executable-keys cs character-ranges (operationAt j) (keyed (operationAt j) (member j h)))))
+    none-executable = sym (ap nothing (ready-executable cs (all-small cs character-ranges) os ranges) ∙ none-first (executable cs) os)
 
 -- ---- all of them
 

@@ -4,8 +4,15 @@ use mathlib.Core.List.{List}
 use mir.Val.{Val}
 use denote.Laws.{Is}
 use lib.ListN.{length, length-map}
+use Rattle.woot.specs.declared.Document.{Document}
+use Rattle.woot.specs.declared.Replica.{Replica}
+use Rattle.woot.proofs.Document as document
+use Rattle.woot.proofs.Replica as replica
 use Rattle.replica.specs.declared.index.Index.{Index}
+use Rattle.replica.specs.declared.queue.Queue.{Queue}
 use Rattle.replica.proofs.index.Index as row
+use Rattle.replica.proofs.queue.Queue as queue
+use Rattle.replica.proofs.Queues.{FullQueue}
 
 -- an index has its slots
 pub record FullIndex (x : Index) : Type 0 where
@@ -20,3 +27,28 @@ full-index g =
       above = simp length-map at (g .1 .1 .1 .0 .1 .0 .1);
       below = simp length-map at (g .1 .1 .1 .1 .0 .1 .0 .1);
     }
+
+-- so have the packed operations
+pub full-queue : {q : Queue} {vs : List Val} → Is queue.the-row q vs → FullQueue q
+full-queue g =
+    record {
+      own = simp length-map at (g .1 .1 .0 .1 .0 .1);
+      first = simp length-map at (g .1 .1 .1 .0 .1 .0 .1);
+      second = simp length-map at (g .1 .1 .1 .1 .0 .1 .0 .1);
+      senders = simp length-map at (g .1 .1 .1 .1 .1 .0 .1 .0 .1);
+    }
+
+-- so has a document
+pub record FullDocument (d : Document) : Type 0 where
+  pub characters : length (d .characters) ≡ 1024
+  pub pending : length (d .pending) ≡ 512
+
+pub full-document : {d : Document} {vs : List Val} → Is document.the-row d vs → FullDocument d
+full-document g =
+    record {
+      characters = simp length-map at (g .1 .1 .0 .1 .0 .1);
+      pending = simp length-map at (g .1 .1 .1 .1 .0 .1 .0 .1);
+    }
+
+pub full-replica : {r : Replica} {vs : List Val} → Is replica.the-row r vs → FullDocument (r .document)
+full-replica g = full-document (g .1 .1 .1 .0)

@@ -1,9 +1,8 @@
 -- An index as its parts, and what its slots in use hold.
-use Prim.Native.Nat.{ℕ, _≤_}
-use native.Mathlib.Omega.{arith}
-use mathlib.Core.Path.{_≡_, ap, sym, _∙_}
+use Prim.Native.Nat.{ℕ}
+use mathlib.Core.Path.{_≡_, _∙_}
 use mathlib.Core.List.{List, map}
-use lib.ListN.{length, take, length-map, length-take}
+use lib.ListN.{length, take, length-map}
 use Rattle.woot.specs.declared.Character.{Character}
 use Rattle.woot.specs.State.{characterSlots, pad}
 use Rattle.woot.specs.Placing.{placeOf}
@@ -12,12 +11,6 @@ use Rattle.order.specs.Packing.{previousPlaces, nextPlaces}
 use Rattle.order.proofs.Packing.{pad-take}
 use Rattle.replica.specs.declared.index.Index.{Index}
 use Rattle.replica.specs.Index.{indexOf}
-
--- the arrays have their lengths
-pub record FullIndex (x : Index) : Type 0 where
-  pub ids : length (x .ids) ≡ characterSlots
-  pub above : length (x .above) ≡ characterSlots
-  pub below : length (x .below) ≡ characterSlots
 
 pub index-path : (cs : List Character) (r : Index) → r .ids ≡ pad characterSlots 0 (keys cs) → r .above ≡ pad characterSlots 0 (previousPlaces cs) → r .below ≡ pad characterSlots 0 (nextPlaces cs) → r ≡ indexOf cs
 unfolding indexOf

@@ -9,9 +9,12 @@ use Rattle.woot.specs.Limits.{lastSite, capacity, share}
 use Rattle.woot.specs.Lists.{every, keep}
 use Rattle.woot.specs.State.{State, meaning, counted}
 use Rattle.woot.specs.Form.{numbers, allInRange, replicaWellFormed}
+use Rattle.order.specs.declared.Found.{Found}
+use Rattle.order.specs.declared.Found.the-variants.{At, Nothing}
 use Rattle.replica.specs.declared.form.Checked.{Checked}
-use Rattle.replica.specs.Index.{indexOf, holdsKey, holdsBoth}
+use Rattle.replica.specs.Index.{indexOf}
 use Rattle.replica.specs.Queue.{packed, hasDelete}
+use Rattle.replica.specs.Work.{heldIn, readyIn}
 
 -- p passes every number below n
 abbrev pub throughout : (ℕ → Bool) → ℕ → Bool
@@ -31,7 +34,7 @@ roomKept ids own = leb (length ids + length (keep (λ k. not (eqb k 0)) own)) ca
 
 -- the key is 0, as a delete has it, or not among the others
 unfoldable pub unheldKey : List ℕ → ℕ → Bool
-unheldKey ks k = eqb k 0 || not (holdsKey ks k)
+unheldKey ks k = eqb k 0 || not (heldIn ks k)
 
 -- the key with index i is not among those before it
 abbrev pub newAt : List ℕ → ℕ → Bool
@@ -63,12 +66,13 @@ orderedAt above below i =
 abbrev pub placesOrdered : List ℕ → List ℕ → Bool
 placesOrdered above below = throughout (orderedAt above below) (length above)
 
--- the operation with index j lacks something that it needs
-unfoldable pub unreadyAt : List ℕ → List ℕ → List ℕ → ℕ → Bool
-unreadyAt ids first second j = not (holdsBoth ids (getD first j 0) (getD second j 0))
+abbrev pub nothing : Found → Bool
+nothing (At j) = false
+nothing Nothing = true
 
+-- no operation has all that it needs
 abbrev pub noneReady : List ℕ → List ℕ → List ℕ → Bool
-noneReady ids first second = throughout (unreadyAt ids first second) (length first)
+noneReady ids first second = nothing (readyIn ids first second)
 
 -- the conditions on the characters alone, but for the ranges
 unfoldable pub charactersFormed : List ℕ → List ℕ → List ℕ → Bool

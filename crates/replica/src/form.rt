@@ -4,36 +4,20 @@ use crate::index;
 use crate::index::Index;
 use crate::queue;
 use crate::queue::Queue;
+use crate::ready;
+use order::Found;
 use woot::Character;
-use woot::Insert;
 use woot::Pending;
 use woot::Replica;
-use woot::Site;
 ghost use mathlib.Core.Path.{_≡_};
-ghost use mathlib.Core.Bool.{not, _&&_};
 ghost use Prim.Native.Nat.{_≤_, _<_};
 ghost use lib.ListN.{length, take};
 ghost use Rattle.woot.specs.Lists.{every};
-ghost use Rattle.woot.specs.Ranges.{siteInRange, characterInRange, inRange};
+ghost use Rattle.woot.specs.Ranges.{characterInRange, inRange};
 ghost use Rattle.replica.specs.Queue.{operations};
 ghost use Rattle.replica.specs.Form.{sharesIn, keysDistinct, unheldKey, keysNew, freshAt, noneRepeated, placesOrdered, noneReady, charactersFormed, pendingFormed, rangesKept, unformed, checked};
 
-// Whether refusal 2 would let a character's numbers and marks pass.
-fn character_in_range(c: Character) -> bool
-    ensures { λ r. ⌜ r ≡ characterInRange c ⌝ }
-{
-    let id = c.id;
-    let previous = c.previous;
-    let next = c.next;
-    ranges::insert_in_range(Insert {
-        id,
-        code_point: c.code_point,
-        previous,
-        next,
-    })
-}
-
-// The same of the first n characters.
+// Whether refusal 2 would let the first n characters pass.
 fn characters_in_range(cs: [Character; 1024], n: usize) -> bool
     requires { ⌜ n ≤ 1024 ⌝ }
     ensures { λ r. ⌜ r ≡ every characterInRange (take n cs) ⌝ }
@@ -41,7 +25,7 @@ fn characters_in_range(cs: [Character; 1024], n: usize) -> bool
     let mut i = 0;
     while i < n {
         let c = cs[i];
-        if !character_in_range(c) {
+        if !ranges::character_in_range(c) {
             return false;
         }
         i += 1;
@@ -87,7 +71,7 @@ fn unheld(ids: &[u32], key: u32) -> bool
     if key == 0 {
         return true;
     }
-    !index::holds(ids, key)
+    !ready::is_held(ids, key)
 }
 
 // Whether no key but 0 occurs twice.
@@ -176,14 +160,11 @@ fn none_ready<'a>(ids: &'a [u32], first: &'a [u32], second: &'a [u32]) -> bool
     requires { ⌜ length (now second) ≡ length (now first) ⌝ }
     ensures { λ r. ⌜ r ≡ noneReady (now (ids .entry)) (now (first .entry)) (now (second .entry)) ⌝ }
 {
-    let mut j = 0;
-    while j < first.len() {
-        if index::holds_both(ids, first[j], second[j]) {
-            return false;
-        }
-        j += 1;
+    let found = ready::ready(ids, first, second);
+    match found {
+        Found::At(_) => false,
+        Found::Nothing => true,
     }
-    true
 }
 
 // The conditions of form on the characters alone, but for their ranges.
@@ -244,13 +225,6 @@ fn queue_formed(ids: [u32; 1024], n: usize, q: Queue, w: usize) -> bool
     )
 }
 
-// Whether refusal 2 would let a site's numbers pass.
-fn site_in_range(s: Site) -> bool
-    ensures { λ r. ⌜ r ≡ siteInRange s ⌝ }
-{
-    ranges::site_number(s.number)
-}
-
 // The counts are within the arrays, and refusal 2 would let every number, mark and neighbour pass.
 fn in_ranges(r: Replica) -> bool
     ensures { λ x. ⌜ x ≡ rangesKept r ⌝ }
@@ -265,7 +239,7 @@ fn in_ranges(r: Replica) -> bool
     if 512 < w {
         return false;
     }
-    if !site_in_range(site) {
+    if !ranges::site_in_range(site) {
         return false;
     }
     let cs = d.characters;

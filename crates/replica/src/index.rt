@@ -3,7 +3,7 @@ use woot::Character;
 ghost use mathlib.Core.Path.{_≡_};
 ghost use Prim.Native.Nat.{_≤_};
 ghost use lib.ListN.{take};
-ghost use Rattle.replica.specs.Index.{indexOf, holdsKey, holdsBoth};
+ghost use Rattle.replica.specs.Index.{indexOf};
 
 // The keys of the characters, and the places of the previous and of the next of each, in the slot of its character.
 pub(crate) struct Index {
@@ -24,21 +24,4 @@ pub(crate) fn index_of(cs: [Character; 1024], n: usize) -> Index
     let above = order::places(&ids[..n], &previous[..n]);
     let below = order::places(&ids[..n], &next[..n]);
     Index { ids, above, below }
-}
-
-// Whether the identifier with the key is a mark or among the characters.
-pub(crate) fn holds(ids: &[u32], key: u32) -> bool
-    ensures { λ r. ⌜ r ≡ holdsKey (now (ids .entry)) key ⌝ }
-{
-    order::place_of(ids, key) <= ids.len() + 1
-}
-
-// The same of two identifiers.
-pub(crate) fn holds_both(ids: &[u32], first: u32, second: u32) -> bool
-    ensures { λ r. ⌜ r ≡ holdsBoth (now (ids .entry)) first second ⌝ }
-{
-    if !holds(ids, first) {
-        return false;
-    }
-    holds(ids, second)
 }

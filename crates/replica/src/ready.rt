@@ -6,7 +6,7 @@ ghost use lib.ListN.{length};
 ghost use Rattle.replica.specs.Work.{heldIn, readyIn};
 
 // Whether a key has a place among the keys of the characters, or is a mark's.
-fn is_held(ids: &[u32], key: u32) -> bool
+pub(crate) fn is_held(ids: &[u32], key: u32) -> bool
     ensures { λ r. ⌜ r ≡ heldIn (now (ids .entry)) key ⌝ }
 {
     order::place_of(ids, key) <= ids.len() + 1

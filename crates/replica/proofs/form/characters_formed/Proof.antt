@@ -5,17 +5,15 @@ use Prim.Native.Nat.{ℕ}
 use mathlib.Core.Path.{_≡_, refl, sym}
 use mathlib.Core.Bool.{Bool, _&&_}
 use mathlib.Core.List.{List}
-use lib.ListN.{length-take, length-map}
+use lib.ListN.{length-take}
 use Rattle.ranges.proofs.Laws.{refused, passed}
 use Rattle.replica.specs.Form.{keysDistinct, placesOrdered, charactersFormed}
-use Rattle.replica.proofs.Indexes.{FullIndex}
+use Rattle.replica.proofs.Fullness.{FullIndex, full-index}
 use Rattle.replica.proofs.form.characters_formed.Statement.{statement}
 use Rattle.replica.proofs.form.characters_formed.Tie as tie
 
 full : (c : tie.Start) → FullIndex (c .args .x)
-full c =
-    let g = c .good .0 .1 .1 in
-    record { ids = simp length-map at (g .0 .1 .0 .1); above = simp length-map at (g .1 .0 .1 .0 .1); below = simp length-map at (g .1 .1 .0 .1 .0 .1) }
+full c = full-index (c .good .0)
 
 reading : (ids above below : List ℕ) {p q : Bool} → keysDistinct ids ≡ p → placesOrdered above below ≡ q → charactersFormed ids above below ≡ p && q
 unfolding charactersFormed

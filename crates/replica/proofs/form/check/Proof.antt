@@ -1,10 +1,8 @@
 -- `replica::form::check` meets its contract: the tests come out as the rules say, once the ranges are kept.
 use borrow.Author.Needs.{needs}
-use native.Mathlib.Omega.{arith}
-use mathlib.Core.Path.{_≡_, refl, ap, sym, _∙_}
-use mathlib.Core.Bool.{Bool, true, false, _&&_}
-use lib.ListN.{length, length-map}
-use Rattle.woot.specs.State.{meaning, characterSlots, pendingSlots}
+use mathlib.Core.Path.{_≡_, refl, sym, _∙_}
+use mathlib.Core.Bool.{true, false, _&&_}
+use Rattle.woot.specs.State.{meaning}
 use Rattle.woot.specs.Form.{replicaWellFormed}
 use Rattle.ranges.proofs.Laws.{refused, passed}
 use Rattle.replica.specs.declared.index.Index.{Index}
@@ -12,21 +10,19 @@ use Rattle.replica.specs.declared.queue.Queue.{Queue}
 use Rattle.replica.specs.Index.{indexOf}
 use Rattle.replica.specs.Queue.{packed}
 use Rattle.replica.specs.Form.{rangesKept}
+use Rattle.replica.proofs.Fullness.{full-replica}
 use Rattle.replica.proofs.Checks.{formed-path, checked-false, checked-true, out-of-range, few-characters, few-pending, indexFormed, queueFormed, in-range}
 use Rattle.replica.proofs.form.check.Statement.{statement}
 use Rattle.replica.proofs.form.check.Tie as tie
-
-full : (c : tie.Start) → (length (c .args .r .document .characters) ≡ characterSlots) × (length (c .args .r .document .pending) ≡ pendingSlots)
-full c =
-    let g = c .good .0 .1 .1 .1 .0 .1 .1 in
-    (simp length-map at (g .0 .1 .0 .1), simp length-map at (g .1 .1 .0 .1 .0 .1))
 
 kept : (c : tie.Else1) → rangesKept (c .before .before .args .r) ≡ true
 kept c = passed (c .before .in-ranges .ensures) (c .if1 .left)
 
 tests : (c : tie.Else1) (x : Index) (q : Queue) → let r = c .before .before .args .r in x ≡ indexOf (meaning r .characters) → q ≡ packed (meaning r .pending)
     → replicaWellFormed r ≡ indexFormed r x && queueFormed r x q
-tests c = let f = full (c .before .before) in in-range _ (kept c) (f .0) (f .1)
+tests c =
+    let f = full-replica {r = c .before .before .args .r} (c .before .before .good .0) in
+    in-range _ (kept c) (f .characters) (f .pending)
 
 in-ranges-requires : tie.Need-in-ranges-requires
 in-ranges-requires c κs = search needs
@@ -51,7 +47,7 @@ unfolding meaning
 returns-2 c =
     let r = c .before .before .before .before .before .before .before .before .args .r in
     let x = c .before .before .before .index-of .result in
-    let test : indexFormed r x ≡ false = refused (c .before .before .characters-formed .ensures) (c .before .if2 .taken) in
+    let test : indexFormed r x ≡ false = refused {u = indexFormed r x} (c .before .before .characters-formed .ensures) (c .before .if2 .taken) in
     c .unformed2 .ensures ∙ sym (checked-false r (tests (c .before .before .before .before .before .before) x _ (c .before .before .before .index-of .ensures) refl ∙ rw test))
 
 pack-requires : tie.Need-pack-requires
@@ -69,8 +65,8 @@ returns-3 c =
     let r = c .before .before .before .before .before .before .before .before .before .before .before .before .before .args .r in
     let x = c .before .before .before .before .before .before .before .before .index-of .result in
     let q = c .before .before .before .pack .result in
-    let first : indexFormed r x ≡ true = passed (c .before .before .before .before .before .before .before .characters-formed .ensures) (c .before .before .before .before .before .before .if2 .left) in
-    let second : queueFormed r x q ≡ false = refused (c .before .before .queue-formed .ensures) (c .before .if3 .taken) in
+    let first : indexFormed r x ≡ true = passed {u = indexFormed r x} (c .before .before .before .before .before .before .before .characters-formed .ensures) (c .before .before .before .before .before .before .if2 .left) in
+    let second : queueFormed r x q ≡ false = refused {u = queueFormed r x q} (c .before .before .queue-formed .ensures) (c .before .if3 .taken) in
     c .unformed3 .ensures ∙ sym (checked-false r (tests (c .before .before .before .before .before .before .before .before .before .before .before) x q (c .before .before .before .before .before .before .before .before .index-of .ensures) (c .before .before .before .pack .ensures) ∙ rw (first, second)))
 
 returns-4 : tie.Need-returns-4
@@ -79,8 +75,8 @@ returns-4 c =
     let r = c .before .before .before .before .before .before .before .before .before .before .before .before .args .r in
     let x = c .before .before .before .before .before .before .before .index-of .result in
     let q = c .before .before .pack .result in
-    let first : indexFormed r x ≡ true = passed (c .before .before .before .before .before .before .characters-formed .ensures) (c .before .before .before .before .before .if2 .left) in
-    let second : queueFormed r x q ≡ true = passed (c .before .queue-formed .ensures) (c .if3 .left) in
+    let first : indexFormed r x ≡ true = passed {u = indexFormed r x} (c .before .before .before .before .before .before .characters-formed .ensures) (c .before .before .before .before .before .if2 .left) in
+    let second : queueFormed r x q ≡ true = passed {u = queueFormed r x q} (c .before .queue-formed .ensures) (c .if3 .left) in
     let e = c .before .before .before .before .before .before .before .index-of .ensures in
     let f = c .before .before .pack .ensures in
     formed-path (meaning r) e f ∙ sym (checked-true r (tests (c .before .before .before .before .before .before .before .before .before .before) x q e f ∙ rw (first, second)))

@@ -1,6 +1,5 @@
 -- `replica::form::in_ranges` makes its tests one after the other.
 use borrow.Author.Needs.{needs}
-use native.Mathlib.Omega.{arith}
 use mathlib.Core.Path.{_≡_, refl, sym}
 use mathlib.Core.Bool.{Bool, _&&_}
 use lib.Dec.{leb}

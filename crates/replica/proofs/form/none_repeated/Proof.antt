@@ -1,7 +1,7 @@
 -- `replica::form::none_repeated` meets its contract. The loop's invariant: none of the first j operations repeats an earlier one.
 use Prim.Native.Nat.{_-_, _≤_}
 use native.Mathlib.Omega.{arith}
-use mathlib.Core.Path.{_≡_, refl, sym, _∙_}
+use mathlib.Core.Path.{_≡_, refl, sym}
 use mathlib.Core.Bool.{true}
 use lib.ListN.{length}
 use borrow.Author.Needs.{needs}
@@ -27,7 +27,8 @@ returns : tie.Need-returns Inv-loop μ-loop
 returns c =
     let a = c .before .before .before .before .before .before .before .args in
     let l = c .before .before .before .loop in
-    sym (throughout-fails (freshAt (a .own .now) (a .first .now) (a .senders .now)) (length (a .own .now)) (l .j) (omega arith) (refused (c .before .fresh-at .ensures) (c .if1 .taken)))
+    let test = freshAt (a .own .now) (a .first .now) (a .senders .now) in
+    sym (throughout-fails test (length (a .own .now)) (l .j) (omega arith) (refused {u = test (l .j)} (c .before .fresh-at .ensures) (c .if1 .taken)))
 
 add-j : tie.Need-add-j Inv-loop μ-loop
 add-j c = omega arith
@@ -39,7 +40,8 @@ loop-again : tie.Need-loop-again Inv-loop μ-loop
 loop-again c =
     let a = c .before .before .before .before .before .before .before .args in
     let l = c .before .before .before .loop in
-    (omega arith, throughout-more (freshAt (a .own .now) (a .first .now) (a .senders .now)) (l .j) (l .inv .1) (passed (c .before .fresh-at .ensures) (c .if1 .left)))
+    let test = freshAt (a .own .now) (a .first .now) (a .senders .now) in
+    (omega arith, throughout-more test (l .j) (l .inv .1) (passed {u = test (l .j)} (c .before .fresh-at .ensures) (c .if1 .left)))
 
 returns-2 : tie.Need-returns-2 Inv-loop μ-loop
 returns-2 c =

@@ -1,20 +1,13 @@
 -- `replica::form::queue_formed` lends the slots in use.
-use borrow.Author.Needs.{needs}
 use native.Mathlib.Omega.{arith}
-use lib.ListN.{length-take, length-map}
+use lib.ListN.{length-take}
 use Rattle.replica.proofs.Queues.{FullQueue}
+use Rattle.replica.proofs.Fullness.{full-queue}
 use Rattle.replica.proofs.form.queue_formed.Statement.{statement}
 use Rattle.replica.proofs.form.queue_formed.Tie as tie
 
 full : (c : tie.Start) → FullQueue (c .args .q)
-full c =
-    let g = c .good .1 .1 .0 .1 .1 in
-    record {
-      own = simp length-map at (g .0 .1 .0 .1);
-      first = simp length-map at (g .1 .0 .1 .0 .1);
-      second = simp length-map at (g .1 .1 .0 .1 .0 .1);
-      senders = simp length-map at (g .1 .1 .1 .0 .1 .0 .1);
-    }
+full c = full-queue (c .good .1 .1 .0)
 
 array-share-prefix-ids : tie.Need-array-share-prefix-ids
 array-share-prefix-ids c = omega arith

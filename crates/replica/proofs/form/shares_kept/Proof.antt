@@ -3,9 +3,8 @@ use borrow.Author.Tests.{lt-leb, le-leb}
 use Rattle.woot.specs.Limits.{lastSite}
 use Prim.Native.Nat.{_-_, _≤_}
 use native.Mathlib.Omega.{arith}
-use mathlib.Core.Path.{_≡_, refl, sym, _∙_}
+use mathlib.Core.Path.{_≡_, refl, sym}
 use mathlib.Core.Bool.{true}
-use lib.ListN.{length}
 use borrow.Author.Needs.{needs}
 use Rattle.woot.specs.Lists.{every}
 use Rattle.woot.specs.Form.{numbers}

@@ -3,7 +3,6 @@ use mathlib.Core.Path.{ap}
 use mathlib.Core.Bool.{not}
 use borrow.Author.Tests.{eq-eqb, ne-eqb}
 use borrow.Author.Needs.{needs}
-use native.Mathlib.Omega.{arith}
 use Rattle.replica.specs.Form.{unheldKey}
 use Rattle.replica.proofs.form.unheld.Statement.{statement}
 use Rattle.replica.proofs.form.unheld.Tie as tie
@@ -12,12 +11,12 @@ returns : tie.Need-returns
 unfolding unheldKey
 returns c = rw (eq-eqb _ 0 (c .if1 .taken))
 
-holds-requires : tie.Need-holds-requires
-holds-requires c κs = search needs
+is-held-requires : tie.Need-is-held-requires
+is-held-requires c κs = search needs
 
 returns-2 : tie.Need-returns-2
 unfolding unheldKey
-returns-2 c = rw (ne-eqb _ 0 (c .before .if1 .left)) (ap not (c .holds .ensures))
+returns-2 c = rw (ne-eqb _ 0 (c .before .if1 .left)) (ap not (c .is-held .ensures))
 
 pub unheld-spec : {M : Type 1} → statement M
-unheld-spec = tie.close (tie.spec returns holds-requires returns-2)
+unheld-spec = tie.close (tie.spec returns is-held-requires returns-2)

@@ -1,9 +1,9 @@
--- `replica::form::character_in_range` is the test of the insert that brought the character.
+-- `ranges::character_in_range` is the test of the insert that brought the character.
 use borrow.Author.Needs.{needs}
 use Rattle.woot.specs.Operations.{origin}
 use Rattle.woot.specs.Ranges.{characterInRange}
-use Rattle.replica.proofs.form.character_in_range.Statement.{statement}
-use Rattle.replica.proofs.form.character_in_range.Tie as tie
+use Rattle.ranges.proofs.character_in_range.Statement.{statement}
+use Rattle.ranges.proofs.character_in_range.Tie as tie
 
 insert-in-range-requires : tie.Need-insert-in-range-requires
 insert-in-range-requires c κs = search needs
