@@ -492,3 +492,116 @@ pub fn sheet_bytes(s: &Sheet) -> Vec<u8> {
     }
     out
 }
+
+// ---- the C calls
+
+/// What a C call comes to with outputs of any length: the reply, and the bytes for its first output and for the line's.
+#[derive(Clone, PartialEq, Eq, Debug)]
+pub struct Outcome {
+    pub reply: Reply,
+    pub first: Vec<u8>,
+    pub line: Vec<u8>,
+}
+
+impl Outcome {
+    fn refused(n: u8) -> Outcome {
+        Outcome { reply: Reply::Refused(n), first: Vec::new(), line: Vec::new() }
+    }
+
+    fn done(first: Vec<u8>) -> Outcome {
+        Outcome { reply: Reply::Done { carried: 0, thrown: 0 }, first, line: Vec::new() }
+    }
+
+    /// The reply to a call on a sheet, with the sheet and the line to send unless nothing is written.
+    fn of(reply: Reply, sheet: &Sheet, sent: Option<Operation>) -> Outcome {
+        match reply {
+            Reply::Refused(_) | Reply::Known => Outcome { reply, first: Vec::new(), line: Vec::new() },
+            _ => {
+                let line = sent.map_or(Vec::new(), |o| operation_line(&o));
+                Outcome { reply, first: sheet_bytes(sheet), line }
+            }
+        }
+    }
+
+    /// Refusal 12, the last in checking order: an output that is shorter than the result.
+    pub fn within(self, room: usize, line_room: usize) -> Outcome {
+        if self.first.len() > room || self.line.len() > line_room {
+            return Outcome::refused(12);
+        }
+        self
+    }
+
+    /// The number that the call returns: word, refusal, carried, thrown and the two lengths, from the lowest bits up.
+    pub fn number(&self) -> u64 {
+        let (word, refusal, carried, thrown) = match self.reply {
+            Reply::Done { carried, thrown } => (0, 0, carried as u64, thrown as u64),
+            Reply::Waits => (1, 0, 0, 0),
+            Reply::Known => (2, 0, 0, 0),
+            Reply::Refused(n) => (3, u64::from(n), 0, 0),
+        };
+        let lengths = (self.first.len() as u64) << 32 | (self.line.len() as u64) << 48;
+        word | refusal << 2 | carried << 8 | thrown << 20 | lengths
+    }
+}
+
+/// Both of what the call was handed, or the lowest ground among them.
+fn both<A, B>(a: Result<A, u8>, b: Result<B, u8>) -> Result<(A, B), u8> {
+    match (a, b) {
+        (Ok(a), Ok(b)) => Ok((a, b)),
+        (Err(m), Err(n)) => Err(m.min(n)),
+        (Err(n), Ok(_)) | (Ok(_), Err(n)) => Err(n),
+    }
+}
+
+/// The operation of a line with nothing after its line feed.
+fn read_line(bytes: &[u8]) -> Result<Operation, u8> {
+    match bytes.iter().position(|b| *b == b'\n') {
+        Some(end) if end + 1 == bytes.len() => read_operation(bytes),
+        _ => Err(1),
+    }
+}
+
+pub fn empty_call(number: u64) -> Outcome {
+    match u8::try_from(number) {
+        Ok(n) if is_laptop(n) => Outcome::done(sheet_bytes(&Sheet::empty(n))),
+        _ => Outcome::refused(2),
+    }
+}
+
+pub fn receive_call(sheet: &[u8], line: &[u8]) -> Outcome {
+    match both(read_sheet(sheet), read_line(line)) {
+        Ok((mut sheet, operation)) => {
+            let reply = sheet.receive(&operation);
+            Outcome::of(reply, &sheet, None)
+        }
+        Err(n) => Outcome::refused(n),
+    }
+}
+
+pub fn type_call(sheet: &[u8], gap: u64, code: u32) -> Outcome {
+    let code = if is_code_point(code) { Ok(code) } else { Err(2) };
+    match both(read_sheet(sheet), code) {
+        Ok((mut sheet, code)) => {
+            let (reply, sent) = sheet.type_at(gap, code);
+            Outcome::of(reply, &sheet, sent)
+        }
+        Err(n) => Outcome::refused(n),
+    }
+}
+
+pub fn erase_call(sheet: &[u8], place: u64) -> Outcome {
+    match read_sheet(sheet) {
+        Ok(mut sheet) => {
+            let (reply, sent) = sheet.erase_at(place);
+            Outcome::of(reply, &sheet, sent)
+        }
+        Err(n) => Outcome::refused(n),
+    }
+}
+
+pub fn text_call(sheet: &[u8]) -> Outcome {
+    match read_sheet(sheet).and_then(|s| s.text()) {
+        Ok(text) => Outcome::done(text),
+        Err(n) => Outcome::refused(n),
+    }
+}

@@ -1,0 +1,670 @@
+/*
+ * Document 01's situations, each refusal and the limits of the outputs, through the C calls.
+ * Lines and sheets are written with spaces for tabs. Every call is made on outputs between guard bytes.
+ */
+#include "wimtaze.h"
+
+#include <stdio.h>
+#include <stdlib.h>
+#include <string.h>
+
+enum { GUARD = 64, ROOM = WIMTAZE_SHEET_MAX + 64, LINE_ROOM = WIMTAZE_LINE_MAX + 27 };
+
+static unsigned passed, failed, group_failed;
+static unsigned refusals_seen;
+
+/* The sheet that a test works on, and the outputs of the last call. */
+static uint8_t sheet[ROOM], first[GUARD + ROOM + GUARD], second[GUARD + LINE_ROOM + GUARD];
+static size_t sheet_length;
+
+#define CHECK(held) check((held), __LINE__, #held)
+
+static void check(int held, int line, const char *what)
+{
+    if (held) {
+        passed++;
+        return;
+    }
+    failed++;
+    group_failed++;
+    printf("calls.c:%d: not so: %s\n", line, what);
+}
+
+/* ---- bytes */
+
+static size_t tabbed(const char *text, uint8_t *out)
+{
+    size_t n = strlen(text);
+    for (size_t k = 0; k < n; k++)
+        out[k] = text[k] == ' ' ? 9 : (uint8_t)text[k];
+    return n;
+}
+
+static uint8_t fill_at(size_t k)
+{
+    return (uint8_t)(0x80 | (k * 37 + k / 128));
+}
+
+static void fill(uint8_t *buffer, size_t n)
+{
+    for (size_t k = 0; k < n; k++)
+        buffer[k] = fill_at(k);
+}
+
+static int is_filled(const uint8_t *buffer, size_t from, size_t to)
+{
+    for (size_t k = from; k < to; k++)
+        if (buffer[k] != fill_at(k))
+            return 0;
+    return 1;
+}
+
+/* Whether the last call wrote these bytes and no other; text is as in a test, with spaces for tabs. */
+static int first_is(uint64_t reply, const char *text)
+{
+    static uint8_t want[ROOM];
+    size_t n = tabbed(text, want);
+    return wimtaze_written(reply) == n && memcmp(first + GUARD, want, n) == 0;
+}
+
+static int line_is(uint64_t reply, const char *text)
+{
+    uint8_t want[LINE_ROOM];
+    size_t n = tabbed(text, want);
+    return wimtaze_line_written(reply) == n && memcmp(second + GUARD, want, n) == 0;
+}
+
+static int sheet_is(const char *text)
+{
+    static uint8_t want[ROOM];
+    size_t n = tabbed(text, want);
+    return sheet_length == n && memcmp(sheet, want, n) == 0;
+}
+
+static void load(const char *text)
+{
+    sheet_length = tabbed(text, sheet);
+}
+
+static void append(const char *text)
+{
+    sheet_length += tabbed(text, sheet + sheet_length);
+}
+
+/* ---- calls: each on the sheet at hand, which takes the new bytes where there are any */
+
+static void before(void)
+{
+    fill(first, sizeof first);
+    fill(second, sizeof second);
+}
+
+/* What holds of every reply: the lengths fit, nothing else is touched, and what is not done counts nothing. */
+static uint64_t after(uint64_t reply, size_t room, size_t line_room)
+{
+    size_t n = wimtaze_written(reply), m = wimtaze_line_written(reply);
+    enum wimtaze_words word = wimtaze_word(reply);
+    enum wimtaze_refusals refusal = wimtaze_refusal(reply);
+    CHECK(n <= room && m <= line_room);
+    CHECK(is_filled(first, 0, GUARD) && is_filled(first, GUARD + n, sizeof first));
+    CHECK(is_filled(second, 0, GUARD) && is_filled(second, GUARD + m, sizeof second));
+    CHECK((word == WIMTAZE_REFUSED) == (refusal != WIMTAZE_REFUSAL_NONE));
+    if (word == WIMTAZE_KNOWN || word == WIMTAZE_REFUSED)
+        CHECK(n == 0 && m == 0);
+    if (word != WIMTAZE_DONE)
+        CHECK(wimtaze_carried(reply) == 0 && wimtaze_thrown(reply) == 0);
+    refusals_seen |= 1u << refusal;
+    return reply;
+}
+
+static void keep(uint64_t reply)
+{
+    if (wimtaze_word(reply) == WIMTAZE_DONE || wimtaze_word(reply) == WIMTAZE_WAITS) {
+        sheet_length = wimtaze_written(reply);
+        memcpy(sheet, first + GUARD, sheet_length);
+    }
+}
+
+static uint64_t empty(uint64_t number, size_t room)
+{
+    before();
+    uint64_t reply = after(wimtaze_empty(number, first + GUARD, room), room, 0);
+    keep(reply);
+    return reply;
+}
+
+static uint64_t receive_bytes(const uint8_t *line, size_t length, size_t room)
+{
+    static uint8_t was[ROOM];
+    size_t sheet_was = sheet_length;
+    memcpy(was, sheet, sheet_was);
+    before();
+    uint64_t reply = after(wimtaze_receive(sheet, sheet_length, line, length, first + GUARD, room), room, 0);
+    CHECK(memcmp(was, sheet, sheet_was) == 0);
+    keep(reply);
+    return reply;
+}
+
+static uint64_t receive_in(const char *line, size_t room)
+{
+    uint8_t bytes[256];
+    return receive_bytes(bytes, tabbed(line, bytes), room);
+}
+
+static uint64_t receive(const char *line)
+{
+    return receive_in(line, ROOM);
+}
+
+static uint64_t type_in(uint64_t gap, uint32_t code_point, size_t room, size_t line_room)
+{
+    before();
+    uint64_t reply = wimtaze_type(sheet, sheet_length, gap, code_point, first + GUARD, room, second + GUARD, line_room);
+    keep(after(reply, room, line_room));
+    return reply;
+}
+
+static uint64_t type(uint64_t gap, uint32_t code_point)
+{
+    return type_in(gap, code_point, ROOM, LINE_ROOM);
+}
+
+static uint64_t erase_in(uint64_t place, size_t room, size_t line_room)
+{
+    before();
+    uint64_t reply = wimtaze_erase(sheet, sheet_length, place, first + GUARD, room, second + GUARD, line_room);
+    keep(after(reply, room, line_room));
+    return reply;
+}
+
+static uint64_t erase(uint64_t place)
+{
+    return erase_in(place, ROOM, LINE_ROOM);
+}
+
+static uint64_t text_in(size_t room)
+{
+    before();
+    return after(wimtaze_text(sheet, sheet_length, first + GUARD, room), room, 0);
+}
+
+static uint64_t text(void)
+{
+    return text_in(ROOM);
+}
+
+/* ---- replies */
+
+static int done(uint64_t reply, unsigned carried, unsigned thrown)
+{
+    return wimtaze_word(reply) == WIMTAZE_DONE && wimtaze_carried(reply) == carried && wimtaze_thrown(reply) == thrown;
+}
+
+static int waits(uint64_t reply)
+{
+    return wimtaze_word(reply) == WIMTAZE_WAITS;
+}
+
+/* Known and refused replies have no counts and no lengths, so the whole number is fixed. */
+static int known(uint64_t reply)
+{
+    return reply == WIMTAZE_KNOWN;
+}
+
+static int refused(uint64_t reply, enum wimtaze_refusals refusal)
+{
+    return reply == ((uint64_t)refusal << 2 | WIMTAZE_REFUSED);
+}
+
+/* ---- the situations marked P */
+
+static const char *const FOUR_ROWS = "S 16 0\n"
+                                     "C 3 1 67 1 0 0 1 1\n"
+                                     "C 1 1 65 1 0 0 0 1\n"
+                                     "C 2 1 66 1 0 0 0 1\n"
+                                     "C 3 2 68 1 1 1 0 1\n";
+
+static void p1(void)
+{
+    empty(16, ROOM);
+    CHECK(done(receive("I 1 1 65 0 0 0 1\n"), 1, 0));
+    CHECK(done(receive("I 3 1 67 0 0 1 1\n"), 1, 0));
+    CHECK(done(receive("I 3 2 68 1 1 0 1\n"), 1, 0));
+    CHECK(done(receive("I 2 1 66 0 0 0 1\n"), 1, 0));
+    CHECK(sheet_is(FOUR_ROWS));
+}
+
+static void p2(void)
+{
+    empty(16, ROOM);
+    CHECK(done(receive("I 2 1 66 0 0 0 1\n"), 1, 0));
+    CHECK(done(receive("I 1 1 65 0 0 0 1\n"), 1, 0));
+    CHECK(done(receive("I 3 1 67 0 0 1 1\n"), 1, 0));
+    CHECK(done(receive("I 3 2 68 1 1 0 1\n"), 1, 0));
+    CHECK(sheet_is(FOUR_ROWS));
+}
+
+static void p3(void)
+{
+    empty(16, ROOM);
+    CHECK(done(receive("I 1 1 65 0 0 0 1\n"), 1, 0));
+    CHECK(done(receive("I 3 1 67 0 0 1 1\n"), 1, 0));
+    CHECK(done(receive("I 2 1 66 0 0 0 1\n"), 1, 0));
+    CHECK(sheet_is("S 16 0\nC 3 1 67 1 0 0 1 1\nC 1 1 65 1 0 0 0 1\nC 2 1 66 1 0 0 0 1\n"));
+}
+
+static void p4(void)
+{
+    static const char *const both = "S 16 0\nC 1 1 65 1 0 0 0 1\nC 2 1 66 1 0 0 0 1\n";
+    empty(16, ROOM);
+    CHECK(done(receive("I 1 1 65 0 0 0 1\n"), 1, 0));
+    CHECK(done(receive("I 2 1 66 0 0 0 1\n"), 1, 0));
+    CHECK(sheet_is(both));
+    empty(16, ROOM);
+    CHECK(done(receive("I 2 1 66 0 0 0 1\n"), 1, 0));
+    CHECK(done(receive("I 1 1 65 0 0 0 1\n"), 1, 0));
+    CHECK(sheet_is(both));
+}
+
+static void p5(void)
+{
+    load("S 16 0\nC 1 1 65 0 0 0 0 1\n");
+    CHECK(done(receive("I 2 1 66 1 1 0 1\n"), 1, 0));
+    CHECK(sheet_is("S 16 0\nC 1 1 65 0 0 0 0 1\nC 2 1 66 1 1 1 0 1\n"));
+}
+
+static void p6(void)
+{
+    load("S 16 0\nC 1 1 65 1 0 0 0 1\nC 2 1 66 1 0 0 0 1\n");
+    CHECK(refused(receive("I 3 1 67 2 1 1 1\n"), WIMTAZE_REFUSAL_CROSSED));
+}
+
+static void p7(void)
+{
+    load("S 16 0\nC 1 1 65 1 0 0 2 1\nC 2 1 66 1 1 1 0 1\n");
+    CHECK(refused(receive("I 3 1 67 0 0 0 1\n"), WIMTAZE_REFUSAL_UNPLACEABLE));
+}
+
+static void p8(void)
+{
+    uint64_t reply;
+    empty(5, ROOM);
+    CHECK(done(type(0, 'x'), 1, 0));
+    CHECK(done(type(1, 'y'), 1, 0));
+    CHECK(done(type(2, 'z'), 1, 0));
+    CHECK(refused(type(4, 'w'), WIMTAZE_REFUSAL_POSITION));
+    reply = type(1, 'w');
+    CHECK(done(reply, 1, 0));
+    CHECK(line_is(reply, "I 5 4 119 5 1 5 2\n"));
+    CHECK(sheet_is("S 5 4\nC 5 1 120 1 0 0 0 1\nC 5 4 119 1 5 1 5 2\nC 5 2 121 1 5 1 0 1\nC 5 3 122 1 5 2 0 1\n"));
+    CHECK(first_is(text(), "xwyz"));
+}
+
+static void p9(void)
+{
+    static const uint8_t utf8[] = {0x7f, 0xc2, 0x80, 0xe0, 0xa0, 0x80, 0xf0, 0x90, 0x80, 0x80};
+    empty(1, ROOM);
+    CHECK(done(type(0, 127), 1, 0));
+    CHECK(done(type(1, 128), 1, 0));
+    CHECK(done(type(2, 2048), 1, 0));
+    CHECK(done(type(3, 65536), 1, 0));
+    uint64_t reply = text();
+    CHECK(done(reply, 0, 0));
+    CHECK(wimtaze_written(reply) == sizeof utf8 && memcmp(first + GUARD, utf8, sizeof utf8) == 0);
+}
+
+/* ---- the other situations */
+
+static void thirty_one_waiting(void)
+{
+    char line[64];
+    empty(16, ROOM);
+    for (int k = 1; k <= 31; k++) {
+        sprintf(line, k % 2 ? "I 2 %d 66 1 9 0 1\n" : "D 2 1 %d\n", k);
+        CHECK(waits(receive(line)));
+    }
+    CHECK(waits(receive("I 2 32 66 1 9 0 1\n")));
+    CHECK(refused(receive("I 2 33 66 1 9 0 1\n"), WIMTAZE_REFUSAL_SENDER_FULL));
+    CHECK(refused(receive("D 2 1 40\n"), WIMTAZE_REFUSAL_SENDER_FULL));
+    CHECK(known(receive("D 2 1 2\n")));
+    CHECK(waits(receive("I 3 1 67 1 9 0 1\n")));
+    CHECK(done(receive("I 1 9 65 0 0 0 1\n"), 19, 0));
+}
+
+/* Rows 1/1 to 1/count of laptop 1, each typed after the one before. */
+static void load_rows(int count)
+{
+    char line[64];
+    load("S 4 0\n");
+    for (int k = 1; k <= count; k++) {
+        sprintf(line, k == 1 ? "C 1 1 97 1 0 0 0 1\n" : "C 1 %d 97 1 1 %d 0 1\n", k, k - 1);
+        append(line);
+    }
+}
+
+static void full(void)
+{
+    load_rows(1023);
+    append("I 2 1 98 3 1 0 1\n");
+    CHECK(refused(type(0, 'x'), WIMTAZE_REFUSAL_DOCUMENT_FULL));
+    CHECK(refused(receive("I 5 1 98 0 0 0 1\n"), WIMTAZE_REFUSAL_DOCUMENT_FULL));
+    CHECK(refused(receive("I 5 1 98 6 1 0 1\n"), WIMTAZE_REFUSAL_DOCUMENT_FULL));
+    CHECK(known(receive("I 2 1 98 3 1 0 1\n")));
+    CHECK(known(receive("I 1 7 97 1 6 0 1\n")));
+    CHECK(waits(receive("D 2 3 1\n")));
+    CHECK(done(erase(1023), 1, 0));
+    CHECK(refused(erase(1023), WIMTAZE_REFUSAL_POSITION));
+    load_rows(1023);
+    CHECK(done(type(1023, 'x'), 1, 0));
+    CHECK(refused(type(1024, 'y'), WIMTAZE_REFUSAL_DOCUMENT_FULL));
+    load_rows(1025);
+    CHECK(refused(text(), WIMTAZE_REFUSAL_FORM));
+}
+
+static void clocks(void)
+{
+    load("S 7 65534\n");
+    uint64_t reply = type(0, 'x');
+    CHECK(done(reply, 1, 0));
+    CHECK(line_is(reply, "I 7 65535 120 0 0 0 1\n"));
+    CHECK(sheet_is("S 7 65535\nC 7 65535 120 1 0 0 0 1\n"));
+    CHECK(refused(type(0, 'y'), WIMTAZE_REFUSAL_CLOCK));
+    CHECK(refused(type(2, 'y'), WIMTAZE_REFUSAL_POSITION));
+    CHECK(done(erase(1), 1, 0));
+}
+
+static void hall(void)
+{
+    empty(16, ROOM);
+    CHECK(waits(receive("I 2 1 66 1 1 0 1\n")));
+    CHECK(sheet_is("S 16 0\nI 2 1 66 1 1 0 1\n"));
+    CHECK(done(receive("I 1 1 65 0 0 0 1\n"), 2, 0));
+    CHECK(done(receive("D 3 1 1\n"), 1, 0));
+    CHECK(known(receive("I 1 1 65 0 0 0 1\n")));
+    CHECK(refused(receive("I 1 1 67 0 0 0 1\n"), WIMTAZE_REFUSAL_CONFLICT));
+    CHECK(sheet_is("S 16 0\nC 1 1 65 0 0 0 0 1\nC 2 1 66 1 1 1 0 1\n"));
+    CHECK(first_is(text(), "B"));
+}
+
+/* ---- waiting, throwing out, and what releases it */
+
+static void released(void)
+{
+    empty(9, ROOM);
+    CHECK(waits(receive("I 2 1 66 1 1 1 1\n")));
+    CHECK(done(receive("I 1 1 65 0 0 0 1\n"), 1, 1));
+    CHECK(refused(receive("I 2 1 66 1 1 1 1\n"), WIMTAZE_REFUSAL_CROSSED));
+    CHECK(done(receive("I 2 1 66 1 1 0 1\n"), 1, 0));
+    empty(9, ROOM);
+    CHECK(waits(receive("D 3 1 1\n")));
+    CHECK(waits(receive("D 5 1 1\n")));
+    CHECK(done(receive("I 1 1 65 0 0 0 1\n"), 3, 0));
+    CHECK(sheet_is("S 9 0\nC 1 1 65 0 0 0 0 1\n"));
+    /* The later in the list is ready first, and releases the earlier. */
+    empty(9, ROOM);
+    CHECK(waits(receive("D 1 3 1\n")));
+    CHECK(waits(receive("I 3 1 67 2 1 0 1\n")));
+    CHECK(waits(receive("I 2 1 66 1 1 0 1\n")));
+    CHECK(done(receive("I 1 1 65 0 0 0 1\n"), 4, 0));
+    CHECK(sheet_is("S 9 0\nC 1 1 65 1 0 0 0 1\nC 2 1 66 1 1 1 0 1\nC 3 1 67 0 2 1 0 1\n"));
+    /* Typing releases what waited for the new identifier. */
+    load("S 9 4\nD 1 9 5\nI 2 1 66 9 5 0 1\n");
+    uint64_t reply = type(0, 'x');
+    CHECK(done(reply, 3, 0));
+    CHECK(line_is(reply, "I 9 5 120 0 0 0 1\n"));
+    CHECK(sheet_is("S 9 5\nC 9 5 120 0 0 0 0 1\nC 2 1 66 1 9 5 0 1\n"));
+    /* Thrown out by condition 9. */
+    load("S 9 0\nC 1 1 65 1 0 0 2 1\nC 2 1 66 1 1 1 0 1\nI 3 1 67 0 0 4 1\n");
+    CHECK(done(receive("I 4 1 68 2 1 0 1\n"), 1, 1));
+}
+
+/* Hidden rows stand between, candidates are taken afresh, and passing stops at the first that is not below. */
+static void placing(void)
+{
+    load("S 9 0\nC 1 1 65 1 0 0 0 1\nC 5 1 66 1 0 0 0 1\nC 2 1 67 1 0 0 0 1\n");
+    CHECK(done(receive("I 3 1 68 0 0 0 1\n"), 1, 0));
+    CHECK(sheet_is("S 9 0\nC 1 1 65 1 0 0 0 1\nC 3 1 68 1 0 0 0 1\nC 5 1 66 1 0 0 0 1\nC 2 1 67 1 0 0 0 1\n"));
+    load("S 9 0\nC 1 1 65 0 0 0 0 1\nC 2 1 66 0 0 0 0 1\n");
+    uint64_t reply = type(0, 'x');
+    CHECK(done(reply, 1, 0));
+    CHECK(line_is(reply, "I 9 1 120 0 0 0 1\n"));
+    CHECK(sheet_is("S 9 1\nC 1 1 65 0 0 0 0 1\nC 2 1 66 0 0 0 0 1\nC 9 1 120 1 0 0 0 1\n"));
+}
+
+/* ---- refusals */
+
+static void layout(void)
+{
+    static const char *const lines[] = {"", "\n", "I 1 1 65 0 0 0 1", "I 1 1 65 0 0 0 1\n\n", "I 1 1 65 0 0 0 1\nx",
+        "D 1 1 1\nD 1 1 1\n", "D 1 1\n", "D 1 1 1 1\n", "D 1 1 01\n", "D 1  1\n", "D 1 1 1 \n", "D 1 1 1\r\n",
+        "D 1 1 -1\n", "d 1 1 1\n", "S 1 0\n", "C 1 1 65 1 0 0 0 1\n", " D 1 1 1\n", "D 1 1 +1\n", "DD 1 1 1\n"};
+    static const char *const sheets[] = {"", "\n", "S 1 0", "S 1\n", "S 01 0\n", "S 1 0\n\n", "S 1 0\nS 1 0\n",
+        "S 1 0\nC 1 1 65 01 0 0 0 1\n", "S 1 0\nD 1 1 1\nC 1 1 65 1 0 0 0 1\n", "C 1 1 65 1 0 0 0 1\n",
+        "S 1 0\nC 1 1 65 0 0 0 1\n", "S 1 0\r\n", "S 1 0 \n"};
+    for (size_t k = 0; k < sizeof lines / sizeof *lines; k++) {
+        load("S 1 0\n");
+        CHECK(refused(receive(lines[k]), WIMTAZE_REFUSAL_LAYOUT));
+    }
+    for (size_t k = 0; k < sizeof sheets / sizeof *sheets; k++) {
+        load(sheets[k]);
+        CHECK(refused(receive("D 1 1 1\n"), WIMTAZE_REFUSAL_LAYOUT));
+        CHECK(refused(type(0, 'x'), WIMTAZE_REFUSAL_LAYOUT));
+        CHECK(refused(erase(1), WIMTAZE_REFUSAL_LAYOUT));
+        CHECK(refused(text(), WIMTAZE_REFUSAL_LAYOUT));
+    }
+    /* A line that ends where the given length does, although a line feed stands in memory behind it. */
+    load("S 1 0\n");
+    CHECK(refused(receive_bytes((const uint8_t *)"D\t1\t1\t1\n", 7, ROOM), WIMTAZE_REFUSAL_LAYOUT));
+}
+
+static void ranges(void)
+{
+    static const char *const lines[] = {"I 0 1 65 0 0 0 1\n", "I 17 1 65 0 0 0 1\n", "I 1 0 65 0 0 0 1\n",
+        "I 1 65536 65 0 0 0 1\n", "I 1 1 55296 0 0 0 1\n", "I 1 1 57343 0 0 0 1\n", "I 1 1 1114112 0 0 0 1\n",
+        "I 1 1 65 0 1 0 1\n", "I 1 1 65 0 5 0 1\n", "I 1 1 65 3 0 0 1\n", "I 1 1 65 0 0 0 0\n", "I 1 1 65 1 1 0 1\n",
+        "I 1 1 65 0 0 1 1\n", "D 0 1 1\n", "D 17 1 1\n", "D 1 0 1\n", "D 1 0 0\n", "D 1 1 0\n", "D 257 1 1\n",
+        "D 1 1 65537\n", "D 4294967297 1 1\n", "D 18446744073709551617 1 1\n",
+        "D 1 1 9999999999999999999999999999999999999999\n"};
+    static const char *const sheets[] = {"S 0 0\n", "S 17 0\n", "S 1 65536\n", "S 1 0\nC 1 1 65 2 0 0 0 1\n",
+        "S 1 0\nC 1 1 65 1 1 1 0 1\n", "S 1 0\nC 1 1 65 1 0 1 0 1\n", "S 1 0\nC 1 0 65 1 0 0 0 1\n", "S 1 0\nD 1 0 1\n",
+        "S 257 0\n", "S 1 18446744073709551616\n"};
+    static const uint32_t code_points[] = {55296, 57343, 1114112, 4294967295u};
+    static const uint64_t numbers[] = {0, 17, 257, 4294967297u, UINT64_MAX};
+    for (size_t k = 0; k < sizeof lines / sizeof *lines; k++) {
+        load("S 1 0\n");
+        CHECK(refused(receive(lines[k]), WIMTAZE_REFUSAL_RANGE));
+    }
+    for (size_t k = 0; k < sizeof sheets / sizeof *sheets; k++) {
+        load(sheets[k]);
+        CHECK(refused(receive("D 1 1 1\n"), WIMTAZE_REFUSAL_RANGE));
+        CHECK(refused(type(0, 'x'), WIMTAZE_REFUSAL_RANGE));
+        CHECK(refused(erase(1), WIMTAZE_REFUSAL_RANGE));
+        CHECK(refused(text(), WIMTAZE_REFUSAL_RANGE));
+    }
+    for (size_t k = 0; k < sizeof code_points / sizeof *code_points; k++) {
+        load("S 1 0\n");
+        CHECK(refused(type(0, code_points[k]), WIMTAZE_REFUSAL_RANGE));
+    }
+    for (size_t k = 0; k < sizeof numbers / sizeof *numbers; k++)
+        CHECK(refused(empty(numbers[k], ROOM), WIMTAZE_REFUSAL_RANGE));
+}
+
+static void form(void)
+{
+    static const char *const sheets[] = {"S 1 0\nI 1 1 65 0 0 0 1\n", "S 1 0\nC 1 1 65 1 0 0 0 1\nD 2 1 1\n",
+        "S 1 0\nC 1 1 65 1 0 0 0 1\nC 1 1 65 1 0 0 0 1\n", "S 1 0\nC 1 1 65 1 0 0 0 1\nI 1 1 65 2 1 0 1\n",
+        "S 1 0\nI 1 1 65 2 1 0 1\nI 1 1 66 2 1 0 1\n", "S 1 0\nD 1 1 1\nD 1 1 1\n", "S 1 0\nC 1 1 65 1 2 1 0 1\n",
+        "S 1 0\nC 1 1 65 1 2 1 0 1\nC 2 1 66 1 0 0 0 1\n", "S 1 0\nC 1 1 65 1 0 0 0 1\nC 2 1 66 1 0 0 1 1\n"};
+    for (size_t k = 0; k < sizeof sheets / sizeof *sheets; k++) {
+        load(sheets[k]);
+        CHECK(refused(receive("D 1 9 9\n"), WIMTAZE_REFUSAL_FORM));
+        CHECK(refused(type(0, 'x'), WIMTAZE_REFUSAL_FORM));
+        CHECK(refused(erase(1), WIMTAZE_REFUSAL_FORM));
+        CHECK(refused(text(), WIMTAZE_REFUSAL_FORM));
+    }
+    load("S 1 0\nD 1 2 1\nD 3 2 1\n");
+    CHECK(done(text(), 0, 0));
+}
+
+/* Positions, and identifiers that are taken. */
+static void positions(void)
+{
+    load("S 1 0\nC 2 1 65 1 0 0 0 1\nC 2 2 66 0 2 1 0 1\n");
+    CHECK(refused(type(2, 'x'), WIMTAZE_REFUSAL_POSITION));
+    CHECK(refused(type(UINT64_MAX, 'x'), WIMTAZE_REFUSAL_POSITION));
+    CHECK(refused(erase(0), WIMTAZE_REFUSAL_POSITION));
+    CHECK(refused(erase(2), WIMTAZE_REFUSAL_POSITION));
+    CHECK(refused(erase(UINT64_MAX), WIMTAZE_REFUSAL_POSITION));
+    uint64_t reply = erase(1);
+    CHECK(done(reply, 1, 0));
+    CHECK(line_is(reply, "D 1 2 1\n"));
+    CHECK(sheet_is("S 1 0\nC 2 1 65 0 0 0 0 1\nC 2 2 66 0 2 1 0 1\n"));
+    load("S 2 0\nC 2 1 65 1 0 0 0 1\n");
+    CHECK(refused(type(0, 'x'), WIMTAZE_REFUSAL_TAKEN));
+    load("S 2 0\nI 2 1 65 3 1 0 1\n");
+    CHECK(refused(type(0, 'x'), WIMTAZE_REFUSAL_TAKEN));
+    CHECK(refused(receive("I 2 1 66 3 1 0 1\n"), WIMTAZE_REFUSAL_CONFLICT));
+    load("S 9 0\nC 1 1 65 0 0 0 2 1\nC 2 1 66 0 1 1 0 1\n");
+    CHECK(refused(type(0, 'x'), WIMTAZE_REFUSAL_UNPLACEABLE));
+}
+
+/* Where several grounds hold, the lowest is told. */
+static void order(void)
+{
+    load("S 1 0\nI 1 1 65 0 0 0 1\n");
+    CHECK(refused(receive("D 1 1\n"), WIMTAZE_REFUSAL_LAYOUT));
+    CHECK(refused(receive("D 1 1 0\n"), WIMTAZE_REFUSAL_RANGE));
+    CHECK(refused(receive("D 1 1 1\n"), WIMTAZE_REFUSAL_FORM));
+    CHECK(refused(type(9, 55296), WIMTAZE_REFUSAL_RANGE));
+    CHECK(refused(type_in(9, 'x', 0, 0), WIMTAZE_REFUSAL_FORM));
+    append("D 1 0 1\n");
+    CHECK(refused(receive("D 1 1\n"), WIMTAZE_REFUSAL_LAYOUT));
+    CHECK(refused(text_in(0), WIMTAZE_REFUSAL_RANGE));
+    append("C 1 1 65 1 0 0 0 1\n");
+    CHECK(refused(receive("D 1 1 0\n"), WIMTAZE_REFUSAL_LAYOUT));
+    CHECK(refused(type(9, 55296), WIMTAZE_REFUSAL_LAYOUT));
+    load("S 1 65535\n");
+    CHECK(refused(type_in(0, 'x', 0, 0), WIMTAZE_REFUSAL_CLOCK));
+    CHECK(refused(empty(0, 0), WIMTAZE_REFUSAL_RANGE));
+}
+
+/* ---- outputs */
+
+static void known_needs_no_output(void)
+{
+    load("S 1 0\nC 1 1 65 1 0 0 0 1\nC 2 1 66 0 0 0 0 1\nI 3 1 67 4 1 0 1\nD 5 4 1\n");
+    CHECK(known(receive_in("I 1 1 65 0 0 0 1\n", 0)));
+    CHECK(known(receive_in("I 2 1 66 0 0 0 1\n", 0)));
+    CHECK(known(receive_in("I 3 1 67 4 1 0 1\n", 0)));
+    CHECK(known(receive_in("D 9 2 1\n", 0)));
+    CHECK(known(receive_in("D 5 4 1\n", 0)));
+    CHECK(known(receive("D 5 4 1\n")));
+    CHECK(refused(receive_in("D 6 4 1\n", 0), WIMTAZE_REFUSAL_OUTPUT));
+    CHECK(waits(receive("D 6 4 1\n")));
+}
+
+static void short_outputs(void)
+{
+    static const char *const start = "S 3 1\nC 3 1 120 1 0 0 0 1\n";
+    static const char *const typed = "S 3 2\nC 3 1 120 1 0 0 0 1\nC 3 2 1114111 1 3 1 0 1\n";
+    static const char *const erased = "S 3 1\nC 3 1 120 0 0 0 0 1\n";
+    static const char *const insert = "I 3 2 1114111 3 1 0 1\n";
+    load(start);
+    CHECK(refused(type_in(1, 1114111, strlen(typed) - 1, LINE_ROOM), WIMTAZE_REFUSAL_OUTPUT));
+    CHECK(refused(type_in(1, 1114111, ROOM, strlen(insert) - 1), WIMTAZE_REFUSAL_OUTPUT));
+    CHECK(refused(type_in(1, 1114111, 0, LINE_ROOM), WIMTAZE_REFUSAL_OUTPUT));
+    CHECK(refused(type_in(1, 1114111, ROOM, 0), WIMTAZE_REFUSAL_OUTPUT));
+    CHECK(done(type_in(1, 1114111, strlen(typed), strlen(insert)), 1, 0));
+    CHECK(sheet_is(typed));
+    load(start);
+    CHECK(refused(erase_in(1, strlen(erased) - 1, LINE_ROOM), WIMTAZE_REFUSAL_OUTPUT));
+    CHECK(refused(erase_in(1, ROOM, strlen("D 3 3 1\n") - 1), WIMTAZE_REFUSAL_OUTPUT));
+    CHECK(refused(erase_in(1, 0, 0), WIMTAZE_REFUSAL_OUTPUT));
+    CHECK(done(erase_in(1, strlen(erased), strlen("D 3 3 1\n")), 1, 0));
+    CHECK(sheet_is(erased));
+    load(start);
+    CHECK(refused(receive_in("D 1 3 1\n", strlen(erased) - 1), WIMTAZE_REFUSAL_OUTPUT));
+    CHECK(done(receive_in("D 1 3 1\n", strlen(erased)), 1, 0));
+    load(start);
+    CHECK(refused(text_in(0), WIMTAZE_REFUSAL_OUTPUT));
+    CHECK(done(text_in(1), 0, 0));
+    CHECK(refused(empty(16, 6), WIMTAZE_REFUSAL_OUTPUT));
+    CHECK(done(empty(16, 7), 0, 0));
+    CHECK(sheet_is("S 16 0\n"));
+    CHECK(done(text_in(0), 0, 0));
+}
+
+/* The longest lines and text, in outputs of just the sizes that the header names. */
+static void longest(void)
+{
+    load("S 16 65534\nC 16 65533 65 1 0 0 0 1\nC 16 65534 66 1 0 0 0 1\n");
+    uint64_t reply = type_in(1, 1114111, WIMTAZE_SHEET_MAX, WIMTAZE_INSERT_MAX);
+    CHECK(done(reply, 1, 0));
+    CHECK(wimtaze_line_written(reply) == WIMTAZE_INSERT_MAX);
+    reply = erase_in(2, WIMTAZE_SHEET_MAX, WIMTAZE_ERASE_MAX);
+    CHECK(done(reply, 1, 0));
+    CHECK(wimtaze_line_written(reply) == WIMTAZE_ERASE_MAX);
+    load("S 16 65535\n");
+    for (int k = 0; k < 1024; k++) {
+        char line[64];
+        sprintf(line, "C 16 %d 1114111 1 0 0 0 1\n", 64000 + k);
+        append(line);
+    }
+    CHECK(refused(text_in(WIMTAZE_TEXT_MAX - 1), WIMTAZE_REFUSAL_OUTPUT));
+    reply = text_in(WIMTAZE_TEXT_MAX);
+    CHECK(done(reply, 0, 0));
+    CHECK(wimtaze_written(reply) == WIMTAZE_TEXT_MAX);
+    CHECK(done(erase_in(1024, WIMTAZE_SHEET_MAX, WIMTAZE_LINE_MAX), 1, 0));
+}
+
+static void every_refusal(void)
+{
+    for (unsigned n = 1; n <= 12; n++)
+        CHECK(refusals_seen >> n & 1);
+    CHECK(refusals_seen >> 13 == 0);
+}
+
+/* ---- */
+
+static const struct {
+    const char *name;
+    void (*run)(void);
+} groups[] = {
+    {"P1: four rows as they arrive in 001's example", p1},
+    {"P2: the same rows, arriving in another order", p2},
+    {"P3: three of them", p3},
+    {"P4: two rows, either arrival", p4},
+    {"P5: below a hidden row", p5},
+    {"P6: neighbours in the other order", p6},
+    {"P7: rows between and no candidate", p7},
+    {"P8: typing at a gap", p8},
+    {"P9: UTF-8 of the text", p9},
+    {"laptop 2 with 31 waiting", thirty_one_waiting},
+    {"1,023 rows and one waiting insert", full},
+    {"clocks 65,534 and 65,535", clocks},
+    {"the hall's example", hall},
+    {"what an insert releases", released},
+    {"placing", placing},
+    {"layout of lines and sheets", layout},
+    {"ranges", ranges},
+    {"form", form},
+    {"positions and taken identifiers", positions},
+    {"the lowest ground is told", order},
+    {"known with an output of length 0", known_needs_no_output},
+    {"short outputs are left untouched", short_outputs},
+    {"the longest lines and text", longest},
+    {"each refusal was met", every_refusal},
+};
+
+int main(void)
+{
+    for (size_t k = 0; k < sizeof groups / sizeof *groups; k++) {
+        unsigned before_group = passed + failed;
+        group_failed = 0;
+        groups[k].run();
+        unsigned checks = passed + failed - before_group;
+        printf("%s: %u checks, %u failed\n", groups[k].name, checks, group_failed);
+    }
+    printf("%u passed, %u failed\n", passed, failed);
+    return failed == 0 ? EXIT_SUCCESS : EXIT_FAILURE;
+}
