@@ -1,4 +1,28 @@
-# make test: the gate. It proves every crate from nothing and runs what there is to run.
-.PHONY: test
+# make            the static library, target/staticlib/libwimtaze.a
+# make install    the library, its header and its pkg-config file, under PREFIX
+# make native     the programs in C and Rust over the static library
+# make test       the gate: it proves every crate from nothing and runs what there is to run
+PREFIX ?= /usr/local
+VERSION = 0.1.0
+LIBRARY = target/staticlib/libwimtaze.a
+
+.PHONY: all install native test
+
+all:
+	rt staticlib wimtaze
+
+$(LIBRARY):
+	rt staticlib wimtaze
+
+install: $(LIBRARY)
+	install -d "$(DESTDIR)$(PREFIX)/lib/pkgconfig" "$(DESTDIR)$(PREFIX)/include"
+	install -m 644 $(LIBRARY) "$(DESTDIR)$(PREFIX)/lib/libwimtaze.a"
+	install -m 644 include/wimtaze.h "$(DESTDIR)$(PREFIX)/include/wimtaze.h"
+	sed -e 's|@PREFIX@|$(PREFIX)|' -e 's|@VERSION@|$(VERSION)|' wimtaze.pc.in \
+		>"$(DESTDIR)$(PREFIX)/lib/pkgconfig/wimtaze.pc"
+
+native:
+	tests/native/run
+
 test:
 	.ci/run

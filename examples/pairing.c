@@ -1,6 +1,6 @@
 /*
- * Two laptops of a playing hall keep one note together. Each types at once, without waiting for the other; then the edits
- * cross on the network, out of order and twice. Both laptops end with the same note.
+ * Two laptops of a playing hall keep one note together. Each types without waiting for the other; then the edits cross
+ * on the network, out of order and twice. Both laptops end with the same note.
  */
 #include <wimtaze.h>
 

@@ -1,0 +1,704 @@
+//! The C calls of the static library against the plain reference, call by call: random histories of up to sixteen
+//! laptops with lines lost, repeated and reordered, made-up sheets, damaged lines and sheets, outputs of every length.
+//! A call passes if the returned number and every byte of its inputs and outputs, and of the guards around them, are
+//! what the reference says. The seeds are fixed, so a run can be repeated.
+
+#[allow(dead_code)]
+mod reference;
+
+use reference::{Outcome, Reply};
+use std::collections::BTreeMap;
+
+extern "C" {
+    fn wimtaze_empty(number: u64, sheet_out: *mut u8, sheet_out_length: usize) -> u64;
+    fn wimtaze_receive(
+        sheet: *const u8,
+        sheet_length: usize,
+        line: *const u8,
+        line_length: usize,
+        sheet_out: *mut u8,
+        sheet_out_length: usize,
+    ) -> u64;
+    fn wimtaze_type(
+        sheet: *const u8,
+        sheet_length: usize,
+        gap: u64,
+        code_point: u32,
+        sheet_out: *mut u8,
+        sheet_out_length: usize,
+        line_out: *mut u8,
+        line_out_length: usize,
+    ) -> u64;
+    fn wimtaze_erase(
+        sheet: *const u8,
+        sheet_length: usize,
+        place: u64,
+        sheet_out: *mut u8,
+        sheet_out_length: usize,
+        line_out: *mut u8,
+        line_out_length: usize,
+    ) -> u64;
+    fn wimtaze_text(sheet: *const u8, sheet_length: usize, text_out: *mut u8, text_out_length: usize) -> u64;
+}
+
+const SMALL_CALLS: u64 = 220_000;
+const LARGE_SHEETS: u64 = 200;
+const GUARD: usize = 16;
+
+// ---- chance
+
+/// SplitMix64.
+struct Random(u64);
+
+impl Random {
+    fn next(&mut self) -> u64 {
+        self.0 = self.0.wrapping_add(0x9e37_79b9_7f4a_7c15);
+        let a = (self.0 ^ self.0 >> 30).wrapping_mul(0xbf58_476d_1ce4_e5b9);
+        let b = (a ^ a >> 27).wrapping_mul(0x94d0_49bb_1331_11eb);
+        b ^ b >> 31
+    }
+
+    fn below(&mut self, n: usize) -> usize {
+        (self.next() % n as u64) as usize
+    }
+
+    fn one_in(&mut self, n: usize) -> bool {
+        self.below(n) == 0
+    }
+
+    fn pick<T: Copy>(&mut self, from: &[T]) -> T {
+        from[self.below(from.len())]
+    }
+
+    fn noise(&mut self, n: usize) -> Vec<u8> {
+        let mut bytes: Vec<u8> = (0..n.div_ceil(8)).flat_map(|_| self.next().to_le_bytes()).collect();
+        bytes.truncate(n);
+        bytes
+    }
+}
+
+// ---- one call
+
+enum Call<'a> {
+    Empty(u64),
+    Receive(&'a [u8], &'a [u8]),
+    Type(&'a [u8], u64, u32),
+    Erase(&'a [u8], u64),
+    Text(&'a [u8]),
+}
+
+impl Call<'_> {
+    fn name(&self) -> &'static str {
+        match self {
+            Call::Empty(..) => "empty",
+            Call::Receive(..) => "receive",
+            Call::Type(..) => "type",
+            Call::Erase(..) => "erase",
+            Call::Text(..) => "text",
+        }
+    }
+
+    /// The sheet and the line that are handed over.
+    fn inputs(&self) -> (&[u8], &[u8]) {
+        match self {
+            Call::Empty(_) => (&[], &[]),
+            Call::Receive(sheet, line) => (sheet, line),
+            Call::Type(sheet, ..) | Call::Erase(sheet, _) | Call::Text(sheet) => (sheet, &[]),
+        }
+    }
+
+    fn expected(&self) -> Outcome {
+        match *self {
+            Call::Empty(number) => reference::empty_call(number),
+            Call::Receive(sheet, line) => reference::receive_call(sheet, line),
+            Call::Type(sheet, gap, code) => reference::type_call(sheet, gap, code),
+            Call::Erase(sheet, place) => reference::erase_call(sheet, place),
+            Call::Text(sheet) => reference::text_call(sheet),
+        }
+    }
+
+    fn made(&self, sheet: &mut Lent, line: &mut Lent, first: &mut Lent, second: &mut Lent) -> u64 {
+        let ((s, s_len), (l, l_len)) = (sheet.lend(), line.lend());
+        let ((f, f_len), (o, o_len)) = (first.lend(), second.lend());
+        // Each pointer and length is a part of its own vector.
+        unsafe {
+            match *self {
+                Call::Empty(number) => wimtaze_empty(number, f, f_len),
+                Call::Receive(..) => wimtaze_receive(s, s_len, l, l_len, f, f_len),
+                Call::Type(_, gap, code) => wimtaze_type(s, s_len, gap, code, f, f_len, o, o_len),
+                Call::Erase(_, place) => wimtaze_erase(s, s_len, place, f, f_len, o, o_len),
+                Call::Text(_) => wimtaze_text(s, s_len, f, f_len),
+            }
+        }
+    }
+}
+
+/// Bytes that the library is lent, between guards.
+#[derive(Clone, PartialEq, Eq)]
+struct Lent(Vec<u8>);
+
+impl Lent {
+    fn noise(random: &mut Random, room: usize) -> Lent {
+        Lent(random.noise(room + 2 * GUARD))
+    }
+
+    /// The same, with these bytes at the front of the lent part.
+    fn with(&self, bytes: &[u8]) -> Lent {
+        let mut all = self.0.clone();
+        all[GUARD..GUARD + bytes.len()].copy_from_slice(bytes);
+        Lent(all)
+    }
+
+    fn holding(random: &mut Random, bytes: &[u8]) -> Lent {
+        Lent::noise(random, bytes.len()).with(bytes)
+    }
+
+    fn lend(&mut self) -> (*mut u8, usize) {
+        let room = self.0.len() - 2 * GUARD;
+        (self.0[GUARD..].as_mut_ptr(), room)
+    }
+}
+
+// ---- made-up bytes
+
+const NUMBERS: [&str; 34] = [
+    "0", "1", "2", "3", "4", "5", "15", "16", "17", "127", "128", "255", "256", "257", "2047", "2048", "55295",
+    "55296", "57343", "57344", "65534", "65535", "65536", "65537", "1114111", "1114112", "4294967295", "4294967296",
+    "4294967297", "18446744073709551615", "18446744073709551616", "18446744073709551617",
+    "340282366920938463463374607431768211457", "9999999999999999999999999999999999999999",
+];
+const MALFORMED: [&str; 8] = ["", "00", "01", "-1", "+1", " 1", "1\t", "a"];
+const LETTERS: &[u8] = b"IDCSidcs0123456789\t\t\n\n\r .-";
+const CODE_POINTS: [u32; 14] =
+    [0, 9, 10, 127, 128, 2047, 2048, 55_295, 57_344, 65_535, 65_536, 1_114_111, 97, 0x265e];
+const NO_CODE_POINTS: [u32; 5] = [55_296, 57_343, 1_114_112, 65_536 * 65_535, u32::MAX];
+
+const NEARLY_FULL: [usize; 6] = [1000, 1020, 1023, 1024, 1024, 1025];
+
+/// How far a made-up row's neighbours may be from it; at 0 they are the marks.
+const REACHES: [usize; 4] = [0, 1, 2, 1024];
+
+type Id = (usize, usize);
+const BEGIN: Id = (0, 0);
+const END: Id = (0, 1);
+
+/// The last four fields of an insert's line or a row's.
+fn ends(previous: Id, next: Id) -> String {
+    format!("{}\t{}\t{}\t{}", previous.0, previous.1, next.0, next.1)
+}
+
+/// Which identifiers made-up operations speak of: few, so that they meet.
+#[derive(Clone, Copy)]
+struct Universe {
+    laptops: usize,
+    clocks: usize,
+}
+
+impl Random {
+    fn code_point(&mut self) -> u32 {
+        match self.below(40) {
+            0 => self.pick(&NO_CODE_POINTS),
+            1..=9 => self.pick(&CODE_POINTS),
+            _ => 97 + self.below(26) as u32,
+        }
+    }
+
+    fn id(&mut self, of: Universe) -> Id {
+        (1 + self.below(of.laptops), 1 + self.below(of.clocks))
+    }
+
+    /// A made-up operation line whose numbers are mostly in range.
+    fn line(&mut self, of: Universe) -> Vec<u8> {
+        let (laptop, clock) = self.id(of);
+        if self.one_in(4) {
+            return format!("D\t{}\t{laptop}\t{clock}\n", 1 + self.below(of.laptops)).into_bytes();
+        }
+        let previous = if self.one_in(4) { BEGIN } else { self.id(of) };
+        let next = if self.one_in(4) { END } else { self.id(of) };
+        format!("I\t{laptop}\t{clock}\t{}\t{}\n", 97 + self.below(3), ends(previous, next)).into_bytes()
+    }
+
+    /// Rows with each previous above and each next below, and then some waiting operations: mostly in form.
+    fn sheet(&mut self, of: Universe, rows: usize, waiting: usize) -> Vec<u8> {
+        let clock = match self.below(4) {
+            0 => self.pick(&[0, 65_534, 65_535]),
+            1 => 30_000 + self.below(10_000),
+            _ => self.below(of.clocks + 1),
+        };
+        let mut sheet = format!("S\t{}\t{clock}\n", 1 + self.below(of.laptops)).into_bytes();
+        let mut ids: Vec<Id> = (1..=of.laptops).flat_map(|l| (1..=of.clocks).map(move |c| (l, c))).collect();
+        for k in (1..ids.len()).rev() {
+            ids.swap(k, self.below(k + 1));
+        }
+        ids.truncate(rows);
+        if self.one_in(2) {
+            ids.sort();
+        }
+        let (up, down, hidden) = (self.pick(&REACHES), self.pick(&REACHES), 2 + self.below(6));
+        for (k, id) in ids.iter().enumerate() {
+            let up = self.below(up.min(k) + 1);
+            let down = self.below(down.min(ids.len() - 1 - k) + 1);
+            let previous = if up == 0 { BEGIN } else { ids[k - up] };
+            let next = if down == 0 { END } else { ids[k + down] };
+            let (code, shown) = (self.pick(&CODE_POINTS), u8::from(!self.one_in(hidden)));
+            let ends = ends(previous, next);
+            sheet.extend(format!("C\t{}\t{}\t{code}\t{shown}\t{ends}\n", id.0, id.1).into_bytes());
+        }
+        for _ in 0..waiting {
+            let line = self.line(of);
+            self.add_waiting(&mut sheet, line);
+        }
+        sheet
+    }
+
+    /// Adds the line if the sheet stays in form, and now and then if it does not.
+    fn add_waiting(&mut self, sheet: &mut Vec<u8>, line: Vec<u8>) {
+        let length = sheet.len();
+        sheet.extend(line);
+        if reference::read_sheet(sheet).is_err() && !self.one_in(200) {
+            sheet.truncate(length);
+        }
+    }
+
+    /// Adds operations that wait for 6/1, or for each other, beside the rows of the sheet.
+    fn add_awaiting(&mut self, sheet: &mut Vec<u8>, rows: &[Id], count: usize) {
+        for k in 1..=count {
+            let needed = if self.one_in(3) { (7, 1 + self.below(count)) } else { (6, 1) };
+            let other = if self.one_in(4) { needed } else { self.pick(rows) };
+            let line = match self.below(5) {
+                0 => format!("D\t{}\t{}\t{}\n", 1 + self.below(16), needed.0, needed.1),
+                1 => format!("I\t7\t{k}\t97\t{}\n", ends(BEGIN, needed)),
+                2 => format!("I\t7\t{k}\t97\t{}\n", ends(needed, END)),
+                3 => format!("I\t7\t{k}\t97\t{}\n", ends(needed, other)),
+                _ => format!("I\t7\t{k}\t97\t{}\n", ends(other, needed)),
+            };
+            self.add_waiting(sheet, line.into_bytes());
+        }
+    }
+
+    /// As many as can be of one sender's operations waiting for a character that is nowhere.
+    fn crowd(&mut self, sheet: &mut Vec<u8>, sender: usize, count: usize) {
+        for k in 0..count {
+            let line = if self.one_in(2) {
+                format!("I\t{sender}\t{}\t97\t{sender}\t60000\t0\t1\n", 30_000 + k)
+            } else {
+                format!("D\t{sender}\t16\t{}\n", 40_000 + k)
+            };
+            sheet.extend(line.into_bytes());
+        }
+    }
+
+    fn damaged(&mut self, bytes: &[u8]) -> Vec<u8> {
+        let mut b = bytes.to_vec();
+        let at = self.below(b.len().max(1)).min(b.len());
+        match self.below(12) {
+            0 if !b.is_empty() => b[at] = self.pick(LETTERS),
+            1 if !b.is_empty() => b[at] = self.next() as u8,
+            2 if !b.is_empty() => drop(b.remove(at)),
+            3 => b.insert(at, self.pick(LETTERS)),
+            4 => b.truncate(at),
+            5 => b.push(self.pick(LETTERS)),
+            6 => b.extend_from_slice(bytes),
+            7 | 8 => b = self.with_lines_moved(bytes),
+            _ => b = self.with_field_replaced(bytes),
+        }
+        b
+    }
+
+    fn with_field_replaced(&mut self, bytes: &[u8]) -> Vec<u8> {
+        let mut parts: Vec<Vec<u8>> =
+            bytes.split_inclusive(|b| *b == b'\t' || *b == b'\n').map(<[u8]>::to_vec).collect();
+        if parts.is_empty() {
+            return Vec::new();
+        }
+        let k = self.below(parts.len());
+        let end = parts[k].pop().unwrap();
+        let field = if self.one_in(6) { self.pick(&MALFORMED) } else { self.pick(&NUMBERS) };
+        parts[k] = field.as_bytes().to_vec();
+        parts[k].push(end);
+        parts.concat()
+    }
+
+    fn with_lines_moved(&mut self, bytes: &[u8]) -> Vec<u8> {
+        let mut lines: Vec<Vec<u8>> = bytes.split_inclusive(|b| *b == b'\n').map(<[u8]>::to_vec).collect();
+        if lines.is_empty() {
+            return Vec::new();
+        }
+        let (j, k) = (self.below(lines.len()), self.below(lines.len()));
+        match self.below(4) {
+            0 => lines.swap(j, k),
+            1 => lines.insert(j, lines[k].clone()),
+            2 => drop(lines.remove(j)),
+            _ => lines.push(self.line(Universe { laptops: 3, clocks: 4 })),
+        }
+        lines.concat()
+    }
+}
+
+/// How many rows a saved sheet shows, as far as it can be read.
+fn shown(sheet: &[u8]) -> usize {
+    let is_shown = |line: &[u8]| line.starts_with(b"C") && line.split(|b| *b == b'\t').nth(4) == Some(b"1");
+    sheet.split(|b| *b == b'\n').filter(|line| is_shown(line)).count()
+}
+
+// ---- the comparison
+
+/// What a call wrote, if it wrote: the first output and the line.
+type Written = Option<(Vec<u8>, Vec<u8>)>;
+
+struct Tester {
+    random: Random,
+    seed: u64,
+    calls: u64,
+    failed: u64,
+    met: BTreeMap<(&'static str, String), u64>,
+}
+
+fn told(n: u64) -> String {
+    let (word, refusal, carried, thrown) = (n & 3, n >> 2 & 63, n >> 8 & 4095, n >> 20 & 4095);
+    let word = ["done", "waits", "known", "refused"][word as usize];
+    format!("{word} {refusal}, carried {carried}, thrown {thrown}, lengths {} {}", n >> 32 & 65535, n >> 48)
+}
+
+impl Tester {
+    /// The length of an output for a result of this length: enough, more than enough, or short.
+    fn room(&mut self, result: usize) -> usize {
+        match self.random.below(40) {
+            0 => 0,
+            1 => self.random.below(result + 1),
+            2..=4 => result.saturating_sub(1),
+            5 => 47_115,
+            6..=12 => result,
+            _ => result + self.random.below(64),
+        }
+    }
+
+    fn note(&mut self, call: &Call, outcome: &Outcome) {
+        let word = match outcome.reply {
+            Reply::Done { carried, thrown } => {
+                if carried > 1 {
+                    *self.met.entry((call.name(), "releasing".into())).or_default() += 1;
+                }
+                if thrown > 0 {
+                    *self.met.entry((call.name(), "throwing".into())).or_default() += 1;
+                }
+                "done".into()
+            }
+            Reply::Waits => "waits".into(),
+            Reply::Known => "known".into(),
+            Reply::Refused(n) => format!("{n}"),
+        };
+        *self.met.entry((call.name(), word)).or_default() += 1;
+    }
+
+    fn call(&mut self, call: &Call) -> Written {
+        let outcome = call.expected();
+        let (room, line_room) = (self.room(outcome.first.len()), self.room(outcome.line.len()));
+        let outcome = outcome.within(room, line_room);
+        self.note(call, &outcome);
+
+        let (sheet, line) = call.inputs();
+        let lent_sheet = Lent::holding(&mut self.random, sheet);
+        let lent_line = Lent::holding(&mut self.random, line);
+        let first = Lent::noise(&mut self.random, room);
+        let second = Lent::noise(&mut self.random, line_room);
+        let mut used = [lent_sheet.clone(), lent_line.clone(), first.clone(), second.clone()];
+        let [s, l, f, o] = &mut used;
+        let number = call.made(s, l, f, o);
+
+        self.calls += 1;
+        let wanted = [lent_sheet, lent_line, first.with(&outcome.first), second.with(&outcome.line)];
+        if number != outcome.number() || used != wanted {
+            self.failed += 1;
+            if self.failed <= 5 {
+                self.explain(call, number, &outcome, &used, &wanted);
+            }
+        }
+        match outcome.reply {
+            Reply::Done { .. } | Reply::Waits => Some((outcome.first, outcome.line)),
+            _ => None,
+        }
+    }
+
+    fn explain(&self, call: &Call, number: u64, outcome: &Outcome, used: &[Lent; 4], wanted: &[Lent; 4]) {
+        let (sheet, line) = call.inputs();
+        println!("seed {}, call {}: {}", self.seed, self.calls, call.name());
+        println!("  library   {}", told(number));
+        println!("  reference {}", told(outcome.number()));
+        for (name, (a, b)) in ["sheet", "line", "first output", "line output"].iter().zip(used.iter().zip(wanted)) {
+            if let Some(k) = (0..a.0.len()).find(|k| a.0[*k] != b.0[*k]) {
+                let (at, room) = (k as isize - GUARD as isize, a.0.len() - 2 * GUARD);
+                println!("  {name} of length {room}: byte {at} is {} and not {}", a.0[k], b.0[k]);
+            }
+        }
+        match call {
+            Call::Empty(number) => println!("  number {number}"),
+            Call::Type(_, gap, code) => println!("  gap {gap}, code point {code}"),
+            Call::Erase(_, place) => println!("  place {place}"),
+            Call::Receive(..) => println!("  line {:?}", String::from_utf8_lossy(line)),
+            Call::Text(_) => {}
+        }
+        let shortened: String = String::from_utf8_lossy(sheet).chars().take(2000).collect();
+        println!("  sheet {shortened:?}");
+    }
+
+    // ---- calls with numbers by chance
+
+    fn type_somewhere(&mut self, sheet: &[u8]) -> Written {
+        let count = shown(sheet);
+        let gap = match self.random.below(30) {
+            0 => count as u64 + 1,
+            1 => self.random.next() >> self.random.below(64),
+            _ => self.random.below(count + 1) as u64,
+        };
+        let code = self.random.code_point();
+        self.call(&Call::Type(sheet, gap, code))
+    }
+
+    fn erase_somewhere(&mut self, sheet: &[u8]) -> Written {
+        let count = shown(sheet);
+        let place = match self.random.below(20) {
+            0 => 0,
+            1 => self.random.next() >> self.random.below(64),
+            _ => 1 + self.random.below(count + 1) as u64,
+        };
+        self.call(&Call::Erase(sheet, place))
+    }
+
+    /// Any call on the sheet.
+    fn anything(&mut self, sheet: &[u8], line: &[u8]) -> Written {
+        match self.random.below(10) {
+            0..=4 => self.call(&Call::Receive(sheet, line)),
+            5..=7 => self.type_somewhere(sheet),
+            8 => self.erase_somewhere(sheet),
+            _ => {
+                self.call(&Call::Text(sheet));
+                None
+            }
+        }
+    }
+
+    fn begin(&mut self, number: u64) -> Vec<u8> {
+        loop {
+            if let Some((sheet, _)) = self.call(&Call::Empty(number)) {
+                return sheet;
+            }
+        }
+    }
+}
+
+// ---- the runs
+
+struct Laptop {
+    sheet: Vec<u8>,
+    /// What is on its way to it.
+    inbox: Vec<Vec<u8>>,
+}
+
+impl Tester {
+    /// Laptops that type and erase, with their lines lost, repeated, reordered and damaged on the way.
+    fn history(&mut self) {
+        let count = 1 + self.random.below(16);
+        let first = self.random.below(16);
+        let shared = self.random.one_in(12);
+        let mut laptops: Vec<Laptop> = (0..count)
+            .map(|k| if shared { k / 2 } else { k })
+            .map(|k| Laptop { sheet: self.begin(((first + k) % 16 + 1) as u64), inbox: Vec::new() })
+            .collect();
+        let mut sent: Vec<Vec<u8>> = Vec::new();
+        let typing = 15 + self.random.below(20);
+        for _ in 0..50 + self.random.below(350) {
+            let k = self.random.below(count);
+            let sheet = laptops[k].sheet.clone();
+            let written = match self.random.below(100) {
+                n if n < typing => self.type_somewhere(&sheet),
+                n if n < typing + 8 => self.erase_somewhere(&sheet),
+                n if n < 86 => self.receive_next(&mut laptops[k]),
+                n if n < 91 && !sent.is_empty() => {
+                    let line = &sent[self.random.below(sent.len())];
+                    self.call(&Call::Receive(&sheet, line))
+                }
+                n => self.mishap(n, &sheet, &sent),
+            };
+            let Some((sheet, line)) = written else { continue };
+            laptops[k].sheet = sheet;
+            if !line.is_empty() {
+                let own = self.random.one_in(10);
+                for (j, laptop) in laptops.iter_mut().enumerate().filter(|(j, _)| own || *j != k) {
+                    if !self.random.one_in(25) || j == k {
+                        laptop.inbox.push(line.clone());
+                    }
+                }
+                sent.push(line);
+            }
+        }
+    }
+
+    /// Some line that is on its way, mostly an early one; it may come again, and comes again if it was turned away.
+    fn receive_next(&mut self, laptop: &mut Laptop) -> Written {
+        if laptop.inbox.is_empty() {
+            return None;
+        }
+        let reach = if self.random.one_in(3) { laptop.inbox.len() } else { laptop.inbox.len().min(4) };
+        let line = laptop.inbox.remove(self.random.below(reach));
+        let written = self.call(&Call::Receive(&laptop.sheet, &line));
+        if written.is_none() && self.random.one_in(2) || self.random.one_in(12) {
+            laptop.inbox.push(line);
+        }
+        written
+    }
+
+    /// A damaged or made-up line, a damaged sheet that nobody keeps, the text, or a new sheet.
+    fn mishap(&mut self, n: usize, sheet: &[u8], sent: &[Vec<u8>]) -> Written {
+        let of = Universe { laptops: 16, clocks: 4 };
+        let line = if sent.is_empty() { self.random.line(of) } else { sent[self.random.below(sent.len())].clone() };
+        match n {
+            91..=93 => {
+                let line = self.random.damaged(&line);
+                self.call(&Call::Receive(sheet, &line))
+            }
+            94 => {
+                let line = self.random.line(of);
+                self.call(&Call::Receive(sheet, &line))
+            }
+            95..=97 => {
+                let mut sheet = self.random.damaged(sheet);
+                if self.random.one_in(3) {
+                    sheet = self.random.damaged(&sheet);
+                }
+                let line = if self.random.one_in(4) { self.random.damaged(&line) } else { line };
+                self.anything(&sheet, &line);
+                None
+            }
+            98 => {
+                let number = if self.random.one_in(2) { self.random.below(20) as u64 } else { self.random.next() };
+                self.call(&Call::Empty(number));
+                None
+            }
+            _ => {
+                self.call(&Call::Text(sheet));
+                None
+            }
+        }
+    }
+
+    /// A made-up sheet, and made-up operations on few identifiers: they wait, collide, release and throw out.
+    fn made_up(&mut self) {
+        let of = Universe { laptops: 1 + self.random.below(6), clocks: 2 + self.random.below(8) };
+        let (rows, waiting) = (self.random.below(14), self.random.below(20));
+        let mut sheet = self.random.sheet(of, rows, waiting);
+        for _ in 0..20 + self.random.below(30) {
+            let line = self.random.line(of);
+            if let Some((new, _)) = self.anything(&sheet, &line) {
+                sheet = new;
+            }
+        }
+        let damaged = self.random.damaged(&sheet);
+        let line = self.random.line(of);
+        self.anything(&damaged, &line);
+    }
+
+    /// Operations that all wait, one way or another, for one insert; then it comes.
+    fn awaited(&mut self) {
+        let of = Universe { laptops: 5, clocks: 4 };
+        let count = 1 + self.random.below(10);
+        let mut sheet = self.random.sheet(of, count, 0);
+        let Ok(read) = reference::read_sheet(&sheet) else { return };
+        let rows: Vec<Id> = read.rows.iter().map(|r| (r.insert.id.laptop.into(), r.insert.id.clock.into())).collect();
+        let waiting = self.random.below(24);
+        self.random.add_awaiting(&mut sheet, &rows, waiting);
+        for _ in 0..3 {
+            let k = self.random.below(rows.len() + 1);
+            let previous = if k == 0 { BEGIN } else { rows[k - 1] };
+            let next = if k == rows.len() { END } else { rows[k] };
+            let line = format!("I\t6\t1\t98\t{}\n", ends(previous, next)).into_bytes();
+            if let Some((new, _)) = self.call(&Call::Receive(&sheet, &line)) {
+                sheet = new;
+            }
+        }
+    }
+
+    /// One sender with nearly its share waiting.
+    fn crowded(&mut self) {
+        let of = Universe { laptops: 5, clocks: 4 };
+        let (sender, rows, count) = (1 + self.random.below(5), self.random.below(5), 29 + self.random.below(5));
+        let mut sheet = self.random.sheet(of, rows, 0);
+        self.random.crowd(&mut sheet, sender, count);
+        for k in 0..12 {
+            let line = match self.random.below(4) {
+                0 => format!("D\t{sender}\t15\t{}\n", 100 + k).into_bytes(),
+                1 => format!("I\t{sender}\t{}\t97\t15\t99\t0\t1\n", 200 + k).into_bytes(),
+                2 if k > 8 => format!("I\t{sender}\t60000\t97\t0\t0\t0\t1\n").into_bytes(),
+                _ => self.random.line(of),
+            };
+            if let Some((new, _)) = self.call(&Call::Receive(&sheet, &line)) {
+                sheet = new;
+            }
+        }
+    }
+
+    /// A sheet at or near its limit of 1,024 rows and waiting inserts, or between that and the small ones.
+    fn large(&mut self, full: bool) {
+        let of = Universe { laptops: 16, clocks: 70 };
+        let rows = if full { self.random.pick(&NEARLY_FULL) } else { 100 + self.random.below(400) };
+        let mut sheet = self.random.sheet(of, rows, 0);
+        if self.random.one_in(2) {
+            let (sender, count) = (1 + self.random.below(16), self.random.below(12));
+            self.random.crowd(&mut sheet, sender, count);
+        }
+        for _ in 0..6 {
+            let line = match self.random.below(3) {
+                0 => format!("I\t{}\t60000\t97\t0\t0\t0\t1\n", 1 + self.random.below(16)).into_bytes(),
+                _ => self.random.line(of),
+            };
+            let sheet_or_not = if self.random.one_in(8) { self.random.damaged(&sheet) } else { sheet.clone() };
+            if let Some((new, _)) = self.anything(&sheet_or_not, &line) {
+                sheet = new;
+            }
+        }
+    }
+}
+
+/// Every reply that each call can give, and waiting operations carried and thrown out.
+const TO_MEET: [(&str, &str); 5] = [
+    ("empty", "done 2 12"),
+    ("receive", "done waits known releasing throwing 1 2 3 7 8 9 10 11 12"),
+    ("type", "done releasing throwing 1 2 3 4 5 6 9 11 12"),
+    ("erase", "done 1 2 3 4 12"),
+    ("text", "done 1 2 3 12"),
+];
+
+fn main() {
+    let mut tester = Tester { random: Random(0), seed: 0, calls: 0, failed: 0, met: BTreeMap::new() };
+    for seed in 0.. {
+        if seed >= LARGE_SHEETS && tester.calls >= SMALL_CALLS {
+            break;
+        }
+        tester.seed = seed;
+        tester.random = Random(seed);
+        match seed {
+            n if n < LARGE_SHEETS => tester.large(n % 2 == 0),
+            n if n % 8 == 0 => tester.crowded(),
+            n if n % 8 < 3 => tester.history(),
+            n if n % 8 < 6 => tester.made_up(),
+            _ => tester.awaited(),
+        }
+    }
+    let (mut passed, mut failed) = (tester.calls - tester.failed, tester.failed);
+    for (call, replies) in TO_MEET {
+        let mut line = format!("{call}:");
+        for reply in replies.split(' ') {
+            let count = tester.met.get(&(call, reply.to_string())).copied().unwrap_or(0);
+            line += &format!(" {reply} ({count})");
+            if count == 0 {
+                println!("{call} never answered {reply}");
+                failed += 1;
+            } else {
+                passed += 1;
+            }
+        }
+        println!("{line}");
+    }
+    println!("{passed} passed, {failed} failed");
+    std::process::exit(i32::from(failed > 0));
+}
