@@ -344,6 +344,7 @@ static void load_rows(int count)
 
 static void full(void)
 {
+    char line[64];
     load_rows(1023);
     append("I 2 1 98 3 1 0 1\n");
     CHECK(refused(type(0, 'x'), WIMTAZE_REFUSAL_DOCUMENT_FULL));
@@ -359,6 +360,15 @@ static void full(void)
     CHECK(refused(type(1024, 'y'), WIMTAZE_REFUSAL_DOCUMENT_FULL));
     load_rows(1025);
     CHECK(refused(text(), WIMTAZE_REFUSAL_FORM));
+    load_rows(992);
+    for (int k = 1; k <= 32; k++) {
+        sprintf(line, "I 2 %d 98 3 1 0 1\n", k);
+        append(line);
+    }
+    CHECK(refused(receive("I 2 33 98 3 1 0 1\n"), WIMTAZE_REFUSAL_SENDER_FULL));
+    CHECK(refused(receive("I 2 33 98 0 0 0 1\n"), WIMTAZE_REFUSAL_DOCUMENT_FULL));
+    CHECK(refused(receive("I 4 1 98 3 1 0 1\n"), WIMTAZE_REFUSAL_DOCUMENT_FULL));
+    CHECK(waits(receive("D 4 3 1\n")));
 }
 
 static void clocks(void)
@@ -418,12 +428,19 @@ static void released(void)
     CHECK(done(receive("I 4 1 68 2 1 0 1\n"), 1, 1));
 }
 
-/* Hidden rows stand between, candidates are taken afresh, and passing stops at the first that is not below. */
+/* Passing stops at the first not below, candidates are taken afresh, the clock counts, hidden rows stand between. */
 static void placing(void)
 {
     load("S 9 0\nC 1 1 65 1 0 0 0 1\nC 5 1 66 1 0 0 0 1\nC 2 1 67 1 0 0 0 1\n");
     CHECK(done(receive("I 3 1 68 0 0 0 1\n"), 1, 0));
     CHECK(sheet_is("S 9 0\nC 1 1 65 1 0 0 0 1\nC 3 1 68 1 0 0 0 1\nC 5 1 66 1 0 0 0 1\nC 2 1 67 1 0 0 0 1\n"));
+    load("S 9 0\nC 1 1 65 1 0 0 0 1\nC 2 5 66 1 1 1 0 1\nC 4 1 67 1 2 5 0 1\n");
+    CHECK(done(receive("I 3 1 68 0 0 0 1\n"), 1, 0));
+    CHECK(sheet_is("S 9 0\nC 1 1 65 1 0 0 0 1\nC 2 5 66 1 1 1 0 1\nC 3 1 68 1 0 0 0 1\nC 4 1 67 1 2 5 0 1\n"));
+    load("S 9 0\nC 3 2 65 1 0 0 0 1\nC 3 12 66 1 0 0 0 1\n");
+    CHECK(done(receive("I 3 9 67 0 0 0 1\n"), 1, 0));
+    CHECK(done(receive("I 2 13 68 0 0 0 1\n"), 1, 0));
+    CHECK(sheet_is("S 9 0\nC 2 13 68 1 0 0 0 1\nC 3 2 65 1 0 0 0 1\nC 3 9 67 1 0 0 0 1\nC 3 12 66 1 0 0 0 1\n"));
     load("S 9 0\nC 1 1 65 0 0 0 0 1\nC 2 1 66 0 0 0 0 1\n");
     uint64_t reply = type(0, 'x');
     CHECK(done(reply, 1, 0));

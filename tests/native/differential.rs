@@ -173,8 +173,6 @@ const CODE_POINTS: [u32; 14] =
     [0, 9, 10, 127, 128, 2047, 2048, 55_295, 57_344, 65_535, 65_536, 1_114_111, 97, 0x265e];
 const NO_CODE_POINTS: [u32; 5] = [55_296, 57_343, 1_114_112, 65_536 * 65_535, u32::MAX];
 
-const NEARLY_FULL: [usize; 6] = [1000, 1020, 1023, 1024, 1024, 1025];
-
 /// How far a made-up row's neighbours may be from it; at 0 they are the marks.
 const REACHES: [usize; 4] = [0, 1, 2, 1024];
 
@@ -276,16 +274,19 @@ impl Random {
         }
     }
 
-    /// As many as can be of one sender's operations waiting for a character that is nowhere.
-    fn crowd(&mut self, sheet: &mut Vec<u8>, sender: usize, count: usize) {
+    /// Operations of one sender that wait for characters that are nowhere, and how many of them are inserts.
+    fn crowd(&mut self, sender: usize, count: usize) -> (Vec<u8>, usize) {
+        let (mut crowd, mut inserts) = (Vec::new(), 0);
         for k in 0..count {
             let line = if self.one_in(2) {
+                inserts += 1;
                 format!("I\t{sender}\t{}\t97\t{sender}\t60000\t0\t1\n", 30_000 + k)
             } else {
                 format!("D\t{sender}\t16\t{}\n", 40_000 + k)
             };
-            sheet.extend(line.into_bytes());
+            crowd.extend(line.into_bytes());
         }
+        (crowd, inserts)
     }
 
     fn damaged(&mut self, bytes: &[u8]) -> Vec<u8> {
@@ -361,14 +362,15 @@ fn told(n: u64) -> String {
 }
 
 impl Tester {
-    /// The length of an output for a result of this length: enough, more than enough, or short.
-    fn room(&mut self, result: usize) -> usize {
+    /// The length of an output for a result of this length: enough, more than enough (for the input too), or short.
+    fn room(&mut self, result: usize, input: usize) -> usize {
         match self.random.below(40) {
             0 => 0,
             1 => self.random.below(result + 1),
             2..=4 => result.saturating_sub(1),
             5 => 47_115,
             6..=12 => result,
+            13..=17 => result.max(input) + self.random.below(64),
             _ => result + self.random.below(64),
         }
     }
@@ -393,11 +395,12 @@ impl Tester {
 
     fn call(&mut self, call: &Call) -> Written {
         let outcome = call.expected();
-        let (room, line_room) = (self.room(outcome.first.len()), self.room(outcome.line.len()));
+        let (sheet, line) = call.inputs();
+        let room = self.room(outcome.first.len(), sheet.len());
+        let line_room = self.room(outcome.line.len(), 37);
         let outcome = outcome.within(room, line_room);
         self.note(call, &outcome);
 
-        let (sheet, line) = call.inputs();
         let lent_sheet = Lent::holding(&mut self.random, sheet);
         let lent_line = Lent::holding(&mut self.random, line);
         let first = Lent::noise(&mut self.random, room);
@@ -623,7 +626,7 @@ impl Tester {
         let of = Universe { laptops: 5, clocks: 4 };
         let (sender, rows, count) = (1 + self.random.below(5), self.random.below(5), 29 + self.random.below(5));
         let mut sheet = self.random.sheet(of, rows, 0);
-        self.random.crowd(&mut sheet, sender, count);
+        sheet.extend(self.random.crowd(sender, count).0);
         for k in 0..12 {
             let line = match self.random.below(4) {
                 0 => format!("D\t{sender}\t15\t{}\n", 100 + k).into_bytes(),
@@ -640,15 +643,18 @@ impl Tester {
     /// A sheet at or near its limit of 1,024 rows and waiting inserts, or between that and the small ones.
     fn large(&mut self, full: bool) {
         let of = Universe { laptops: 16, clocks: 70 };
-        let rows = if full { self.random.pick(&NEARLY_FULL) } else { 100 + self.random.below(400) };
+        let (sender, count) = (1 + self.random.below(16), self.random.pick(&[0, 1, 12, 31, 32]));
+        let (crowd, inserts) = self.random.crowd(sender, count);
+        let free = self.random.pick(&[0, 0, 0, 1, 2, 20]);
+        let beyond = usize::from(self.random.one_in(8));
+        let rows = if full { 1024 + beyond - inserts - free } else { 100 + self.random.below(400) };
         let mut sheet = self.random.sheet(of, rows, 0);
-        if self.random.one_in(2) {
-            let (sender, count) = (1 + self.random.below(16), self.random.below(12));
-            self.random.crowd(&mut sheet, sender, count);
-        }
+        sheet.extend(crowd);
         for _ in 0..6 {
-            let line = match self.random.below(3) {
-                0 => format!("I\t{}\t60000\t97\t0\t0\t0\t1\n", 1 + self.random.below(16)).into_bytes(),
+            let line = match self.random.below(5) {
+                0 => format!("I\t{sender}\t60000\t97\t0\t0\t0\t1\n").into_bytes(),
+                1 => format!("I\t{sender}\t50000\t97\t{sender}\t60001\t0\t1\n").into_bytes(),
+                2 => format!("I\t{}\t50001\t97\t{sender}\t60001\t0\t1\n", sender % 16 + 1).into_bytes(),
                 _ => self.random.line(of),
             };
             let sheet_or_not = if self.random.one_in(8) { self.random.damaged(&sheet) } else { sheet.clone() };
