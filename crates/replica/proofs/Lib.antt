@@ -14,3 +14,4 @@ pub mod Visibility
 pub mod Texts
 pub mod Works
 pub mod Stepping
+pub mod Outcomes

@@ -1,0 +1,155 @@
+-- What each call returns, by the conditions of its list: each law is for the condition that decides, below those that do not
+-- hold.
+use Prim.Native.Nat.{ℕ, suc}
+use mathlib.Core.Path.{_≡_}
+use mathlib.Core.Bool.{true, false}
+use lib.Dec.{leb}
+use lib.ListN.{length}
+use Rattle.woot.specs.declared.Delete.{Delete}
+use Rattle.woot.specs.declared.Insert.{Insert}
+use Rattle.woot.specs.declared.Operation.{Operation}
+use Rattle.woot.specs.declared.Operation.the-variants.{Insert as insert, Delete as delete}
+use Rattle.woot.specs.declared.Replica.{Replica}
+use Rattle.woot.specs.declared.Refusal.{Refusal}
+use Rattle.woot.specs.declared.Refusal.the-variants.{Range, Form, Position, Clock, Taken, Conflict, Crossed, Unplaceable, SenderFull, DocumentFull}
+use Rattle.woot.specs.declared.Answer.{Answer}
+use Rattle.woot.specs.declared.Answer.the-variants.{Done, Deferred, Duplicate, Refused}
+use Rattle.woot.specs.declared.Sent.{Sent}
+use Rattle.woot.specs.declared.Sent.the-variants.{Done as sentDone, Refused as sentRefused}
+use Rattle.woot.specs.declared.Receipt.{Receipt}
+use Rattle.woot.specs.declared.Generated.{Generated}
+use Rattle.woot.specs.Limits.{lastClock}
+use Rattle.woot.specs.Ranges.{codePoint, inRange}
+use Rattle.woot.specs.State.{State, meaning, stored}
+use Rattle.woot.specs.Placing.{integrateDelete}
+use Rattle.woot.specs.Pending.{executable, crossed, unplaceable, Drained}
+use Rattle.woot.specs.Form.{replicaWellFormed}
+use Rattle.woot.specs.Calls.{unchanged, decided, withCharacters, withPending, afterDrain, insertCarried, duplicate, conflicting, senderFull, documentFull, receiveChecks, carryOut, defer, accept, receiveWhen, generatedInsert, beyondVisible, taken, insertChecks, advanced, sendInsert, localInsertWhen, notVisible, deleteChecks, generatedDelete, sendDelete, localDeleteWhen}
+use Rattle.replica.specs.Replicas.{afterAnswer, afterSent, receipt, generated, received, inserted, deleted}
+
+-- ---- receiving
+
+module _ (r : Replica) (o : Operation) where
+  -- the replica as it was, with an answer
+  abbrev answered : Answer → Receipt
+  answered a = record { answer = a; replica = r }
+
+  pub unranged : inRange o ≡ false → received r o ≡ answered (Refused Range)
+  unfolding received receipt afterAnswer receiveWhen receiveChecks decided unchanged
+  unranged e = rw e
+
+  module _ (ranged : inRange o ≡ true) where
+    pub unformed : replicaWellFormed r ≡ false → received r o ≡ answered (Refused Form)
+    unfolding received receipt afterAnswer receiveWhen receiveChecks decided unchanged
+    unformed e = rw (ranged, e)
+
+    module _ (form : replicaWellFormed r ≡ true) where
+      pub known : duplicate (meaning r) o ≡ true → received r o ≡ answered Duplicate
+      unfolding received receipt afterAnswer receiveWhen receiveChecks decided unchanged
+      known e = rw (ranged, form, e)
+
+      module _ (new : duplicate (meaning r) o ≡ false) where
+        pub conflict : conflicting (meaning r) o ≡ true → received r o ≡ answered (Refused Conflict)
+        unfolding received receipt afterAnswer receiveWhen receiveChecks decided unchanged
+        conflict e = rw (ranged, form, new, e)
+
+        module _ (sole : conflicting (meaning r) o ≡ false) where
+          pub cross : crossed (meaning r .characters) o ≡ true → received r o ≡ answered (Refused Crossed)
+          unfolding received receipt afterAnswer receiveWhen receiveChecks decided unchanged
+          cross e = rw (ranged, form, new, sole, e)
+
+          module _ (straight : crossed (meaning r .characters) o ≡ false) where
+            pub placeless : unplaceable (meaning r .characters) o ≡ true → received r o ≡ answered (Refused Unplaceable)
+            unfolding received receipt afterAnswer receiveWhen receiveChecks decided unchanged
+            placeless e = rw (ranged, form, new, sole, straight, e)
+
+            module _ (placed : unplaceable (meaning r .characters) o ≡ false) where
+              pub sender-full : senderFull (meaning r) o ≡ true → received r o ≡ answered (Refused SenderFull)
+              unfolding received receipt afterAnswer receiveWhen receiveChecks decided unchanged
+              sender-full e = rw (ranged, form, new, sole, straight, placed, e)
+
+              module _ (share : senderFull (meaning r) o ≡ false) where
+                pub document-full : documentFull (meaning r) o ≡ true → received r o ≡ answered (Refused DocumentFull)
+                unfolding received receipt afterAnswer receiveWhen receiveChecks decided unchanged
+                document-full e = rw (ranged, form, new, sole, straight, placed, share, e)
+
+                module _ (space : documentFull (meaning r) o ≡ false) where
+                  pub accepted : received r o ≡ receipt r (accept (meaning r) o)
+                  unfolding received receiveWhen receiveChecks decided
+                  accepted = rw (ranged, form, new, sole, straight, placed, share, space)
+
+-- what is done where no condition holds
+pub deferred : (r : Replica) (o : Operation) → executable (meaning r .characters) o ≡ false → receipt r (accept (meaning r) o) ≡ record { answer = Deferred; replica = stored (withPending (meaning r) o) }
+unfolding receipt afterAnswer accept defer
+deferred r o e = rw e
+
+pub carried-insert : (r : Replica) (i : Insert) → executable (meaning r .characters) (insert i) ≡ true → receipt r (accept (meaning r) (insert i)) ≡ record { answer = Done (suc (length (insertCarried (meaning r) i .integrated))) (length (insertCarried (meaning r) i .discarded)); replica = stored (afterDrain (meaning r) (insertCarried (meaning r) i)) }
+unfolding receipt afterAnswer accept carryOut
+carried-insert r i e = rw e
+
+pub carried-delete : (r : Replica) (d : Delete) → executable (meaning r .characters) (delete d) ≡ true → receipt r (accept (meaning r) (delete d)) ≡ record { answer = Done 1 0; replica = stored (withCharacters (meaning r) (integrateDelete (meaning r .characters) (d .target))) }
+unfolding receipt afterAnswer accept carryOut
+carried-delete r d e = rw e
+
+-- ---- typing
+
+module _ (r : Replica) (g n : ℕ) where
+  -- the replica as it was, with a refusal
+  abbrev insert-refused : Refusal → Generated
+  insert-refused q = record { answer = sentRefused q; replica = r }
+
+  pub insert-unranged : codePoint n ≡ false → inserted r g n ≡ insert-refused Range
+  unfolding inserted generated afterSent localInsertWhen insertChecks decided unchanged
+  insert-unranged e = rw e
+
+  module _ (ranged : codePoint n ≡ true) where
+    pub insert-unformed : replicaWellFormed r ≡ false → inserted r g n ≡ insert-refused Form
+    unfolding inserted generated afterSent localInsertWhen insertChecks decided unchanged
+    insert-unformed e = rw (ranged, e)
+
+    module _ (form : replicaWellFormed r ≡ true) where
+      pub insert-beyond : beyondVisible (meaning r) g ≡ true → inserted r g n ≡ insert-refused Position
+      unfolding inserted generated afterSent localInsertWhen insertChecks decided unchanged
+      insert-beyond e = rw (ranged, form, e)
+
+      module _ (visible : beyondVisible (meaning r) g ≡ false) where
+        pub insert-late : leb lastClock (meaning r .site .clock) ≡ true → inserted r g n ≡ insert-refused Clock
+        unfolding inserted generated afterSent localInsertWhen insertChecks decided unchanged
+        insert-late e = rw (ranged, form, visible, e)
+
+        module _ (early : leb lastClock (meaning r .site .clock) ≡ false) where
+          pub insert-taken : taken (meaning r) ≡ true → inserted r g n ≡ insert-refused Taken
+          unfolding inserted generated afterSent localInsertWhen insertChecks decided unchanged
+          insert-taken e = rw (ranged, form, visible, early, e)
+
+          module _ (free : taken (meaning r) ≡ false) where
+            pub insert-placeless : unplaceable (meaning r .characters) (insert (generatedInsert (meaning r) g n)) ≡ true → inserted r g n ≡ insert-refused Unplaceable
+            unfolding inserted generated afterSent localInsertWhen insertChecks decided unchanged
+            insert-placeless e = rw (ranged, form, visible, early, free, e)
+
+            module _ (placed : unplaceable (meaning r .characters) (insert (generatedInsert (meaning r) g n)) ≡ false) where
+              pub insert-full : documentFull (meaning r) (insert (generatedInsert (meaning r) g n)) ≡ true → inserted r g n ≡ insert-refused DocumentFull
+              unfolding inserted generated afterSent localInsertWhen insertChecks decided unchanged
+              insert-full e = rw (ranged, form, visible, early, free, placed, e)
+
+              module _ (space : documentFull (meaning r) (insert (generatedInsert (meaning r) g n)) ≡ false) where
+                pub insert-done : inserted r g n ≡ generated r (sendInsert (meaning r) (generatedInsert (meaning r) g n))
+                unfolding inserted localInsertWhen insertChecks decided
+                insert-done = rw (ranged, form, visible, early, free, placed, space)
+
+-- ---- erasing
+
+module _ (r : Replica) (p : ℕ) where
+  pub delete-unformed : replicaWellFormed r ≡ false → deleted r p ≡ record { answer = sentRefused Form; replica = r }
+  unfolding deleted generated afterSent localDeleteWhen deleteChecks decided unchanged
+  delete-unformed e = rw e
+
+  module _ (form : replicaWellFormed r ≡ true) where
+    pub delete-nowhere : notVisible (meaning r) p ≡ true → deleted r p ≡ record { answer = sentRefused Position; replica = r }
+    unfolding deleted generated afterSent localDeleteWhen deleteChecks decided unchanged
+    delete-nowhere e = rw (form, e)
+
+    module _ (visible : notVisible (meaning r) p ≡ false) where
+      pub delete-done : deleted r p ≡ record { answer = sentDone (delete (generatedDelete (meaning r) p)) 1 0; replica = stored (withCharacters (meaning r) (integrateDelete (meaning r .characters) (generatedDelete (meaning r) p .target))) }
+      unfolding deleted generated afterSent localDeleteWhen deleteChecks decided sendDelete
+      delete-done = rw (form, visible)
