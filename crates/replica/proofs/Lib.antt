@@ -15,3 +15,5 @@ pub mod Texts
 pub mod Works
 pub mod Stepping
 pub mod Outcomes
+pub mod Stored
+pub mod Generating

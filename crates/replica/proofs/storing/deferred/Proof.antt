@@ -1,0 +1,23 @@
+-- `replica::storing::deferred` builds both arrays anew, with the operation just past the pending ones.
+use borrow.Author.Needs.{needs}
+use Rattle.replica.proofs.Fullness.{full-replica}
+use Rattle.replica.proofs.Stored.{counts, deferred-stored}
+use Rattle.replica.proofs.storing.deferred.Statement.{statement}
+use Rattle.replica.proofs.storing.deferred.Tie as tie
+
+kept-requires : tie.Need-kept-requires
+kept-requires c κs = counts _ (c .before .before .before .before .pre .0) .characters
+
+pushed-requires : tie.Need-pushed-requires
+pushed-requires c κs = search needs
+
+add-t10 : tie.Need-add-t10
+add-t10 c = search needs
+
+returns : tie.Need-returns
+returns c =
+    let start = c .before .before .before .before .before .before .before in
+    deferred-stored (start .args .r) (full-replica (start .good .0)) (counts _ (start .pre .0)) _ _ _ (c .before .before .kept .ensures) (c .before .pushed .ensures)
+
+pub deferred-spec : {M : Type 1} → statement M
+deferred-spec = tie.close (tie.spec kept-requires pushed-requires add-t10 returns)

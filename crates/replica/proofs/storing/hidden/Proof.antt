@@ -1,0 +1,19 @@
+-- `replica::storing::hidden` builds both arrays anew.
+use Rattle.replica.proofs.Fullness.{full-replica}
+use Rattle.replica.proofs.Stored.{counts, hidden-stored}
+use Rattle.replica.proofs.storing.hidden.Statement.{statement}
+use Rattle.replica.proofs.storing.hidden.Tie as tie
+
+hidden-requires : tie.Need-hidden-requires
+hidden-requires c κs = counts _ (c .before .before .before .before .pre) .characters
+
+kept-pending-requires : tie.Need-kept-pending-requires
+kept-pending-requires c κs = counts _ (c .before .before .before .before .before .pre) .pending
+
+returns : tie.Need-returns
+returns c =
+    let start = c .before .before .before .before .before .before in
+    hidden-stored (start .args .r) (full-replica (start .good .0)) (counts _ (start .pre)) _ _ _ (c .before .hidden .ensures) (c .kept-pending .ensures)
+
+pub hidden-spec : {M : Type 1} → statement M
+hidden-spec = tie.close (tie.spec hidden-requires kept-pending-requires returns)
