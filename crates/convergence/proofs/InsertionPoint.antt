@@ -53,7 +53,7 @@ part-visible (c ∷ cs) = go (c .visible) (part-visible cs)
     go true p = keeps p
     go false p = skip p
 
-get-member : (xs : List Identifier) (k : ℕ) (d : Identifier) → k < length xs → List·Memᴰ (getD xs k d) xs
+pub get-member : {A : Type 0} (xs : List A) (k : ℕ) (d : A) → k < length xs → List·Memᴰ (getD xs k d) xs
 get-member [] k d h = absurd (omega arith)
 get-member (x ∷ xs) zero d h = List·Memᴰ·head refl
 get-member (x ∷ xs) (suc k) d h = List·Memᴰ·tail (get-member xs k d (omega arith))

@@ -138,7 +138,7 @@ any-deletes d (insert j ∷ ps) = any-deletes d ps
 any-deletes d (delete e ∷ ps) = ap (λ b. sameDelete d e || b) (any-deletes d ps)
 
 -- an insert that is neither known nor in conflict has an identifier that is not used
-fresh-insert : (s : State) (i : Insert) → duplicate s (insert i) ≡ false → conflicting s (insert i) ≡ false → any (same (i .id)) (identifiers (s .characters) ++ pendingIds (s .pending)) ≡ false
+pub fresh-insert : (s : State) (i : Insert) → duplicate s (insert i) ≡ false → conflicting s (insert i) ≡ false → any (same (i .id)) (identifiers (s .characters) ++ pendingIds (s .pending)) ≡ false
 unfolding duplicate conflicting known sameOperation
 fresh-insert s i new sole =
     subst (λ (xs : List Identifier). any (same (i .id)) xs ≡ false) (known-ids s)
@@ -162,11 +162,11 @@ fresh-insert s i new sole =
 
 -- ---- receiving
 
-space-insert : (s : State) (i : Insert) → documentFull s (insert i) ≡ false → length (s .characters) + length (inserts (s .pending)) < capacity
+pub space-insert : (s : State) (i : Insert) → documentFull s (insert i) ≡ false → length (s .characters) + length (inserts (s .pending)) < capacity
 unfolding documentFull
 space-insert s i h = omega (arith, leb-false capacity (length (known s)) h, known-length s)
 
-unused : (s : State) (o : Operation) → duplicate s o ≡ false → conflicting s o ≡ false → documentFull s o ≡ false → Unused (s .characters) (s .pending) o
+pub unused : (s : State) (o : Operation) → duplicate s o ≡ false → conflicting s o ≡ false → documentFull s o ≡ false → Unused (s .characters) (s .pending) o
 unfolding duplicate
 unused s (insert i) new sole space = (fresh-insert s i new sole, space-insert s i space)
 unused s (delete d) new sole space =
@@ -226,7 +226,7 @@ delete-turned s p = (tt, (tt, tt))
 abbrev ahead : Site → Site
 ahead t = record { number = t .number; clock = t .clock + 1 }
 
-any-map : {A B : Type 0} (p : B → Bool) (f : A → B) (xs : List A) → any p (map f xs) ≡ any (λ x. p (f x)) xs
+pub any-map : {A B : Type 0} (p : B → Bool) (f : A → B) (xs : List A) → any p (map f xs) ≡ any (λ x. p (f x)) xs
 any-map p f [] = refl
 any-map p f (x ∷ xs) = ap (λ b. p (f x) || b) (any-map p f xs)
 
@@ -244,7 +244,7 @@ generated-uncrossed s g n f h =
     rw (marked-held (left-marked std g visible) (held-begin (s .characters)), marked-held (right-marked std g visible) (held-end (s .characters)), left-above std g visible)
 
 -- what typing makes is in range, and has what it needs
-generated-step : (s : State) (g n : ℕ) → AllFail (insertChecks (wellFormed s) s g n) → Addable s (ahead (s .site)) (generatedInsert s g n)
+pub generated-step : (s : State) (g n : ℕ) → AllFail (insertChecks (wellFormed s) s g n) → Addable s (ahead (s .site)) (generatedInsert s g n)
 unfolding insertChecks generatedInsert nextIdentifier taken beyondVisible executable crossed siteInRange characterId previousId nextId
 generated-step s g n w =
     record {

@@ -45,7 +45,7 @@ unfolding sequence
 sequence-keys cs = rw key-begin (ap (λ (ks : List ℕ). 0 ∷ ks) (identifier-keys cs))
 
 module _ (x : Identifier) (p : Small x) where
-  index-keys : (ys : List Identifier) → ((y : Identifier) → List·Memᴰ y ys → Small y) → indexIn (key x) (map key ys) ≡ indexOf x ys
+  pub index-keys : (ys : List Identifier) → ((y : Identifier) → List·Memᴰ y ys → Small y) → indexIn (key x) (map key ys) ≡ indexOf x ys
   unfolding indexIn indexOf
   index-keys [] q = refl
   index-keys (y ∷ ys) q = rw (key-same x y p (q y (List·Memᴰ·head refl))) (ap (λ (n : ℕ). cond (same x y) 0 (suc n)) (index-keys ys (λ z m. q z (List·Memᴰ·tail m))))

@@ -17,3 +17,7 @@ pub mod Stepping
 pub mod Outcomes
 pub mod Stored
 pub mod Generating
+pub mod Holders
+pub mod Examining
+pub mod Works
+pub mod Stepping

@@ -6,3 +6,4 @@ pub mod Theorems
 pub mod Work
 pub mod Visible
 pub mod Form
+pub mod Known

@@ -3,6 +3,7 @@ mod edit;
 mod form;
 mod generation;
 mod index;
+mod known;
 mod placing;
 mod queue;
 mod ready;

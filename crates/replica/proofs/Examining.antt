@@ -1,0 +1,119 @@
+-- A replica in form with what was packed of it: what the numbers say is what the rules say of its meaning.
+use Prim.Native.Nat.{ℕ, _≤_, _<_}
+use native.Mathlib.Omega.{arith}
+use mathlib.Core.Path.{_≡_, refl, sym, ap, subst, _∙_}
+use mathlib.Core.Bool.{true, false}
+use mathlib.Core.List.{List, map, Memᴰ·append-left, Memᴰ·append-right, Memᴰ·map}
+use lib.ListN.{length, take, getD, length-map, List·getD-map}
+use lib.Seq.{getD-take}
+use Rattle.woot.specs.declared.Identifier.{Identifier}
+use Rattle.woot.specs.declared.Insert.{Insert}
+use Rattle.woot.specs.declared.Operation.{Operation}
+use Rattle.woot.specs.declared.Operation.the-variants.{Insert as insert, Delete as delete}
+use Rattle.woot.specs.declared.Character.{Character}
+use Rattle.woot.specs.declared.Pending.{Pending}
+use Rattle.woot.specs.declared.Replica.{Replica}
+use Rattle.woot.specs.Identifiers.{same}
+use Rattle.woot.specs.Lists.{any}
+use Rattle.woot.specs.Operations.{origin, inserts}
+use Rattle.woot.specs.Ranges.{characterId, insertInRange, characterInRange}
+use Rattle.woot.specs.State.{State, meaning}
+use Rattle.woot.specs.Placing.{identifiers}
+use Rattle.woot.specs.Form.{known}
+use Rattle.convergence.proofs.Members.{any-append, every-member}
+use Rattle.convergence.proofs.Tests.{or-false}
+use Rattle.convergence.proofs.Forms.{Formed, formed, known-ids}
+use Rattle.convergence.proofs.Steps.{any-map}
+use Rattle.convergence.proofs.Ranges.{in-range}
+use Rattle.order.specs.Keys.{key, AllSmall, keys}
+use Rattle.order.proofs.Keys.{character-small, all-range-small}
+use Rattle.replica.specs.declared.index.Index.{Index}
+use Rattle.replica.specs.declared.queue.Queue.{Queue}
+use Rattle.replica.specs.declared.known.Holder.{Holder}
+use Rattle.replica.specs.declared.known.Holder.the-variants.{Character as ofCharacter, Pending as ofPending, Nobody}
+use Rattle.replica.specs.declared.known.Seen.the-variants.{New}
+use Rattle.replica.specs.Queue.{ownKey}
+use Rattle.replica.specs.Known.{Examined, holderIn, comparedTo, comparedWith, seenOf}
+use Rattle.replica.proofs.Fullness.{FullDocument}
+use Rattle.replica.proofs.Indexes.{index-ids}
+use Rattle.replica.proofs.Queues.{packed-own}
+use Rattle.replica.proofs.Pending.{AllKeyed, all-keyed, positive-key}
+use Rattle.replica.proofs.Holders.{Holds, holds, seen-held, seen-new}
+use Rattle.replica.proofs.Stored.{Counts, counts, form-counted, form-meant, character-count, pending-count}
+
+module _ (r : Replica) (x : Index) (q : Queue) (full : FullDocument (r .document)) (e : Examined r x q) where
+  pub few : Counts r
+  few = counts r (form-counted r (e .form))
+
+  pub form : Formed (meaning r)
+  form = formed (meaning r) (form-meant r (e .form))
+
+  pub small : AllSmall (meaning r .characters)
+  small = all-range-small (meaning r .characters) (λ c m. every-member characterInRange (form .sound .ranges) m)
+
+  pub keyed : AllKeyed (meaning r .pending)
+  keyed = all-keyed (meaning r .pending) (form .sound .pending-ranges)
+
+  pub ids-used : take (r .document .length) (x .ids) ≡ keys (meaning r .characters)
+  ids-used = rw (e .index) (index-ids (meaning r .characters) (r .document .length) (character-count r full few))
+
+  pub own-used : take (r .document .waiting) (q .own) ≡ map ownKey (meaning r .pending)
+  own-used = rw (e .queue) (packed-own (meaning r .pending) (r .document .waiting) (pending-count r full few))
+
+  -- ---- who has an identifier
+
+  module _ (id : Identifier) (ranged : characterId id ≡ true) where
+    abbrev pub Has : Holder → Type 0
+    Has h = Holds id (character-small id ranged) (positive-key id ranged) (meaning r .characters) small (meaning r .pending) keyed h
+
+    pub has : {t h : Holder} → t ≡ holderIn (take (r .document .length) (x .ids)) (take (r .document .waiting) (q .own)) (key id) → t ≡ h → Has h
+    has {t} {h} p f =
+        holds id (character-small id ranged) (positive-key id ranged) (meaning r .characters) small (meaning r .pending) keyed
+        (rw (ids-used, own-used) at (sym p ∙ f))
+
+    -- no insert that the state knows has it
+    pub nobody : Has Nobody → any (λ j. same id (j .id)) (known (meaning r)) ≡ false
+    nobody h =
+        sym (any-map (same id) (λ j. j .id) (known (meaning r)))
+        ∙ rw (known-ids (meaning r)) (any-append (same id) (identifiers (meaning r .characters)) _ ∙ or-false (h .0) (any-map (same id) (λ j. j .id) (inserts (meaning r .pending)) ∙ h .1))
+
+    -- where its holder is
+    pub character-within : (k : ℕ) → Has (ofCharacter k) → k < r .document .length
+    character-within k h = omega (arith, h .within, character-count r full few)
+
+    pub pending-within : (j : ℕ) → Has (ofPending j) → j < r .document .waiting
+    pending-within j h = omega (arith, h .0, pending-count r full few)
+
+  -- the slots in use hold what is meant
+  pub character-read : (k : ℕ) (d : Character) → k < r .document .length → getD (meaning r .characters) k d ≡ getD (r .document .characters) k d
+  unfolding meaning
+  character-read k d h = getD-take (r .document .length) (r .document .characters) k d h
+
+  pub pending-read : (j : ℕ) (d : Pending) → j < r .document .waiting → getD (meaning r .pending) j (d .operation) ≡ getD (r .document .pending) j d .operation
+  unfolding meaning
+  pending-read j d h =
+      List·getD-map (λ (p : Pending). p .operation) (take (r .document .waiting) (r .document .pending)) j d
+      ∙ ap (λ (p : Pending). p .operation) (getD-take (r .document .waiting) (r .document .pending) j d h)
+
+  -- ---- what a received insert is
+
+  module _ (i : Insert) (ranged : insertInRange i ≡ true) where
+    abbrev id-ranged : characterId (i .id) ≡ true
+    id-ranged = in-range i ranged .id
+
+    pub seen-character : (k : ℕ) → Has (i .id) id-ranged (ofCharacter k) → (d : Character) → comparedTo i (origin (getD (r .document .characters) k d)) ≡ seenOf (meaning r) i
+    unfolding known origin
+    seen-character k h d =
+        let read = character-read k d (character-within (i .id) id-ranged k h) in
+        let m = Memᴰ·append-left (inserts (meaning r .pending)) (Memᴰ·map origin (h .member d)) in
+        rw (← read) (sym (seen-held (meaning r) i form (origin (getD (meaning r .characters) k d)) m (h .is d)))
+
+    pub seen-pending : (j : ℕ) → Has (i .id) id-ranged (ofPending j) → (d : Pending) → comparedWith i (getD (r .document .pending) j d .operation) ≡ seenOf (meaning r) i
+    unfolding known comparedWith
+    seen-pending j h d =
+        let read = pending-read j d (pending-within (i .id) id-ranged j h) in
+        let m = Memᴰ·append-right (map origin (meaning r .characters)) (h .1 .member) in
+        rw (← read, h .1 .at (d .operation)) (sym (seen-held (meaning r) i form (h .1 .here) m (h .1 .is)))
+
+    pub seen-nobody : Has (i .id) id-ranged Nobody → New ≡ seenOf (meaning r) i
+    seen-nobody h = sym (seen-new (meaning r) i (nobody (i .id) id-ranged h))

@@ -1,0 +1,47 @@
+-- `replica::known::holder_of` lends the slots that are in use.
+use native.Mathlib.Omega.{arith}
+use lib.ListN.{length-take}
+use Rattle.replica.proofs.Fullness.{FullIndex, full-index, full-queue}
+use Rattle.replica.proofs.Queues.{FullQueue}
+use borrow.Author.Needs.{needs}
+use Rattle.replica.proofs.known.holder_of.Statement.{statement}
+use Rattle.replica.proofs.known.holder_of.Tie as tie
+
+indexed : (c : tie.Start) → FullIndex (c .args .x)
+indexed c = full-index (c .good .0)
+
+queued : (c : tie.Start) → FullQueue (c .args .q)
+queued c = full-queue (c .good .1 .1 .0)
+
+array-share-prefix-ids : tie.Need-array-share-prefix-ids
+array-share-prefix-ids c = let f = indexed (c .before .before) in omega arith
+
+slice-aggregate-holder-among : tie.Need-slice-aggregate-holder-among
+slice-aggregate-holder-among c = let f = indexed (c .before .before .before) in simp length-take (omega arith)
+
+array-share-prefix-own : tie.Need-array-share-prefix-own
+array-share-prefix-own c = let f = queued (c .before .before .before) in omega arith
+
+slice-aggregate-holder-among-2 : tie.Need-slice-aggregate-holder-among-2
+slice-aggregate-holder-among-2 c = let f = queued (c .before .before .before .before) in simp length-take (omega arith)
+
+key-requires : tie.Need-key-requires
+key-requires c κs = search needs
+
+holder-among-requires : tie.Need-holder-among-requires
+holder-among-requires c κs = search needs
+
+returns : tie.Need-returns
+returns c = rw (c .holder-among .ensures, c .before .key .ensures .0)
+
+pub holder-of-spec : {M : Type 1} → statement M
+holder-of-spec =
+    tie.close
+    (tie.spec
+    array-share-prefix-ids
+    slice-aggregate-holder-among
+    array-share-prefix-own
+    slice-aggregate-holder-among-2
+    key-requires
+    holder-among-requires
+    returns)

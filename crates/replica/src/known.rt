@@ -1,0 +1,134 @@
+// Who has an identifier, and whether a received insert is known.
+use crate::index::Index;
+use crate::queue;
+use crate::queue::Found;
+use crate::queue::Queue;
+use woot::Character;
+use woot::Identifier;
+use woot::Insert;
+use woot::Operation;
+use woot::Replica;
+ghost use mathlib.Core.Path.{_≡_};
+ghost use mathlib.Core.Bool.{true};
+ghost use Prim.Native.Nat.{_≤_};
+ghost use lib.ListN.{take};
+ghost use Rattle.woot.specs.Operations.{origin, sameInsert};
+ghost use Rattle.woot.specs.Ranges.{insertInRange};
+ghost use Rattle.woot.specs.State.{meaning};
+ghost use Rattle.order.specs.Keys.{key};
+ghost use Rattle.replica.specs.Known.{Examined, holderIn, comparedTo, comparedWith, seenOf};
+
+// Who has an identifier: the character or the pending insert at an index, or nobody.
+pub(crate) enum Holder {
+    Character(usize),
+    Pending(usize),
+    Nobody,
+}
+
+// What a received insert is beside those that the replica has: new, the same as one, or another with its identifier.
+pub(crate) enum Seen {
+    New,
+    Same,
+    Other,
+}
+
+// Who has the key, among the keys of characters and of pending operations.
+fn holder_among(ids: &[u32], own: &[u32], key: u32) -> Holder
+    ensures { λ r. ⌜ r ≡ holderIn (now (ids .entry)) (now (own .entry)) key ⌝ }
+{
+    match queue::find(ids, key) {
+        Found::At(k) => Holder::Character(k),
+        Found::Nothing => match queue::find(own, key) {
+            Found::At(j) => Holder::Pending(j),
+            Found::Nothing => Holder::Nobody,
+        },
+    }
+}
+
+// Who has an identifier, among the first n characters and the first w pending operations.
+pub(crate) fn holder_of(x: Index, n: usize, q: Queue, w: usize, id: Identifier) -> Holder
+    requires { ⌜ (n ≤ 1024) × (w ≤ 512) ⌝ }
+    ensures { λ r. ⌜ r ≡ holderIn (take n (x .ids)) (take w (q .own)) (key id) ⌝ }
+{
+    let ids = x.ids;
+    let own = q.own;
+    holder_among(&ids[..n], &own[..w], order::key(id))
+}
+
+// Whether two inserts are equal in every field.
+fn same_insert(i: Insert, j: Insert) -> bool
+    ensures { λ r. ⌜ r ≡ sameInsert i j ⌝ }
+{
+    let id = i.id;
+    let other = j.id;
+    if !ranges::same_id(id, other) {
+        return false;
+    }
+    if i.code_point != j.code_point {
+        return false;
+    }
+    let previous = i.previous;
+    let above = j.previous;
+    if !ranges::same_id(previous, above) {
+        return false;
+    }
+    let next = i.next;
+    let below = j.next;
+    ranges::same_id(next, below)
+}
+
+// What an insert is beside another with its identifier.
+fn compared(i: Insert, j: Insert) -> Seen
+    ensures { λ r. ⌜ r ≡ comparedTo i j ⌝ }
+{
+    if same_insert(i, j) {
+        return Seen::Same;
+    }
+    Seen::Other
+}
+
+// What it is beside a pending operation with its identifier.
+fn compared_pending(i: Insert, o: Operation) -> Seen
+    ensures { λ r. ⌜ r ≡ comparedWith i o ⌝ }
+{
+    match o {
+        Operation::Insert(j) => compared(i, j),
+        Operation::Delete(_) => Seen::New,
+    }
+}
+
+// The insert that brought a character.
+fn origin(c: Character) -> Insert
+    ensures { λ r. ⌜ r ≡ origin c ⌝ }
+{
+    let id = c.id;
+    let previous = c.previous;
+    let next = c.next;
+    Insert {
+        id,
+        code_point: c.code_point,
+        previous,
+        next,
+    }
+}
+
+// What a received insert is to a replica that is well formed.
+pub(crate) fn seen_by(r: Replica, x: Index, q: Queue, i: Insert) -> Seen
+    requires { ⌜ Examined r x q × (insertInRange i ≡ true) ⌝ }
+    ensures { λ y. ⌜ y ≡ seenOf (meaning r) i ⌝ }
+{
+    let d = r.document;
+    let id = i.id;
+    match holder_of(x, d.length, q, d.waiting, id) {
+        Holder::Character(k) => {
+            let c = d.characters[k];
+            compared(i, origin(c))
+        }
+        Holder::Pending(j) => {
+            let p = d.pending[j];
+            let o = p.operation;
+            compared_pending(i, o)
+        }
+        Holder::Nobody => Seen::New,
+    }
+}
