@@ -11,11 +11,14 @@ mod storing;
 mod visible;
 mod work;
 
+use woot::Generated;
+use woot::Refusal;
 use woot::Replica;
 use woot::Written;
 ghost use mathlib.Core.Path.{_≡_};
 ghost use Rattle.woot.specs.Form.{replicaWellFormed};
 ghost use Rattle.replica.specs.Replicas.{textWritten, textOut};
+ghost use Rattle.replica.specs.Replicas.{deleted};
 
 // Whether a replica is well formed. (Document 01: in form.)
 pub fn well_formed(r: Replica) -> bool
@@ -30,4 +33,11 @@ pub fn visible_text(r: Replica, out: &mut [u8]) -> Written
     ensures { λ x. ⌜ (x ≡ textWritten r (now (out .entry))) × (now (out .exit) ≡ textOut r (now (out .entry))) ⌝ }
 {
     visible::text_when(well_formed(r), r, out)
+// Deletes the visible character at the index, counted from 1, and answers the operation to be sent. (Document 01: erasing.)
+pub fn delete(r: Replica, index: usize) -> Generated
+    ensures { λ x. ⌜ x ≡ deleted r index ⌝ }
+    if !well_formed(r) {
+        return generation::refused(r, Refusal::Form);
+    }
+    generation::delete_visible(r, index)
 }
