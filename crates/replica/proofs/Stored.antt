@@ -1,8 +1,7 @@
 -- A replica whose counts are within its arrays, and what is stored once one of its lists is changed.
-use Prim.Native.Nat.{ℕ, suc, _+_, _≤_, _<_}
-use native.Mathlib.Numerals.{add-one}
+use Prim.Native.Nat.{ℕ, _+_, _^_, _≤_, _<_}
 use native.Mathlib.Omega.{arith}
-use mathlib.Core.Path.{_≡_, sym, ap, _∙_}
+use mathlib.Core.Path.{_≡_, refl, sym, ap, _∙_}
 use mathlib.Core.Bool.{true}
 use mathlib.Core.List.{List, [], _∷_, _++_, map}
 use borrow.Author.Tests.{leb-true}
@@ -17,13 +16,17 @@ use Rattle.woot.specs.declared.Pending.{Pending}
 use Rattle.woot.specs.declared.Document.{Document}
 use Rattle.woot.specs.declared.Replica.{Replica}
 use Rattle.woot.specs.State.{State, characterSlots, pendingSlots, pad, waiting, blankCharacter, blankPending, meaning, documentOf, stored, counted}
-use Rattle.woot.specs.Placing.{integrateDelete}
+use Rattle.woot.specs.Placing.{insertAt, integrateDelete}
 use Rattle.woot.specs.Form.{wellFormed, replicaWellFormed}
-use Rattle.woot.specs.Calls.{withCharacters, withPending}
 use Rattle.convergence.proofs.Tests.{and-left, and-right}
 use Rattle.convergence.proofs.Deletion.{delete-length}
+use Rattle.convergence.proofs.Forms.{Sound}
+use Rattle.convergence.proofs.Shares.{pending-bound}
+use Rattle.replica.specs.declared.work.Work.{Work}
+use Rattle.replica.specs.Work.{charactersIn, pendingIn, workOf, Tidy, Workable, finished}
 use Rattle.replica.proofs.Fullness.{FullDocument}
 use Rattle.replica.proofs.Queues.{waiting-operations, waiting-pushed}
+use Rattle.replica.proofs.Works.{Parts, work-path, work-characters, work-pending, work-integrated, work-discarded, work-waiting, work-tidy}
 
 -- the counts are within the arrays
 pub record Counts (r : Replica) : Type 0 where
@@ -45,11 +48,12 @@ pub form-meant : (r : Replica) → replicaWellFormed r ≡ true → wellFormed (
 unfolding replicaWellFormed
 form-meant r h = and-right (counted r) (wellFormed (meaning r)) h
 
--- a document as its parts
-pub document-path : (cs : List Character) (ps : List Operation) (d : Document) → d .characters ≡ pad characterSlots blankCharacter cs → d .length ≡ length cs
-    → d .pending ≡ pad pendingSlots blankPending (map waiting ps) → d .waiting ≡ length ps → d ≡ documentOf cs ps
-unfolding documentOf
-document-path cs ps d p q t u = λ i. record { characters = p i; length = q i; pending = t i; waiting = u i }
+-- a document that has a state's lists, beside its site, is that state stored
+pub stored-path : (t : Site) {d : Document} {cs : List Character} {ps : List Operation} → Parts d cs ps → _≡_ {A = Replica} (record { site = t; document = d }) (stored (record { site = t; characters = cs; pending = ps }))
+unfolding stored workOf
+stored-path t {d} p =
+    let e = work-path {w = record { document = d; integrated = 0; discarded = 0 }} p refl refl in
+    λ i. record { site = t; document = e i .document }
 
 module _ (r : Replica) (full : FullDocument (r .document)) (few : Counts r) where
   pub character-count : length (meaning r .characters) ≡ r .document .length
@@ -62,31 +66,73 @@ module _ (r : Replica) (full : FullDocument (r .document)) (few : Counts r) wher
       length-map (take (r .document .waiting) (r .document .pending)) (λ (p : Pending). p .operation)
       ∙ length-take-le (r .document .waiting) (r .document .pending) (omega (arith, full .pending, few .pending))
 
+  -- the lists as they are
+  kept-pending : (ps : List Pending) → ps ≡ pad 512 blankPending (take (r .document .waiting) (r .document .pending)) → ps ≡ pad pendingSlots blankPending (map waiting (meaning r .pending))
+  unfolding meaning
+  kept-pending ps q = q ∙ ap (pad pendingSlots blankPending) (sym (waiting-operations (take (r .document .waiting) (r .document .pending))))
+
+  pub started-parts : (cs : List Character) (ps : List Pending)
+      → cs ≡ pad 1024 blankCharacter (take (r .document .length) (r .document .characters))
+      → ps ≡ pad 512 blankPending (take (r .document .waiting) (r .document .pending))
+      → Parts (record { characters = cs; length = r .document .length; pending = ps; waiting = r .document .waiting }) (meaning r .characters) (meaning r .pending)
+  unfolding meaning
+  started-parts cs ps p q =
+      record { characters = p; length-is = sym character-count; pending = kept-pending ps q; waiting-is = sym pending-count }
+
   -- with a character hidden
-  pub hidden-stored : (x : Identifier) (cs : List Character) (ps : List Pending)
+  pub hidden-parts : (x : Identifier) (cs : List Character) (ps : List Pending)
       → cs ≡ pad 1024 blankCharacter (integrateDelete (take (r .document .length) (r .document .characters)) x)
       → ps ≡ pad 512 blankPending (take (r .document .waiting) (r .document .pending))
-      → _≡_ {A = Replica} (record { site = r .site; document = record { characters = cs; length = r .document .length; pending = ps; waiting = r .document .waiting } }) (stored (withCharacters (meaning r) (integrateDelete (meaning r .characters) x)))
-  unfolding stored withCharacters meaning
-  hidden-stored x cs ps p q = λ i. record {
-    site = r .site;
-    document =
-        document-path (integrateDelete (meaning r .characters) x) (meaning r .pending) _ p
-        (sym (delete-length (meaning r .characters) x ∙ character-count))
-        (q ∙ ap (pad pendingSlots blankPending) (sym (waiting-operations (take (r .document .waiting) (r .document .pending)))))
-        (sym pending-count) i;
-  }
+      → Parts (record { characters = cs; length = r .document .length; pending = ps; waiting = r .document .waiting }) (integrateDelete (meaning r .characters) x) (meaning r .pending)
+  unfolding meaning
+  hidden-parts x cs ps p q =
+      record {
+        characters = p;
+        length-is = sym (delete-length (meaning r .characters) x ∙ character-count);
+        pending = kept-pending ps q;
+        waiting-is = sym pending-count;
+      }
 
   -- with one operation more pending
-  pub deferred-stored : (o : Operation) (cs : List Character) (ps : List Pending)
+  pub deferred-parts : (o : Operation) (cs : List Character) (ps : List Pending)
       → cs ≡ pad 1024 blankCharacter (take (r .document .length) (r .document .characters))
       → ps ≡ pad 512 blankPending (take (r .document .waiting) (r .document .pending) ++ waiting o ∷ [])
-      → _≡_ {A = Replica} (record { site = r .site; document = record { characters = cs; length = r .document .length; pending = ps; waiting = r .document .waiting + 1 } }) (stored (withPending (meaning r) o))
-  unfolding stored withPending meaning
-  deferred-stored o cs ps p q = λ i. record {
-    site = r .site;
-    document =
-        document-path (meaning r .characters) (meaning r .pending ++ o ∷ []) _ p (sym character-count)
-        (q ∙ ap (pad pendingSlots blankPending) (sym (waiting-pushed (take (r .document .waiting) (r .document .pending)) o)))
-        (sym (length-append (meaning r .pending) (o ∷ []) ∙ ap (λ (n : ℕ). n + 1) pending-count)) i;
-  }
+      → Parts (record { characters = cs; length = r .document .length; pending = ps; waiting = r .document .waiting + 1 }) (meaning r .characters) (meaning r .pending ++ o ∷ [])
+  unfolding meaning
+  deferred-parts o cs ps p q =
+      record {
+        characters = p;
+        length-is = sym character-count;
+        pending = q ∙ ap (pad pendingSlots blankPending) (sym (waiting-pushed (take (r .document .waiting) (r .document .pending)) o));
+        waiting-is = sym (length-append (meaning r .pending) (o ∷ []) ∙ ap (λ (n : ℕ). n + 1) pending-count);
+      }
+
+-- ---- an insert carried out
+
+-- a document at work, with nothing carried out yet, is fit for an insert at a place within it
+pub started-fit : (cs : List Character) (ps : List Operation) (k : ℕ) {w : Work} → w ≡ workOf cs ps 0 0 → k ≤ length cs → length cs < 1024
+    → Tidy w × (k ≤ w .document .length) × (w .document .length < 1024) × (w .integrated + 1 < 2 ^ 64)
+unfolding workOf documentOf
+started-fit cs ps k e h l = rw e (work-tidy cs ps 0 0, h, l, omega arith)
+
+pub started-carried : (cs : List Character) (ps : List Operation) (k : ℕ) (c : Character) {w v : Work} → w ≡ workOf cs ps 0 0
+    → v ≡ workOf (insertAt k c (charactersIn (w .document))) (pendingIn (w .document)) (w .integrated + 1) (w .discarded)
+    → v ≡ workOf (insertAt k c cs) ps 1 0
+started-carried cs ps k c e f =
+    f ∙ rw (e, work-characters cs ps 0 0, work-pending cs ps 0 0, work-integrated cs ps 0 0, work-discarded cs ps 0 0)
+
+-- one whose lists are sound, with one operation carried out so far, can be drained
+pub carried-workable : (cs : List Character) (ps : List Operation) {w : Work} → w ≡ workOf cs ps 1 0 → Sound cs ps → Workable w
+carried-workable cs ps {w} e s =
+    let few = pending-bound s in
+    rw e
+    record {
+      tidy = work-tidy cs ps 1 0;
+      sound = rw (work-characters cs ps 1 0, work-pending cs ps 1 0) s;
+      integrated-fits = rw (work-integrated cs ps 1 0, work-waiting cs ps 1 0) (omega arith);
+      discarded-fits = rw (work-discarded cs ps 1 0, work-waiting cs ps 1 0) (omega arith);
+    }
+
+-- and what draining it leaves
+pub carried-finished : (cs : List Character) (ps : List Operation) {w : Work} → w ≡ workOf cs ps 1 0 → finished (charactersIn (w .document)) (pendingIn (w .document)) (w .integrated) (w .discarded) ≡ finished cs ps 1 0
+carried-finished cs ps e = rw (e, work-characters cs ps 1 0, work-pending cs ps 1 0, work-integrated cs ps 1 0, work-discarded cs ps 1 0)

@@ -7,3 +7,4 @@ pub mod Work
 pub mod Visible
 pub mod Form
 pub mod Known
+pub mod Storing

@@ -1,15 +1,20 @@
-// A replica after a change that releases nothing: stored anew, so that every slot that is not in use is filler.
+// A replica after a change: stored anew, so that every slot that is not in use is filler.
 use crate::edit;
+use crate::work;
+use crate::work::Work;
 use woot::Document;
 use woot::Identifier;
+use woot::Insert;
 use woot::Operation;
 use woot::Replica;
 ghost use mathlib.Core.Path.{_≡_};
 ghost use mathlib.Core.Bool.{true};
 ghost use Prim.Native.Nat.{_<_};
 ghost use Rattle.woot.specs.State.{meaning, stored, counted};
-ghost use Rattle.woot.specs.Placing.{integrateDelete};
+ghost use Rattle.woot.specs.Placing.{integrateInsert, integrateDelete};
 ghost use Rattle.woot.specs.Calls.{withCharacters, withPending};
+ghost use Rattle.replica.specs.Work.{workOf, finished};
+ghost use Rattle.replica.specs.Storing.{Placed};
 
 // The replica with the target hidden.
 pub(crate) fn hidden(r: Replica, target: Identifier) -> Replica
@@ -49,4 +54,35 @@ pub(crate) fn deferred(r: Replica, o: Operation) -> Replica
         waiting: d.waiting + 1,
     };
     Replica { site, document }
+}
+
+// The replica's document at work, with nothing carried out yet.
+fn started(r: Replica) -> Work
+    requires { ⌜ counted r ≡ true ⌝ }
+    ensures { λ w. ⌜ w ≡ workOf (meaning r .characters) (meaning r .pending) 0 0 ⌝ }
+{
+    let d = r.document;
+    let cs = d.characters;
+    let ps = d.pending;
+    let characters = edit::kept(cs, d.length);
+    let pending = edit::kept_pending(ps, d.waiting);
+    let document = Document {
+        characters,
+        length: d.length,
+        pending,
+        waiting: d.waiting,
+    };
+    Work {
+        document,
+        integrated: 0,
+        discarded: 0,
+    }
+}
+
+// The document with an insert carried out at its place, and with all that it released.
+pub(crate) fn integrated(r: Replica, i: Insert, k: usize) -> Work
+    requires { ⌜ Placed r i k ⌝ }
+    ensures { λ w. ⌜ w ≡ finished (integrateInsert (meaning r .characters) i) (meaning r .pending) 1 0 ⌝ }
+{
+    work::drain(work::carry_insert(started(r), i, k))
 }

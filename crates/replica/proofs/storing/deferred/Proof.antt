@@ -1,7 +1,9 @@
 -- `replica::storing::deferred` builds both arrays anew, with the operation just past the pending ones.
 use borrow.Author.Needs.{needs}
+use Rattle.woot.specs.State.{meaning}
+use Rattle.woot.specs.Calls.{withPending}
 use Rattle.replica.proofs.Fullness.{full-replica}
-use Rattle.replica.proofs.Stored.{counts, deferred-stored}
+use Rattle.replica.proofs.Stored.{counts, stored-path, deferred-parts}
 use Rattle.replica.proofs.storing.deferred.Statement.{statement}
 use Rattle.replica.proofs.storing.deferred.Tie as tie
 
@@ -15,9 +17,11 @@ add-t10 : tie.Need-add-t10
 add-t10 c = search needs
 
 returns : tie.Need-returns
+unfolding withPending meaning
 returns c =
     let start = c .before .before .before .before .before .before .before in
-    deferred-stored (start .args .r) (full-replica (start .good .0)) (counts _ (start .pre .0)) _ _ _ (c .before .before .kept .ensures) (c .before .pushed .ensures)
+    stored-path (start .args .r .site)
+    (deferred-parts (start .args .r) (full-replica (start .good .0)) (counts _ (start .pre .0)) _ _ _ (c .before .before .kept .ensures) (c .before .pushed .ensures))
 
 pub deferred-spec : {M : Type 1} → statement M
 deferred-spec = tie.close (tie.spec kept-requires pushed-requires add-t10 returns)

@@ -1,6 +1,8 @@
 -- `replica::storing::hidden` builds both arrays anew.
+use Rattle.woot.specs.State.{meaning}
+use Rattle.woot.specs.Calls.{withCharacters}
 use Rattle.replica.proofs.Fullness.{full-replica}
-use Rattle.replica.proofs.Stored.{counts, hidden-stored}
+use Rattle.replica.proofs.Stored.{counts, stored-path, hidden-parts}
 use Rattle.replica.proofs.storing.hidden.Statement.{statement}
 use Rattle.replica.proofs.storing.hidden.Tie as tie
 
@@ -11,9 +13,11 @@ kept-pending-requires : tie.Need-kept-pending-requires
 kept-pending-requires c κs = counts _ (c .before .before .before .before .before .pre) .pending
 
 returns : tie.Need-returns
+unfolding withCharacters meaning
 returns c =
     let start = c .before .before .before .before .before .before in
-    hidden-stored (start .args .r) (full-replica (start .good .0)) (counts _ (start .pre)) _ _ _ (c .before .hidden .ensures) (c .kept-pending .ensures)
+    stored-path (start .args .r .site)
+    (hidden-parts (start .args .r) (full-replica (start .good .0)) (counts _ (start .pre)) _ _ _ (c .before .hidden .ensures) (c .kept-pending .ensures))
 
 pub hidden-spec : {M : Type 1} → statement M
 hidden-spec = tie.close (tie.spec hidden-requires kept-pending-requires returns)

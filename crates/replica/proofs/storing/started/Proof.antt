@@ -1,0 +1,21 @@
+-- `replica::storing::started` builds both arrays anew.
+use mathlib.Core.Path.{refl}
+use Rattle.replica.proofs.Fullness.{full-replica}
+use Rattle.replica.proofs.Stored.{counts, started-parts}
+use Rattle.replica.proofs.Works.{work-path}
+use Rattle.replica.proofs.storing.started.Statement.{statement}
+use Rattle.replica.proofs.storing.started.Tie as tie
+
+kept-requires : tie.Need-kept-requires
+kept-requires c κs = counts _ (c .before .before .before .pre) .characters
+
+kept-pending-requires : tie.Need-kept-pending-requires
+kept-pending-requires c κs = counts _ (c .before .before .before .before .pre) .pending
+
+returns : tie.Need-returns
+returns c =
+    let start = c .before .before .before .before .before in
+    work-path (started-parts (start .args .r) (full-replica (start .good .0)) (counts _ (start .pre)) _ _ (c .before .kept .ensures) (c .kept-pending .ensures)) refl refl
+
+pub started-spec : {M : Type 1} → statement M
+started-spec = tie.close (tie.spec kept-requires kept-pending-requires returns)
