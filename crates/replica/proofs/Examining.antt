@@ -15,11 +15,11 @@ use Rattle.woot.specs.declared.Pending.{Pending}
 use Rattle.woot.specs.declared.Replica.{Replica}
 use Rattle.woot.specs.Identifiers.{same}
 use Rattle.woot.specs.Lists.{any}
-use Rattle.woot.specs.Operations.{origin, inserts}
+use Rattle.woot.specs.Operations.{sender, origin, inserts}
 use Rattle.woot.specs.Ranges.{characterId, insertInRange, characterInRange}
 use Rattle.woot.specs.State.{State, meaning}
 use Rattle.woot.specs.Placing.{identifiers}
-use Rattle.woot.specs.Form.{known}
+use Rattle.woot.specs.Form.{known, replicaWellFormed}
 use Rattle.convergence.proofs.Members.{any-append, every-member}
 use Rattle.convergence.proofs.Tests.{or-false}
 use Rattle.convergence.proofs.Forms.{Formed, formed, known-ids}
@@ -32,21 +32,23 @@ use Rattle.replica.specs.declared.queue.Queue.{Queue}
 use Rattle.replica.specs.declared.known.Holder.{Holder}
 use Rattle.replica.specs.declared.known.Holder.the-variants.{Character as ofCharacter, Pending as ofPending, Nobody}
 use Rattle.replica.specs.declared.known.Seen.the-variants.{New}
-use Rattle.replica.specs.Queue.{ownKey}
-use Rattle.replica.specs.Known.{Examined, holderIn, comparedTo, comparedWith, seenOf}
+use Rattle.replica.specs.Index.{indexOf}
+use Rattle.replica.specs.Queue.{ownKey, firstKey, packed}
+use Rattle.replica.specs.Known.{holderIn, comparedTo, comparedWith, seenOf}
+use Rattle.replica.specs.Needs.{Examined}
 use Rattle.replica.proofs.Fullness.{FullDocument}
 use Rattle.replica.proofs.Indexes.{index-ids}
-use Rattle.replica.proofs.Queues.{packed-own}
+use Rattle.replica.proofs.Queues.{packed-own, packed-first, packed-senders}
 use Rattle.replica.proofs.Pending.{AllKeyed, all-keyed, positive-key}
 use Rattle.replica.proofs.Holders.{Holds, holds, seen-held, seen-new}
 use Rattle.replica.proofs.Stored.{Counts, counts, form-counted, form-meant, character-count, pending-count}
 
-module _ (r : Replica) (x : Index) (q : Queue) (full : FullDocument (r .document)) (e : Examined r x q) where
+module _ (r : Replica) (f : replicaWellFormed r ≡ true) where
   pub few : Counts r
-  few = counts r (form-counted r (e .form))
+  few = counts r (form-counted r f)
 
   pub form : Formed (meaning r)
-  form = formed (meaning r) (form-meant r (e .form))
+  form = formed (meaning r) (form-meant r f)
 
   pub small : AllSmall (meaning r .characters)
   small = all-range-small (meaning r .characters) (λ c m. every-member characterInRange (form .sound .ranges) m)
@@ -54,22 +56,44 @@ module _ (r : Replica) (x : Index) (q : Queue) (full : FullDocument (r .document
   pub keyed : AllKeyed (meaning r .pending)
   keyed = all-keyed (meaning r .pending) (form .sound .pending-ranges)
 
-  pub ids-used : take (r .document .length) (x .ids) ≡ keys (meaning r .characters)
-  ids-used = rw (e .index) (index-ids (meaning r .characters) (r .document .length) (character-count r full few))
+  module _ (full : FullDocument (r .document)) where
+    -- what is lent of the index and of the queue
+    pub ids-used : (x : Index) → x ≡ indexOf (meaning r .characters) → take (r .document .length) (x .ids) ≡ keys (meaning r .characters)
+    ids-used x e = rw e (index-ids (meaning r .characters) (r .document .length) (character-count r full few))
 
-  pub own-used : take (r .document .waiting) (q .own) ≡ map ownKey (meaning r .pending)
-  own-used = rw (e .queue) (packed-own (meaning r .pending) (r .document .waiting) (pending-count r full few))
+    pub own-used : (q : Queue) → q ≡ packed (meaning r .pending) → take (r .document .waiting) (q .own) ≡ map ownKey (meaning r .pending)
+    own-used q e = rw e (packed-own (meaning r .pending) (r .document .waiting) (pending-count r full few))
 
+    pub first-used : (q : Queue) → q ≡ packed (meaning r .pending) → take (r .document .waiting) (q .first) ≡ map firstKey (meaning r .pending)
+    first-used q e = rw e (packed-first (meaning r .pending) (r .document .waiting) (pending-count r full few))
+
+    pub senders-used : (q : Queue) → q ≡ packed (meaning r .pending) → take (r .document .waiting) (q .senders) ≡ map sender (meaning r .pending)
+    senders-used q e = rw e (packed-senders (meaning r .pending) (r .document .waiting) (pending-count r full few))
+
+    -- the slots in use hold what is meant
+    pub character-read : (k : ℕ) (d : Character) → k < r .document .length → getD (meaning r .characters) k d ≡ getD (r .document .characters) k d
+    unfolding meaning
+    character-read k d h = getD-take (r .document .length) (r .document .characters) k d h
+
+    pub pending-read : (j : ℕ) (d : Pending) → j < r .document .waiting → getD (meaning r .pending) j (d .operation) ≡ getD (r .document .pending) j d .operation
+    unfolding meaning
+    pending-read j d h =
+        List·getD-map (λ (p : Pending). p .operation) (take (r .document .waiting) (r .document .pending)) j d
+        ∙ ap (λ (p : Pending). p .operation) (getD-take (r .document .waiting) (r .document .pending) j d h)
+
+-- ---- with all that was packed
+
+module _ (r : Replica) (x : Index) (q : Queue) (full : FullDocument (r .document)) (e : Examined r x q) where
   -- ---- who has an identifier
 
   module _ (id : Identifier) (ranged : characterId id ≡ true) where
     abbrev pub Has : Holder → Type 0
-    Has h = Holds id (character-small id ranged) (positive-key id ranged) (meaning r .characters) small (meaning r .pending) keyed h
+    Has h = Holds id (character-small id ranged) (positive-key id ranged) (meaning r .characters) (small r (e .form)) (meaning r .pending) (keyed r (e .form)) h
 
     pub has : {t h : Holder} → t ≡ holderIn (take (r .document .length) (x .ids)) (take (r .document .waiting) (q .own)) (key id) → t ≡ h → Has h
     has {t} {h} p f =
-        holds id (character-small id ranged) (positive-key id ranged) (meaning r .characters) small (meaning r .pending) keyed
-        (rw (ids-used, own-used) at (sym p ∙ f))
+        holds id (character-small id ranged) (positive-key id ranged) (meaning r .characters) (small r (e .form)) (meaning r .pending) (keyed r (e .form))
+        (rw (ids-used r (e .form) full x (e .index), own-used r (e .form) full q (e .queue)) at (sym p ∙ f))
 
     -- no insert that the state knows has it
     pub nobody : Has Nobody → any (λ j. same id (j .id)) (known (meaning r)) ≡ false
@@ -79,21 +103,10 @@ module _ (r : Replica) (x : Index) (q : Queue) (full : FullDocument (r .document
 
     -- where its holder is
     pub character-within : (k : ℕ) → Has (ofCharacter k) → k < r .document .length
-    character-within k h = omega (arith, h .within, character-count r full few)
+    character-within k h = omega (arith, h .within, character-count r full (few r (e .form)))
 
     pub pending-within : (j : ℕ) → Has (ofPending j) → j < r .document .waiting
-    pending-within j h = omega (arith, h .0, pending-count r full few)
-
-  -- the slots in use hold what is meant
-  pub character-read : (k : ℕ) (d : Character) → k < r .document .length → getD (meaning r .characters) k d ≡ getD (r .document .characters) k d
-  unfolding meaning
-  character-read k d h = getD-take (r .document .length) (r .document .characters) k d h
-
-  pub pending-read : (j : ℕ) (d : Pending) → j < r .document .waiting → getD (meaning r .pending) j (d .operation) ≡ getD (r .document .pending) j d .operation
-  unfolding meaning
-  pending-read j d h =
-      List·getD-map (λ (p : Pending). p .operation) (take (r .document .waiting) (r .document .pending)) j d
-      ∙ ap (λ (p : Pending). p .operation) (getD-take (r .document .waiting) (r .document .pending) j d h)
+    pending-within j h = omega (arith, h .0, pending-count r full (few r (e .form)))
 
   -- ---- what a received insert is
 
@@ -104,16 +117,16 @@ module _ (r : Replica) (x : Index) (q : Queue) (full : FullDocument (r .document
     pub seen-character : (k : ℕ) → Has (i .id) id-ranged (ofCharacter k) → (d : Character) → comparedTo i (origin (getD (r .document .characters) k d)) ≡ seenOf (meaning r) i
     unfolding known origin
     seen-character k h d =
-        let read = character-read k d (character-within (i .id) id-ranged k h) in
+        let read = character-read r (e .form) full k d (character-within (i .id) id-ranged k h) in
         let m = Memᴰ·append-left (inserts (meaning r .pending)) (Memᴰ·map origin (h .member d)) in
-        rw (← read) (sym (seen-held (meaning r) i form (origin (getD (meaning r .characters) k d)) m (h .is d)))
+        rw (← read) (sym (seen-held (meaning r) i (form r (e .form)) (origin (getD (meaning r .characters) k d)) m (h .is d)))
 
     pub seen-pending : (j : ℕ) → Has (i .id) id-ranged (ofPending j) → (d : Pending) → comparedWith i (getD (r .document .pending) j d .operation) ≡ seenOf (meaning r) i
     unfolding known comparedWith
     seen-pending j h d =
-        let read = pending-read j d (pending-within (i .id) id-ranged j h) in
+        let read = pending-read r (e .form) full j d (pending-within (i .id) id-ranged j h) in
         let m = Memᴰ·append-right (map origin (meaning r .characters)) (h .1 .member) in
-        rw (← read, h .1 .at (d .operation)) (sym (seen-held (meaning r) i form (h .1 .here) m (h .1 .is)))
+        rw (← read, h .1 .at (d .operation)) (sym (seen-held (meaning r) i (form r (e .form)) (h .1 .here) m (h .1 .is)))
 
     pub seen-nobody : Has (i .id) id-ranged Nobody → New ≡ seenOf (meaning r) i
     seen-nobody h = sym (seen-new (meaning r) i (nobody (i .id) id-ranged h))

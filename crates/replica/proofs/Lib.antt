@@ -19,5 +19,7 @@ pub mod Stored
 pub mod Generating
 pub mod Holders
 pub mod Examining
+pub mod Receiving
+pub mod Texts
 pub mod Works
 pub mod Stepping

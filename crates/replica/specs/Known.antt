@@ -1,32 +1,20 @@
 -- What a call looks up on a replica that is in form: who has an identifier, and whether a received insert is known.
 use Prim.Native.Nat.{ℕ}
-use mathlib.Core.Path.{_≡_}
-use mathlib.Core.Bool.{true, cond}
+use mathlib.Core.Bool.{cond}
 use mathlib.Core.List.{List}
 use Rattle.woot.specs.declared.Insert.{Insert}
 use Rattle.woot.specs.declared.Operation.{Operation}
 use Rattle.woot.specs.declared.Operation.the-variants.{Insert as insert, Delete as delete}
-use Rattle.woot.specs.declared.Replica.{Replica}
 use Rattle.woot.specs.Operations.{sameInsert}
-use Rattle.woot.specs.State.{State, meaning}
-use Rattle.woot.specs.Form.{replicaWellFormed}
+use Rattle.woot.specs.State.{State}
 use Rattle.woot.specs.Calls.{duplicate, conflicting}
-use Rattle.replica.specs.declared.index.Index.{Index}
-use Rattle.replica.specs.declared.queue.Queue.{Queue}
 use Rattle.replica.specs.declared.queue.Found.{Found}
 use Rattle.replica.specs.declared.queue.Found.the-variants.{At, Nothing}
 use Rattle.replica.specs.declared.known.Holder.{Holder}
 use Rattle.replica.specs.declared.known.Holder.the-variants.{Character, Pending, Nobody}
 use Rattle.replica.specs.declared.known.Seen.{Seen}
 use Rattle.replica.specs.declared.known.Seen.the-variants.{New, Same, Other}
-use Rattle.replica.specs.Index.{indexOf}
-use Rattle.replica.specs.Queue.{packed, found}
-
--- a replica in form, with what was packed of it
-pub record Examined (r : Replica) (x : Index) (q : Queue) : Type 0 where
-  pub form : replicaWellFormed r ≡ true
-  pub index : x ≡ indexOf (meaning r .characters)
-  pub queue : q ≡ packed (meaning r .pending)
+use Rattle.replica.specs.Queue.{found}
 
 -- a character before a pending insert
 unfoldable pub firstHolder : Found → Found → Holder

@@ -16,7 +16,8 @@ ghost use Rattle.woot.specs.Operations.{origin, sameInsert};
 ghost use Rattle.woot.specs.Ranges.{insertInRange};
 ghost use Rattle.woot.specs.State.{meaning};
 ghost use Rattle.order.specs.Keys.{key};
-ghost use Rattle.replica.specs.Known.{Examined, holderIn, comparedTo, comparedWith, seenOf};
+ghost use Rattle.replica.specs.Known.{holderIn, comparedTo, comparedWith, seenOf};
+ghost use Rattle.replica.specs.Needs.{Examined};
 
 // Who has an identifier: the character or the pending insert at an index, or nobody.
 pub(crate) enum Holder {

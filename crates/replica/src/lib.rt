@@ -7,6 +7,8 @@ mod known;
 mod placing;
 mod queue;
 mod ready;
+mod reception;
+mod room;
 mod storing;
 mod visible;
 mod work;

@@ -14,7 +14,7 @@ ghost use Rattle.woot.specs.State.{meaning, stored, counted};
 ghost use Rattle.woot.specs.Placing.{integrateInsert, integrateDelete};
 ghost use Rattle.woot.specs.Calls.{withCharacters, withPending};
 ghost use Rattle.replica.specs.Work.{workOf, finished};
-ghost use Rattle.replica.specs.Storing.{Placed};
+ghost use Rattle.replica.specs.Needs.{Placed};
 
 // The replica with the target hidden.
 pub(crate) fn hidden(r: Replica, target: Identifier) -> Replica

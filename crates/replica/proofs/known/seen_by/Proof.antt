@@ -18,7 +18,7 @@ full : (c : tie.Start) → FullDocument (c .args .r .document)
 full c = full-replica (c .good .0)
 
 fits : (c : tie.Start) → Counts (c .args .r)
-fits c = few _ _ _ (full c) (c .pre .0)
+fits c = few _ (c .pre .0 .form)
 
 id-ranged : (c : tie.Start) → characterId (c .args .i .id) ≡ true
 id-ranged c = in-range (c .args .i) (c .pre .1) .id

@@ -1,0 +1,32 @@
+-- `replica::room::sender_full` counts among the senders that are in use.
+use native.Mathlib.Omega.{arith}
+use lib.ListN.{length-take}
+use Rattle.replica.proofs.Fullness.{full-queue}
+use Rattle.replica.proofs.Queues.{FullQueue}
+use borrow.Author.Needs.{needs}
+use Rattle.replica.proofs.room.sender_full.Statement.{statement}
+use Rattle.replica.proofs.room.sender_full.Tie as tie
+
+queued : (c : tie.Start) → FullQueue (c .args .q)
+queued c = full-queue (c .good .0)
+
+array-share-prefix-senders : tie.Need-array-share-prefix-senders
+array-share-prefix-senders c = let f = queued (c .before) in omega arith
+
+slice-aggregate-count-sender : tie.Need-slice-aggregate-count-sender
+slice-aggregate-count-sender c = let f = queued (c .before .before) in simp length-take (omega arith)
+
+count-sender-requires : tie.Need-count-sender-requires
+count-sender-requires c κs = search needs
+
+returns : tie.Need-returns
+returns c = rw (c .count-sender .ensures)
+
+pub sender-full-spec : {M : Type 1} → statement M
+sender-full-spec =
+    tie.close
+    (tie.spec
+    array-share-prefix-senders
+    slice-aggregate-count-sender
+    count-sender-requires
+    returns)

@@ -1,0 +1,134 @@
+// Receiving an operation that is in range, on a replica that is well formed.
+use crate::index::Index;
+use crate::known;
+use crate::known::Seen;
+use crate::placing;
+use crate::placing::Placement;
+use crate::queue;
+use crate::queue::Found;
+use crate::queue::Queue;
+use crate::room;
+use crate::storing;
+use woot::Answer;
+use woot::Delete;
+use woot::Insert;
+use woot::Operation;
+use woot::Receipt;
+use woot::Refusal;
+use woot::Replica;
+ghost use mathlib.Core.Path.{_≡_};
+ghost use mathlib.Core.Bool.{true, false};
+ghost use Prim.Native.Nat.{_≤_};
+ghost use Rattle.woot.specs.declared.Operation.the-variants.{Insert as insert, Delete as delete};
+ghost use Rattle.woot.specs.declared.Answer.the-variants.{Refused};
+ghost use Rattle.woot.specs.Operations.{sender};
+ghost use Rattle.woot.specs.Ranges.{insertInRange, deleteInRange};
+ghost use Rattle.woot.specs.State.{meaning};
+ghost use Rattle.woot.specs.Pending.{executable};
+ghost use Rattle.woot.specs.Form.{replicaWellFormed};
+ghost use Rattle.woot.specs.Calls.{documentFull};
+ghost use Rattle.replica.specs.Replicas.{received};
+ghost use Rattle.replica.specs.Queue.{packed};
+ghost use Rattle.replica.specs.Work.{placementOf};
+ghost use Rattle.replica.specs.Needs.{Examined, New};
+ghost use Rattle.replica.specs.declared.placing.Placement.the-variants.{Below};
+
+// The replica as it was, with an answer.
+fn kept(r: Replica, answer: Answer) -> Receipt
+    ensures { λ x. ⌜ x ≡ record { answer = answer; replica = r } ⌝ }
+{
+    Receipt { answer, replica: r }
+}
+
+// The replica as it was, with a refusal.
+pub(crate) fn refused(r: Replica, refusal: Refusal) -> Receipt
+    ensures { λ x. ⌜ x ≡ record { answer = Refused refusal; replica = r } ⌝ }
+{
+    kept(r, Answer::Refused(refusal))
+}
+
+// Who sends an operation.
+fn sender(o: Operation) -> u8
+    ensures { λ r. ⌜ r ≡ sender o ⌝ }
+{
+    match o {
+        Operation::Insert(i) => i.id.site,
+        Operation::Delete(d) => d.sender,
+    }
+}
+
+// Whether an operation is an insert, and the document is full.
+fn is_full(r: Replica, q: Queue, o: Operation) -> bool
+    requires { ⌜ (replicaWellFormed r ≡ true) × (q ≡ packed (meaning r .pending)) ⌝ }
+    ensures { λ x. ⌜ x ≡ documentFull (meaning r) o ⌝ }
+{
+    let d = r.document;
+    match o {
+        Operation::Insert(_) => room::document_full(d.length, q, d.waiting),
+        Operation::Delete(_) => false,
+    }
+}
+
+// Puts an operation that lacks something at the end of the pending ones.
+fn defer(r: Replica, q: Queue, o: Operation) -> Receipt
+    requires { ⌜ New r q o × (executable (meaning r .characters) o ≡ false) ⌝ }
+    ensures { λ x. ⌜ x ≡ received r o ⌝ }
+{
+    let d = r.document;
+    if room::sender_full(q, d.waiting, sender(o)) {
+        return refused(r, Refusal::SenderFull);
+    }
+    if is_full(r, q, o) {
+        return refused(r, Refusal::DocumentFull);
+    }
+    Receipt {
+        answer: Answer::Deferred,
+        replica: storing::deferred(r, o),
+    }
+}
+
+// Carries out an insert that goes in after the first k characters.
+fn integrate(r: Replica, q: Queue, i: Insert, k: usize) -> Receipt
+    requires { ⌜ New r q (insert i) × (placementOf (meaning r .characters) i ≡ Below k) ⌝ }
+    ensures { λ x. ⌜ x ≡ received r (insert i) ⌝ }
+{
+    if is_full(r, q, Operation::Insert(i)) {
+        return refused(r, Refusal::DocumentFull);
+    }
+    let site = r.site;
+    let w = storing::integrated(r, i, k);
+    let document = w.document;
+    Receipt {
+        answer: Answer::Done {
+            integrated: w.integrated,
+            discarded: w.discarded,
+        },
+        replica: Replica { site, document },
+    }
+}
+
+// Receives an insert that is new.
+fn receive_new(r: Replica, x: Index, q: Queue, i: Insert) -> Receipt
+    requires { ⌜ Examined r x q × New r q (insert i) ⌝ }
+    ensures { λ y. ⌜ y ≡ received r (insert i) ⌝ }
+{
+    let d = r.document;
+    match placing::find_place(x, d.length, i) {
+        Placement::Missing => defer(r, q, Operation::Insert(i)),
+        Placement::Crossed => refused(r, Refusal::Crossed),
+        Placement::Unplaceable => refused(r, Refusal::Unplaceable),
+        Placement::Below(k) => integrate(r, q, i, k),
+    }
+}
+
+// Receives an insert.
+pub(crate) fn receive_insert(r: Replica, x: Index, q: Queue, i: Insert) -> Receipt
+    requires { ⌜ Examined r x q × (insertInRange i ≡ true) ⌝ }
+    ensures { λ y. ⌜ y ≡ received r (insert i) ⌝ }
+{
+    match known::seen_by(r, x, q, i) {
+        Seen::New => receive_new(r, x, q, i),
+        Seen::Same => kept(r, Answer::Duplicate),
+        Seen::Other => refused(r, Refusal::Conflict),
+    }
+}

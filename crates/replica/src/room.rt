@@ -1,0 +1,28 @@
+// Whether there is room: for one pending operation more of a sender, and for one insert more in a document.
+use crate::queue;
+use crate::queue::Queue;
+ghost use mathlib.Core.Path.{_≡_};
+ghost use mathlib.Core.Bool.{not};
+ghost use Prim.Native.Nat.{_+_, _≤_};
+ghost use lib.Dec.{leb, eqb};
+ghost use lib.ListN.{length, take};
+ghost use Rattle.woot.specs.Limits.{capacity, share};
+ghost use Rattle.woot.specs.Lists.{keep};
+
+// Whether the sender has its full share among the first w pending operations.
+pub(crate) fn sender_full(q: Queue, w: usize, sender: u8) -> bool
+    requires { ⌜ w ≤ 512 ⌝ }
+    ensures { λ r. ⌜ r ≡ leb share (length (keep (λ s. eqb s sender) (take w (q .senders)))) ⌝ }
+{
+    let senders = q.senders;
+    32 <= queue::count_sender(&senders[..w], sender)
+}
+
+// Whether n characters and the inserts among the first w pending operations fill a document.
+pub(crate) fn document_full(n: usize, q: Queue, w: usize) -> bool
+    requires { ⌜ (n ≤ 1024) × (w ≤ 512) ⌝ }
+    ensures { λ r. ⌜ r ≡ leb capacity (n + length (keep (λ k. not (eqb k 0)) (take w (q .own)))) ⌝ }
+{
+    let own = q.own;
+    1024 <= n + queue::count_inserts(&own[..w])
+}
