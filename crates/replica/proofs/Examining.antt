@@ -3,7 +3,7 @@ use Prim.Native.Nat.{ℕ, _≤_, _<_}
 use native.Mathlib.Omega.{arith}
 use mathlib.Core.Path.{_≡_, refl, sym, ap, subst, _∙_}
 use mathlib.Core.Bool.{true, false}
-use mathlib.Core.List.{List, map, Memᴰ·append-left, Memᴰ·append-right, Memᴰ·map}
+use mathlib.Core.List.{List, map, List·Memᴰ, Memᴰ·append-left, Memᴰ·append-right, Memᴰ·map}
 use lib.ListN.{length, take, getD, length-map, List·getD-map}
 use lib.Seq.{getD-take}
 use Rattle.woot.specs.declared.Identifier.{Identifier}
@@ -29,18 +29,19 @@ use Rattle.order.specs.Keys.{key, AllSmall, keys}
 use Rattle.order.proofs.Keys.{character-small, all-range-small}
 use Rattle.replica.specs.declared.index.Index.{Index}
 use Rattle.replica.specs.declared.queue.Queue.{Queue}
+use Rattle.replica.specs.declared.queue.Found.{Found}
 use Rattle.replica.specs.declared.known.Holder.{Holder}
 use Rattle.replica.specs.declared.known.Holder.the-variants.{Character as ofCharacter, Pending as ofPending, Nobody}
 use Rattle.replica.specs.declared.known.Seen.the-variants.{New}
 use Rattle.replica.specs.Index.{indexOf}
-use Rattle.replica.specs.Queue.{ownKey, firstKey, packed}
+use Rattle.replica.specs.Queue.{ownKey, firstKey, packed, found}
 use Rattle.replica.specs.Known.{holderIn, comparedTo, comparedWith, seenOf}
 use Rattle.replica.specs.Needs.{Examined}
 use Rattle.replica.proofs.Fullness.{FullDocument}
 use Rattle.replica.proofs.Indexes.{index-ids}
 use Rattle.replica.proofs.Queues.{packed-own, packed-first, packed-senders}
 use Rattle.replica.proofs.Pending.{AllKeyed, all-keyed, positive-key}
-use Rattle.replica.proofs.Holders.{Holds, holds, seen-held, seen-new}
+use Rattle.replica.proofs.Holders.{CharacterAt, Stands, stands, Holds, holds, seen-held, seen-new}
 use Rattle.replica.proofs.Stored.{Counts, counts, form-counted, form-meant, character-count, pending-count}
 
 module _ (r : Replica) (f : replicaWellFormed r ≡ true) where
@@ -95,6 +96,12 @@ module _ (r : Replica) (x : Index) (q : Queue) (full : FullDocument (r .document
         holds id (character-small id ranged) (positive-key id ranged) (meaning r .characters) (small r (e .form)) (meaning r .pending) (keyed r (e .form))
         (rw (ids-used r (e .form) full x (e .index), own-used r (e .form) full q (e .queue)) at (sym p ∙ f))
 
+    -- what the search among the characters alone answers
+    pub stands-at : {t g : Found} → t ≡ found (key id) (take (r .document .length) (x .ids)) → t ≡ g → Stands id (character-small id ranged) (positive-key id ranged) (meaning r .characters) (small r (e .form)) g
+    stands-at {t} {g} p f =
+        stands id (character-small id ranged) (positive-key id ranged) (meaning r .characters) (small r (e .form))
+        (rw (ids-used r (e .form) full x (e .index)) at (sym p ∙ f))
+
     -- no insert that the state knows has it
     pub nobody : Has Nobody → any (λ j. same id (j .id)) (known (meaning r)) ≡ false
     nobody h =
@@ -108,6 +115,17 @@ module _ (r : Replica) (x : Index) (q : Queue) (full : FullDocument (r .document
     pub pending-within : (j : ℕ) → Has (ofPending j) → j < r .document .waiting
     pending-within j h = omega (arith, h .0, pending-count r full (few r (e .form)))
 
+    -- the character in its slot
+    module _ (k : ℕ) (h : CharacterAt id (meaning r .characters) k) (d : Character) where
+      character-same : getD (meaning r .characters) k d ≡ getD (r .document .characters) k d
+      character-same = character-read r (e .form) full k d (character-within k h)
+
+      pub character-member : List·Memᴰ (getD (r .document .characters) k d) (meaning r .characters)
+      character-member = subst (λ (c : Character). List·Memᴰ c (meaning r .characters)) character-same (h .member d)
+
+      pub character-named : id ≡ getD (r .document .characters) k d .id
+      character-named = h .is d ∙ ap (λ (c : Character). c .id) character-same
+
   -- ---- what a received insert is
 
   module _ (i : Insert) (ranged : insertInRange i ≡ true) where
@@ -117,9 +135,8 @@ module _ (r : Replica) (x : Index) (q : Queue) (full : FullDocument (r .document
     pub seen-character : (k : ℕ) → Has (i .id) id-ranged (ofCharacter k) → (d : Character) → comparedTo i (origin (getD (r .document .characters) k d)) ≡ seenOf (meaning r) i
     unfolding known origin
     seen-character k h d =
-        let read = character-read r (e .form) full k d (character-within (i .id) id-ranged k h) in
-        let m = Memᴰ·append-left (inserts (meaning r .pending)) (Memᴰ·map origin (h .member d)) in
-        rw (← read) (sym (seen-held (meaning r) i (form r (e .form)) (origin (getD (meaning r .characters) k d)) m (h .is d)))
+        let m = Memᴰ·append-left (inserts (meaning r .pending)) (Memᴰ·map origin (character-member (i .id) id-ranged k h d)) in
+        sym (seen-held (meaning r) i (form r (e .form)) (origin (getD (r .document .characters) k d)) m (character-named (i .id) id-ranged k h d))
 
     pub seen-pending : (j : ℕ) → Has (i .id) id-ranged (ofPending j) → (d : Pending) → comparedWith i (getD (r .document .pending) j d .operation) ≡ seenOf (meaning r) i
     unfolding known comparedWith

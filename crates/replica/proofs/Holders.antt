@@ -122,11 +122,11 @@ module _ (x : Identifier) (small : Small x) (positive : 0 < key x) (cs : List Ch
       ∙ index-keys x small (identifiers cs) (λ y m. let w = Memᴰ·of-map (λ (c : Character). c .id) cs m in rw (← (w .2)) (all (w .0) (w .1) .id))
 
   -- what the search among the characters' keys answers
-  abbrev Stands : Found → Type 0
+  abbrev pub Stands : Found → Type 0
   Stands (At k) = CharacterAt x cs k
   Stands Nothing = any (same x) (identifiers cs) ≡ false
 
-  stands : {r : Found} → found (key x) (keys cs) ≡ r → Stands r
+  pub stands : {r : Found} → found (key x) (keys cs) ≡ r → Stands r
   stands {r = At k} e =
       let f = at-found (key x) (keys cs) e in
       let size = length-map cs (λ (c : Character). key (c .id)) in

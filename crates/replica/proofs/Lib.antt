@@ -20,6 +20,7 @@ pub mod Generating
 pub mod Holders
 pub mod Examining
 pub mod Receiving
+pub mod Deleting
 pub mod Texts
 pub mod Works
 pub mod Stepping

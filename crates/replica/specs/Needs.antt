@@ -4,13 +4,16 @@ use mathlib.Core.Path.{_≡_}
 use mathlib.Core.Bool.{true, false}
 use lib.ListN.{length}
 use Rattle.woot.specs.declared.Insert.{Insert}
+use Rattle.woot.specs.declared.Delete.{Delete}
 use Rattle.woot.specs.declared.Operation.{Operation}
 use Rattle.woot.specs.declared.Replica.{Replica}
 use Rattle.woot.specs.Limits.{capacity}
+use Rattle.woot.specs.Lists.{any}
+use Rattle.woot.specs.Identifiers.{same}
 use Rattle.woot.specs.Operations.{character}
-use Rattle.woot.specs.Ranges.{inRange}
+use Rattle.woot.specs.Ranges.{deleteInRange, inRange}
 use Rattle.woot.specs.State.{meaning, counted}
-use Rattle.woot.specs.Placing.{insertAt, integrateInsert}
+use Rattle.woot.specs.Placing.{identifiers, insertAt, integrateInsert}
 use Rattle.woot.specs.Pending.{executable}
 use Rattle.woot.specs.Form.{replicaWellFormed}
 use Rattle.woot.specs.Calls.{duplicate, conflicting}
@@ -33,6 +36,13 @@ pub record New (r : Replica) (q : Queue) (o : Operation) : Type 0 where
   pub ranged : inRange o ≡ true
   pub new : duplicate (meaning r) o ≡ false
   pub sole : conflicting (meaning r) o ≡ false
+
+-- a delete whose target no character is
+pub record Absent (r : Replica) (q : Queue) (d : Delete) : Type 0 where
+  pub form : replicaWellFormed r ≡ true
+  pub queue : q ≡ packed (meaning r .pending)
+  pub ranged : deleteInRange d ≡ true
+  pub nowhere : any (same (d .target)) (identifiers (meaning r .characters)) ≡ false
 
 -- an insert that goes in after the first k characters, and leaves the lists sound
 pub record Placed (r : Replica) (i : Insert) (k : ℕ) : Type 0 where

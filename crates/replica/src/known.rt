@@ -1,9 +1,10 @@
-// Who has an identifier, and whether a received insert is known.
+// Who has an identifier, and whether a received operation is known.
 use crate::index::Index;
 use crate::queue;
 use crate::queue::Found;
 use crate::queue::Queue;
 use woot::Character;
+use woot::Delete;
 use woot::Identifier;
 use woot::Insert;
 use woot::Operation;
@@ -16,6 +17,7 @@ ghost use Rattle.woot.specs.Operations.{origin, sameInsert};
 ghost use Rattle.woot.specs.Ranges.{insertInRange};
 ghost use Rattle.woot.specs.State.{meaning};
 ghost use Rattle.order.specs.Keys.{key};
+ghost use Rattle.replica.specs.Queue.{found, hasDelete};
 ghost use Rattle.replica.specs.Known.{holderIn, comparedTo, comparedWith, seenOf};
 ghost use Rattle.replica.specs.Needs.{Examined};
 
@@ -54,6 +56,33 @@ pub(crate) fn holder_of(x: Index, n: usize, q: Queue, w: usize, id: Identifier) 
     let ids = x.ids;
     let own = q.own;
     holder_among(&ids[..n], &own[..w], order::key(id))
+}
+
+// The index of the character that has an identifier, among the first n.
+pub(crate) fn character_of(x: Index, n: usize, id: Identifier) -> Found
+    requires { ⌜ n ≤ 1024 ⌝ }
+    ensures { λ r. ⌜ r ≡ found (key id) (take n (x .ids)) ⌝ }
+{
+    let ids = x.ids;
+    queue::find(&ids[..n], order::key(id))
+}
+
+// Whether an equal delete is among the first w pending operations.
+pub(crate) fn is_pending(q: Queue, w: usize, d: Delete) -> bool
+    requires { ⌜ w ≤ 512 ⌝ }
+    ensures { λ r. ⌜ r ≡ hasDelete (key (d .target)) (d .sender) (take w (q .own)) (take w (q .first)) (take w (q .senders)) ⌝ }
+{
+    let target = d.target;
+    let own = q.own;
+    let first = q.first;
+    let senders = q.senders;
+    queue::has_delete(
+        &own[..w],
+        &first[..w],
+        &senders[..w],
+        order::key(target),
+        d.sender,
+    )
 }
 
 // Whether two inserts are equal in every field.

@@ -4,7 +4,6 @@ use crate::known;
 use crate::known::Seen;
 use crate::placing;
 use crate::placing::Placement;
-use crate::queue;
 use crate::queue::Found;
 use crate::queue::Queue;
 use crate::room;
@@ -30,7 +29,7 @@ ghost use Rattle.woot.specs.Calls.{documentFull};
 ghost use Rattle.replica.specs.Replicas.{received};
 ghost use Rattle.replica.specs.Queue.{packed};
 ghost use Rattle.replica.specs.Work.{placementOf};
-ghost use Rattle.replica.specs.Needs.{Examined, New};
+ghost use Rattle.replica.specs.Needs.{Examined, New, Absent};
 ghost use Rattle.replica.specs.declared.placing.Placement.the-variants.{Below};
 
 // The replica as it was, with an answer.
@@ -130,5 +129,42 @@ pub(crate) fn receive_insert(r: Replica, x: Index, q: Queue, i: Insert) -> Recei
         Seen::New => receive_new(r, x, q, i),
         Seen::Same => kept(r, Answer::Duplicate),
         Seen::Other => refused(r, Refusal::Conflict),
+    }
+}
+
+// Receives a delete whose target is not held.
+fn receive_absent(r: Replica, q: Queue, e: Delete) -> Receipt
+    requires { ⌜ Absent r q e ⌝ }
+    ensures { λ y. ⌜ y ≡ received r (delete e) ⌝ }
+{
+    let d = r.document;
+    if known::is_pending(q, d.waiting, e) {
+        return kept(r, Answer::Duplicate);
+    }
+    defer(r, q, Operation::Delete(e))
+}
+
+// Receives a delete.
+pub(crate) fn receive_delete(r: Replica, x: Index, q: Queue, e: Delete) -> Receipt
+    requires { ⌜ Examined r x q × (deleteInRange e ≡ true) ⌝ }
+    ensures { λ y. ⌜ y ≡ received r (delete e) ⌝ }
+{
+    let d = r.document;
+    let target = e.target;
+    match known::character_of(x, d.length, target) {
+        Found::At(k) => {
+            let c = d.characters[k];
+            if !c.visible {
+                return kept(r, Answer::Duplicate);
+            }
+            Receipt {
+                answer: Answer::Done {
+                    integrated: 1,
+                    discarded: 0,
+                },
+                replica: storing::hidden(r, target),
+            }
+        }
+        Found::Nothing => receive_absent(r, q, e),
     }
 }

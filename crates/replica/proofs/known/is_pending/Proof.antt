@@ -1,0 +1,52 @@
+-- `replica::known::is_pending` lends the slots that are in use.
+use native.Mathlib.Omega.{arith}
+use lib.ListN.{length-take}
+use Rattle.replica.proofs.Fullness.{full-queue}
+use Rattle.replica.proofs.Queues.{FullQueue}
+use borrow.Author.Needs.{needs}
+use Rattle.replica.proofs.known.is_pending.Statement.{statement}
+use Rattle.replica.proofs.known.is_pending.Tie as tie
+
+queued : (c : tie.Start) → FullQueue (c .args .q)
+queued c = full-queue (c .good .0)
+
+array-share-prefix-own : tie.Need-array-share-prefix-own
+array-share-prefix-own c = let f = queued (c .before .before .before .before) in omega arith
+
+slice-aggregate-has-delete : tie.Need-slice-aggregate-has-delete
+slice-aggregate-has-delete c = let f = queued (c .before .before .before .before .before) in simp length-take (omega arith)
+
+array-share-prefix-first : tie.Need-array-share-prefix-first
+array-share-prefix-first c = let f = queued (c .before .before .before .before .before) in omega arith
+
+slice-aggregate-has-delete-2 : tie.Need-slice-aggregate-has-delete-2
+slice-aggregate-has-delete-2 c = let f = queued (c .before .before .before .before .before .before) in simp length-take (omega arith)
+
+array-share-prefix-senders : tie.Need-array-share-prefix-senders
+array-share-prefix-senders c = let f = queued (c .before .before .before .before .before .before) in omega arith
+
+slice-aggregate-has-delete-3 : tie.Need-slice-aggregate-has-delete-3
+slice-aggregate-has-delete-3 c = let f = queued (c .before .before .before .before .before .before .before) in simp length-take (omega arith)
+
+key-requires : tie.Need-key-requires
+key-requires c κs = search needs
+
+has-delete-requires : tie.Need-has-delete-requires
+has-delete-requires c κs = let f = queued (c .before .before .before .before .before .before .before .before) in simp length-take (omega arith)
+
+returns : tie.Need-returns
+returns c = rw (c .has-delete .ensures, c .before .key .ensures .0)
+
+pub is-pending-spec : {M : Type 1} → statement M
+is-pending-spec =
+    tie.close
+    (tie.spec
+    array-share-prefix-own
+    slice-aggregate-has-delete
+    array-share-prefix-first
+    slice-aggregate-has-delete-2
+    array-share-prefix-senders
+    slice-aggregate-has-delete-3
+    key-requires
+    has-delete-requires
+    returns)
