@@ -30,13 +30,16 @@ use Rattle.order.proofs.Keys.{character-small, all-range-small}
 use Rattle.replica.specs.declared.index.Index.{Index}
 use Rattle.replica.specs.declared.queue.Queue.{Queue}
 use Rattle.replica.specs.declared.queue.Found.{Found}
+use Rattle.replica.specs.declared.form.Checked.{Checked}
 use Rattle.replica.specs.declared.known.Holder.{Holder}
 use Rattle.replica.specs.declared.known.Holder.the-variants.{Character as ofCharacter, Pending as ofPending, Nobody}
 use Rattle.replica.specs.declared.known.Seen.the-variants.{New}
 use Rattle.replica.specs.Index.{indexOf}
 use Rattle.replica.specs.Queue.{ownKey, firstKey, packed, found}
 use Rattle.replica.specs.Known.{holderIn, comparedTo, comparedWith, seenOf}
+use Rattle.replica.specs.Form.{formedWith, checked}
 use Rattle.replica.specs.Needs.{Examined}
+use Rattle.replica.proofs.Checks.{checked-true, checked-formed}
 use Rattle.replica.proofs.Fullness.{FullDocument}
 use Rattle.replica.proofs.Indexes.{index-ids}
 use Rattle.replica.proofs.Queues.{packed-own, packed-first, packed-senders}
@@ -81,6 +84,18 @@ module _ (r : Replica) (f : replicaWellFormed r ≡ true) where
     pending-read j d h =
         List·getD-map (λ (p : Pending). p .operation) (take (r .document .waiting) (r .document .pending)) j d
         ∙ ap (λ (p : Pending). p .operation) (getD-take (r .document .waiting) (r .document .pending) j d h)
+
+-- ---- what the check answers
+
+module _ (r : Replica) (k : Checked) (e : k ≡ checked r) where
+  pub check-formed : k .formed ≡ replicaWellFormed r
+  check-formed = ap (λ (c : Checked). c .formed) e ∙ checked-formed r
+
+  pub check-examined : replicaWellFormed r ≡ true → Examined r (k .index) (k .queue)
+  unfolding formedWith
+  check-examined f =
+      let g : k ≡ formedWith (meaning r) = e ∙ checked-true r f in
+      record { form = f; index = ap (λ (c : Checked). c .index) g; queue = ap (λ (c : Checked). c .queue) g }
 
 -- ---- with all that was packed
 

@@ -14,6 +14,8 @@ mod visible;
 mod work;
 
 use woot::Generated;
+use woot::Operation;
+use woot::Receipt;
 use woot::Refusal;
 use woot::Replica;
 use woot::Written;
@@ -21,6 +23,7 @@ ghost use mathlib.Core.Path.{_≡_};
 ghost use Rattle.woot.specs.Form.{replicaWellFormed};
 ghost use Rattle.replica.specs.Replicas.{textWritten, textOut};
 ghost use Rattle.replica.specs.Replicas.{deleted};
+ghost use Rattle.replica.specs.Replicas.{received, deleted};
 
 // Whether a replica is well formed. (Document 01: in form.)
 pub fn well_formed(r: Replica) -> bool
@@ -35,6 +38,22 @@ pub fn visible_text(r: Replica, out: &mut [u8]) -> Written
     ensures { λ x. ⌜ (x ≡ textWritten r (now (out .entry))) × (now (out .exit) ≡ textOut r (now (out .entry))) ⌝ }
 {
     visible::text_when(well_formed(r), r, out)
+// Receives an operation. (Document 01: receiving.)
+pub fn receive(r: Replica, o: Operation) -> Receipt
+    ensures { λ x. ⌜ x ≡ received r o ⌝ }
+    if !ranges::in_range(o) {
+        return reception::refused(r, Refusal::Range);
+    }
+    let c = form::check(r);
+    if !c.formed {
+        return reception::refused(r, Refusal::Form);
+    }
+    let index = c.index;
+    let queue = c.queue;
+    match o {
+        Operation::Insert(i) => reception::receive_insert(r, index, queue, i),
+        Operation::Delete(d) => reception::receive_delete(r, index, queue, d),
+    }
 // Deletes the visible character at the index, counted from 1, and answers the operation to be sent. (Document 01: erasing.)
 pub fn delete(r: Replica, index: usize) -> Generated
     ensures { λ x. ⌜ x ≡ deleted r index ⌝ }
