@@ -21,6 +21,3 @@ pub mod Holders
 pub mod Examining
 pub mod Receiving
 pub mod Deleting
-pub mod Texts
-pub mod Works
-pub mod Stepping

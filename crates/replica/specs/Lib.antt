@@ -7,5 +7,4 @@ pub mod Work
 pub mod Visible
 pub mod Form
 pub mod Known
-pub mod Storing
 pub mod Needs

@@ -21,9 +21,7 @@ use woot::Replica;
 use woot::Written;
 ghost use mathlib.Core.Path.{_≡_};
 ghost use Rattle.woot.specs.Form.{replicaWellFormed};
-ghost use Rattle.replica.specs.Replicas.{textWritten, textOut};
-ghost use Rattle.replica.specs.Replicas.{deleted};
-ghost use Rattle.replica.specs.Replicas.{received, deleted};
+ghost use Rattle.replica.specs.Replicas.{received, deleted, textWritten, textOut};
 
 // Whether a replica is well formed. (Document 01: in form.)
 pub fn well_formed(r: Replica) -> bool
@@ -33,14 +31,10 @@ pub fn well_formed(r: Replica) -> bool
     c.formed
 }
 
-// The visible text of a replica as UTF-8 into the slice: its length, or refusal 3 or 12, and then no byte is changed.
-pub fn visible_text(r: Replica, out: &mut [u8]) -> Written
-    ensures { λ x. ⌜ (x ≡ textWritten r (now (out .entry))) × (now (out .exit) ≡ textOut r (now (out .entry))) ⌝ }
-{
-    visible::text_when(well_formed(r), r, out)
 // Receives an operation. (Document 01: receiving.)
 pub fn receive(r: Replica, o: Operation) -> Receipt
     ensures { λ x. ⌜ x ≡ received r o ⌝ }
+{
     if !ranges::in_range(o) {
         return reception::refused(r, Refusal::Range);
     }
@@ -54,11 +48,21 @@ pub fn receive(r: Replica, o: Operation) -> Receipt
         Operation::Insert(i) => reception::receive_insert(r, index, queue, i),
         Operation::Delete(d) => reception::receive_delete(r, index, queue, d),
     }
+}
+
 // Deletes the visible character at the index, counted from 1, and answers the operation to be sent. (Document 01: erasing.)
 pub fn delete(r: Replica, index: usize) -> Generated
     ensures { λ x. ⌜ x ≡ deleted r index ⌝ }
+{
     if !well_formed(r) {
         return generation::refused(r, Refusal::Form);
     }
     generation::delete_visible(r, index)
+}
+
+// The visible text of a replica as UTF-8 into the slice: its length, or refusal 3 or 12, and then no byte is changed.
+pub fn visible_text(r: Replica, out: &mut [u8]) -> Written
+    ensures { λ x. ⌜ (x ≡ textWritten r (now (out .entry))) × (now (out .exit) ≡ textOut r (now (out .entry))) ⌝ }
+{
+    visible::text_when(well_formed(r), r, out)
 }
