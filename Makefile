@@ -1,12 +1,13 @@
 # make            the static library, target/staticlib/libwimtaze.a
 # make install    the library, its header and its pkg-config file, under PREFIX
 # make native     the programs in C and Rust over the static library
+# make bench     times receiving against plain Rust
 # make test       the gate: it proves every crate from nothing and runs what there is to run
 PREFIX ?= /usr/local
 VERSION = 0.1.0
 LIBRARY = target/staticlib/libwimtaze.a
 
-.PHONY: all install native test
+.PHONY: all install native bench test
 
 all:
 	rt staticlib wimtaze
@@ -23,6 +24,12 @@ install: $(LIBRARY)
 
 native:
 	tests/native/run
+
+bench:
+	rt staticlib workload
+	mkdir -p target/bench
+	rustc --edition 2021 -O -o target/bench/receive bench/receive.rs -L target/staticlib -l static=workload
+	target/bench/receive
 
 test:
 	.ci/run
