@@ -90,11 +90,11 @@ written-reads-back o e bytes = (line-says o bytes ∙ read-operation o e, rest-o
 -- ---- what is read, written
 
 -- a list, by the numbers at its places
-from-place : (ns : List ℕ) (k : ℕ) {t : List ℕ} → k < length ns → drop (suc k) ns ≡ t → drop k ns ≡ getD ns k 0 ∷ t
+pub from-place : (ns : List ℕ) (k : ℕ) {t : List ℕ} → k < length ns → drop (suc k) ns ≡ t → drop k ns ≡ getD ns k 0 ∷ t
 from-place ns k h e = drop-cons ns k 0 h ∙ ap (λ (l : List ℕ). getD ns k 0 ∷ l) e
 
 -- seven numbers are those of the insert that they say, and three those of the delete
-insert-numbers-back : (ns : List ℕ) → length ns ≡ 7 → insertNumbers (insertOf ns) ≡ ns
+pub insert-numbers-back : (ns : List ℕ) → length ns ≡ 7 → insertNumbers (insertOf ns) ≡ ns
 unfolding insertNumbers insertOf identifierAt
 insert-numbers-back ns e =
     sym
@@ -105,7 +105,7 @@ insert-numbers-back ns e =
     (from-place ns 4 (omega arith)
     (from-place ns 5 (omega arith) (from-place ns 6 (omega arith) (drop-of-length-le ns {i = 7} (omega arith)))))))))
 
-delete-numbers-back : (ns : List ℕ) → length ns ≡ 3 → deleteNumbers (deleteOf ns) ≡ ns
+pub delete-numbers-back : (ns : List ℕ) → length ns ≡ 3 → deleteNumbers (deleteOf ns) ≡ ns
 unfolding deleteNumbers deleteOf identifierAt
 delete-numbers-back ns e =
     sym

@@ -1,0 +1,5 @@
+pub mod Lines
+pub mod Spelling
+pub mod Trips
+pub mod Refusals
+pub mod Sizes

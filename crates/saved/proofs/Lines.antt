@@ -1,0 +1,188 @@
+-- Laws of the lines of bytes: they are taken off the front one by one, and put together again.
+use mathlib.Core.Path.{_≡_, refl, sym, ap, _∙_}
+use mathlib.Core.List.{List, [], _∷_, _++_, append-assoc}
+use mathlib.Core.Bool.{Bool, true, false, cond}
+use mathlib.Core.Logic.{⊎-elim}
+use Prim.Native.Nat.{ℕ, _<_, _≤_}
+use native.Mathlib.Omega.{arith}
+use lib.Dec.{eqb}
+use lib.ListN.{length, drop, getD}
+use lib.Seq.{append-snoc}
+use borrow.Author.Tests.{eqb-true, ne-eqb, eq-eqb}
+use Rattle.convergence.proofs.Tests.{either, clash}
+use Rattle.codec.specs.Lines.{lineFeed, has, before, after, ended, firstLine, rest, columns, lineOf}
+use Rattle.codec.proofs.Trips.{no-feed}
+use Rattle.saved.specs.Lines.{onLine, lines, last, closed, leading, trailing, joined}
+
+-- ---- the first line, and the others
+
+before-after : (s : List ℕ) → has lineFeed s ≡ true → lines s ≡ before lineFeed s ∷ lines (after lineFeed s)
+before-after [] e = cc
+before-after (b ∷ s) e = go (eqb b lineFeed) refl (before-after s)
+  where
+    go : (t : Bool) → eqb b lineFeed ≡ t → (has lineFeed s ≡ true → lines s ≡ before lineFeed s ∷ lines (after lineFeed s))
+        → lines (b ∷ s) ≡ before lineFeed (b ∷ s) ∷ lines (after lineFeed (b ∷ s))
+    go true p others = rw p
+    go false p others = rw p (ap (onLine b) (others (rw p at e)))
+
+none-there : (s : List ℕ) → has lineFeed s ≡ false → lines s ≡ []
+none-there [] e = refl
+none-there (b ∷ s) e = go (eqb b lineFeed) refl (none-there s)
+  where
+    go : (t : Bool) → eqb b lineFeed ≡ t → (has lineFeed s ≡ false → lines s ≡ []) → lines (b ∷ s) ≡ []
+    go true p others = cc
+    go false p others = rw p (ap (onLine b) (others (rw p at e)))
+
+after-none : (s : List ℕ) → has lineFeed s ≡ false → after lineFeed s ≡ []
+after-none [] e = refl
+after-none (b ∷ s) e = go (eqb b lineFeed) refl (after-none s)
+  where
+    go : (t : Bool) → eqb b lineFeed ≡ t → (has lineFeed s ≡ false → after lineFeed s ≡ []) → after lineFeed (b ∷ s) ≡ []
+    go true p others = cc
+    go false p others = rw p (others (rw p at e))
+
+module _ (s : List ℕ) where
+  pub lines-ended : ended s ≡ true → lines s ≡ firstLine s ∷ lines (rest s)
+  unfolding ended firstLine rest
+  lines-ended e = before-after s e
+
+  pub lines-unended : ended s ≡ false → lines s ≡ []
+  unfolding ended
+  lines-unended e = none-there s e
+
+  rest-unended : ended s ≡ false → rest s ≡ []
+  unfolding ended rest
+  rest-unended e = after-none s e
+
+  -- what is read as the first line: where no line feed ends it, nothing
+  pub head-line : cond (ended s) (firstLine s) [] ≡ getD (lines s) 0 []
+  head-line = go (ended s) refl
+    where
+      go : (t : Bool) → ended s ≡ t → cond t (firstLine s) [] ≡ getD (lines s) 0 []
+      go true e = rw (lines-ended e)
+      go false e = rw (lines-unended e)
+
+  pub lines-rest : lines (rest s) ≡ drop 1 (lines s)
+  lines-rest = ⊎-elim (λ e. rw (lines-ended e)) (λ e. rw (lines-unended e, rest-unended e)) (either (ended s))
+
+-- ---- the last line feed
+
+-- the last byte of bytes that are some does not depend on what else it would be
+last-after : (z : ℕ) (s : List ℕ) → has lineFeed s ≡ true → last z s ≡ last lineFeed (after lineFeed s)
+last-after z [] e = cc
+last-after z (b ∷ s) e = go (eqb b lineFeed) refl (last-after b s)
+  where
+    go : (t : Bool) → eqb b lineFeed ≡ t → (has lineFeed s ≡ true → last b s ≡ last lineFeed (after lineFeed s))
+        → last z (b ∷ s) ≡ last lineFeed (after lineFeed (b ∷ s))
+    go true p others = rw (p, eqb-true b lineFeed p)
+    go false p others = rw p (others (rw p at e))
+
+last-none : (z : ℕ) (s : List ℕ) → has lineFeed s ≡ false → eqb z lineFeed ≡ false → eqb (last z s) lineFeed ≡ false
+last-none z [] e h = h
+last-none z (b ∷ s) e h = go (eqb b lineFeed) refl (last-none b s)
+  where
+    go : (t : Bool) → eqb b lineFeed ≡ t → (has lineFeed s ≡ false → eqb b lineFeed ≡ false → eqb (last b s) lineFeed ≡ false)
+        → eqb (last b s) lineFeed ≡ false
+    go true p others = cc
+    go false p others = others (rw p at e) p
+
+pub closed-rest : (s : List ℕ) → ended s ≡ true → closed (rest s) ≡ closed s
+unfolding ended rest closed
+closed-rest s e = rw (last-after lineFeed s e)
+
+-- bytes that no line feed ends are not closed, unless there are none
+pub closed-unended : (s : List ℕ) → 0 < length s → ended s ≡ false → closed s ≡ false
+unfolding ended closed
+closed-unended [] h e = absurd (omega arith)
+closed-unended (b ∷ s) h e = go (eqb b lineFeed) refl
+  where
+    go : (t : Bool) → eqb b lineFeed ≡ t → eqb (last b s) lineFeed ≡ false
+    go true p = cc
+    go false p = last-none b s (rw p at e) p
+
+-- the rest is shorter
+after-le : (s : List ℕ) → length (after lineFeed s) ≤ length s
+after-le [] = omega arith
+after-le (b ∷ s) = go (eqb b lineFeed) refl (after-le s)
+  where
+    go : (t : Bool) → eqb b lineFeed ≡ t → length (after lineFeed s) ≤ length s → length (after lineFeed (b ∷ s)) ≤ length (b ∷ s)
+    go true p h = rw p (omega arith)
+    go false p h = rw p (omega arith)
+
+pub rest-shorter : (s : List ℕ) → 0 < length s → length (rest s) < length s
+unfolding rest
+rest-shorter [] h = absurd (omega arith)
+rest-shorter (b ∷ s) h = go (eqb b lineFeed) refl
+  where
+    go : (t : Bool) → eqb b lineFeed ≡ t → length (after lineFeed (b ∷ s)) < length (b ∷ s)
+    go true p = rw p (omega arith)
+    go false p = rw p (omega (arith, after-le s))
+
+-- ---- a line before any bytes
+
+lines-append : (p s : List ℕ) → has lineFeed p ≡ false → lines (p ++ lineFeed ∷ s) ≡ p ∷ lines s
+lines-append [] s e = refl
+lines-append (b ∷ p) s e = go (eqb b lineFeed) refl (lines-append p s)
+  where
+    go : (t : Bool) → eqb b lineFeed ≡ t → (has lineFeed p ≡ false → lines (p ++ lineFeed ∷ s) ≡ p ∷ lines s)
+        → lines (b ∷ p ++ lineFeed ∷ s) ≡ (b ∷ p) ∷ lines s
+    go true q others = cc
+    go false q others = rw q (ap (onLine b) (others (rw q at e)))
+
+last-append : (z : ℕ) (p s : List ℕ) → last z (p ++ lineFeed ∷ s) ≡ last lineFeed s
+last-append z [] s = refl
+last-append z (b ∷ p) s = last-append b p s
+
+module _ (letter : ℕ) (ns bytes : List ℕ) where
+  seam : lineOf letter ns ++ bytes ≡ (letter ∷ columns ns) ++ lineFeed ∷ bytes
+  unfolding lineOf
+  seam = append-snoc (letter ∷ columns ns) lineFeed bytes
+
+  pub lines-line : (letter ≡ lineFeed → ⊥) → lines (lineOf letter ns ++ bytes) ≡ (letter ∷ columns ns) ∷ lines bytes
+  lines-line h = rw seam (lines-append (letter ∷ columns ns) bytes (no-feed letter ns bytes h))
+
+  pub closed-line : closed (lineOf letter ns ++ bytes) ≡ closed bytes
+  unfolding closed
+  closed-line = rw (seam, last-append lineFeed (letter ∷ columns ns) bytes)
+
+-- ---- all lines, each with its line feed
+
+abbrev pub whole : List ℕ → List ℕ
+whole line = line ++ (lineFeed ∷ [])
+
+pub rejoined : (s : List ℕ) → closed s ≡ true → s ≡ joined whole (lines s)
+unfolding closed
+rejoined [] e = refl
+rejoined (b ∷ []) e = rw e (ap (λ (x : ℕ). x ∷ []) (eqb-true b lineFeed e))
+rejoined (b ∷ d ∷ s) e = go (eqb b lineFeed) refl (rejoined (d ∷ s) e)
+  where
+    more : (ls : List (List ℕ)) → d ∷ s ≡ joined whole ls → b ∷ d ∷ s ≡ joined whole (onLine b ls)
+    more [] p = cc
+    more (l ∷ ls) p = ap (λ (x : List ℕ). b ∷ x) p
+
+    go : (t : Bool) → eqb b lineFeed ≡ t → d ∷ s ≡ joined whole (lines (d ∷ s)) → b ∷ d ∷ s ≡ joined whole (lines (b ∷ d ∷ s))
+    go true p others = rw (p, eqb-true b lineFeed p) (ap (λ (x : List ℕ). lineFeed ∷ x) others)
+    go false p others = rw p (more (lines (d ∷ s)) others)
+
+-- ---- lists taken apart by a test
+
+module _ {A : Type 0} (p : A → Bool) where
+  pub apart : (xs : List A) → xs ≡ leading p xs ++ trailing p xs
+  apart [] = refl
+  apart (x ∷ xs) = go (p x) refl (apart xs)
+    where
+      go : (t : Bool) → p x ≡ t → xs ≡ leading p xs ++ trailing p xs → x ∷ xs ≡ leading p (x ∷ xs) ++ trailing p (x ∷ xs)
+      go true e others = rw e (ap (λ (ys : List A). x ∷ ys) others)
+      go false e others = rw e
+
+  pub trailing-drop : (xs : List A) → trailing p xs ≡ drop (length (leading p xs)) xs
+  trailing-drop [] = refl
+  trailing-drop (x ∷ xs) = go (p x) refl (trailing-drop xs)
+    where
+      go : (t : Bool) → p x ≡ t → trailing p xs ≡ drop (length (leading p xs)) xs → trailing p (x ∷ xs) ≡ drop (length (leading p (x ∷ xs))) (x ∷ xs)
+      go true e others = rw e others
+      go false e others = rw e
+
+pub joined-append : {A : Type 0} (f : A → List ℕ) (xs ys : List A) → joined f (xs ++ ys) ≡ joined f xs ++ joined f ys
+joined-append f [] ys = refl
+joined-append f (x ∷ xs) ys = ap (λ (l : List ℕ). f x ++ l) (joined-append f xs ys) ∙ sym (append-assoc (f x) (joined f xs) (joined f ys))

@@ -1,0 +1,242 @@
+-- The round trips of the whole: the lines of what is written are those of the site, of the characters and of the pending
+-- operations; and bytes with the layout are the lines of what they say.
+use mathlib.Core.Path.{_≡_, refl, sym, ap, ap₂, _∙_}
+use mathlib.Core.List.{List, [], _∷_, _++_, map, append-nil, append-assoc}
+use mathlib.Core.Bool.{Bool, true, false, _&&_, cond}
+use Prim.Native.Nat.{ℕ}
+use lib.ListN.{length, drop, getD}
+use Rattle.woot.specs.declared.Character.{Character}
+use Rattle.woot.specs.declared.Operation.{Operation}
+use Rattle.woot.specs.Lists.{every}
+use Rattle.woot.specs.State.{State, meaning, stored}
+use Rattle.woot.specs.Form.{allInRange, wellFormed}
+use Rattle.convergence.proofs.Tests.{and-left, and-right, three, seven, clash}
+use Rattle.codec.specs.Lines.{isLetter, hasLayout}
+use Rattle.codec.specs.Operations.{operationLine}
+use Rattle.replica.proofs.Runs.{meaning-stored}
+use Rattle.saved.specs.declared.Load.the-variants.{Done, Refused}
+use Rattle.saved.specs.Lines.{lines, closed, leading, trailing, joined}
+use Rattle.saved.specs.Format.{siteLine, isSite, siteSaid, characterLine, isCharacter, characterSaid, visibleInRange, isOperation, operationSaid, headLine, characterLines, operationLines, savedLaidOut, savedState, savedInRange, savedBytes}
+use Rattle.saved.specs.Calls.{loaded}
+use Rattle.saved.specs.Theorems.{SavedReadsBack, LoadedWritesBack, LoadedFormed}
+use Rattle.saved.proofs.Lines.{whole, rejoined, apart, joined-append}
+use Rattle.saved.proofs.Spelling.{bareSite, bareCharacter, bareOperation, site-lines, site-closed, character-lines, character-closed, operation-lines, operation-closed, site-laid, site-back, character-laid, character-back, character-fits, operation-laid, operation-back, operation-other, site-again, character-again, operation-again}
+use Rattle.saved.proofs.Refusals.{load-done, load-numbers}
+
+-- ---- lists of lines
+
+module _ {A : Type 0} (line bare : A → List ℕ) where
+  -- each is a line before any bytes, and so are all
+  lines-joined : ((x : A) (bytes : List ℕ) → lines (line x ++ bytes) ≡ bare x ∷ lines bytes) → (xs : List A) (bytes : List ℕ)
+      → lines (joined line xs ++ bytes) ≡ map bare xs ++ lines bytes
+  lines-joined each [] bytes = refl
+  lines-joined each (x ∷ xs) bytes =
+      ap lines (append-assoc (line x) (joined line xs) bytes) ∙ each x (joined line xs ++ bytes)
+      ∙ ap (λ (ls : List (List ℕ)). bare x ∷ ls) (lines-joined each xs bytes)
+
+  closed-joined : ((x : A) (bytes : List ℕ) → closed (line x ++ bytes) ≡ closed bytes) → (xs : List A) (bytes : List ℕ)
+      → closed (joined line xs ++ bytes) ≡ closed bytes
+  closed-joined each [] bytes = refl
+  closed-joined each (x ∷ xs) bytes =
+      ap closed (append-assoc (line x) (joined line xs) bytes) ∙ each x (joined line xs ++ bytes) ∙ closed-joined each xs bytes
+
+module _ {A B : Type 0} where
+  map-back : (f : A → B) (g : B → A) → ((x : B) → f (g x) ≡ x) → (xs : List B) → map f (map g xs) ≡ xs
+  map-back f g back [] = refl
+  map-back f g back (x ∷ xs) = ap₂ (λ (y : B) (ys : List B). y ∷ ys) (back x) (map-back f g back xs)
+
+  every-map : (p : A → Bool) (g : B → A) → ((x : B) → p (g x) ≡ true) → (xs : List B) → every p (map g xs) ≡ true
+  every-map p g all [] = refl
+  every-map p g all (x ∷ xs) = rw (all x) (every-map p g all xs)
+
+module _ {A : Type 0} (p : A → Bool) where
+  -- elements that pass, before others
+  leading-append : (xs ys : List A) → every p xs ≡ true → leading p (xs ++ ys) ≡ xs ++ leading p ys
+  leading-append [] ys e = refl
+  leading-append (x ∷ xs) ys e =
+      rw (and-left (p x) (every p xs) e) (ap (λ (zs : List A). x ∷ zs) (leading-append xs ys (and-right (p x) (every p xs) e)))
+
+  trailing-append : (xs ys : List A) → every p xs ≡ true → trailing p (xs ++ ys) ≡ trailing p ys
+  trailing-append [] ys e = refl
+  trailing-append (x ∷ xs) ys e = rw (and-left (p x) (every p xs) e) (trailing-append xs ys (and-right (p x) (every p xs) e))
+
+  -- elements that fail
+  module _ {B : Type 0} (g : B → A) (fail : (x : B) → p (g x) ≡ false) where
+    leading-none : (xs : List B) → leading p (map g xs) ≡ []
+    leading-none [] = refl
+    leading-none (x ∷ xs) = rw (fail x)
+
+    trailing-all : (xs : List B) → trailing p (map g xs) ≡ map g xs
+    trailing-all [] = refl
+    trailing-all (x ∷ xs) = rw (fail x)
+
+  every-leading : (xs : List A) → every p (leading p xs) ≡ true
+  every-leading [] = refl
+  every-leading (x ∷ xs) = go (p x) refl (every-leading xs)
+    where
+      go : (t : Bool) → p x ≡ t → every p (leading p xs) ≡ true → every p (leading p (x ∷ xs)) ≡ true
+      go true e others = rw (e, e) others
+      go false e others = rw e
+
+-- ---- what is written, read: any state, in form or not
+
+closed-none : closed [] ≡ true
+unfolding closed
+closed-none = refl
+
+module _ (s : State) where
+  later : List ℕ
+  later = joined characterLine (s .characters) ++ joined operationLine (s .pending)
+
+  later-lines : lines later ≡ map bareCharacter (s .characters) ++ map bareOperation (s .pending)
+  unfolding later
+  later-lines =
+      lines-joined characterLine bareCharacter (λ c bytes. character-lines bytes c) (s .characters) (joined operationLine (s .pending))
+      ∙ ap (λ (ls : List (List ℕ)). map bareCharacter (s .characters) ++ ls)
+      (ap lines (sym (append-nil (joined operationLine (s .pending))))
+      ∙ lines-joined operationLine bareOperation (λ o bytes. operation-lines bytes o) (s .pending) []
+      ∙ append-nil (map bareOperation (s .pending)))
+
+  saved-lines : lines (savedBytes s) ≡ bareSite (s .site) ∷ map bareCharacter (s .characters) ++ map bareOperation (s .pending)
+  unfolding savedBytes later
+  saved-lines =
+      ap lines (append-assoc (siteLine (s .site)) (joined characterLine (s .characters)) (joined operationLine (s .pending)))
+      ∙ site-lines later (s .site)
+      ∙ ap (λ (ls : List (List ℕ)). bareSite (s .site) ∷ ls) later-lines
+
+  saved-closed : closed (savedBytes s) ≡ true
+  unfolding savedBytes later
+  saved-closed =
+      ap closed (append-assoc (siteLine (s .site)) (joined characterLine (s .characters)) (joined operationLine (s .pending)))
+      ∙ site-closed later (s .site)
+      ∙ closed-joined characterLine bareCharacter (λ c bytes. character-closed bytes c) (s .characters) (joined operationLine (s .pending))
+      ∙ ap closed (sym (append-nil (joined operationLine (s .pending))))
+      ∙ closed-joined operationLine bareOperation (λ o bytes. operation-closed bytes o) (s .pending) []
+      ∙ closed-none
+
+  saved-head : headLine (savedBytes s) ≡ bareSite (s .site)
+  unfolding headLine
+  saved-head = rw saved-lines
+
+  passed : every isCharacter (map bareCharacter (s .characters)) ≡ true
+  passed = every-map isCharacter bareCharacter character-laid (s .characters)
+
+  saved-characters : characterLines (savedBytes s) ≡ map bareCharacter (s .characters)
+  unfolding characterLines
+  saved-characters =
+      rw saved-lines
+      (leading-append isCharacter (map bareCharacter (s .characters)) (map bareOperation (s .pending)) passed
+      ∙ rw (leading-none isCharacter bareOperation operation-other (s .pending)) (append-nil (map bareCharacter (s .characters))))
+
+  saved-operations : operationLines (savedBytes s) ≡ map bareOperation (s .pending)
+  unfolding operationLines
+  saved-operations =
+      rw saved-lines
+      (trailing-append isCharacter (map bareCharacter (s .characters)) (map bareOperation (s .pending)) passed
+      ∙ trailing-all isCharacter bareOperation operation-other (s .pending))
+
+  pub saved-laid : savedLaidOut (savedBytes s) ≡ true
+  unfolding savedLaidOut
+  saved-laid =
+      rw (saved-closed, saved-head, site-laid (s .site), saved-operations)
+      (every-map isOperation bareOperation operation-laid (s .pending))
+
+  pub saved-says : savedState (savedBytes s) ≡ s
+  unfolding savedState
+  saved-says =
+      rw (saved-head, saved-characters, saved-operations)
+      (λ j. record {
+        site = site-back (s .site) j;
+        characters = map-back characterSaid bareCharacter character-back (s .characters) j;
+        pending = map-back operationSaid bareOperation operation-back (s .pending) j;
+      })
+
+  pub saved-in-range : savedInRange (savedBytes s) ≡ allInRange s
+  unfolding savedInRange
+  saved-in-range =
+      rw (saved-says, saved-characters, every-map visibleInRange bareCharacter character-fits (s .characters)) (and-true (allInRange s))
+    where
+      and-true : (b : Bool) → b && true ≡ b
+      and-true true = refl
+      and-true false = refl
+
+formed-ranges : (s : State) → wellFormed s ≡ true → allInRange s ≡ true
+unfolding wellFormed
+formed-ranges s h = seven (allInRange s) _ _ _ _ _ _ h .0
+
+pub saved-reads-back : SavedReadsBack
+saved-reads-back s h =
+    let d = load-done (savedBytes s) (saved-laid s) (saved-in-range s ∙ formed-ranges s h) (ap wellFormed (saved-says s) ∙ h) in
+    (ap (λ w. w .answer) d, ap (λ w. w .replica) d ∙ ap stored (saved-says s))
+
+-- ---- what is read, written
+
+-- lines that each are written again as they were
+joined-again : {A : Type 0} (line : A → List ℕ) (say : List ℕ → A) (p : List ℕ → Bool) → ((l : List ℕ) → p l ≡ true → line (say l) ≡ whole l)
+    → (ls : List (List ℕ)) → every p ls ≡ true → joined line (map say ls) ≡ joined whole ls
+joined-again line say p each [] e = refl
+joined-again line say p each (l ∷ ls) e =
+    ap₂ (λ (a b : List ℕ). a ++ b) (each l (and-left (p l) (every p ls) e)) (joined-again line say p each ls (and-right (p l) (every p ls) e))
+
+every-and : {A : Type 0} (p q : A → Bool) (xs : List A) → every p xs ≡ true → every q xs ≡ true → every (λ x. p x && q x) xs ≡ true
+every-and p q [] e f = refl
+every-and p q (x ∷ xs) e f =
+    rw (and-left (p x) (every p xs) e, and-left (q x) (every q xs) f)
+    (every-and p q xs (and-right (p x) (every p xs) e) (and-right (q x) (every q xs) f))
+
+module _ (s : List ℕ) (l : savedLaidOut s ≡ true) where
+  parts : (closed s ≡ true) × (isSite (headLine s) ≡ true) × (every isOperation (operationLines s) ≡ true)
+  unfolding savedLaidOut
+  parts = three (closed s) (isSite (headLine s)) (every isOperation (operationLines s)) l
+
+  -- there is a first line
+  head-first : lines s ≡ headLine s ∷ drop 1 (lines s)
+  unfolding headLine isSite hasLayout isLetter
+  head-first = go (lines s) (parts .1)
+    where
+      go : (ls : List (List ℕ)) → isSite (getD ls 0 []) ≡ true → ls ≡ getD ls 0 [] ∷ drop 1 ls
+      go [] e = cc
+      go (x ∷ ls) e = refl
+
+  all-lines : lines s ≡ headLine s ∷ characterLines s ++ operationLines s
+  unfolding characterLines operationLines
+  all-lines = head-first ∙ ap (λ (ls : List (List ℕ)). headLine s ∷ ls) (apart isCharacter (drop 1 (lines s)))
+
+  pub says-saved : every visibleInRange (characterLines s) ≡ true → savedBytes (savedState s) ≡ s
+  unfolding savedBytes savedState characterLines
+  says-saved v =
+      let laid : every isCharacter (characterLines s) ≡ true = characters-laid in
+      let cs : joined characterLine (map characterSaid (characterLines s)) ≡ joined whole (characterLines s) =
+      joined-again characterLine characterSaid (λ x. isCharacter x && visibleInRange x)
+      (λ x e. character-again x (and-left (isCharacter x) (visibleInRange x) e) (and-right (isCharacter x) (visibleInRange x) e)) (characterLines s)
+      (every-and isCharacter visibleInRange (characterLines s) laid v)
+      in
+      let os : joined operationLine (map operationSaid (operationLines s)) ≡ joined whole (operationLines s) =
+      joined-again operationLine operationSaid isOperation operation-again (operationLines s) (parts .2)
+      in
+      rw (site-again (headLine s) (parts .1), cs, os)
+      (append-assoc (whole (headLine s)) (joined whole (characterLines s)) (joined whole (operationLines s))
+      ∙ ap (λ (b : List ℕ). whole (headLine s) ++ b) (sym (joined-append whole (characterLines s) (operationLines s)))
+      ∙ sym (rejoined s (parts .0) ∙ ap (joined whole) all-lines))
+    where
+      characters-laid : every isCharacter (characterLines s) ≡ true
+      characters-laid = every-leading isCharacter (drop 1 (lines s))
+
+-- what was read says the state and is in form
+module _ (s : List ℕ) (e : loaded s .answer ≡ Done) where
+  was-read : (savedLaidOut s ≡ true) × (savedInRange s ≡ true) × (wellFormed (savedState s) ≡ true)
+  was-read = load-numbers s .3 .0 e
+
+  read-means : meaning (loaded s .replica) ≡ savedState s
+  read-means =
+      ap (λ w. meaning (w .replica)) (load-done s (was-read .0) (was-read .1) (was-read .2)) ∙ meaning-stored (savedState s)
+
+pub loaded-writes-back : LoadedWritesBack
+unfolding savedInRange
+loaded-writes-back s e =
+    let w = was-read s e in
+    ap savedBytes (read-means s e)
+    ∙ says-saved s (w .0) (and-right (allInRange (savedState s)) (every visibleInRange (characterLines s)) (w .1))
+
+pub loaded-formed : LoadedFormed
+loaded-formed s e = ap wellFormed (read-means s e) ∙ was-read s e .2

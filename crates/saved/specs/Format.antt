@@ -1,0 +1,138 @@
+-- Saved replicas as lines. (Document 01: "first `S` laptop clock; then for each row from the top `C` laptop clock codepoint
+-- shown (1 or 0) prevlaptop prevclock nextlaptop nextclock; then the waiting operations, earliest first, as `I` and `D`
+-- lines".)
+use Prim.Native.Nat.{ℕ}
+use mathlib.Core.List.{List, [], _∷_, _++_, map}
+use mathlib.Core.Bool.{Bool, _&&_, cond}
+use lib.Dec.{leb, eqb}
+use lib.ListN.{getD, drop}
+use Rattle.woot.specs.declared.Site.{Site}
+use Rattle.woot.specs.declared.Operation.{Operation}
+use Rattle.woot.specs.declared.Character.{Character}
+use Rattle.woot.specs.Limits.{lastSite, lastClock, lastCodePoint}
+use Rattle.woot.specs.Lists.{every}
+use Rattle.woot.specs.State.{State}
+use Rattle.woot.specs.Form.{allInRange}
+use Rattle.codec.specs.Lines.{fields, hasLayout, numbers, lineOf}
+use Rattle.codec.specs.Operations.{identifierAt, said, operationLine}
+use Rattle.codec.specs.Calls.{lineLaidOut}
+use Rattle.saved.specs.Lines.{lines, closed, leading, trailing, joined}
+
+-- ---- the site's line
+
+-- `S`
+abbrev pub siteLetter : ℕ
+siteLetter = 83
+
+-- "laptop clock"
+unfoldable pub siteNumbers : Site → List ℕ
+siteNumbers s = s .number ∷ s .clock ∷ []
+
+-- the limits of those numbers
+abbrev pub siteLimits : List ℕ
+siteLimits = lastSite ∷ lastClock ∷ []
+
+-- what those numbers say
+unfoldable pub siteOf : List ℕ → Site
+siteOf ns = record { number = getD ns 0 0; clock = getD ns 1 0 }
+
+unfoldable pub isSite : List ℕ → Bool
+isSite line = hasLayout siteLetter 2 (fields line)
+
+unfoldable pub siteSaid : List ℕ → Site
+siteSaid line = siteOf (numbers (fields line))
+
+unfoldable pub siteLine : Site → List ℕ
+siteLine s = lineOf siteLetter (siteNumbers s)
+
+-- ---- a character's line
+
+-- `C`
+abbrev pub characterLetter : ℕ
+characterLetter = 67
+
+-- "shown (1 or 0)"
+abbrev pub visibleNumber : Bool → ℕ
+visibleNumber v = cond v 1 0
+
+-- its range ends here
+abbrev pub lastVisible : ℕ
+lastVisible = 1
+
+-- "laptop clock codepoint shown prevlaptop prevclock nextlaptop nextclock"
+unfoldable pub characterNumbers : Character → List ℕ
+characterNumbers c =
+    c .id .site ∷ c .id .clock ∷ c .«code_point» ∷ visibleNumber (c .visible) ∷ c .previous .site ∷ c .previous .clock
+    ∷ c .next .site
+    ∷ c .next .clock
+    ∷ []
+
+-- the limits of those numbers
+abbrev pub characterLimits : List ℕ
+characterLimits =
+    lastSite ∷ lastClock ∷ lastCodePoint ∷ lastVisible ∷ lastSite ∷ lastClock ∷ lastSite ∷ lastClock ∷ []
+
+-- what those numbers say
+unfoldable pub characterOf : List ℕ → Character
+characterOf ns =
+    record {
+      id = identifierAt 0 ns;
+      «code_point» = getD ns 2 0;
+      visible = eqb (getD ns 3 0) 1;
+      previous = identifierAt 4 ns;
+      next = identifierAt 6 ns;
+    }
+
+unfoldable pub isCharacter : List ℕ → Bool
+isCharacter line = hasLayout characterLetter 8 (fields line)
+
+unfoldable pub characterSaid : List ℕ → Character
+characterSaid line = characterOf (numbers (fields line))
+
+-- shown is in its range, which the character that is said does not tell
+unfoldable pub visibleInRange : List ℕ → Bool
+visibleInRange line = leb (getD (numbers (fields line)) 3 0) lastVisible
+
+unfoldable pub characterLine : Character → List ℕ
+characterLine c = lineOf characterLetter (characterNumbers c)
+
+-- ---- a pending operation's line
+
+unfoldable pub isOperation : List ℕ → Bool
+isOperation line = lineLaidOut line
+
+unfoldable pub operationSaid : List ℕ → Operation
+operationSaid line = said (fields line)
+
+-- ---- the whole
+
+-- the first line, the lines of characters after it, and the lines after those
+unfoldable pub headLine : List ℕ → List ℕ
+headLine s = getD (lines s) 0 []
+
+unfoldable pub characterLines : List ℕ → List (List ℕ)
+characterLines s = leading isCharacter (drop 1 (lines s))
+
+unfoldable pub operationLines : List ℕ → List (List ℕ)
+operationLines s = trailing isCharacter (drop 1 (lines s))
+
+-- the layout of each line, and their order
+unfoldable pub savedLaidOut : List ℕ → Bool
+savedLaidOut s = closed s && isSite (headLine s) && every isOperation (operationLines s)
+
+-- what bytes with the layout say, however large the numbers
+unfoldable pub savedState : List ℕ → State
+savedState s =
+    record {
+      site = siteSaid (headLine s);
+      characters = map characterSaid (characterLines s);
+      pending = map operationSaid (operationLines s);
+    }
+
+-- refusal 2 lets every number, mark and neighbour pass
+unfoldable pub savedInRange : List ℕ → Bool
+savedInRange s = allInRange (savedState s) && every visibleInRange (characterLines s)
+
+-- the bytes of a state
+unfoldable pub savedBytes : State → List ℕ
+savedBytes s = siteLine (s .site) ++ joined characterLine (s .characters) ++ joined operationLine (s .pending)

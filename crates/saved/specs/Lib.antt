@@ -1,0 +1,4 @@
+pub mod Lines
+pub mod Format
+pub mod Calls
+pub mod Theorems

@@ -1,0 +1,42 @@
+-- The lines of bytes, and lists taken apart by a test or put one after another. (Document 01, "Lines": ended by one line
+-- feed.)
+use Prim.Native.Nat.{ℕ}
+use mathlib.Core.List.{List, [], _∷_, _++_}
+use mathlib.Core.Bool.{Bool, cond}
+use lib.Dec.{eqb}
+use Rattle.codec.specs.Lines.{lineFeed}
+
+-- a byte more at the front of the first line; where no line feed follows it is part of none
+abbrev pub onLine : ℕ → List (List ℕ) → List (List ℕ)
+onLine b [] = []
+onLine b (l ∷ ls) = (b ∷ l) ∷ ls
+
+-- the lines that a line feed ends, each without it
+abbrev pub lines : List ℕ → List (List ℕ)
+lines [] = []
+lines (b ∷ bs) = cond (eqb b lineFeed) ([] ∷ lines bs) (onLine b (lines bs))
+
+-- the last byte, or z where there is none
+abbrev pub last : ℕ → List ℕ → ℕ
+last z [] = z
+last z (b ∷ bs) = last b bs
+
+-- no byte stands after the last line feed
+unfoldable pub closed : List ℕ → Bool
+closed s = eqb (last lineFeed s) lineFeed
+
+module _ {A : Type 0} where
+  -- the elements before the first that fails the test
+  abbrev pub leading : (A → Bool) → List A → List A
+  leading p [] = []
+  leading p (x ∷ xs) = cond (p x) (x ∷ leading p xs) []
+
+  -- the elements from the first that fails the test on
+  abbrev pub trailing : (A → Bool) → List A → List A
+  trailing p [] = []
+  trailing p (x ∷ xs) = cond (p x) (trailing p xs) (x ∷ xs)
+
+  -- the bytes of the elements one after another
+  abbrev pub joined : (A → List ℕ) → List A → List ℕ
+  joined f [] = []
+  joined f (x ∷ xs) = f x ++ joined f xs
