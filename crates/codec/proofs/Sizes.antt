@@ -40,7 +40,7 @@ columns-le (l ∷ ls) (n ∷ ns) h e =
       length-append (digits l) (columns ls),
     )
 
-line-le : (letter : ℕ) (ls ns : List ℕ) → length ns ≤ length ls → within ls ns ≡ true → length (lineOf letter ns) ≤ 2 + length (columns ls)
+pub line-le : (letter : ℕ) (ls ns : List ℕ) → length ns ≤ length ls → within ls ns ≡ true → length (lineOf letter ns) ≤ 2 + length (columns ls)
 line-le letter ls ns h e = omega (arith, line-length letter ns, columns-le ls ns h e)
 
 -- the limits take 35 and 12 bytes with their tabs

@@ -1,5 +1,6 @@
 pub mod Lines
 pub mod Spelling
+pub mod Bounds
 pub mod Trips
 pub mod Refusals
 pub mod Sizes
