@@ -2,6 +2,9 @@
 use mathlib.Core.Path.{_≡_, refl, sym, ap}
 use mathlib.Core.List.{List}
 use mathlib.Core.Bool.{Bool, true, false}
+use mathlib.Core.Path.{_≡_, refl, sym, ap, _∙_}
+use mathlib.Core.List.{List, []}
+use mathlib.Core.Bool.{Bool, true, false, cond}
 use Prim.Native.Nat.{ℕ, suc, _+_, _-_, _<_, _≤_}
 use native.Mathlib.Omega.{arith}
 use native.Mathlib.Numerals.{add-one}
@@ -36,6 +39,15 @@ module _ (s : List ℕ) (end : ℕ) (e : end ≡ 0 + length (before lineFeed s))
   pub first-line : end < length s → readLine (take end s) ≡ readOperation s
   unfolding readOperation saidBy readLine laidOut ended firstLine
   first-line h = rw (at-end, take-before lineFeed s, is-there lineFeed s (omega (arith, at-end)))
+
+  -- the part that is the first line
+  pub front-none : length s ≤ end → [] ≡ cond (ended s) (firstLine s) []
+  unfolding ended
+  front-none h = rw (is-absent lineFeed s (omega (arith, at-end)))
+
+  pub front-some : end < length s → take end s ≡ cond (ended s) (firstLine s) []
+  unfolding ended firstLine
+  front-some h = rw (at-end, take-before lineFeed s, is-there lineFeed s (omega (arith, at-end)))
 
   pub rest-none : length s ≤ end → take (length s - end) (drop end s) ≡ rest s
   unfolding rest

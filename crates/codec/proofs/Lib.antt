@@ -5,6 +5,7 @@ pub mod Writing
 pub mod Bounds
 pub mod Judging
 pub mod Letters
+pub mod Tagged
 pub mod Answers
 pub mod Spelling
 pub mod Trips

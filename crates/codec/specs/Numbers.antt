@@ -8,11 +8,15 @@ use Rattle.woot.specs.State.{pad}
 use Rattle.codec.specs.declared.fields.Verdict.{Verdict}
 use Rattle.codec.specs.declared.fields.Verdict.the-variants.{Malformed, Above, Within}
 use Rattle.codec.specs.declared.fields.Numbers.{Numbers}
-use Rattle.codec.specs.Lines.{numerals, numbers}
+use Rattle.codec.specs.Lines.{hasLayout, numerals, numbers}
 
 -- how many numbers a line can have
 abbrev pub slots : ℕ
 slots = 8
+
+-- no line of numbers of 64 bits is longer: a letter, 8 numbers of at most 20 digits, each after a tab, and a line feed
+abbrev pub longest : ℕ
+longest = 170
 
 -- each number is at most its limit
 abbrev pub within : List ℕ → List ℕ → Bool
@@ -32,5 +36,12 @@ holding v ns = record { verdict = v; values = pad slots 0 ns }
 unfoldable pub numbersOf : List ℕ → List (List ℕ) → Numbers
 numbersOf limits fs =
     cond (goesOn (length limits) fs)
+    (cond (within limits (numbers fs)) (holding Within (numbers fs)) (holding Above []))
+    (holding Malformed [])
+
+-- the same for a whole line with its letter
+unfoldable pub lineNumbers : ℕ → List ℕ → List (List ℕ) → Numbers
+lineNumbers letter limits fs =
+    cond (hasLayout letter (length limits) fs)
     (cond (within limits (numbers fs)) (holding Within (numbers fs)) (holding Above []))
     (holding Malformed [])

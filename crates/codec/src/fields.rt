@@ -5,17 +5,17 @@ ghost use mathlib.Core.Bool.{_||_};
 ghost use mathlib.Core.List.{[]};
 ghost use Prim.Native.Nat.{_+_, _≤_};
 ghost use lib.Dec.{ltb};
-ghost use lib.ListN.{length, drop};
+ghost use lib.ListN.{length, take, drop};
 ghost use Rattle.output.specs.Output.{placed, past};
 ghost use Rattle.codec.specs.Lines.{before, fields, columns, lineOf};
-ghost use Rattle.codec.specs.Numbers.{slots, holding, numbersOf};
+ghost use Rattle.codec.specs.Numbers.{slots, holding, numbersOf, lineNumbers, longest};
 
 pub(crate) const TAB: u8 = 9;
 
 pub(crate) const LINE_FEED: u8 = 10;
 
 // What the numbers of a line come to.
-pub(crate) enum Verdict {
+pub enum Verdict {
     // They are not the numerals asked for.
     Malformed,
     // One is above its limit.
@@ -25,9 +25,9 @@ pub(crate) enum Verdict {
 }
 
 // The numbers of a line that is within its limits, and zeros after them.
-pub(crate) struct Numbers {
-    pub(crate) verdict: Verdict,
-    pub(crate) values: [u64; 8],
+pub struct Numbers {
+    pub verdict: Verdict,
+    pub values: [u64; 8],
 }
 
 // The index of the first such byte from the offset on, or the end of the bytes.
@@ -104,10 +104,28 @@ pub(crate) fn read_numbers(line: &[u8], from: usize, limits: &[u32]) -> Numbers
     }
 }
 
+// Reads a line that is the letter and one number for each limit. A line has at most 8 numbers: limits past the eighth are
+// left out.
+pub fn read_as(line: &[u8], letter: u8, limits: &[u32]) -> Numbers
+    ensures { λ r. ⌜ r ≡ lineNumbers letter (take slots (now (limits .entry))) (fields (now (line .entry))) ⌝ }
+{
+    let end = find(line, 0, TAB);
+    if end != 1 {
+        return without(Verdict::Malformed);
+    }
+    if line[0] != letter {
+        return without(Verdict::Malformed);
+    }
+    if limits.len() <= 8 {
+        return read_numbers(line, 1, limits);
+    }
+    read_numbers(line, 1, &limits[..8])
+}
+
 // The length of a line with these numbers, its letter and its line feed with them.
 pub(crate) fn line_length(numbers: &[u64]) -> usize
     requires { ⌜ length (now numbers) ≤ slots ⌝ }
-    ensures { λ r. ⌜ r ≡ 2 + length (columns (now (numbers .entry))) ⌝ }
+    ensures { λ r. ⌜ (r ≡ 2 + length (columns (now (numbers .entry)))) × (r ≤ longest) ⌝ }
 {
     let mut size = 2;
     let mut i = 0;
@@ -134,4 +152,25 @@ pub(crate) fn put_line(letter: u8, numbers: &[u64], out: &mut [u8], at: usize) -
         i += 1;
     }
     output::put(out, end, LINE_FEED)
+}
+
+// The length of a line with these numbers, of which those past the eighth are left out.
+pub fn length_as(numbers: &[u64]) -> usize
+    ensures { λ r. ⌜ (r ≡ 2 + length (columns (take slots (now (numbers .entry))))) × (r ≤ longest) ⌝ }
+{
+    if numbers.len() <= 8 {
+        return line_length(numbers);
+    }
+    line_length(&numbers[..8])
+}
+
+// Puts a line with these numbers, of which those past the eighth are left out, into the slice at the offset, all of it or
+// nothing, and answers the offset just past it.
+pub fn put_as(letter: u8, numbers: &[u64], out: &mut [u8], at: usize) -> usize
+    ensures { λ r. ⌜ (r ≡ past (now (out .entry)) at (lineOf letter (take slots (now (numbers .entry))))) × (now (out .exit) ≡ placed (now (out .entry)) at (lineOf letter (take slots (now (numbers .entry))))) ⌝ }
+{
+    if numbers.len() <= 8 {
+        return put_line(letter, numbers, out, at);
+    }
+    put_line(letter, &numbers[..8], out, at)
 }

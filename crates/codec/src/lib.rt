@@ -1,5 +1,5 @@
 // Operations as lines of text: read from bytes, and written into a lent slice.
-mod fields;
+pub mod fields;
 
 use fields::LINE_FEED;
 use fields::Verdict;
@@ -10,12 +10,13 @@ use woot::Operation;
 use woot::Refusal;
 use woot::Written;
 ghost use mathlib.Core.Path.{_≡_};
-ghost use mathlib.Core.Bool.{true};
-ghost use Prim.Native.Nat.{_<_};
+ghost use mathlib.Core.Bool.{true, cond};
+ghost use mathlib.Core.List.{[]};
+ghost use Prim.Native.Nat.{_<_, _≤_};
 ghost use lib.ListN.{length, drop};
 ghost use Rattle.output.specs.Output.{placed, past};
-ghost use Rattle.codec.specs.Lines.{rest, numbers, fields};
-ghost use Rattle.codec.specs.Numbers.{within, goesOn};
+ghost use Rattle.codec.specs.Lines.{ended, firstLine, rest, numbers, fields};
+ghost use Rattle.codec.specs.Numbers.{longest, within, goesOn};
 ghost use Rattle.codec.specs.Operations.{insertNumbers, insertLimits, insertOf, deleteNumbers, deleteLimits, deleteOf, operationLine};
 ghost use Rattle.codec.specs.Calls.{readAs, readLine, readOperation, written, outAfter};
 
@@ -103,7 +104,7 @@ fn read_delete(line: &[u8]) -> Read
 }
 
 // Reads a line that is without its line feed.
-pub(crate) fn read_line(line: &[u8]) -> Read
+pub fn read_line(line: &[u8]) -> Read
     ensures { λ r. ⌜ r ≡ readLine (now (line .entry)) ⌝ }
 {
     if line.len() == 0 {
@@ -128,6 +129,17 @@ pub fn read_operation(s: &[u8]) -> Read
         return Read::Refused(Refusal::Layout);
     }
     read_line(&s[..end])
+}
+
+// The first line without its line feed; with no line feed, none of the bytes.
+pub fn first_line(s: &[u8]) -> &[u8]
+    ensures { λ r. ⌜ now r ≡ cond (ended (now (s .entry))) (firstLine (now (s .entry))) [] ⌝ }
+{
+    let end = fields::find(s, 0, LINE_FEED);
+    if s.len() <= end {
+        return &s[..0];
+    }
+    &s[..end]
 }
 
 // The bytes after the first line feed, of a refused line too; with no line feed, the empty end of the bytes.
@@ -163,9 +175,9 @@ fn delete_numbers(d: Delete) -> [u64; 3]
     [d.sender as u64, d.target.site as u64, d.target.clock as u64]
 }
 
-// The length of an operation's line, with its line feed.
+// The length of an operation's line, with its line feed. It is small, in range or not.
 pub fn line_length(o: Operation) -> usize
-    ensures { λ r. ⌜ r ≡ length (operationLine o) ⌝ }
+    ensures { λ r. ⌜ (r ≡ length (operationLine o)) × (r ≤ longest) ⌝ }
 {
     match o {
         Operation::Insert(i) => {
@@ -180,7 +192,7 @@ pub fn line_length(o: Operation) -> usize
 }
 
 // Puts the line of an operation into the slice at the offset, all of it or nothing, and answers the offset just past it.
-pub(crate) fn put_operation(o: Operation, out: &mut [u8], at: usize) -> usize
+pub fn put_operation(o: Operation, out: &mut [u8], at: usize) -> usize
     ensures { λ r. ⌜ (r ≡ past (now (out .entry)) at (operationLine o)) × (now (out .exit) ≡ placed (now (out .entry)) at (operationLine o)) ⌝ }
 {
     match o {

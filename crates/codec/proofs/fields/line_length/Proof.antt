@@ -60,7 +60,7 @@ returns : tie.Need-returns Inv-loop μ-loop
 returns c =
     let l = c .before .loop in
     let none : drop (l .i) (c .before .before .before .args .numbers .now) ≡ [] = drop-of-length-le _ {i = l .i} (omega arith) in
-    omega (arith, ap (λ (ns : List ℕ). length (columns ns)) none)
+    (omega (arith, ap (λ (ns : List ℕ). length (columns ns)) none), omega arith)
 
 pub line-length-spec : {M : Type 1} → statement M
 line-length-spec =
