@@ -18,7 +18,7 @@ use Rattle.decimal.proofs.Laws.{field-number, field-malformed}
 use Rattle.codec.specs.declared.fields.Verdict.the-variants.{Malformed, Above, Within}
 use Rattle.codec.specs.declared.fields.Numbers.{Numbers}
 use Rattle.codec.specs.Lines.{tab, before, fields, numerals, numbers}
-use Rattle.codec.specs.Numbers.{slots, within, goesOn, holding, numbersOf}
+use Rattle.codec.specs.Numbers.{slots, within, goesOn, holding, verdictOn, numbersOf}
 use Rattle.codec.proofs.Lines.{onward, fields-first, fields-next}
 use Rattle.codec.proofs.Numbers.{goes-further, goes-wrong, ends-early, goes-on-field, left-over, capped-above, push}
 
@@ -64,7 +64,7 @@ begun line limits from h = record {
 module _ {line limits : List ℕ} {from : ℕ} {values : List ℕ} {above : Bool} {at i : ℕ} (r : Reading line limits from values above at i) where
   -- the answer where what is left lacks the layout
   pub malformed : goesOn (length (drop i limits)) (fields (drop at line)) ≡ false → holding Malformed [] ≡ numbersOf limits (fields (drop from line))
-  unfolding numbersOf
+  unfolding numbersOf verdictOn
   malformed e = rw (r .layout, e)
 
   -- one limit more at least is left
@@ -174,10 +174,10 @@ module _ {line limits : List ℕ} {from : ℕ} {values : List ℕ} {above : Bool
 
       -- one was above its limit
       pub above-limit : above ≡ true → holding Above [] ≡ numbersOf limits (fields (drop from line))
-      unfolding numbersOf
+      unfolding numbersOf verdictOn
       above-limit e = rw (laid-out, verdict, e)
 
       -- none was
       pub in-limits : above ≡ false → _≡_ {A = Numbers} (record { verdict = Within; values = values }) (numbersOf limits (fields (drop from line)))
-      unfolding numbersOf holding
+      unfolding numbersOf verdictOn holding
       in-limits e = rw (laid-out, verdict, e, all-read) (λ j. record { verdict = Within; values = r .stored e j })

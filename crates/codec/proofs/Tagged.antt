@@ -10,7 +10,7 @@ use lib.Seq.{getD-take}
 use borrow.Author.Tests.{eq-eqb, ne-eqb}
 use Rattle.codec.specs.declared.fields.Verdict.the-variants.{Malformed, Above, Within}
 use Rattle.codec.specs.Lines.{tab, before, fields, isLetter, numerals, hasLayout, numbers}
-use Rattle.codec.specs.Numbers.{within, goesOn, holding, numbersOf, lineNumbers}
+use Rattle.codec.specs.Numbers.{within, goesOn, holding, verdictOn, numbersOf, lineNumbers}
 use Rattle.codec.proofs.Lines.{onward, take-before, before-le, fields-first, fields-next}
 
 module _ (letter : ℕ) (limits line : List ℕ) (end : ℕ) (e : end ≡ 0 + length (before tab line)) where
@@ -19,7 +19,7 @@ module _ (letter : ℕ) (limits line : List ℕ) (end : ℕ) (e : end ≡ 0 + le
 
   -- the layout lacks
   lacks : hasLayout letter (length limits) (fields line) ≡ false → holding Malformed [] ≡ lineNumbers letter limits (fields line)
-  unfolding lineNumbers
+  unfolding lineNumbers verdictOn
   lacks h = rw h
 
   -- the first field is no letter
@@ -41,7 +41,7 @@ module _ (letter : ℕ) (limits line : List ℕ) (end : ℕ) (e : end ≡ 0 + le
 
     -- it is the letter
     pub the-letter : getD line 0 0 ≡ letter → numbersOf limits (fields (drop 1 line)) ≡ lineNumbers letter limits (fields line)
-    unfolding numbersOf lineNumbers hasLayout isLetter goesOn numbers
+    unfolding numbersOf lineNumbers verdictOn hasLayout isLetter goesOn numbers
     the-letter h =
         let after : drop 1 line ≡ onward line = ap (λ (k : ℕ). drop k line) (sym one ∙ sym at-end) in
         rw (after, fields-next line, fields-first line, at-end, one, same-first, eq-eqb (getD line 0 0) letter h)

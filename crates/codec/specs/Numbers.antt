@@ -32,16 +32,15 @@ goesOn count (f ∷ fs) = eqb (length f) 0 && numerals count fs
 unfoldable pub holding : Verdict → List ℕ → Numbers
 holding v ns = record { verdict = v; values = pad slots 0 ns }
 
--- the numbers where each is at most its limit; none where the layout lacks or one is above
-unfoldable pub numbersOf : List ℕ → List (List ℕ) → Numbers
-numbersOf limits fs =
-    cond (goesOn (length limits) fs)
-    (cond (within limits (numbers fs)) (holding Within (numbers fs)) (holding Above []))
-    (holding Malformed [])
+-- the numbers where the layout holds and each is at most its limit; else none
+unfoldable pub verdictOn : Bool → List ℕ → List ℕ → Numbers
+verdictOn laid limits ns =
+    cond laid (cond (within limits ns) (holding Within ns) (holding Above [])) (holding Malformed [])
 
--- the same for a whole line with its letter
+-- the numbers of fields that go on after the first
+unfoldable pub numbersOf : List ℕ → List (List ℕ) → Numbers
+numbersOf limits fs = verdictOn (goesOn (length limits) fs) limits (numbers fs)
+
+-- the numbers of a line with the letter
 unfoldable pub lineNumbers : ℕ → List ℕ → List (List ℕ) → Numbers
-lineNumbers letter limits fs =
-    cond (hasLayout letter (length limits) fs)
-    (cond (within limits (numbers fs)) (holding Within (numbers fs)) (holding Above []))
-    (holding Malformed [])
+lineNumbers letter limits fs = verdictOn (hasLayout letter (length limits) fs) limits (numbers fs)
