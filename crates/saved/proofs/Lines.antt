@@ -186,3 +186,8 @@ module _ {A : Type 0} (p : A → Bool) where
 pub joined-append : {A : Type 0} (f : A → List ℕ) (xs ys : List A) → joined f (xs ++ ys) ≡ joined f xs ++ joined f ys
 joined-append f [] ys = refl
 joined-append f (x ∷ xs) ys = ap (λ (l : List ℕ). f x ++ l) (joined-append f xs ys) ∙ sym (append-assoc (f x) (joined f xs) (joined f ys))
+
+-- the first of lines that has what nothing has
+pub head-first : (p : List ℕ → Bool) → p [] ≡ false → (ls : List (List ℕ)) → p (getD ls 0 []) ≡ true → ls ≡ getD ls 0 [] ∷ drop 1 ls
+head-first p none [] e = clash e none
+head-first p none (l ∷ ls) e = refl

@@ -19,7 +19,7 @@ use Rattle.saved.specs.Lines.{lines, closed, leading, trailing, joined}
 use Rattle.saved.specs.Format.{siteLine, isSite, siteSaid, characterLine, isCharacter, characterSaid, visibleInRange, isOperation, operationSaid, headLine, characterLines, operationLines, savedLaidOut, savedState, savedInRange, savedBytes}
 use Rattle.saved.specs.Calls.{loaded}
 use Rattle.saved.specs.Theorems.{SavedReadsBack, LoadedWritesBack, LoadedFormed}
-use Rattle.saved.proofs.Lines.{whole, rejoined, apart, joined-append}
+use Rattle.saved.proofs.Lines.{whole, rejoined, apart, joined-append, head-first}
 use Rattle.saved.proofs.Spelling.{bareSite, bareCharacter, bareOperation, site-lines, site-closed, character-lines, character-closed, operation-lines, operation-closed, site-laid, site-back, character-laid, character-back, character-fits, operation-laid, operation-back, operation-other, site-again, character-again, operation-again}
 use Rattle.saved.proofs.Refusals.{load-done, load-numbers}
 
@@ -184,23 +184,18 @@ every-and p q (x ∷ xs) e f =
     rw (and-left (p x) (every p xs) e, and-left (q x) (every q xs) f)
     (every-and p q xs (and-right (p x) (every p xs) e) (and-right (q x) (every q xs) f))
 
+no-site : isSite [] ≡ false
+unfolding isSite hasLayout isLetter
+no-site = refl
+
 module _ (s : List ℕ) (l : savedLaidOut s ≡ true) where
   parts : (closed s ≡ true) × (isSite (headLine s) ≡ true) × (every isOperation (operationLines s) ≡ true)
   unfolding savedLaidOut
   parts = three (closed s) (isSite (headLine s)) (every isOperation (operationLines s)) l
 
-  -- there is a first line
-  head-first : lines s ≡ headLine s ∷ drop 1 (lines s)
-  unfolding headLine isSite hasLayout isLetter
-  head-first = go (lines s) (parts .1)
-    where
-      go : (ls : List (List ℕ)) → isSite (getD ls 0 []) ≡ true → ls ≡ getD ls 0 [] ∷ drop 1 ls
-      go [] e = cc
-      go (x ∷ ls) e = refl
-
   all-lines : lines s ≡ headLine s ∷ characterLines s ++ operationLines s
-  unfolding characterLines operationLines
-  all-lines = head-first ∙ ap (λ (ls : List (List ℕ)). headLine s ∷ ls) (apart isCharacter (drop 1 (lines s)))
+  unfolding headLine characterLines operationLines
+  all-lines = head-first isSite no-site (lines s) (parts .1) ∙ ap (λ (ls : List (List ℕ)). headLine s ∷ ls) (apart isCharacter (drop 1 (lines s)))
 
   pub says-saved : every visibleInRange (characterLines s) ≡ true → savedBytes (savedState s) ≡ s
   unfolding savedBytes savedState characterLines

@@ -1,4 +1,6 @@
 // Saved replicas: read from bytes, and written into a lent slice.
+mod read;
+
 use woot::Refusal;
 use woot::Replica;
 

@@ -1,0 +1,246 @@
+-- The invariants of the loops that read lines: the lines that are done and those that are left are the whole, and the lines
+-- that are done are in the array as far as it goes.
+use mathlib.Core.Path.{_≡_, refl, sym, ap, _∙_}
+use mathlib.Core.List.{List, [], _∷_, _++_, map, map-append, append-nil}
+use mathlib.Core.Bool.{Bool, true, false, _&&_, cond}
+use mathlib.Core.Logic.{_⊎_, inl, inr, ⊎-elim}
+use Prim.Native.Nat.{ℕ, _+_, _≤_, _<_}
+use native.Mathlib.Numerals.{add-one}
+use native.Mathlib.Omega.{arith}
+use lib.ListN.{length, take, drop, getD, set, length-append, length-map}
+use lib.Seq.{take-all, take-nil, take-append-le, append-snoc}
+use Rattle.woot.specs.declared.Character.{Character}
+use Rattle.woot.specs.declared.Pending.{Pending}
+use Rattle.woot.specs.Lists.{every}
+use Rattle.woot.specs.Ranges.{characterInRange, inRange}
+use Rattle.woot.specs.State.{characterSlots, pendingSlots, blankCharacter, blankPending, pad, waiting}
+use Rattle.convergence.proofs.Tests.{either, clash, fails}
+use Rattle.convergence.proofs.Members.{every-append}
+use Rattle.order.proofs.Packing.{pad-push}
+use Rattle.codec.specs.Lines.{isLetter, hasLayout, ended, firstLine, rest}
+use Rattle.codec.specs.Operations.{isInsert, isDelete}
+use Rattle.codec.specs.Calls.{lineLaidOut}
+use Rattle.saved.specs.declared.read.Characters.{Characters}
+use Rattle.saved.specs.declared.read.Operations.{Operations}
+use Rattle.saved.specs.Lines.{lines, closed, leading}
+use Rattle.saved.specs.Format.{isCharacter, visibleInRange, characterSaid, isOperation, operationSaid}
+use Rattle.saved.specs.Reading.{noCharacter, characterJudged, characterRead, noOperation, operationJudged, operationRead, lineCharacter, characterPasses, charactersRead, linePending, operationPasses, noOperations, operationsRead}
+use Rattle.saved.proofs.Lines.{lines-ended, lines-unended, lines-rest, closed-rest, closed-unended, rest-shorter, head-first}
+
+-- ---- the array
+
+and-none : (b : Bool) → b && false ≡ false
+and-none true = refl
+and-none false = refl
+
+and-true : (b : Bool) → b && true ≡ b
+and-true true = refl
+and-true false = refl
+
+every-more : {A : Type 0} (p : A → Bool) (xs : List A) (x : A) → every p (xs ++ x ∷ []) ≡ every p xs && p x
+every-more p xs x = every-append p xs (x ∷ []) ∙ ap (λ (b : Bool). every p xs && b) (and-true (p x))
+
+module _ {A : Type 0} (m : ℕ) (z : A) (xs : List A) (x : A) where
+  -- an element more in the array, or one more for which there is no slot
+  store : length xs < m → set (pad m z (take m xs)) (length xs) x ≡ pad m z (take m (xs ++ x ∷ []))
+  store h =
+      rw (take-all m xs (omega arith), take-all m (xs ++ x ∷ []) (omega (arith, length-append xs (x ∷ [])))) (pad-push m z xs x h)
+
+  full : m ≤ length xs → pad m z (take m xs) ≡ pad m z (take m (xs ++ x ∷ []))
+  full h = rw (take-append-le m xs (x ∷ []) h)
+
+-- the lines that are done: their items as far as there are slots, how many there are, and whether each passes
+pub record Gathered {A : Type 0} (m : ℕ) (z : A) (item : List ℕ → A) (passes : List ℕ → Bool) (done : List (List ℕ)) (items : List A) (count : ℕ) (good : Bool) : Type 0 where
+  pub filled : items ≡ pad m z (take m (map item done))
+  pub counted : count ≡ length done
+  pub judged : good ≡ every passes done
+
+module _ {A : Type 0} {m : ℕ} {z : A} {item : List ℕ → A} {passes : List ℕ → Bool} where
+  pub gathered-none : Gathered m z item passes [] (pad m z []) 0 true
+  gathered-none = record { filled = rw (take-nil {A = A} m); counted = refl; judged = refl }
+
+  module _ {done : List (List ℕ)} {items : List A} {count : ℕ} {good : Bool} (g : Gathered m z item passes done items count good) (line : List ℕ) where
+    size : length (map item done) ≡ count
+    size = length-map done item ∙ sym (g .counted)
+
+    more-items : map item (done ++ line ∷ []) ≡ map item done ++ item line ∷ []
+    more-items = map-append item done (line ∷ [])
+
+    -- the next line's item is stored where there is a slot
+    pub more : {items′ : List A} {good′ : Bool} → ((count < m) × (items′ ≡ set items count (item line))) ⊎ ((m ≤ count) × (items′ ≡ items))
+        → good′ ≡ good && passes line → Gathered m z item passes (done ++ line ∷ []) items′ (count + 1) good′
+    more {items′} came q = record {
+      filled = now came;
+      counted = omega (arith, g .counted, length-append done (line ∷ []));
+      judged = q ∙ ap (λ (b : Bool). b && passes line) (g .judged) ∙ sym (every-more passes done line);
+    }
+      where
+        now : ((count < m) × (items′ ≡ set items count (item line))) ⊎ ((m ≤ count) × (items′ ≡ items)) → items′ ≡ pad m z (take m (map item (done ++ line ∷ [])))
+        now (inl w) = w .1 ∙ rw (g .filled, ← size, more-items) (store m z (map item done) (item line) (omega (arith, size)))
+        now (inr w) = w .1 ∙ rw (g .filled, more-items) (full m z (map item done) (item line) (omega (arith, size)))
+
+-- ---- the layout that a line is read with
+
+no-character : isCharacter [] ≡ false
+unfolding isCharacter hasLayout isLetter
+no-character = refl
+
+no-operation : isOperation [] ≡ false
+unfolding isOperation lineLaidOut isInsert isDelete hasLayout isLetter
+no-operation = refl
+
+pub character-laid : (line : List ℕ) → characterRead line .«laid_out» ≡ isCharacter line
+unfolding characterRead characterJudged noCharacter
+character-laid line = go (isCharacter line) (characterInRange (characterSaid line) && visibleInRange line) refl refl
+  where
+    go : (a b : Bool) → isCharacter line ≡ a → characterInRange (characterSaid line) && visibleInRange line ≡ b → characterRead line .«laid_out» ≡ isCharacter line
+    go false b p q = rw p
+    go true false p q = rw (p, q)
+    go true true p q = rw (p, q)
+
+pub operation-laid : (line : List ℕ) → operationRead line .«laid_out» ≡ isOperation line
+unfolding operationRead operationJudged noOperation
+operation-laid line = go (isOperation line) (inRange (operationSaid line)) refl refl
+  where
+    go : (a b : Bool) → isOperation line ≡ a → inRange (operationSaid line) ≡ b → operationRead line .«laid_out» ≡ isOperation line
+    go false b p q = rw p
+    go true false p q = rw (p, q)
+    go true true p q = rw (p, q)
+
+-- a line that has a layout stands there, and a line feed ends it
+module _ (p : List ℕ → Bool) (none : p [] ≡ false) (left : List ℕ) (h : p (getD (lines left) 0 []) ≡ true) where
+  there : lines left ≡ getD (lines left) 0 [] ∷ lines (rest left)
+  there = rw (lines-rest left) (head-first p none (lines left) h)
+
+  is-ended : ended left ≡ true
+  is-ended = ⊎-elim (λ e. e) (λ e. absurd (nothing e)) (either (ended left))
+    where
+      nothing : ended left ≡ false → ⊥
+      nothing e = let z : _≡_ {A = ℕ} 0 1 = cc (lines-unended left e, there) in omega arith
+
+  some-left : 0 < length left
+  some-left = go left there
+    where
+      go : (s : List ℕ) → lines s ≡ getD (lines left) 0 [] ∷ lines (rest left) → 0 < length s
+      go [] e = let z : _≡_ {A = ℕ} 0 1 = cc in absurd (omega arith)
+      go (b ∷ s) e = omega arith
+
+-- ---- the loop of `read_characters`
+
+pub record CharacterLoop (s : List ℕ) (items : List Character) (count : ℕ) (good : Bool) (left : List ℕ) : Type 0 where
+  pub done : List (List ℕ)
+  pub whole : leading isCharacter (lines s) ≡ done ++ leading isCharacter (lines left)
+  pub gathered : Gathered characterSlots blankCharacter lineCharacter characterPasses done items count good
+  pub small : count + length left ≤ length s
+
+pub characters-begun : (s : List ℕ) → CharacterLoop s (pad characterSlots blankCharacter []) 0 true s
+characters-begun s = record { done = []; whole = refl; gathered = gathered-none; small = omega arith }
+
+module _ {s : List ℕ} {items : List Character} {count : ℕ} {good : Bool} {left : List ℕ} (l : CharacterLoop s items count good left) where
+  line : List ℕ
+  line = getD (lines left) 0 []
+
+  -- the next line is no character's
+  pub characters-end : characterRead (getD (lines left) 0 []) .«laid_out» ≡ false
+      → _≡_ {A = Characters} (record { items = items; count = count; «in_range» = good }) (charactersRead (leading isCharacter (lines s)))
+  unfolding charactersRead
+  characters-end e =
+      rw (l .whole ∙ ap (λ (ls : List (List ℕ)). l .done ++ ls) (ends (lines left) (sym (character-laid (getD (lines left) 0 [])) ∙ e)) ∙ append-nil (l .done))
+      (λ j. record { items = l .gathered .filled j; count = l .gathered .counted j; «in_range» = l .gathered .judged j })
+    where
+      ends : (ls : List (List ℕ)) → isCharacter (getD ls 0 []) ≡ false → leading isCharacter ls ≡ []
+      ends [] p = refl
+      ends (x ∷ ls) p = rw p
+
+  module _ (e : characterRead (getD (lines left) 0 []) .«laid_out» ≡ true) where
+    is-character : isCharacter (getD (lines left) 0 []) ≡ true
+    is-character = sym (character-laid (getD (lines left) 0 [])) ∙ e
+
+    pub characters-left : 0 < length left
+    characters-left = some-left isCharacter no-character left is-character
+
+    pub characters-more : {items′ : List Character} {good′ : Bool} {left′ : List ℕ}
+        → ((count < characterSlots) × (items′ ≡ set items count (characterRead (getD (lines left) 0 []) .character))) ⊎ ((characterSlots ≤ count) × (items′ ≡ items))
+        → good′ ≡ good && characterRead (getD (lines left) 0 []) .«in_range» → left′ ≡ rest left → CharacterLoop s items′ (count + 1) good′ left′
+    unfolding lineCharacter characterPasses
+    characters-more came q t = record {
+      done = l .done ++ getD (lines left) 0 [] ∷ [];
+      whole =
+          l .whole
+          ∙ rw (there isCharacter no-character left is-character, is-character, t)
+          (sym (append-snoc (l .done) (getD (lines left) 0 []) (leading isCharacter (lines (rest left)))));
+      gathered = more (l .gathered) (getD (lines left) 0 []) came q;
+      small = omega (arith, l .small, rest-shorter left characters-left, ap length t);
+    }
+
+-- ---- the loop of `read_operations`
+
+pub record OperationLoop (s : List ℕ) (items : List Pending) (count : ℕ) (good : Bool) (left : List ℕ) : Type 0 where
+  pub done : List (List ℕ)
+  pub whole : lines s ≡ done ++ lines left
+  pub laid : every isOperation done ≡ true
+  pub ends : closed left ≡ closed s
+  pub gathered : Gathered pendingSlots blankPending linePending operationPasses done items count good
+  pub small : count + length left ≤ length s
+
+pub operations-begun : (s : List ℕ) → OperationLoop s (pad pendingSlots blankPending []) 0 true s
+operations-begun s = record { done = []; whole = refl; laid = refl; ends = refl; gathered = gathered-none; small = omega arith }
+
+module _ {s : List ℕ} {items : List Pending} {count : ℕ} {good : Bool} {left : List ℕ} (l : OperationLoop s items count good left) where
+  -- the next line lacks the layout, or no line feed ends it
+  pub operations-lack : 0 < length left → operationRead (getD (lines left) 0 []) .«laid_out» ≡ false → noOperations ≡ operationsRead s
+  unfolding operationsRead
+  operations-lack h e = rw lacks
+    where
+      other : isOperation (getD (lines left) 0 []) ≡ false
+      other = sym (operation-laid (getD (lines left) 0 [])) ∙ e
+
+      broken : (ls : List (List ℕ)) → isOperation (getD (firstLine left ∷ ls) 0 []) ≡ false → every isOperation (l .done ++ firstLine left ∷ ls) ≡ false
+      broken ls p = every-append isOperation (l .done) (firstLine left ∷ ls) ∙ rw (l .laid, p)
+
+      go : (b : Bool) → ended left ≡ b → closed s && every isOperation (lines s) ≡ false
+      go true p =
+          let q : every isOperation (lines s) ≡ false = rw (l .whole, lines-ended left p) (broken (lines (rest left)) (rw (lines-ended left p) at other)) in
+          rw q (and-none (closed s))
+      go false p = rw (sym (l .ends) ∙ closed-unended left h p)
+
+      lacks : closed s && every isOperation (lines s) ≡ false
+      lacks = go (ended left) refl
+
+  -- no byte is left
+  pub operations-end : length left ≤ 0
+      → _≡_ {A = Operations} (record { «laid_out» = true; «in_range» = good; items = items; count = count }) (operationsRead s)
+  unfolding operationsRead closed
+  operations-end h =
+      rw (shut, all, l .laid)
+      (λ j. record { «laid_out» = true; «in_range» = l .gathered .judged j; items = l .gathered .filled j; count = l .gathered .counted j })
+    where
+      none : (x : List ℕ) → length x ≤ 0 → x ≡ []
+      none [] p = refl
+      none (b ∷ x) p = absurd (omega arith)
+
+      shut : closed s ≡ true
+      shut = sym (l .ends) ∙ ap closed (none left h)
+
+      all : lines s ≡ l .done
+      all = l .whole ∙ rw (none left h) (append-nil (l .done))
+
+  module _ (e : operationRead (getD (lines left) 0 []) .«laid_out» ≡ true) where
+    is-operation : isOperation (getD (lines left) 0 []) ≡ true
+    is-operation = sym (operation-laid (getD (lines left) 0 [])) ∙ e
+
+    pub operations-more : {items′ : List Pending} {good′ : Bool} {left′ : List ℕ} → 0 < length left
+        → ((count < pendingSlots) × (items′ ≡ set items count (waiting (operationRead (getD (lines left) 0 []) .operation)))) ⊎ ((pendingSlots ≤ count) × (items′ ≡ items))
+        → good′ ≡ good && operationRead (getD (lines left) 0 []) .«in_range» → left′ ≡ rest left → OperationLoop s items′ (count + 1) good′ left′
+    unfolding linePending operationPasses
+    operations-more h came q t = record {
+      done = l .done ++ getD (lines left) 0 [] ∷ [];
+      whole =
+          l .whole
+          ∙ rw (there isOperation no-operation left is-operation, t)
+          (sym (append-snoc (l .done) (getD (lines left) 0 []) (lines (rest left))));
+      laid = every-more isOperation (l .done) (getD (lines left) 0 []) ∙ rw (l .laid, is-operation);
+      ends = ap closed t ∙ closed-rest left (is-ended isOperation no-operation left is-operation) ∙ l .ends;
+      gathered = more (l .gathered) (getD (lines left) 0 []) came q;
+      small = omega (arith, l .small, rest-shorter left h, ap length t);
+    }
