@@ -20,6 +20,8 @@ use Rattle.order.proofs.Packing.{pad-push}
 use Rattle.codec.specs.Lines.{isLetter, hasLayout, ended, firstLine, rest}
 use Rattle.codec.specs.Operations.{isInsert, isDelete}
 use Rattle.codec.specs.Calls.{lineLaidOut}
+use Rattle.saved.specs.declared.read.CharacterLine.{CharacterLine}
+use Rattle.saved.specs.declared.read.OperationLine.{OperationLine}
 use Rattle.saved.specs.declared.read.Characters.{Characters}
 use Rattle.saved.specs.declared.read.Operations.{Operations}
 use Rattle.saved.specs.Lines.{lines, closed, leading}
@@ -136,32 +138,34 @@ pub record CharacterLoop (s : List ℕ) (items : List Character) (count : ℕ) (
 pub characters-begun : (s : List ℕ) → CharacterLoop s (pad characterSlots blankCharacter []) 0 true s
 characters-begun s = record { done = []; whole = refl; gathered = gathered-none; small = omega arith }
 
-module _ {s : List ℕ} {items : List Character} {count : ℕ} {good : Bool} {left : List ℕ} (l : CharacterLoop s items count good left) where
-  line : List ℕ
-  line = getD (lines left) 0 []
+module _ {s : List ℕ} {items : List Character} {count : ℕ} {good : Bool} {left : List ℕ} (l : CharacterLoop s items count good left)
+    (w : CharacterLine) (r : w ≡ characterRead (getD (lines left) 0 [])) where
+  read-character : w .«laid_out» ≡ isCharacter (getD (lines left) 0 [])
+  read-character = ap (λ x. x .«laid_out») r ∙ character-laid (getD (lines left) 0 [])
 
   -- the next line is no character's
-  pub characters-end : characterRead (getD (lines left) 0 []) .«laid_out» ≡ false
+  pub characters-end : w .«laid_out» ≡ false
       → _≡_ {A = Characters} (record { items = items; count = count; «in_range» = good }) (charactersRead (leading isCharacter (lines s)))
   unfolding charactersRead
   characters-end e =
-      rw (l .whole ∙ ap (λ (ls : List (List ℕ)). l .done ++ ls) (ends (lines left) (sym (character-laid (getD (lines left) 0 [])) ∙ e)) ∙ append-nil (l .done))
+      rw (l .whole ∙ ap (λ (ls : List (List ℕ)). l .done ++ ls) (ends (lines left) (sym read-character ∙ e)) ∙ append-nil (l .done))
       (λ j. record { items = l .gathered .filled j; count = l .gathered .counted j; «in_range» = l .gathered .judged j })
     where
       ends : (ls : List (List ℕ)) → isCharacter (getD ls 0 []) ≡ false → leading isCharacter ls ≡ []
       ends [] p = refl
       ends (x ∷ ls) p = rw p
 
-  module _ (e : characterRead (getD (lines left) 0 []) .«laid_out» ≡ true) where
+  -- it is one
+  module _ (e : w .«laid_out» ≡ true) where
     is-character : isCharacter (getD (lines left) 0 []) ≡ true
-    is-character = sym (character-laid (getD (lines left) 0 [])) ∙ e
+    is-character = sym read-character ∙ e
 
     pub characters-left : 0 < length left
     characters-left = some-left isCharacter no-character left is-character
 
     pub characters-more : {items′ : List Character} {good′ : Bool} {left′ : List ℕ}
-        → ((count < characterSlots) × (items′ ≡ set items count (characterRead (getD (lines left) 0 []) .character))) ⊎ ((characterSlots ≤ count) × (items′ ≡ items))
-        → good′ ≡ good && characterRead (getD (lines left) 0 []) .«in_range» → left′ ≡ rest left → CharacterLoop s items′ (count + 1) good′ left′
+        → ((count < characterSlots) × (items′ ≡ set items count (w .character))) ⊎ ((characterSlots ≤ count) × (items′ ≡ items))
+        → good′ ≡ good && w .«in_range» → left′ ≡ rest left → CharacterLoop s items′ (count + 1) good′ left′
     unfolding lineCharacter characterPasses
     characters-more came q t = record {
       done = l .done ++ getD (lines left) 0 [] ∷ [];
@@ -169,7 +173,7 @@ module _ {s : List ℕ} {items : List Character} {count : ℕ} {good : Bool} {le
           l .whole
           ∙ rw (there isCharacter no-character left is-character, is-character, t)
           (sym (append-snoc (l .done) (getD (lines left) 0 []) (leading isCharacter (lines (rest left)))));
-      gathered = more (l .gathered) (getD (lines left) 0 []) came q;
+      gathered = more (l .gathered) (getD (lines left) 0 []) (rw r at came) (rw r at q);
       small = omega (arith, l .small, rest-shorter left characters-left, ap length t);
     }
 
@@ -187,26 +191,6 @@ pub operations-begun : (s : List ℕ) → OperationLoop s (pad pendingSlots blan
 operations-begun s = record { done = []; whole = refl; laid = refl; ends = refl; gathered = gathered-none; small = omega arith }
 
 module _ {s : List ℕ} {items : List Pending} {count : ℕ} {good : Bool} {left : List ℕ} (l : OperationLoop s items count good left) where
-  -- the next line lacks the layout, or no line feed ends it
-  pub operations-lack : 0 < length left → operationRead (getD (lines left) 0 []) .«laid_out» ≡ false → noOperations ≡ operationsRead s
-  unfolding operationsRead
-  operations-lack h e = rw lacks
-    where
-      other : isOperation (getD (lines left) 0 []) ≡ false
-      other = sym (operation-laid (getD (lines left) 0 [])) ∙ e
-
-      broken : (ls : List (List ℕ)) → isOperation (getD (firstLine left ∷ ls) 0 []) ≡ false → every isOperation (l .done ++ firstLine left ∷ ls) ≡ false
-      broken ls p = every-append isOperation (l .done) (firstLine left ∷ ls) ∙ rw (l .laid, p)
-
-      go : (b : Bool) → ended left ≡ b → closed s && every isOperation (lines s) ≡ false
-      go true p =
-          let q : every isOperation (lines s) ≡ false = rw (l .whole, lines-ended left p) (broken (lines (rest left)) (rw (lines-ended left p) at other)) in
-          rw q (and-none (closed s))
-      go false p = rw (sym (l .ends) ∙ closed-unended left h p)
-
-      lacks : closed s && every isOperation (lines s) ≡ false
-      lacks = go (ended left) refl
-
   -- no byte is left
   pub operations-end : length left ≤ 0
       → _≡_ {A = Operations} (record { «laid_out» = true; «in_range» = good; items = items; count = count }) (operationsRead s)
@@ -225,22 +209,47 @@ module _ {s : List ℕ} {items : List Pending} {count : ℕ} {good : Bool} {left
       all : lines s ≡ l .done
       all = l .whole ∙ rw (none left h) (append-nil (l .done))
 
-  module _ (e : operationRead (getD (lines left) 0 []) .«laid_out» ≡ true) where
-    is-operation : isOperation (getD (lines left) 0 []) ≡ true
-    is-operation = sym (operation-laid (getD (lines left) 0 [])) ∙ e
+  module _ (h : 0 < length left) (w : OperationLine) (r : w ≡ operationRead (getD (lines left) 0 [])) where
+    read-operation : w .«laid_out» ≡ isOperation (getD (lines left) 0 [])
+    read-operation = ap (λ x. x .«laid_out») r ∙ operation-laid (getD (lines left) 0 [])
 
-    pub operations-more : {items′ : List Pending} {good′ : Bool} {left′ : List ℕ} → 0 < length left
-        → ((count < pendingSlots) × (items′ ≡ set items count (waiting (operationRead (getD (lines left) 0 []) .operation)))) ⊎ ((pendingSlots ≤ count) × (items′ ≡ items))
-        → good′ ≡ good && operationRead (getD (lines left) 0 []) .«in_range» → left′ ≡ rest left → OperationLoop s items′ (count + 1) good′ left′
-    unfolding linePending operationPasses
-    operations-more h came q t = record {
-      done = l .done ++ getD (lines left) 0 [] ∷ [];
-      whole =
-          l .whole
-          ∙ rw (there isOperation no-operation left is-operation, t)
-          (sym (append-snoc (l .done) (getD (lines left) 0 []) (lines (rest left))));
-      laid = every-more isOperation (l .done) (getD (lines left) 0 []) ∙ rw (l .laid, is-operation);
-      ends = ap closed t ∙ closed-rest left (is-ended isOperation no-operation left is-operation) ∙ l .ends;
-      gathered = more (l .gathered) (getD (lines left) 0 []) came q;
-      small = omega (arith, l .small, rest-shorter left h, ap length t);
-    }
+    -- the next line lacks the layout, or no line feed ends it
+    pub operations-lack : w .«laid_out» ≡ false → noOperations ≡ operationsRead s
+    unfolding operationsRead
+    operations-lack e = rw lacks
+      where
+        other : isOperation (getD (lines left) 0 []) ≡ false
+        other = sym read-operation ∙ e
+
+        broken : (ls : List (List ℕ)) → isOperation (getD (firstLine left ∷ ls) 0 []) ≡ false → every isOperation (l .done ++ firstLine left ∷ ls) ≡ false
+        broken ls p = every-append isOperation (l .done) (firstLine left ∷ ls) ∙ rw (l .laid, p)
+
+        go : (b : Bool) → ended left ≡ b → closed s && every isOperation (lines s) ≡ false
+        go true p =
+            let q : every isOperation (lines s) ≡ false = rw (l .whole, lines-ended left p) (broken (lines (rest left)) (rw (lines-ended left p) at other)) in
+            rw q (and-none (closed s))
+        go false p = rw (sym (l .ends) ∙ closed-unended left h p)
+
+        lacks : closed s && every isOperation (lines s) ≡ false
+        lacks = go (ended left) refl
+
+    -- it has the layout
+    module _ (e : w .«laid_out» ≡ true) where
+      is-operation : isOperation (getD (lines left) 0 []) ≡ true
+      is-operation = sym read-operation ∙ e
+
+      pub operations-more : {items′ : List Pending} {good′ : Bool} {left′ : List ℕ}
+          → ((count < pendingSlots) × (items′ ≡ set items count (waiting (w .operation)))) ⊎ ((pendingSlots ≤ count) × (items′ ≡ items))
+          → good′ ≡ good && w .«in_range» → left′ ≡ rest left → OperationLoop s items′ (count + 1) good′ left′
+      unfolding linePending operationPasses
+      operations-more came q t = record {
+        done = l .done ++ getD (lines left) 0 [] ∷ [];
+        whole =
+            l .whole
+            ∙ rw (there isOperation no-operation left is-operation, t)
+            (sym (append-snoc (l .done) (getD (lines left) 0 []) (lines (rest left))));
+        laid = every-more isOperation (l .done) (getD (lines left) 0 []) ∙ rw (l .laid, is-operation);
+        ends = ap closed t ∙ closed-rest left (is-ended isOperation no-operation left is-operation) ∙ l .ends;
+        gathered = more (l .gathered) (getD (lines left) 0 []) (rw r at came) (rw r at q);
+        small = omega (arith, l .small, rest-shorter left h, ap length t);
+      }

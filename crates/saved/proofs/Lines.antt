@@ -3,13 +3,13 @@ use mathlib.Core.Path.{_≡_, refl, sym, ap, _∙_}
 use mathlib.Core.List.{List, [], _∷_, _++_, append-assoc}
 use mathlib.Core.Bool.{Bool, true, false, cond}
 use mathlib.Core.Logic.{⊎-elim}
-use Prim.Native.Nat.{ℕ, _<_, _≤_}
+use Prim.Native.Nat.{ℕ, _+_, _<_, _≤_}
 use native.Mathlib.Omega.{arith}
 use lib.Dec.{eqb}
-use lib.ListN.{length, drop, getD}
-use lib.Seq.{append-snoc}
+use lib.ListN.{length, drop, getD, length-drop}
+use lib.Seq.{append-snoc, drop-drop}
 use borrow.Author.Tests.{eqb-true, ne-eqb, eq-eqb}
-use Rattle.convergence.proofs.Tests.{either, clash}
+use Rattle.convergence.proofs.Tests.{either, clash, passes}
 use Rattle.codec.specs.Lines.{lineFeed, has, before, after, ended, firstLine, rest, columns, lineOf}
 use Rattle.codec.proofs.Trips.{no-feed}
 use Rattle.saved.specs.Lines.{onLine, lines, last, closed, leading, trailing, joined}
@@ -191,3 +191,11 @@ joined-append f (x ∷ xs) ys = ap (λ (l : List ℕ). f x ++ l) (joined-append 
 pub head-first : (p : List ℕ → Bool) → p [] ≡ false → (ls : List (List ℕ)) → p (getD ls 0 []) ≡ true → ls ≡ getD ls 0 [] ∷ drop 1 ls
 head-first p none [] e = clash e none
 head-first p none (l ∷ ls) e = refl
+
+-- one line more taken off
+module _ (s left : List ℕ) (i : ℕ) (e : lines left ≡ drop i (lines s)) where
+  pub skip-lines : lines (rest left) ≡ drop (i + 1) (lines s)
+  skip-lines = lines-rest left ∙ ap (drop 1) e ∙ drop-drop 1 i (lines s)
+
+  pub skip-closed : i < length (lines s) → closed (rest left) ≡ closed left
+  skip-closed h = closed-rest left (passes (ended left) (λ p. omega (arith, length-drop i (lines s), ap length (sym e ∙ lines-unended left p))))

@@ -69,7 +69,10 @@ fn no_site(laid_out: bool) -> SiteLine
     SiteLine {
         laid_out,
         in_range: false,
-        site: Site { number: 0, clock: 0 },
+        site: Site {
+            number: 0,
+            clock: 0,
+        },
     }
 }
 
