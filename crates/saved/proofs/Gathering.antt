@@ -114,7 +114,7 @@ module _ (p : List ℕ → Bool) (none : p [] ≡ false) (left : List ℕ) (h : 
   there : lines left ≡ getD (lines left) 0 [] ∷ lines (rest left)
   there = rw (lines-rest left) (head-first p none (lines left) h)
 
-  is-ended : ended left ≡ true
+  pub is-ended : ended left ≡ true
   is-ended = ⊎-elim (λ e. e) (λ e. absurd (nothing e)) (either (ended left))
     where
       nothing : ended left ≡ false → ⊥
@@ -166,7 +166,6 @@ module _ {s : List ℕ} {items : List Character} {count : ℕ} {good : Bool} {le
     pub characters-more : {items′ : List Character} {good′ : Bool} {left′ : List ℕ}
         → ((count < characterSlots) × (items′ ≡ set items count (w .character))) ⊎ ((characterSlots ≤ count) × (items′ ≡ items))
         → good′ ≡ good && w .«in_range» → left′ ≡ rest left → CharacterLoop s items′ (count + 1) good′ left′
-    unfolding lineCharacter characterPasses
     characters-more came q t = record {
       done = l .done ++ getD (lines left) 0 [] ∷ [];
       whole =
@@ -241,7 +240,6 @@ module _ {s : List ℕ} {items : List Pending} {count : ℕ} {good : Bool} {left
       pub operations-more : {items′ : List Pending} {good′ : Bool} {left′ : List ℕ}
           → ((count < pendingSlots) × (items′ ≡ set items count (waiting (w .operation)))) ⊎ ((pendingSlots ≤ count) × (items′ ≡ items))
           → good′ ≡ good && w .«in_range» → left′ ≡ rest left → OperationLoop s items′ (count + 1) good′ left′
-      unfolding linePending operationPasses
       operations-more came q t = record {
         done = l .done ++ getD (lines left) 0 [] ∷ [];
         whole =

@@ -6,3 +6,4 @@ pub mod Gathering
 pub mod Trips
 pub mod Refusals
 pub mod Sizes
+pub mod Loading

@@ -22,39 +22,36 @@ use Rattle.woot.specs.Answers.{first, number, Reported}
 use Rattle.convergence.proofs.Tests.{clash}
 use Rattle.codec.specs.Calls.{decided}
 use Rattle.codec.proofs.Refusals.{decided-exactly}
-use Rattle.saved.specs.declared.Load.{Load}
-use Rattle.saved.specs.declared.Load.the-variants.{Done, Refused}
+use Rattle.saved.specs.declared.LoadAnswer.{LoadAnswer}
+use Rattle.saved.specs.declared.LoadAnswer.the-variants.{Done, Refused}
 use Rattle.saved.specs.declared.Loaded.{Loaded}
 use Rattle.saved.specs.Format.{savedLaidOut, savedState, savedInRange}
 use Rattle.saved.specs.Calls.{loadChecks, noReplica, loadedAs, loaded, loadNumber, bytesOf, saveChecks, saved, outAfter}
+use Rattle.saved.specs.Reading.{refusal}
 use Rattle.saved.specs.Theorems.{LoadRefuses, LoadNumbers, SaveRefuses}
 
 -- ---- reading
 
--- a refusal, with the replica that stands beside it
-abbrev pub refusal : Refusal → Loaded
-refusal r = record { answer = Refused r; replica = noReplica }
-
 module _ (s : List ℕ) where
   pub load-layout : savedLaidOut s ≡ false → loaded s ≡ refusal Layout
-  unfolding loaded loadChecks loadedAs
+  unfolding loaded loadChecks loadedAs refusal
   load-layout e = rw e
 
   module _ (l : savedLaidOut s ≡ true) where
     pub load-range : savedInRange s ≡ false → loaded s ≡ refusal Range
-    unfolding loaded loadChecks loadedAs
+    unfolding loaded loadChecks loadedAs refusal
     load-range e = rw (l, e)
 
     module _ (i : savedInRange s ≡ true) where
       pub load-form : wellFormed (savedState s) ≡ false → loaded s ≡ refusal Form
-      unfolding loaded loadChecks loadedAs
+      unfolding loaded loadChecks loadedAs refusal
       load-form e = rw (l, i, e)
 
       pub load-done : wellFormed (savedState s) ≡ true → _≡_ {A = Loaded} (loaded s) (record { answer = Done; replica = stored (savedState s) })
-      unfolding loaded loadChecks loadedAs
+      unfolding loaded loadChecks loadedAs refusal
       load-done e = rw (l, i, e)
 
-answer-decided : (m : Option Load) (s : State) → loadedAs m s .answer ≡ decided m Done
+answer-decided : (m : Option LoadAnswer) (s : State) → loadedAs m s .answer ≡ decided m Done
 unfolding loadedAs decided
 answer-decided none s = refl
 answer-decided (some a) s = refl
@@ -62,7 +59,7 @@ answer-decided (some a) s = refl
 never-done : (r : Refusal) → Done ≡ Refused r → ⊥
 never-done r e = let z : _≡_ {A = ℕ} 0 1 = cc in omega arith
 
-refused-none : (m : Option Load) (s : State) (r : Refusal) → loadedAs m s .answer ≡ Refused r → loadedAs m s .replica ≡ noReplica
+refused-none : (m : Option LoadAnswer) (s : State) (r : Refusal) → loadedAs m s .answer ≡ Refused r → loadedAs m s .replica ≡ noReplica
 unfolding loadedAs
 refused-none none s r e = absurd (never-done r e)
 refused-none (some a) s r e = refl
@@ -75,7 +72,7 @@ load-refuses s r = (
 )
 
 pub load-numbers : LoadNumbers
-unfolding loadNumber number
+unfolding loadNumber number refusal
 load-numbers s = go (savedLaidOut s) (savedInRange s) (wellFormed (savedState s)) refl refl refl
   where
     go : (a b d : Bool) → savedLaidOut s ≡ a → savedInRange s ≡ b → wellFormed (savedState s) ≡ d

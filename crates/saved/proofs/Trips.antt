@@ -14,7 +14,7 @@ use Rattle.convergence.proofs.Tests.{and-left, and-right, three, seven, clash}
 use Rattle.codec.specs.Lines.{isLetter, hasLayout}
 use Rattle.codec.specs.Operations.{operationLine}
 use Rattle.replica.proofs.Runs.{meaning-stored}
-use Rattle.saved.specs.declared.Load.the-variants.{Done, Refused}
+use Rattle.saved.specs.declared.LoadAnswer.the-variants.{Done, Refused}
 use Rattle.saved.specs.Lines.{lines, closed, leading, trailing, joined}
 use Rattle.saved.specs.Format.{siteLine, isSite, siteSaid, characterLine, isCharacter, characterSaid, visibleInRange, isOperation, operationSaid, headLine, characterLines, operationLines, savedLaidOut, savedState, savedInRange, savedBytes}
 use Rattle.saved.specs.Calls.{loaded}
@@ -70,7 +70,7 @@ module _ {A : Type 0} (p : A → Bool) where
     trailing-all [] = refl
     trailing-all (x ∷ xs) = rw (fail x)
 
-  every-leading : (xs : List A) → every p (leading p xs) ≡ true
+  pub every-leading : (xs : List A) → every p (leading p xs) ≡ true
   every-leading [] = refl
   every-leading (x ∷ xs) = go (p x) refl (every-leading xs)
     where
@@ -184,7 +184,7 @@ every-and p q (x ∷ xs) e f =
     rw (and-left (p x) (every p xs) e, and-left (q x) (every q xs) f)
     (every-and p q xs (and-right (p x) (every p xs) e) (and-right (q x) (every q xs) f))
 
-no-site : isSite [] ≡ false
+pub no-site : isSite [] ≡ false
 unfolding isSite hasLayout isLetter
 no-site = refl
 

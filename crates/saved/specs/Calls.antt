@@ -16,15 +16,15 @@ use Rattle.woot.specs.State.{State, initial, meaning, stored}
 use Rattle.woot.specs.Form.{wellFormed, replicaWellFormed}
 use Rattle.woot.specs.Answers.{Check, _⇒_, first, number}
 use Rattle.codec.specs.Calls.{decided}
-use Rattle.saved.specs.declared.Load.{Load}
-use Rattle.saved.specs.declared.Load.the-variants.{Done, Refused}
+use Rattle.saved.specs.declared.LoadAnswer.{LoadAnswer}
+use Rattle.saved.specs.declared.LoadAnswer.the-variants.{Done, Refused}
 use Rattle.saved.specs.declared.Loaded.{Loaded}
 use Rattle.saved.specs.Format.{savedLaidOut, savedState, savedInRange, savedBytes}
 
 -- ---- reading
 
 -- conditions 1, 2 and 3, each over all of the bytes
-unfoldable pub loadChecks : List ℕ → List (Check Load)
+unfoldable pub loadChecks : List ℕ → List (Check LoadAnswer)
 loadChecks s =
     (not (savedLaidOut s) ⇒ Refused Layout) ∷ (not (savedInRange s) ⇒ Refused Range)
     ∷ (not (wellFormed (savedState s)) ⇒ Refused Form)
@@ -35,7 +35,7 @@ unfoldable pub noReplica : Replica
 noReplica = stored (initial 0)
 
 -- the first condition that holds decides; where none does, the replica that the bytes say
-unfoldable pub loadedAs : Option Load → State → Loaded
+unfoldable pub loadedAs : Option LoadAnswer → State → Loaded
 loadedAs none s = record { answer = Done; replica = stored s }
 loadedAs (some a) s = record { answer = a; replica = noReplica }
 
@@ -43,7 +43,7 @@ unfoldable pub loaded : List ℕ → Loaded
 loaded s = loadedAs (first (loadChecks s)) (savedState s)
 
 -- the refusal's number, or 0
-unfoldable pub loadNumber : Load → ℕ
+unfoldable pub loadNumber : LoadAnswer → ℕ
 loadNumber Done = 0
 loadNumber (Refused r) = number r
 

@@ -1,5 +1,5 @@
 pub mod Lines
 pub mod Format
-pub mod Reading
 pub mod Calls
+pub mod Reading
 pub mod Theorems

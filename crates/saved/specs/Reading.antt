@@ -7,9 +7,15 @@ use Rattle.woot.specs.declared.Site.{Site}
 use Rattle.woot.specs.declared.Operation.{Operation}
 use Rattle.woot.specs.declared.Character.{Character}
 use Rattle.woot.specs.declared.Pending.{Pending}
+use Rattle.woot.specs.declared.Replica.{Replica}
+use Rattle.woot.specs.declared.Refusal.{Refusal}
+use Rattle.woot.specs.declared.Refusal.the-variants.{Form}
 use Rattle.woot.specs.Lists.{every}
 use Rattle.woot.specs.Ranges.{siteInRange, characterInRange, inRange}
 use Rattle.woot.specs.State.{characterSlots, pendingSlots, waiting, blankCharacter, blankPending, pad}
+use Rattle.woot.specs.Form.{replicaWellFormed}
+use Rattle.saved.specs.declared.LoadAnswer.the-variants.{Done, Refused}
+use Rattle.saved.specs.declared.Loaded.{Loaded}
 use Rattle.saved.specs.declared.read.SiteLine.{SiteLine}
 use Rattle.saved.specs.declared.read.CharacterLine.{CharacterLine}
 use Rattle.saved.specs.declared.read.OperationLine.{OperationLine}
@@ -17,6 +23,7 @@ use Rattle.saved.specs.declared.read.Characters.{Characters}
 use Rattle.saved.specs.declared.read.Operations.{Operations}
 use Rattle.saved.specs.Lines.{lines, closed}
 use Rattle.saved.specs.Format.{isSite, siteSaid, isCharacter, characterSaid, visibleInRange, isOperation, operationSaid}
+use Rattle.saved.specs.Calls.{noReplica}
 
 -- ---- one line: its layout, then its range, then what it says; filler where either lacks
 
@@ -52,10 +59,10 @@ operationRead line = cond (isOperation line) (operationJudged (operationSaid lin
 
 -- ---- lines that follow each other: as many as the array has slots for, and how many there are
 
-unfoldable pub lineCharacter : List ℕ → Character
+abbrev pub lineCharacter : List ℕ → Character
 lineCharacter line = characterRead line .character
 
-unfoldable pub characterPasses : List ℕ → Bool
+abbrev pub characterPasses : List ℕ → Bool
 characterPasses line = characterRead line .«in_range»
 
 unfoldable pub charactersRead : List (List ℕ) → Characters
@@ -66,10 +73,10 @@ charactersRead ls =
       «in_range» = every characterPasses ls;
     }
 
-unfoldable pub linePending : List ℕ → Pending
+abbrev pub linePending : List ℕ → Pending
 linePending line = waiting (operationRead line .operation)
 
-unfoldable pub operationPasses : List ℕ → Bool
+abbrev pub operationPasses : List ℕ → Bool
 operationPasses line = operationRead line .«in_range»
 
 -- with a line that lacks the layout, or bytes after the last line feed, nothing
@@ -87,3 +94,19 @@ operationsRead s =
       count = length (lines s);
     })
     noOperations
+
+-- ---- the replica of what was read
+
+unfoldable pub replicaOf : Site → Characters → Operations → Replica
+replicaOf site cs ps =
+    record {
+      site = site;
+      document = record { characters = cs .items; length = cs .count; pending = ps .items; waiting = ps .count };
+    }
+
+unfoldable pub refusal : Refusal → Loaded
+refusal r = record { answer = Refused r; replica = noReplica }
+
+-- if it is in form
+unfoldable pub assembled : Replica → Loaded
+assembled r = cond (replicaWellFormed r) (record { answer = Done; replica = r }) (refusal Form)

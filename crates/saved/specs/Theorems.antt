@@ -11,7 +11,7 @@ use Rattle.woot.specs.declared.Written.the-variants.{Refused as writtenRefused}
 use Rattle.woot.specs.State.{State, meaning, stored}
 use Rattle.woot.specs.Form.{wellFormed}
 use Rattle.woot.specs.Answers.{Reported}
-use Rattle.saved.specs.declared.Load.the-variants.{Done, Refused}
+use Rattle.saved.specs.declared.LoadAnswer.the-variants.{Done, Refused}
 use Rattle.saved.specs.declared.Loaded.{Loaded}
 use Rattle.saved.specs.Format.{savedLaidOut, savedState, savedInRange, savedBytes}
 use Rattle.saved.specs.Calls.{loadChecks, noReplica, loaded, loadNumber, saveChecks, saved, outAfter}

@@ -1,0 +1,18 @@
+-- `saved::refuse` meets its contract: an empty replica stands beside the refusal.
+use mathlib.Core.Path.{refl}
+use Rattle.saved.specs.declared.LoadAnswer.the-variants.{Refused}
+use Rattle.saved.specs.Calls.{noReplica}
+use Rattle.saved.specs.Reading.{refusal}
+use borrow.Author.Needs.{needs}
+use Rattle.saved.proofs.refuse.Statement.{statement}
+use Rattle.saved.proofs.refuse.Tie as tie
+
+empty-requires : tie.Need-empty-requires
+empty-requires c κs = search needs
+
+returns : tie.Need-returns
+unfolding refusal noReplica
+returns c = λ j. record { answer = Refused (c .before .args .reason); replica = c .empty .ensures j }
+
+pub refuse-spec : {M : Type 1} → statement M
+refuse-spec = tie.close (tie.spec empty-requires returns)
