@@ -7,3 +7,5 @@ pub mod Trips
 pub mod Refusals
 pub mod Sizes
 pub mod Loading
+pub mod Writing
+pub mod Saving

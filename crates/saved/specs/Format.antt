@@ -9,6 +9,7 @@ use lib.ListN.{getD, drop}
 use Rattle.woot.specs.declared.Site.{Site}
 use Rattle.woot.specs.declared.Operation.{Operation}
 use Rattle.woot.specs.declared.Character.{Character}
+use Rattle.woot.specs.declared.Pending.{Pending}
 use Rattle.woot.specs.Limits.{lastSite, lastClock, lastCodePoint}
 use Rattle.woot.specs.Lists.{every}
 use Rattle.woot.specs.State.{State}
@@ -103,6 +104,10 @@ isOperation line = lineLaidOut line
 
 unfoldable pub operationSaid : List ℕ → Operation
 operationSaid line = said (fields line)
+
+-- the line of what stands in a slot
+abbrev pub pendingLine : Pending → List ℕ
+pendingLine p = operationLine (p .operation)
 
 -- ---- the whole
 

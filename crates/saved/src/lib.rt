@@ -1,5 +1,6 @@
 // Saved replicas: read from bytes, and written into a lent slice.
 mod read;
+mod write;
 
 use read::Characters;
 use read::Operations;
@@ -7,9 +8,16 @@ use woot::Document;
 use woot::Refusal;
 use woot::Replica;
 use woot::Site;
+use woot::Written;
 ghost use mathlib.Core.Path.{_≡_};
-ghost use Rattle.saved.specs.Calls.{loaded};
+ghost use lib.ListN.{length};
+ghost use Rattle.saved.specs.Calls.{loaded, bytesOf, saved, outAfter};
 ghost use Rattle.saved.specs.Reading.{replicaOf, refusal, assembled};
+
+// The letters of the lines of a site and of a character.
+pub(crate) const SITE: u8 = 83;
+
+pub(crate) const CHARACTER: u8 = 67;
 
 // What reading answers.
 pub enum LoadAnswer {
@@ -82,4 +90,24 @@ pub fn load(s: &[u8]) -> Loaded
     }
     let site = first.site;
     assemble(site, characters, operations)
+}
+
+// How many bytes the saved replica takes, in form or not.
+pub fn saved_length(r: Replica) -> usize
+    ensures { λ x. ⌜ x ≡ length (bytesOf r) ⌝ }
+{
+    write::all_length(r)
+}
+
+// Writes a saved replica at the front of the slice. A refused call leaves every byte as it was.
+pub fn save(r: Replica, out: &mut [u8]) -> Written
+    ensures { λ x. ⌜ (x ≡ saved r (now (out .entry))) × (now (out .exit) ≡ outAfter r (now (out .entry))) ⌝ }
+{
+    if !replica::well_formed(r) {
+        return Written::Refused(Refusal::Form);
+    }
+    if out.len() < saved_length(r) {
+        return Written::Refused(Refusal::Output);
+    }
+    Written::Length(write::put_all(r, out))
 }

@@ -1,5 +1,7 @@
 // Reading the lines of a saved replica: a line of each kind, and lines of a kind that follow each other. A line that is out
 // of range, or has no slot left, does not end the reading: a fault of the layout after it comes first.
+use crate::CHARACTER;
+use crate::SITE;
 use codec::Read;
 use codec::fields;
 use codec::fields::Verdict;
@@ -20,11 +22,6 @@ ghost use Rattle.codec.specs.Numbers.{within};
 ghost use Rattle.saved.specs.Lines.{lines, closed, leading};
 ghost use Rattle.saved.specs.Format.{siteLimits, siteOf, characterLimits, characterOf, isCharacter};
 ghost use Rattle.saved.specs.Reading.{noSite, siteJudged, siteRead, noCharacter, characterJudged, characterRead, noOperation, operationRead, charactersRead, noOperations, operationsRead};
-
-// The letters of the lines.
-const SITE: u8 = 83;
-
-const CHARACTER: u8 = 67;
 
 // What a line says as a site's: whether it has the layout, whether it is in range too, and then the site.
 pub(crate) struct SiteLine {
