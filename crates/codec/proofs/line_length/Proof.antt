@@ -36,27 +36,21 @@ line-length-requires-2 c κs = search needs
 
 returns : tie.Need-returns
 unfolding operationLine
-returns c = c .line-length .ensures
-    ∙ ap (λ (ns : List ℕ). 2 + length (columns ns)) (c .before .before .insert-numbers .ensures)
-    ∙ sym (ap (λ o. length (operationLine o)) (c .before .before .before .before .o .given .1) ∙ line-length insertLetter _)
-
-returns-2 : tie.Need-returns-2
-unfolding operationLine
-returns-2 c = c .line-length2 .ensures
-    ∙ ap (λ (ns : List ℕ). 2 + length (columns ns)) (c .before .before .delete-numbers .ensures)
-    ∙ sym (ap (λ o. length (operationLine o)) (c .before .before .before .before .o2 .given .1) ∙ line-length deleteLetter _)
-returns c = (c .line-length .ensures .0 ∙ ap (λ (ns : List ℕ). 2 + length (columns ns)) (c .before .before .insert-numbers .ensures) ∙ sym (ap (λ o. length (operationLine o)) (c .before .before .before .before .o .given .1) ∙ line-length insertLetter _), c .line-length .ensures .1)
-returns-2 c = (c .line-length2 .ensures .0 ∙ ap (λ (ns : List ℕ). 2 + length (columns ns)) (c .before .before .delete-numbers .ensures) ∙ sym (ap (λ o. length (operationLine o)) (c .before .before .before .before .o2 .given .1) ∙ line-length deleteLetter _), c .line-length2 .ensures .1)
 returns c = (
   c .line-length .ensures .0
       ∙ ap (λ (ns : List ℕ). 2 + length (columns ns)) (c .before .before .insert-numbers .ensures)
       ∙ sym (ap (λ o. length (operationLine o)) (c .before .before .before .before .o .given .1) ∙ line-length insertLetter _),
   c .line-length .ensures .1,
+)
+
+returns-2 : tie.Need-returns-2
+unfolding operationLine
 returns-2 c = (
   c .line-length2 .ensures .0
       ∙ ap (λ (ns : List ℕ). 2 + length (columns ns)) (c .before .before .delete-numbers .ensures)
       ∙ sym (ap (λ o. length (operationLine o)) (c .before .before .before .before .o2 .given .1) ∙ line-length deleteLetter _),
   c .line-length2 .ensures .1,
+)
 
 pub line-length-spec : {M : Type 1} → statement M
 line-length-spec =
