@@ -1,13 +1,14 @@
 # make            the static library, target/staticlib/libwimtaze.a
 # make install    the library, its header and its pkg-config file, under PREFIX
 # make native     the programs in C and Rust over the static library
+# make run       the hall program on document 01's example
 # make bench     times receiving against plain Rust
 # make test       the gate: it proves every crate from nothing and runs what there is to run
 PREFIX ?= /usr/local
 VERSION = 0.1.0
 LIBRARY = target/staticlib/libwimtaze.a
 
-.PHONY: all install native bench test
+.PHONY: all install native run bench test
 
 all:
 	rt staticlib wimtaze
@@ -24,6 +25,10 @@ install: $(LIBRARY)
 
 native:
 	tests/native/run
+
+run:
+	rt check hall
+	target/bin/hall < examples/hall.txt
 
 bench:
 	rt staticlib workload

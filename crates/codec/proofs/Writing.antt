@@ -76,27 +76,27 @@ part-more ns i h =
     rw (add-one i, take-suc ns i 0 h, columns-append (take i ns) (getD ns i 0 ∷ []), append-nil (digits (getD ns i 0)))
     (append-assoc (columns (take i ns)) (tab ∷ []) (digits (getD ns i 0)))
 
--- the letter is put
-module _ (letter : ℕ) (ns out₀ : List ℕ) (at : ℕ) {out₁ : List ℕ} {end₁ : ℕ} (room : at + (2 + length (columns ns)) ≤ length out₀)
-    (e : end₁ ≡ past out₀ at (letter ∷ [])) (p : out₁ ≡ placed out₀ at (letter ∷ [])) where
-  start : end₁ ≡ at + 1
-  start = e ∙ past-room out₀ at (letter ∷ []) (omega arith)
+-- the head of a line is put
+module _ (head ns out₀ : List ℕ) (at : ℕ) {out₁ : List ℕ} {end₁ : ℕ} (room : at + (length head + (length (columns ns) + 1)) ≤ length out₀)
+    (e : end₁ ≡ past out₀ at head) (p : out₁ ≡ placed out₀ at head) where
+  start : end₁ ≡ at + length head
+  start = e ∙ past-room out₀ at head (omega arith)
 
   kept : length out₁ ≡ length out₀
-  kept = ap length p ∙ length-placed out₀ at (letter ∷ [])
+  kept = ap length p ∙ length-placed out₀ at head
 
   pub begun : Putting ns out₁ end₁ out₁ end₁ 0
   begun = record { part = omega arith; room = omega (arith, start, kept); run = run-none out₁ end₁ (omega (arith, start, kept)) }
 
   -- with the columns and the line feed after it the line is
   pub line-put : {out : List ℕ} {end : ℕ} → Run out₁ end₁ (columns ns ++ (lineFeed ∷ [])) out end
-      → (end ≡ past out₀ at (lineOf letter ns)) × (out ≡ placed out₀ at (lineOf letter ns))
-  unfolding lineOf
+      → (end ≡ past out₀ at (head ++ (columns ns ++ (lineFeed ∷ [])))) × (out ≡ placed out₀ at (head ++ (columns ns ++ (lineFeed ∷ []))))
   line-put r =
       let size : length (columns ns ++ (lineFeed ∷ [])) ≡ length (columns ns) + 1 = length-append (columns ns) (lineFeed ∷ []) in
+      let whole : length (head ++ (columns ns ++ (lineFeed ∷ []))) ≡ length head + (length (columns ns) + 1) = length-append head (columns ns ++ (lineFeed ∷ [])) ∙ ap (λ (k : ℕ). length head + k) size in
       let w = run-whole {out₀ = out₁} {at = end₁} (omega (arith, start, kept)) r in
-      run-whole {out₀ = out₀} {at = at} {a = letter ∷ columns ns ++ (lineFeed ∷ [])} (omega arith)
-      (run-on {a = letter ∷ []} (record { offset = start; bytes = p }) (columns ns ++ (lineFeed ∷ [])) (omega arith) (w .0) (w .1))
+      run-whole {out₀ = out₀} {at = at} (omega arith)
+      (run-on {a = head} (record { offset = start; bytes = p }) (columns ns ++ (lineFeed ∷ [])) (omega arith) (w .0) (w .1))
 
 module _ {ns out₀ : List ℕ} {at : ℕ} where
   module _ {out : List ℕ} {end i : ℕ} (g : Putting ns out₀ at out end i) where

@@ -1,5 +1,6 @@
 -- `codec::fields::put_line` meets its contract, by the invariant of `proofs/Writing.antt`.
 use mathlib.Core.Path.{sym, ap, _∙_}
+use mathlib.Core.List.{[], _∷_}
 use Prim.Native.Nat.{_+_, _-_, _<_, _≤_}
 use native.Mathlib.Omega.{arith}
 use lib.ListN.{length}
@@ -32,7 +33,7 @@ returns c =
     (sym (past-short _ _ _ short), sym (placed-short _ _ _ short))
 
 -- there is room for the line
-fits : (c : tie.Else1 Inv-loop μ-loop) → c .before .before .before .before .before .args .at + (2 + length (columns (c .before .before .before .before .before .args .numbers .now))) ≤ length (c .before .before .before .before .before .args .out .now)
+fits : (c : tie.Else1 Inv-loop μ-loop) → c .before .before .before .before .before .args .at + (1 + (length (columns (c .before .before .before .before .before .args .numbers .now)) + 1)) ≤ length (c .before .before .before .before .before .args .out .now)
 fits c =
     omega (arith, has-room _ _ _ (sym (c .before .has-room .ensures) ∙ not-false _ (c .if1 .left)), c .before .before .line-length .ensures)
 
@@ -43,7 +44,7 @@ loop-holds : tie.Need-loop-holds Inv-loop μ-loop
 loop-holds c =
     let a = c .before .before .before .before .before .before .before .before .before .args in
     let p = c .before .before .put .ensures in
-    begun (a .letter) (a .numbers .now) (a .out .now) (a .at) (fits (c .before .before .before .before)) (p .0) (p .1)
+    begun (a .letter ∷ []) (a .numbers .now) (a .out .now) (a .at) (fits (c .before .before .before .before)) (p .0) (p .1)
 
 put-requires-2 : tie.Need-put-requires-2 Inv-loop μ-loop
 put-requires-2 c κs = search needs
@@ -73,11 +74,12 @@ put-requires-3 : tie.Need-put-requires-3 Inv-loop μ-loop
 put-requires-3 c κs = search needs
 
 returns-2 : tie.Need-returns-2 Inv-loop μ-loop
+unfolding lineOf
 returns-2 c =
     let a = c .before .before .before .before .before .before .before .before .before .before .before .before .before .before .before .args in
     let p = c .before .before .before .before .before .before .before .before .put .ensures in
     let q = c .before .before .put3 .ensures in
-    line-put (a .letter) (a .numbers .now) (a .out .now) (a .at) (fits (c .before .before .before .before .before .before .before .before .before .before)) (p .0) (p .1)
+    line-put (a .letter ∷ []) (a .numbers .now) (a .out .now) (a .at) (fits (c .before .before .before .before .before .before .before .before .before .before)) (p .0) (p .1)
     (last (c .before .before .before .before .before .loop .inv) (c .before .before .before .before .loop-test .left) (q .0) (q .1))
 
 same-length : tie.Need-same-length Inv-loop μ-loop

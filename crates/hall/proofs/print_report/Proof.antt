@@ -1,0 +1,36 @@
+-- `hall::print_report` is safe and ends: what is written is within the array.
+use mathlib.Core.Path.{sym}
+use borrow.Author.Needs.{needs}
+use lib.Seq.{length-take-le}
+use Rattle.report.proofs.Sizes.{written-within}
+use Rattle.hall.proofs.print_report.Statement.{statement}
+use Rattle.hall.proofs.print_report.Tie as tie
+
+slice-aggregate-report-line : tie.Need-slice-aggregate-report-line
+slice-aggregate-report-line c = search needs
+
+report-line-requires : tie.Need-report-line-requires
+report-line-requires c κs = search needs
+
+array-share-prefix-line : tie.Need-array-share-prefix-line
+array-share-prefix-line c = let p = c .before .report-line .ensures in written-within _ _ (p .0) (p .1)
+
+slice-aggregate-write-all : tie.Need-slice-aggregate-write-all
+slice-aggregate-write-all c = let p = c .before .before .report-line .ensures in sym (length-take-le _ _ (written-within _ _ (p .0) (p .1)))
+
+write-all-requires : tie.Need-write-all-requires
+write-all-requires c κs = search needs
+
+returns : tie.Need-returns
+returns c = search needs
+
+pub print-report-spec : {M : Type 1} → statement M
+print-report-spec =
+    tie.close
+    (tie.spec
+    slice-aggregate-report-line
+    report-line-requires
+    array-share-prefix-line
+    slice-aggregate-write-all
+    write-all-requires
+    returns)

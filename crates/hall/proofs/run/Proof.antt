@@ -1,0 +1,67 @@
+-- `hall::run` is safe and ends: each line leaves fewer bytes, so their number stays within that of the bytes.
+use mathlib.Core.Path.{ap}
+use Prim.Native.Nat.{_+_, _≤_, _<_}
+use native.Mathlib.Omega.{arith}
+use borrow.Author.Needs.{needs}
+use lib.ListN.{length}
+use Rattle.report.proofs.Printing.{rest-shorter}
+use Rattle.hall.proofs.run.Statement.{statement}
+use Rattle.hall.proofs.run.Tie as tie
+
+abbrev Inv-loop : tie.InvT-loop
+Inv-loop input replica₀ lines₀ number₀ replica lines number = number + length lines ≤ length input + 1
+
+abbrev μ-loop : tie.MeasureT-loop
+μ-loop input replica₀ lines₀ number₀ replica lines number = length lines
+
+empty-requires : tie.Need-empty-requires Inv-loop μ-loop
+empty-requires c κs = search needs
+
+loop-holds : tie.Need-loop-holds Inv-loop μ-loop
+loop-holds c = omega arith
+
+answer-line-requires : tie.Need-answer-line-requires Inv-loop μ-loop
+answer-line-requires c κs = search needs
+
+print-report-requires : tie.Need-print-report-requires Inv-loop μ-loop
+print-report-requires c κs = search needs
+
+rest-requires : tie.Need-rest-requires Inv-loop μ-loop
+rest-requires c κs = search needs
+
+shorter : (c : tie.After-rest Inv-loop μ-loop) → length (c .rest .result .now) < length (c .before .before .before .before .before .loop .lines .now)
+shorter c =
+    let s = c .before .before .before .before .before .loop .lines .now in
+    omega (arith, ap length (c .rest .ensures), rest-shorter s (c .before .before .before .before .loop-test .taken))
+
+add-number : tie.Need-add-number Inv-loop μ-loop
+add-number c = omega (arith, shorter c)
+
+loop-less : tie.Need-loop-less Inv-loop μ-loop
+loop-less c = shorter c
+
+loop-again : tie.Need-loop-again Inv-loop μ-loop
+loop-again c = omega (arith, shorter c, c .before .before .before .before .before .loop .inv)
+
+print-text-requires : tie.Need-print-text-requires Inv-loop μ-loop
+print-text-requires c κs = search needs
+
+returns : tie.Need-returns Inv-loop μ-loop
+returns c = search needs
+
+pub run-spec : {M : Type 1} → statement M
+run-spec =
+    tie.close
+    (tie.spec
+    Inv-loop
+    μ-loop
+    empty-requires
+    loop-holds
+    answer-line-requires
+    print-report-requires
+    rest-requires
+    add-number
+    loop-less
+    loop-again
+    print-text-requires
+    returns)

@@ -1,0 +1,5 @@
+pub mod Sizes
+pub mod Heads
+pub mod Listings
+pub mod Printing
+pub mod Examples

@@ -1,0 +1,137 @@
+-- How long the lines are: a number takes a tab and its digits, and what it may be at most says how many those are.
+use mathlib.Core.Path.{_≡_, refl, ap, _∙_}
+use mathlib.Core.Bool.{Bool, true, false}
+use mathlib.Core.List.{List, [], _∷_, _++_}
+use Prim.Native.Nat.{ℕ, _+_, _*_, _^_, _≤_, _<_}
+use native.Mathlib.Omega.{arith}
+use lib.ListN.{length, length-append}
+use Rattle.output.specs.Output.{hasRoom, placed, past}
+use Rattle.output.proofs.Laws.{has-room, lacks-room, past-room, past-short, length-placed}
+use Rattle.woot.specs.declared.Character.{Character}
+use Rattle.woot.specs.declared.Answer.{Answer}
+use Rattle.woot.specs.declared.Refusal.{Refusal}
+use Rattle.woot.specs.declared.Refusal.the-variants.{Layout, Range, Form, Position, Clock, Taken, Conflict, Crossed, Unplaceable, SenderFull, DocumentFull, Output}
+use Rattle.woot.specs.declared.Answer.the-variants.{Done, Deferred, Duplicate, Refused}
+use Rattle.woot.specs.Answers.{Reply, reply, number}
+use Rattle.woot.specs.Lists.{every}
+use Rattle.woot.specs.Operations.{origin}
+use Rattle.woot.specs.Ranges.{characterInRange}
+use Rattle.woot.specs.State.{meaning, counted}
+use Rattle.woot.specs.Form.{wellFormed, replicaWellFormed}
+use Rattle.convergence.proofs.Tests.{and-left, and-right}
+use Rattle.convergence.proofs.Forms.{formed}
+use Rattle.decimal.specs.Numeral.{digits}
+use Rattle.decimal.proofs.Laws.{width-by-power, width-le}
+use Rattle.codec.specs.Lines.{tab, lineFeed, columns}
+use Rattle.codec.proofs.Bounds.{insert-bounds}
+use Rattle.report.specs.Lines.{lineFrom, spelled, replyLine, reportLine, codePoints, textLetter, textNumbers, textLine}
+use Rattle.report.specs.Theorems.{ReportFits, TextFits}
+
+pub line-length : (head ns : List ℕ) → length (lineFrom head ns) ≡ length head + (length (columns ns) + 1)
+unfolding lineFrom
+line-length head ns =
+    length-append head (columns ns ++ (lineFeed ∷ [])) ∙ ap (λ (k : ℕ). length head + k) (length-append (columns ns) (lineFeed ∷ []))
+
+column-length : (n : ℕ) (ns : List ℕ) → length (columns (n ∷ ns)) ≡ length (digits n) + length (columns ns) + 1
+column-length n ns = omega (arith, length-append (digits n) (columns ns))
+
+-- ---- the report
+
+reply-length : (n : ℕ) (r : Reply)
+    → length (replyLine n r) ≡ length (digits n) + length (spelled (r .word)) + length (digits (r .integrated)) + length (digits (r .discarded)) + length (digits (r .refusal)) + 5
+unfolding replyLine
+reply-length n r =
+    omega (
+      arith,
+      line-length (digits n ++ tab ∷ spelled (r .word)) (r .integrated ∷ r .discarded ∷ r .refusal ∷ []),
+      length-append (digits n) (tab ∷ spelled (r .word)),
+      column-length (r .integrated) (r .discarded ∷ r .refusal ∷ []),
+      column-length (r .discarded) (r .refusal ∷ []),
+      column-length (r .refusal) [],
+    )
+
+-- the number of a refusal has at most two digits
+number-few : (r : Refusal) → number r < 100
+unfolding number
+number-few Layout = omega arith
+number-few Range = omega arith
+number-few Form = omega arith
+number-few Position = omega arith
+number-few Clock = omega arith
+number-few Taken = omega arith
+number-few Conflict = omega arith
+number-few Crossed = omega arith
+number-few Unplaceable = omega arith
+number-few SenderFull = omega arith
+number-few DocumentFull = omega arith
+number-few Output = omega arith
+
+-- nothing is counted but where operations were carried out, and a refusal has its number
+pub report-fits : ReportFits
+unfolding reportLine reply spelled
+report-fits n a h p q = go a p q
+  where
+    zero-few : length (digits 0) ≤ 1
+    zero-few = width-by-power 0 1 (omega arith) .1 (omega arith)
+
+    go : (b : Answer) → reply b .integrated < 2 ^ 64 → reply b .discarded < 2 ^ 64 → length (reportLine n b) ≤ 70
+    go (Done i d) k l = omega (arith, reply-length n (reply (Done i d)), width-le n h, width-le i k, width-le d l, zero-few)
+    go Deferred k l = omega (arith, reply-length n (reply Deferred), width-le n h, zero-few)
+    go Duplicate k l = omega (arith, reply-length n (reply Duplicate), width-le n h, zero-few)
+    go (Refused r) k l =
+        omega (arith, reply-length n (reply (Refused r)), width-le n h, zero-few, width-by-power (number r) 2 (omega arith) .1 (number-few r))
+
+-- ---- the text
+
+point-few : (c : Character) → characterInRange c ≡ true → length (digits (c .«code_point»)) ≤ 7
+unfolding characterInRange origin
+point-few c e = width-by-power (c .«code_point») 7 (omega arith) .1 (omega (arith, insert-bounds (origin c) e .code-bound))
+
+pub points-le : (cs : List Character) → length (codePoints cs) ≤ length cs
+unfolding codePoints
+points-le [] = omega arith
+points-le (x ∷ cs) = go (x .visible) refl (points-le cs)
+  where
+    go : (b : Bool) → x .visible ≡ b → length (codePoints cs) ≤ length cs → length (codePoints (x ∷ cs)) ≤ length (x ∷ cs)
+    go true e rest = rw e (omega arith)
+    go false e rest = rw e (omega arith)
+
+points-fit : (cs : List Character) → every characterInRange cs ≡ true → length (columns (codePoints cs)) ≤ 8 * length cs
+unfolding codePoints
+points-fit [] e = omega arith
+points-fit (c ∷ cs) e = go (c .visible) refl (points-fit cs (and-right (characterInRange c) (every characterInRange cs) e))
+  where
+    few : length (digits (c .«code_point»)) ≤ 7
+    few = point-few c (and-left (characterInRange c) (every characterInRange cs) e)
+
+    go : (b : Bool) → c .visible ≡ b → length (columns (codePoints cs)) ≤ 8 * length cs → length (columns (codePoints (c ∷ cs))) ≤ 8 * length (c ∷ cs)
+    go true v rest = rw v (omega (arith, few, column-length (c .«code_point») (codePoints cs)))
+    go false v rest = rw v (omega arith)
+
+pub text-fits : TextFits
+unfolding textLine textNumbers replicaWellFormed
+text-fits r e =
+    let cs = meaning r .characters in
+    let f = formed (meaning r) (and-right (counted r) (wellFormed (meaning r)) e) .sound in
+    omega (
+      arith,
+      f .room,
+      line-length (textLetter ∷ []) (textNumbers cs),
+      column-length (length (codePoints cs)) (codePoints cs),
+      points-le cs,
+      points-fit cs (f .ranges),
+      width-by-power (length (codePoints cs)) 4 (omega arith) .1 (omega (arith, points-le cs, f .room)),
+    )
+
+-- ---- what is written
+
+-- the length that is answered is within the slice
+pub written-within : (out bytes : List ℕ) {n : ℕ} {out′ : List ℕ} → n ≡ past out 0 bytes → out′ ≡ placed out 0 bytes → n ≤ length out′
+written-within out bytes {n} {out′} p q = go (hasRoom (length out) 0 (length bytes)) refl
+  where
+    kept : length out′ ≡ length out
+    kept = ap length q ∙ length-placed out 0 bytes
+
+    go : (b : Bool) → hasRoom (length out) 0 (length bytes) ≡ b → n ≤ length out′
+    go true e = omega (arith, kept, p, past-room out 0 bytes (has-room (length out) 0 (length bytes) e), has-room (length out) 0 (length bytes) e)
+    go false e = omega (arith, kept, p, past-short out 0 bytes (lacks-room (length out) 0 (length bytes) e))

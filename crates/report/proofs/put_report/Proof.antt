@@ -1,0 +1,74 @@
+-- `report::put_report` meets its contract: the part of the array that is lent is the head of the line.
+use mathlib.Core.Path.{refl, sym}
+use mathlib.Core.List.{_∷_, _++_}
+use borrow.Author.Needs.{needs}
+use lib.Seq.{length-take-le}
+use Rattle.decimal.specs.Numeral.{digits}
+use Rattle.codec.specs.Lines.{tab}
+use Rattle.report.proofs.Heads.{Front, head-put}
+use Rattle.report.proofs.put_report.Statement.{statement}
+use Rattle.report.proofs.put_report.Tie as tie
+
+abbrev start : tie.After-put-all → tie.Start
+start c = c .before .before .before .before .before .before .before .before .before .before
+
+slice-aggregate-write : tie.Need-slice-aggregate-write
+slice-aggregate-write c = search needs
+
+write-requires : tie.Need-write-requires
+write-requires c κs = search needs
+
+slice-aggregate-put : tie.Need-slice-aggregate-put
+slice-aggregate-put c = search needs
+
+put-requires : tie.Need-put-requires
+put-requires c κs = search needs
+
+slice-aggregate-put-all : tie.Need-slice-aggregate-put-all
+slice-aggregate-put-all c = search needs
+
+put-all-requires : tie.Need-put-all-requires
+put-all-requires c κs = search needs
+
+-- the head is in the array
+head : (c : tie.After-put-all) → Front (digits (start c .args .number) ++ tab ∷ start c .args .word .now) (c .put-all .last .0) (c .put-all .result)
+head c =
+    let p = c .before .before .before .before .before .before .write .ensures in
+    let q = c .before .before .before .put .ensures in
+    let r = c .put-all .ensures in
+    head-put (start c .args .number) (start c .args .word .now) _ refl (start c .fits .number .fits) (start c .pre) (p .0) (p .1) (q .0) (q .1) (r .0) (r .1)
+
+array-share-prefix-head : tie.Need-array-share-prefix-head
+array-share-prefix-head c = head (c .before) .fits
+
+slice-aggregate-put-line : tie.Need-slice-aggregate-put-line
+slice-aggregate-put-line c = sym (length-take-le _ _ (head (c .before .before) .fits))
+
+slice-aggregate-put-line-2 : tie.Need-slice-aggregate-put-line-2
+slice-aggregate-put-line-2 c = search needs
+
+put-line-requires : tie.Need-put-line-requires
+put-line-requires c κs = search needs
+
+same-length : tie.Need-same-length
+same-length c = search needs
+
+returns : tie.Need-returns
+returns c = rw (← head (c .before .before .before .before .before .before .before) .bytes) (c .before .before .put-line .ensures)
+
+pub put-report-spec : {M : Type 1} → statement M
+put-report-spec =
+    tie.close
+    (tie.spec
+    slice-aggregate-write
+    write-requires
+    slice-aggregate-put
+    put-requires
+    slice-aggregate-put-all
+    put-all-requires
+    array-share-prefix-head
+    slice-aggregate-put-line
+    slice-aggregate-put-line-2
+    put-line-requires
+    same-length
+    returns)

@@ -1,0 +1,64 @@
+-- `report::put_text` meets its contract: the part of the array that is lent holds the numbers of the line.
+use mathlib.Core.Path.{sym}
+use Prim.Native.Nat.{_+_, _≤_}
+use native.Mathlib.Omega.{arith}
+use borrow.Author.Needs.{needs}
+use lib.ListN.{take}
+use lib.Seq.{length-take-le}
+use Rattle.report.specs.Lines.{textNumbers, textLine}
+use Rattle.report.proofs.Heads.{Front}
+use Rattle.report.proofs.Listings.{listing-few, listing-front}
+use Rattle.report.proofs.put_text.Statement.{statement}
+use Rattle.report.proofs.put_text.Tie as tie
+
+used-requires : tie.Need-used-requires
+used-requires c κs = search needs
+
+list-requires : tie.Need-list-requires
+list-requires c κs = search needs
+
+abbrev start : tie.After-list → tie.Start
+start c = c .before .before .before
+
+few : (c : tie.After-list) → c .list .result .count ≤ 1024
+few c = listing-few _ (start c .good .0 .1 .0 .1) (start c .args .n) _ (c .before .used .ensures) _ (c .list .ensures)
+
+-- the numbers are in the array
+numbers : (c : tie.After-list) → Front (textNumbers (take (start c .args .n) (start c .args .cs))) (c .list .result .values) (c .list .result .count + 1)
+numbers c = listing-front _ (start c .good .0 .1 .0 .1) (start c .args .n) _ (c .before .used .ensures) _ (c .list .ensures)
+
+add-size : tie.Need-add-size
+add-size c = omega (arith, few (c .before .before))
+
+slice-aggregate-put-line : tie.Need-slice-aggregate-put-line
+slice-aggregate-put-line c = search needs
+
+array-share-prefix-values : tie.Need-array-share-prefix-values
+array-share-prefix-values c = numbers (c .before .before .before) .fits
+
+slice-aggregate-put-line-2 : tie.Need-slice-aggregate-put-line-2
+slice-aggregate-put-line-2 c = sym (length-take-le _ _ (numbers (c .before .before .before .before) .fits))
+
+put-line-requires : tie.Need-put-line-requires
+put-line-requires c κs = search needs
+
+same-length : tie.Need-same-length
+same-length c = search needs
+
+returns : tie.Need-returns
+unfolding textLine
+returns c = rw (← numbers (c .before .before .before .before .before .before .before .before) .bytes) (c .before .before .put-line .ensures)
+
+pub put-text-spec : {M : Type 1} → statement M
+put-text-spec =
+    tie.close
+    (tie.spec
+    used-requires
+    list-requires
+    add-size
+    slice-aggregate-put-line
+    array-share-prefix-values
+    slice-aggregate-put-line-2
+    put-line-requires
+    same-length
+    returns)

@@ -1,0 +1,38 @@
+-- What the hall program answers to a line, and all that it prints. (Document 01, "The hall program".)
+use Prim.Native.Nat.{ℕ, zero, suc, _+_}
+use mathlib.Core.Bool.{cond}
+use mathlib.Core.List.{List, _++_}
+use lib.Dec.{eqb}
+use lib.ListN.{length}
+use Rattle.woot.specs.declared.Replica.{Replica}
+use Rattle.woot.specs.declared.Receipt.{Receipt}
+use Rattle.woot.specs.declared.Answer.the-variants.{Refused}
+use Rattle.woot.specs.State.{initial, meaning, stored}
+use Rattle.codec.specs.declared.Read.{Read}
+use Rattle.codec.specs.declared.Read.the-variants.{Operation as readsAs, Refused as readRefused}
+use Rattle.codec.specs.Lines.{rest}
+use Rattle.codec.specs.Calls.{readOperation}
+use Rattle.replica.specs.Replicas.{received}
+use Rattle.report.specs.Lines.{reportLine, textLine}
+
+-- an operation is received; what could not be read is refused, and the very replica comes back
+unfoldable pub answeredAs : Replica → Read → Receipt
+answeredAs r (readsAs o) = received r o
+answeredAs r (readRefused q) = record { answer = Refused q; replica = r }
+
+-- the answer to the first line of the bytes
+unfoldable pub answered : Replica → List ℕ → Receipt
+answered r s = answeredAs r (readOperation s)
+
+-- what is printed from the line n of the input on, where the lines left are at most as many as the first number says
+unfoldable pub printedFrom : ℕ → ℕ → Replica → List ℕ → List ℕ
+printedFrom zero n r s = textLine (meaning r .characters)
+printedFrom (suc most) n r s =
+    let a : Receipt = answered r s in
+    cond (eqb (length s) 0)
+    (textLine (meaning r .characters))
+    (reportLine n (a .answer) ++ printedFrom most (n + 1) (a .replica) (rest s))
+
+-- the whole output on the whole input: "it begins with an empty sheet of laptop 16"
+unfoldable pub printed : List ℕ → List ℕ
+printed s = printedFrom (length s) 1 (stored (initial 16)) s

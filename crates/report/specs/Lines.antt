@@ -1,0 +1,51 @@
+-- The lines that the hall program prints. (Document 01, "The hall program".)
+use Prim.Native.Nat.{ℕ, suc}
+use mathlib.Core.List.{List, [], _∷_, _++_, map}
+use lib.ListN.{length}
+use Rattle.woot.specs.declared.Answer.{Answer}
+use Rattle.woot.specs.declared.Character.{Character}
+use Rattle.woot.specs.Lists.{keep}
+use Rattle.woot.specs.State.{characterSlots, pad}
+use Rattle.woot.specs.Answers.{Word, done, waits, known, refused, Reply, reply}
+use Rattle.decimal.specs.Numeral.{digits}
+use Rattle.codec.specs.Lines.{tab, lineFeed, columns}
+use Rattle.report.specs.declared.Listing.{Listing}
+
+-- a line that begins with the head and goes on with numbers, each after a tab; with its line feed
+unfoldable pub lineFrom : List ℕ → List ℕ → List ℕ
+lineFrom head ns = head ++ (columns ns ++ (lineFeed ∷ []))
+
+-- `done`, `waits`, `known`, `refused`
+unfoldable pub spelled : Word → List ℕ
+spelled done = 100 ∷ 111 ∷ 110 ∷ 101 ∷ []
+spelled waits = 119 ∷ 97 ∷ 105 ∷ 116 ∷ 115 ∷ []
+spelled known = 107 ∷ 110 ∷ 111 ∷ 119 ∷ 110 ∷ []
+spelled refused = 114 ∷ 101 ∷ 102 ∷ 117 ∷ 115 ∷ 101 ∷ 100 ∷ []
+
+-- "its number from 1, the word done, waits, known or refused, carried, thrown, refusal number or 0"
+unfoldable pub replyLine : ℕ → Reply → List ℕ
+replyLine n r = lineFrom (digits n ++ tab ∷ spelled (r .word)) (r .integrated ∷ r .discarded ∷ r .refusal ∷ [])
+
+-- the line on the line n of the input
+unfoldable pub reportLine : ℕ → Answer → List ℕ
+reportLine n a = replyLine n (reply a)
+
+-- `T`
+abbrev pub textLetter : ℕ
+textLetter = 84
+
+-- the code points of the visible characters, in order
+unfoldable pub codePoints : List Character → List ℕ
+codePoints cs = map (λ c. c .«code_point») (keep (λ c. c .visible) cs)
+
+-- "the count of shown rows and their code points"
+unfoldable pub textNumbers : List Character → List ℕ
+textNumbers cs = length (codePoints cs) ∷ codePoints cs
+
+-- those numbers in an array that has a slot for each that there can be, and how many follow the count
+unfoldable pub listing : List Character → Listing
+listing cs = record { values = pad (suc characterSlots) 0 (textNumbers cs); count = length (codePoints cs) }
+
+-- "last comes `T`"
+unfoldable pub textLine : List Character → List ℕ
+textLine cs = lineFrom (textLetter ∷ []) (textNumbers cs)

@@ -1,0 +1,198 @@
+// What the hall program prints of a text: a line for each line of its input, and last the visible characters. And what
+// it answers to a line.
+use woot::Answer;
+use woot::Character;
+use woot::Receipt;
+use woot::Refusal;
+use woot::Replica;
+ghost use mathlib.Core.Path.{_≡_};
+ghost use mathlib.Core.List.{_++_, _∷_};
+ghost use Prim.Native.Nat.{_+_, _≤_, min};
+ghost use lib.ListN.{length, take};
+ghost use Rattle.output.specs.Output.{hasRoom, placed, past};
+ghost use Rattle.decimal.specs.Numeral.{digits};
+ghost use Rattle.woot.specs.Answers.{number};
+ghost use Rattle.woot.specs.State.{meaning};
+ghost use Rattle.codec.specs.Lines.{tab, columns};
+ghost use Rattle.report.specs.Calls.{answered};
+ghost use Rattle.report.specs.Lines.{lineFrom, reportLine, textLine, listing};
+
+const TAB: u8 = 9;
+
+const LINE_FEED: u8 = 10;
+
+// Whether a slice of the given size has room for the numbers, each after a tab, and a line feed from the offset on.
+fn has_room(size: usize, at: usize, numbers: &[u64]) -> bool
+    ensures { λ r. ⌜ r ≡ hasRoom size at (length (columns (now (numbers .entry))) + 1) ⌝ }
+{
+    if !output::has_room(size, at, 1) {
+        return false;
+    }
+    let mut end = at + 1;
+    let mut i = 0;
+    while i < numbers.len() {
+        let count = decimal::width(numbers[i]) + 1;
+        if !output::has_room(size, end, count) {
+            return false;
+        }
+        end += count;
+        i += 1;
+    }
+    true
+}
+
+// Puts a line that begins with the head and goes on with numbers at the front of the slice, all of it or nothing, and
+// answers its length or 0.
+fn put_line(head: &[u8], numbers: &[u64], out: &mut [u8]) -> usize
+    ensures { λ r. ⌜ (r ≡ past (now (out .entry)) 0 (lineFrom (now (head .entry)) (now (numbers .entry)))) × (now (out .exit) ≡ placed (now (out .entry)) 0 (lineFrom (now (head .entry)) (now (numbers .entry)))) ⌝ }
+{
+    if !has_room(out.len(), head.len(), numbers) {
+        return 0;
+    }
+    let mut end = output::put_all(out, 0, head);
+    let mut i = 0;
+    while i < numbers.len() {
+        end = output::put(out, end, TAB);
+        end = decimal::write(numbers[i], out, end);
+        i += 1;
+    }
+    output::put(out, end, LINE_FEED)
+}
+
+// The number that document 01 gives a refusal.
+fn refusal_number(r: Refusal) -> u64
+    ensures { λ x. ⌜ x ≡ number r ⌝ }
+{
+    match r {
+        Refusal::Layout => 1,
+        Refusal::Range => 2,
+        Refusal::Form => 3,
+        Refusal::Position => 4,
+        Refusal::Clock => 5,
+        Refusal::Taken => 6,
+        Refusal::Conflict => 7,
+        Refusal::Crossed => 8,
+        Refusal::Unplaceable => 9,
+        Refusal::SenderFull => 10,
+        Refusal::DocumentFull => 11,
+        Refusal::Output => 12,
+    }
+}
+
+// Puts a line of a number, a word and three numbers at the front of the slice, all of it or nothing.
+fn put_report(number: u64, word: &[u8], values: [u64; 3], out: &mut [u8]) -> usize
+    requires { ⌜ length (now word) ≤ 7 ⌝ }
+    ensures { λ r. ⌜ (r ≡ past (now (out .entry)) 0 (lineFrom (digits number ++ tab ∷ now (word .entry)) values)) × (now (out .exit) ≡ placed (now (out .entry)) 0 (lineFrom (digits number ++ tab ∷ now (word .entry)) values)) ⌝ }
+{
+    let mut head = [0u8; 28];
+    let mut end = decimal::write(number, &mut head, 0);
+    end = output::put(&mut head, end, TAB);
+    end = output::put_all(&mut head, end, word);
+    put_line(&head[..end], &values, out)
+}
+
+// Writes the line on one line of input at the front of the slice, all of it or nothing, and answers its length or 0.
+pub fn report_line(number: u64, answer: Answer, out: &mut [u8]) -> usize
+    ensures { λ r. ⌜ (r ≡ past (now (out .entry)) 0 (reportLine number answer)) × (now (out .exit) ≡ placed (now (out .entry)) 0 (reportLine number answer)) ⌝ }
+{
+    match answer {
+        Answer::Done {
+            integrated,
+            discarded,
+        } => {
+            let word = [b'd', b'o', b'n', b'e'];
+            put_report(number, &word, [integrated as u64, discarded as u64, 0], out)
+        }
+        Answer::Deferred => {
+            let word = [b'w', b'a', b'i', b't', b's'];
+            put_report(number, &word, [0, 0, 0], out)
+        }
+        Answer::Duplicate => {
+            let word = [b'k', b'n', b'o', b'w', b'n'];
+            put_report(number, &word, [0, 0, 0], out)
+        }
+        Answer::Refused(r) => {
+            let word = [b'r', b'e', b'f', b'u', b's', b'e', b'd'];
+            put_report(number, &word, [0, 0, refusal_number(r)], out)
+        }
+    }
+}
+
+// What the text line lists: the count of the visible characters, their code points and zeros after them. The count
+// stands beside them too.
+struct Listing {
+    values: [u64; 1025],
+    count: usize,
+}
+
+// The code point of a character as a number of a line.
+fn code_point(c: Character) -> u64
+    ensures { λ r. ⌜ r ≡ c .«code_point» ⌝ }
+{
+    c.code_point as u64
+}
+
+// Lists the visible ones of the first n characters.
+fn list(cs: [Character; 1024], n: usize) -> Listing
+    requires { ⌜ n ≤ 1024 ⌝ }
+    ensures { λ r. ⌜ r ≡ listing (take n cs) ⌝ }
+{
+    let mut values = [0u64; 1025];
+    let mut count = 0;
+    let mut i = 0;
+    while i < n {
+        let c = cs[i];
+        if c.visible {
+            count += 1;
+            values[count] = code_point(c);
+        }
+        i += 1;
+    }
+    values[0] = count as u64;
+    Listing { values, count }
+}
+
+// How many of the characters' slots are in use: a count above them is taken as all.
+fn used(n: usize) -> usize
+    ensures { λ r. ⌜ r ≡ min 1024 n ⌝ }
+{
+    if n < 1024 {
+        return n;
+    }
+    1024
+}
+
+// Puts the line of the visible ones of the first n characters at the front of the slice, all of it or nothing.
+fn put_text(cs: [Character; 1024], n: usize, out: &mut [u8]) -> usize
+    ensures { λ r. ⌜ (r ≡ past (now (out .entry)) 0 (textLine (take n cs))) × (now (out .exit) ≡ placed (now (out .entry)) 0 (textLine (take n cs))) ⌝ }
+{
+    let letter = [b'T'];
+    let l = list(cs, used(n));
+    let values = l.values;
+    let size = l.count + 1;
+    put_line(&letter, &values[..size], out)
+}
+
+// Writes the line of a replica's visible characters at the front of the slice, all of it or nothing, and answers its
+// length or 0.
+pub fn text_line(r: Replica, out: &mut [u8]) -> usize
+    ensures { λ x. ⌜ (x ≡ past (now (out .entry)) 0 (textLine (meaning r .characters))) × (now (out .exit) ≡ placed (now (out .entry)) 0 (textLine (meaning r .characters))) ⌝ }
+{
+    let d = r.document;
+    let cs = d.characters;
+    put_text(cs, d.length, out)
+}
+
+// Answers the first line of the bytes: receives the operation that it says, or refuses it and returns the replica as it
+// was.
+pub fn answer_line(r: Replica, s: &[u8]) -> Receipt
+    ensures { λ x. ⌜ x ≡ answered r (now (s .entry)) ⌝ }
+{
+    match codec::read_operation(s) {
+        codec::Read::Operation(o) => replica::receive(r, o),
+        codec::Read::Refused(q) => Receipt {
+            answer: Answer::Refused(q),
+            replica: r,
+        },
+    }
+}
