@@ -243,47 +243,45 @@ generated-uncrossed s g n f h =
     let visible : g ≤ length (visibles (s .characters)) = ltb-false (length (visibles (s .characters))) g h in
     rw (marked-held (left-marked std g visible) (held-begin (s .characters)), marked-held (right-marked std g visible) (held-end (s .characters)), left-above std g visible)
 
--- what typing makes is in range, and has what it needs
-pub generated-step : (s : State) (g n : ℕ) → AllFail (insertChecks (wellFormed s) s g n) → Addable s (ahead (s .site)) (generatedInsert s g n)
-unfolding insertChecks generatedInsert nextIdentifier taken beyondVisible executable crossed siteInRange characterId previousId nextId
-generated-step s g n w =
+-- the next identifier is a character's
+pub next-character : (s : State) → Formed s → leb lastClock (s .site .clock) ≡ false → characterId (nextIdentifier (s .site)) ≡ true
+unfolding nextIdentifier characterId siteInRange
+next-character s form early =
+    let low = leb-false lastClock (s .site .clock) early in
+    and-intro (and-left (siteNumber (s .site .number)) (Ranges.within 0 lastClock (s .site .clock)) (form .site)) (to-within 1 lastClock (s .site .clock + 1) (omega arith) (omega arith))
+
+-- what typing makes, before it is known whether there is a place and room for it
+pub record Made (s : State) (i : Insert) : Type 0 where
+  pub ranged : insertInRange i ≡ true
+  pub fresh : any (same (i .id)) (identifiers (s .characters) ++ pendingIds (s .pending)) ≡ false
+  pub ready : executable (s .characters) (insert i) ≡ true
+  pub uncrossed : crossed (s .characters) (insert i) ≡ false
+
+-- it is in range, and has what it needs
+pub generated-made : (s : State) (g n : ℕ) → Formed s → codePoint n ≡ true → beyondVisible s g ≡ false → leb lastClock (s .site .clock) ≡ false → taken s ≡ false → Made s (generatedInsert s g n)
+unfolding generatedInsert taken beyondVisible executable crossed previousId nextId
+generated-made s g n form coded within-visible early free =
     record {
-      formed = form;
-      site = and-intro number clock;
       ranged = to-range (generatedInsert s g n) ranges;
       fresh = fresh;
-      space = space-insert s (generatedInsert s g n) (w .1 .1 .1 .1 .1 .1 .0);
       ready = and-intro left right;
-      uncrossed = generated-uncrossed s g n form (w .1 .1 .0);
-      placeable = w .1 .1 .1 .1 .1 .0;
+      uncrossed = generated-uncrossed s g n form within-visible;
     }
   where
-    form : Formed s
-    form = formed s (not-false (wellFormed s) (w .1 .0))
-
     std : Standing (s .characters)
     std = standing (form .sound)
 
     visible : g ≤ length (visibles (s .characters))
-    visible = ltb-false (length (visibles (s .characters))) g (w .1 .1 .0)
-
-    low : s .site .clock < lastClock
-    low = leb-false lastClock (s .site .clock) (w .1 .1 .1 .0)
-
-    number : siteNumber (s .site .number) ≡ true
-    number = and-left (siteNumber (s .site .number)) (Ranges.within 0 lastClock (s .site .clock)) (form .site)
-
-    clock : Ranges.within 0 lastClock (s .site .clock + 1) ≡ true
-    clock = to-within 0 lastClock (s .site .clock + 1) (omega arith) (omega (arith, low))
+    visible = ltb-false (length (visibles (s .characters))) g within-visible
 
     fresh : any (same (nextIdentifier (s .site))) (identifiers (s .characters) ++ pendingIds (s .pending)) ≡ false
-    fresh = subst (λ (xs : List Identifier). any (same (nextIdentifier (s .site))) xs ≡ false) (known-ids s) (any-map (same (nextIdentifier (s .site))) (λ j. j .id) (known s) ∙ w .1 .1 .1 .1 .0)
+    fresh = subst (λ (xs : List Identifier). any (same (nextIdentifier (s .site))) xs ≡ false) (known-ids s) (any-map (same (nextIdentifier (s .site))) (λ j. j .id) (known s) ∙ free)
 
     unused-here : any (same (nextIdentifier (s .site))) (identifiers (s .characters)) ≡ false
     unused-here = any-left (same (nextIdentifier (s .site))) (identifiers (s .characters)) (pendingIds (s .pending)) fresh
 
     id : characterId (nextIdentifier (s .site)) ≡ true
-    id = and-intro number (to-within 1 lastClock (s .site .clock + 1) (omega arith) (omega (arith, low)))
+    id = next-character s form early
 
     left : held (s .characters) (leftOf (s .characters) g) ≡ true
     left = marked-held (left-marked std g visible) (held-begin (s .characters))
@@ -299,12 +297,36 @@ generated-step s g n w =
     ranges =
         record {
           id = id;
-          code = not-false (codePoint n) (w .0);
+          code = coded;
           previous = may-stand begin (left-marked std g visible);
           next = may-stand end (right-marked std g visible);
           not-previous = beside (nextIdentifier (s .site)) (ne-same (nextIdentifier (s .site)) begin (no-mark (nextIdentifier (s .site)) 0 id)) unused-here (left-marked std g visible);
           not-next = beside (nextIdentifier (s .site)) (ne-same (nextIdentifier (s .site)) end (no-mark (nextIdentifier (s .site)) 1 id)) unused-here (right-marked std g visible);
         }
+
+-- the advanced clock is in range
+advanced-site : (s : State) → Formed s → leb lastClock (s .site .clock) ≡ false → siteInRange (ahead (s .site)) ≡ true
+unfolding siteInRange
+advanced-site s form early =
+    let low = leb-false lastClock (s .site .clock) early in
+    and-intro (and-left (siteNumber (s .site .number)) (Ranges.within 0 lastClock (s .site .clock)) (form .site)) (to-within 0 lastClock (s .site .clock + 1) (omega arith) (omega arith))
+
+-- where every condition fails, it is carried out
+generated-step : (s : State) (g n : ℕ) → AllFail (insertChecks (wellFormed s) s g n) → Addable s (ahead (s .site)) (generatedInsert s g n)
+unfolding insertChecks
+generated-step s g n w =
+    let form = formed s (not-false (wellFormed s) (w .1 .0)) in
+    let m = generated-made s g n form (not-false (codePoint n) (w .0)) (w .1 .1 .0) (w .1 .1 .1 .0) (w .1 .1 .1 .1 .0) in
+    record {
+      formed = form;
+      site = advanced-site s form (w .1 .1 .1 .0);
+      ranged = m .ranged;
+      fresh = m .fresh;
+      space = space-insert s (generatedInsert s g n) (w .1 .1 .1 .1 .1 .1 .0);
+      ready = m .ready;
+      uncrossed = m .uncrossed;
+      placeable = w .1 .1 .1 .1 .1 .0;
+    }
 
 -- ---- every call
 

@@ -17,10 +17,11 @@ use Rattle.woot.specs.Identifiers.{same}
 use Rattle.woot.specs.Lists.{any}
 use Rattle.woot.specs.Operations.{sender, origin, inserts}
 use Rattle.woot.specs.Ranges.{characterId, insertInRange, characterInRange}
-use Rattle.woot.specs.State.{State, meaning}
+use Rattle.woot.specs.State.{State, blankCharacter, meaning}
 use Rattle.woot.specs.Placing.{identifiers}
 use Rattle.woot.specs.Form.{known, replicaWellFormed}
-use Rattle.convergence.proofs.Members.{any-append, every-member}
+use Rattle.convergence.proofs.Members.{member-any, any-append, every-member}
+use Rattle.convergence.proofs.Identifiers.{eq-same}
 use Rattle.convergence.proofs.Tests.{or-false}
 use Rattle.convergence.proofs.Forms.{Formed, formed, known-ids}
 use Rattle.convergence.proofs.Steps.{any-map}
@@ -122,6 +123,16 @@ module _ (r : Replica) (x : Index) (q : Queue) (full : FullDocument (r .document
     nobody h =
         sym (any-map (same id) (λ j. j .id) (known (meaning r)))
         ∙ rw (known-ids (meaning r)) (any-append (same id) (identifiers (meaning r .characters)) _ ∙ or-false (h .0) (any-map (same id) (λ j. j .id) (inserts (meaning r .pending)) ∙ h .1))
+
+    -- one of them has it
+    pub character-takes : (k : ℕ) → Has (ofCharacter k) → any (λ j. same id (j .id)) (known (meaning r)) ≡ true
+    unfolding known origin
+    character-takes k h =
+        member-any (λ (j : Insert). same id (j .id)) (Memᴰ·append-left (inserts (meaning r .pending)) (Memᴰ·map origin (h .member blankCharacter))) (eq-same (h .is blankCharacter))
+
+    pub pending-takes : (j : ℕ) → Has (ofPending j) → any (λ j. same id (j .id)) (known (meaning r)) ≡ true
+    unfolding known
+    pending-takes j h = member-any (λ (j : Insert). same id (j .id)) (Memᴰ·append-right (map origin (meaning r .characters)) (h .1 .member)) (eq-same (h .1 .is))
 
     -- where its holder is
     pub character-within : (k : ℕ) → Has (ofCharacter k) → k < r .document .length

@@ -5,25 +5,38 @@ use mathlib.Core.Path.{_≡_, sym, ap, _∙_}
 use mathlib.Core.Bool.{Bool, true, false, _||_}
 use mathlib.Core.List.{List, [], _∷_, _++_}
 use borrow.Author.Tests.{eq-eqb, ne-eqb}
-use lib.Dec.{ltb, eqb}
+use lib.Dec.{leb, ltb, eqb}
 use lib.ListN.{length, take, getD}
 use Rattle.woot.specs.declared.Identifier.{Identifier}
+use Rattle.woot.specs.declared.Insert.{Insert}
 use Rattle.woot.specs.declared.Operation.the-variants.{Insert as insert, Delete as delete}
 use Rattle.woot.specs.declared.Replica.{Replica}
 use Rattle.woot.specs.declared.Sent.the-variants.{Done as sentDone, Refused as sentRefused}
-use Rattle.woot.specs.declared.Refusal.the-variants.{Position}
+use Rattle.woot.specs.declared.Refusal.the-variants.{Position, Unplaceable as placeless, DocumentFull}
 use Rattle.woot.specs.declared.Generated.{Generated}
+use Rattle.woot.specs.Limits.{capacity}
 use Rattle.woot.specs.Identifiers.{begin, end}
 use Rattle.woot.specs.State.{pad, meaning, stored}
-use Rattle.woot.specs.Placing.{integrateDelete}
-use Rattle.woot.specs.Form.{replicaWellFormed}
-use Rattle.woot.specs.Calls.{visibles, withCharacters, beyondVisible, notVisible, generatedDelete}
+use Rattle.woot.specs.Placing.{integrateInsert, integrateDelete}
+use Rattle.woot.specs.Pending.{unplaceable}
+use Rattle.woot.specs.Form.{known, replicaWellFormed}
+use Rattle.woot.specs.Calls.{visibles, withCharacters, afterDrain, insertCarried, documentFull, advanced, beyondVisible, notVisible, generatedDelete}
+use Rattle.convergence.proofs.Tests.{clash}
+use Rattle.convergence.proofs.Steps.{space-insert}
+use Rattle.replica.specs.declared.work.Work.{Work}
+use Rattle.replica.specs.declared.placing.Placement.the-variants.{Missing, Crossed, Unplaceable, Below}
 use Rattle.replica.specs.Replicas.{deleted}
+use Rattle.replica.specs.Work.{placementOf, finished}
+use Rattle.replica.specs.Needs.{Placed, Sendable}
+use Rattle.replica.specs.Sending.{sentInsert}
 use Rattle.replica.specs.Visible.{visibility, countIn}
 use Rattle.replica.proofs.Fullness.{FullDocument}
-use Rattle.replica.proofs.Stored.{Counts}
+use Rattle.replica.proofs.Placements.{says}
+use Rattle.replica.proofs.Stored.{Counts, finished-integrated, finished-discarded, finished-stored}
+use Rattle.replica.proofs.Examining.{form}
+use Rattle.replica.proofs.Receiving.{addable-placed}
 use Rattle.replica.proofs.Visibility.{lent-count}
-use Rattle.replica.proofs.Outcomes.{delete-nowhere, delete-done}
+use Rattle.replica.proofs.Outcomes.{sent-placeless, sent-full, sent-done, delete-nowhere, delete-done}
 
 -- whether there are so many visible characters, by the flags
 pub beyond-flags : (r : Replica) → FullDocument (r .document) → Counts r → (fs : List Bool) (g : ℕ)
@@ -32,6 +45,52 @@ pub beyond-flags : (r : Replica) → FullDocument (r .document) → Counts r →
 unfolding beyondVisible meaning
 beyond-flags r full few fs g e =
     ap (λ (k : ℕ). ltb k g) (lent-count 1024 (r .document .length) (r .document .characters) (omega (arith, full .characters, few .characters)) fs e)
+
+-- ---- inserting
+
+module _ (r : Replica) (i : Insert) (a : Sendable r i) where
+  -- its neighbours are held and in order
+  pub never-missing : placementOf (meaning r .characters) i ≡ Missing → ⊥
+  never-missing p = clash (a .made .ready) (says (meaning r .characters) i Missing p)
+
+  pub never-crossed : placementOf (meaning r .characters) i ≡ Crossed → ⊥
+  never-crossed p = clash (says (meaning r .characters) i Crossed p .1) (a .made .uncrossed)
+
+  pub send-placeless : placementOf (meaning r .characters) i ≡ Unplaceable → sentInsert r i ≡ record { answer = sentRefused placeless; replica = r }
+  send-placeless p = sent-placeless r i (says (meaning r .characters) i Unplaceable p .2)
+
+  module _ (k : ℕ) (p : placementOf (meaning r .characters) i ≡ Below k) where
+    placeable : unplaceable (meaning r .characters) (insert i) ≡ false
+    placeable = says (meaning r .characters) i (Below k) p .2
+
+    pub send-full : leb capacity (length (known (meaning r))) ≡ true → sentInsert r i ≡ record { answer = sentRefused DocumentFull; replica = r }
+    unfolding documentFull
+    send-full e = sent-full r i placeable e
+
+    module _ (space : leb capacity (length (known (meaning r))) ≡ false) where
+      pub send-placed : Placed r i k
+      unfolding documentFull
+      send-placed =
+          addable-placed r (a .form) (meaning r .site) i k
+          record {
+            formed = form r (a .form);
+            site = form r (a .form) .site;
+            ranged = a .made .ranged;
+            fresh = a .made .fresh;
+            space = space-insert (meaning r) i space;
+            ready = a .made .ready;
+            uncrossed = a .made .uncrossed;
+            placeable = placeable;
+          }
+          p
+
+      pub send-done : (w : Work) → w ≡ finished (integrateInsert (meaning r .characters) i) (meaning r .pending) 1 0
+          → _≡_ {A = Generated} (record { answer = sentDone (insert i) (w .integrated) (w .discarded); replica = record { site = record { number = r .site .number; clock = r .site .clock + 1 }; document = w .document } }) (sentInsert r i)
+      unfolding documentFull afterDrain advanced insertCarried meaning
+      send-done w e =
+          let cs = integrateInsert (meaning r .characters) i in
+          rw (finished-integrated cs (meaning r .pending) e, finished-discarded cs (meaning r .pending) e, finished-stored cs (meaning r .pending) e (record { number = r .site .number; clock = r .site .clock + 1 }))
+          (sym (sent-done r i placeable space))
 
 -- ---- deleting
 

@@ -25,6 +25,7 @@ use Rattle.woot.specs.Placing.{integrateDelete}
 use Rattle.woot.specs.Pending.{executable, crossed, unplaceable, Drained}
 use Rattle.woot.specs.Form.{replicaWellFormed}
 use Rattle.woot.specs.Calls.{unchanged, decided, withCharacters, withPending, afterDrain, insertCarried, duplicate, conflicting, senderFull, documentFull, receiveChecks, carryOut, defer, accept, receiveWhen, generatedInsert, beyondVisible, taken, insertChecks, advanced, sendInsert, localInsertWhen, notVisible, deleteChecks, generatedDelete, sendDelete, localDeleteWhen}
+use Rattle.replica.specs.Sending.{sendChecks, sentInsert}
 use Rattle.replica.specs.Replicas.{afterAnswer, afterSent, receipt, generated, received, inserted, deleted}
 
 -- ---- receiving
@@ -123,19 +124,25 @@ module _ (r : Replica) (g n : ℕ) where
           insert-taken e = rw (ranged, form, visible, early, e)
 
           module _ (free : taken (meaning r) ≡ false) where
-            pub insert-placeless : unplaceable (meaning r .characters) (insert (generatedInsert (meaning r) g n)) ≡ true → inserted r g n ≡ insert-refused Unplaceable
-            unfolding inserted generated afterSent localInsertWhen insertChecks decided unchanged
-            insert-placeless e = rw (ranged, form, visible, early, free, e)
+            pub insert-sent : inserted r g n ≡ sentInsert r (generatedInsert (meaning r) g n)
+            unfolding inserted localInsertWhen insertChecks sentInsert sendChecks
+            insert-sent = rw (ranged, form, visible, early, free)
 
-            module _ (placed : unplaceable (meaning r .characters) (insert (generatedInsert (meaning r) g n)) ≡ false) where
-              pub insert-full : documentFull (meaning r) (insert (generatedInsert (meaning r) g n)) ≡ true → inserted r g n ≡ insert-refused DocumentFull
-              unfolding inserted generated afterSent localInsertWhen insertChecks decided unchanged
-              insert-full e = rw (ranged, form, visible, early, free, placed, e)
+-- once the insert is made
+module _ (r : Replica) (i : Insert) where
+  pub sent-placeless : unplaceable (meaning r .characters) (insert i) ≡ true → sentInsert r i ≡ record { answer = sentRefused Unplaceable; replica = r }
+  unfolding sentInsert sendChecks generated afterSent decided unchanged
+  sent-placeless e = rw e
 
-              module _ (space : documentFull (meaning r) (insert (generatedInsert (meaning r) g n)) ≡ false) where
-                pub insert-done : inserted r g n ≡ generated r (sendInsert (meaning r) (generatedInsert (meaning r) g n))
-                unfolding inserted localInsertWhen insertChecks decided
-                insert-done = rw (ranged, form, visible, early, free, placed, space)
+  module _ (placed : unplaceable (meaning r .characters) (insert i) ≡ false) where
+    pub sent-full : documentFull (meaning r) (insert i) ≡ true → sentInsert r i ≡ record { answer = sentRefused DocumentFull; replica = r }
+    unfolding sentInsert sendChecks generated afterSent decided unchanged
+    sent-full e = rw (placed, e)
+
+    pub sent-done : documentFull (meaning r) (insert i) ≡ false
+        → sentInsert r i ≡ record { answer = sentDone (insert i) (suc (length (insertCarried (meaning r) i .integrated))) (length (insertCarried (meaning r) i .discarded)); replica = stored (afterDrain (advanced (meaning r)) (insertCarried (meaning r) i)) }
+    unfolding sentInsert sendChecks generated afterSent decided sendInsert
+    sent-done e = rw (placed, e)
 
 -- ---- erasing
 

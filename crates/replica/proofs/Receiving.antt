@@ -23,7 +23,7 @@ use Rattle.woot.specs.Operations.{sender, inserts}
 use Rattle.woot.specs.Ranges.{insertInRange, inRange}
 use Rattle.woot.specs.State.{State, meaning, stored}
 use Rattle.woot.specs.Placing.{integrateInsert}
-use Rattle.woot.specs.Pending.{executable, crossed, unplaceable, pendingFrom, Drained, drain}
+use Rattle.woot.specs.Pending.{executable, crossed, unplaceable, pendingFrom}
 use Rattle.woot.specs.Form.{known, replicaWellFormed}
 use Rattle.woot.specs.Calls.{afterDrain, insertCarried, withPending, duplicate, conflicting, senderFull, documentFull}
 use Rattle.convergence.proofs.Tests.{either, clash}
@@ -39,13 +39,13 @@ use Rattle.replica.specs.declared.known.Seen.{Seen}
 use Rattle.replica.specs.declared.known.Seen.the-variants.{New as unseen, Same, Other}
 use Rattle.replica.specs.Replicas.{received}
 use Rattle.replica.specs.Queue.{packed}
-use Rattle.replica.specs.Work.{placementOf, workOf, finished}
+use Rattle.replica.specs.Work.{placementOf, finished}
 use Rattle.replica.specs.Known.{seenOf}
 use Rattle.replica.specs.Needs.{Examined, New, Placed}
 use Rattle.replica.proofs.Fullness.{FullDocument}
 use Rattle.replica.proofs.Pending.{count-senders, count-own}
 use Rattle.replica.proofs.Placements.{says}
-use Rattle.replica.proofs.Stored.{form-counted, character-count, pending-count}
+use Rattle.replica.proofs.Stored.{form-counted, character-count, pending-count, finished-integrated, finished-discarded, finished-stored}
 use Rattle.replica.proofs.Examining.{few, form, keyed, own-used, senders-used}
 use Rattle.replica.proofs.Outcomes as outcomes
 
@@ -176,10 +176,8 @@ module _ (r : Replica) (q : Queue) (i : Insert) (n : New r q (insert i)) where
 
       pub insert-done : (w : Work) → w ≡ finished (integrateInsert (meaning r .characters) i) (meaning r .pending) 1 0
           → _≡_ {A = Receipt} (record { answer = Done (w .integrated) (w .discarded); replica = record { site = r .site; document = w .document } }) (received r (insert i))
-      unfolding finished workOf stored afterDrain insertCarried meaning
+      unfolding afterDrain insertCarried meaning
       insert-done w e =
-          let d : Drained = insertCarried (meaning r) i in
-          let one : 1 + length (d .integrated) ≡ suc (length (d .integrated)) = omega arith in
-          let none : 0 + length (d .discarded) ≡ length (d .discarded) = omega arith in
-          rw (e, one, none)
+          let cs = integrateInsert (meaning r .characters) i in
+          rw (finished-integrated cs (meaning r .pending) e, finished-discarded cs (meaning r .pending) e, finished-stored cs (meaning r .pending) e (r .site))
           (sym (outcomes.accepted r (insert i) (n .ranged) (n .form) (n .new) (n .sole) uncrossed placeable prompt space ∙ outcomes.carried-insert r i ready))

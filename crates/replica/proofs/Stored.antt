@@ -1,5 +1,7 @@
 -- A replica whose counts are within its arrays, and what is stored once one of its lists is changed.
-use Prim.Native.Nat.{ℕ, _+_, _^_, _≤_, _<_}
+use Prim.Native.Nat.{ℕ, suc, _+_, _^_, _≤_, _<_}
+use native.Mathlib.Nat.{zero-add}
+use native.Mathlib.Numerals.{one-add}
 use native.Mathlib.Omega.{arith}
 use mathlib.Core.Path.{_≡_, refl, sym, ap, _∙_}
 use mathlib.Core.Bool.{true}
@@ -17,6 +19,7 @@ use Rattle.woot.specs.declared.Document.{Document}
 use Rattle.woot.specs.declared.Replica.{Replica}
 use Rattle.woot.specs.State.{State, characterSlots, pendingSlots, pad, waiting, blankCharacter, blankPending, meaning, documentOf, stored, counted}
 use Rattle.woot.specs.Placing.{insertAt, integrateDelete}
+use Rattle.woot.specs.Pending.{drain}
 use Rattle.woot.specs.Form.{wellFormed, replicaWellFormed}
 use Rattle.convergence.proofs.Tests.{and-left, and-right}
 use Rattle.convergence.proofs.Deletion.{delete-length}
@@ -136,3 +139,17 @@ carried-workable cs ps {w} e s =
 -- and what draining it leaves
 pub carried-finished : (cs : List Character) (ps : List Operation) {w : Work} → w ≡ workOf cs ps 1 0 → finished (charactersIn (w .document)) (pendingIn (w .document)) (w .integrated) (w .discarded) ≡ finished cs ps 1 0
 carried-finished cs ps e = rw (e, work-characters cs ps 1 0, work-pending cs ps 1 0, work-integrated cs ps 1 0, work-discarded cs ps 1 0)
+
+-- what it answers and leaves
+module _ (cs : List Character) (ps : List Operation) {w : Work} (e : w ≡ finished cs ps 1 0) where
+  pub finished-integrated : w .integrated ≡ suc (length (drain cs ps .integrated))
+  unfolding finished workOf
+  finished-integrated = ap (λ (v : Work). v .integrated) e ∙ one-add (length (drain cs ps .integrated))
+
+  pub finished-discarded : w .discarded ≡ length (drain cs ps .discarded)
+  unfolding finished workOf
+  finished-discarded = ap (λ (v : Work). v .discarded) e ∙ zero-add (length (drain cs ps .discarded))
+
+  pub finished-stored : (t : Site) → _≡_ {A = Replica} (record { site = t; document = w .document }) (stored (record { site = t; characters = drain cs ps .characters; pending = drain cs ps .pending }))
+  unfolding finished workOf stored
+  finished-stored t = ap (λ (v : Work). record { site = t; document = v .document }) e

@@ -8,3 +8,4 @@ pub mod Visible
 pub mod Form
 pub mod Known
 pub mod Needs
+pub mod Sending

@@ -7,7 +7,7 @@ use Rattle.woot.specs.declared.Insert.{Insert}
 use Rattle.woot.specs.declared.Delete.{Delete}
 use Rattle.woot.specs.declared.Operation.{Operation}
 use Rattle.woot.specs.declared.Replica.{Replica}
-use Rattle.woot.specs.Limits.{capacity}
+use Rattle.woot.specs.Limits.{lastClock, capacity}
 use Rattle.woot.specs.Lists.{any}
 use Rattle.woot.specs.Identifiers.{same}
 use Rattle.woot.specs.Operations.{character}
@@ -18,6 +18,7 @@ use Rattle.woot.specs.Pending.{executable}
 use Rattle.woot.specs.Form.{replicaWellFormed}
 use Rattle.woot.specs.Calls.{duplicate, conflicting}
 use Rattle.convergence.proofs.Forms.{Sound}
+use Rattle.convergence.proofs.Steps.{Made}
 use Rattle.replica.specs.declared.index.Index.{Index}
 use Rattle.replica.specs.declared.queue.Queue.{Queue}
 use Rattle.replica.specs.Index.{indexOf}
@@ -43,6 +44,12 @@ pub record Absent (r : Replica) (q : Queue) (d : Delete) : Type 0 where
   pub queue : q ≡ packed (meaning r .pending)
   pub ranged : deleteInRange d ≡ true
   pub nowhere : any (same (d .target)) (identifiers (meaning r .characters)) ≡ false
+
+-- an insert that was made here: nothing has its identifier, and its neighbours are held and in order
+pub record Sendable (r : Replica) (i : Insert) : Type 0 where
+  pub form : replicaWellFormed r ≡ true
+  pub early : r .site .clock < lastClock
+  pub made : Made (meaning r) i
 
 -- an insert that goes in after the first k characters, and leaves the lists sound
 pub record Placed (r : Replica) (i : Insert) (k : ℕ) : Type 0 where

@@ -1,21 +1,42 @@
 // Inserting and deleting here, on a replica that is well formed. (Document 01: typing and erasing.)
+use crate::index::Index;
+use crate::known;
+use crate::known::Holder;
+use crate::placing;
+use crate::placing::Placement;
+use crate::queue::Queue;
+use crate::room;
 use crate::storing;
 use crate::visible;
 use woot::Delete;
 use woot::Generated;
+use woot::Identifier;
+use woot::Insert;
 use woot::Operation;
 use woot::Refusal;
 use woot::Replica;
 use woot::Sent;
+use woot::Site;
 ghost use mathlib.Core.Path.{_≡_};
-ghost use mathlib.Core.Bool.{true};
-ghost use Prim.Native.Nat.{_≤_};
+ghost use mathlib.Core.Bool.{true, false};
+ghost use Prim.Native.Nat.{_≤_, _<_};
 ghost use lib.Dec.{ltb};
 ghost use lib.ListN.{take};
 ghost use Rattle.woot.specs.declared.Sent.the-variants.{Refused as sentRefused};
-ghost use Rattle.woot.specs.Form.{replicaWellFormed};
-ghost use Rattle.replica.specs.Replicas.{deleted};
-ghost use Rattle.replica.specs.Visible.{countIn};
+ghost use Rattle.woot.specs.Limits.{lastClock};
+ghost use Rattle.woot.specs.Identifiers.{same};
+ghost use Rattle.woot.specs.Lists.{any};
+ghost use Rattle.woot.specs.Ranges.{codePoint, characterId};
+ghost use Rattle.woot.specs.State.{pad, meaning, counted};
+ghost use Rattle.woot.specs.Form.{known, replicaWellFormed};
+ghost use Rattle.woot.specs.Calls.{generatedInsert};
+ghost use Rattle.replica.specs.declared.placing.Placement.the-variants.{Below};
+ghost use Rattle.replica.specs.Replicas.{inserted, deleted};
+ghost use Rattle.replica.specs.Visible.{visibility, countIn};
+ghost use Rattle.replica.specs.Queue.{packed};
+ghost use Rattle.replica.specs.Work.{placementOf};
+ghost use Rattle.replica.specs.Needs.{Examined, Sendable};
+ghost use Rattle.replica.specs.Sending.{sentInsert};
 
 // The replica as it was, with a refusal.
 pub(crate) fn refused(r: Replica, refusal: Refusal) -> Generated
@@ -33,6 +54,111 @@ fn is_beyond(flags: [bool; 1024], n: usize, number: usize) -> bool
     ensures { λ x. ⌜ x ≡ ltb (countIn (take n flags)) number ⌝ }
 {
     visible::count(&flags[..n]) < number
+}
+
+// The insert that is made here: the next identifier, and the visible neighbours of the insertion point.
+fn generated_insert(r: Replica, flags: [bool; 1024], point: usize, code_point: u32) -> Insert
+    requires { ⌜ (counted r ≡ true) × (r .site .clock < lastClock) × (flags ≡ pad 1024 false (visibility (meaning r .characters))) ⌝ }
+    ensures { λ x. ⌜ x ≡ generatedInsert (meaning r) point «code_point» ⌝ }
+{
+    let site = r.site;
+    let d = r.document;
+    let n = d.length;
+    let cs = d.characters;
+    Insert {
+        id: Identifier {
+            site: site.number,
+            clock: site.clock + 1,
+        },
+        code_point,
+        previous: visible::left(cs, n, flags, point),
+        next: visible::right(cs, n, flags, point),
+    }
+}
+
+// Whether an identifier belongs to a character or a pending insert.
+fn is_taken(r: Replica, x: Index, q: Queue, id: Identifier) -> bool
+    requires { ⌜ Examined r x q × (characterId id ≡ true) ⌝ }
+    ensures { λ y. ⌜ y ≡ any (λ j. same id (j .id)) (known (meaning r)) ⌝ }
+{
+    let d = r.document;
+    match known::holder_of(x, d.length, q, d.waiting, id) {
+        Holder::Character(_) => true,
+        Holder::Pending(_) => true,
+        Holder::Nobody => false,
+    }
+}
+
+// Carries out an insert that goes in after the first k characters, and advances the clock.
+fn send(r: Replica, q: Queue, i: Insert, k: usize) -> Generated
+    requires { ⌜ Sendable r i × (q ≡ packed (meaning r .pending)) × (placementOf (meaning r .characters) i ≡ Below k) ⌝ }
+    ensures { λ y. ⌜ y ≡ sentInsert r i ⌝ }
+{
+    let d = r.document;
+    if room::document_full(d.length, q, d.waiting) {
+        return refused(r, Refusal::DocumentFull);
+    }
+    let site = r.site;
+    let w = storing::integrated(r, i, k);
+    let document = w.document;
+    Generated {
+        answer: Sent::Done {
+            operation: Operation::Insert(i),
+            integrated: w.integrated,
+            discarded: w.discarded,
+        },
+        replica: Replica {
+            site: Site {
+                number: site.number,
+                clock: site.clock + 1,
+            },
+            document,
+        },
+    }
+}
+
+// Carries out an insert that was made here, where it has a place. Its neighbours are held and in order.
+fn send_placed(r: Replica, x: Index, q: Queue, i: Insert) -> Generated
+    requires { ⌜ Examined r x q × Sendable r i ⌝ }
+    ensures { λ y. ⌜ y ≡ sentInsert r i ⌝ }
+{
+    let d = r.document;
+    match placing::find_place(x, d.length, i) {
+        Placement::Missing => refused(r, Refusal::Unplaceable),
+        Placement::Crossed => refused(r, Refusal::Unplaceable),
+        Placement::Unplaceable => refused(r, Refusal::Unplaceable),
+        Placement::Below(k) => send(r, q, i, k),
+    }
+}
+
+// Inserts a code point at an insertion point among the visible characters.
+pub(crate) fn insert_visible(
+    r: Replica,
+    x: Index,
+    q: Queue,
+    point: usize,
+    code_point: u32,
+) -> Generated
+    requires { ⌜ Examined r x q × (codePoint «code_point» ≡ true) ⌝ }
+    ensures { λ y. ⌜ y ≡ inserted r point «code_point» ⌝ }
+{
+    let d = r.document;
+    let n = d.length;
+    let cs = d.characters;
+    let flags = visible::flags(cs, n);
+    if is_beyond(flags, n, point) {
+        return refused(r, Refusal::Position);
+    }
+    let site = r.site;
+    if 65535 <= site.clock {
+        return refused(r, Refusal::Clock);
+    }
+    let i = generated_insert(r, flags, point, code_point);
+    let id = i.id;
+    if is_taken(r, x, q, id) {
+        return refused(r, Refusal::Taken);
+    }
+    send_placed(r, x, q, i)
 }
 
 // Deletes the visible character at the index, counted from 1.

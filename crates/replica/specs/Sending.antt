@@ -1,0 +1,23 @@
+-- Inserting here once the insert is made: the conditions that are left, and what is sent.
+use mathlib.Core.Path.{_≡_}
+use mathlib.Core.Bool.{true, false}
+use mathlib.Core.List.{List, [], _∷_}
+use Rattle.woot.specs.declared.Insert.{Insert}
+use Rattle.woot.specs.declared.Operation.the-variants.{Insert as insert}
+use Rattle.woot.specs.declared.Replica.{Replica}
+use Rattle.woot.specs.declared.Refusal.the-variants.{Unplaceable, DocumentFull}
+use Rattle.woot.specs.declared.Sent.{Sent}
+use Rattle.woot.specs.declared.Sent.the-variants.{Refused as sentRefused}
+use Rattle.woot.specs.declared.Generated.{Generated}
+use Rattle.woot.specs.State.{State, meaning}
+use Rattle.woot.specs.Pending.{unplaceable}
+use Rattle.woot.specs.Answers.{Check, _⇒_, first}
+use Rattle.woot.specs.Calls.{decided, documentFull, sendInsert}
+use Rattle.replica.specs.Replicas.{generated}
+
+unfoldable pub sendChecks : State → Insert → List (Check Sent)
+sendChecks s i =
+    (unplaceable (s .characters) (insert i) ⇒ sentRefused Unplaceable) ∷ (documentFull s (insert i) ⇒ sentRefused DocumentFull) ∷ []
+
+unfoldable pub sentInsert : Replica → Insert → Generated
+sentInsert r i = generated r (decided (meaning r) (first (sendChecks (meaning r) i)) (sendInsert (meaning r) i))
