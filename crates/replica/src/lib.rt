@@ -22,6 +22,7 @@ use woot::Written;
 ghost use mathlib.Core.Path.{_≡_};
 ghost use Rattle.woot.specs.Form.{replicaWellFormed};
 ghost use Rattle.replica.specs.Replicas.{received, deleted, textWritten, textOut};
+ghost use Rattle.replica.specs.Replicas.{received, inserted, deleted};
 
 // Whether a replica is well formed. (Document 01: in form.)
 pub fn well_formed(r: Replica) -> bool
@@ -48,6 +49,23 @@ pub fn receive(r: Replica, o: Operation) -> Receipt
         Operation::Insert(i) => reception::receive_insert(r, index, queue, i),
         Operation::Delete(d) => reception::receive_delete(r, index, queue, d),
     }
+}
+
+// Inserts a code point at the insertion point, counted in visible characters, and answers the operation to be sent.
+// (Document 01: typing.)
+pub fn insert(r: Replica, point: usize, code_point: u32) -> Generated
+    ensures { λ x. ⌜ x ≡ inserted r point «code_point» ⌝ }
+{
+    if !ranges::code_point(code_point) {
+        return generation::refused(r, Refusal::Range);
+    }
+    let c = form::check(r);
+    if !c.formed {
+        return generation::refused(r, Refusal::Form);
+    }
+    let index = c.index;
+    let queue = c.queue;
+    generation::insert_visible(r, index, queue, point, code_point)
 }
 
 // Deletes the visible character at the index, counted from 1, and answers the operation to be sent. (Document 01: erasing.)
