@@ -21,8 +21,7 @@ use woot::Replica;
 use woot::Written;
 ghost use mathlib.Core.Path.{_≡_};
 ghost use Rattle.woot.specs.Form.{replicaWellFormed};
-ghost use Rattle.replica.specs.Replicas.{received, deleted, textWritten, textOut};
-ghost use Rattle.replica.specs.Replicas.{received, inserted, deleted};
+ghost use Rattle.replica.specs.Replicas.{received, inserted, deleted, textWritten, textOut};
 
 // Whether a replica is well formed. (Document 01: in form.)
 pub fn well_formed(r: Replica) -> bool
