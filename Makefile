@@ -1,17 +1,14 @@
-# make            the static library, target/staticlib/libwimtaze.a
-# make install    the library, its header and its pkg-config file, under PREFIX
+# make install    the static library of the C calls (not built yet), its header and its pkg-config file, under PREFIX
 # make native     the programs in C and Rust over the static library
-# make run       the hall program on document 01's example
-# make bench     times receiving against plain Rust
+# make run        the hall program on document 01's example
+# make bench      times receiving against plain Rust
 # make test       the gate: it proves every crate from nothing and runs what there is to run
+.DEFAULT_GOAL := run
 PREFIX ?= /usr/local
 VERSION = 0.1.0
 LIBRARY = target/staticlib/libwimtaze.a
 
-.PHONY: all install native run bench test
-
-all:
-	rt staticlib wimtaze
+.PHONY: install native run bench test
 
 $(LIBRARY):
 	rt staticlib wimtaze
