@@ -136,10 +136,10 @@ pub fn first_line(s: &[u8]) -> &[u8]
     ensures { λ r. ⌜ now r ≡ cond (ended (now (s .entry))) (firstLine (now (s .entry))) [] ⌝ }
 {
     let end = fields::find(s, 0, LINE_FEED);
-    if s.len() <= end {
-        return &s[..0];
+    if end < s.len() {
+        return &s[..end];
     }
-    &s[..end]
+    &s[..0]
 }
 
 // The bytes after the first line feed, of a refused line too; with no line feed, the empty end of the bytes.

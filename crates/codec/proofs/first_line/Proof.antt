@@ -11,16 +11,16 @@ find-requires : tie.Need-find-requires
 find-requires c κs = search needs
 
 slice-aggregate-result : tie.Need-slice-aggregate-result
-slice-aggregate-result c = search needs
+slice-aggregate-result c = sym (length-take-le _ _ (omega arith))
 
 returns : tie.Need-returns
-returns c = front-none _ _ (c .before .before .find .ensures) (c .before .if1 .taken)
+returns c = front-some _ _ (c .before .before .find .ensures) (c .before .if1 .taken)
 
 slice-aggregate-result-2 : tie.Need-slice-aggregate-result-2
-slice-aggregate-result-2 c = sym (length-take-le _ _ (omega arith))
+slice-aggregate-result-2 c = search needs
 
 returns-2 : tie.Need-returns-2
-returns-2 c = front-some _ _ (c .before .before .find .ensures) (c .before .if1 .left)
+returns-2 c = front-none _ _ (c .before .before .find .ensures) (c .before .if1 .left)
 
 pub first-line-spec : {M : Type 1} → statement M
 first-line-spec =
