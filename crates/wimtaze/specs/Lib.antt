@@ -1,2 +1,5 @@
 pub mod Results
+pub mod Effects
+pub mod Calls
+pub mod Inputs
 pub mod Theorems

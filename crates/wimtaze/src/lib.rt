@@ -1,3 +1,118 @@
 // The calls for programs in C: numbers and byte runs alone, and a saved replica in place of one in memory. Each returns
 // one number, and the header says how to take it apart.
+mod effects;
+mod inputs;
 mod results;
+
+use codec::Read;
+use saved::LoadAnswer;
+use woot::Answer;
+use woot::Refusal;
+use woot::Replica;
+ghost use mathlib.Core.List.{[]};
+ghost use Rattle.wimtaze.specs.Effects.{Leaves};
+ghost use Rattle.wimtaze.specs.Calls.{beginning, receivingLine, inserting, deleting, showingText};
+
+// Writes the empty replica of a site.
+#[no_mangle]
+pub extern "C" fn wimtaze_empty(number: u64, out: &mut [u8]) -> u64
+    ensures { λ r. ⌜ Leaves (beginning number (now (out .entry))) r (now (out .exit)) [] ⌝ }
+{
+    if number < 1 {
+        return results::refused(Refusal::Range);
+    }
+    if 16 < number {
+        return results::refused(Refusal::Range);
+    }
+    let none = Answer::Done {
+        integrated: 0,
+        discarded: 0,
+    };
+    effects::save(none, Replica::empty(number as u8), out)
+}
+
+// Writes the visible text of a saved replica.
+#[no_mangle]
+pub extern "C" fn wimtaze_text(bytes: &[u8], out: &mut [u8]) -> u64
+    ensures { λ r. ⌜ Leaves (showingText (now (bytes .entry)) (now (out .entry))) r (now (out .exit)) [] ⌝ }
+{
+    let loaded = saved::load(bytes);
+    let answer = loaded.answer;
+    match answer {
+        LoadAnswer::Refused(q) => results::refused(q),
+        LoadAnswer::Done => {
+            let replica = loaded.replica;
+            effects::show(replica, out)
+        }
+    }
+}
+
+// Receives the operation of a line, and writes the new saved replica.
+#[no_mangle]
+pub extern "C" fn wimtaze_receive(bytes: &[u8], line: &[u8], out: &mut [u8]) -> u64
+    ensures { λ r. ⌜ Leaves (receivingLine (now (bytes .entry)) (now (line .entry)) (now (out .entry))) r (now (out .exit)) [] ⌝ }
+{
+    let loaded = saved::load(bytes);
+    let answer = loaded.answer;
+    let read = inputs::read_one(line);
+    match read {
+        Read::Refused(q) => results::refused(inputs::lowest(answer, q)),
+        Read::Operation(o) => match answer {
+            LoadAnswer::Refused(q) => results::refused(q),
+            LoadAnswer::Done => {
+                let replica = loaded.replica;
+                effects::receive(replica, o, out)
+            }
+        },
+    }
+}
+
+// Deletes a visible character, and writes the new saved replica and the line to be sent.
+#[no_mangle]
+pub extern "C" fn wimtaze_erase(
+    bytes: &[u8],
+    index: u64,
+    out: &mut [u8],
+    line_out: &mut [u8],
+) -> u64
+    ensures { λ r. ⌜ Leaves (deleting (now (bytes .entry)) index (now (out .entry)) (now («line_out» .entry))) r (now (out .exit)) (now («line_out» .exit)) ⌝ }
+{
+    let loaded = saved::load(bytes);
+    let answer = loaded.answer;
+    match answer {
+        LoadAnswer::Refused(q) => results::refused(q),
+        LoadAnswer::Done => {
+            let replica = loaded.replica;
+            effects::send(replica::delete(replica, index as usize), out, line_out)
+        }
+    }
+}
+
+// Inserts a character, and writes the new saved replica and the line to be sent.
+#[no_mangle]
+pub extern "C" fn wimtaze_type(
+    bytes: &[u8],
+    point: u64,
+    code_point: u32,
+    out: &mut [u8],
+    line_out: &mut [u8],
+) -> u64
+    ensures { λ r. ⌜ Leaves (inserting (now (bytes .entry)) point «code_point» (now (out .entry)) (now («line_out» .entry))) r (now (out .exit)) (now («line_out» .exit)) ⌝ }
+{
+    let loaded = saved::load(bytes);
+    let answer = loaded.answer;
+    if !ranges::code_point(code_point) {
+        return results::refused(inputs::lowest(answer, Refusal::Range));
+    }
+    match answer {
+        LoadAnswer::Refused(q) => results::refused(q),
+        LoadAnswer::Done => {
+            let replica = loaded.replica;
+            effects::send(
+                replica::insert(replica, point as usize, code_point),
+                out,
+                line_out,
+            )
+        }
+    }
+}

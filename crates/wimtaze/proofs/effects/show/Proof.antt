@@ -1,0 +1,26 @@
+-- `wimtaze::effects::show` meets its contract: what is answered goes by what was written.
+use mathlib.Core.Path.{refl, ap, _∙_}
+use Rattle.wimtaze.specs.Results.{packed}
+use Rattle.wimtaze.specs.Effects.{afterWriting}
+use Rattle.wimtaze.specs.Calls.{showing}
+use borrow.Author.Needs.{needs}
+use Rattle.wimtaze.proofs.effects.show.Statement.{statement}
+use Rattle.wimtaze.proofs.effects.show.Tie as tie
+
+visible-text-requires : tie.Need-visible-text-requires
+visible-text-requires c κs = search needs
+
+after-writing-requires : tie.Need-after-writing-requires
+after-writing-requires c κs = search needs
+
+same-length : tie.Need-same-length
+same-length c = search needs
+
+returns : tie.Need-returns
+unfolding showing
+returns c =
+    let t = c .before .before .before .visible-text .ensures in
+    (c .after-writing .ensures ∙ ap (λ w. packed (afterWriting _ w)) (t .0), t .1, refl)
+
+pub show-spec : {M : Type 1} → statement M
+show-spec = tie.close (tie.spec visible-text-requires after-writing-requires same-length returns)

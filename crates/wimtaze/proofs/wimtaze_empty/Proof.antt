@@ -1,0 +1,61 @@
+-- `wimtaze::wimtaze_empty` meets its contract: the number decides first.
+use mathlib.Core.Path.{refl}
+use Prim.Native.Nat.{ℕ}
+use borrow.Author.Tests.{le-leb, lt-leb}
+use native.Mathlib.Omega.{arith}
+use Rattle.woot.specs.Ranges.{within, siteNumber}
+use Rattle.wimtaze.specs.Effects.{turned, unless}
+use Rattle.wimtaze.specs.Calls.{beginning}
+use borrow.Author.Needs.{needs}
+use Rattle.wimtaze.proofs.wimtaze_empty.Statement.{statement}
+use Rattle.wimtaze.proofs.wimtaze_empty.Tie as tie
+
+refused-requires : tie.Need-refused-requires
+refused-requires c κs = search needs
+
+returns : tie.Need-returns
+unfolding beginning siteNumber within unless turned
+returns c =
+    let n : ℕ = c .before .before .before .args .number in
+    rw (lt-leb 1 n (omega arith)) (c .refused .ensures, refl, refl)
+
+refused-requires-2 : tie.Need-refused-requires-2
+refused-requires-2 c κs = search needs
+
+returns-2 : tie.Need-returns-2
+unfolding beginning siteNumber within unless turned
+returns-2 c =
+    let n : ℕ = c .before .before .before .before .args .number in
+    rw (le-leb 1 n (omega arith), lt-leb n 16 (omega arith)) (c .refused2 .ensures, refl, refl)
+
+cast-empty : tie.Need-cast-empty
+cast-empty c = search needs
+
+empty-requires : tie.Need-empty-requires
+empty-requires c κs = search needs
+
+save-requires : tie.Need-save-requires
+save-requires c κs = search needs
+
+same-length : tie.Need-same-length
+same-length c = search needs
+
+returns-3 : tie.Need-returns-3
+unfolding beginning siteNumber within unless
+returns-3 c =
+    let n : ℕ = c .before .before .before .before .before .before .before .before .args .number in
+    rw (le-leb 1 n (omega arith), le-leb n 16 (omega arith), ← c .before .before .before .before .empty .ensures) (c .before .before .save .ensures)
+
+pub wimtaze-empty-spec : {M : Type 1} → statement M
+wimtaze-empty-spec =
+    tie.close
+    (tie.spec
+    refused-requires
+    returns
+    refused-requires-2
+    returns-2
+    cast-empty
+    empty-requires
+    save-requires
+    same-length
+    returns-3)

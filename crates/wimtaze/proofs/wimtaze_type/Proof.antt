@@ -1,0 +1,94 @@
+-- `wimtaze::wimtaze_type` meets its contract: a code point out of range counts with what the reader refuses, by the lower number.
+use mathlib.Core.Path.{refl, sym, ap, _∙_}
+use mathlib.Core.Bool.{true}
+use mathlib.Core.Option.{some}
+use borrow.Author.Tests.{not-true, not-false}
+use Rattle.woot.specs.declared.Replica.{Replica}
+use Rattle.woot.specs.declared.Generated.{Generated}
+use Rattle.replica.specs.Replicas.{inserted}
+use Rattle.wimtaze.specs.Effects.{turned, generating}
+use Rattle.wimtaze.specs.Calls.{inserting, inputRefusal}
+use Rattle.wimtaze.proofs.Refusals.{refused-alone, passed, refused-range}
+use Rattle.wimtaze.proofs.Outputs.{carried, turned-away, goes-on}
+use borrow.Author.Needs.{needs}
+use Rattle.wimtaze.proofs.wimtaze_type.Statement.{statement}
+use Rattle.wimtaze.proofs.wimtaze_type.Tie as tie
+
+load-requires : tie.Need-load-requires
+load-requires c κs = search needs
+
+code-point-requires : tie.Need-code-point-requires
+code-point-requires c κs = search needs
+
+lowest-requires : tie.Need-lowest-requires
+lowest-requires c κs = search needs
+
+refused-requires : tie.Need-refused-requires
+refused-requires c κs = search needs
+
+returns : tie.Need-returns
+unfolding inserting turned
+returns c =
+    let s = c .before .before .before .before .before .before .before .before .args .bytes .now in
+    let out-of-range = sym (c .before .before .before .code-point .ensures) ∙ not-true _ (c .before .before .if1 .taken) in
+    let first = ap (inputRefusal s true) out-of-range ∙ refused-range _ _ (c .before .before .before .before .load .ensures) ∙ ap some (sym (c .before .lowest .ensures)) in
+    carried (turned-away _ _ _ first) (c .refused .ensures, refl, refl)
+
+enum-known-answer : tie.Need-enum-known-answer
+enum-known-answer c = search needs
+
+refused-requires-2 : tie.Need-refused-requires-2
+refused-requires-2 c κs = search needs
+
+enum-told : tie.Need-enum-told
+enum-told c = search needs
+
+insert-requires : tie.Need-insert-requires
+insert-requires c κs = search needs
+
+send-requires : tie.Need-send-requires
+send-requires c κs = search needs
+
+returns-2 : tie.Need-returns-2
+unfolding inserting turned
+returns-2 c =
+    let s = c .before .before .before .before .before .before .before .before .before .before .args .bytes .now in
+    let in-range = sym (c .before .before .before .before .before .code-point .ensures) ∙ not-false _ (c .before .before .before .before .if1 .left) in
+    let first = ap (inputRefusal s true) in-range ∙ refused-alone _ _ (c .before .before .before .before .before .before .load .ensures) _ (c .before .before .answer .given .1) in
+    carried (turned-away _ _ _ first) (c .refused2 .ensures, refl, refl)
+
+same-length : tie.Need-same-length
+same-length c = search needs
+
+same-length-2 : tie.Need-same-length-2
+same-length-2 c = search needs
+
+returns-3 : tie.Need-returns-3
+unfolding inserting
+returns-3 c =
+    let a = c .before .before .before .before .before .before .before .before .before .before .before .before .before .before .before .before .before .args in
+    let in-range = sym (c .before .before .before .before .before .before .before .before .before .before .before .before .code-point .ensures) ∙ not-false _ (c .before .before .before .before .before .before .before .before .before .before .before .if1 .left) in
+    let p = passed _ _ (c .before .before .before .before .before .before .before .before .before .before .before .before .before .load .ensures) (c .before .before .before .before .before .before .before .before .before .enum-told .given .1) in
+    let g = c .before .before .before .before .before .before .before .insert .ensures ∙ ap (λ (r : Replica). inserted r (a .point) (a .code-point)) (p .1) in
+    carried
+    (goes-on _ _ _ (ap (inputRefusal (a .bytes .now) true) in-range ∙ p .0) ∙ ap (λ (x : Generated). generating x (a .out .now) (a .line-out .now)) (sym g))
+    (c .before .before .before .before .send .ensures)
+
+pub wimtaze-type-spec : {M : Type 1} → statement M
+wimtaze-type-spec =
+    tie.close
+    (tie.spec
+    load-requires
+    code-point-requires
+    lowest-requires
+    refused-requires
+    returns
+    enum-known-answer
+    refused-requires-2
+    enum-told
+    insert-requires
+    send-requires
+    returns-2
+    same-length
+    same-length-2
+    returns-3)
