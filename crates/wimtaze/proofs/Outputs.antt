@@ -1,6 +1,6 @@
 -- What a call leaves is told of its whole effect at once, so that an equation of effects carries it over. Each law here
 -- says which effect it is once the tests on the way are known.
-use mathlib.Core.Path.{_≡_, refl, sym, ap, subst, _∙_}
+use mathlib.Core.Path.{_≡_, sym, subst}
 use mathlib.Core.Bool.{true, false}
 use mathlib.Core.List.{List, []}
 use mathlib.Core.Option.{Option, none, some}

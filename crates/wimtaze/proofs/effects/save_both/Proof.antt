@@ -1,5 +1,5 @@
 -- `wimtaze::effects::save_both` meets its contract: the line is tried first, without writing it.
-use mathlib.Core.Path.{refl, sym, ap, _∙_}
+use mathlib.Core.Path.{refl, sym, _∙_}
 use Rattle.saved.proofs.Refusals.{save-refuses}
 use Rattle.wimtaze.specs.Effects.{turned}
 use Rattle.wimtaze.proofs.Outputs.{carried, line-refused, save-refused, both-written}

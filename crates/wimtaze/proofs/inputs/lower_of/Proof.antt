@@ -1,5 +1,4 @@
 -- `wimtaze::inputs::lower_of` meets its contract: the numbers decide.
-use native.Mathlib.Omega.{arith}
 use borrow.Author.Tests.{lt-ltb, le-ltb}
 use Rattle.wimtaze.specs.Inputs.{lower}
 use borrow.Author.Needs.{needs}

@@ -1,5 +1,4 @@
 -- `wimtaze::results::returned` meets its contract: each answer has its word, and a refusal its number.
-use mathlib.Core.Path.{sym, ap, _∙_}
 use Rattle.woot.specs.Answers.{reply}
 use Rattle.wimtaze.specs.Results.{result, wordNumber, packed}
 use borrow.Author.Needs.{needs}
