@@ -1,4 +1,4 @@
-# make install    the static library of the C calls (not built yet), its header and its pkg-config file, under PREFIX
+# make install    the static library of the C calls, its header and its pkg-config file, under PREFIX
 # make native     the programs in C and Rust over the static library
 # make run        the hall program on document 01's example
 # make bench      times receiving against plain Rust
