@@ -59,6 +59,17 @@ pub fn place_of(ids: &[u32], key: u32) -> usize
     end + 1
 }
 
+// The same, where the place of the end mark's key, which most inserts name, is at hand.
+fn place_given(ids: &[u32], end: usize, key: u32) -> usize
+    requires { ⌜ end ≡ placeIn (now ids) 1 ⌝ }
+    ensures { λ r. ⌜ r ≡ placeIn (now (ids .entry)) key ⌝ }
+{
+    if key == 1 {
+        return end;
+    }
+    place_of(ids, key)
+}
+
 // The lesser of two numbers.
 fn lesser(a: usize, b: usize) -> usize
     ensures { λ r. ⌜ r ≡ min a b ⌝ }
@@ -95,11 +106,12 @@ pub fn places(ids: &[u32], of: &[u32]) -> [u16; 1024]
 {
     let size = lesser(ids.len(), 1024);
     let among = &ids[..size];
+    let last = place_of(among, 1);
     let end = lesser(of.len(), 1024);
     let mut out = [0u16; 1024];
     let mut i = 0;
     while i < end {
-        out[i] = place_of(among, of[i]) as u16;
+        out[i] = place_given(among, last, of[i]) as u16;
         i += 1;
     }
     out
