@@ -29,12 +29,12 @@ use Rattle.convergence.proofs.Soundness.{standing, unheld}
 use Rattle.convergence.proofs.Steps.{any-map}
 use Rattle.order.specs.Keys.{key}
 use Rattle.order.proofs.Keys.{character-small}
-use Rattle.replica.specs.declared.queue.Queue.{Queue}
+use Rattle.form.specs.declared.queue.Queue.{Queue}
 use Rattle.replica.specs.Replicas.{received}
-use Rattle.replica.specs.Queue.{hasDelete}
+use Rattle.form.specs.Queue.{hasDelete}
 use Rattle.replica.specs.Needs.{New, Absent}
-use Rattle.replica.proofs.Fullness.{FullDocument}
-use Rattle.replica.proofs.Pending.{delete-found}
+use Rattle.form.proofs.Fullness.{FullDocument}
+use Rattle.form.proofs.Pending.{delete-found}
 use Rattle.replica.proofs.Holders.{none-named, one-named}
 use Rattle.replica.proofs.Examining.{form, keyed, own-used, first-used, senders-used}
 use Rattle.replica.proofs.Outcomes as outcomes

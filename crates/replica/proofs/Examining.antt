@@ -28,23 +28,23 @@ use Rattle.convergence.proofs.Steps.{any-map}
 use Rattle.convergence.proofs.Ranges.{in-range}
 use Rattle.order.specs.Keys.{key, AllSmall, keys}
 use Rattle.order.proofs.Keys.{character-small, all-range-small}
-use Rattle.replica.specs.declared.index.Index.{Index}
-use Rattle.replica.specs.declared.queue.Queue.{Queue}
-use Rattle.replica.specs.declared.queue.Found.{Found}
-use Rattle.replica.specs.declared.form.Checked.{Checked}
+use Rattle.form.specs.declared.index.Index.{Index}
+use Rattle.form.specs.declared.queue.Queue.{Queue}
+use Rattle.order.specs.declared.Found.{Found}
+use Rattle.form.specs.declared.Checked.{Checked}
 use Rattle.replica.specs.declared.known.Holder.{Holder}
 use Rattle.replica.specs.declared.known.Holder.the-variants.{Character as ofCharacter, Pending as ofPending, Nobody}
 use Rattle.replica.specs.declared.known.Seen.the-variants.{New}
-use Rattle.replica.specs.Index.{indexOf}
-use Rattle.replica.specs.Queue.{ownKey, firstKey, packed, found}
+use Rattle.form.specs.Index.{indexOf}
+use Rattle.form.specs.Queue.{ownKey, firstKey, packed, found}
 use Rattle.replica.specs.Known.{holderIn, comparedTo, comparedWith, seenOf}
-use Rattle.replica.specs.Form.{formedWith, checked}
+use Rattle.form.specs.Form.{formedWith, checked}
 use Rattle.replica.specs.Needs.{Examined}
-use Rattle.replica.proofs.Checks.{checked-true, checked-formed}
-use Rattle.replica.proofs.Fullness.{FullDocument}
-use Rattle.replica.proofs.Indexes.{index-ids}
-use Rattle.replica.proofs.Queues.{packed-own, packed-first, packed-senders}
-use Rattle.replica.proofs.Pending.{AllKeyed, all-keyed, positive-key}
+use Rattle.form.proofs.Checks.{checked-true, checked-formed}
+use Rattle.form.proofs.Fullness.{FullDocument}
+use Rattle.form.proofs.Indexes.{index-ids}
+use Rattle.form.proofs.Queues.{packed-own, packed-first, packed-senders}
+use Rattle.form.proofs.Pending.{AllKeyed, all-keyed, positive-key}
 use Rattle.replica.proofs.Holders.{CharacterAt, Stands, stands, Holds, holds, seen-held, seen-new}
 use Rattle.replica.proofs.Stored.{Counts, counts, form-counted, form-meant, character-count, pending-count}
 

@@ -30,7 +30,7 @@ use Rattle.replica.specs.Work.{placementOf, finished}
 use Rattle.replica.specs.Needs.{Placed, Sendable}
 use Rattle.replica.specs.Sending.{sentInsert}
 use Rattle.replica.specs.Visible.{visibility, countIn}
-use Rattle.replica.proofs.Fullness.{FullDocument}
+use Rattle.form.proofs.Fullness.{FullDocument}
 use Rattle.replica.proofs.Placements.{says}
 use Rattle.replica.proofs.Stored.{Counts, finished-integrated, finished-discarded, finished-stored}
 use Rattle.replica.proofs.Examining.{form}

@@ -29,16 +29,16 @@ use Rattle.convergence.proofs.Steps.{any-map}
 use Rattle.convergence.proofs.InsertionPoint.{get-member}
 use Rattle.order.specs.Keys.{key, Small, AllSmall, keys, indexIn}
 use Rattle.order.proofs.Indices.{index-keys}
-use Rattle.replica.specs.declared.queue.Found.{Found}
-use Rattle.replica.specs.declared.queue.Found.the-variants.{At, Nothing}
+use Rattle.order.specs.declared.Found.{Found}
+use Rattle.order.specs.declared.Found.the-variants.{At, Nothing}
 use Rattle.replica.specs.declared.known.Holder.{Holder}
 use Rattle.replica.specs.declared.known.Holder.the-variants.{Character as ofCharacter, Pending as ofPending, Nobody}
 use Rattle.replica.specs.declared.known.Seen.{Seen}
 use Rattle.replica.specs.declared.known.Seen.the-variants.{New, Same, Other}
-use Rattle.replica.specs.Queue.{ownKey, found}
+use Rattle.form.specs.Queue.{ownKey, found}
 use Rattle.replica.specs.Known.{firstHolder, holderIn, comparedTo, seenOf}
-use Rattle.replica.proofs.Searches.{at-found, nothing-found}
-use Rattle.replica.proofs.Pending.{AllKeyed, InsertAt, Sought, sought}
+use Rattle.form.proofs.Searches.{at-found, nothing-found}
+use Rattle.form.proofs.Pending.{AllKeyed, InsertAt, Sought, sought}
 
 -- ---- a name among distinct names
 

@@ -1,15 +1,5 @@
-pub mod Indexes
-pub mod Throughout
-pub mod Conditions
-pub mod Checks
-pub mod Padding
-pub mod Searches
-pub mod Queues
 pub mod Runs
-pub mod Pending
 pub mod Placements
-pub mod Fullness
-pub mod Earliest
 pub mod Visibility
 pub mod Texts
 pub mod Works

@@ -31,19 +31,19 @@ use Rattle.convergence.proofs.Forms.{known-length}
 use Rattle.convergence.proofs.Shares.{pending-bound}
 use Rattle.convergence.proofs.Soundness.{sound-in, sound-defer}
 use Rattle.convergence.proofs.Steps.{Addable, fresh-insert, space-insert, unused}
-use Rattle.replica.specs.declared.index.Index.{Index}
-use Rattle.replica.specs.declared.queue.Queue.{Queue}
+use Rattle.form.specs.declared.index.Index.{Index}
+use Rattle.form.specs.declared.queue.Queue.{Queue}
 use Rattle.replica.specs.declared.work.Work.{Work}
 use Rattle.replica.specs.declared.placing.Placement.the-variants.{Missing, Crossed as crossing, Unplaceable as placeless, Below}
 use Rattle.replica.specs.declared.known.Seen.{Seen}
 use Rattle.replica.specs.declared.known.Seen.the-variants.{New as unseen, Same, Other}
 use Rattle.replica.specs.Replicas.{received}
-use Rattle.replica.specs.Queue.{packed}
+use Rattle.form.specs.Queue.{packed}
 use Rattle.replica.specs.Work.{placementOf, finished}
 use Rattle.replica.specs.Known.{seenOf}
 use Rattle.replica.specs.Needs.{Examined, New, Placed}
-use Rattle.replica.proofs.Fullness.{FullDocument}
-use Rattle.replica.proofs.Pending.{count-senders, count-own}
+use Rattle.form.proofs.Fullness.{FullDocument}
+use Rattle.form.proofs.Pending.{count-senders, count-own}
 use Rattle.replica.proofs.Placements.{says}
 use Rattle.replica.proofs.Stored.{form-counted, character-count, pending-count, finished-integrated, finished-discarded, finished-stored}
 use Rattle.replica.proofs.Examining.{few, form, keyed, own-used, senders-used}

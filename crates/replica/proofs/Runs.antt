@@ -96,7 +96,7 @@ known-state : (s : State) (c : Call) → outcome s c .answer ≡ Duplicate → o
 unfolding unchanged
 known-state s c e = ap (λ w. w .state) (known-unchanged s c e)
 
-called-stored : (s : State) (c : Call) → Within s → called (stored s) c ≡ stored (outcome s c .state)
+pub called-stored : (s : State) (c : Call) → Within s → called (stored s) c ≡ stored (outcome s c .state)
 unfolding called received inserted deleted receipt generated outcome localInsert localDelete receive answerOf
 called-stored s (inserting g n) w =
     rw (form-stored s w, meaning-stored s)
@@ -118,7 +118,7 @@ unformed-step s (adds t i a) h = clash (reformed s (a .formed)) h
 unformed-step s (removes d a) h = clash (reformed s (a .formed)) h
 unformed-step s (defers o a) h = clash (reformed s (a .formed)) h
 
-within-kept : (s : State) (c : Call) → Within s → Within (outcome s c .state)
+pub within-kept : (s : State) (c : Call) → Within s → Within (outcome s c .state)
 within-kept s c w =
     ⊎-elim (λ h. formed-within (outcome s c .state) (form-kept s c h)) (λ h. subst Within (sym (unformed-step s (step s c) h)) w)
     (either (wellFormed s))
@@ -127,7 +127,7 @@ ran-stored : (s : State) (cs : List Call) → Within s → ran (stored s) cs ≡
 ran-stored s [] w = refl
 ran-stored s (c ∷ cs) w = ap (λ r. ran r cs) (called-stored s c w) ∙ ran-stored (outcome s c .state) cs (within-kept s c w)
 
-initial-within : (n : ℕ) → Within (initial n)
+pub initial-within : (n : ℕ) → Within (initial n)
 unfolding initial
 initial-within n = record { characters-fit = omega arith; pending-fit = omega arith }
 

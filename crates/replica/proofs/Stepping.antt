@@ -24,9 +24,10 @@ use Rattle.convergence.proofs.Drains.{Found, earliest-found, draining-recurs}
 use Rattle.convergence.proofs.Draining.{sound-carry}
 use Rattle.order.specs.declared.Found.the-variants.{At, Nothing}
 use Rattle.replica.specs.declared.work.Work.{Work}
-use Rattle.replica.specs.Edit.{removed}
-use Rattle.replica.specs.Work.{charactersIn, pendingIn, firstIndex, workOf, Workable, Due, carried, stepped, finished}
-use Rattle.replica.proofs.Earliest.{takes}
+use Rattle.arrays.specs.Edit.{removed}
+use Rattle.form.specs.Ready.{firstIndex}
+use Rattle.replica.specs.Work.{charactersIn, pendingIn, workOf, Workable, Due, carried, stepped, finished}
+use Rattle.form.proofs.Earliest.{takes}
 use Rattle.replica.proofs.Works.{pending-at, parts, work-characters, work-pending, work-length, work-waiting, work-integrated, work-discarded, work-tidy, carried-discarded, carried-integrated}
 
 pub workable-bounded : {w : Work} → Workable w → (w .document .length ≤ 1024) × (w .document .waiting ≤ 512)

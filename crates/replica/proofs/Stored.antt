@@ -27,8 +27,8 @@ use Rattle.convergence.proofs.Forms.{Sound}
 use Rattle.convergence.proofs.Shares.{pending-bound}
 use Rattle.replica.specs.declared.work.Work.{Work}
 use Rattle.replica.specs.Work.{charactersIn, pendingIn, workOf, Tidy, Workable, finished}
-use Rattle.replica.proofs.Fullness.{FullDocument}
-use Rattle.replica.proofs.Queues.{waiting-operations, waiting-pushed}
+use Rattle.form.proofs.Fullness.{FullDocument}
+use Rattle.form.proofs.Queues.{waiting-operations, waiting-pushed}
 use Rattle.replica.proofs.Works.{Parts, work-path, work-characters, work-pending, work-integrated, work-discarded, work-waiting, work-tidy}
 
 -- the counts are within the arrays

@@ -16,8 +16,8 @@ use Rattle.woot.specs.Placing.{identifiers}
 use Rattle.woot.specs.Calls.{visibles}
 use Rattle.woot.specs.State.{pad}
 use Rattle.order.proofs.Packing.{pad-take}
-use Rattle.replica.specs.declared.queue.Found.{Found}
-use Rattle.replica.specs.declared.queue.Found.the-variants.{At, Nothing}
+use Rattle.order.specs.declared.Found.{Found}
+use Rattle.order.specs.declared.Found.the-variants.{At, Nothing}
 use Rattle.replica.specs.Visible.{visibility, countIn, nthFrom}
 
 -- ---- counting down to a set flag

@@ -25,8 +25,8 @@ use Rattle.order.proofs.Packing.{pad-take}
 use Rattle.replica.specs.declared.placing.Placement.{Placement}
 use Rattle.replica.specs.declared.placing.Placement.the-variants.{Missing, Crossed, Unplaceable, Below}
 use Rattle.replica.specs.declared.work.Work.{Work}
-use Rattle.replica.specs.Edit.{removed}
-use Rattle.replica.specs.Queue.{operations}
+use Rattle.arrays.specs.Edit.{removed}
+use Rattle.form.specs.Queue.{operations}
 use Rattle.replica.specs.Work.{charactersIn, pendingIn, placementOf, workOf, Tidy, carried}
 use Rattle.replica.proofs.Placements.{Says, says}
 

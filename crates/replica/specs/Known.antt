@@ -8,13 +8,13 @@ use Rattle.woot.specs.declared.Operation.the-variants.{Insert as insert, Delete
 use Rattle.woot.specs.Operations.{sameInsert}
 use Rattle.woot.specs.State.{State}
 use Rattle.woot.specs.Calls.{duplicate, conflicting}
-use Rattle.replica.specs.declared.queue.Found.{Found}
-use Rattle.replica.specs.declared.queue.Found.the-variants.{At, Nothing}
+use Rattle.order.specs.declared.Found.{Found}
+use Rattle.order.specs.declared.Found.the-variants.{At, Nothing}
 use Rattle.replica.specs.declared.known.Holder.{Holder}
 use Rattle.replica.specs.declared.known.Holder.the-variants.{Character, Pending, Nobody}
 use Rattle.replica.specs.declared.known.Seen.{Seen}
 use Rattle.replica.specs.declared.known.Seen.the-variants.{New, Same, Other}
-use Rattle.replica.specs.Queue.{found}
+use Rattle.form.specs.Queue.{found}
 
 -- a character before a pending insert
 unfoldable pub firstHolder : Found → Found → Holder

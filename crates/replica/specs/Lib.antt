@@ -1,11 +1,7 @@
 pub mod Replicas
-pub mod Edit
-pub mod Queue
-pub mod Index
 pub mod Theorems
 pub mod Work
 pub mod Visible
-pub mod Form
 pub mod Known
 pub mod Needs
 pub mod Sending

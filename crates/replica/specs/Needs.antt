@@ -19,10 +19,10 @@ use Rattle.woot.specs.Form.{replicaWellFormed}
 use Rattle.woot.specs.Calls.{duplicate, conflicting}
 use Rattle.convergence.proofs.Forms.{Sound}
 use Rattle.convergence.proofs.Steps.{Made}
-use Rattle.replica.specs.declared.index.Index.{Index}
-use Rattle.replica.specs.declared.queue.Queue.{Queue}
-use Rattle.replica.specs.Index.{indexOf}
-use Rattle.replica.specs.Queue.{packed}
+use Rattle.form.specs.declared.index.Index.{Index}
+use Rattle.form.specs.declared.queue.Queue.{Queue}
+use Rattle.form.specs.Index.{indexOf}
+use Rattle.form.specs.Queue.{packed}
 
 -- a replica in form, with what was packed of it
 pub record Examined (r : Replica) (x : Index) (q : Queue) : Type 0 where

@@ -10,8 +10,8 @@ use Rattle.woot.specs.declared.Written.{Written}
 use Rattle.woot.specs.declared.Written.the-variants.{Length, Refused}
 use Rattle.woot.specs.Lists.{keep}
 use Rattle.utf8.specs.Encoding.{encode}
-use Rattle.replica.specs.declared.queue.Found.{Found}
-use Rattle.replica.specs.declared.queue.Found.the-variants.{At, Nothing}
+use Rattle.order.specs.declared.Found.{Found}
+use Rattle.order.specs.declared.Found.the-variants.{At, Nothing}
 
 abbrev pub visibility : List Character → List Bool
 visibility cs = map (λ c. c .visible) cs

@@ -45,28 +45,6 @@ placementOf cs i =
     (cond (above cs (i .previous) (i .next)) (placed (position cs (i .id) (between cs i))) Crossed)
     Missing
 
--- ---- which pending operation is due
-
--- the index n further on
-abbrev pub further : ℕ → Found → Found
-further n (At j) = At (n + j)
-further n Nothing = Nothing
-
--- the index of the first that passes the test
-unfoldable pub firstIndex : {A : Type 0} → (A → Bool) → List A → Found
-firstIndex p [] = Nothing
-firstIndex p (x ∷ xs) = cond (p x) (At 0) (further 1 (firstIndex p xs))
-
--- the key has a place among the keys and the marks
-unfoldable pub heldIn : List ℕ → ℕ → Bool
-heldIn ids k = leb (placeIn ids k) (suc (length ids))
-
--- the index of the first operation both of whose keys have a place
-unfoldable pub readyIn : List ℕ → List ℕ → List ℕ → Found
-readyIn ids [] ss = Nothing
-readyIn ids (f ∷ fs) [] = Nothing
-readyIn ids (f ∷ fs) (s ∷ ss) = cond (heldIn ids f && heldIn ids s) (At 0) (further 1 (readyIn ids fs ss))
-
 -- ---- a document at work
 
 -- two lists in a document, with n operations carried out so far and m discarded

@@ -1,13 +1,13 @@
 // Inserting and deleting here, on a replica that is well formed. (Document 01: typing and erasing.)
-use crate::index::Index;
 use crate::known;
 use crate::known::Holder;
 use crate::placing;
 use crate::placing::Placement;
-use crate::queue::Queue;
 use crate::room;
 use crate::storing;
 use crate::visible;
+use form::index::Index;
+use form::queue::Queue;
 use woot::Delete;
 use woot::Generated;
 use woot::Identifier;
@@ -33,7 +33,7 @@ ghost use Rattle.woot.specs.Calls.{generatedInsert};
 ghost use Rattle.replica.specs.declared.placing.Placement.the-variants.{Below};
 ghost use Rattle.replica.specs.Replicas.{inserted, deleted};
 ghost use Rattle.replica.specs.Visible.{visibility, countIn};
-ghost use Rattle.replica.specs.Queue.{packed};
+ghost use Rattle.form.specs.Queue.{packed};
 ghost use Rattle.replica.specs.Work.{placementOf};
 ghost use Rattle.replica.specs.Needs.{Examined, Sendable};
 ghost use Rattle.replica.specs.Sending.{sentInsert};

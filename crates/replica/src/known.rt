@@ -1,8 +1,8 @@
 // Who has an identifier, and whether a received operation is known.
-use crate::index::Index;
-use crate::queue;
-use crate::queue::Found;
-use crate::queue::Queue;
+use form::index::Index;
+use form::queue;
+use form::queue::Queue;
+use order::Found;
 use woot::Character;
 use woot::Delete;
 use woot::Identifier;
@@ -17,7 +17,7 @@ ghost use Rattle.woot.specs.Operations.{origin, sameInsert};
 ghost use Rattle.woot.specs.Ranges.{insertInRange};
 ghost use Rattle.woot.specs.State.{meaning};
 ghost use Rattle.order.specs.Keys.{key};
-ghost use Rattle.replica.specs.Queue.{found, hasDelete};
+ghost use Rattle.form.specs.Queue.{found, hasDelete};
 ghost use Rattle.replica.specs.Known.{holderIn, comparedTo, comparedWith, seenOf};
 ghost use Rattle.replica.specs.Needs.{Examined};
 

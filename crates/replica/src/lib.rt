@@ -1,12 +1,7 @@
 // The calls on a replica: receiving, inserting, deleting, the check of its form and the visible text.
-mod edit;
-mod form;
 mod generation;
-mod index;
 mod known;
 mod placing;
-mod queue;
-mod ready;
 mod reception;
 mod room;
 mod storing;

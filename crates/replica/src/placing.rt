@@ -1,5 +1,5 @@
 // Where an insert goes among the characters, by the index of them.
-use crate::index::Index;
+use form::index::Index;
 use order::Found;
 use woot::Insert;
 ghost use mathlib.Core.Path.{_≡_};
@@ -9,7 +9,7 @@ ghost use lib.ListN.{length};
 ghost use Rattle.woot.specs.declared.Character.{Character};
 ghost use Rattle.order.specs.Keys.{AllSmall, keys};
 ghost use Rattle.order.specs.Packing.{previousPlaces, nextPlaces};
-ghost use Rattle.replica.specs.Index.{indexOf};
+ghost use Rattle.form.specs.Index.{indexOf};
 ghost use Rattle.replica.specs.Work.{placementOf};
 
 // What is found for an insert: a neighbour is not held, they stand in the wrong order, there is no candidate, or the

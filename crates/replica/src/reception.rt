@@ -1,13 +1,13 @@
 // Receiving an operation that is in range, on a replica that is well formed.
-use crate::index::Index;
 use crate::known;
 use crate::known::Seen;
 use crate::placing;
 use crate::placing::Placement;
-use crate::queue::Found;
-use crate::queue::Queue;
 use crate::room;
 use crate::storing;
+use form::index::Index;
+use form::queue::Queue;
+use order::Found;
 use woot::Answer;
 use woot::Delete;
 use woot::Insert;
@@ -27,7 +27,7 @@ ghost use Rattle.woot.specs.Pending.{executable};
 ghost use Rattle.woot.specs.Form.{replicaWellFormed};
 ghost use Rattle.woot.specs.Calls.{documentFull};
 ghost use Rattle.replica.specs.Replicas.{received};
-ghost use Rattle.replica.specs.Queue.{packed};
+ghost use Rattle.form.specs.Queue.{packed};
 ghost use Rattle.replica.specs.Work.{placementOf};
 ghost use Rattle.replica.specs.Needs.{Examined, New, Absent};
 ghost use Rattle.replica.specs.declared.placing.Placement.the-variants.{Below};

@@ -1,6 +1,6 @@
 // Whether there is room: for one pending operation more of a sender, and for one insert more in a document.
-use crate::queue;
-use crate::queue::Queue;
+use form::queue;
+use form::queue::Queue;
 ghost use mathlib.Core.Path.{_≡_};
 ghost use mathlib.Core.Bool.{not};
 ghost use Prim.Native.Nat.{_+_, _≤_};

@@ -1,5 +1,4 @@
 // A replica after a change: stored anew, so that every slot that is not in use is filler.
-use crate::edit;
 use crate::work;
 use crate::work::Work;
 use woot::Document;
@@ -25,8 +24,8 @@ pub(crate) fn hidden(r: Replica, target: Identifier) -> Replica
     let d = r.document;
     let cs = d.characters;
     let ps = d.pending;
-    let characters = edit::hidden(cs, d.length, target);
-    let pending = edit::kept_pending(ps, d.waiting);
+    let characters = arrays::hidden(cs, d.length, target);
+    let pending = arrays::kept_pending(ps, d.waiting);
     let document = Document {
         characters,
         length: d.length,
@@ -45,8 +44,8 @@ pub(crate) fn deferred(r: Replica, o: Operation) -> Replica
     let d = r.document;
     let cs = d.characters;
     let ps = d.pending;
-    let characters = edit::kept(cs, d.length);
-    let pending = edit::pushed(ps, d.waiting, o);
+    let characters = arrays::kept(cs, d.length);
+    let pending = arrays::pushed(ps, d.waiting, o);
     let document = Document {
         characters,
         length: d.length,
@@ -64,8 +63,8 @@ fn started(r: Replica) -> Work
     let d = r.document;
     let cs = d.characters;
     let ps = d.pending;
-    let characters = edit::kept(cs, d.length);
-    let pending = edit::kept_pending(ps, d.waiting);
+    let characters = arrays::kept(cs, d.length);
+    let pending = arrays::kept_pending(ps, d.waiting);
     let document = Document {
         characters,
         length: d.length,

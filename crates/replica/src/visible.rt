@@ -1,6 +1,6 @@
 // The visible characters: which they are, those beside an insertion point, and their text. A call notes once which
 // characters are visible, and lends that to every search that it makes.
-use crate::queue::Found;
+use order::Found;
 use woot::Character;
 use woot::Identifier;
 use woot::Refusal;

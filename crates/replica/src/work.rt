@@ -1,10 +1,9 @@
 // A document at work in a call: operations are carried out on it one by one, and counted.
-use crate::edit;
-use crate::index;
 use crate::placing;
 use crate::placing::Placement;
-use crate::queue;
-use crate::ready;
+use form::index;
+use form::queue;
+use form::ready;
 use order::Found;
 use woot::Character;
 use woot::Document;
@@ -18,8 +17,9 @@ ghost use Rattle.woot.specs.Operations.{character};
 ghost use Rattle.woot.specs.Placing.{insertAt, integrateDelete};
 ghost use Rattle.woot.specs.Pending.{executable, earliest};
 ghost use Rattle.order.specs.declared.Found.the-variants.{At};
-ghost use Rattle.replica.specs.Edit.{removed};
-ghost use Rattle.replica.specs.Work.{charactersIn, pendingIn, firstIndex, workOf, Tidy, Workable, Due, carried, stepped, finished};
+ghost use Rattle.arrays.specs.Edit.{removed};
+ghost use Rattle.form.specs.Ready.{firstIndex};
+ghost use Rattle.replica.specs.Work.{charactersIn, pendingIn, workOf, Tidy, Workable, Due, carried, stepped, finished};
 
 // The document, and how many operations have been carried out and how many discarded.
 pub(crate) struct Work {
@@ -51,7 +51,7 @@ pub(crate) fn carry_insert(w: Work, i: Insert, k: usize) -> Work
 {
     let d = w.document;
     let cs = d.characters;
-    let characters = edit::inserted(cs, d.length, k, character(i));
+    let characters = arrays::inserted(cs, d.length, k, character(i));
     let document = Document {
         characters,
         length: d.length + 1,
@@ -71,7 +71,7 @@ pub(crate) fn carry_delete(w: Work, target: Identifier) -> Work
 {
     let d = w.document;
     let cs = d.characters;
-    let characters = edit::hidden(cs, d.length, target);
+    let characters = arrays::hidden(cs, d.length, target);
     let document = Document { characters, ..d };
     Work {
         document,
@@ -128,7 +128,7 @@ fn take_out(w: Work, j: usize) -> Work
 {
     let d = w.document;
     let ps = d.pending;
-    let pending = edit::without(ps, d.waiting, j);
+    let pending = arrays::without(ps, d.waiting, j);
     let document = Document {
         pending,
         waiting: d.waiting - 1,

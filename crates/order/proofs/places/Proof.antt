@@ -37,12 +37,13 @@ lesser-requires-2 : tie.Need-lesser-requires-2 Inv-loop μ-loop
 lesser-requires-2 c κs = search needs
 
 loop-holds : tie.Need-loop-holds Inv-loop μ-loop
-loop-holds c =
-    (rw (c .before .before .before .lesser .ensures) (take-lesser _ 1024 (c .before .before .before .before .before .before .args .ids .now) refl),
-    c .before .place-of .ensures,
-    c .lesser2 .ensures,
-    omega arith,
-    sym (pad-none characterSlots 0))
+loop-holds c = (
+  rw (c .before .before .before .lesser .ensures) (take-lesser _ 1024 (c .before .before .before .before .before .before .args .ids .now) refl),
+  c .before .place-of .ensures,
+  c .lesser2 .ensures,
+  omega arith,
+  sym (pad-none characterSlots 0),
+)
 
 mul-place-given : tie.Need-mul-place-given Inv-loop μ-loop
 mul-place-given c = omega arith

@@ -4,7 +4,7 @@ use mathlib.Core.Bool.{Bool, true}
 use borrow.Author.Needs.{needs}
 use Rattle.woot.specs.State.{meaning}
 use Rattle.woot.specs.Calls.{beyondVisible}
-use Rattle.replica.proofs.Fullness.{full-replica}
+use Rattle.form.proofs.Fullness.{full-replica}
 use Rattle.replica.proofs.Stored.{Counts, counts, form-counted}
 use Rattle.replica.proofs.Generating.{beyond-flags, delete-zero, delete-beyond, delete-within}
 use Rattle.replica.proofs.generation.delete_visible.Statement.{statement}

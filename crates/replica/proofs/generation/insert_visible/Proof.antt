@@ -8,7 +8,7 @@ use Rattle.woot.specs.Limits.{lastClock}
 use Rattle.woot.specs.State.{meaning}
 use Rattle.woot.specs.Calls.{generatedInsert, beyondVisible, taken}
 use Rattle.convergence.proofs.Steps.{next-character, generated-made}
-use Rattle.replica.proofs.Fullness.{FullDocument, full-replica}
+use Rattle.form.proofs.Fullness.{FullDocument, full-replica}
 use Rattle.replica.proofs.Stored.{form-counted}
 use Rattle.replica.proofs.Examining.{few, form}
 use Rattle.replica.proofs.Outcomes.{insert-beyond, insert-late, insert-taken, insert-sent}

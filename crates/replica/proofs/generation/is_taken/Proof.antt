@@ -1,7 +1,7 @@
 -- `replica::generation::is_taken` goes by who has the identifier.
 use mathlib.Core.Path.{_≡_, sym}
 use Rattle.replica.specs.declared.known.Holder.{Holder}
-use Rattle.replica.proofs.Fullness.{FullDocument, full-replica}
+use Rattle.form.proofs.Fullness.{FullDocument, full-replica}
 use Rattle.replica.proofs.Examining.{few, Has, has, nobody, character-takes, pending-takes}
 use borrow.Author.Needs.{needs}
 use Rattle.replica.proofs.generation.is_taken.Statement.{statement}

@@ -5,7 +5,7 @@ use lib.ListN.{length}
 use Rattle.woot.specs.Limits.{capacity}
 use Rattle.woot.specs.State.{meaning}
 use Rattle.woot.specs.Form.{known}
-use Rattle.replica.proofs.Fullness.{full-replica}
+use Rattle.form.proofs.Fullness.{full-replica}
 use Rattle.replica.proofs.Examining.{few}
 use Rattle.replica.proofs.Receiving.{room-counted}
 use Rattle.replica.proofs.Generating.{send-full, send-placed, send-done}

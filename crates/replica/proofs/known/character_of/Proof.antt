@@ -1,7 +1,7 @@
 -- `replica::known::character_of` lends the slots that are in use.
 use native.Mathlib.Omega.{arith}
 use lib.ListN.{length-take}
-use Rattle.replica.proofs.Fullness.{FullIndex, full-index}
+use Rattle.form.proofs.Fullness.{FullIndex, full-index}
 use borrow.Author.Needs.{needs}
 use Rattle.replica.proofs.known.character_of.Statement.{statement}
 use Rattle.replica.proofs.known.character_of.Tie as tie

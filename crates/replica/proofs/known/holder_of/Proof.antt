@@ -1,8 +1,8 @@
 -- `replica::known::holder_of` lends the slots that are in use.
 use native.Mathlib.Omega.{arith}
 use lib.ListN.{length-take}
-use Rattle.replica.proofs.Fullness.{FullIndex, full-index, full-queue}
-use Rattle.replica.proofs.Queues.{FullQueue}
+use Rattle.form.proofs.Fullness.{FullIndex, full-index, full-queue}
+use Rattle.form.proofs.Queues.{FullQueue}
 use borrow.Author.Needs.{needs}
 use Rattle.replica.proofs.known.holder_of.Statement.{statement}
 use Rattle.replica.proofs.known.holder_of.Tie as tie

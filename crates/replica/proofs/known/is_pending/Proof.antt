@@ -1,8 +1,8 @@
 -- `replica::known::is_pending` lends the slots that are in use.
 use native.Mathlib.Omega.{arith}
 use lib.ListN.{length-take}
-use Rattle.replica.proofs.Fullness.{full-queue}
-use Rattle.replica.proofs.Queues.{FullQueue}
+use Rattle.form.proofs.Fullness.{full-queue}
+use Rattle.form.proofs.Queues.{FullQueue}
 use borrow.Author.Needs.{needs}
 use Rattle.replica.proofs.known.is_pending.Statement.{statement}
 use Rattle.replica.proofs.known.is_pending.Tie as tie
@@ -32,7 +32,7 @@ key-requires : tie.Need-key-requires
 key-requires c κs = search needs
 
 has-delete-requires : tie.Need-has-delete-requires
-has-delete-requires c κs = let f = queued (c .before .before .before .before .before .before .before .before) in simp length-take (omega arith)
+has-delete-requires c κs = search needs
 
 returns : tie.Need-returns
 returns c = rw (c .has-delete .ensures, c .before .key .ensures .0)

@@ -8,7 +8,7 @@ use Rattle.woot.specs.Ranges.{characterId}
 use Rattle.convergence.proofs.Ranges.{in-range}
 use Rattle.replica.specs.declared.known.Holder.{Holder}
 use Rattle.replica.specs.Known.{comparedTo, comparedWith}
-use Rattle.replica.proofs.Fullness.{FullDocument, full-replica}
+use Rattle.form.proofs.Fullness.{FullDocument, full-replica}
 use Rattle.replica.proofs.Stored.{Counts}
 use Rattle.replica.proofs.Examining.{few, Has, has, character-within, pending-within, seen-character, seen-pending, seen-nobody}
 use Rattle.replica.proofs.known.seen_by.Statement.{statement}

@@ -1,8 +1,8 @@
 -- `replica::placing::find_place` lends the slots of the index that are in use.
 use native.Mathlib.Omega.{arith}
 use lib.ListN.{length-take}
-use Rattle.replica.proofs.Indexes.{index-ids, index-above, index-below}
-use Rattle.replica.proofs.Fullness.{FullIndex, full-index}
+use Rattle.form.proofs.Indexes.{index-ids, index-above, index-below}
+use Rattle.form.proofs.Fullness.{FullIndex, full-index}
 use Rattle.replica.proofs.placing.find_place.Statement.{statement}
 use Rattle.replica.proofs.placing.find_place.Tie as tie
 

@@ -5,7 +5,7 @@ use Rattle.woot.specs.Limits.{share}
 use Rattle.woot.specs.Operations.{sender}
 use Rattle.woot.specs.State.{meaning}
 use Rattle.woot.specs.Pending.{pendingFrom}
-use Rattle.replica.proofs.Fullness.{FullDocument, full-replica}
+use Rattle.form.proofs.Fullness.{FullDocument, full-replica}
 use Rattle.replica.proofs.Stored.{form-counted}
 use Rattle.replica.proofs.Examining.{few}
 use Rattle.replica.proofs.Receiving.{share-counted, defer-sender-full, defer-full, defer-slot, defer-done}

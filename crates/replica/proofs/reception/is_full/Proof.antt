@@ -1,7 +1,7 @@
 -- `replica::reception::is_full` goes by the kind of the operation.
 use mathlib.Core.Path.{_∙_}
 use Rattle.woot.specs.Calls.{documentFull}
-use Rattle.replica.proofs.Fullness.{full-replica}
+use Rattle.form.proofs.Fullness.{full-replica}
 use Rattle.replica.proofs.Examining.{few}
 use Rattle.replica.proofs.Receiving.{room-counted}
 use borrow.Author.Needs.{needs}

@@ -3,7 +3,7 @@ use mathlib.Core.Path.{_≡_, sym, _∙_}
 use Rattle.woot.specs.declared.Operation.the-variants.{Delete as delete}
 use Rattle.woot.specs.State.{meaning}
 use Rattle.woot.specs.Calls.{duplicate}
-use Rattle.replica.proofs.Fullness.{full-replica}
+use Rattle.form.proofs.Fullness.{full-replica}
 use Rattle.replica.proofs.Examining.{few}
 use Rattle.replica.proofs.Deleting.{absent-found, absent-again, absent-new, absent-unready}
 use borrow.Author.Needs.{needs}

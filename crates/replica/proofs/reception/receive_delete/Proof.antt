@@ -6,7 +6,7 @@ use mathlib.Core.Bool.{true}
 use borrow.Author.Tests.{not-true, not-false}
 use Rattle.woot.specs.Ranges.{characterId}
 use Rattle.woot.specs.State.{meaning}
-use Rattle.replica.proofs.Fullness.{FullDocument, full-replica}
+use Rattle.form.proofs.Fullness.{FullDocument, full-replica}
 use Rattle.replica.proofs.Stored.{form-counted}
 use Rattle.replica.proofs.Holders.{CharacterAt}
 use Rattle.replica.proofs.Examining.{few, stands-at, character-within, character-member, character-named}

@@ -3,7 +3,7 @@ use mathlib.Core.Path.{_≡_, sym, _∙_}
 use Rattle.woot.specs.State.{meaning}
 use Rattle.replica.specs.declared.placing.Placement.the-variants.{Missing}
 use Rattle.replica.specs.Work.{placementOf}
-use Rattle.replica.proofs.Fullness.{full-replica}
+use Rattle.form.proofs.Fullness.{full-replica}
 use Rattle.replica.proofs.Placements.{says}
 use Rattle.replica.proofs.Stored.{character-count}
 use Rattle.replica.proofs.Examining.{few, small}

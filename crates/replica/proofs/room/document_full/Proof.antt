@@ -4,9 +4,9 @@ use native.Mathlib.Omega.{arith}
 use mathlib.Core.Bool.{not}
 use lib.Dec.{eqb}
 use lib.ListN.{take, length-take}
-use Rattle.replica.proofs.Fullness.{full-queue}
-use Rattle.replica.proofs.Queues.{FullQueue}
-use Rattle.replica.proofs.Throughout.{keep-length}
+use Rattle.form.proofs.Fullness.{full-queue}
+use Rattle.form.proofs.Queues.{FullQueue}
+use Rattle.form.proofs.Throughout.{keep-length}
 use borrow.Author.Needs.{needs}
 use Rattle.replica.proofs.room.document_full.Statement.{statement}
 use Rattle.replica.proofs.room.document_full.Tie as tie

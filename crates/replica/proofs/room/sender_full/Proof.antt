@@ -1,8 +1,8 @@
 -- `replica::room::sender_full` counts among the senders that are in use.
 use native.Mathlib.Omega.{arith}
 use lib.ListN.{length-take}
-use Rattle.replica.proofs.Fullness.{full-queue}
-use Rattle.replica.proofs.Queues.{FullQueue}
+use Rattle.form.proofs.Fullness.{full-queue}
+use Rattle.form.proofs.Queues.{FullQueue}
 use borrow.Author.Needs.{needs}
 use Rattle.replica.proofs.room.sender_full.Statement.{statement}
 use Rattle.replica.proofs.room.sender_full.Tie as tie

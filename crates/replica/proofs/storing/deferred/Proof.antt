@@ -1,14 +1,17 @@
 -- `replica::storing::deferred` builds both arrays anew, with the operation just past the pending ones.
+use Prim.Native.Nat.{min}
+use native.Mathlib.Omega.{arith}
+use mathlib.Core.Path.{_≡_}
 use borrow.Author.Needs.{needs}
 use Rattle.woot.specs.State.{meaning}
 use Rattle.woot.specs.Calls.{withPending}
-use Rattle.replica.proofs.Fullness.{full-replica}
+use Rattle.form.proofs.Fullness.{full-replica}
 use Rattle.replica.proofs.Stored.{counts, stored-path, deferred-parts}
 use Rattle.replica.proofs.storing.deferred.Statement.{statement}
 use Rattle.replica.proofs.storing.deferred.Tie as tie
 
 kept-requires : tie.Need-kept-requires
-kept-requires c κs = counts _ (c .before .before .before .before .pre .0) .characters
+kept-requires c κs = search needs
 
 pushed-requires : tie.Need-pushed-requires
 pushed-requires c κs = search needs
@@ -20,8 +23,9 @@ returns : tie.Need-returns
 unfolding withPending meaning
 returns c =
     let start = c .before .before .before .before .before .before .before in
+    let few : min (start .args .r .document .waiting) 511 ≡ start .args .r .document .waiting = omega (arith, start .pre .1) in
     stored-path (start .args .r .site)
-    (deferred-parts (start .args .r) (full-replica (start .good .0)) (counts _ (start .pre .0)) _ _ _ (c .before .before .kept .ensures) (c .before .pushed .ensures))
+    (deferred-parts (start .args .r) (full-replica (start .good .0)) (counts _ (start .pre .0)) _ _ _ (c .before .before .kept .ensures) (rw few at (c .before .pushed .ensures)))
 
 pub deferred-spec : {M : Type 1} → statement M
 deferred-spec = tie.close (tie.spec kept-requires pushed-requires add-t10 returns)

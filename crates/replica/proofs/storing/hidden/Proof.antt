@@ -1,16 +1,17 @@
 -- `replica::storing::hidden` builds both arrays anew.
+use borrow.Author.Needs.{needs}
 use Rattle.woot.specs.State.{meaning}
 use Rattle.woot.specs.Calls.{withCharacters}
-use Rattle.replica.proofs.Fullness.{full-replica}
+use Rattle.form.proofs.Fullness.{full-replica}
 use Rattle.replica.proofs.Stored.{counts, stored-path, hidden-parts}
 use Rattle.replica.proofs.storing.hidden.Statement.{statement}
 use Rattle.replica.proofs.storing.hidden.Tie as tie
 
 hidden-requires : tie.Need-hidden-requires
-hidden-requires c κs = counts _ (c .before .before .before .before .pre) .characters
+hidden-requires c κs = search needs
 
 kept-pending-requires : tie.Need-kept-pending-requires
-kept-pending-requires c κs = counts _ (c .before .before .before .before .before .pre) .pending
+kept-pending-requires c κs = search needs
 
 returns : tie.Need-returns
 unfolding withCharacters meaning

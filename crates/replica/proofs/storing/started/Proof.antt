@@ -1,16 +1,17 @@
 -- `replica::storing::started` builds both arrays anew.
 use mathlib.Core.Path.{refl}
-use Rattle.replica.proofs.Fullness.{full-replica}
+use borrow.Author.Needs.{needs}
+use Rattle.form.proofs.Fullness.{full-replica}
 use Rattle.replica.proofs.Stored.{counts, started-parts}
 use Rattle.replica.proofs.Works.{work-path}
 use Rattle.replica.proofs.storing.started.Statement.{statement}
 use Rattle.replica.proofs.storing.started.Tie as tie
 
 kept-requires : tie.Need-kept-requires
-kept-requires c κs = counts _ (c .before .before .before .pre) .characters
+kept-requires c κs = search needs
 
 kept-pending-requires : tie.Need-kept-pending-requires
-kept-pending-requires c κs = counts _ (c .before .before .before .before .pre) .pending
+kept-pending-requires c κs = search needs
 
 returns : tie.Need-returns
 returns c =

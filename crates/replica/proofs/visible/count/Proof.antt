@@ -5,7 +5,7 @@ use mathlib.Core.Logic.{⊎-elim}
 use Prim.Native.Nat.{_+_, _-_, _≤_}
 use native.Mathlib.Omega.{arith}
 use lib.ListN.{length}
-use Rattle.replica.proofs.Searches.{left, left-counted, left-passed, left-none}
+use Rattle.form.proofs.Searches.{left, left-counted, left-passed, left-none}
 use Rattle.replica.proofs.visible.count.Statement.{statement}
 use Rattle.replica.proofs.visible.count.Tie as tie
 

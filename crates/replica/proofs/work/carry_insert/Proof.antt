@@ -1,6 +1,7 @@
 -- `replica::work::carry_insert` has the array with the character in it, one longer.
+use Prim.Native.Nat.{min}
 use native.Mathlib.Omega.{arith}
-use mathlib.Core.Path.{refl}
+use mathlib.Core.Path.{_≡_, refl}
 use Rattle.woot.specs.Operations.{character}
 use Rattle.replica.specs.Work.{charactersIn}
 use Rattle.replica.proofs.Works.{parts, work-path, length-inserted}
@@ -24,9 +25,10 @@ returns : tie.Need-returns
 returns c =
     let a = c .before .before .before .before .before .before .before .args in
     let p = parts (c .before .before .before .before .before .before .before .pre .0) in
+    let few : min (a .w .document .length) 1023 ≡ a .w .document .length = omega arith in
     work-path
     (record {
-      characters = rw (c .before .before .before .inserted .ensures, c .before .before .before .before .character .ensures);
+      characters = rw few at (rw (c .before .before .before .before .character .ensures) at (c .before .before .before .inserted .ensures));
       length-is = omega (arith, p .length-is, length-inserted (a .k) (character (a .i)) (charactersIn (a .w .document)));
       pending = p .pending;
       waiting-is = p .waiting-is;

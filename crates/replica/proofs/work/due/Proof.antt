@@ -7,12 +7,12 @@ use lib.ListN.{length, take, length-take}
 use Rattle.order.specs.declared.Packed.{Packed}
 use Rattle.order.specs.Keys.{AllSmall, keys}
 use Rattle.order.proofs.Packing.{packed-ids, packed-sizes}
-use Rattle.replica.specs.declared.queue.Queue.{Queue}
+use Rattle.form.specs.declared.queue.Queue.{Queue}
 use Rattle.replica.specs.declared.work.Work.{Work}
-use Rattle.replica.specs.Queue.{firstKey, secondKey}
+use Rattle.form.specs.Queue.{firstKey, secondKey}
 use Rattle.replica.specs.Work.{charactersIn, pendingIn}
-use Rattle.replica.proofs.Queues.{packed-full, packed-first, packed-second}
-use Rattle.replica.proofs.Earliest.{ready-executable}
+use Rattle.form.proofs.Queues.{packed-full, packed-first, packed-second}
+use Rattle.form.proofs.Earliest.{ready-executable}
 use Rattle.replica.proofs.Works.{parts}
 use Rattle.replica.proofs.Stepping.{workable-bounded}
 use borrow.Author.Needs.{needs}
@@ -52,7 +52,7 @@ pack-requires : tie.Need-pack-requires
 pack-requires c κs = search needs
 
 pack-requires-2 : tie.Need-pack-requires-2
-pack-requires-2 c κs = workable-bounded (c .before .before .before .before .pre) .1
+pack-requires-2 c κs = search needs
 
 array-share-prefix-ids : tie.Need-array-share-prefix-ids
 array-share-prefix-ids c = let l = lent (c .before .before .before) in omega arith
@@ -73,7 +73,7 @@ slice-aggregate-ready-3 : tie.Need-slice-aggregate-ready-3
 slice-aggregate-ready-3 c = let l = lent (c .before .before .before .before .before .before) in simp length-take (omega arith)
 
 ready-requires : tie.Need-ready-requires
-ready-requires c κs = let l = lent (c .before .before .before .before .before .before) in simp length-take (omega arith)
+ready-requires c κs = search needs
 
 returns : tie.Need-returns
 returns c =

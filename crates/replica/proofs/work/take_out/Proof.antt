@@ -3,7 +3,7 @@ use native.Mathlib.Omega.{arith}
 use mathlib.Core.Path.{refl, sym, ap, _∙_}
 use Rattle.woot.specs.State.{pad, blankPending}
 use Rattle.replica.specs.Work.{pendingIn}
-use Rattle.replica.proofs.Queues.{waiting-removed}
+use Rattle.form.proofs.Queues.{waiting-removed}
 use Rattle.replica.proofs.Works.{parts, work-path, length-removed}
 use borrow.Author.Needs.{needs}
 use Rattle.replica.proofs.work.take_out.Statement.{statement}

@@ -1,0 +1,15 @@
+-- What is looked up in place of the characters: their keys, and where their neighbours stand.
+use mathlib.Core.List.{List}
+use Rattle.woot.specs.declared.Character.{Character}
+use Rattle.woot.specs.State.{characterSlots, pad}
+use Rattle.order.specs.Keys.{keys}
+use Rattle.order.specs.Packing.{previousPlaces, nextPlaces}
+use Rattle.form.specs.declared.index.Index.{Index}
+
+unfoldable pub indexOf : List Character → Index
+indexOf cs =
+    record {
+      ids = pad characterSlots 0 (keys cs);
+      above = pad characterSlots 0 (previousPlaces cs);
+      below = pad characterSlots 0 (nextPlaces cs);
+    }

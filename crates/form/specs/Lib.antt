@@ -1,0 +1,4 @@
+pub mod Queue
+pub mod Index
+pub mod Ready
+pub mod Form
