@@ -1,0 +1,88 @@
+-- The calls of the rules that the calls on a copy make, gathered one by one, lead to the state that the copy holds; so
+-- demand 3 of the rules is demand 3 of copies.
+use Prim.Native.Nat.{ℕ}
+use native.Mathlib.Omega.{arith}
+use mathlib.Core.Path.{_≡_, refl, sym, ap, ap₂, _∙_}
+use mathlib.Core.Bool.{Bool, true, false}
+use mathlib.Core.List.{List, [], _∷_, _++_}
+use Rattle.woot.specs.Ranges.{siteNumber}
+use Rattle.woot.specs.State.{State, initial}
+use Rattle.woot.specs.Answers.{reply}
+use Rattle.woot.specs.Text.{text}
+use Rattle.woot.specs.Histories.{outcome, run, integratedBy}
+use Rattle.woot.specs.Histories.{Call as RuleCall}
+use Rattle.convergence.proofs.Convergence.{convergence}
+use Rattle.replica.proofs.Runs.{Within}
+use Rattle.wimtaze.specs.Results.{result, silent}
+use Rattle.wimtaze.specs.Effects.{turned, unless, afterWriting}
+use Rattle.wimtaze.specs.Effects.{saving as savingEffect}
+use Rattle.wimtaze.specs.Calls.{beginning}
+use Rattle.copies.specs.Copies.{Copy, Call, bytesAfter, afterEffect, after, carried, ran, carriedBy, Empty, emptyReplica, emptyBytes, begun, charactersOf, textOf}
+use Rattle.copies.specs.Theorems.{CopiesFollow, CopiesConverge}
+use Rattle.copies.proofs.Holding.{Holds, memory, bytes, nothing, left, made, Steps, says}
+use Rattle.copies.proofs.Saving.{Saving, fits, refuses, saving}
+use Rattle.copies.proofs.Memory.{memory-step}
+use Rattle.copies.proofs.Bytes.{bytes-step, nothing-step}
+
+-- ---- lists of calls
+
+step : {s : State} {p : Copy} → Holds s p → (c : Call) → Steps s p c
+unfolding after carried
+step (memory s w) c = memory-step s w c
+step (bytes s h) c = bytes-step s h c
+step nothing c = nothing-step c
+
+-- calls of the rules that lead to what the copy holds and carry out what was carried out on it
+record Made (s : State) (p : Copy) (cs : List Call) : Type 0 where
+  calls : List RuleCall
+  holds : Holds (run s calls) (ran p cs)
+  carries : carriedBy p cs ≡ integratedBy s calls
+
+gathered : {s : State} {p : Copy} (c : Call) (cs : List Call) → Steps s p c →
+    ((t : State) → Holds t (after p c) → Made t (after p c) cs) → Made s p (c ∷ cs)
+gathered {s} {p} c cs (left h e) others =
+    let m = others s h in
+    record { calls = m .calls; holds = m .holds; carries = ap₂ _++_ e (m .carries) }
+gathered {s} {p} c cs (made r h e) others =
+    let m = others (outcome s r .state) h in
+    record { calls = r ∷ m .calls; holds = m .holds; carries = ap₂ _++_ e (m .carries) }
+
+follow : {s : State} {p : Copy} → Holds s p → (cs : List Call) → Made s p cs
+follow h [] = record { calls = []; holds = h; carries = refl }
+follow h (c ∷ cs) = gathered c cs (step h c) (λ t k. follow k cs)
+
+-- ---- from the empty copies
+
+initial-within : (n : ℕ) → Within (initial n)
+unfolding initial
+initial-within n = record { characters-fit = omega arith; pending-fit = omega arith }
+
+-- no bytes where beginning a copy is refused
+bytes-begun : (n : ℕ) (out : List ℕ) → (k : ℕ) × Holds (initial k) (begun (emptyBytes n out))
+unfolding begun beginning unless turned savingEffect afterWriting silent result afterEffect bytesAfter reply
+bytes-begun n out = go (siteNumber n) refl (saving (initial n) (initial-within n) out)
+  where
+    go : (b : Bool) → siteNumber n ≡ b → Saving (initial n) out → (k : ℕ) × Holds (initial k) (begun (emptyBytes n out))
+    go false e w = rw e (0, nothing)
+    go true e (fits h p t) = rw (e, p, t) (n, bytes (initial n) h)
+    go true e (refuses p) = rw (e, p) (0, nothing)
+
+holds-begun : (a : Empty) → (n : ℕ) × Holds (initial n) (begun a)
+unfolding begun
+holds-begun (emptyReplica n) = (n, memory (initial n) (initial-within n))
+holds-begun (emptyBytes n out) = bytes-begun n out
+
+pub copies-follow : CopiesFollow
+copies-follow a cs =
+    let b = holds-begun a in
+    let m = follow (b .1) cs in
+    (b .0, m .calls, says (m .holds), m .carries)
+
+pub copies-converge : CopiesConverge
+unfolding charactersOf textOf
+copies-converge a b cs ds inserted deleted =
+    let f = copies-follow a cs in
+    let g = copies-follow b ds in
+    let same = convergence (f .0) (g .0) (f .1) (g .1) (rw (f .3, g .3) at inserted) (rw (f .3, g .3) at deleted) .0 in
+    let e = ap (λ (s : State). s .characters) (f .2) ∙ same ∙ sym (ap (λ (s : State). s .characters) (g .2)) in
+    (e, ap text e)

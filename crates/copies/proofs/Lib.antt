@@ -1,0 +1,5 @@
+pub mod Holding
+pub mod Saving
+pub mod Memory
+pub mod Bytes
+pub mod Claims

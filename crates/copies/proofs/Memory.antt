@@ -1,0 +1,123 @@
+-- A call on a replica in memory: where the rules change the state it returns the new one as it is stored, and where they
+-- do not the very replica.
+use Prim.Native.Nat.{ℕ}
+use mathlib.Core.Path.{_≡_, refl, ap, _∙_}
+use mathlib.Core.Bool.{Bool, true, false}
+use mathlib.Core.List.{List}
+use Rattle.woot.specs.declared.Operation.{Operation}
+use Rattle.woot.specs.declared.Replica.{Replica}
+use Rattle.woot.specs.declared.Answer.{Answer}
+use Rattle.woot.specs.declared.Answer.the-variants.{Done, Deferred, Duplicate, Refused}
+use Rattle.woot.specs.declared.Sent.{Sent}
+use Rattle.woot.specs.declared.Sent.the-variants.{Done as sentDone, Refused as sentRefused}
+use Rattle.woot.specs.Ranges.{inRange}
+use Rattle.woot.specs.State.{State, stored}
+use Rattle.woot.specs.Answers.{reply, answerOf}
+use Rattle.woot.specs.Calls.{receive, localInsert, localDelete}
+use Rattle.woot.specs.Histories.{inserting, deleting, receiving, outcome}
+use Rattle.woot.specs.Histories.{Call as RuleCall}
+use Rattle.replica.specs.Replicas.{afterAnswer, afterSent, receipt, generated, received, inserted, deleted}
+use Rattle.replica.specs.Theorems.{called}
+use Rattle.replica.proofs.Runs.{Within, formed-within, meaning-stored, form-stored}
+use Rattle.lent.specs.Lent.{returned}
+use Rattle.lent.proofs.Sites.{lent-follows}
+use Rattle.codec.specs.Calls.{laidOut, saidBy, readOperation}
+use Rattle.codec.proofs.Judging.{read-layout, read-range, read-operation}
+use Rattle.report.specs.Calls.{answeredAs, answered}
+use Rattle.wimtaze.specs.Effects.{changes}
+use Rattle.copies.specs.Copies.{Call, onReplica, onRecord, onLine, save, load, receiveLine, type, erase, inMemory, afterRecord, afterSaving, afterInMemory, after, whenDone, answerTo, carriedInMemory, carried}
+use Rattle.copies.proofs.Holding.{memory, bytes, Step, left, made, Steps, carries, changed-formed}
+use Rattle.copies.proofs.Saving.{Saving, fits, refuses, saving}
+
+-- ---- the calls on what stores a state
+
+module _ (s : State) (w : Within s) where
+  pub received-stored : (o : Operation) → received (stored s) o ≡ receipt (stored s) (receive s o)
+  unfolding received receive
+  received-stored o = rw (form-stored s w, meaning-stored s)
+
+  pub inserted-stored : (g n : ℕ) → inserted (stored s) g n ≡ generated (stored s) (localInsert s g n)
+  unfolding inserted localInsert
+  inserted-stored g n = rw (form-stored s w, meaning-stored s)
+
+  pub deleted-stored : (p : ℕ) → deleted (stored s) p ≡ generated (stored s) (localDelete s p)
+  unfolding deleted localDelete
+  deleted-stored p = rw (form-stored s w, meaning-stored s)
+
+-- the replica depends on the answer alone, whatever was sent
+sent-answer : (r : Replica) (s : State) (a : Sent) → afterSent r s a ≡ afterAnswer r s (answerOf a)
+unfolding afterSent afterAnswer answerOf
+sent-answer r s (sentDone o n m) = refl
+sent-answer r s (sentRefused q) = refl
+
+module _ (s : State) (w : Within s) where
+  called-stored : (c : RuleCall) →
+      (called (stored s) c ≡ afterAnswer (stored s) (outcome s c .state) (outcome s c .answer))
+      × (answerTo (stored s) c ≡ outcome s c .answer)
+  unfolding called answerTo outcome receipt generated
+  called-stored (inserting g n) =
+      let e = inserted-stored s w g n in (
+        ap (λ x. x .replica) e ∙ sent-answer (stored s) (localInsert s g n .state) (localInsert s g n .answer),
+        ap (λ x. answerOf (x .answer)) e,
+      )
+  called-stored (deleting p) =
+      let e = deleted-stored s w p in (
+        ap (λ x. x .replica) e ∙ sent-answer (stored s) (localDelete s p .state) (localDelete s p .answer),
+        ap (λ x. answerOf (x .answer)) e,
+      )
+  called-stored (receiving o) =
+      let e = received-stored s w o in
+      (ap (λ x. x .replica) e, ap (λ x. x .answer) e)
+
+  answered-step : (c : RuleCall) (a : Answer) → outcome s c .answer ≡ a →
+      Step s (inMemory (afterAnswer (stored s) (outcome s c .state) a)) (whenDone (reply a .word) s c)
+  unfolding afterAnswer changes whenDone reply
+  answered-step c (Done n m) e =
+      let f = changed-formed s c (ap changes e) in
+      made c (memory (outcome s c .state) (formed-within (outcome s c .state) f)) (carries s c (Done n m) e refl)
+  answered-step c Deferred e =
+      let f = changed-formed s c (ap changes e) in
+      made c (memory (outcome s c .state) (formed-within (outcome s c .state) f)) (carries s c Deferred e refl)
+  answered-step c Duplicate e = left (memory s w) refl
+  answered-step c (Refused q) e = left (memory s w) refl
+
+  replica-step : (c : RuleCall) → Steps s (inMemory (stored s)) (onReplica c)
+  unfolding after afterInMemory carried carriedInMemory
+  replica-step c =
+      let d = called-stored c in
+      rw (d .0, d .1, meaning-stored s) (answered-step c (outcome s c .answer) refl)
+
+  -- the lent record and the document together are what the call returns
+  record-step : (g n : ℕ) → Steps s (inMemory (stored s)) (onRecord g n)
+  unfolding after afterInMemory carried carriedInMemory afterRecord returned answerTo
+  record-step g n =
+      rw (lent-follows (stored s .site) (stored s .document) g n, returned) (replica-step (inserting g n))
+
+  -- a line that is not read is refused
+  line-step : (l : List ℕ) → Steps s (inMemory (stored s)) (onLine l)
+  unfolding after afterInMemory carried carriedInMemory answered answeredAs readOperation whenDone reply called answerTo
+  line-step l = go (laidOut l) refl (inRange (saidBy l)) refl
+    where
+      go : (a : Bool) → laidOut l ≡ a → (b : Bool) → inRange (saidBy l) ≡ b → Steps s (inMemory (stored s)) (onLine l)
+      go false e b f = rw (e, read-layout (saidBy l)) (left (memory s w) refl)
+      go true e false f = rw (e, read-range (saidBy l) f) (left (memory s w) refl)
+      go true e true f = rw (e, read-operation (saidBy l) f) (replica-step (receiving (saidBy l)))
+
+  save-step : (out : List ℕ) → Steps s (inMemory (stored s)) (save out)
+  unfolding after afterInMemory carried carriedInMemory afterSaving
+  save-step out = go (saving s w out)
+    where
+      go : Saving s out → Steps s (inMemory (stored s)) (save out)
+      go (fits f e t) = rw (e, t) (left (bytes s f) refl)
+      go (refuses e) = rw e (left (memory s w) refl)
+
+  pub memory-step : (c : Call) → Steps s (inMemory (stored s)) c
+  unfolding after afterInMemory carried carriedInMemory
+  memory-step (onReplica c) = replica-step c
+  memory-step (onRecord g n) = record-step g n
+  memory-step (onLine l) = line-step l
+  memory-step (save out) = save-step out
+  memory-step load = left (memory s w) refl
+  memory-step (receiveLine line out) = left (memory s w) refl
+  memory-step (type g n out line) = left (memory s w) refl
+  memory-step (erase p out line) = left (memory s w) refl
