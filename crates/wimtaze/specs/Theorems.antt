@@ -1,7 +1,57 @@
 -- The promises about what the calls return, each proved in proofs/ under its name in small letters.
-use Prim.Native.Nat.{ℕ, _%_, _/_, _^_}
+use Prim.Native.Nat.{ℕ, _%_, _/_, _^_, _≤_, _<_}
 use mathlib.Core.Path.{_≡_}
-use Rattle.wimtaze.specs.Results.{joined}
+use mathlib.Core.Bool.{true}
+use mathlib.Core.List.{List}
+use lib.ListN.{length}
+use Rattle.woot.specs.State.{State}
+use Rattle.woot.specs.Form.{wellFormed}
+use Rattle.woot.specs.Text.{text}
+use Rattle.wimtaze.specs.Results.{Result, wordNumber, joined, packed}
+use Rattle.wimtaze.specs.Calls.{beginning, receivingLine, inserting, deleting, showingText}
+
+-- ---- sizes: the header's WIMTAZE_SHEET_MAX, WIMTAZE_INSERT_MAX, WIMTAZE_ERASE_MAX and WIMTAZE_TEXT_MAX
+
+-- a saved replica has at most this many bytes
+abbrev pub savedMost : ℕ
+savedMost = 47115
+
+-- an insert's line
+abbrev pub insertMost : ℕ
+insertMost = 37
+
+-- a delete's line
+abbrev pub deleteMost : ℕ
+deleteMost = 14
+
+-- a text: 1,024 characters of 4 bytes each
+abbrev pub textMost : ℕ
+textMost = 4096
+
+-- the visible text of a state in form is no longer
+abbrev pub TextLength : Type 0
+TextLength = (s : State) → wellFormed s ≡ true → length (text (s .characters)) ≤ textMost
+
+-- ---- the parts of what is returned
+
+-- the bounds of a result, with at most m bytes written to the first output and k to the second
+pub record Fits (m k : ℕ) (x : Result) : Type 0 where
+  pub refusal-fits : x .reply .refusal ≤ 12
+  pub integrated-fits : x .reply .integrated ≤ 513
+  pub discarded-fits : x .reply .discarded ≤ 512
+  pub written-fits : x .written ≤ m
+  pub line-fits : x .line ≤ k
+
+-- the result of each call is within its bounds, on any bytes, numbers and slices
+abbrev pub ResultsFit : Type 0
+ResultsFit =
+    ((number : ℕ) (out : List ℕ) → Fits savedMost 0 (beginning number out .result))
+    × ((bytes line out : List ℕ) → Fits savedMost 0 (receivingLine bytes line out .result))
+    × ((bytes : List ℕ) (point n : ℕ) (out line : List ℕ) →
+    Fits savedMost insertMost (inserting bytes point n out line .result))
+    × ((bytes : List ℕ) (index : ℕ) (out line : List ℕ) →
+    Fits savedMost deleteMost (deleting bytes index out line .result))
+    × ((bytes out : List ℕ) → Fits textMost 0 (showingText bytes out .result))
 
 -- each part is read back from its bits, whatever the parts are
 abbrev pub PartsReadBack : Type 0
@@ -12,3 +62,30 @@ PartsReadBack =
     × (joined w q n m a b / 2 ^ 20 % 4096 ≡ m % 4096)
     × (joined w q n m a b / 2 ^ 32 % 65536 ≡ a % 65536)
     × (joined w q n m a b / 2 ^ 48 ≡ b % 65536)
+
+-- of a result that fits no part is cut: each is read back as it is
+abbrev pub ReturnedReadsBack : Type 0
+ReturnedReadsBack =
+    (m k : ℕ) (x : Result) → m < 65536 → k < 65536 → Fits m k x →
+    (packed x % 4 ≡ wordNumber (x .reply .word)) × (packed x / 4 % 64 ≡ x .reply .refusal)
+    × (packed x / 256 % 4096 ≡ x .reply .integrated)
+    × (packed x / 2 ^ 20 % 4096 ≡ x .reply .discarded)
+    × (packed x / 2 ^ 32 % 65536 ≡ x .written)
+    × (packed x / 2 ^ 48 ≡ x .line)
+
+-- ---- outputs of the header's sizes
+
+-- the result is not refusal 12
+abbrev pub HasRoom : Result → Type 0
+HasRoom x = x .reply .refusal ≡ 12 → ⊥
+
+-- they are long enough, whatever else is handed
+abbrev pub BuffersSuffice : Type 0
+BuffersSuffice =
+    ((number : ℕ) (out : List ℕ) → savedMost ≤ length out → HasRoom (beginning number out .result))
+    × ((bytes line out : List ℕ) → savedMost ≤ length out → HasRoom (receivingLine bytes line out .result))
+    × ((bytes : List ℕ) (point n : ℕ) (out line : List ℕ) → savedMost ≤ length out → insertMost ≤ length line →
+    HasRoom (inserting bytes point n out line .result))
+    × ((bytes : List ℕ) (index : ℕ) (out line : List ℕ) → savedMost ≤ length out → deleteMost ≤ length line →
+    HasRoom (deleting bytes index out line .result))
+    × ((bytes out : List ℕ) → textMost ≤ length out → HasRoom (showingText bytes out .result))
