@@ -117,8 +117,8 @@ uint64_t wimtaze_text(const uint8_t *sheet, size_t sheet_length, uint8_t *text_o
 
 /*
  * Every call returns one number, from the lowest bit up: the word (2 bits), the refusal (6), the counts carried and
- * thrown (12 each), and the lengths of what was written to the first output and to line_out (16 each). The functions
- * below take it apart.
+ * thrown (12 each), and the lengths of what was written to the first output and to line_out (16 each). Each part has
+ * room for its largest value, so none is ever cut. The functions below take the number apart.
  */
 
 /* The answer. */
@@ -133,13 +133,13 @@ static inline enum wimtaze_refusals wimtaze_refusal(uint64_t reply)
     return (enum wimtaze_refusals)(reply >> 2 & 63);
 }
 
-/* How many edits the call carried out, its own and those that waited for it; 0 unless the word is done. */
+/* How many edits the call carried out, its own and those that waited for it: at most 513; 0 unless the word is done. */
 static inline unsigned wimtaze_carried(uint64_t reply)
 {
     return (unsigned)(reply >> 8 & 4095);
 }
 
-/* How many waiting edits the call threw out, since they met refusal 8 or 9 when their turn came. */
+/* How many waiting edits the call threw out, since they met refusal 8 or 9 when their turn came: at most 512. */
 static inline unsigned wimtaze_thrown(uint64_t reply)
 {
     return (unsigned)(reply >> 20 & 4095);

@@ -27,7 +27,7 @@ use Rattle.woot.specs.Answers.{_⇒_, first, number}
 use Rattle.convergence.proofs.Tests.{and-right}
 use Rattle.convergence.proofs.Forms.{formed}
 use Rattle.replica.specs.Replicas.{textOf, textChecks, textWritten}
-use Rattle.replica.proofs.Throughout.{keep-length}
+use Rattle.form.proofs.Throughout.{keep-length}
 use Rattle.codec.specs.Operations.{operationLine}
 use Rattle.codec.specs.Calls.{decided, writeChecks, written}
 use Rattle.saved.specs.Calls.{bytesOf, saveChecks, saved}
