@@ -1,6 +1,7 @@
 -- A call on saved bytes: what they say is read back, and the effect is a refusal, known, or the bytes of the state that
 -- the rules leave.
-use Prim.Native.Nat.{ℕ}
+use Prim.Native.Nat.{ℕ, _<_}
+use native.Mathlib.Omega.{arith}
 use mathlib.Core.Path.{_≡_, refl, ap, _∙_}
 use mathlib.Core.Bool.{true, false, false≢true}
 use mathlib.Core.List.{List, []}
@@ -16,7 +17,7 @@ use Rattle.woot.specs.declared.Written.{Written}
 use Rattle.woot.specs.declared.Written.the-variants.{Length, Refused as writtenRefused}
 use Rattle.woot.specs.State.{State, initial, stored}
 use Rattle.woot.specs.Form.{wellFormed}
-use Rattle.woot.specs.Answers.{reply, answerOf}
+use Rattle.woot.specs.Answers.{reply, number, answerOf}
 use Rattle.woot.specs.Calls.{receive, localInsert, localDelete}
 use Rattle.woot.specs.Histories.{inserting, deleting, receiving, outcome}
 use Rattle.woot.specs.Histories.{Call as RuleCall}
@@ -25,28 +26,31 @@ use Rattle.replica.proofs.Runs.{formed-within}
 use Rattle.codec.specs.Lines.{isLetter, hasLayout}
 use Rattle.codec.specs.Calls.{saidBy, written, outAfter as lineAfter}
 use Rattle.saved.specs.Lines.{closed}
-use Rattle.saved.specs.Format.{isSite, headLine, savedLaidOut, savedBytes}
+use Rattle.saved.specs.Format.{isSite, headLine, savedLaidOut, savedState, savedBytes}
 use Rattle.saved.specs.Calls.{loadChecks, loadedAs, loaded, outAfter}
 use Rattle.saved.proofs.Trips.{saved-says, saved-reads-back}
-use Rattle.wimtaze.specs.Results.{result, silent}
+use Rattle.wimtaze.specs.Results.{result, silent, wordNumber, joined, packed}
 use Rattle.wimtaze.specs.Effects.{Effect, turned, unless, afterWriting, changes, generating, sending, sendingBoth}
 use Rattle.wimtaze.specs.Effects.{receiving as receivingEffect, saving as savingEffect}
 use Rattle.wimtaze.specs.Calls.{inputChecks, inputRefusal, receivingLine}
 use Rattle.wimtaze.specs.Calls.{said as saidReplica, inserting as typing, deleting as erasing}
+use Rattle.wimtaze.specs.Theorems.{Fits}
+use Rattle.wimtaze.proofs.Fitting.{results-fit}
 use Rattle.wimtaze.proofs.Outputs.{line-refused, save-refused, both-written}
-use Rattle.copies.specs.Copies.{Call, onReplica, onRecord, onLine, save, load, receiveLine, type, erase, asBytes, bytesAfter, afterEffect, afterLoading, afterAsBytes, after, whenDone, carriedAsBytes, carried}
+use Rattle.copies.specs.Copies.{Call, onReplica, onRecord, onLine, save, load, receiveLine, type, erase, asBytes, bytesAfter, wordRead, writtenRead, wordOf, afterEffect, afterLoading, afterAsBytes, after, whenDone, carriedAsBytes, carried}
 use Rattle.copies.proofs.Holding.{Holds, memory, bytes, nothing, Step, left, made, Steps, carries, changed-formed}
+use Rattle.copies.proofs.Returned.{kept, word-returned, effect-returned}
 use Rattle.copies.proofs.Saving.{Saving, fits, refuses, saving}
 use Rattle.copies.proofs.Memory.{received-stored, inserted-stored, deleted-stored}
 
 -- the effect e on the bytes b, as a step by the call c of the rules
 Follows : State → List ℕ → RuleCall → Effect → Type 0
-Follows s b c e = Step s (afterEffect b e) (whenDone (e .result .reply .word) s c)
+Follows s b c e = Step s (kept b e) (whenDone (e .result .reply .word) s c)
 
 -- a call that is turned away leaves the bytes
 away : {s : State} {b : List ℕ} → Holds s (asBytes b) → (c : RuleCall) (out line : List ℕ) (q : Refusal) →
     Follows s b c (turned out line q)
-unfolding Follows turned silent result afterEffect bytesAfter whenDone reply
+unfolding Follows turned silent result bytesAfter whenDone reply
 away h c out line q = left h refl
 
 unless-away : {s : State} {b : List ℕ} → Holds s (asBytes b) → (c : RuleCall) (out line : List ℕ) →
@@ -60,7 +64,7 @@ module _ (s : State) (h : wellFormed s ≡ true) (c : RuleCall) where
   written-step : (a : Answer) → outcome s c .answer ≡ a → changes a ≡ true → (n m : ℕ) (out line : List ℕ) →
       take n out ≡ savedBytes (outcome s c .state) →
       Follows s (savedBytes s) c (record { result = result a n m; output = out; line = line })
-  unfolding Follows afterEffect bytesAfter result reply changes
+  unfolding Follows bytesAfter result reply changes
   written-step (Done i j) e f n m out line t =
       rw t (made c (bytes (outcome s c .state) (changed-formed s c (ap changes e))) (carries s c (Done i j) e refl))
   written-step Deferred e f n m out line t =
@@ -70,7 +74,7 @@ module _ (s : State) (h : wellFormed s ≡ true) (c : RuleCall) where
 
   saving-step : (a : Answer) → outcome s c .answer ≡ a → changes a ≡ true → (out : List ℕ) →
       Follows s (savedBytes s) c (savingEffect a (stored (outcome s c .state)) out)
-  unfolding Follows savingEffect afterWriting afterEffect bytesAfter silent result reply whenDone
+  unfolding Follows savingEffect afterWriting bytesAfter silent result reply whenDone
   saving-step a e f out = go (saving t (formed-within t (changed-formed s c (ap changes e ∙ f))) out)
     where
       t : State
@@ -84,7 +88,7 @@ module _ (s : State) (h : wellFormed s ≡ true) (c : RuleCall) where
   receipt-step : (a : Answer) → outcome s c .answer ≡ a → (out : List ℕ) →
       Follows s (savedBytes s) c
       (receivingEffect (record { answer = a; replica = afterAnswer (stored s) (outcome s c .state) a }) out)
-  unfolding Follows receivingEffect changes afterAnswer afterEffect bytesAfter silent result reply whenDone
+  unfolding Follows receivingEffect changes afterAnswer bytesAfter silent result reply whenDone
   receipt-step (Done n m) e out = saving-step (Done n m) e refl out
   receipt-step Deferred e out = saving-step Deferred e refl out
   receipt-step Duplicate e out = left (bytes s h) refl
@@ -153,6 +157,12 @@ module _ (s : State) (h : wellFormed s ≡ true) where
       let d = saved-reads-back s h in
       rw (d .0, d .1) (left (memory s (formed-within s h)) refl)
 
+  -- the effect as it is read off the returned number
+  read : {m k : ℕ} (e : Effect) → Fits m k (e .result) → m < 65536 → k < 65536 → (c : RuleCall) →
+      Follows s (savedBytes s) c e → Step s (afterEffect (savedBytes s) e) (whenDone (wordOf e) (savedState (savedBytes s)) c)
+  unfolding Follows
+  read e f hm hk c t = rw (saved-says s, effect-returned e f hm hk (savedBytes s), word-returned e f hm hk) t
+
   pub bytes-step : (c : Call) → Steps s (asBytes (savedBytes s)) c
   unfolding after afterAsBytes carried carriedAsBytes Follows
   bytes-step (onReplica c) = left (bytes s h) refl
@@ -160,9 +170,15 @@ module _ (s : State) (h : wellFormed s ≡ true) where
   bytes-step (onLine l) = left (bytes s h) refl
   bytes-step (save out) = left (bytes s h) refl
   bytes-step load = load-step
-  bytes-step (receiveLine line out) = rw (saved-says s) (receive-step line out)
-  bytes-step (type g n out line) = rw (saved-says s) (type-step g n out line)
-  bytes-step (erase p out line) = rw (saved-says s) (erase-step p out line)
+  bytes-step (receiveLine line out) =
+      let b = savedBytes s in
+      read (receivingLine b line out) (results-fit .1 b line out) (omega arith) (omega arith) _ (receive-step line out)
+  bytes-step (type g n out line) =
+      let b = savedBytes s in
+      read (typing b g n out line) (results-fit .2 b g n out line) (omega arith) (omega arith) _ (type-step g n out line)
+  bytes-step (erase p out line) =
+      let b = savedBytes s in
+      read (erasing b p out line) (results-fit .3 b p out line) (omega arith) (omega arith) _ (erase-step p out line)
 
 -- no bytes lack the layout, whatever else is handed
 no-bytes : savedLaidOut [] ≡ false
@@ -171,7 +187,8 @@ no-bytes = refl
 
 pub nothing-step : (c : Call) → Steps (initial 0) (asBytes []) c
 unfolding after carried afterAsBytes afterLoading carriedAsBytes loaded loadChecks loadedAs receivingLine typing erasing
-    inputRefusal inputChecks unless turned silent result afterEffect bytesAfter reply whenDone
+    inputRefusal inputChecks unless turned silent result afterEffect wordOf wordRead writtenRead packed joined wordNumber
+    bytesAfter reply number whenDone
 nothing-step (onReplica c) = left nothing refl
 nothing-step (onRecord g n) = left nothing refl
 nothing-step (onLine l) = left nothing refl

@@ -12,14 +12,16 @@ use Rattle.woot.specs.Text.{text}
 use Rattle.woot.specs.Histories.{outcome, run, integratedBy}
 use Rattle.woot.specs.Histories.{Call as RuleCall}
 use Rattle.convergence.proofs.Convergence.{convergence}
-use Rattle.replica.proofs.Runs.{Within}
+use Rattle.replica.proofs.Runs.{initial-within}
 use Rattle.wimtaze.specs.Results.{result, silent}
 use Rattle.wimtaze.specs.Effects.{turned, unless, afterWriting}
 use Rattle.wimtaze.specs.Effects.{saving as savingEffect}
 use Rattle.wimtaze.specs.Calls.{beginning}
-use Rattle.copies.specs.Copies.{Copy, Call, bytesAfter, afterEffect, after, carried, ran, carriedBy, Empty, emptyReplica, emptyBytes, begun, charactersOf, textOf}
+use Rattle.wimtaze.proofs.Fitting.{results-fit}
+use Rattle.copies.specs.Copies.{Copy, Call, bytesAfter, after, carried, ran, carriedBy, Empty, emptyReplica, emptyBytes, begun, charactersOf, textOf}
 use Rattle.copies.specs.Theorems.{CopiesFollow, CopiesConverge}
 use Rattle.copies.proofs.Holding.{Holds, memory, bytes, nothing, left, made, Steps, says}
+use Rattle.copies.proofs.Returned.{kept, effect-returned}
 use Rattle.copies.proofs.Saving.{Saving, fits, refuses, saving}
 use Rattle.copies.proofs.Memory.{memory-step}
 use Rattle.copies.proofs.Bytes.{bytes-step, nothing-step}
@@ -53,19 +55,19 @@ follow h (c ∷ cs) = gathered c cs (step h c) (λ t k. follow k cs)
 
 -- ---- from the empty copies
 
-initial-within : (n : ℕ) → Within (initial n)
-unfolding initial
-initial-within n = record { characters-fit = omega arith; pending-fit = omega arith }
-
 -- no bytes where beginning a copy is refused
-bytes-begun : (n : ℕ) (out : List ℕ) → (k : ℕ) × Holds (initial k) (begun (emptyBytes n out))
-unfolding begun beginning unless turned savingEffect afterWriting silent result afterEffect bytesAfter reply
-bytes-begun n out = go (siteNumber n) refl (saving (initial n) (initial-within n) out)
+kept-begun : (n : ℕ) (out : List ℕ) → (k : ℕ) × Holds (initial k) (kept [] (beginning n out))
+unfolding beginning unless turned savingEffect afterWriting silent result bytesAfter reply
+kept-begun n out = go (siteNumber n) refl (saving (initial n) (initial-within n) out)
   where
-    go : (b : Bool) → siteNumber n ≡ b → Saving (initial n) out → (k : ℕ) × Holds (initial k) (begun (emptyBytes n out))
+    go : (b : Bool) → siteNumber n ≡ b → Saving (initial n) out → (k : ℕ) × Holds (initial k) (kept [] (beginning n out))
     go false e w = rw e (0, nothing)
     go true e (fits h p t) = rw (e, p, t) (n, bytes (initial n) h)
     go true e (refuses p) = rw (e, p) (0, nothing)
+
+bytes-begun : (n : ℕ) (out : List ℕ) → (k : ℕ) × Holds (initial k) (begun (emptyBytes n out))
+unfolding begun
+bytes-begun n out = rw (effect-returned (beginning n out) (results-fit .0 n out) (omega arith) (omega arith) []) (kept-begun n out)
 
 holds-begun : (a : Empty) → (n : ℕ) × Holds (initial n) (begun a)
 unfolding begun

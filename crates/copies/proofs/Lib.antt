@@ -1,4 +1,5 @@
 pub mod Holding
+pub mod Returned
 pub mod Saving
 pub mod Memory
 pub mod Bytes

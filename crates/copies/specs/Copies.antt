@@ -1,6 +1,8 @@
 -- A copy of the document as a program holds it, in memory or saved as bytes, and every kind of call that may change it.
-use Prim.Native.Nat.{ℕ}
+use Prim.Native.Nat.{ℕ, _/_, _%_, _^_}
+use mathlib.Core.Bool.{cond}
 use mathlib.Core.List.{List, [], _∷_, _++_}
+use lib.Dec.{eqb}
 use lib.ListN.{take}
 use Rattle.woot.specs.declared.Operation.{Operation}
 use Rattle.woot.specs.declared.Character.{Character}
@@ -24,6 +26,7 @@ use Rattle.saved.specs.declared.LoadAnswer.{LoadAnswer}
 use Rattle.saved.specs.declared.LoadAnswer.the-variants.{Done as loadDone, Refused as loadRefused}
 use Rattle.saved.specs.Format.{savedState}
 use Rattle.saved.specs.Calls.{loaded, saved, outAfter}
+use Rattle.wimtaze.specs.Results.{packed}
 use Rattle.wimtaze.specs.Effects.{Effect}
 use Rattle.wimtaze.specs.Calls.{beginning, receivingLine, inserting as typing, deleting as erasing}
 
@@ -59,8 +62,19 @@ bytesAfter waits handed new = new
 bytesAfter known handed new = handed
 bytesAfter refused handed new = handed
 
+-- the word and the length of the first output, as a C program reads them off the returned number
+unfoldable pub wordRead : ℕ → Word
+wordRead r = cond (eqb (r % 4) 0) done (cond (eqb (r % 4) 1) waits (cond (eqb (r % 4) 2) known refused))
+
+unfoldable pub writtenRead : ℕ → ℕ
+writtenRead r = r / 2 ^ 32 % 65536
+
+-- the word that a call on bytes replies with
+unfoldable pub wordOf : Effect → Word
+wordOf e = wordRead (packed (e .result))
+
 unfoldable pub afterEffect : List ℕ → Effect → Copy
-afterEffect bytes e = asBytes (bytesAfter (e .result .reply .word) bytes (take (e .result .written) (e .output)))
+afterEffect bytes e = asBytes (bytesAfter (wordOf e) bytes (take (writtenRead (packed (e .result))) (e .output)))
 
 -- inserting on the lent record: the record as it is left, and the document that came back
 unfoldable pub afterRecord : Replica → Returned → Replica
@@ -139,10 +153,10 @@ carriedAsBytes b (onLine s) = []
 carriedAsBytes b (save out) = []
 carriedAsBytes b load = []
 carriedAsBytes b (receiveLine line out) =
-    whenDone (receivingLine b line out .result .reply .word) (savedState b) (receiving (saidBy line))
+    whenDone (wordOf (receivingLine b line out)) (savedState b) (receiving (saidBy line))
 carriedAsBytes b (type g n out line) =
-    whenDone (typing b g n out line .result .reply .word) (savedState b) (inserting g n)
-carriedAsBytes b (erase p out line) = whenDone (erasing b p out line .result .reply .word) (savedState b) (deleting p)
+    whenDone (wordOf (typing b g n out line)) (savedState b) (inserting g n)
+carriedAsBytes b (erase p out line) = whenDone (wordOf (erasing b p out line)) (savedState b) (deleting p)
 
 unfoldable pub carried : Copy → Call → List Operation
 carried (inMemory r) c = carriedInMemory r c
