@@ -1,7 +1,7 @@
 # make install    the static library of the C calls, its header and its pkg-config file, under PREFIX
 # make native     the programs in C and Rust over the static library
 # make run        the hall program on document 01's example
-# make bench      times receiving against plain Rust
+# make bench      times receiving and the C calls against plain Rust, and prints a table with the ratios
 # make test       the gate: it proves every crate from nothing and runs what there is to run
 .DEFAULT_GOAL := run
 PREFIX ?= /usr/local
@@ -29,9 +29,12 @@ run:
 
 bench:
 	rt staticlib workload
+	rt staticlib wimtaze
 	mkdir -p target/bench
-	rustc --edition 2021 -O -o target/bench/receive bench/receive.rs -L target/staticlib -l static=workload
+	rustc --edition 2021 -O -D warnings bench/receive.rs -L target/staticlib -l static=workload -o target/bench/receive
+	rustc --edition 2021 -O -D warnings bench/calls.rs -L target/staticlib -l static=wimtaze -o target/bench/calls
 	target/bench/receive
+	target/bench/calls
 
 test:
 	.ci/run

@@ -1,12 +1,12 @@
 //! Times 1,024 inserts and then 1,024 deletes through the library's `receive` against the plain Rust of
-//! tests/native/reference.rs: the same operations, the same checks, both optimised. Prints both times and their ratio.
+//! tests/native/reference.rs: the same operations, the same checks, both optimised.
 
 #[path = "../tests/native/reference.rs"]
 #[allow(dead_code)]
 mod reference;
+mod table;
 
 use reference::{Erase, Id, Insert, Operation, Reply, Sheet, BEGIN, END};
-use std::time::{Duration, Instant};
 
 extern "C" {
     /// Runs the operations of `crates/workload` on an empty replica and returns how many were carried out.
@@ -14,7 +14,6 @@ extern "C" {
 }
 
 const COUNT: usize = 1024;
-const ROUNDS: usize = 5;
 
 fn id(k: usize) -> Id {
     Id { laptop: (k % 16 + 1) as u8, clock: (k / 16 + 1) as u16 }
@@ -38,28 +37,11 @@ fn reference_run() -> u64 {
             carried += 1;
         }
     }
+    assert_eq!(carried, 2 * COUNT as u64);
     carried
 }
 
-/// The shortest of several runs.
-fn best(run: impl Fn() -> u64) -> (u64, Duration) {
-    let mut shortest = Duration::MAX;
-    let mut carried = 0;
-    for _ in 0..ROUNDS {
-        let began = Instant::now();
-        carried = run();
-        shortest = shortest.min(began.elapsed());
-    }
-    (carried, shortest)
-}
-
 fn main() {
-    let (theirs, plain) = best(reference_run);
-    let (ours, library) = best(|| unsafe { workload_run() });
-    assert_eq!(theirs, 2 * COUNT as u64);
-    assert_eq!(ours, theirs);
-    println!("receive, {COUNT} inserts and {COUNT} deletes, shortest of {ROUNDS} runs");
-    println!("plain Rust  {:>8.1} ms", plain.as_secs_f64() * 1e3);
-    println!("library     {:>8.1} ms", library.as_secs_f64() * 1e3);
-    println!("ratio       {:>8.2}", library.as_secs_f64() / plain.as_secs_f64());
+    table::head();
+    table::row("receive, 1,024 inserts and 1,024 deletes", &reference_run, &|| unsafe { workload_run() });
 }

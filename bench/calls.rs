@@ -1,0 +1,172 @@
+//! Times the C calls of the static library, saved sheets in and out, against the same calls of the plain Rust in
+//! tests/native/reference.rs. Both sides leave the same bytes, which is checked on the way.
+
+#[path = "../tests/native/reference.rs"]
+#[allow(dead_code)]
+mod reference;
+#[allow(dead_code)]
+mod table;
+
+use reference::{erase_call, receive_call, text_call, type_call, Outcome};
+
+extern "C" {
+    fn wimtaze_receive(
+        sheet: *const u8,
+        sheet_length: usize,
+        line: *const u8,
+        line_length: usize,
+        sheet_out: *mut u8,
+        sheet_out_length: usize,
+    ) -> u64;
+    fn wimtaze_type(
+        sheet: *const u8,
+        sheet_length: usize,
+        gap: u64,
+        code_point: u32,
+        sheet_out: *mut u8,
+        sheet_out_length: usize,
+        line_out: *mut u8,
+        line_out_length: usize,
+    ) -> u64;
+    fn wimtaze_erase(
+        sheet: *const u8,
+        sheet_length: usize,
+        place: u64,
+        sheet_out: *mut u8,
+        sheet_out_length: usize,
+        line_out: *mut u8,
+        line_out_length: usize,
+    ) -> u64;
+    fn wimtaze_text(sheet: *const u8, sheet_length: usize, text_out: *mut u8, text_out_length: usize) -> u64;
+}
+
+const COUNT: u64 = 1024;
+const TEXTS: usize = 100;
+const SHEET: usize = 47_115;
+
+/// What the calls leave: the saved sheet, and the lines that were sent.
+#[derive(Clone, PartialEq)]
+struct Left {
+    sheet: Vec<u8>,
+    lines: Vec<Vec<u8>>,
+}
+
+fn empty(laptop: u8) -> Left {
+    Left { sheet: format!("S\t{laptop}\t0\n").into_bytes(), lines: Vec::new() }
+}
+
+impl Left {
+    fn keep(&mut self, new: Outcome) {
+        self.sheet = new.first;
+        if !new.line.is_empty() {
+            self.lines.push(new.line);
+        }
+    }
+
+    fn keep_written(&mut self, returned: u64, sheet: &[u8], line: &[u8]) {
+        assert_eq!(returned & 3, 0);
+        self.sheet.clear();
+        self.sheet.extend_from_slice(&sheet[..(returned >> 32 & 0xffff) as usize]);
+        let sent = (returned >> 48) as usize;
+        if sent > 0 {
+            self.lines.push(line[..sent].to_vec());
+        }
+    }
+
+    /// One number for all that was left.
+    fn sum(&self) -> u64 {
+        let all = self.sheet.iter().chain(self.lines.iter().flatten());
+        all.fold(17, |sum: u64, &b| sum.wrapping_mul(31).wrapping_add(u64::from(b)))
+    }
+}
+
+/// The gap of the k-th character: at the end, but every fourth in the middle.
+fn gap(k: u64) -> u64 {
+    if k % 4 == 3 {
+        k / 2
+    } else {
+        k
+    }
+}
+
+fn typed_plain() -> Left {
+    let mut left = empty(1);
+    for k in 0..COUNT {
+        let new = type_call(&left.sheet, gap(k), 97 + (k % 26) as u32);
+        left.keep(new);
+    }
+    left
+}
+
+fn typed() -> Left {
+    let (mut left, mut sheet, mut line) = (empty(1), [0u8; SHEET], [0u8; 37]);
+    for k in 0..COUNT {
+        let (s, l, code) = (&left.sheet, &mut line, 97 + (k % 26) as u32);
+        let r = unsafe {
+            wimtaze_type(s.as_ptr(), s.len(), gap(k), code, sheet.as_mut_ptr(), SHEET, l.as_mut_ptr(), l.len())
+        };
+        left.keep_written(r, &sheet, &line);
+    }
+    left
+}
+
+fn received_plain(lines: &[Vec<u8>]) -> Left {
+    let mut left = empty(2);
+    for line in lines {
+        let new = receive_call(&left.sheet, line);
+        left.keep(new);
+    }
+    left
+}
+
+fn received(lines: &[Vec<u8>]) -> Left {
+    let (mut left, mut sheet) = (empty(2), [0u8; SHEET]);
+    for l in lines {
+        let s = &left.sheet;
+        let r = unsafe { wimtaze_receive(s.as_ptr(), s.len(), l.as_ptr(), l.len(), sheet.as_mut_ptr(), SHEET) };
+        left.keep_written(r, &sheet, &[]);
+    }
+    left
+}
+
+fn erased_plain(from: &Left) -> Left {
+    let mut left = Left { sheet: from.sheet.clone(), lines: Vec::new() };
+    for k in 0..COUNT {
+        let new = erase_call(&left.sheet, (COUNT - k) / 2 + 1);
+        left.keep(new);
+    }
+    left
+}
+
+fn erased(from: &Left) -> Left {
+    let (mut sheet, mut line) = ([0u8; SHEET], [0u8; 37]);
+    let mut left = Left { sheet: from.sheet.clone(), lines: Vec::new() };
+    for k in 0..COUNT {
+        let (s, l, place) = (&left.sheet, &mut line, (COUNT - k) / 2 + 1);
+        let r = unsafe {
+            wimtaze_erase(s.as_ptr(), s.len(), place, sheet.as_mut_ptr(), SHEET, l.as_mut_ptr(), l.len())
+        };
+        left.keep_written(r, &sheet, &line);
+    }
+    left
+}
+
+fn shown(from: &Left) -> u64 {
+    let mut text = [0u8; 4096];
+    let s = &from.sheet;
+    let r = (0..TEXTS).map(|_| unsafe { wimtaze_text(s.as_ptr(), s.len(), text.as_mut_ptr(), text.len()) }).max();
+    r.unwrap_or(0) >> 32 & 0xffff
+}
+
+fn shown_plain(from: &Left) -> u64 {
+    (0..TEXTS).map(|_| text_call(&from.sheet).first.len() as u64).max().unwrap_or(0)
+}
+
+fn main() {
+    let full = typed_plain();
+    table::row("wimtaze_type, 1,024 characters", &|| typed_plain().sum(), &|| typed().sum());
+    let lines = full.lines.clone();
+    table::row("wimtaze_receive, their 1,024 lines", &|| received_plain(&lines).sum(), &|| received(&lines).sum());
+    table::row("wimtaze_erase, all of them", &|| erased_plain(&full).sum(), &|| erased(&full).sum());
+    table::row("wimtaze_text, 100 times 1,024 characters", &|| shown_plain(&full), &|| shown(&full));
+}
