@@ -36,7 +36,8 @@
  * Pointers. Every pointer must be non-null, also with length 0: the compiled library relies on that. No output may
  * overlap an input or another output, so the new sheet cannot be written over the old one in the same call.
  *
- * Calls on different buffers may run in several threads at once.
+ * Calls on different buffers may run in several threads at once. Everything is on the stack of the caller, which must
+ * have room for it: see WIMTAZE_STACK.
  */
 #ifndef WIMTAZE_H
 #define WIMTAZE_H
@@ -54,6 +55,9 @@ extern "C" {
 #define WIMTAZE_ERASE_MAX 14    /* the line of an erased character */
 #define WIMTAZE_LINE_MAX 37     /* either line */
 #define WIMTAZE_TEXT_MAX 4096   /* the text */
+
+/* A stack of this many bytes is enough for every call (less than 450 KiB was measured on x86-64). */
+#define WIMTAZE_STACK 524288
 
 /* What a call answers. */
 enum wimtaze_words {

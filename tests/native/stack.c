@@ -1,0 +1,59 @@
+/*
+ * Every call of the library in a thread with the stack that the header asks for, on an empty sheet, on a full one and on
+ * one where a line releases the edits that wait for it. The page below such a stack is guarded, so a call that needs
+ * more ends the program.
+ */
+#include "wimtaze.h"
+
+#include <pthread.h>
+#include <stdio.h>
+#include <string.h>
+
+static uint8_t sheet[WIMTAZE_SHEET_MAX], after[WIMTAZE_SHEET_MAX], line[WIMTAZE_LINE_MAX], text[WIMTAZE_TEXT_MAX];
+static size_t length;
+static int failures;
+
+/* Keeps the new sheet if there is one, and counts an answer that was not expected. */
+static void keep(uint64_t reply, unsigned word) {
+    if (wimtaze_word(reply) != word) {
+        failures++;
+        return;
+    }
+    if (word == WIMTAZE_DONE || word == WIMTAZE_WAITS) {
+        length = wimtaze_written(reply);
+        memcpy(sheet, after, length);
+    }
+}
+
+static void receive(unsigned clock, unsigned previous, unsigned word) {
+    char edit[64];
+    int n = sprintf(edit, "I\t2\t%u\t66\t%d\t%u\t0\t1\n", clock, previous == 0 ? 0 : 2, previous);
+    keep(wimtaze_receive(sheet, length, (const uint8_t *)edit, (size_t)n, after, sizeof after), word);
+}
+
+static void *calls(void *unused) {
+    unsigned k;
+    keep(wimtaze_empty(1, after, sizeof after), WIMTAZE_DONE);
+    for (k = 2; k <= 33; k++)
+        receive(k, k - 1, WIMTAZE_WAITS);
+    receive(1, 0, WIMTAZE_DONE);
+    for (k = 33; k < 1024; k++)
+        keep(wimtaze_type(sheet, length, k, 0x10FFFF, after, sizeof after, line, sizeof line), WIMTAZE_DONE);
+    keep(wimtaze_type(sheet, length, 0, 'x', after, sizeof after, line, sizeof line), WIMTAZE_REFUSED);
+    if (wimtaze_word(wimtaze_text(sheet, length, text, sizeof text)) != WIMTAZE_DONE)
+        failures++;
+    keep(wimtaze_erase(sheet, length, 512, after, sizeof after, line, sizeof line), WIMTAZE_DONE);
+    return unused;
+}
+
+int main(void) {
+    pthread_attr_t attributes;
+    pthread_t thread;
+    if (pthread_attr_init(&attributes) != 0 || pthread_attr_setstacksize(&attributes, WIMTAZE_STACK) != 0 ||
+        pthread_create(&thread, &attributes, calls, NULL) != 0 || pthread_join(thread, NULL) != 0) {
+        puts("no thread");
+        return 1;
+    }
+    printf("%d answers were not expected\n", failures);
+    return failures != 0;
+}
