@@ -1,44 +1,17 @@
 //! Times the C calls of the static library, saved sheets in and out, against the same calls of the plain Rust in
 //! tests/native/reference.rs. Both sides leave the same bytes, which is checked on the way.
 
+#[path = "../tests/native/library.rs"]
+#[allow(dead_code)]
+mod library;
 #[path = "../tests/native/reference.rs"]
 #[allow(dead_code)]
 mod reference;
 #[allow(dead_code)]
 mod table;
 
+use library::{wimtaze_erase, wimtaze_receive, wimtaze_text, wimtaze_type};
 use reference::{erase_call, receive_call, text_call, type_call, Outcome};
-
-extern "C" {
-    fn wimtaze_receive(
-        sheet: *const u8,
-        sheet_length: usize,
-        line: *const u8,
-        line_length: usize,
-        sheet_out: *mut u8,
-        sheet_out_length: usize,
-    ) -> u64;
-    fn wimtaze_type(
-        sheet: *const u8,
-        sheet_length: usize,
-        gap: u64,
-        code_point: u32,
-        sheet_out: *mut u8,
-        sheet_out_length: usize,
-        line_out: *mut u8,
-        line_out_length: usize,
-    ) -> u64;
-    fn wimtaze_erase(
-        sheet: *const u8,
-        sheet_length: usize,
-        place: u64,
-        sheet_out: *mut u8,
-        sheet_out_length: usize,
-        line_out: *mut u8,
-        line_out_length: usize,
-    ) -> u64;
-    fn wimtaze_text(sheet: *const u8, sheet_length: usize, text_out: *mut u8, text_out_length: usize) -> u64;
-}
 
 const COUNT: u64 = 1024;
 const TEXTS: usize = 100;

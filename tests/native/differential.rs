@@ -3,43 +3,13 @@
 //! A call passes if the returned number and every byte of its inputs and outputs, and of the guards around them, are
 //! what the reference says. The seeds are fixed, so a run can be repeated.
 
+mod library;
 #[allow(dead_code)]
 mod reference;
 
+use library::{wimtaze_empty, wimtaze_erase, wimtaze_receive, wimtaze_text, wimtaze_type};
 use reference::{Outcome, Reply};
 use std::collections::BTreeMap;
-
-extern "C" {
-    fn wimtaze_empty(number: u64, sheet_out: *mut u8, sheet_out_length: usize) -> u64;
-    fn wimtaze_receive(
-        sheet: *const u8,
-        sheet_length: usize,
-        line: *const u8,
-        line_length: usize,
-        sheet_out: *mut u8,
-        sheet_out_length: usize,
-    ) -> u64;
-    fn wimtaze_type(
-        sheet: *const u8,
-        sheet_length: usize,
-        gap: u64,
-        code_point: u32,
-        sheet_out: *mut u8,
-        sheet_out_length: usize,
-        line_out: *mut u8,
-        line_out_length: usize,
-    ) -> u64;
-    fn wimtaze_erase(
-        sheet: *const u8,
-        sheet_length: usize,
-        place: u64,
-        sheet_out: *mut u8,
-        sheet_out_length: usize,
-        line_out: *mut u8,
-        line_out_length: usize,
-    ) -> u64;
-    fn wimtaze_text(sheet: *const u8, sheet_length: usize, text_out: *mut u8, text_out_length: usize) -> u64;
-}
 
 const SMALL_CALLS: u64 = 220_000;
 const LARGE_SHEETS: u64 = 200;

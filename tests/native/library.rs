@@ -1,0 +1,33 @@
+//! The C calls of include/wimtaze.h, as Rust declares them.
+
+extern "C" {
+    pub fn wimtaze_empty(number: u64, sheet_out: *mut u8, sheet_out_length: usize) -> u64;
+    pub fn wimtaze_receive(
+        sheet: *const u8,
+        sheet_length: usize,
+        line: *const u8,
+        line_length: usize,
+        sheet_out: *mut u8,
+        sheet_out_length: usize,
+    ) -> u64;
+    pub fn wimtaze_type(
+        sheet: *const u8,
+        sheet_length: usize,
+        gap: u64,
+        code_point: u32,
+        sheet_out: *mut u8,
+        sheet_out_length: usize,
+        line_out: *mut u8,
+        line_out_length: usize,
+    ) -> u64;
+    pub fn wimtaze_erase(
+        sheet: *const u8,
+        sheet_length: usize,
+        place: u64,
+        sheet_out: *mut u8,
+        sheet_out_length: usize,
+        line_out: *mut u8,
+        line_out_length: usize,
+    ) -> u64;
+    pub fn wimtaze_text(sheet: *const u8, sheet_length: usize, text_out: *mut u8, text_out_length: usize) -> u64;
+}
