@@ -1,11 +1,10 @@
 -- What inserting and deleting here test and make is what the rules say.
 use Prim.Native.Nat.{ℕ, _+_, _≤_, _<_}
-use native.Mathlib.Omega.{arith}
-use mathlib.Core.Path.{_≡_, sym, ap, _∙_}
-use mathlib.Core.Bool.{Bool, true, false, _||_}
-use mathlib.Core.List.{List, [], _∷_, _++_}
-use borrow.Author.Tests.{eq-eqb, ne-eqb}
-use lib.Dec.{leb, ltb, eqb}
+use mathlib.Core.Path.{_≡_, sym}
+use mathlib.Core.Bool.{true, false}
+use mathlib.Core.List.{_∷_}
+use borrow.Author.Tests.{eq-eqb, ne-eqb, lt-ltb, le-ltb}
+use lib.Dec.{leb}
 use lib.ListN.{length, take, getD}
 use Rattle.woot.specs.declared.Identifier.{Identifier}
 use Rattle.woot.specs.declared.Insert.{Insert}
@@ -15,8 +14,8 @@ use Rattle.woot.specs.declared.Sent.the-variants.{Done as sentDone, Refused as 
 use Rattle.woot.specs.declared.Refusal.the-variants.{Position, Unplaceable as placeless, DocumentFull}
 use Rattle.woot.specs.declared.Generated.{Generated}
 use Rattle.woot.specs.Limits.{capacity}
-use Rattle.woot.specs.Identifiers.{begin, end}
-use Rattle.woot.specs.State.{pad, meaning, stored}
+use Rattle.woot.specs.Identifiers.{begin}
+use Rattle.woot.specs.State.{meaning, stored}
 use Rattle.woot.specs.Placing.{integrateInsert, integrateDelete}
 use Rattle.woot.specs.Pending.{unplaceable}
 use Rattle.woot.specs.Form.{known, replicaWellFormed}
@@ -29,22 +28,21 @@ use Rattle.replica.specs.Replicas.{deleted}
 use Rattle.replica.specs.Work.{placementOf, finished}
 use Rattle.replica.specs.Needs.{Placed, Sendable}
 use Rattle.replica.specs.Sending.{sentInsert}
-use Rattle.replica.specs.Visible.{visibility, countIn}
-use Rattle.form.proofs.Fullness.{FullDocument}
 use Rattle.replica.proofs.Placements.{says}
-use Rattle.replica.proofs.Stored.{Counts, finished-integrated, finished-discarded, finished-stored}
+use Rattle.replica.proofs.Stored.{finished-integrated, finished-discarded, finished-stored}
 use Rattle.replica.proofs.Examining.{form}
 use Rattle.replica.proofs.Receiving.{addable-placed}
-use Rattle.replica.proofs.Visibility.{lent-count}
 use Rattle.replica.proofs.Outcomes.{sent-placeless, sent-full, sent-done, delete-nowhere, delete-done}
 
--- whether there are so many visible characters, by the flags
-pub beyond-flags : (r : Replica) → FullDocument (r .document) → Counts r → (fs : List Bool) (g : ℕ)
-    → fs ≡ pad 1024 false (visibility (take (r .document .length) (r .document .characters)))
-    → ltb (countIn (take (r .document .length) fs)) g ≡ beyondVisible (meaning r) g
-unfolding beyondVisible meaning
-beyond-flags r full few fs g e =
-    ap (λ (k : ℕ). ltb k g) (lent-count 1024 (r .document .length) (r .document .characters) (omega (arith, full .characters, few .characters)) fs e)
+-- whether there are so many visible characters, by their count
+module _ (r : Replica) (k g : ℕ) (e : k ≡ length (visibles (take (r .document .length) (r .document .characters)))) where
+  pub count-below : k < g → beyondVisible (meaning r) g ≡ true
+  unfolding beyondVisible meaning
+  count-below h = rw (← e) (lt-ltb k g h)
+
+  pub count-reaches : g ≤ k → beyondVisible (meaning r) g ≡ false
+  unfolding beyondVisible meaning
+  count-reaches h = rw (← e) (le-ltb k g h)
 
 -- ---- inserting
 

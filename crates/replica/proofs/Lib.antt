@@ -1,7 +1,5 @@
 pub mod Runs
 pub mod Placements
-pub mod Visibility
-pub mod Texts
 pub mod Works
 pub mod Stepping
 pub mod Outcomes

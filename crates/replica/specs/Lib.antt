@@ -1,7 +1,6 @@
 pub mod Replicas
 pub mod Theorems
 pub mod Work
-pub mod Visible
 pub mod Known
 pub mod Needs
 pub mod Sending

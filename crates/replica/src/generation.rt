@@ -5,7 +5,6 @@ use crate::placing;
 use crate::placing::Placement;
 use crate::room;
 use crate::storing;
-use crate::visible;
 use form::index::Index;
 use form::queue::Queue;
 use woot::Delete;
@@ -18,21 +17,18 @@ use woot::Replica;
 use woot::Sent;
 use woot::Site;
 ghost use mathlib.Core.Path.{_≡_};
-ghost use mathlib.Core.Bool.{true, false};
-ghost use Prim.Native.Nat.{_≤_, _<_};
-ghost use lib.Dec.{ltb};
-ghost use lib.ListN.{take};
+ghost use mathlib.Core.Bool.{true};
+ghost use Prim.Native.Nat.{_<_};
 ghost use Rattle.woot.specs.declared.Sent.the-variants.{Refused as sentRefused};
 ghost use Rattle.woot.specs.Limits.{lastClock};
 ghost use Rattle.woot.specs.Identifiers.{same};
 ghost use Rattle.woot.specs.Lists.{any};
 ghost use Rattle.woot.specs.Ranges.{codePoint, characterId};
-ghost use Rattle.woot.specs.State.{pad, meaning, counted};
+ghost use Rattle.woot.specs.State.{meaning};
 ghost use Rattle.woot.specs.Form.{known, replicaWellFormed};
 ghost use Rattle.woot.specs.Calls.{generatedInsert};
 ghost use Rattle.replica.specs.declared.placing.Placement.the-variants.{Below};
 ghost use Rattle.replica.specs.Replicas.{inserted, deleted};
-ghost use Rattle.replica.specs.Visible.{visibility, countIn};
 ghost use Rattle.form.specs.Queue.{packed};
 ghost use Rattle.replica.specs.Work.{placementOf};
 ghost use Rattle.replica.specs.Needs.{Examined, Sendable};
@@ -48,17 +44,9 @@ pub(crate) fn refused(r: Replica, refusal: Refusal) -> Generated
     }
 }
 
-// Whether a number is above the count of the visible among the first n characters.
-fn is_beyond(flags: [bool; 1024], n: usize, number: usize) -> bool
-    requires { ⌜ n ≤ 1024 ⌝ }
-    ensures { λ x. ⌜ x ≡ ltb (countIn (take n flags)) number ⌝ }
-{
-    visible::count(&flags[..n]) < number
-}
-
 // The insert that is made here: the next identifier, and the visible neighbours of the insertion point.
-fn generated_insert(r: Replica, flags: [bool; 1024], point: usize, code_point: u32) -> Insert
-    requires { ⌜ (counted r ≡ true) × (r .site .clock < lastClock) × (flags ≡ pad 1024 false (visibility (meaning r .characters))) ⌝ }
+fn generated_insert(r: Replica, point: usize, code_point: u32) -> Insert
+    requires { ⌜ r .site .clock < lastClock ⌝ }
     ensures { λ x. ⌜ x ≡ generatedInsert (meaning r) point «code_point» ⌝ }
 {
     let site = r.site;
@@ -71,8 +59,8 @@ fn generated_insert(r: Replica, flags: [bool; 1024], point: usize, code_point: u
             clock: site.clock + 1,
         },
         code_point,
-        previous: visible::left(cs, n, flags, point),
-        next: visible::right(cs, n, flags, point),
+        previous: visible::left(cs, n, point),
+        next: visible::right(cs, n, point),
     }
 }
 
@@ -145,15 +133,14 @@ pub(crate) fn insert_visible(
     let d = r.document;
     let n = d.length;
     let cs = d.characters;
-    let flags = visible::flags(cs, n);
-    if is_beyond(flags, n, point) {
+    if visible::count(cs, n) < point {
         return refused(r, Refusal::Position);
     }
     let site = r.site;
     if 65535 <= site.clock {
         return refused(r, Refusal::Clock);
     }
-    let i = generated_insert(r, flags, point, code_point);
+    let i = generated_insert(r, point, code_point);
     let id = i.id;
     if is_taken(r, x, q, id) {
         return refused(r, Refusal::Taken);
@@ -172,11 +159,10 @@ pub(crate) fn delete_visible(r: Replica, index: usize) -> Generated
     let d = r.document;
     let n = d.length;
     let cs = d.characters;
-    let flags = visible::flags(cs, n);
-    if is_beyond(flags, n, index) {
+    if visible::count(cs, n) < index {
         return refused(r, Refusal::Position);
     }
-    let target = visible::left(cs, n, flags, index);
+    let target = visible::left(cs, n, index);
     let site = r.site;
     let operation = Operation::Delete(Delete {
         sender: site.number,

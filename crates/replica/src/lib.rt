@@ -5,7 +5,6 @@ mod placing;
 mod reception;
 mod room;
 mod storing;
-mod visible;
 mod work;
 
 use woot::Generated;
@@ -76,5 +75,10 @@ pub fn delete(r: Replica, index: usize) -> Generated
 pub fn visible_text(r: Replica, out: &mut [u8]) -> Written
     ensures { λ x. ⌜ (x ≡ textWritten r (now (out .entry))) × (now (out .exit) ≡ textOut r (now (out .entry))) ⌝ }
 {
-    visible::text_when(well_formed(r), r, out)
+    if !well_formed(r) {
+        return Written::Refused(Refusal::Form);
+    }
+    let d = r.document;
+    let cs = d.characters;
+    visible::write_text(cs, d.length, out)
 }

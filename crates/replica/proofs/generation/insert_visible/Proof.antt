@@ -1,5 +1,4 @@
 -- `replica::generation::insert_visible` meets its contract: what it tests, in this order, is what the rules test.
-use Prim.Native.Nat.{_<_}
 use mathlib.Core.Path.{_≡_, sym, _∙_}
 use mathlib.Core.Bool.{false}
 use borrow.Author.Tests.{le-leb, lt-leb}
@@ -8,47 +7,34 @@ use Rattle.woot.specs.Limits.{lastClock}
 use Rattle.woot.specs.State.{meaning}
 use Rattle.woot.specs.Calls.{generatedInsert, beyondVisible, taken}
 use Rattle.convergence.proofs.Steps.{next-character, generated-made}
-use Rattle.form.proofs.Fullness.{FullDocument, full-replica}
-use Rattle.replica.proofs.Stored.{form-counted}
-use Rattle.replica.proofs.Examining.{few, form}
+use Rattle.replica.proofs.Examining.{form}
 use Rattle.replica.proofs.Outcomes.{insert-beyond, insert-late, insert-taken, insert-sent}
-use Rattle.replica.proofs.Generating.{beyond-flags}
+use Rattle.replica.proofs.Generating.{count-below, count-reaches}
 use borrow.Author.Needs.{needs}
 use Rattle.replica.proofs.generation.insert_visible.Statement.{statement}
 use Rattle.replica.proofs.generation.insert_visible.Tie as tie
 
-full : (c : tie.Start) → FullDocument (c .args .r .document)
-full c = full-replica (c .good .0)
+visible : (c : tie.Else1) → let a = c .before .before .before .before .args in beyondVisible (meaning (a .r)) (a .point) ≡ false
+visible c = count-reaches _ _ _ (c .before .count .ensures) (c .if1 .left)
 
-tested : (c : tie.After-is-beyond) → let a = c .before .before .before .before .args in c .is-beyond .result ≡ beyondVisible (meaning (a .r)) (a .point)
-tested c =
-    let s = c .before .before .before .before in
-    c .is-beyond .ensures ∙ beyond-flags (s .args .r) (full s) (few _ (s .pre .0 .form)) _ _ (c .before .flags .ensures)
-
-visible : (c : tie.Else1) → let a = c .before .before .before .before .before .args in beyondVisible (meaning (a .r)) (a .point) ≡ false
-visible c = sym (tested (c .before)) ∙ c .if1 .left
-
-early : (c : tie.Else2) → leb lastClock (meaning (c .before .before .before .before .before .before .before .before .args .r) .site .clock) ≡ false
+early : (c : tie.Else2) → leb lastClock (meaning (c .before .before .before .before .before .before .before .args .r) .site .clock) ≡ false
 unfolding meaning
 early c = lt-leb _ _ (c .if2 .left)
 
-free : (c : tie.After-is-taken) → c .is-taken .result ≡ taken (meaning (c .before .before .before .before .before .before .before .before .before .before .before .args .r))
+free : (c : tie.After-is-taken) → c .is-taken .result ≡ taken (meaning (c .before .before .before .before .before .before .before .before .before .before .args .r))
 unfolding taken generatedInsert
 free c = rw (c .before .before .generated-insert .ensures) at (c .is-taken .ensures)
 
-flags-requires : tie.Need-flags-requires
-flags-requires c κs = few _ (c .before .before .pre .0 .form) .characters
-
-is-beyond-requires : tie.Need-is-beyond-requires
-is-beyond-requires c κs = few _ (c .before .before .before .pre .0 .form) .characters
+count-requires : tie.Need-count-requires
+count-requires c κs = search needs
 
 refused-requires : tie.Need-refused-requires
 refused-requires c κs = search needs
 
 returns : tie.Need-returns
 returns c =
-    let p = c .before .before .before .before .before .before .pre in
-    c .refused .ensures ∙ sym (insert-beyond _ _ _ (p .1) (p .0 .form) (sym (tested (c .before .before)) ∙ c .before .if1 .taken))
+    let p = c .before .before .before .before .before .pre in
+    c .refused .ensures ∙ sym (insert-beyond _ _ _ (p .1) (p .0 .form) (count-below _ _ _ (c .before .before .count .ensures) (c .before .if1 .taken)))
 
 refused-requires-2 : tie.Need-refused-requires-2
 refused-requires-2 c κs = search needs
@@ -56,17 +42,16 @@ refused-requires-2 c κs = search needs
 returns-2 : tie.Need-returns-2
 unfolding meaning
 returns-2 c =
-    let p = c .before .before .before .before .before .before .before .before .before .pre in
+    let p = c .before .before .before .before .before .before .before .before .pre in
     c .refused2 .ensures ∙ sym (insert-late _ _ _ (p .1) (p .0 .form) (visible (c .before .before .before .before)) (le-leb _ _ (c .before .if2 .taken)))
 
 generated-insert-requires : tie.Need-generated-insert-requires
-unfolding meaning
-generated-insert-requires c κs = (form-counted _ (c .before .before .before .before .before .before .before .before .pre .0 .form), c .if2 .left, c .before .before .before .before .before .flags .ensures)
+generated-insert-requires c κs = search needs
 
 is-taken-requires : tie.Need-is-taken-requires
 unfolding generatedInsert
 is-taken-requires c κs =
-    let x = c .before .before .before .before .before .before .before .before .before .before .pre .0 in
+    let x = c .before .before .before .before .before .before .before .before .before .pre .0 in
     (x, rw (c .before .generated-insert .ensures) (next-character _ (form _ (x .form)) (early (c .before .before))))
 
 refused-requires-3 : tie.Need-refused-requires-3
@@ -74,13 +59,13 @@ refused-requires-3 c κs = search needs
 
 returns-3 : tie.Need-returns-3
 returns-3 c =
-    let p = c .before .before .before .before .before .before .before .before .before .before .before .before .before .pre in
+    let p = c .before .before .before .before .before .before .before .before .before .before .before .before .pre in
     c .refused3 .ensures
     ∙ sym (insert-taken _ _ _ (p .1) (p .0 .form) (visible (c .before .before .before .before .before .before .before .before)) (early (c .before .before .before .before .before)) (sym (free (c .before .before)) ∙ c .before .if3 .taken))
 
 send-placed-requires : tie.Need-send-placed-requires
 send-placed-requires c κs =
-    let p = c .before .before .before .before .before .before .before .before .before .before .before .before .pre in (
+    let p = c .before .before .before .before .before .before .before .before .before .before .before .pre in (
       p .0,
       rw (c .before .before .before .generated-insert .ensures) record {
         form = p .0 .form;
@@ -91,7 +76,7 @@ send-placed-requires c κs =
 
 returns-4 : tie.Need-returns-4
 returns-4 c =
-    let p = c .before .before .before .before .before .before .before .before .before .before .before .before .before .pre in
+    let p = c .before .before .before .before .before .before .before .before .before .before .before .before .pre in
     rw (c .send-placed .ensures, c .before .before .before .before .generated-insert .ensures)
     (sym (insert-sent _ _ _ (p .1) (p .0 .form) (visible (c .before .before .before .before .before .before .before .before)) (early (c .before .before .before .before .before)) (sym (free (c .before .before)) ∙ c .before .if3 .left)))
 
@@ -99,8 +84,7 @@ pub insert-visible-spec : {M : Type 1} → statement M
 insert-visible-spec =
     tie.close
     (tie.spec
-    flags-requires
-    is-beyond-requires
+    count-requires
     refused-requires
     returns
     refused-requires-2
