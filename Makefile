@@ -1,4 +1,5 @@
-# make install    the static library of the C calls, its header and its pkg-config file, under PREFIX
+# make install    the static library of the C calls, its header and its pkg-config file, and the hall program with its
+#                 manual page, under PREFIX
 # make native     the programs in C and Rust over the static library
 # make run        the hall program on document 01's example
 # make bench      times receiving and the C calls against plain Rust, and prints a table with the ratios
@@ -7,18 +8,25 @@
 PREFIX ?= /usr/local
 VERSION = 0.1.0
 LIBRARY = target/staticlib/libwimtaze.a
+HALL = target/bin/hall
 
 .PHONY: install native run bench test
 
 $(LIBRARY):
 	rt staticlib wimtaze
 
-install: $(LIBRARY)
+$(HALL):
+	rt check hall
+
+install: $(LIBRARY) $(HALL)
 	install -d "$(DESTDIR)$(PREFIX)/lib/pkgconfig" "$(DESTDIR)$(PREFIX)/include"
+	install -d "$(DESTDIR)$(PREFIX)/bin" "$(DESTDIR)$(PREFIX)/share/man/man1"
 	install -m 644 $(LIBRARY) "$(DESTDIR)$(PREFIX)/lib/libwimtaze.a"
 	install -m 644 include/wimtaze.h "$(DESTDIR)$(PREFIX)/include/wimtaze.h"
 	sed -e 's|@PREFIX@|$(PREFIX)|' -e 's|@VERSION@|$(VERSION)|' wimtaze.pc.in \
 		>"$(DESTDIR)$(PREFIX)/lib/pkgconfig/wimtaze.pc"
+	install -m 755 $(HALL) "$(DESTDIR)$(PREFIX)/bin/hall"
+	install -m 644 man/hall.1 "$(DESTDIR)$(PREFIX)/share/man/man1/hall.1"
 
 native:
 	tests/native/run
