@@ -1,16 +1,20 @@
+# make            builds the static library of the C calls
 # make install    the static library of the C calls, its header and its pkg-config file, and the hall program with its
 #                 manual page, under PREFIX
 # make native     the programs in C and Rust over the static library
 # make run        the hall program on document 01's example
 # make bench      times receiving and the C calls against plain Rust, and prints a table with the ratios
 # make test       the gate: it proves every crate from nothing and runs what there is to run
-.DEFAULT_GOAL := run
+.DEFAULT_GOAL := library
 PREFIX ?= /usr/local
 VERSION = 0.1.0
 LIBRARY = target/staticlib/libwimtaze.a
 HALL = target/bin/hall
 
-.PHONY: install native run bench test
+.PHONY: library install native run bench test
+
+library:
+	rt staticlib wimtaze
 
 $(LIBRARY):
 	rt staticlib wimtaze
