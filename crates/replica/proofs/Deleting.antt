@@ -35,7 +35,7 @@ use Rattle.form.specs.Queue.{hasDelete}
 use Rattle.replica.specs.Needs.{New, Absent}
 use Rattle.form.proofs.Fullness.{FullDocument}
 use Rattle.form.proofs.Pending.{delete-found}
-use Rattle.replica.proofs.Holders.{none-named, one-named}
+use Rattle.replica.proofs.Named.{none-named, one-named}
 use Rattle.replica.proofs.Examining.{form, keyed, own-used, first-used, senders-used}
 use Rattle.replica.proofs.Outcomes as outcomes
 

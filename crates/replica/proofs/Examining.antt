@@ -32,20 +32,22 @@ use Rattle.form.specs.declared.index.Index.{Index}
 use Rattle.form.specs.declared.queue.Queue.{Queue}
 use Rattle.order.specs.declared.Found.{Found}
 use Rattle.form.specs.declared.Checked.{Checked}
-use Rattle.replica.specs.declared.known.Holder.{Holder}
-use Rattle.replica.specs.declared.known.Holder.the-variants.{Character as ofCharacter, Pending as ofPending, Nobody}
-use Rattle.replica.specs.declared.known.Seen.the-variants.{New}
+use Rattle.known.specs.declared.Holder.{Holder}
+use Rattle.known.specs.declared.Holder.the-variants.{Character as ofCharacter, Pending as ofPending, Nobody}
+use Rattle.known.specs.declared.Seen.the-variants.{New}
 use Rattle.form.specs.Index.{indexOf}
 use Rattle.form.specs.Queue.{ownKey, firstKey, packed, found}
-use Rattle.replica.specs.Known.{holderIn, comparedTo, comparedWith, seenOf}
+use Rattle.known.specs.Known.{holderIn, comparedTo, comparedWith}
 use Rattle.form.specs.Form.{formedWith, checked}
+use Rattle.replica.specs.Work.{seenOf}
 use Rattle.replica.specs.Needs.{Examined}
 use Rattle.form.proofs.Checks.{checked-true, checked-formed}
 use Rattle.form.proofs.Fullness.{FullDocument}
 use Rattle.form.proofs.Indexes.{index-ids}
 use Rattle.form.proofs.Queues.{packed-own, packed-first, packed-senders}
 use Rattle.form.proofs.Pending.{AllKeyed, all-keyed, positive-key}
-use Rattle.replica.proofs.Holders.{CharacterAt, Stands, stands, Holds, holds, seen-held, seen-new}
+use Rattle.known.proofs.Holders.{CharacterAt, Stands, stands, Holds, holds}
+use Rattle.replica.proofs.Named.{seen-held, seen-new}
 use Rattle.replica.proofs.Stored.{Counts, counts, form-counted, form-meant, character-count, pending-count}
 
 module _ (r : Replica) (f : replicaWellFormed r ≡ true) where

@@ -5,7 +5,7 @@ pub mod Stepping
 pub mod Outcomes
 pub mod Stored
 pub mod Generating
-pub mod Holders
+pub mod Named
 pub mod Examining
 pub mod Receiving
 pub mod Deleting

@@ -35,12 +35,11 @@ use Rattle.form.specs.declared.index.Index.{Index}
 use Rattle.form.specs.declared.queue.Queue.{Queue}
 use Rattle.replica.specs.declared.work.Work.{Work}
 use Rattle.replica.specs.declared.placing.Placement.the-variants.{Missing, Crossed as crossing, Unplaceable as placeless, Below}
-use Rattle.replica.specs.declared.known.Seen.{Seen}
-use Rattle.replica.specs.declared.known.Seen.the-variants.{New as unseen, Same, Other}
+use Rattle.known.specs.declared.Seen.{Seen}
+use Rattle.known.specs.declared.Seen.the-variants.{New as unseen, Same, Other}
 use Rattle.replica.specs.Replicas.{received}
 use Rattle.form.specs.Queue.{packed}
-use Rattle.replica.specs.Work.{placementOf, finished}
-use Rattle.replica.specs.Known.{seenOf}
+use Rattle.replica.specs.Work.{seenOf, placementOf, finished}
 use Rattle.replica.specs.Needs.{Examined, New, Placed}
 use Rattle.form.proofs.Fullness.{FullDocument}
 use Rattle.form.proofs.Pending.{count-senders, count-own}

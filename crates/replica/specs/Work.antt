@@ -1,4 +1,4 @@
--- The steps of a call on a document: where an insert goes, which pending operation is due, and what draining leaves.
+-- The steps of a call on a document: what a received insert is, where an insert goes, which pending operation is due, and what draining leaves.
 use Prim.Native.Nat.{ℕ, suc, _+_, _^_, _≤_, _<_}
 use mathlib.Core.Path.{_≡_}
 use mathlib.Core.Bool.{Bool, true, _&&_, _||_, cond}
@@ -14,13 +14,16 @@ use Rattle.woot.specs.declared.Document.{Document}
 use Rattle.woot.specs.Lists.{every}
 use Rattle.woot.specs.Operations.{inserts}
 use Rattle.woot.specs.Ranges.{characterInRange}
-use Rattle.woot.specs.State.{documentOf}
+use Rattle.woot.specs.State.{State, documentOf}
 use Rattle.woot.specs.Placing.{above, position, between}
 use Rattle.woot.specs.Pending.{executable, crossed, unplaceable, integrate, Taken, Drained, drain}
+use Rattle.woot.specs.Calls.{duplicate, conflicting}
 use Rattle.convergence.proofs.Forms.{Sound}
 use Rattle.order.specs.Keys.{placeIn}
 use Rattle.order.specs.declared.Found.{Found}
 use Rattle.order.specs.declared.Found.the-variants.{At, Nothing}
+use Rattle.known.specs.declared.Seen.{Seen}
+use Rattle.known.specs.declared.Seen.the-variants.{New, Same, Other}
 use Rattle.replica.specs.declared.work.Work.{Work}
 use Rattle.replica.specs.declared.placing.Placement.{Placement}
 use Rattle.replica.specs.declared.placing.Placement.the-variants.{Missing, Crossed, Unplaceable, Below}
@@ -31,6 +34,12 @@ charactersIn d = take (d .length) (d .characters)
 
 abbrev pub pendingIn : Document → List Operation
 pendingIn d = map (λ p. p .operation) (take (d .waiting) (d .pending))
+
+-- ---- what a received insert is
+
+-- known, in conflict (condition 7), or neither
+unfoldable pub seenOf : State → Insert → Seen
+seenOf s i = cond (duplicate s (insert i)) Same (cond (conflicting s (insert i)) Other New)
 
 -- ---- where an insert goes
 

@@ -1,12 +1,11 @@
 // Inserting and deleting here, on a replica that is well formed. (Document 01: typing and erasing.)
-use crate::known;
-use crate::known::Holder;
 use crate::placing;
 use crate::placing::Placement;
-use crate::room;
 use crate::storing;
 use form::index::Index;
 use form::queue::Queue;
+use known::Holder;
+use known::room;
 use woot::Delete;
 use woot::Generated;
 use woot::Identifier;

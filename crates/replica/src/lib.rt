@@ -1,9 +1,7 @@
 // The calls on a replica: receiving, inserting, deleting, the check of its form and the visible text.
 mod generation;
-mod known;
 mod placing;
 mod reception;
-mod room;
 mod storing;
 mod work;
 

@@ -1,12 +1,12 @@
 // Receiving an operation that is in range, on a replica that is well formed.
-use crate::known;
-use crate::known::Seen;
 use crate::placing;
 use crate::placing::Placement;
-use crate::room;
 use crate::storing;
 use form::index::Index;
 use form::queue::Queue;
+use known::Holder;
+use known::Seen;
+use known::room;
 use order::Found;
 use woot::Answer;
 use woot::Delete;
@@ -28,7 +28,7 @@ ghost use Rattle.woot.specs.Form.{replicaWellFormed};
 ghost use Rattle.woot.specs.Calls.{documentFull};
 ghost use Rattle.replica.specs.Replicas.{received};
 ghost use Rattle.form.specs.Queue.{packed};
-ghost use Rattle.replica.specs.Work.{placementOf};
+ghost use Rattle.replica.specs.Work.{seenOf, placementOf};
 ghost use Rattle.replica.specs.Needs.{Examined, New, Absent};
 ghost use Rattle.replica.specs.declared.placing.Placement.the-variants.{Below};
 
@@ -120,12 +120,33 @@ fn receive_new(r: Replica, x: Index, q: Queue, i: Insert) -> Receipt
     }
 }
 
+// What a received insert is to a replica that is well formed.
+fn seen_by(r: Replica, x: Index, q: Queue, i: Insert) -> Seen
+    requires { ⌜ Examined r x q × (insertInRange i ≡ true) ⌝ }
+    ensures { λ y. ⌜ y ≡ seenOf (meaning r) i ⌝ }
+{
+    let d = r.document;
+    let id = i.id;
+    match known::holder_of(x, d.length, q, d.waiting, id) {
+        Holder::Character(k) => {
+            let c = d.characters[k];
+            known::compared(i, known::origin(c))
+        }
+        Holder::Pending(j) => {
+            let p = d.pending[j];
+            let o = p.operation;
+            known::compared_pending(i, o)
+        }
+        Holder::Nobody => Seen::New,
+    }
+}
+
 // Receives an insert.
 pub(crate) fn receive_insert(r: Replica, x: Index, q: Queue, i: Insert) -> Receipt
     requires { ⌜ Examined r x q × (insertInRange i ≡ true) ⌝ }
     ensures { λ y. ⌜ y ≡ received r (insert i) ⌝ }
 {
-    match known::seen_by(r, x, q, i) {
+    match seen_by(r, x, q, i) {
         Seen::New => receive_new(r, x, q, i),
         Seen::Same => kept(r, Answer::Duplicate),
         Seen::Other => refused(r, Refusal::Conflict),

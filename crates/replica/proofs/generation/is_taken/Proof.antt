@@ -1,8 +1,8 @@
 -- `replica::generation::is_taken` goes by who has the identifier.
 use mathlib.Core.Path.{_≡_, sym}
-use Rattle.replica.specs.declared.known.Holder.{Holder}
+use Rattle.known.specs.declared.Holder.{Holder}
 use Rattle.form.proofs.Fullness.{FullDocument, full-replica}
-use Rattle.replica.proofs.Examining.{few, Has, has, nobody, character-takes, pending-takes}
+use Rattle.replica.proofs.Examining.{Has, has, nobody, character-takes, pending-takes}
 use borrow.Author.Needs.{needs}
 use Rattle.replica.proofs.generation.is_taken.Statement.{statement}
 use Rattle.replica.proofs.generation.is_taken.Tie as tie
@@ -14,7 +14,7 @@ held : (c : tie.After-holder-of) (h : Holder) → c .holder-of .result ≡ h →
 held c h e = let s = c .before .before in has _ _ _ (full s) (s .pre .0) _ (s .pre .1) (c .holder-of .ensures) e
 
 holder-of-requires : tie.Need-holder-of-requires
-holder-of-requires c κs = let n = few _ (c .before .pre .0 .form) in (n .characters, n .pending)
+holder-of-requires c κs = search needs
 
 enum-told : tie.Need-enum-told
 enum-told c = search needs

@@ -6,7 +6,6 @@ use Rattle.woot.specs.Limits.{capacity}
 use Rattle.woot.specs.State.{meaning}
 use Rattle.woot.specs.Form.{known}
 use Rattle.form.proofs.Fullness.{full-replica}
-use Rattle.replica.proofs.Examining.{few}
 use Rattle.replica.proofs.Receiving.{room-counted}
 use Rattle.replica.proofs.Generating.{send-full, send-placed, send-done}
 use borrow.Author.Needs.{needs}
@@ -20,7 +19,7 @@ tested c =
     c .document-full .ensures ∙ room-counted _ (s .pre .0 .form) (full-replica (s .good .0)) _ (s .pre .1)
 
 document-full-requires : tie.Need-document-full-requires
-document-full-requires c κs = let n = few _ (c .before .pre .0 .form) in (n .characters, n .pending)
+document-full-requires c κs = search needs
 
 refused-requires : tie.Need-refused-requires
 refused-requires c κs = search needs

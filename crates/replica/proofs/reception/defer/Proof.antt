@@ -7,7 +7,6 @@ use Rattle.woot.specs.State.{meaning}
 use Rattle.woot.specs.Pending.{pendingFrom}
 use Rattle.form.proofs.Fullness.{FullDocument, full-replica}
 use Rattle.replica.proofs.Stored.{form-counted}
-use Rattle.replica.proofs.Examining.{few}
 use Rattle.replica.proofs.Receiving.{share-counted, defer-sender-full, defer-full, defer-slot, defer-done}
 use borrow.Author.Needs.{needs}
 use Rattle.replica.proofs.reception.defer.Statement.{statement}
@@ -26,7 +25,7 @@ sender-requires : tie.Need-sender-requires
 sender-requires c κs = search needs
 
 sender-full-requires : tie.Need-sender-full-requires
-sender-full-requires c κs = few _ (c .before .before .pre .0 .form) .pending
+sender-full-requires c κs = search needs
 
 refused-requires : tie.Need-refused-requires
 refused-requires c κs = search needs

@@ -2,7 +2,6 @@
 use mathlib.Core.Path.{_∙_}
 use Rattle.woot.specs.Calls.{documentFull}
 use Rattle.form.proofs.Fullness.{full-replica}
-use Rattle.replica.proofs.Examining.{few}
 use Rattle.replica.proofs.Receiving.{room-counted}
 use borrow.Author.Needs.{needs}
 use Rattle.replica.proofs.reception.is_full.Statement.{statement}
@@ -12,7 +11,7 @@ enum-told : tie.Need-enum-told
 enum-told c = search needs
 
 document-full-requires : tie.Need-document-full-requires
-document-full-requires c κs = let n = few _ (c .before .before .before .pre .0) in (n .characters, n .pending)
+document-full-requires c κs = search needs
 
 enum-told-2 : tie.Need-enum-told-2
 enum-told-2 c = search needs

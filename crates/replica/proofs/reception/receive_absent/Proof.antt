@@ -4,7 +4,6 @@ use Rattle.woot.specs.declared.Operation.the-variants.{Delete as delete}
 use Rattle.woot.specs.State.{meaning}
 use Rattle.woot.specs.Calls.{duplicate}
 use Rattle.form.proofs.Fullness.{full-replica}
-use Rattle.replica.proofs.Examining.{few}
 use Rattle.replica.proofs.Deleting.{absent-found, absent-again, absent-new, absent-unready}
 use borrow.Author.Needs.{needs}
 use Rattle.replica.proofs.reception.receive_absent.Statement.{statement}
@@ -15,7 +14,7 @@ tested : (c : tie.After-is-pending) → let a = c .before .before .args in c .is
 tested c = let s = c .before .before in c .is-pending .ensures ∙ absent-found _ _ _ (s .pre) (full-replica (s .good .0))
 
 is-pending-requires : tie.Need-is-pending-requires
-is-pending-requires c κs = few _ (c .before .pre .form) .pending
+is-pending-requires c κs = search needs
 
 kept-requires : tie.Need-kept-requires
 kept-requires c κs = search needs

@@ -8,7 +8,7 @@ use Rattle.woot.specs.Ranges.{characterId}
 use Rattle.woot.specs.State.{meaning}
 use Rattle.form.proofs.Fullness.{FullDocument, full-replica}
 use Rattle.replica.proofs.Stored.{form-counted}
-use Rattle.replica.proofs.Holders.{CharacterAt}
+use Rattle.known.proofs.Holders.{CharacterAt}
 use Rattle.replica.proofs.Examining.{few, stands-at, character-within, character-member, character-named}
 use Rattle.replica.proofs.Deleting.{target-ranged, delete-again, delete-done}
 use borrow.Author.Needs.{needs}
@@ -33,7 +33,7 @@ within c =
     omega arith
 
 character-of-requires : tie.Need-character-of-requires
-character-of-requires c κs = few _ (c .before .before .pre .0 .form) .characters
+character-of-requires c κs = search needs
 
 enum-known-k : tie.Need-enum-known-k
 enum-known-k c = search needs

@@ -1,7 +1,7 @@
 -- `replica::reception::receive_insert` goes by what the insert is to the replica.
 use mathlib.Core.Path.{sym, _∙_}
 use Rattle.woot.specs.Ranges.{inRange}
-use Rattle.replica.specs.declared.known.Seen.the-variants.{New, Same, Other}
+use Rattle.known.specs.declared.Seen.the-variants.{New, Same, Other}
 use Rattle.replica.proofs.Outcomes.{known, conflict}
 use Rattle.replica.proofs.Receiving.{seen-says}
 use borrow.Author.Needs.{needs}
