@@ -1,16 +1,16 @@
 -- A line by its first field: where that is the letter, what follows it decides.
-use mathlib.Core.Path.{_≡_, refl, sym, ap, _∙_}
-use mathlib.Core.List.{List, [], _∷_}
-use mathlib.Core.Bool.{Bool, true, false, _&&_, cond}
-use Prim.Native.Nat.{ℕ, _+_, _≤_, _<_}
+use mathlib.Core.Path.{_≡_, sym, ap, _∙_}
+use mathlib.Core.List.{List, []}
+use mathlib.Core.Bool.{false}
+use Prim.Native.Nat.{ℕ, _+_, _<_}
 use native.Mathlib.Omega.{arith}
 use lib.Dec.{eqb}
 use lib.ListN.{length, take, drop, getD}
 use lib.Seq.{getD-take}
 use borrow.Author.Tests.{eq-eqb, ne-eqb}
-use Rattle.codec.specs.declared.fields.Verdict.the-variants.{Malformed, Above, Within}
-use Rattle.codec.specs.Lines.{tab, before, fields, isLetter, numerals, hasLayout, numbers}
-use Rattle.codec.specs.Numbers.{within, goesOn, holding, verdictOn, numbersOf, lineNumbers}
+use Rattle.codec.specs.declared.fields.Verdict.the-variants.{Malformed}
+use Rattle.codec.specs.Lines.{tab, before, fields, isLetter, hasLayout, numbers}
+use Rattle.codec.specs.Numbers.{goesOn, holding, verdictOn, numbersOf, lineNumbers}
 use Rattle.codec.proofs.Lines.{onward, take-before, before-le, fields-first, fields-next}
 
 module _ (letter : ℕ) (limits line : List ℕ) (end : ℕ) (e : end ≡ 0 + length (before tab line)) where

@@ -1,22 +1,21 @@
 -- What draining keeps and ends in: sound lists stay sound, nothing executable is left, and nothing is lost on the way.
-use Prim.Native.Nat.{ℕ, zero, suc, _+_, _≤_, _<_}
+use Prim.Native.Nat.{_+_}
 use native.Mathlib.Omega.{arith}
-use mathlib.Core.Path.{_≡_, refl, ap, sym, _∙_, subst}
-use mathlib.Core.Bool.{Bool, true, false, _&&_, _||_, cond}
-use mathlib.Core.List.{List, [], _∷_}
+use mathlib.Core.Path.{_≡_}
+use mathlib.Core.Bool.{true, false}
+use mathlib.Core.List.{List}
 use lib.ListN.{length}
-use Rattle.woot.specs.declared.Insert.{Insert}
 use Rattle.woot.specs.declared.Operation.{Operation}
 use Rattle.woot.specs.declared.Operation.the-variants.{Insert as insert, Delete as delete}
 use Rattle.woot.specs.declared.Character.{Character}
-use Rattle.woot.specs.Ranges.{insertInRange, inRange}
-use Rattle.woot.specs.Pending.{executable, crossed, unplaceable, integrate, Taken, Drained, andIntegrated, andDiscarded, drained}
+use Rattle.woot.specs.Ranges.{inRange}
+use Rattle.woot.specs.Pending.{executable, crossed, unplaceable, integrate, Drained, andIntegrated, andDiscarded, drained}
 use Rattle.woot.specs.Lists.{any, every}
 use Rattle.convergence.proofs.Members.{every-member}
 use Rattle.convergence.proofs.Extract.{Extract, extract-length, extract-itself}
 use Rattle.convergence.proofs.Forms.{Sound}
 use Rattle.convergence.proofs.Soundness.{sound-out, out-fresh, out-room, sound-in, sound-hide}
-use Rattle.convergence.proofs.Drains.{Found, Draining, stop, discard, carry}
+use Rattle.convergence.proofs.Drains.{Draining, stop, discard, carry}
 
 -- carrying out what was pending keeps the lists sound
 pub sound-carry : {cs : List Character} {os ps : List Operation} (o : Operation) → Extract o os ps → Sound cs ps → executable cs o ≡ true → crossed cs o ≡ false → unplaceable cs o ≡ false → Sound (integrate cs o) os

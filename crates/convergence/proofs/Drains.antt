@@ -1,15 +1,15 @@
 -- Draining as a relation: each step takes the earliest executable operation out and carries it out or discards it, and
 -- the fuel is always enough. What holds of a drained list is proved by induction on that relation.
-use Prim.Native.Nat.{ℕ, zero, suc, _+_, _≤_, _<_}
+use Prim.Native.Nat.{ℕ, zero, suc, _≤_}
 use native.Mathlib.Omega.{arith}
-use mathlib.Core.Path.{_≡_, refl, ap, sym, _∙_, subst}
-use mathlib.Core.Bool.{Bool, true, false, _&&_, _||_, cond}
+use mathlib.Core.Path.{_≡_, refl, sym, subst}
+use mathlib.Core.Bool.{Bool, true, false, _||_, cond}
 use mathlib.Core.Option.{Option, none, some}
 use mathlib.Core.List.{List, [], _∷_}
 use lib.ListN.{length}
 use Rattle.woot.specs.declared.Operation.{Operation}
 use Rattle.woot.specs.declared.Character.{Character}
-use Rattle.woot.specs.Pending.{executable, crossed, unplaceable, integrate, Taken, behind, earliest, Drained, andIntegrated, andDiscarded, drained, drainSteps, drain}
+use Rattle.woot.specs.Pending.{executable, crossed, unplaceable, integrate, Taken, earliest, Drained, andIntegrated, andDiscarded, drained, drainSteps, drain}
 use Rattle.convergence.specs.Theorems.{drainNext, DrainingRecurs}
 use Rattle.woot.specs.Lists.{any}
 use Rattle.convergence.proofs.Tests.{or-false-left, or-false-right, or-false}

@@ -1,14 +1,14 @@
 -- A list with one element more at some place: what tests, members, lengths and distinctness have to do with it.
-use Prim.Native.Nat.{ℕ, zero, suc, _+_, _≤_, _<_}
+use Prim.Native.Nat.{suc, _+_}
 use native.Mathlib.Omega.{arith}
-use mathlib.Core.Path.{_≡_, refl, ap, sym, _∙_, subst}
-use mathlib.Core.Bool.{Bool, true, false, _&&_, _||_, not, cond}
+use mathlib.Core.Path.{_≡_, refl, ap, sym, _∙_}
+use mathlib.Core.Bool.{Bool, true, false, _||_, not, cond}
 use mathlib.Core.Logic.{_⊎_, inl, inr, ⊎-elim}
 use mathlib.Core.List.{List, [], _∷_, _++_, map, List·Memᴰ, List·Memᴰ·head, List·Memᴰ·tail}
 use lib.ListN.{length}
 use borrow.Author.Tests.{not-true}
 use Rattle.woot.specs.Lists.{any, every, keep, distinct}
-use Rattle.convergence.proofs.Tests.{either, and-left, and-right, and-intro, or-cases, or-left, or-right, or-false-left, or-false-right, or-false, not-intro}
+use Rattle.convergence.proofs.Tests.{and-left, and-right, and-intro, or-false-left, or-false-right, or-false, not-intro}
 
 -- zs is ys with x at some place
 pub data Extract {A : Type 0} (x : A) : List A → List A → Type 0 where

@@ -1,11 +1,11 @@
 -- The characters are what the operations carried out say: each insert of them and no other, hidden where a delete of it is
 -- among them. Nothing is deleted before it is held, so a new character starts visible rightly.
-use Prim.Native.Nat.{ℕ, zero, suc, _+_}
+use Prim.Native.Nat.{ℕ, _+_}
 use native.Mathlib.Omega.{arith}
 use mathlib.Core.Path.{_≡_, refl, ap, sym, _∙_, subst}
-use mathlib.Core.Bool.{Bool, true, false, _&&_, _||_, not, cond, true≢false}
+use mathlib.Core.Bool.{Bool, true, false, _&&_, not, true≢false}
 use mathlib.Core.Logic.{_↔_, _⊎_, inl, inr, ⊎-elim}
-use mathlib.Core.List.{List, [], _∷_, _++_, map, append-assoc, append-nil, List·Memᴰ, List·Memᴰ·head, List·Memᴰ·tail, List·Memᴰ·not-nil, Memᴰ·append-left, Memᴰ·append-right, List·Memᴰ·append-cases, List·Memᴰ·eq-of-singleton}
+use mathlib.Core.List.{List, [], _∷_, _++_, map, append-nil, List·Memᴰ, List·Memᴰ·head, List·Memᴰ·not-nil, Memᴰ·append-left, Memᴰ·append-right, List·Memᴰ·append-cases, List·Memᴰ·eq-of-singleton}
 use lib.ListN.{length, length-append}
 use Rattle.woot.specs.declared.Identifier.{Identifier}
 use Rattle.woot.specs.declared.Insert.{Insert}
@@ -15,11 +15,11 @@ use Rattle.woot.specs.declared.Operation.the-variants.{Insert as insert, Delete
 use Rattle.woot.specs.declared.Character.{Character}
 use Rattle.woot.specs.Identifiers.{same}
 use Rattle.woot.specs.Operations.{character, origin, inserts}
-use Rattle.woot.specs.Placing.{held, integrateInsert, integrateDelete}
+use Rattle.woot.specs.Placing.{held, integrateDelete}
 use Rattle.woot.specs.Histories.{InsertedIn, DeletedIn}
-use Rattle.convergence.proofs.Tests.{either, clash, and-intro, or-left, or-right}
+use Rattle.convergence.proofs.Tests.{either, clash}
 use Rattle.convergence.proofs.Extract.{Extract, extract-length, extract-cases, extract-itself, extract-old, extract-map}
-use Rattle.convergence.proofs.Identifiers.{same-refl, same-eq, eq-same}
+use Rattle.convergence.proofs.Identifiers.{same-eq, eq-same}
 use Rattle.convergence.proofs.Deletion.{marked, marked-id, marked-visible, delete-length, delete-origins, delete-held, delete-member}
 
 pub record Faithful (cs : List Character) (os : List Operation) : Type 0 where

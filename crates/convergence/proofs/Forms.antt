@@ -1,16 +1,14 @@
 -- Well-formedness as facts: the tests of `wellFormed` taken apart, and put together again.
-use Prim.Native.Nat.{ℕ, zero, suc, _+_, _≤_, _<_}
+use Prim.Native.Nat.{ℕ, _+_, _≤_}
 use native.Mathlib.Omega.{arith}
-use mathlib.Core.Path.{_≡_, refl, ap, sym, _∙_, subst}
-use mathlib.Core.Bool.{Bool, true, false, _&&_, _||_, not, cond}
-use mathlib.Core.Logic.{_⊎_, inl, inr, ⊎-elim}
-use mathlib.Core.List.{List, [], _∷_, _++_, map, List·Memᴰ, List·Memᴰ·head, List·Memᴰ·tail}
-use lib.Dec.{leb, eqb}
+use mathlib.Core.Path.{_≡_, refl, ap, _∙_, subst}
+use mathlib.Core.Bool.{Bool, true, false, not}
+use mathlib.Core.List.{List, [], _∷_, _++_, map}
+use lib.Dec.{leb}
 use lib.ListN.{length, length-append, length-map}
 use borrow.Author.Tests.{leb-true, le-leb, not-true}
 use Rattle.woot.specs.declared.Identifier.{Identifier}
 use Rattle.woot.specs.declared.Site.{Site}
-use Rattle.woot.specs.declared.Insert.{Insert}
 use Rattle.woot.specs.declared.Operation.{Operation}
 use Rattle.woot.specs.declared.Character.{Character}
 use Rattle.woot.specs.Limits.{lastSite, capacity, share}
@@ -18,14 +16,12 @@ use Rattle.woot.specs.Identifiers.{same}
 use Rattle.woot.specs.Operations.{origin, inserts, deletes, sameDelete}
 use Rattle.woot.specs.Ranges.{within, siteNumber, siteInRange, characterInRange, inRange}
 use Rattle.woot.specs.State.{State, initial}
-use Rattle.woot.specs.Placing.{above, identifiers}
-use Rattle.woot.specs.Pending.{executable, sentBy, pendingFrom}
+use Rattle.woot.specs.Placing.{identifiers}
+use Rattle.woot.specs.Pending.{executable, pendingFrom}
 use Rattle.woot.specs.Form.{known, numbers, allInRange, sharesKept, capacityKept, identifiersDistinct, deletesDistinct, ordered, neighboursOrdered, noneExecutable, wellFormed}
-use Rattle.convergence.specs.Agreement.{Standing}
 use Rattle.convergence.specs.Theorems.{EmptyFormed}
 use Rattle.woot.specs.Lists.{any, every, distinct}
-use Rattle.convergence.proofs.Tests.{either, three, seven, and-intro, not-intro}
-use Rattle.convergence.proofs.Members.{any-member, member-any, any-none, none-any, every-member, member-every}
+use Rattle.convergence.proofs.Tests.{three, seven}
 
 -- the identifiers of pending inserts
 abbrev pub pendingIds : List Operation → List Identifier

@@ -1,30 +1,24 @@
 -- Every state begun empty has grown by integration alone, so placing never fails there.
-use Prim.Native.Nat.{ℕ, zero, suc, _+_, _≤_}
+use Prim.Native.Nat.{ℕ}
 use native.Mathlib.Omega.{arith}
-use mathlib.Core.Path.{_≡_, refl, ap, sym, _∙_, subst}
-use mathlib.Core.Bool.{Bool, true, false, _&&_, not}
-use mathlib.Core.Option.{Option, none, some}
-use mathlib.Core.List.{List, [], _∷_, _++_}
-use borrow.Author.Tests.{not-false, ltb-false}
-use lib.Dec.{ltb}
-use lib.ListN.{length}
+use mathlib.Core.Path.{_≡_, refl}
+use mathlib.Core.Bool.{true, false, not}
+use mathlib.Core.List.{List, [], _∷_}
+use borrow.Author.Tests.{not-false}
 use Rattle.woot.specs.declared.Insert.{Insert}
 use Rattle.woot.specs.declared.Operation.{Operation}
 use Rattle.woot.specs.declared.Operation.the-variants.{Insert as insert, Delete as delete}
 use Rattle.woot.specs.declared.Character.{Character}
-use Rattle.woot.specs.declared.Refusal.{Refusal}
-use Rattle.woot.specs.declared.Refusal.the-variants.{Layout, Range, Form, Position, Clock, Taken, Conflict, Crossed, Unplaceable, SenderFull, DocumentFull, Output}
+use Rattle.woot.specs.declared.Refusal.the-variants.{Range, Form, Unplaceable}
 use Rattle.woot.specs.declared.Answer.{Answer}
-use Rattle.woot.specs.declared.Answer.the-variants.{Done, Deferred, Duplicate, Refused}
-use Rattle.woot.specs.declared.Sent.{Sent}
-use Rattle.woot.specs.declared.Sent.the-variants.{Done as sentDone, Refused as sentRefused}
+use Rattle.woot.specs.declared.Answer.the-variants.{Refused}
+use Rattle.woot.specs.declared.Sent.the-variants.{Refused as sentRefused}
 use Rattle.woot.specs.Ranges.{inRange}
 use Rattle.woot.specs.State.{State, initial}
-use Rattle.woot.specs.Placing.{integrateInsert}
 use Rattle.woot.specs.Pending.{executable, crossed, unplaceable, integrate, Drained, andIntegrated, andDiscarded, drained}
 use Rattle.woot.specs.Form.{wellFormed}
-use Rattle.woot.specs.Answers.{Check, first, Reported, here, later, answerOf, number}
-use Rattle.woot.specs.Calls.{Outcome, unchanged, withCharacters, withPending, insertCarried, carryOut, defer, receiveChecks, receive, visibles, generatedInsert, beyondVisible, insertChecks, localInsert, deleteChecks, localDelete}
+use Rattle.woot.specs.Answers.{Check, Reported, here, number}
+use Rattle.woot.specs.Calls.{Outcome, unchanged, withCharacters, withPending, carryOut, defer, receiveChecks, receive, generatedInsert, insertChecks, localInsert, deleteChecks, localDelete}
 use Rattle.woot.specs.Histories.{Call, inserting, deleting, receiving, outcome, run}
 use Rattle.convergence.specs.Agreement.{Grown}
 use Rattle.convergence.specs.Theorems.{GrownFromEmpty, NeverUnplaceable}
@@ -36,7 +30,7 @@ use Rattle.convergence.proofs.Forms.{Sound, formed}
 use Rattle.convergence.proofs.Soundness.{fresh-unheld, sound-in, sound-out, out-fresh}
 use Rattle.convergence.proofs.Drains.{Draining, stop, discard, carry}
 use Rattle.convergence.proofs.Draining.{sound-carry}
-use Rattle.convergence.proofs.Steps.{Turned, Addable, Step, turned, adds, removes, defers, step, generated-uncrossed}
+use Rattle.convergence.proofs.Steps.{Step, turned, adds, removes, defers, step, generated-uncrossed}
 use Rattle.convergence.proofs.Kept.{after-insert}
 use Rattle.convergence.proofs.Refusals.{skipped, held-there, never, other, other-sent, receive-refuses, insert-refuses, delete-refuses, answer-refused}
 

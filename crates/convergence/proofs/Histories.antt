@@ -1,20 +1,19 @@
 -- Over a list of calls: the characters stay faithful to what was carried out, and what was deferred is pending, carried
 -- out or discarded.
-use Prim.Native.Nat.{ℕ, zero, suc, _+_}
+use Prim.Native.Nat.{ℕ, _+_}
 use native.Mathlib.Omega.{arith}
-use mathlib.Core.Path.{_≡_, refl, ap, sym, _∙_, subst}
-use mathlib.Core.Bool.{Bool, true, false}
-use mathlib.Core.List.{List, [], _∷_, _++_, map, append-assoc, append-nil}
+use mathlib.Core.Path.{_≡_, ap, sym, subst}
+use mathlib.Core.Bool.{true, false}
+use mathlib.Core.List.{List, [], _∷_, _++_, append-assoc, append-nil}
 use lib.ListN.{length, length-append}
 use Rattle.woot.specs.declared.Insert.{Insert}
 use Rattle.woot.specs.declared.Operation.{Operation}
 use Rattle.woot.specs.declared.Operation.the-variants.{Insert as insert, Delete as delete}
 use Rattle.woot.specs.declared.Character.{Character}
 use Rattle.woot.specs.declared.Answer.{Answer}
-use Rattle.woot.specs.declared.Answer.the-variants.{Done, Deferred, Duplicate, Refused}
-use Rattle.woot.specs.Ranges.{insertInRange, inRange}
+use Rattle.woot.specs.declared.Answer.the-variants.{Deferred, Duplicate, Refused}
+use Rattle.woot.specs.Ranges.{inRange}
 use Rattle.woot.specs.State.{State, initial}
-use Rattle.woot.specs.Placing.{integrateInsert}
 use Rattle.woot.specs.Pending.{executable, crossed, unplaceable, integrate, Drained, andIntegrated, andDiscarded, drained}
 use Rattle.woot.specs.Calls.{Outcome, unchanged, integrated, withCharacters, withPending, insertCarried, carryOut, defer}
 use Rattle.woot.specs.Histories.{Call, outcome, run, integratedBy, drainedBy, discardedBy, isDeferred, deferredBy, historyOf, charactersAfter}
@@ -25,7 +24,7 @@ use Rattle.convergence.proofs.Forms.{Sound}
 use Rattle.convergence.proofs.Soundness.{placed-extract, placed-held, fresh-unheld, sound-in, sound-out, out-fresh}
 use Rattle.convergence.proofs.Drains.{Draining, stop, discard, carry}
 use Rattle.convergence.proofs.Draining.{sound-carry, drained-balance}
-use Rattle.convergence.proofs.Steps.{Turned, Addable, Removable, Deferrable, added, Step, turned, adds, removes, defers, step}
+use Rattle.convergence.proofs.Steps.{Step, turned, adds, removes, defers, step}
 use Rattle.convergence.proofs.Kept.{after-insert}
 use Rattle.convergence.proofs.Faithful.{Faithful, faithful-empty, faithful-insert, faithful-delete}
 

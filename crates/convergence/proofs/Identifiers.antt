@@ -1,13 +1,13 @@
 -- `same` is equality of identifiers, and `below` a strict total order of them.
-use Prim.Native.Nat.{ℕ, _<_, _≤_}
+use Prim.Native.Nat.{_<_}
 use native.Mathlib.Omega.{arith}
-use mathlib.Core.Path.{_≡_, refl, ap, sym, _∙_, subst}
-use mathlib.Core.Bool.{Bool, true, false, _&&_, _||_, not}
+use mathlib.Core.Path.{_≡_, refl, sym, _∙_, subst}
+use mathlib.Core.Bool.{true, false}
 use mathlib.Core.Logic.{_⊎_, inl, inr, ⊎-elim}
-use borrow.Author.Tests.{ltb-true, ltb-false, eqb-true, eqb-false, lt-ltb, le-ltb, eq-eqb, ne-eqb}
+use borrow.Author.Tests.{ltb-true, ltb-false, eqb-true, lt-ltb, eq-eqb}
 use lib.Dec.{eqb, ltb}
 use Rattle.woot.specs.declared.Identifier.{Identifier}
-use Rattle.woot.specs.Identifiers.{begin, end, same, below}
+use Rattle.woot.specs.Identifiers.{same, below}
 use Rattle.convergence.proofs.Tests.{either, and-left, and-right, and-intro, or-cases, or-left, or-right, or-false-left, or-false-right, or-false, fails, clash}
 
 pub identifier-path : {x y : Identifier} → x .site ≡ y .site → x .clock ≡ y .clock → x ≡ y

@@ -3,24 +3,24 @@
 use Prim.Native.Nat.{ℕ, zero, suc, _+_, _≤_, _<_}
 use native.Mathlib.Omega.{arith}
 use mathlib.Core.Path.{_≡_, refl, ap, sym, _∙_, subst}
-use mathlib.Core.Bool.{Bool, true, false, _&&_, _||_, not, cond}
-use mathlib.Core.Logic.{_⊎_, inl, inr, ⊎-elim}
-use mathlib.Core.List.{List, [], _∷_, _++_, map, List·Memᴰ, List·Memᴰ·head, List·Memᴰ·tail, List·Memᴰ·append-cases, List·Memᴰ·eq-of-singleton}
+use mathlib.Core.Bool.{Bool, true, false, not, cond}
+use mathlib.Core.Logic.{_⊎_, inl, inr}
+use mathlib.Core.List.{List, [], _∷_, _++_, List·Memᴰ, List·Memᴰ·head, List·Memᴰ·tail, List·Memᴰ·append-cases, List·Memᴰ·eq-of-singleton}
 use lib.ListN.{length, getD, length-append}
 use borrow.Author.Tests.{not-true}
 use Rattle.woot.specs.declared.Identifier.{Identifier}
 use Rattle.woot.specs.declared.Character.{Character}
 use Rattle.woot.specs.Identifiers.{begin, end, same}
 use Rattle.woot.specs.Operations.{origin}
-use Rattle.woot.specs.Ranges.{characterId, previousId, nextId, characterInRange, insertInRange}
+use Rattle.woot.specs.Ranges.{characterId, characterInRange}
 use Rattle.woot.specs.Placing.{identifiers, sequence, indexOf, placeOf, held, above}
 use Rattle.woot.specs.Calls.{visibles}
 use Rattle.convergence.specs.Agreement.{Standing}
 use Rattle.woot.specs.Lists.{any, keep, distinct}
-use Rattle.convergence.proofs.Tests.{either, and-left, and-right, and-intro, or-left, or-right, or-false, or-false-left, or-false-right, not-intro}
+use Rattle.convergence.proofs.Tests.{and-left, and-right, and-intro, not-intro}
 use Rattle.convergence.proofs.Members.{any-none, none-any}
-use Rattle.convergence.proofs.Identifiers.{same-refl, same-eq, eq-same, ne-same, same-sym}
-use Rattle.convergence.proofs.Places.{index-here, index-later, held-begin, held-end, held-member, place-above}
+use Rattle.convergence.proofs.Identifiers.{same-refl, ne-same, same-sym}
+use Rattle.convergence.proofs.Places.{index-here, index-later, held-end, held-member, place-above}
 use Rattle.convergence.proofs.Ranges.{no-mark, in-range}
 use Rattle.convergence.proofs.Extract.{extract-last, extract-any, extract-distinct}
 

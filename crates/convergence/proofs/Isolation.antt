@@ -1,37 +1,32 @@
 -- Of the checks of receiving, all before the last look at the characters and at what the operation's own sender has
 -- pending, and at nothing that others have.
-use Prim.Native.Nat.{ℕ, zero, suc, _≤_}
+use Prim.Native.Nat.{ℕ}
 use native.Mathlib.Omega.{arith}
 use mathlib.Core.Path.{_≡_, refl, ap, sym, _∙_, subst}
 use mathlib.Core.Bool.{Bool, true, false, _&&_, _||_, not, cond}
 use mathlib.Core.Option.{Option, none, some}
-use mathlib.Core.Logic.{_↔_, _⊎_, inl, inr, ⊎-elim}
+use mathlib.Core.Logic.{_⊎_, inl, inr}
 use mathlib.Core.List.{List, [], _∷_, _++_, map}
-use lib.Dec.{leb, eqb}
-use lib.ListN.{length}
+use lib.Dec.{eqb}
 use borrow.Author.Tests.{eqb-true, eq-eqb}
 use Rattle.woot.specs.declared.Identifier.{Identifier}
 use Rattle.woot.specs.declared.Insert.{Insert}
 use Rattle.woot.specs.declared.Delete.{Delete}
 use Rattle.woot.specs.declared.Operation.{Operation}
 use Rattle.woot.specs.declared.Operation.the-variants.{Insert as insert, Delete as delete}
-use Rattle.woot.specs.declared.Character.{Character}
-use Rattle.woot.specs.declared.Refusal.{Refusal}
-use Rattle.woot.specs.declared.Refusal.the-variants.{Layout, Range, Form, Position, Clock, Taken, Conflict, Crossed, Unplaceable, SenderFull, DocumentFull, Output}
+use Rattle.woot.specs.declared.Refusal.the-variants.{Form, SenderFull, DocumentFull}
 use Rattle.woot.specs.declared.Answer.{Answer}
-use Rattle.woot.specs.declared.Answer.the-variants.{Done, Deferred, Duplicate, Refused}
-use Rattle.woot.specs.Limits.{share}
+use Rattle.woot.specs.declared.Answer.the-variants.{Deferred, Refused}
 use Rattle.woot.specs.Identifiers.{same}
 use Rattle.woot.specs.Operations.{sender, origin, inserts, sameInsert, sameDelete, sameOperation}
-use Rattle.woot.specs.Ranges.{inRange}
 use Rattle.woot.specs.State.{State}
 use Rattle.woot.specs.Pending.{executable, crossed, unplaceable, sentBy, pendingFrom}
 use Rattle.woot.specs.Form.{known, wellFormed}
-use Rattle.woot.specs.Answers.{Check, _⇒_, first, Reported, here, later, number}
-use Rattle.woot.specs.Calls.{Outcome, unchanged, decided, duplicate, conflicting, senderFull, documentFull, receiveChecks, carryOut, defer, accept, receiveWhen, receive}
+use Rattle.woot.specs.Answers.{Check, first, Reported, here, later, number}
+use Rattle.woot.specs.Calls.{unchanged, decided, duplicate, conflicting, senderFull, documentFull, receiveChecks, carryOut, defer, accept, receiveWhen, receive}
 use Rattle.convergence.specs.Theorems.{Isolation}
 use Rattle.woot.specs.Lists.{any, keep}
-use Rattle.convergence.proofs.Tests.{either, clash, and-left, four}
+use Rattle.convergence.proofs.Tests.{clash, and-left, four}
 use Rattle.convergence.proofs.Identifiers.{same-eq}
 use Rattle.convergence.proofs.Refusals.{receive-refuses, skipped, held-there, never, other}
 use Rattle.convergence.proofs.Steps.{AllFail, first-none, first-some, Turned, receive-turned}

@@ -1,41 +1,33 @@
 -- Each of the four steps keeps the form, leaves nothing executable pending, and counts what it carries out and discards.
-use Prim.Native.Nat.{ℕ, zero, suc, _+_, _*_, _≤_, _<_}
+use Prim.Native.Nat.{_≤_}
 use native.Mathlib.Omega.{arith}
-use mathlib.Core.Path.{_≡_, refl, ap, sym, _∙_, subst}
-use mathlib.Core.Bool.{Bool, true, false, _&&_, _||_, not, cond}
-use mathlib.Core.Logic.{_⊎_, inl, inr, ⊎-elim}
-use mathlib.Core.List.{List, [], _∷_, _++_, map, List·Memᴰ}
-use lib.Dec.{leb, eqb}
-use lib.ListN.{length, length-append}
-use borrow.Author.Tests.{leb-true}
+use mathlib.Core.Path.{_≡_, refl, _∙_}
+use mathlib.Core.Bool.{Bool, true, false, not}
+use mathlib.Core.List.{List, [], _∷_}
+use lib.ListN.{length}
 use Rattle.woot.specs.declared.Insert.{Insert}
-use Rattle.woot.specs.declared.Operation.{Operation}
 use Rattle.woot.specs.declared.Operation.the-variants.{Insert as insert, Delete as delete}
 use Rattle.woot.specs.declared.Character.{Character}
 use Rattle.woot.specs.declared.Answer.{Answer}
-use Rattle.woot.specs.declared.Answer.the-variants.{Done, Deferred, Duplicate, Refused}
-use Rattle.woot.specs.Limits.{lastSite, share}
-use Rattle.woot.specs.Operations.{sender}
-use Rattle.woot.specs.Ranges.{inRange}
+use Rattle.woot.specs.declared.Answer.the-variants.{Duplicate, Refused}
 use Rattle.woot.specs.State.{State}
 use Rattle.woot.specs.Placing.{integrateInsert, integrateDelete}
-use Rattle.woot.specs.Pending.{executable, sentBy, pendingFrom, drain, Drained}
-use Rattle.woot.specs.Form.{numbers, wellFormed}
+use Rattle.woot.specs.Pending.{executable, drain}
 use Rattle.woot.specs.Answers.{reply}
 use Rattle.woot.specs.Calls.{Outcome, unchanged, integrated, withCharacters, withPending, insertCarried, carryOut, defer}
-use Rattle.woot.specs.Histories.{Call, outcome}
+use Rattle.woot.specs.Histories.{outcome}
 use Rattle.convergence.specs.Theorems.{FormKept, NothingReady, CountsTrue, CountsBounded}
-use Rattle.woot.specs.Lists.{any, every, keep}
+use Rattle.woot.specs.Lists.{any}
 use Rattle.convergence.proofs.Tests.{or-false}
-use Rattle.convergence.proofs.Members.{any-none, every-member}
-use Rattle.convergence.proofs.Extract.{Extract, extract-last, extract-any}
+use Rattle.convergence.proofs.Members.{any-none}
+use Rattle.convergence.proofs.Extract.{extract-last, extract-any}
 use Rattle.convergence.proofs.Deletion.{delete-executable}
-use Rattle.convergence.proofs.Forms.{Sound, Formed, formed, reformed}
+use Rattle.convergence.proofs.Forms.{Formed, formed, reformed}
 use Rattle.convergence.proofs.Soundness.{sound-in, sound-hide, sound-defer}
 use Rattle.convergence.proofs.Shares.{pending-bound}
 use Rattle.convergence.proofs.Drains.{Draining, draining}
 use Rattle.convergence.proofs.Draining.{drained-sound, drained-unready, drained-balance}
-use Rattle.convergence.proofs.Steps.{Turned, Addable, Removable, Deferrable, added, Step, turned, adds, removes, defers, step}
+use Rattle.convergence.proofs.Steps.{Step, turned, adds, removes, defers, step}
 
 -- the draining that follows an insert
 pub after-insert : (s : State) (i : Insert) → Draining (integrateInsert (s .characters) i) (s .pending) (insertCarried s i)

@@ -1,16 +1,16 @@
 -- The ranges of refusal 2 as facts about the numbers.
-use Prim.Native.Nat.{ℕ, _≤_, _<_}
+use Prim.Native.Nat.{ℕ, _≤_}
 use native.Mathlib.Omega.{arith}
-use mathlib.Core.Path.{_≡_, refl, ap}
-use mathlib.Core.Bool.{Bool, true, false, _&&_, _||_, not}
+use mathlib.Core.Path.{_≡_, ap}
+use mathlib.Core.Bool.{true, false, _&&_, not}
 use borrow.Author.Tests.{leb-true, le-leb, not-true}
 use lib.Dec.{leb}
 use Rattle.woot.specs.declared.Identifier.{Identifier}
 use Rattle.woot.specs.declared.Insert.{Insert}
 use Rattle.woot.specs.declared.Site.{Site}
 use Rattle.woot.specs.Limits.{lastSite, lastClock}
-use Rattle.woot.specs.Identifiers.{begin, end, same}
-use Rattle.woot.specs.Ranges.{within, siteNumber, codePoint, characterId, previousId, nextId, siteInRange, insertInRange}
+use Rattle.woot.specs.Identifiers.{same}
+use Rattle.woot.specs.Ranges.{within, siteNumber, codePoint, characterId, previousId, nextId, insertInRange}
 use Rattle.convergence.proofs.Tests.{and-left, and-right, and-intro, four}
 
 pub within-low : (low high n : ℕ) → within low high n ≡ true → low ≤ n

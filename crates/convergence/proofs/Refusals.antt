@@ -1,6 +1,6 @@
 -- A refusal is answered exactly when it is the first in its list of checks to hold, and what is done where none holds
 -- answers no refusal.
-use Prim.Native.Nat.{ℕ, zero, suc}
+use Prim.Native.Nat.{ℕ}
 use mathlib.Core.Path.{_≡_, refl, ap, subst}
 use mathlib.Core.Bool.{Bool, true, false, cond}
 use mathlib.Core.Option.{Option, none, some}
@@ -19,7 +19,7 @@ use Rattle.woot.specs.Pending.{executable}
 use Rattle.woot.specs.Form.{wellFormed}
 use Rattle.woot.specs.Answers.{Check, first, Reported, here, later, number, answerOf}
 use Rattle.woot.specs.Calls.{Outcome, unchanged, decided, carryOut, defer, accept, receiveChecks, receiveWhen, receive, insertChecks, generatedInsert, sendInsert, localInsertWhen, localInsert, deleteChecks, generatedDelete, sendDelete, localDeleteWhen, localDelete}
-use Rattle.woot.specs.Histories.{Call, inserting, deleting, receiving, withAnswer, outcome}
+use Rattle.woot.specs.Histories.{inserting, deleting, receiving, withAnswer, outcome}
 use Rattle.convergence.specs.Theorems.{ReceiveRefuses, ReceiveKnows, InsertRefuses, DeleteRefuses, RefusedUnchanged, KnownUnchanged}
 
 module _ {A : Type 0} where

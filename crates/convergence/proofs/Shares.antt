@@ -1,8 +1,8 @@
 -- What is pending is the sum of what each sender has pending, so sixteen shares bound it.
-use Prim.Native.Nat.{ℕ, zero, suc, _+_, _*_, _≤_, _<_}
+use Prim.Native.Nat.{ℕ, zero, suc, _+_, _*_, _≤_}
 use native.Mathlib.Omega.{arith}
-use mathlib.Core.Path.{_≡_, refl, ap, sym, _∙_, subst}
-use mathlib.Core.Bool.{Bool, true, false, _&&_, cond}
+use mathlib.Core.Path.{_≡_, refl}
+use mathlib.Core.Bool.{Bool, true, false, cond}
 use mathlib.Core.Logic.{⊎-elim}
 use mathlib.Core.List.{List, [], _∷_, List·Memᴰ, List·Memᴰ·head, List·Memᴰ·tail}
 use lib.Dec.{leb, eqb}
@@ -14,11 +14,11 @@ use Rattle.woot.specs.declared.Character.{Character}
 use Rattle.woot.specs.Limits.{lastSite, lastClock, share}
 use Rattle.woot.specs.Operations.{sender}
 use Rattle.woot.specs.Ranges.{within, siteNumber, characterId, deleteInRange, inRange}
-use Rattle.woot.specs.State.{State, pendingSlots}
+use Rattle.woot.specs.State.{pendingSlots}
 use Rattle.woot.specs.Pending.{sentBy, pendingFrom}
-use Rattle.woot.specs.Form.{numbers, wellFormed}
+use Rattle.woot.specs.Form.{numbers}
 use Rattle.convergence.specs.Theorems.{PendingFit}
-use Rattle.woot.specs.Lists.{every, keep}
+use Rattle.woot.specs.Lists.{every}
 use Rattle.convergence.proofs.Tests.{either, and-left, and-right}
 use Rattle.convergence.proofs.Members.{every-member}
 use Rattle.convergence.proofs.Ranges.{within-low, within-high, in-range}

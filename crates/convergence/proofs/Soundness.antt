@@ -3,9 +3,9 @@
 use Prim.Native.Nat.{ℕ, zero, suc, _+_, _≤_, _<_}
 use native.Mathlib.Omega.{arith}
 use mathlib.Core.Path.{_≡_, refl, ap, sym, _∙_, subst}
-use mathlib.Core.Bool.{Bool, true, false, _&&_, _||_, not, cond}
+use mathlib.Core.Bool.{Bool, true, false, not}
 use mathlib.Core.Logic.{_⊎_, inl, inr, ⊎-elim}
-use mathlib.Core.List.{List, [], _∷_, _++_, map, List·Memᴰ, List·Memᴰ·head, List·Memᴰ·tail}
+use mathlib.Core.List.{List, [], _∷_, _++_, map}
 use lib.Dec.{leb, eqb}
 use lib.ListN.{length}
 use borrow.Author.Tests.{leb-true, le-leb, eqb-true, eq-eqb, eqb-false, ne-eqb, not-true}
@@ -20,7 +20,7 @@ use Rattle.woot.specs.Identifiers.{begin, end, same}
 use Rattle.woot.specs.Operations.{sender, character, inserts, deletes, sameDelete}
 use Rattle.woot.specs.Ranges.{characterId, insertInRange, characterInRange, inRange}
 use Rattle.woot.specs.Placing.{above, held, identifiers, insertAt, integrateInsert, integrateDelete}
-use Rattle.woot.specs.Pending.{executable, crossed, unplaceable, sentBy, pendingFrom}
+use Rattle.woot.specs.Pending.{executable, crossed, unplaceable, pendingFrom}
 use Rattle.woot.specs.Form.{numbers, ordered}
 use Rattle.convergence.specs.Agreement.{Standing}
 use Rattle.woot.specs.Lists.{any, every, keep, distinct}
@@ -30,7 +30,7 @@ use Rattle.convergence.proofs.Identifiers.{same-sym, ne-same}
 use Rattle.convergence.proofs.Places.{held-parts, held-insert}
 use Rattle.convergence.proofs.Deletion.{delete-length, delete-identifiers}
 use Rattle.convergence.proofs.Ranges.{no-mark, in-range}
-use Rattle.convergence.proofs.Extract.{Extract, front, past, extract-length, extract-old, extract-front, extract-append, extract-last, extract-map, extract-every, every-extract, keep-extract, keep-same, distinct-extract, extract-distinct}
+use Rattle.convergence.proofs.Extract.{Extract, front, past, extract-length, extract-front, extract-append, extract-last, extract-map, extract-every, every-extract, keep-extract, keep-same, distinct-extract, extract-distinct}
 use Rattle.convergence.proofs.Forms.{Sound, pendingIds}
 use Rattle.convergence.proofs.Standing.{standing-insert, integrate-insert, standing-delete}
 

@@ -1,15 +1,15 @@
 -- What a call does, as one of four steps with all that is known where it is taken: nothing, an insert carried out, a
 -- delete carried out, an operation deferred. Every theorem about calls goes by these.
-use Prim.Native.Nat.{ℕ, zero, suc, _+_, _≤_, _<_}
+use Prim.Native.Nat.{ℕ, suc, _+_, _≤_, _<_}
 use native.Mathlib.Omega.{arith}
-use mathlib.Core.Path.{_≡_, refl, ap, sym, _∙_, subst}
+use mathlib.Core.Path.{_≡_, refl, ap, _∙_, subst}
 use mathlib.Core.Bool.{Bool, true, false, _&&_, _||_, not, cond}
 use mathlib.Core.Option.{Option, none, some}
-use mathlib.Core.Logic.{_⊎_, inl, inr, ⊎-elim}
+use mathlib.Core.Logic.{_⊎_, ⊎-elim}
 use mathlib.Core.List.{List, [], _∷_, _++_, map, List·Memᴰ, List·Memᴰ·head, List·Memᴰ·tail, List·Memᴰ·append-cases}
 use lib.Dec.{leb, ltb, eqb}
 use lib.ListN.{length}
-use borrow.Author.Tests.{leb-true, leb-false, ltb-false, not-true, not-false}
+use borrow.Author.Tests.{leb-false, ltb-false, not-false}
 use Rattle.woot.specs.declared.Identifier.{Identifier}
 use Rattle.woot.specs.declared.Site.{Site}
 use Rattle.woot.specs.declared.Insert.{Insert}
@@ -17,7 +17,6 @@ use Rattle.woot.specs.declared.Delete.{Delete}
 use Rattle.woot.specs.declared.Operation.{Operation}
 use Rattle.woot.specs.declared.Operation.the-variants.{Insert as insert, Delete as delete}
 use Rattle.woot.specs.declared.Character.{Character}
-use Rattle.woot.specs.declared.Refusal.{Refusal}
 use Rattle.woot.specs.declared.Answer.{Answer}
 use Rattle.woot.specs.declared.Answer.the-variants.{Done, Deferred, Duplicate, Refused}
 use Rattle.woot.specs.declared.Sent.{Sent}
@@ -26,18 +25,18 @@ use Rattle.woot.specs.Limits.{lastClock, capacity, share}
 use Rattle.woot.specs.Identifiers.{begin, end, same}
 use Rattle.woot.specs.Operations.{sender, origin, inserts, deletes, sameInsert, sameDelete, sameOperation}
 use Rattle.woot.specs.Ranges
-use Rattle.woot.specs.Ranges.{siteNumber, codePoint, characterId, previousId, nextId, siteInRange, insertInRange, deleteInRange, inRange}
+use Rattle.woot.specs.Ranges.{siteNumber, codePoint, characterId, previousId, nextId, siteInRange, insertInRange, inRange}
 use Rattle.woot.specs.State.{State}
-use Rattle.woot.specs.Placing.{identifiers, held, integrateDelete}
+use Rattle.woot.specs.Placing.{identifiers, held}
 use Rattle.woot.specs.Pending.{executable, crossed, unplaceable, pendingFrom, Drained}
 use Rattle.woot.specs.Form.{known, wellFormed}
 use Rattle.woot.specs.Answers.{Check, first, answerOf}
-use Rattle.woot.specs.Calls.{Outcome, unchanged, decided, withCharacters, withPending, afterDrain, insertCarried, duplicate, conflicting, senderFull, documentFull, receiveChecks, carryOut, defer, accept, receiveWhen, receive, visibles, nextIdentifier, generatedInsert, beyondVisible, taken, insertChecks, advanced, sendInsert, localInsertWhen, localInsert, notVisible, deleteChecks, generatedDelete, sendDelete, localDeleteWhen, localDelete}
+use Rattle.woot.specs.Calls.{Outcome, unchanged, decided, afterDrain, insertCarried, duplicate, conflicting, senderFull, documentFull, receiveChecks, carryOut, defer, accept, receiveWhen, receive, visibles, nextIdentifier, generatedInsert, beyondVisible, taken, insertChecks, advanced, sendInsert, localInsertWhen, localInsert, notVisible, deleteChecks, generatedDelete, sendDelete, localDeleteWhen, localDelete}
 use Rattle.woot.specs.Histories.{Call, inserting, deleting, receiving, withAnswer, outcome}
 use Rattle.woot.specs.Lists.{any}
-use Rattle.convergence.proofs.Tests.{either, clash, and-left, and-right, and-intro, and-false, or-left, or-right, or-false, or-false-left, or-false-right, not-intro, fails}
-use Rattle.convergence.proofs.Members.{any-member, member-any, any-none, none-any}
-use Rattle.convergence.proofs.Forms.{Sound, Formed, formed, pendingIds, known-ids, known-length}
+use Rattle.convergence.proofs.Tests.{clash, and-left, and-intro, and-false, or-left, or-right, or-false, or-false-left, or-false-right, not-intro, fails}
+use Rattle.convergence.proofs.Members.{any-none, none-any}
+use Rattle.convergence.proofs.Forms.{Formed, formed, pendingIds, known-ids, known-length}
 use Rattle.convergence.specs.Agreement.{Standing}
 use Rattle.convergence.proofs.Identifiers.{eq-same, ne-same}
 use Rattle.convergence.proofs.Ranges.{InRange, to-range, to-within, no-mark}

@@ -1,10 +1,9 @@
 -- What holds of the characters of every replica begun empty, and by which two of them agree.
 use Prim.Native.Nat.{ℕ, _<_}
 use mathlib.Core.Path.{_≡_}
-use mathlib.Core.Bool.{Bool, true, false}
-use mathlib.Core.List.{List, map, List·Memᴰ}
+use mathlib.Core.Bool.{true}
+use mathlib.Core.List.{List, List·Memᴰ}
 use Rattle.woot.specs.declared.Identifier.{Identifier}
-use Rattle.woot.specs.declared.Insert.{Insert}
 use Rattle.woot.specs.declared.Character.{Character}
 use Rattle.woot.specs.Identifiers.{same, below}
 use Rattle.woot.specs.Operations.{origin}

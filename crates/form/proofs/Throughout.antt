@@ -11,7 +11,7 @@ use lib.ListN.{length, take, getD}
 use lib.Seq.{take-suc, take-length}
 use Rattle.woot.specs.Lists.{every, keep}
 use Rattle.woot.specs.Form.{numbers}
-use Rattle.convergence.proofs.Tests.{and-left, and-right, and-intro}
+use Rattle.convergence.proofs.Tests.{and-intro}
 use Rattle.convergence.proofs.Members.{every-append}
 use Rattle.convergence.proofs.Places.{side}
 use Rattle.form.specs.Form.{throughout}

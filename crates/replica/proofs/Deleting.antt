@@ -1,7 +1,6 @@
 -- What receiving a delete answers: by the one character that has its target, or by the pending deletes where none has.
-use Prim.Native.Nat.{ℕ}
 use mathlib.Core.Path.{_≡_, refl, sym, ap, subst, _∙_}
-use mathlib.Core.Bool.{Bool, true, false, _&&_, _||_, not}
+use mathlib.Core.Bool.{true, false, _&&_, not}
 use mathlib.Core.List.{List, List·Memᴰ}
 use lib.Dec.{eqb}
 use lib.ListN.{take}
@@ -17,11 +16,11 @@ use Rattle.woot.specs.Lists.{any}
 use Rattle.woot.specs.Operations.{sameDelete, sameOperation}
 use Rattle.woot.specs.Ranges.{siteNumber, characterId, deleteInRange, inRange}
 use Rattle.woot.specs.State.{meaning, stored}
-use Rattle.woot.specs.Placing.{identifiers, held, integrateDelete}
+use Rattle.woot.specs.Placing.{held, integrateDelete}
 use Rattle.woot.specs.Pending.{executable, crossed, unplaceable}
 use Rattle.woot.specs.Form.{replicaWellFormed}
 use Rattle.woot.specs.Calls.{withCharacters, duplicate, conflicting, senderFull, documentFull}
-use Rattle.convergence.proofs.Tests.{and-right, fails, clash, or-false}
+use Rattle.convergence.proofs.Tests.{and-right, fails, clash}
 use Rattle.convergence.proofs.Members.{any-none, none-any}
 use Rattle.convergence.proofs.Identifiers.{same-eq}
 use Rattle.convergence.proofs.Places.{held-id}

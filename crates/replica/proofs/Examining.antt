@@ -1,15 +1,14 @@
 -- A replica in form with what was packed of it: what the numbers say is what the rules say of its meaning.
-use Prim.Native.Nat.{ℕ, _≤_, _<_}
+use Prim.Native.Nat.{ℕ, _<_}
 use native.Mathlib.Omega.{arith}
-use mathlib.Core.Path.{_≡_, refl, sym, ap, subst, _∙_}
+use mathlib.Core.Path.{_≡_, sym, ap, subst, _∙_}
 use mathlib.Core.Bool.{true, false}
 use mathlib.Core.List.{List, map, List·Memᴰ, Memᴰ·append-left, Memᴰ·append-right, Memᴰ·map}
-use lib.ListN.{length, take, getD, length-map, List·getD-map}
+use lib.ListN.{length, take, getD, List·getD-map}
 use lib.Seq.{getD-take}
 use Rattle.woot.specs.declared.Identifier.{Identifier}
 use Rattle.woot.specs.declared.Insert.{Insert}
-use Rattle.woot.specs.declared.Operation.{Operation}
-use Rattle.woot.specs.declared.Operation.the-variants.{Insert as insert, Delete as delete}
+use Rattle.woot.specs.declared.Operation.the-variants.{Insert as insert}
 use Rattle.woot.specs.declared.Character.{Character}
 use Rattle.woot.specs.declared.Pending.{Pending}
 use Rattle.woot.specs.declared.Replica.{Replica}
@@ -17,7 +16,7 @@ use Rattle.woot.specs.Identifiers.{same}
 use Rattle.woot.specs.Lists.{any}
 use Rattle.woot.specs.Operations.{sender, origin, inserts}
 use Rattle.woot.specs.Ranges.{characterId, insertInRange, characterInRange}
-use Rattle.woot.specs.State.{State, blankCharacter, meaning}
+use Rattle.woot.specs.State.{blankCharacter, meaning}
 use Rattle.woot.specs.Placing.{identifiers}
 use Rattle.woot.specs.Form.{known, replicaWellFormed}
 use Rattle.convergence.proofs.Members.{member-any, any-append, every-member}

@@ -20,9 +20,9 @@ use Rattle.woot.specs.declared.Receipt.{Receipt}
 use Rattle.woot.specs.declared.Generated.{Generated}
 use Rattle.woot.specs.Limits.{lastClock}
 use Rattle.woot.specs.Ranges.{codePoint, inRange}
-use Rattle.woot.specs.State.{State, meaning, stored}
+use Rattle.woot.specs.State.{meaning, stored}
 use Rattle.woot.specs.Placing.{integrateDelete}
-use Rattle.woot.specs.Pending.{executable, crossed, unplaceable, Drained}
+use Rattle.woot.specs.Pending.{executable, crossed, unplaceable}
 use Rattle.woot.specs.Form.{replicaWellFormed}
 use Rattle.woot.specs.Calls.{unchanged, decided, withCharacters, withPending, afterDrain, insertCarried, duplicate, conflicting, senderFull, documentFull, receiveChecks, carryOut, defer, accept, receiveWhen, generatedInsert, beyondVisible, taken, insertChecks, advanced, sendInsert, localInsertWhen, notVisible, deleteChecks, generatedDelete, sendDelete, localDeleteWhen}
 use Rattle.replica.specs.Sending.{sendChecks, sentInsert}

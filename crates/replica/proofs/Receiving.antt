@@ -1,10 +1,9 @@
 -- What receiving tests and makes is what the rules say, so that each return is the definition's.
-use Prim.Native.Nat.{ℕ, suc, _+_, _≤_, _<_}
+use Prim.Native.Nat.{ℕ, _+_, _<_}
 use native.Mathlib.Omega.{arith}
 use mathlib.Core.Path.{_≡_, refl, sym, ap, subst, _∙_}
-use mathlib.Core.Bool.{Bool, true, false, _&&_, not, cond}
-use mathlib.Core.List.{List, [], _∷_, _++_}
-use mathlib.Core.Logic.{⊎-elim}
+use mathlib.Core.Bool.{Bool, true, false, not, cond}
+use mathlib.Core.List.{List, [], _∷_}
 use borrow.Author.Tests.{leb-false}
 use lib.Dec.{leb, eqb}
 use lib.ListN.{length, take, length-append}
@@ -13,34 +12,32 @@ use Rattle.woot.specs.declared.Operation.{Operation}
 use Rattle.woot.specs.declared.Operation.the-variants.{Insert as insert, Delete as delete}
 use Rattle.woot.specs.declared.Character.{Character}
 use Rattle.woot.specs.declared.Replica.{Replica}
-use Rattle.woot.specs.declared.Refusal.the-variants.{Conflict, Crossed, Unplaceable, SenderFull, DocumentFull}
-use Rattle.woot.specs.declared.Answer.the-variants.{Done, Deferred, Duplicate, Refused}
+use Rattle.woot.specs.declared.Refusal.the-variants.{Crossed, Unplaceable, SenderFull, DocumentFull}
+use Rattle.woot.specs.declared.Answer.the-variants.{Done, Deferred, Refused}
 use Rattle.woot.specs.declared.Receipt.{Receipt}
 use Rattle.woot.specs.declared.Site.{Site}
 use Rattle.woot.specs.Limits.{capacity, share}
 use Rattle.woot.specs.Lists.{keep}
 use Rattle.woot.specs.Operations.{sender, inserts}
-use Rattle.woot.specs.Ranges.{insertInRange, inRange}
+use Rattle.woot.specs.Ranges.{inRange}
 use Rattle.woot.specs.State.{State, meaning, stored}
 use Rattle.woot.specs.Placing.{integrateInsert}
 use Rattle.woot.specs.Pending.{executable, crossed, unplaceable, pendingFrom}
 use Rattle.woot.specs.Form.{known, replicaWellFormed}
 use Rattle.woot.specs.Calls.{afterDrain, insertCarried, withPending, duplicate, conflicting, senderFull, documentFull}
-use Rattle.convergence.proofs.Tests.{either, clash}
 use Rattle.convergence.proofs.Forms.{known-length}
 use Rattle.convergence.proofs.Shares.{pending-bound}
 use Rattle.convergence.proofs.Soundness.{sound-in, sound-defer}
 use Rattle.convergence.proofs.Steps.{Addable, fresh-insert, space-insert, unused}
-use Rattle.form.specs.declared.index.Index.{Index}
 use Rattle.form.specs.declared.queue.Queue.{Queue}
 use Rattle.replica.specs.declared.work.Work.{Work}
-use Rattle.replica.specs.declared.placing.Placement.the-variants.{Missing, Crossed as crossing, Unplaceable as placeless, Below}
+use Rattle.replica.specs.declared.placing.Placement.the-variants.{Crossed as crossing, Unplaceable as placeless, Below}
 use Rattle.known.specs.declared.Seen.{Seen}
 use Rattle.known.specs.declared.Seen.the-variants.{New as unseen, Same, Other}
 use Rattle.replica.specs.Replicas.{received}
 use Rattle.form.specs.Queue.{packed}
 use Rattle.replica.specs.Work.{seenOf, placementOf, finished}
-use Rattle.replica.specs.Needs.{Examined, New, Placed}
+use Rattle.replica.specs.Needs.{New, Placed}
 use Rattle.form.proofs.Fullness.{FullDocument}
 use Rattle.form.proofs.Pending.{count-senders, count-own}
 use Rattle.replica.proofs.Placements.{says}

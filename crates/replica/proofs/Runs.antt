@@ -1,12 +1,11 @@
 -- A replica that stores a state within the arrays means that state, so that a call on it returns what the rules leave, as
 -- it is stored.
-use Prim.Native.Nat.{ℕ, _+_, _≤_}
+use Prim.Native.Nat.{ℕ, _≤_}
 use native.Mathlib.Omega.{arith}
 use mathlib.Core.Path.{_≡_, refl, ap, sym, _∙_, subst}
-use mathlib.Core.Bool.{Bool, true, false, _&&_}
-use mathlib.Core.Option.{Option, none, some}
+use mathlib.Core.Bool.{true, false}
 use mathlib.Core.Logic.{⊎-elim}
-use mathlib.Core.List.{List, [], _∷_, _++_, map}
+use mathlib.Core.List.{List, [], _∷_, map}
 use lib.ListN.{length, take, length-map}
 use lib.Seq.{take-append-seam}
 use borrow.Author.Tests.{le-leb}
@@ -20,9 +19,9 @@ use Rattle.woot.specs.declared.Sent.{Sent}
 use Rattle.woot.specs.declared.Sent.the-variants.{Done as sentDone, Refused as sentRefused}
 use Rattle.woot.specs.State.{State, initial, characterSlots, pendingSlots, waiting, blankCharacter, blankPending, pad, meaning, documentOf, stored, counted}
 use Rattle.woot.specs.Form.{wellFormed, replicaWellFormed}
-use Rattle.woot.specs.Answers.{answerOf, first}
-use Rattle.woot.specs.Calls.{Outcome, unchanged, decided, receiveWhen, receive, localInsertWhen, localInsert, localDeleteWhen, localDelete}
-use Rattle.woot.specs.Histories.{Call, inserting, deleting, receiving, withAnswer, outcome, run}
+use Rattle.woot.specs.Answers.{answerOf}
+use Rattle.woot.specs.Calls.{Outcome, unchanged, receive, localInsert, localDelete}
+use Rattle.woot.specs.Histories.{Call, inserting, deleting, receiving, outcome, run}
 use Rattle.convergence.proofs.Tests.{either, clash}
 use Rattle.convergence.proofs.Forms.{formed, reformed}
 use Rattle.convergence.proofs.Shares.{pending-bound}

@@ -17,7 +17,7 @@ use Rattle.woot.specs.declared.Character.{Character}
 use Rattle.woot.specs.declared.Pending.{Pending}
 use Rattle.woot.specs.declared.Document.{Document}
 use Rattle.woot.specs.declared.Replica.{Replica}
-use Rattle.woot.specs.State.{State, characterSlots, pendingSlots, pad, waiting, blankCharacter, blankPending, meaning, documentOf, stored, counted}
+use Rattle.woot.specs.State.{characterSlots, pendingSlots, pad, waiting, blankCharacter, blankPending, meaning, documentOf, stored, counted}
 use Rattle.woot.specs.Placing.{insertAt, integrateDelete}
 use Rattle.woot.specs.Pending.{drain}
 use Rattle.woot.specs.Form.{wellFormed, replicaWellFormed}

@@ -14,7 +14,6 @@ use Rattle.woot.specs.Operations.{character}
 use Rattle.woot.specs.Ranges.{deleteInRange, inRange}
 use Rattle.woot.specs.State.{meaning, counted}
 use Rattle.woot.specs.Placing.{identifiers, insertAt, integrateInsert}
-use Rattle.woot.specs.Pending.{executable}
 use Rattle.woot.specs.Form.{replicaWellFormed}
 use Rattle.woot.specs.Calls.{duplicate, conflicting}
 use Rattle.convergence.proofs.Forms.{Sound}

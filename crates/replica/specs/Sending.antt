@@ -1,6 +1,4 @@
 -- Inserting here once the insert is made: the conditions that are left, and what is sent.
-use mathlib.Core.Path.{_≡_}
-use mathlib.Core.Bool.{true, false}
 use mathlib.Core.List.{List, [], _∷_}
 use Rattle.woot.specs.declared.Insert.{Insert}
 use Rattle.woot.specs.declared.Operation.the-variants.{Insert as insert}

@@ -3,7 +3,7 @@ use Prim.Native.Nat.{ℕ}
 use mathlib.Core.Path.{_≡_}
 use mathlib.Core.List.{List, [], _∷_}
 use Rattle.woot.specs.declared.Replica.{Replica}
-use Rattle.woot.specs.State.{State, initial, meaning, stored}
+use Rattle.woot.specs.State.{initial, meaning, stored}
 use Rattle.woot.specs.Histories.{Call, inserting, deleting, receiving, run, historyOf, SameInserted, SameDeleted}
 use Rattle.replica.specs.Replicas.{received, inserted, deleted, textOf}
 

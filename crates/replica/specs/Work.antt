@@ -1,10 +1,9 @@
--- The steps of a call on a document: what a received insert is, where an insert goes, which pending operation is due, and what draining leaves.
-use Prim.Native.Nat.{ℕ, suc, _+_, _^_, _≤_, _<_}
+-- The steps of a call on a document: what a received insert is, where an insert goes, and what draining leaves.
+use Prim.Native.Nat.{ℕ, _+_, _^_, _≤_, _<_}
 use mathlib.Core.Path.{_≡_}
-use mathlib.Core.Bool.{Bool, true, _&&_, _||_, cond}
+use mathlib.Core.Bool.{true, _||_, cond}
 use mathlib.Core.Option.{Option, none, some}
 use mathlib.Core.List.{List, [], _∷_, map}
-use lib.Dec.{leb}
 use lib.ListN.{length, take}
 use Rattle.woot.specs.declared.Insert.{Insert}
 use Rattle.woot.specs.declared.Operation.{Operation}
@@ -19,9 +18,6 @@ use Rattle.woot.specs.Placing.{above, position, between}
 use Rattle.woot.specs.Pending.{executable, crossed, unplaceable, integrate, Taken, Drained, drain}
 use Rattle.woot.specs.Calls.{duplicate, conflicting}
 use Rattle.convergence.proofs.Forms.{Sound}
-use Rattle.order.specs.Keys.{placeIn}
-use Rattle.order.specs.declared.Found.{Found}
-use Rattle.order.specs.declared.Found.the-variants.{At, Nothing}
 use Rattle.known.specs.declared.Seen.{Seen}
 use Rattle.known.specs.declared.Seen.the-variants.{New, Same, Other}
 use Rattle.replica.specs.declared.work.Work.{Work}

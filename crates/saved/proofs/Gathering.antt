@@ -2,19 +2,18 @@
 -- that are done are in the array as far as it goes.
 use mathlib.Core.Path.{_≡_, refl, sym, ap, _∙_}
 use mathlib.Core.List.{List, [], _∷_, _++_, map, map-append, append-nil}
-use mathlib.Core.Bool.{Bool, true, false, _&&_, cond}
+use mathlib.Core.Bool.{Bool, true, false, _&&_}
 use mathlib.Core.Logic.{_⊎_, inl, inr, ⊎-elim}
 use Prim.Native.Nat.{ℕ, _+_, _≤_, _<_}
-use native.Mathlib.Numerals.{add-one}
 use native.Mathlib.Omega.{arith}
-use lib.ListN.{length, take, drop, getD, set, length-append, length-map}
+use lib.ListN.{length, take, getD, set, length-append, length-map}
 use lib.Seq.{take-all, take-nil, take-append-le, append-snoc}
 use Rattle.woot.specs.declared.Character.{Character}
 use Rattle.woot.specs.declared.Pending.{Pending}
 use Rattle.woot.specs.Lists.{every}
 use Rattle.woot.specs.Ranges.{characterInRange, inRange}
 use Rattle.woot.specs.State.{characterSlots, pendingSlots, blankCharacter, blankPending, pad, waiting}
-use Rattle.convergence.proofs.Tests.{either, clash, fails}
+use Rattle.convergence.proofs.Tests.{either}
 use Rattle.convergence.proofs.Members.{every-append}
 use Rattle.order.proofs.Packing.{pad-push}
 use Rattle.codec.specs.Lines.{isLetter, hasLayout, ended, firstLine, rest}

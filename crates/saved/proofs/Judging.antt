@@ -3,8 +3,7 @@
 use mathlib.Core.Path.{_≡_, refl, sym, ap, ap₂, _∙_}
 use mathlib.Core.List.{List, _++_}
 use mathlib.Core.Bool.{Bool, true, false, _&&_, cond}
-use mathlib.Core.Logic.{_⊎_, inl, inr}
-use Prim.Native.Nat.{ℕ, _-_, _≤_}
+use Prim.Native.Nat.{ℕ, _-_}
 use native.Mathlib.Omega.{arith}
 use lib.Dec.{eqb, leb}
 use lib.ListN.{length, getD, replicate}
@@ -22,7 +21,7 @@ use Rattle.codec.specs.declared.fields.Verdict.the-variants.{Malformed, Above, 
 use Rattle.codec.specs.declared.fields.Numbers.{Numbers}
 use Rattle.codec.specs.Lines.{fields, numbers}
 use Rattle.codec.specs.Numbers.{slots, within, verdictOn, lineNumbers}
-use Rattle.codec.specs.Calls.{lineLaidOut, readAs, readLine}
+use Rattle.codec.specs.Calls.{readAs, readLine}
 use Rattle.codec.proofs.Numbers.{at-padded, within-at}
 use Rattle.codec.proofs.Judging.{told-malformed, told-above, told-within, values-within, identifier-padded, read-layout, read-range, read-operation}
 use Rattle.saved.specs.declared.read.CharacterLine.{CharacterLine}

@@ -8,7 +8,7 @@ use native.Mathlib.Omega.{arith}
 use lib.Dec.{eqb}
 use lib.ListN.{length, drop, getD, length-drop}
 use lib.Seq.{append-snoc, drop-drop}
-use borrow.Author.Tests.{eqb-true, ne-eqb, eq-eqb}
+use borrow.Author.Tests.{eqb-true}
 use Rattle.convergence.proofs.Tests.{either, clash, passes}
 use Rattle.codec.specs.Lines.{lineFeed, has, before, after, ended, firstLine, rest, columns, lineOf}
 use Rattle.codec.proofs.Trips.{no-feed}

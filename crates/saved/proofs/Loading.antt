@@ -2,9 +2,8 @@
 -- where each has the layout and passes, the replica of what was read is the state's.
 use mathlib.Core.Path.{_≡_, refl, sym, ap, ap₂, _∙_}
 use mathlib.Core.List.{List, [], _∷_, map}
-use mathlib.Core.Bool.{Bool, true, false, _&&_, cond}
-use mathlib.Core.Logic.{_⊎_, inl, inr, ⊎-elim}
-use Prim.Native.Nat.{ℕ, _≤_, _<_}
+use mathlib.Core.Bool.{Bool, true, false, _&&_}
+use Prim.Native.Nat.{ℕ, _≤_}
 use native.Mathlib.Omega.{arith}
 use lib.Dec.{leb}
 use lib.ListN.{length, take, drop, getD, length-map, length-append}
@@ -17,11 +16,10 @@ use Rattle.woot.specs.Lists.{every}
 use Rattle.woot.specs.Ranges.{siteInRange, characterInRange, inRange}
 use Rattle.woot.specs.State.{State, characterSlots, pendingSlots, waiting, blankCharacter, blankPending, pad, documentOf, stored, counted}
 use Rattle.woot.specs.Form.{allInRange, wellFormed, replicaWellFormed}
-use Rattle.convergence.proofs.Tests.{either, clash, fails, and-left, and-right, and-intro}
+use Rattle.convergence.proofs.Tests.{clash, fails, and-left, and-right, and-intro}
 use Rattle.codec.specs.Lines.{rest}
 use Rattle.replica.proofs.Runs.{Within, formed-within, form-stored}
-use Rattle.saved.specs.declared.Loaded.{Loaded}
-use Rattle.saved.specs.declared.LoadAnswer.the-variants.{Done, Refused}
+use Rattle.saved.specs.declared.LoadAnswer.the-variants.{Done}
 use Rattle.saved.specs.declared.read.SiteLine.{SiteLine}
 use Rattle.saved.specs.declared.read.Characters.{Characters}
 use Rattle.saved.specs.declared.read.Operations.{Operations}

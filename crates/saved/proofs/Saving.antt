@@ -2,15 +2,14 @@
 -- operations.
 use mathlib.Core.Path.{_≡_, refl, sym, ap, _∙_}
 use mathlib.Core.List.{List, [], _∷_, _++_, map}
-use mathlib.Core.Bool.{Bool, true, false, _&&_, not, cond}
+use mathlib.Core.Bool.{true, false, cond}
 use Prim.Native.Nat.{ℕ, _+_, _≤_, _<_, min}
 use native.Mathlib.Omega.{arith}
 use lib.Dec.{leb}
 use lib.ListN.{length, take, length-append}
 use borrow.Author.Tests.{leb-true, lt-ltb, le-ltb}
 use Rattle.output.specs.Output.{placed, past}
-use Rattle.output.proofs.Laws.{length-placed, placed-short, past-room}
-use Rattle.woot.specs.declared.Operation.{Operation}
+use Rattle.output.proofs.Laws.{length-placed, placed-short}
 use Rattle.woot.specs.declared.Pending.{Pending}
 use Rattle.woot.specs.declared.Replica.{Replica}
 use Rattle.woot.specs.declared.Refusal.the-variants.{Form, Output}
@@ -21,7 +20,7 @@ use Rattle.convergence.proofs.Tests.{and-left, and-right}
 use Rattle.order.proofs.Packing.{take-lesser}
 use Rattle.codec.specs.Operations.{operationLine}
 use Rattle.codec.specs.Calls.{decided}
-use Rattle.codec.proofs.Writing.{Run, run-none, run-on, run-whole}
+use Rattle.codec.proofs.Writing.{Run, run-none, run-on}
 use Rattle.saved.specs.Lines.{joined}
 use Rattle.saved.specs.Format.{siteLine, characterLine, pendingLine, savedBytes}
 use Rattle.saved.specs.Calls.{bytesOf, saveChecks, saved, outAfter}

@@ -2,8 +2,8 @@
 -- most 1,024; a pending delete's line takes at most 14.
 use mathlib.Core.Path.{_≡_, refl, ap}
 use mathlib.Core.List.{List, [], _∷_, _++_}
-use mathlib.Core.Bool.{Bool, true, false, _&&_}
-use Prim.Native.Nat.{ℕ, _+_, _*_, _≤_}
+use mathlib.Core.Bool.{Bool, true, false}
+use Prim.Native.Nat.{_+_, _*_, _≤_}
 use native.Mathlib.Omega.{arith}
 use lib.ListN.{length, length-append}
 use Rattle.woot.specs.declared.Site.{Site}
@@ -13,7 +13,6 @@ use Rattle.woot.specs.declared.Character.{Character}
 use Rattle.woot.specs.Lists.{every}
 use Rattle.woot.specs.Operations.{origin, inserts, deletes}
 use Rattle.woot.specs.Ranges.{siteInRange, characterInRange, inRange}
-use Rattle.woot.specs.State.{State}
 use Rattle.convergence.proofs.Tests.{and-left, and-right}
 use Rattle.convergence.proofs.Forms.{formed}
 use Rattle.convergence.proofs.Shares.{pending-bound}

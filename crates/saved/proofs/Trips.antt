@@ -2,21 +2,21 @@
 -- operations; and bytes with the layout are the lines of what they say.
 use mathlib.Core.Path.{_≡_, refl, sym, ap, ap₂, _∙_}
 use mathlib.Core.List.{List, [], _∷_, _++_, map, append-nil, append-assoc}
-use mathlib.Core.Bool.{Bool, true, false, _&&_, cond}
+use mathlib.Core.Bool.{Bool, true, false, _&&_}
 use Prim.Native.Nat.{ℕ}
-use lib.ListN.{length, drop, getD}
+use lib.ListN.{drop}
 use Rattle.woot.specs.declared.Character.{Character}
 use Rattle.woot.specs.declared.Operation.{Operation}
 use Rattle.woot.specs.Lists.{every}
 use Rattle.woot.specs.State.{State, meaning, stored}
 use Rattle.woot.specs.Form.{allInRange, wellFormed}
-use Rattle.convergence.proofs.Tests.{and-left, and-right, three, seven, clash}
+use Rattle.convergence.proofs.Tests.{and-left, and-right, three, seven}
 use Rattle.codec.specs.Lines.{isLetter, hasLayout}
 use Rattle.codec.specs.Operations.{operationLine}
 use Rattle.replica.proofs.Runs.{meaning-stored}
-use Rattle.saved.specs.declared.LoadAnswer.the-variants.{Done, Refused}
+use Rattle.saved.specs.declared.LoadAnswer.the-variants.{Done}
 use Rattle.saved.specs.Lines.{lines, closed, leading, trailing, joined}
-use Rattle.saved.specs.Format.{siteLine, isSite, siteSaid, characterLine, isCharacter, characterSaid, visibleInRange, isOperation, operationSaid, headLine, characterLines, operationLines, savedLaidOut, savedState, savedInRange, savedBytes}
+use Rattle.saved.specs.Format.{siteLine, isSite, characterLine, isCharacter, characterSaid, visibleInRange, isOperation, operationSaid, headLine, characterLines, operationLines, savedLaidOut, savedState, savedInRange, savedBytes}
 use Rattle.saved.specs.Calls.{loaded}
 use Rattle.saved.specs.Theorems.{SavedReadsBack, LoadedWritesBack, LoadedFormed}
 use Rattle.saved.proofs.Lines.{whole, rejoined, apart, joined-append, head-first}

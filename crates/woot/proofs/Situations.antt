@@ -1,6 +1,5 @@
 -- The tables of situations hold by computation, straight from the definitions. Each state is computed to its end
 -- before the next call, so that no call is computed again for each look at what it left.
-use Prim.Native.Nat.{ℕ}
 use mathlib.Core.Bool.{Bool}
 use mathlib.Core.Path.{_≡_, refl, ap, ap₂, sym, _∙_}
 use mathlib.Core.List.{List, [], _∷_, _++_, map}
@@ -23,7 +22,7 @@ use Rattle.woot.specs.State.{State}
 use Rattle.woot.specs.Placing.{identifiers}
 use Rattle.woot.specs.Answers.{Reply}
 use Rattle.woot.specs.Histories.{Call, run, drainedBy}
-use Rattle.woot.specs.Situations.{Given, calling, draining, encoding, Seen, calls, released, bytes, replies, seen, Situation, table, tellingCases, AllHold, SituationsHold, CasesTell, CheckingOrder}
+use Rattle.woot.specs.Situations.{Given, calling, draining, encoding, Seen, calls, released, bytes, replies, seen, Situation, table, tellingCases, SituationsHold, CasesTell, CheckingOrder}
 
 -- k at xs, whose cells are computed first
 whole : {A B : Type 0} → List A → (List A → B) → B

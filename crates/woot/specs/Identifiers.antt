@@ -1,5 +1,4 @@
 -- Identifiers: the two marks, equality, and the order by site first and then by clock.
-use Prim.Native.Nat.{ℕ}
 use mathlib.Core.Bool.{Bool, _&&_, _||_}
 use lib.Dec.{eqb, ltb}
 use Rattle.woot.specs.declared.Identifier.{Identifier}

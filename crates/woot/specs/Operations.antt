@@ -1,9 +1,8 @@
 -- Operations and characters: what one is made of the other, and equality in every field.
 use Prim.Native.Nat.{ℕ}
-use mathlib.Core.Bool.{Bool, true, false, _&&_, not}
+use mathlib.Core.Bool.{Bool, true, false, _&&_}
 use mathlib.Core.List.{List, [], _∷_}
 use lib.Dec.{eqb}
-use Rattle.woot.specs.declared.Identifier.{Identifier}
 use Rattle.woot.specs.declared.Insert.{Insert}
 use Rattle.woot.specs.declared.Delete.{Delete}
 use Rattle.woot.specs.declared.Operation.{Operation}

@@ -1,23 +1,21 @@
 -- Document 01's situations marked P, as one table with one statement, and the cases that tell the slips it lists.
 use Prim.Native.Nat.{ℕ, zero, suc}
 use mathlib.Core.Path.{_≡_}
-use mathlib.Core.Bool.{Bool, true, false}
-use mathlib.Core.List.{List, [], _∷_, _++_, map}
+use mathlib.Core.Bool.{Bool}
+use mathlib.Core.List.{List, [], _∷_, map}
 use Rattle.woot.specs.declared.Identifier.{Identifier}
 use Rattle.woot.specs.declared.Insert.{Insert}
 use Rattle.woot.specs.declared.Operation.{Operation}
 use Rattle.woot.specs.declared.Operation.the-variants.{Insert as insert, Delete as delete}
-use Rattle.woot.specs.declared.Character.{Character}
 use Rattle.woot.specs.Identifiers.{begin, end}
 use Rattle.woot.specs.Operations.{character}
 use Rattle.woot.specs.State.{State, initial}
 use Rattle.woot.specs.Placing.{identifiers}
 use Rattle.woot.specs.declared.Answer.{Answer}
 use Rattle.woot.specs.declared.Sent.{Sent}
-use Rattle.woot.specs.Answers.{Word, done, waits, known, refused, Reply, reply, answerOf, Check}
+use Rattle.woot.specs.Answers.{done, waits, known, refused, Reply, reply, answerOf, Check}
 use Rattle.woot.specs.Calls.{receiveChecks, insertChecks, deleteChecks}
 use Rattle.woot.specs.Histories.{Call, inserting, deleting, receiving, outcome, run, drainedBy}
-use Rattle.woot.specs.Form.{wellFormed}
 use Rattle.utf8.specs.Encoding.{encode}
 
 infix 90 _/_

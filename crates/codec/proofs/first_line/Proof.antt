@@ -1,5 +1,5 @@
 -- `codec::first_line` meets its contract: the bytes before the line feed, where there is one.
-use mathlib.Core.Path.{_≡_, sym}
+use mathlib.Core.Path.{sym}
 use native.Mathlib.Omega.{arith}
 use lib.Seq.{length-take-le}
 use borrow.Author.Needs.{needs}

@@ -1,5 +1,5 @@
 -- `ranges::site_in_range`: every clock of the type is in its range.
-use mathlib.Core.Path.{_≡_, refl, sym, _∙_}
+use mathlib.Core.Path.{_≡_, refl, _∙_}
 use mathlib.Core.Bool.{Bool, true, false, _&&_}
 use Prim.Native.Nat.{zero-le}
 use native.Mathlib.Omega.{arith}

@@ -1,5 +1,4 @@
 -- `saved::refuse` meets its contract: an empty replica stands beside the refusal.
-use mathlib.Core.Path.{refl}
 use Rattle.saved.specs.declared.LoadAnswer.the-variants.{Refused}
 use Rattle.saved.specs.Calls.{noReplica}
 use Rattle.saved.specs.Reading.{refusal}

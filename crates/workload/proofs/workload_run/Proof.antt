@@ -1,7 +1,6 @@
 -- `workload::workload_run` counts at most one for each operation so far.
 use Prim.Native.Nat.{_≤_, _-_}
 use native.Mathlib.Omega.{arith}
-use mathlib.Core.Logic.{⊎-elim}
 use borrow.Author.Needs.{needs}
 use Rattle.workload.proofs.workload_run.Statement.{statement}
 use Rattle.workload.proofs.workload_run.Tie as tie

@@ -1,13 +1,12 @@
 -- `replica::reception::seen_by` meets its contract: the one that has the identifier decides.
 use Prim.Native.Nat.{_<_}
 use native.Mathlib.Omega.{arith}
-use mathlib.Core.Path.{_≡_, sym, _∙_}
+use mathlib.Core.Path.{_≡_, _∙_}
 use mathlib.Core.Bool.{true}
 use borrow.Author.Needs.{needs}
 use Rattle.woot.specs.Ranges.{characterId}
 use Rattle.convergence.proofs.Ranges.{in-range}
 use Rattle.known.specs.declared.Holder.{Holder}
-use Rattle.known.specs.Known.{comparedTo, comparedWith}
 use Rattle.form.proofs.Fullness.{FullDocument, full-replica}
 use Rattle.replica.proofs.Stored.{Counts}
 use Rattle.replica.proofs.Examining.{few, Has, has, character-within, pending-within, seen-character, seen-pending, seen-nobody}

@@ -1,5 +1,4 @@
 -- `saved::read::character_of` meets its contract: each number fits its field, since its limit does.
-use mathlib.Core.Path.{refl}
 use native.Mathlib.Omega.{arith}
 use lib.Dec.{eqb}
 use lib.ListN.{getD}

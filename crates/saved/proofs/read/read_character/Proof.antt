@@ -1,5 +1,5 @@
 -- `saved::read::read_character` meets its contract: each verdict on the numbers is one of the three answers.
-use mathlib.Core.Path.{sym, ap, _∙_}
+use mathlib.Core.Path.{ap, _∙_}
 use Rattle.saved.proofs.Judging.{character-malformed, character-above, character-fits, character-array}
 use Rattle.saved.specs.Reading.{characterJudged}
 use borrow.Author.Needs.{needs}

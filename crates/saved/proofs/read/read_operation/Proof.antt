@@ -1,5 +1,5 @@
 -- `saved::read::read_operation` meets its contract: what `codec` answers is the operation, refusal 2 or refusal 1.
-use mathlib.Core.Path.{_≡_, sym, ap, _∙_, subst}
+use mathlib.Core.Path.{_≡_, sym, _∙_, subst}
 use mathlib.Core.List.{List, [], _∷_}
 use Prim.Native.Nat.{ℕ}
 use types.Run.{OneOf, miss}

@@ -1,5 +1,4 @@
 -- `saved::write::character_numbers` meets its contract: the array is written as the definition is.
-use mathlib.Core.Path.{refl}
 use Rattle.saved.specs.Format.{characterNumbers}
 use borrow.Author.Needs.{needs}
 use Rattle.saved.proofs.write.character_numbers.Statement.{statement}
