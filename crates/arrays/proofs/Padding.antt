@@ -8,9 +8,9 @@ use native.Mathlib.Numerals.{add-one}
 use native.Mathlib.Omega.{arith}
 use lib.ListN.{length, take, drop, set, getD, replicate, length-append, length-take, length-drop, drop-of-length-le}
 use lib.Seq.{paste-zero, paste-suc, getD-drop, take-take, take-all, take-nil, length-take-le, append-snoc, take-append-seam, drop-append-add}
-use Rattle.woot.specs.State.{pad}
+use Rattle.lists.specs.Padding.{pad}
 use Rattle.convergence.proofs.Insertion.{put, put-split}
-use Rattle.order.proofs.Packing.{pad-none, pad-push, take-lesser}
+use Rattle.lists.proofs.Padding.{pad-none, pad-push, take-lesser}
 use Rattle.arrays.specs.Edit.{copiedInto, removed}
 
 module _ {A : Type 0} where

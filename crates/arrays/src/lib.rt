@@ -12,7 +12,8 @@ ghost use Prim.Native.Nat.{_+_, _≤_, min};
 ghost use lib.ListN.{take};
 ghost use Rattle.woot.specs.Identifiers.{same};
 ghost use Rattle.woot.specs.Operations.{hidden};
-ghost use Rattle.woot.specs.State.{pad, waiting, blankCharacter, blankPending};
+ghost use Rattle.woot.specs.State.{waiting, blankCharacter, blankPending};
+ghost use Rattle.lists.specs.Padding.{pad};
 ghost use Rattle.woot.specs.Placing.{insertAt, integrateDelete};
 ghost use Rattle.arrays.specs.Edit.{copiedInto, removed};
 

@@ -14,7 +14,7 @@ use Rattle.woot.specs.declared.Operation.the-variants.{Insert as insert, Delete
 use Rattle.woot.specs.Limits.{lastSite, lastClock, lastCodePoint, firstSurrogate, lastSurrogate}
 use Rattle.woot.specs.Identifiers.{begin, end, same}
 use Rattle.woot.specs.Ranges.{within as inside, siteNumber, codePoint, characterId, previousId, nextId, insertInRange, deleteInRange, inRange}
-use Rattle.convergence.proofs.Tests.{and-left, and-right, or-cases}
+use Rattle.lists.proofs.Tests.{and-left, and-right, or-cases}
 use Rattle.convergence.proofs.Identifiers.{same-eq}
 use Rattle.codec.specs.Numbers.{within}
 use Rattle.codec.specs.Operations.{insertLimits, deleteLimits, identifierAt, insertOf, deleteOf}

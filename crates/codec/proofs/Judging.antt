@@ -8,9 +8,9 @@ use lib.ListN.{length, replicate}
 use Rattle.woot.specs.declared.Operation.{Operation}
 use Rattle.woot.specs.declared.Operation.the-variants.{Insert as insert, Delete as delete}
 use Rattle.woot.specs.declared.Refusal.the-variants.{Layout, Range}
-use Rattle.woot.specs.State.{pad}
+use Rattle.lists.specs.Padding.{pad}
 use Rattle.woot.specs.Ranges.{inRange}
-use Rattle.convergence.proofs.Tests.{fails, clash}
+use Rattle.lists.proofs.Tests.{fails, clash}
 use Rattle.convergence.proofs.Identifiers.{identifier-path}
 use Rattle.codec.specs.declared.Read.the-variants.{Operation as readsAs, Refused as readRefused}
 use Rattle.codec.specs.declared.fields.Verdict.{Verdict}

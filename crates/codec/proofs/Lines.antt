@@ -7,7 +7,7 @@ use native.Mathlib.Omega.{arith}
 use lib.Dec.{eqb}
 use lib.ListN.{length, take, drop, length-drop, length-append}
 use borrow.Author.Tests.{eq-eqb, eqb-true}
-use Rattle.convergence.proofs.Tests.{passes, fails, or-right}
+use Rattle.lists.proofs.Tests.{passes, fails, or-right}
 use Rattle.codec.specs.Lines.{tab, has, before, after, onFirst, fields}
 
 -- ---- at the first byte b

@@ -8,8 +8,8 @@ use lib.Dec.{eqb, leb, ltb, eqb·suc-suc, eqb·suc-zero, eqb·zero-suc}
 use lib.ListN.{length, drop, getD, set, replicate, length-append}
 use lib.Seq.{append-snoc, set-at}
 use borrow.Author.Tests.{ne-eqb, le-leb, lt-ltb, le-ltb, leb-true, leb-false}
-use Rattle.woot.specs.State.{pad}
-use Rattle.convergence.proofs.Tests.{and-left, and-right}
+use Rattle.lists.specs.Padding.{pad}
+use Rattle.lists.proofs.Tests.{and-left, and-right}
 use Rattle.decimal.specs.Numeral.{isNumeral}
 use Rattle.codec.specs.Lines.{tab, fields, numerals}
 use Rattle.codec.specs.Numbers.{within, goesOn}

@@ -10,7 +10,7 @@ use lib.Dec.{leb, ltb}
 use lib.ListN.{length, drop, set, getD, length-append, drop-of-length-le}
 use lib.Seq.{append-snoc, drop-cons, drop-drop}
 use borrow.Author.Tests.{ltb-false}
-use Rattle.woot.specs.State.{pad}
+use Rattle.lists.specs.Padding.{pad}
 use Rattle.decimal.specs.Numeral.{isNumeral, valueOf}
 use Rattle.decimal.specs.declared.Field.the-variants.{Number, Malformed as Unread}
 use Rattle.decimal.specs.Answers.{fieldOf}

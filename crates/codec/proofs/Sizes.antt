@@ -10,11 +10,11 @@ use lib.ListN.{length, getD, length-append, List·getD-append}
 use lib.Seq.{getD-append-seam}
 use borrow.Author.Tests.{leb-true, lt-ltb, ltb-true, ltb-false, eqb-false}
 use Rattle.woot.specs.declared.Operation.the-variants.{Insert as insert, Delete as delete}
-use Rattle.woot.specs.Lists.{every}
+use Rattle.lists.specs.Lists.{every}
 use Rattle.woot.specs.Identifiers.{same}
 use Rattle.woot.specs.Ranges.{inRange, insertInRange, deleteInRange, characterId, previousId, nextId, siteNumber, codePoint, within as inside}
-use Rattle.convergence.proofs.Tests.{and-left, and-right, and-intro, or-false-left, or-false-right}
-use Rattle.convergence.proofs.Members.{every-append}
+use Rattle.lists.proofs.Tests.{and-left, and-right, and-intro, or-false-left, or-false-right}
+use Rattle.lists.proofs.Members.{every-append}
 use Rattle.decimal.specs.Numeral.{isDigit, allDigits, digitsIn, digits}
 use Rattle.decimal.proofs.Laws.{width-monotone, digit-range, all-digits}
 use Rattle.codec.specs.Lines.{lineFeed, has, columns, lineOf}

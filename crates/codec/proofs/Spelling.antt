@@ -8,9 +8,9 @@ use native.Mathlib.Omega.{arith}
 use lib.Dec.{eqb}
 use lib.ListN.{length, drop, length-map}
 use borrow.Author.Tests.{eqb-true, eq-eqb, ne-eqb}
-use Rattle.woot.specs.Lists.{every}
-use Rattle.convergence.proofs.Tests.{and-left, and-right, and-intro, or-false}
-use Rattle.convergence.proofs.Members.{any-append}
+use Rattle.lists.specs.Lists.{every}
+use Rattle.lists.proofs.Tests.{and-left, and-right, and-intro, or-false}
+use Rattle.lists.proofs.Members.{any-append}
 use Rattle.decimal.specs.Numeral.{isDigit, allDigits, isNumeral, valueOf, digits}
 use Rattle.decimal.proofs.Laws.{digit-range, all-digits, digits-are-numeral, digits-read-back, numeral-writes-back}
 use Rattle.codec.specs.Lines.{tab, has, before, onFirst, fields, isLetter, numerals, hasLayout, numbers, columns}

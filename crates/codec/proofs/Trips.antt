@@ -14,7 +14,7 @@ use Rattle.woot.specs.declared.Operation.{Operation}
 use Rattle.woot.specs.declared.Operation.the-variants.{Insert as insert, Delete as delete}
 use Rattle.woot.specs.declared.Refusal.the-variants.{Layout, Range}
 use Rattle.woot.specs.Ranges.{inRange}
-use Rattle.convergence.proofs.Tests.{either, and-left, and-right, or-false}
+use Rattle.lists.proofs.Tests.{either, and-left, and-right, or-false}
 use Rattle.codec.specs.declared.Read.the-variants.{Operation as readsAs, Refused as readRefused}
 use Rattle.codec.specs.Lines.{tab, lineFeed, has, after, ended, firstLine, rest, fields, numbers, columns, lineOf}
 use Rattle.codec.specs.Operations.{insertLetter, deleteLetter, insertNumbers, deleteNumbers, identifierAt, insertOf, deleteOf, isInsert, isDelete, said, operationLine}

@@ -4,7 +4,7 @@ use mathlib.Core.List.{List, [], _∷_, _++_, map}
 use mathlib.Core.Bool.{Bool, false, _&&_, cond}
 use lib.Dec.{eqb}
 use lib.ListN.{length, getD}
-use Rattle.woot.specs.Lists.{any, every}
+use Rattle.lists.specs.Lists.{any, every}
 use Rattle.decimal.specs.Numeral.{isNumeral, valueOf, digits}
 
 -- "one tab (byte 9)"

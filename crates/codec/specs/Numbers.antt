@@ -4,7 +4,7 @@ use mathlib.Core.List.{List, [], _∷_}
 use mathlib.Core.Bool.{Bool, true, false, _&&_, cond}
 use lib.Dec.{eqb, leb}
 use lib.ListN.{length}
-use Rattle.woot.specs.State.{pad}
+use Rattle.lists.specs.Padding.{pad}
 use Rattle.codec.specs.declared.fields.Verdict.{Verdict}
 use Rattle.codec.specs.declared.fields.Verdict.the-variants.{Malformed, Above, Within}
 use Rattle.codec.specs.declared.fields.Numbers.{Numbers}

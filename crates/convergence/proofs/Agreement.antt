@@ -14,9 +14,10 @@ use Rattle.woot.specs.Identifiers.{begin, below}
 use Rattle.woot.specs.Operations.{origin}
 use Rattle.woot.specs.Placing.{identifiers, placeOf, held, above}
 use Rattle.convergence.specs.Agreement.{Standing, Grown, OneMeaning}
-use Rattle.convergence.proofs.Tests.{agree}
+use Rattle.lists.proofs.Tests.{agree}
 use Rattle.convergence.proofs.Identifiers.{ne-same, below-asym}
-use Rattle.convergence.proofs.Places.{Holding, is-begin, is-character, is-end, holding, side, held-id, held-member, held-place, above-place, above-lower, above-upper, place-above, place-injective, place-begin, place-later}
+use Rattle.convergence.proofs.Places.{Holding, is-begin, is-character, is-end, holding, held-id, held-member, held-place, above-place, above-lower, above-upper, place-above, place-injective, place-begin, place-later}
+use Rattle.lists.proofs.Tests.{side}
 use Rattle.convergence.proofs.Characters.{id-in-range, place-end, held-is-character}
 use Rattle.convergence.proofs.Sorting.{Ranked, Ascending, sorted-ascending, previous-place, next-place, previous-held, next-held}
 

@@ -15,13 +15,14 @@ use Rattle.woot.specs.Identifiers.{begin, end, same}
 use Rattle.woot.specs.Operations.{origin}
 use Rattle.woot.specs.Ranges.{characterId, codePoint, previousId, nextId, insertInRange, characterInRange}
 use Rattle.woot.specs.State.{blankCharacter}
-use Rattle.woot.specs.Lists.{any, distinct}
+use Rattle.lists.specs.Lists.{any, distinct}
 use Rattle.woot.specs.Placing.{identifiers, sequence, indexOf, placeOf, held, Located, located}
 use Rattle.convergence.specs.Agreement.{Standing}
-use Rattle.convergence.proofs.Tests.{clash, and-left, and-right}
-use Rattle.convergence.proofs.Members.{any-none}
+use Rattle.lists.proofs.Tests.{clash, and-left, and-right}
+use Rattle.lists.proofs.Members.{any-none}
 use Rattle.convergence.proofs.Identifiers.{eq-same, same-sym}
-use Rattle.convergence.proofs.Places.{Holding, is-begin, is-character, is-end, holding, index-here, index-later, not-begin, not-end, held-id, held-end, held-place, place-later, place-injective, side}
+use Rattle.convergence.proofs.Places.{Holding, is-begin, is-character, is-end, holding, index-here, index-later, not-begin, not-end, held-id, held-end, held-place, place-later, place-injective}
+use Rattle.lists.proofs.Tests.{side}
 
 -- c at place k
 abbrev pub spot : ℕ → Character → Located

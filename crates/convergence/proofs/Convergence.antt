@@ -11,7 +11,7 @@ use Rattle.woot.specs.Operations.{origin}
 use Rattle.woot.specs.Text.{text}
 use Rattle.woot.specs.Histories.{Call, DeletedIn, charactersAfter, historyOf, SameInserted, SameDeleted}
 use Rattle.convergence.specs.Theorems.{Agreement, Convergence}
-use Rattle.convergence.proofs.Tests.{agree-false}
+use Rattle.lists.proofs.Tests.{agree-false}
 use Rattle.convergence.proofs.Agreement.{agreement}
 use Rattle.convergence.proofs.Listing.{same-list}
 use Rattle.convergence.proofs.Grown.{grown-from-empty}

@@ -13,9 +13,9 @@ use Rattle.woot.specs.declared.Operation.the-variants.{Insert as insert, Delete
 use Rattle.woot.specs.declared.Character.{Character}
 use Rattle.woot.specs.Identifiers.{begin, end, same, below}
 use Rattle.woot.specs.Operations.{origin, hidden}
-use Rattle.woot.specs.Lists.{keep}
+use Rattle.lists.specs.Lists.{keep}
 use Rattle.woot.specs.Placing.{identifiers, sequence, placeOf, held, above, Interval, Located, located, adjacent, candidate, candidates, narrowed, search, position, between, integrateDelete}
-use Rattle.convergence.proofs.Members.{keep-map}
+use Rattle.lists.proofs.Members.{keep-map}
 use Rattle.woot.specs.Pending.{executable, crossed, unplaceable}
 
 -- what a delete of x makes of a character

@@ -10,8 +10,8 @@ use Rattle.woot.specs.declared.Operation.the-variants.{Insert as insert, Delete
 use Rattle.woot.specs.declared.Character.{Character}
 use Rattle.woot.specs.Ranges.{inRange}
 use Rattle.woot.specs.Pending.{executable, crossed, unplaceable, integrate, Drained, andIntegrated, andDiscarded, drained}
-use Rattle.woot.specs.Lists.{any, every}
-use Rattle.convergence.proofs.Members.{every-member}
+use Rattle.lists.specs.Lists.{any, every}
+use Rattle.lists.proofs.Members.{every-member}
 use Rattle.convergence.proofs.Extract.{Extract, extract-length, extract-itself}
 use Rattle.convergence.proofs.Forms.{Sound}
 use Rattle.convergence.proofs.Soundness.{sound-out, out-fresh, out-room, sound-in, sound-hide}

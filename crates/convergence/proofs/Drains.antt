@@ -11,8 +11,8 @@ use Rattle.woot.specs.declared.Operation.{Operation}
 use Rattle.woot.specs.declared.Character.{Character}
 use Rattle.woot.specs.Pending.{executable, crossed, unplaceable, integrate, Taken, earliest, Drained, andIntegrated, andDiscarded, drained, drainSteps, drain}
 use Rattle.convergence.specs.Theorems.{drainNext, DrainingRecurs}
-use Rattle.woot.specs.Lists.{any}
-use Rattle.convergence.proofs.Tests.{or-false-left, or-false-right, or-false}
+use Rattle.lists.specs.Lists.{any}
+use Rattle.lists.proofs.Tests.{or-false-left, or-false-right, or-false}
 use Rattle.convergence.proofs.Extract.{Extract, front, past, extract-length}
 
 -- what the earliest is: it passes the test and was taken out of the list

@@ -7,8 +7,8 @@ use mathlib.Core.Logic.{_⊎_, inl, inr, ⊎-elim}
 use mathlib.Core.List.{List, [], _∷_, _++_, map, List·Memᴰ, List·Memᴰ·head, List·Memᴰ·tail}
 use lib.ListN.{length}
 use borrow.Author.Tests.{not-true}
-use Rattle.woot.specs.Lists.{any, every, keep, distinct}
-use Rattle.convergence.proofs.Tests.{and-left, and-right, and-intro, or-false-left, or-false-right, or-false, not-intro}
+use Rattle.lists.specs.Lists.{any, every, keep, distinct}
+use Rattle.lists.proofs.Tests.{and-left, and-right, and-intro, or-false-left, or-false-right, or-false, not-intro}
 
 -- zs is ys with x at some place
 pub data Extract {A : Type 0} (x : A) : List A → List A → Type 0 where

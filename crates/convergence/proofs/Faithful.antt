@@ -17,7 +17,7 @@ use Rattle.woot.specs.Identifiers.{same}
 use Rattle.woot.specs.Operations.{character, origin, inserts}
 use Rattle.woot.specs.Placing.{held, integrateDelete}
 use Rattle.woot.specs.Histories.{InsertedIn, DeletedIn}
-use Rattle.convergence.proofs.Tests.{either, clash}
+use Rattle.lists.proofs.Tests.{either, clash}
 use Rattle.convergence.proofs.Extract.{Extract, extract-length, extract-cases, extract-itself, extract-old, extract-map}
 use Rattle.convergence.proofs.Identifiers.{same-eq, eq-same}
 use Rattle.convergence.proofs.Deletion.{marked, marked-id, marked-visible, delete-length, delete-origins, delete-held, delete-member}

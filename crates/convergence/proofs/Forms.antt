@@ -20,8 +20,8 @@ use Rattle.woot.specs.Placing.{identifiers}
 use Rattle.woot.specs.Pending.{executable, pendingFrom}
 use Rattle.woot.specs.Form.{known, numbers, allInRange, sharesKept, capacityKept, identifiersDistinct, deletesDistinct, ordered, neighboursOrdered, noneExecutable, wellFormed}
 use Rattle.convergence.specs.Theorems.{EmptyFormed}
-use Rattle.woot.specs.Lists.{any, every, distinct}
-use Rattle.convergence.proofs.Tests.{three, seven}
+use Rattle.lists.specs.Lists.{any, every, distinct}
+use Rattle.lists.proofs.Tests.{three, seven}
 
 -- the identifiers of pending inserts
 abbrev pub pendingIds : List Operation → List Identifier

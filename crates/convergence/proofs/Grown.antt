@@ -22,8 +22,8 @@ use Rattle.woot.specs.Calls.{Outcome, unchanged, withCharacters, withPending, c
 use Rattle.woot.specs.Histories.{Call, inserting, deleting, receiving, outcome, run}
 use Rattle.convergence.specs.Agreement.{Grown}
 use Rattle.convergence.specs.Theorems.{GrownFromEmpty, NeverUnplaceable}
-use Rattle.convergence.proofs.Tests.{clash, and-left}
-use Rattle.convergence.proofs.Members.{every-member}
+use Rattle.lists.proofs.Tests.{clash, and-left}
+use Rattle.lists.proofs.Members.{every-member}
 use Rattle.convergence.proofs.Extract.{Extract, extract-itself}
 use Rattle.convergence.proofs.Growth.{grown-empty, grown-delete, grown-insert, grown-placeable}
 use Rattle.convergence.proofs.Forms.{Sound, formed}

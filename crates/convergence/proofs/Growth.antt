@@ -17,14 +17,15 @@ use Rattle.woot.specs.Identifiers.{same}
 use Rattle.woot.specs.Operations.{character, origin}
 use Rattle.woot.specs.Ranges.{insertInRange}
 use Rattle.woot.specs.State.{blankCharacter}
-use Rattle.woot.specs.Lists.{missing}
+use Rattle.lists.specs.Lists.{missing}
 use Rattle.woot.specs.Placing.{placeOf, held, Interval, Located, adjacent, candidate, candidates, narrowed, position, between, integrateInsert, integrateDelete}
 use Rattle.woot.specs.Pending.{executable, crossed, unplaceable}
 use Rattle.convergence.specs.Agreement.{Standing, Births, Grown}
-use Rattle.convergence.proofs.Tests.{either}
+use Rattle.lists.proofs.Tests.{either}
 use Rattle.convergence.proofs.Identifiers.{same-refl}
-use Rattle.convergence.proofs.Members.{member-keep}
-use Rattle.convergence.proofs.Places.{side, held-id, held-place, above-lower, held-apart}
+use Rattle.lists.proofs.Members.{member-keep}
+use Rattle.convergence.proofs.Places.{held-id, held-place, above-lower, held-apart}
+use Rattle.lists.proofs.Tests.{side}
 use Rattle.convergence.proofs.Characters.{spot, member-located, at-index, between-marks}
 use Rattle.convergence.proofs.Deletion.{delete-each}
 use Rattle.convergence.proofs.Placing.{Candidate, is-candidate, narrowing, is-adjacent, position-adjacent, position-again}

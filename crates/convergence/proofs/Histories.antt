@@ -18,7 +18,7 @@ use Rattle.woot.specs.Pending.{executable, crossed, unplaceable, integrate, Dra
 use Rattle.woot.specs.Calls.{Outcome, unchanged, integrated, withCharacters, withPending, insertCarried, carryOut, defer}
 use Rattle.woot.specs.Histories.{Call, outcome, run, integratedBy, drainedBy, discardedBy, isDeferred, deferredBy, historyOf, charactersAfter}
 use Rattle.convergence.specs.Theorems.{HeldAreInserted, HeldCount, HiddenAreDeleted, WaitsBalance}
-use Rattle.convergence.proofs.Members.{every-member}
+use Rattle.lists.proofs.Members.{every-member}
 use Rattle.convergence.proofs.Extract.{Extract, extract-itself}
 use Rattle.convergence.proofs.Forms.{Sound}
 use Rattle.convergence.proofs.Soundness.{placed-extract, placed-held, fresh-unheld, sound-in, sound-out, out-fresh}

@@ -8,7 +8,7 @@ use borrow.Author.Tests.{ltb-true, ltb-false, eqb-true, lt-ltb, eq-eqb}
 use lib.Dec.{eqb, ltb}
 use Rattle.woot.specs.declared.Identifier.{Identifier}
 use Rattle.woot.specs.Identifiers.{same, below}
-use Rattle.convergence.proofs.Tests.{either, and-left, and-right, and-intro, or-cases, or-left, or-right, or-false-left, or-false-right, or-false, fails, clash}
+use Rattle.lists.proofs.Tests.{either, and-left, and-right, and-intro, or-cases, or-left, or-right, or-false-left, or-false-right, or-false, fails, clash}
 
 pub identifier-path : {x y : Identifier} → x .site ≡ y .site → x .clock ≡ y .clock → x ≡ y
 identifier-path p q = λ i. record { site = p i; clock = q i }

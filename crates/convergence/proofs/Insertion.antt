@@ -11,10 +11,10 @@ use borrow.Author.Tests.{not-true}
 use Rattle.woot.specs.declared.Identifier.{Identifier}
 use Rattle.woot.specs.declared.Character.{Character}
 use Rattle.woot.specs.Identifiers.{same}
-use Rattle.woot.specs.Lists.{any, every, distinct}
+use Rattle.lists.specs.Lists.{any, every, distinct}
 use Rattle.woot.specs.Placing.{identifiers, insertAt}
-use Rattle.convergence.proofs.Tests.{and-left, and-right, and-intro, or-false-left, or-false-right, or-false, not-intro}
-use Rattle.convergence.proofs.Members.{any-append}
+use Rattle.lists.proofs.Tests.{and-left, and-right, and-intro, or-false-left, or-false-right, or-false, not-intro}
+use Rattle.lists.proofs.Members.{any-append}
 use Rattle.convergence.proofs.Identifiers.{same-sym}
 
 or-swap : (a b c : Bool) → (a || (b || c)) ≡ (b || (a || c))

@@ -16,9 +16,9 @@ use Rattle.woot.specs.Ranges.{characterId, characterInRange}
 use Rattle.woot.specs.Placing.{identifiers, sequence, indexOf, placeOf, held, above}
 use Rattle.woot.specs.Calls.{visibles}
 use Rattle.convergence.specs.Agreement.{Standing}
-use Rattle.woot.specs.Lists.{any, keep, distinct}
-use Rattle.convergence.proofs.Tests.{and-left, and-right, and-intro, not-intro}
-use Rattle.convergence.proofs.Members.{any-none, none-any}
+use Rattle.lists.specs.Lists.{any, keep, distinct}
+use Rattle.lists.proofs.Tests.{and-left, and-right, and-intro, not-intro}
+use Rattle.lists.proofs.Members.{any-none, none-any}
 use Rattle.convergence.proofs.Identifiers.{same-refl, ne-same, same-sym}
 use Rattle.convergence.proofs.Places.{index-here, index-later, held-end, held-member, place-above}
 use Rattle.convergence.proofs.Ranges.{no-mark, in-range}

@@ -25,8 +25,8 @@ use Rattle.woot.specs.Form.{known, wellFormed}
 use Rattle.woot.specs.Answers.{Check, first, Reported, here, later, number}
 use Rattle.woot.specs.Calls.{unchanged, decided, duplicate, conflicting, senderFull, documentFull, receiveChecks, carryOut, defer, accept, receiveWhen, receive}
 use Rattle.convergence.specs.Theorems.{Isolation}
-use Rattle.woot.specs.Lists.{any, keep}
-use Rattle.convergence.proofs.Tests.{clash, and-left, four}
+use Rattle.lists.specs.Lists.{any, keep}
+use Rattle.lists.proofs.Tests.{clash, and-left, four}
 use Rattle.convergence.proofs.Identifiers.{same-eq}
 use Rattle.convergence.proofs.Refusals.{receive-refuses, skipped, held-there, never, other}
 use Rattle.convergence.proofs.Steps.{AllFail, first-none, first-some, Turned, receive-turned}

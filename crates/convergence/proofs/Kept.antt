@@ -17,9 +17,9 @@ use Rattle.woot.specs.Answers.{reply}
 use Rattle.woot.specs.Calls.{Outcome, unchanged, integrated, withCharacters, withPending, insertCarried, carryOut, defer}
 use Rattle.woot.specs.Histories.{outcome}
 use Rattle.convergence.specs.Theorems.{FormKept, NothingReady, CountsTrue, CountsBounded}
-use Rattle.woot.specs.Lists.{any}
-use Rattle.convergence.proofs.Tests.{or-false}
-use Rattle.convergence.proofs.Members.{any-none}
+use Rattle.lists.specs.Lists.{any}
+use Rattle.lists.proofs.Tests.{or-false}
+use Rattle.lists.proofs.Members.{any-none}
 use Rattle.convergence.proofs.Extract.{extract-last, extract-any}
 use Rattle.convergence.proofs.Deletion.{delete-executable}
 use Rattle.convergence.proofs.Forms.{Formed, formed, reformed}

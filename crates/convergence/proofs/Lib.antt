@@ -1,5 +1,3 @@
-pub mod Tests
-pub mod Members
 pub mod Identifiers
 pub mod Ranges
 pub mod Extract

@@ -16,15 +16,12 @@ use Rattle.woot.specs.declared.Character.{Character}
 use Rattle.woot.specs.Identifiers.{begin, end, same}
 use Rattle.woot.specs.Limits.{lastSite, lastClock}
 use Rattle.woot.specs.Ranges.{within, siteNumber, characterId}
-use Rattle.woot.specs.Lists.{any}
+use Rattle.lists.specs.Lists.{any}
 use Rattle.woot.specs.Placing.{identifiers, sequence, indexOf, placeOf, held, above, insertAt}
-use Rattle.convergence.proofs.Tests.{either, clash, and-left, and-right, and-intro, or-cases, or-left, or-right, or-false-left, or-false-right}
-use Rattle.convergence.proofs.Members.{any-member, member-any, any-append}
+use Rattle.lists.proofs.Tests.{side, either, clash, and-left, and-right, and-intro, or-cases, or-left, or-right, or-false-left, or-false-right}
+use Rattle.lists.proofs.Members.{any-member, member-any, any-append}
 use Rattle.convergence.proofs.Identifiers.{same-refl, same-eq, ne-same}
 use Rattle.convergence.proofs.Insertion.{put, put-any, put-append, insert-map}
-
-pub side : (a b : ℕ) → (a ≤ b) ⊎ (b < a)
-side a b = ⊎-elim (λ e. inl (leb-true a b e)) (λ e. inr (leb-false a b e)) (either (leb a b))
 
 -- an index into a list, once an element is put in after the first k
 abbrev pub shift : ℕ → ℕ → ℕ

@@ -12,11 +12,11 @@ use lib.Dec.{leb, ltb}
 use Rattle.woot.specs.declared.Identifier.{Identifier}
 use Rattle.woot.specs.declared.Character.{Character}
 use Rattle.woot.specs.Identifiers.{below}
-use Rattle.woot.specs.Lists.{keep}
+use Rattle.lists.specs.Lists.{keep}
 use Rattle.convergence.specs.Theorems.{PlacingRecurs}
 use Rattle.woot.specs.Placing.{placeOf, Interval, Located, located, adjacent, candidate, candidates, narrowed, search, position}
-use Rattle.convergence.proofs.Tests.{either, and-left, and-right, and-intro}
-use Rattle.convergence.proofs.Members.{keep-member}
+use Rattle.lists.proofs.Tests.{either, and-left, and-right, and-intro}
+use Rattle.lists.proofs.Members.{keep-member}
 
 -- what the test for candidates says: strictly between the ends, with both neighbours outside
 pub record Candidate (cs : List Character) (v : Interval) (l : Located) : Type 0 where

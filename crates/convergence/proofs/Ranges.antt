@@ -11,7 +11,7 @@ use Rattle.woot.specs.declared.Site.{Site}
 use Rattle.woot.specs.Limits.{lastSite, lastClock}
 use Rattle.woot.specs.Identifiers.{same}
 use Rattle.woot.specs.Ranges.{within, siteNumber, codePoint, characterId, previousId, nextId, insertInRange}
-use Rattle.convergence.proofs.Tests.{and-left, and-right, and-intro, four}
+use Rattle.lists.proofs.Tests.{and-left, and-right, and-intro, four}
 
 pub within-low : (low high n : ℕ) → within low high n ≡ true → low ≤ n
 unfolding within

@@ -18,9 +18,9 @@ use Rattle.woot.specs.State.{pendingSlots}
 use Rattle.woot.specs.Pending.{sentBy, pendingFrom}
 use Rattle.woot.specs.Form.{numbers}
 use Rattle.convergence.specs.Theorems.{PendingFit}
-use Rattle.woot.specs.Lists.{every}
-use Rattle.convergence.proofs.Tests.{either, and-left, and-right}
-use Rattle.convergence.proofs.Members.{every-member}
+use Rattle.lists.specs.Lists.{every}
+use Rattle.lists.proofs.Tests.{either, and-left, and-right}
+use Rattle.lists.proofs.Members.{every-member}
 use Rattle.convergence.proofs.Ranges.{within-low, within-high, in-range}
 use Rattle.convergence.proofs.Forms.{Sound, formed}
 

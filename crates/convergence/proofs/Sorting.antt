@@ -13,10 +13,11 @@ use Rattle.woot.specs.Identifiers.{below}
 use Rattle.woot.specs.Operations.{character, origin}
 use Rattle.woot.specs.Placing.{placeOf, held, above, Interval, Located, located, candidate, candidates, between, integrateDelete}
 use Rattle.convergence.specs.Agreement.{Standing, Concurrent, Sorted}
-use Rattle.convergence.proofs.Tests.{fails}
+use Rattle.lists.proofs.Tests.{fails}
 use Rattle.convergence.proofs.Identifiers.{same-ne, below-irrefl, below-trans, below-asym, below-total}
-use Rattle.convergence.proofs.Members.{keep-member}
-use Rattle.convergence.proofs.Places.{side, held-id, above-place, above-lower, above-upper, place-above, place-injective, held-apart}
+use Rattle.lists.proofs.Members.{keep-member}
+use Rattle.convergence.proofs.Places.{held-id, above-place, above-lower, above-upper, place-above, place-injective, held-apart}
+use Rattle.lists.proofs.Tests.{side}
 use Rattle.convergence.proofs.Characters.{located-member, located-place}
 use Rattle.convergence.proofs.Deletion.{delete-place, delete-each}
 use Rattle.convergence.proofs.Placing.{candidates-are, Narrowing, adjacent-is, Placed, arrived, narrows, placed}

@@ -23,9 +23,9 @@ use Rattle.woot.specs.Placing.{above, held, identifiers, insertAt, integrateIns
 use Rattle.woot.specs.Pending.{executable, crossed, unplaceable, pendingFrom}
 use Rattle.woot.specs.Form.{numbers, ordered}
 use Rattle.convergence.specs.Agreement.{Standing}
-use Rattle.woot.specs.Lists.{any, every, keep, distinct}
-use Rattle.convergence.proofs.Tests.{either, and-left, and-right, and-intro, or-right, or-false, or-false-left, or-false-right, not-intro}
-use Rattle.convergence.proofs.Members.{every-member, member-every}
+use Rattle.lists.specs.Lists.{any, every, keep, distinct}
+use Rattle.lists.proofs.Tests.{either, and-left, and-right, and-intro, or-right, or-false, or-false-left, or-false-right, not-intro}
+use Rattle.lists.proofs.Members.{every-member, member-every}
 use Rattle.convergence.proofs.Identifiers.{same-sym, ne-same}
 use Rattle.convergence.proofs.Places.{held-parts, held-insert}
 use Rattle.convergence.proofs.Deletion.{delete-length, delete-identifiers}

@@ -16,14 +16,15 @@ use Rattle.woot.specs.declared.Character.{Character}
 use Rattle.woot.specs.Identifiers.{same}
 use Rattle.woot.specs.Operations.{character, origin}
 use Rattle.woot.specs.Ranges.{insertInRange, characterInRange}
-use Rattle.woot.specs.Lists.{distinct, missing}
+use Rattle.lists.specs.Lists.{distinct, missing}
 use Rattle.woot.specs.Placing.{identifiers, placeOf, held, above, position, between, insertAt, integrateInsert, integrateDelete}
 use Rattle.woot.specs.Pending.{executable, crossed, unplaceable}
 use Rattle.convergence.specs.Agreement.{Standing}
-use Rattle.convergence.proofs.Tests.{clash, or-left, or-right, and-false}
+use Rattle.lists.proofs.Tests.{clash, or-left, or-right, and-false}
 use Rattle.convergence.proofs.Identifiers.{same-refl}
 use Rattle.convergence.proofs.Insertion.{insert-member, insert-distinct}
-use Rattle.convergence.proofs.Places.{shift, shift-before, shift-behind, side, held-place, above-place, above-lower, above-upper, place-above, held-apart, held-insert, not-held, place-insert-old, place-insert-new, above-insert}
+use Rattle.convergence.proofs.Places.{shift, shift-before, shift-behind, held-place, above-place, above-lower, above-upper, place-above, held-apart, held-insert, not-held, place-insert-old, place-insert-new, above-insert}
+use Rattle.lists.proofs.Tests.{side}
 use Rattle.convergence.proofs.Deletion.{delete-identifiers, delete-above, delete-each}
 use Rattle.convergence.proofs.Placing.{position-within}
 

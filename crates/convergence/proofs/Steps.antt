@@ -33,9 +33,9 @@ use Rattle.woot.specs.Form.{known, wellFormed}
 use Rattle.woot.specs.Answers.{Check, first, answerOf}
 use Rattle.woot.specs.Calls.{Outcome, unchanged, decided, afterDrain, insertCarried, duplicate, conflicting, senderFull, documentFull, receiveChecks, carryOut, defer, accept, receiveWhen, receive, visibles, nextIdentifier, generatedInsert, beyondVisible, taken, insertChecks, advanced, sendInsert, localInsertWhen, localInsert, notVisible, deleteChecks, generatedDelete, sendDelete, localDeleteWhen, localDelete}
 use Rattle.woot.specs.Histories.{Call, inserting, deleting, receiving, withAnswer, outcome}
-use Rattle.woot.specs.Lists.{any}
-use Rattle.convergence.proofs.Tests.{clash, and-left, and-intro, and-false, or-left, or-right, or-false, or-false-left, or-false-right, not-intro, fails}
-use Rattle.convergence.proofs.Members.{any-none, none-any}
+use Rattle.lists.specs.Lists.{any}
+use Rattle.lists.proofs.Tests.{clash, and-left, and-intro, and-false, or-left, or-right, or-false, or-false-left, or-false-right, not-intro, fails}
+use Rattle.lists.proofs.Members.{any-none, none-any}
 use Rattle.convergence.proofs.Forms.{Formed, formed, pendingIds, known-ids, known-length}
 use Rattle.convergence.specs.Agreement.{Standing}
 use Rattle.convergence.proofs.Identifiers.{eq-same, ne-same}

@@ -9,7 +9,7 @@ use Rattle.woot.specs.Identifiers.{same, below}
 use Rattle.woot.specs.Operations.{origin}
 use Rattle.woot.specs.Ranges.{characterInRange}
 use Rattle.woot.specs.Placing.{identifiers, above}
-use Rattle.woot.specs.Lists.{distinct}
+use Rattle.lists.specs.Lists.{distinct}
 
 -- each character stands between its neighbours, under an identifier of its own
 pub record Standing (cs : List Character) : Type 0 where

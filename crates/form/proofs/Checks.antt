@@ -12,7 +12,7 @@ use Rattle.woot.specs.declared.Pending.{Pending}
 use Rattle.woot.specs.declared.Replica.{Replica}
 use Rattle.woot.specs.State.{State, meaning, counted, characterSlots, pendingSlots}
 use Rattle.woot.specs.Form.{allInRange, wellFormed, replicaWellFormed}
-use Rattle.convergence.proofs.Tests.{either, and-left, and-right, and-false}
+use Rattle.lists.proofs.Tests.{either, and-left, and-right, and-false}
 use Rattle.form.specs.declared.index.Index.{Index}
 use Rattle.form.specs.declared.queue.Queue.{Queue}
 use Rattle.form.specs.declared.Checked.{Checked}

@@ -16,15 +16,15 @@ use Rattle.woot.specs.declared.Operation.the-variants.{Insert as insert, Delete
 use Rattle.woot.specs.declared.Character.{Character}
 use Rattle.woot.specs.Identifiers.{begin, end, same}
 use Rattle.woot.specs.Limits.{lastSite, share}
-use Rattle.woot.specs.Lists.{any, every, distinct}
+use Rattle.lists.specs.Lists.{any, every, distinct}
 use Rattle.woot.specs.Operations.{sender, origin, inserts, deletes, sameDelete}
 use Rattle.woot.specs.Placing.{identifiers, sequence, placeOf, held, above}
 use Rattle.woot.specs.Ranges.{siteInRange, characterId, characterInRange, inRange}
 use Rattle.woot.specs.State.{State, blankCharacter, blankPending}
 use Rattle.woot.specs.Pending.{executable}
 use Rattle.woot.specs.Form.{numbers, wellFormed, allInRange, sharesKept, capacityKept, identifiersDistinct, deletesDistinct, ordered, neighboursOrdered, noneExecutable}
-use Rattle.convergence.proofs.Tests.{agree, three, and-left, and-right, and-intro, not-intro}
-use Rattle.convergence.proofs.Members.{any-append, every-member}
+use Rattle.lists.proofs.Tests.{agree, three, and-left, and-right, and-intro, not-intro}
+use Rattle.lists.proofs.Members.{any-append, every-member}
 use Rattle.convergence.proofs.Identifiers.{same-sym}
 use Rattle.convergence.proofs.Extract.{Extract, extract-last, extract-map, distinct-extract, extract-distinct}
 use Rattle.convergence.proofs.Ranges.{in-range, character-site}

@@ -4,11 +4,12 @@ use mathlib.Core.Path.{_≡_, _∙_}
 use mathlib.Core.List.{List, map}
 use lib.ListN.{length, take, length-map}
 use Rattle.woot.specs.declared.Character.{Character}
-use Rattle.woot.specs.State.{characterSlots, pad}
+use Rattle.woot.specs.State.{characterSlots}
+use Rattle.lists.specs.Padding.{pad}
 use Rattle.woot.specs.Placing.{placeOf}
 use Rattle.order.specs.Keys.{key, keys}
 use Rattle.order.specs.Packing.{previousPlaces, nextPlaces}
-use Rattle.order.proofs.Packing.{pad-take}
+use Rattle.lists.proofs.Padding.{pad-take}
 use Rattle.form.specs.declared.index.Index.{Index}
 use Rattle.form.specs.Index.{indexOf}
 

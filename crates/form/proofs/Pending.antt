@@ -17,13 +17,13 @@ use Rattle.woot.specs.declared.Delete.{Delete}
 use Rattle.woot.specs.declared.Operation.{Operation}
 use Rattle.woot.specs.declared.Operation.the-variants.{Insert as insert, Delete as delete}
 use Rattle.woot.specs.Identifiers.{same}
-use Rattle.woot.specs.Lists.{any, every, keep}
+use Rattle.lists.specs.Lists.{any, every, keep}
 use Rattle.woot.specs.Operations.{sender, character, origin, inserts, sameDelete, sameOperation}
 use Rattle.woot.specs.Pending.{sentBy, pendingFrom, earliest, behind}
 use Rattle.woot.specs.Ranges.{inRange, deleteInRange, characterInRange, characterId, siteNumber}
-use Rattle.convergence.proofs.Tests.{and-right, either, or-false-left, or-false-right}
+use Rattle.lists.proofs.Tests.{and-right, either, or-false-left, or-false-right}
 use Rattle.convergence.proofs.Identifiers.{same-eq, same-ne, eq-same}
-use Rattle.convergence.proofs.Members.{member-any, every-member, keep-map}
+use Rattle.lists.proofs.Members.{member-any, every-member, keep-map}
 use Rattle.convergence.proofs.Ranges.{in-range, character-site}
 use Rattle.order.specs.Keys.{key, Small, indexIn}
 use Rattle.order.proofs.Keys.{key-same, key-injective, character-small, range-small}

@@ -8,8 +8,9 @@ use lib.ListN.{length, take, getD, set, replicate, length-map}
 use Rattle.woot.specs.declared.Operation.{Operation}
 use Rattle.woot.specs.declared.Pending.{Pending}
 use Rattle.woot.specs.Operations.{sender}
-use Rattle.woot.specs.State.{pendingSlots, pad, waiting}
-use Rattle.order.proofs.Packing.{pad-none, pad-length, pad-map, pad-take}
+use Rattle.woot.specs.State.{pendingSlots, waiting}
+use Rattle.lists.specs.Padding.{pad}
+use Rattle.lists.proofs.Padding.{pad-none, pad-length, pad-map, pad-take}
 use Rattle.form.specs.declared.queue.Queue.{Queue}
 use Rattle.form.specs.declared.queue.Entry.{Entry}
 use Rattle.arrays.specs.Edit.{removed}

@@ -9,7 +9,7 @@ use borrow.Author.Tests.{lt-ltb, le-ltb, ltb-true, ltb-false}
 use lib.Dec.{eqb, ltb}
 use lib.ListN.{length, drop, getD, drop-of-length-le, length-drop}
 use lib.Seq.{drop-cons}
-use Rattle.woot.specs.Lists.{keep}
+use Rattle.lists.specs.Lists.{keep}
 use Rattle.order.specs.Keys.{indexIn}
 use Rattle.order.proofs.Indices.{index-here, index-later}
 use Rattle.order.specs.declared.Found.the-variants.{At, Nothing}

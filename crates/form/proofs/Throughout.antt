@@ -9,11 +9,11 @@ use mathlib.Core.List.{List, [], _∷_, _++_, map, List·Memᴰ, List·Memᴰ·h
 use mathlib.Core.Logic.{⊎-elim}
 use lib.ListN.{length, take, getD}
 use lib.Seq.{take-suc, take-length}
-use Rattle.woot.specs.Lists.{every, keep}
+use Rattle.lists.specs.Lists.{every, keep}
 use Rattle.woot.specs.Form.{numbers}
-use Rattle.convergence.proofs.Tests.{and-intro}
-use Rattle.convergence.proofs.Members.{every-append}
-use Rattle.convergence.proofs.Places.{side}
+use Rattle.lists.proofs.Tests.{and-intro}
+use Rattle.lists.proofs.Members.{every-append}
+use Rattle.lists.proofs.Tests.{side}
 use Rattle.form.specs.Form.{throughout}
 
 module _ (p : ℕ → Bool) where

@@ -6,7 +6,7 @@ use lib.Dec.{leb, ltb, eqb}
 use lib.ListN.{length, take, getD}
 use Rattle.woot.specs.declared.Replica.{Replica}
 use Rattle.woot.specs.Limits.{lastSite, capacity, share}
-use Rattle.woot.specs.Lists.{every, keep}
+use Rattle.lists.specs.Lists.{every, keep}
 use Rattle.woot.specs.State.{State, meaning, counted}
 use Rattle.woot.specs.Form.{numbers, allInRange, replicaWellFormed}
 use Rattle.order.specs.declared.Found.{Found}

@@ -1,7 +1,8 @@
 -- What is looked up in place of the characters: their keys, and where their neighbours stand.
 use mathlib.Core.List.{List}
 use Rattle.woot.specs.declared.Character.{Character}
-use Rattle.woot.specs.State.{characterSlots, pad}
+use Rattle.woot.specs.State.{characterSlots}
+use Rattle.lists.specs.Padding.{pad}
 use Rattle.order.specs.Keys.{keys}
 use Rattle.order.specs.Packing.{previousPlaces, nextPlaces}
 use Rattle.form.specs.declared.index.Index.{Index}

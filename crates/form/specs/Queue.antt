@@ -8,7 +8,8 @@ use Rattle.woot.specs.declared.Operation.{Operation}
 use Rattle.woot.specs.declared.Operation.the-variants.{Insert as insert, Delete as delete}
 use Rattle.woot.specs.declared.Pending.{Pending}
 use Rattle.woot.specs.Operations.{sender}
-use Rattle.woot.specs.State.{pendingSlots, pad}
+use Rattle.woot.specs.State.{pendingSlots}
+use Rattle.lists.specs.Padding.{pad}
 use Rattle.order.specs.Keys.{key, indexIn}
 use Rattle.form.specs.declared.queue.Entry.{Entry}
 use Rattle.form.specs.declared.queue.Queue.{Queue}

@@ -13,7 +13,7 @@ use woot::Replica;
 ghost use mathlib.Core.Path.{_≡_};
 ghost use Prim.Native.Nat.{_≤_, _<_};
 ghost use lib.ListN.{length, take};
-ghost use Rattle.woot.specs.Lists.{every};
+ghost use Rattle.lists.specs.Lists.{every};
 ghost use Rattle.woot.specs.Ranges.{characterInRange, inRange};
 ghost use Rattle.form.specs.Queue.{operations};
 ghost use Rattle.form.specs.Form.{sharesIn, keysDistinct, unheldKey, keysNew, freshAt, noneRepeated, placesOrdered, noneReady, charactersFormed, pendingFormed, rangesKept, unformed, checked};

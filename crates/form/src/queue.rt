@@ -6,7 +6,7 @@ ghost use mathlib.Core.Path.{_≡_};
 ghost use mathlib.Core.Bool.{not, _&&_};
 ghost use lib.Dec.{eqb};
 ghost use lib.ListN.{length, take};
-ghost use Rattle.woot.specs.Lists.{keep};
+ghost use Rattle.lists.specs.Lists.{keep};
 ghost use Rattle.form.specs.Queue.{operations, entryOf, packed, found, hasDelete};
 
 // A pending operation as numbers: of an insert its own key, its previous's and its next's, of a delete 0, its target's key

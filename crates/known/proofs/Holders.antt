@@ -10,7 +10,7 @@ use Rattle.woot.specs.declared.Identifier.{Identifier}
 use Rattle.woot.specs.declared.Operation.{Operation}
 use Rattle.woot.specs.declared.Character.{Character}
 use Rattle.woot.specs.Identifiers.{same}
-use Rattle.woot.specs.Lists.{any}
+use Rattle.lists.specs.Lists.{any}
 use Rattle.woot.specs.Operations.{inserts}
 use Rattle.woot.specs.Placing.{identifiers, indexOf}
 use Rattle.convergence.proofs.Places.{index-any, index-member}

@@ -7,7 +7,7 @@ ghost use Prim.Native.Nat.{_+_};
 ghost use lib.Dec.{leb, eqb};
 ghost use lib.ListN.{length, take};
 ghost use Rattle.woot.specs.Limits.{capacity, share};
-ghost use Rattle.woot.specs.Lists.{keep};
+ghost use Rattle.lists.specs.Lists.{keep};
 
 // Whether the sender has its full share among the first w pending operations.
 pub fn sender_full(q: Queue, w: usize, sender: u8) -> bool

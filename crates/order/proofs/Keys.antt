@@ -13,7 +13,7 @@ use Rattle.woot.specs.Identifiers.{begin, end, same, below}
 use Rattle.woot.specs.Limits.{lastClock}
 use Rattle.woot.specs.Operations.{origin}
 use Rattle.woot.specs.Ranges.{siteNumber, characterId, previousId, nextId, characterInRange}
-use Rattle.convergence.proofs.Tests.{agree, and-left, and-right, and-intro, or-cases, or-left, or-right, either}
+use Rattle.lists.proofs.Tests.{agree, and-left, and-right, and-intro, or-cases, or-left, or-right, either}
 use Rattle.convergence.proofs.Identifiers.{identifier-path, same-eq, eq-same}
 use Rattle.convergence.proofs.Ranges.{within-high, in-range}
 use Rattle.order.specs.Keys.{key, Small, SmallParts, AllSmall}

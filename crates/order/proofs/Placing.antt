@@ -10,9 +10,9 @@ use lib.Dec.{leb, ltb}
 use Rattle.woot.specs.declared.Identifier.{Identifier}
 use Rattle.woot.specs.declared.Character.{Character}
 use Rattle.woot.specs.Identifiers.{below}
-use Rattle.woot.specs.Lists.{keep}
+use Rattle.lists.specs.Lists.{keep}
 use Rattle.woot.specs.Placing.{Interval as Between, Located, located, placeOf, adjacent, candidate, candidates, narrowed, search, position}
-use Rattle.convergence.proofs.Tests.{either, agree}
+use Rattle.lists.proofs.Tests.{either, agree}
 use Rattle.convergence.proofs.Placing.{narrowing}
 use Rattle.order.specs.declared.Interval.{Interval}
 use Rattle.order.specs.Keys.{key, Small, AllSmall, keys}

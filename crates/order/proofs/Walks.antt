@@ -11,7 +11,7 @@ use borrow.Author.Tests.{lt-ltb, le-ltb}
 use lib.Dec.{ltb}
 use lib.ListN.{length, drop, getD, drop-of-length-le}
 use lib.Seq.{drop-cons}
-use Rattle.convergence.proofs.Places.{side}
+use Rattle.lists.proofs.Tests.{side}
 use Rattle.order.specs.declared.Interval.{Interval}
 use Rattle.order.specs.Passes.{Entry, entries, outside, candidateIn, walkIn, passIn}
 

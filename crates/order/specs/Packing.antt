@@ -3,7 +3,8 @@ use Prim.Native.Nat.{ℕ}
 use mathlib.Core.List.{List, map}
 use lib.ListN.{take}
 use Rattle.woot.specs.declared.Character.{Character}
-use Rattle.woot.specs.State.{characterSlots, pad}
+use Rattle.woot.specs.State.{characterSlots}
+use Rattle.lists.specs.Padding.{pad}
 use Rattle.woot.specs.Placing.{placeOf}
 use Rattle.order.specs.declared.Packed.{Packed}
 use Rattle.order.specs.Keys.{keys, previousKeys, nextKeys, placeIn}

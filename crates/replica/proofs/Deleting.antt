@@ -12,7 +12,7 @@ use Rattle.woot.specs.declared.Character.{Character}
 use Rattle.woot.specs.declared.Replica.{Replica}
 use Rattle.woot.specs.declared.Answer.the-variants.{Done, Duplicate}
 use Rattle.woot.specs.Identifiers.{same}
-use Rattle.woot.specs.Lists.{any}
+use Rattle.lists.specs.Lists.{any}
 use Rattle.woot.specs.Operations.{sameDelete, sameOperation}
 use Rattle.woot.specs.Ranges.{siteNumber, characterId, deleteInRange, inRange}
 use Rattle.woot.specs.State.{meaning, stored}
@@ -20,8 +20,8 @@ use Rattle.woot.specs.Placing.{held, integrateDelete}
 use Rattle.woot.specs.Pending.{executable, crossed, unplaceable}
 use Rattle.woot.specs.Form.{replicaWellFormed}
 use Rattle.woot.specs.Calls.{withCharacters, duplicate, conflicting, senderFull, documentFull}
-use Rattle.convergence.proofs.Tests.{and-right, fails, clash}
-use Rattle.convergence.proofs.Members.{any-none, none-any}
+use Rattle.lists.proofs.Tests.{and-right, fails, clash}
+use Rattle.lists.proofs.Members.{any-none, none-any}
 use Rattle.convergence.proofs.Identifiers.{same-eq}
 use Rattle.convergence.proofs.Places.{held-id}
 use Rattle.convergence.proofs.Soundness.{standing, unheld}

@@ -13,15 +13,15 @@ use Rattle.woot.specs.declared.Character.{Character}
 use Rattle.woot.specs.declared.Pending.{Pending}
 use Rattle.woot.specs.declared.Replica.{Replica}
 use Rattle.woot.specs.Identifiers.{same}
-use Rattle.woot.specs.Lists.{any}
+use Rattle.lists.specs.Lists.{any}
 use Rattle.woot.specs.Operations.{sender, origin, inserts}
 use Rattle.woot.specs.Ranges.{characterId, insertInRange, characterInRange}
 use Rattle.woot.specs.State.{blankCharacter, meaning}
 use Rattle.woot.specs.Placing.{identifiers}
 use Rattle.woot.specs.Form.{known, replicaWellFormed}
-use Rattle.convergence.proofs.Members.{member-any, any-append, every-member}
+use Rattle.lists.proofs.Members.{member-any, any-append, every-member}
 use Rattle.convergence.proofs.Identifiers.{eq-same}
-use Rattle.convergence.proofs.Tests.{or-false}
+use Rattle.lists.proofs.Tests.{or-false}
 use Rattle.convergence.proofs.Forms.{Formed, formed, known-ids}
 use Rattle.convergence.proofs.Steps.{any-map}
 use Rattle.convergence.proofs.Ranges.{in-range}

@@ -20,7 +20,7 @@ use Rattle.woot.specs.Placing.{integrateInsert, integrateDelete}
 use Rattle.woot.specs.Pending.{unplaceable}
 use Rattle.woot.specs.Form.{known, replicaWellFormed}
 use Rattle.woot.specs.Calls.{visibles, withCharacters, afterDrain, insertCarried, documentFull, advanced, beyondVisible, notVisible, generatedDelete}
-use Rattle.convergence.proofs.Tests.{clash}
+use Rattle.lists.proofs.Tests.{clash}
 use Rattle.convergence.proofs.Steps.{space-insert}
 use Rattle.replica.specs.declared.work.Work.{Work}
 use Rattle.replica.specs.declared.placing.Placement.the-variants.{Missing, Crossed, Unplaceable, Below}

@@ -9,13 +9,13 @@ use Rattle.woot.specs.declared.Insert.{Insert}
 use Rattle.woot.specs.declared.Operation.{Operation}
 use Rattle.woot.specs.declared.Operation.the-variants.{Insert as insert, Delete as delete}
 use Rattle.woot.specs.Identifiers.{same}
-use Rattle.woot.specs.Lists.{any, distinct}
+use Rattle.lists.specs.Lists.{any, distinct}
 use Rattle.woot.specs.Operations.{origin, inserts, sameInsert, sameOperation}
 use Rattle.woot.specs.State.{State}
 use Rattle.woot.specs.Form.{known}
 use Rattle.woot.specs.Calls.{duplicate, conflicting}
-use Rattle.convergence.proofs.Tests.{either, and-left, and-right, or-false-left, or-false-right}
-use Rattle.convergence.proofs.Members.{any-none, any-append}
+use Rattle.lists.proofs.Tests.{either, and-left, and-right, or-false-left, or-false-right}
+use Rattle.lists.proofs.Members.{any-none, any-append}
 use Rattle.convergence.proofs.Identifiers.{eq-same, same-sym}
 use Rattle.convergence.proofs.Forms.{Formed, known-ids}
 use Rattle.convergence.proofs.Steps.{any-map}

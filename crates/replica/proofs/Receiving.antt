@@ -17,7 +17,7 @@ use Rattle.woot.specs.declared.Answer.the-variants.{Done, Deferred, Refused}
 use Rattle.woot.specs.declared.Receipt.{Receipt}
 use Rattle.woot.specs.declared.Site.{Site}
 use Rattle.woot.specs.Limits.{capacity, share}
-use Rattle.woot.specs.Lists.{keep}
+use Rattle.lists.specs.Lists.{keep}
 use Rattle.woot.specs.Operations.{sender, inserts}
 use Rattle.woot.specs.Ranges.{inRange}
 use Rattle.woot.specs.State.{State, meaning, stored}

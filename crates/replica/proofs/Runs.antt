@@ -17,12 +17,13 @@ use Rattle.woot.specs.declared.Answer.{Answer}
 use Rattle.woot.specs.declared.Answer.the-variants.{Done, Deferred, Duplicate, Refused}
 use Rattle.woot.specs.declared.Sent.{Sent}
 use Rattle.woot.specs.declared.Sent.the-variants.{Done as sentDone, Refused as sentRefused}
-use Rattle.woot.specs.State.{State, initial, characterSlots, pendingSlots, waiting, blankCharacter, blankPending, pad, meaning, documentOf, stored, counted}
+use Rattle.woot.specs.State.{State, initial, characterSlots, pendingSlots, waiting, blankCharacter, blankPending, meaning, documentOf, stored, counted}
+use Rattle.lists.specs.Padding.{pad}
 use Rattle.woot.specs.Form.{wellFormed, replicaWellFormed}
 use Rattle.woot.specs.Answers.{answerOf}
 use Rattle.woot.specs.Calls.{Outcome, unchanged, receive, localInsert, localDelete}
 use Rattle.woot.specs.Histories.{Call, inserting, deleting, receiving, outcome, run}
-use Rattle.convergence.proofs.Tests.{either, clash}
+use Rattle.lists.proofs.Tests.{either, clash}
 use Rattle.convergence.proofs.Forms.{formed, reformed}
 use Rattle.convergence.proofs.Shares.{pending-bound}
 use Rattle.convergence.proofs.Steps.{Step, turned, adds, removes, defers, step}

@@ -15,7 +15,7 @@ use Rattle.woot.specs.declared.Pending.{Pending}
 use Rattle.woot.specs.Operations.{inserts}
 use Rattle.woot.specs.State.{blankPending}
 use Rattle.woot.specs.Pending.{executable, crossed, unplaceable, integrate, Taken, earliest, andIntegrated, andDiscarded, drained}
-use Rattle.convergence.proofs.Tests.{or-false-left, or-false-right}
+use Rattle.lists.proofs.Tests.{or-false-left, or-false-right}
 use Rattle.convergence.proofs.Extract.{Extract, extract-length}
 use Rattle.convergence.proofs.Forms.{Sound}
 use Rattle.convergence.proofs.Soundness.{inserts-extract, sound-out}

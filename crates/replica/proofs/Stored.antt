@@ -17,11 +17,12 @@ use Rattle.woot.specs.declared.Character.{Character}
 use Rattle.woot.specs.declared.Pending.{Pending}
 use Rattle.woot.specs.declared.Document.{Document}
 use Rattle.woot.specs.declared.Replica.{Replica}
-use Rattle.woot.specs.State.{characterSlots, pendingSlots, pad, waiting, blankCharacter, blankPending, meaning, documentOf, stored, counted}
+use Rattle.woot.specs.State.{characterSlots, pendingSlots, waiting, blankCharacter, blankPending, meaning, documentOf, stored, counted}
+use Rattle.lists.specs.Padding.{pad}
 use Rattle.woot.specs.Placing.{insertAt, integrateDelete}
 use Rattle.woot.specs.Pending.{drain}
 use Rattle.woot.specs.Form.{wellFormed, replicaWellFormed}
-use Rattle.convergence.proofs.Tests.{and-left, and-right}
+use Rattle.lists.proofs.Tests.{and-left, and-right}
 use Rattle.convergence.proofs.Deletion.{delete-length}
 use Rattle.convergence.proofs.Forms.{Sound}
 use Rattle.convergence.proofs.Shares.{pending-bound}

@@ -14,14 +14,15 @@ use Rattle.woot.specs.declared.Operation.the-variants.{Insert as insert, Delete
 use Rattle.woot.specs.declared.Character.{Character}
 use Rattle.woot.specs.declared.Pending.{Pending}
 use Rattle.woot.specs.declared.Document.{Document}
-use Rattle.woot.specs.State.{characterSlots, pendingSlots, waiting, blankCharacter, blankPending, pad, documentOf}
+use Rattle.woot.specs.State.{characterSlots, pendingSlots, waiting, blankCharacter, blankPending, documentOf}
+use Rattle.lists.specs.Padding.{pad}
 use Rattle.woot.specs.Operations.{character}
 use Rattle.woot.specs.Placing.{insertAt, integrateDelete}
 use Rattle.woot.specs.Pending.{executable, crossed, unplaceable, integrate}
-use Rattle.convergence.proofs.Tests.{clash, or-left, or-right, or-false}
+use Rattle.lists.proofs.Tests.{clash, or-left, or-right, or-false}
 use Rattle.convergence.proofs.Extract.{extract-length}
 use Rattle.convergence.proofs.Soundness.{insert-extract}
-use Rattle.order.proofs.Packing.{pad-take}
+use Rattle.lists.proofs.Padding.{pad-take}
 use Rattle.replica.specs.declared.placing.Placement.{Placement}
 use Rattle.replica.specs.declared.placing.Placement.the-variants.{Missing, Crossed, Unplaceable, Below}
 use Rattle.replica.specs.declared.work.Work.{Work}

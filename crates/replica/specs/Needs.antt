@@ -8,7 +8,7 @@ use Rattle.woot.specs.declared.Delete.{Delete}
 use Rattle.woot.specs.declared.Operation.{Operation}
 use Rattle.woot.specs.declared.Replica.{Replica}
 use Rattle.woot.specs.Limits.{lastClock, capacity}
-use Rattle.woot.specs.Lists.{any}
+use Rattle.lists.specs.Lists.{any}
 use Rattle.woot.specs.Identifiers.{same}
 use Rattle.woot.specs.Operations.{character}
 use Rattle.woot.specs.Ranges.{deleteInRange, inRange}

@@ -10,7 +10,7 @@ use Rattle.woot.specs.declared.Operation.{Operation}
 use Rattle.woot.specs.declared.Operation.the-variants.{Insert as insert}
 use Rattle.woot.specs.declared.Character.{Character}
 use Rattle.woot.specs.declared.Document.{Document}
-use Rattle.woot.specs.Lists.{every}
+use Rattle.lists.specs.Lists.{every}
 use Rattle.woot.specs.Operations.{inserts}
 use Rattle.woot.specs.Ranges.{characterInRange}
 use Rattle.woot.specs.State.{State, documentOf}

@@ -21,7 +21,7 @@ ghost use Prim.Native.Nat.{_<_};
 ghost use Rattle.woot.specs.declared.Sent.the-variants.{Refused as sentRefused};
 ghost use Rattle.woot.specs.Limits.{lastClock};
 ghost use Rattle.woot.specs.Identifiers.{same};
-ghost use Rattle.woot.specs.Lists.{any};
+ghost use Rattle.lists.specs.Lists.{any};
 ghost use Rattle.woot.specs.Ranges.{codePoint, characterId};
 ghost use Rattle.woot.specs.State.{meaning};
 ghost use Rattle.woot.specs.Form.{known, replicaWellFormed};

@@ -3,7 +3,8 @@ use mathlib.Core.Path.{refl}
 use Rattle.woot.specs.Identifiers.{same, below}
 use Rattle.woot.specs.Operations.{sender, character, origin, hidden, sameInsert, sameDelete, sameOperation}
 use Rattle.woot.specs.Ranges.{within, siteNumber, codePoint, characterId, previousId, nextId, siteInRange, insertInRange, deleteInRange, inRange, characterInRange}
-use Rattle.woot.specs.State.{initial, pad, waiting, blankCharacter, blankPending, meaning, documentOf, stored, counted}
+use Rattle.woot.specs.State.{initial, waiting, blankCharacter, blankPending, meaning, documentOf, stored, counted}
+use Rattle.lists.specs.Padding.{pad}
 use Rattle.woot.specs.Placing.{sequence, indexOf, placeOf, held, above, adjacent, candidate, candidates, narrowed, search, position, between, insertAt, integrateInsert, integrateDelete}
 use Rattle.woot.specs.Pending.{executable, crossed, unplaceable, integrate, pendingFrom, earliest, andIntegrated, andDiscarded, drained, drainSteps, drain}
 use Rattle.woot.specs.Form.{known, allInRange, sharesKept, capacityKept, identifiersDistinct, deletesDistinct, ordered, neighboursOrdered, noneExecutable, wellFormed, replicaWellFormed}

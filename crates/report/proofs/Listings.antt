@@ -8,9 +8,9 @@ use native.Mathlib.Omega.{arith}
 use lib.ListN.{length, take, getD, set, replicate, length-append, length-take}
 use lib.Seq.{take-suc}
 use Rattle.woot.specs.declared.Character.{Character}
-use Rattle.woot.specs.Lists.{keep}
-use Rattle.woot.specs.State.{pad}
-use Rattle.order.proofs.Packing.{pad-length, pad-take, pad-push, take-lesser}
+use Rattle.lists.specs.Lists.{keep}
+use Rattle.lists.specs.Padding.{pad}
+use Rattle.lists.proofs.Padding.{pad-length, pad-take, pad-push, take-lesser}
 use Rattle.report.specs.declared.Listing.{Listing}
 use Rattle.report.specs.Lines.{codePoints, textNumbers, listing}
 use Rattle.report.proofs.Sizes.{points-le}

@@ -13,12 +13,12 @@ use Rattle.woot.specs.declared.Refusal.{Refusal}
 use Rattle.woot.specs.declared.Refusal.the-variants.{Layout, Range, Form, Position, Clock, Taken, Conflict, Crossed, Unplaceable, SenderFull, DocumentFull, Output}
 use Rattle.woot.specs.declared.Answer.the-variants.{Done, Deferred, Duplicate, Refused}
 use Rattle.woot.specs.Answers.{Reply, reply, number}
-use Rattle.woot.specs.Lists.{every}
+use Rattle.lists.specs.Lists.{every}
 use Rattle.woot.specs.Operations.{origin}
 use Rattle.woot.specs.Ranges.{characterInRange}
 use Rattle.woot.specs.State.{meaning, counted}
 use Rattle.woot.specs.Form.{wellFormed, replicaWellFormed}
-use Rattle.convergence.proofs.Tests.{and-left, and-right}
+use Rattle.lists.proofs.Tests.{and-left, and-right}
 use Rattle.convergence.proofs.Forms.{formed}
 use Rattle.decimal.specs.Numeral.{digits}
 use Rattle.decimal.proofs.Laws.{width-by-power, width-le}

@@ -4,8 +4,9 @@ use mathlib.Core.List.{List, [], _∷_, _++_, map}
 use lib.ListN.{length}
 use Rattle.woot.specs.declared.Answer.{Answer}
 use Rattle.woot.specs.declared.Character.{Character}
-use Rattle.woot.specs.Lists.{keep}
-use Rattle.woot.specs.State.{characterSlots, pad}
+use Rattle.lists.specs.Lists.{keep}
+use Rattle.woot.specs.State.{characterSlots}
+use Rattle.lists.specs.Padding.{pad}
 use Rattle.woot.specs.Answers.{Word, done, waits, known, refused, Reply, reply}
 use Rattle.decimal.specs.Numeral.{digits}
 use Rattle.codec.specs.Lines.{tab, lineFeed, columns}

@@ -9,7 +9,7 @@ use borrow.Author.Tests.{leb-true}
 use Rattle.woot.specs.Limits.{lastSite, lastClock}
 use Rattle.woot.specs.Operations.{origin}
 use Rattle.woot.specs.Ranges.{within as inside, siteNumber, siteInRange, characterInRange}
-use Rattle.convergence.proofs.Tests.{and-left, and-right}
+use Rattle.lists.proofs.Tests.{and-left, and-right}
 use Rattle.codec.specs.Numbers.{within}
 use Rattle.codec.specs.Operations.{identifierAt}
 use Rattle.codec.proofs.Numbers.{within-from}

@@ -10,12 +10,13 @@ use lib.ListN.{length, take, getD, set, length-append, length-map}
 use lib.Seq.{take-all, take-nil, take-append-le, append-snoc}
 use Rattle.woot.specs.declared.Character.{Character}
 use Rattle.woot.specs.declared.Pending.{Pending}
-use Rattle.woot.specs.Lists.{every}
+use Rattle.lists.specs.Lists.{every}
 use Rattle.woot.specs.Ranges.{characterInRange, inRange}
-use Rattle.woot.specs.State.{characterSlots, pendingSlots, blankCharacter, blankPending, pad, waiting}
-use Rattle.convergence.proofs.Tests.{either}
-use Rattle.convergence.proofs.Members.{every-append}
-use Rattle.order.proofs.Packing.{pad-push}
+use Rattle.woot.specs.State.{characterSlots, pendingSlots, blankCharacter, blankPending, waiting}
+use Rattle.lists.specs.Padding.{pad}
+use Rattle.lists.proofs.Tests.{either}
+use Rattle.lists.proofs.Members.{every-append}
+use Rattle.lists.proofs.Padding.{pad-push}
 use Rattle.codec.specs.Lines.{isLetter, hasLayout, ended, firstLine, rest}
 use Rattle.codec.specs.Operations.{isInsert, isDelete}
 use Rattle.codec.specs.Calls.{lineLaidOut}

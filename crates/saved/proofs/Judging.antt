@@ -14,8 +14,8 @@ use Rattle.woot.specs.declared.Character.{Character}
 use Rattle.woot.specs.declared.Refusal.{Refusal}
 use Rattle.woot.specs.declared.Refusal.the-variants.{Layout, Range}
 use Rattle.woot.specs.Ranges.{siteInRange, characterInRange, inRange}
-use Rattle.woot.specs.State.{pad}
-use Rattle.convergence.proofs.Tests.{fails, clash, and-left, and-right}
+use Rattle.lists.specs.Padding.{pad}
+use Rattle.lists.proofs.Tests.{fails, clash, and-left, and-right}
 use Rattle.codec.specs.declared.Read.the-variants.{Operation as readsAs, Refused as readRefused}
 use Rattle.codec.specs.declared.fields.Verdict.the-variants.{Malformed, Above, Within}
 use Rattle.codec.specs.declared.fields.Numbers.{Numbers}

@@ -9,7 +9,7 @@ use lib.Dec.{eqb}
 use lib.ListN.{length, drop, getD, length-drop}
 use lib.Seq.{append-snoc, drop-drop}
 use borrow.Author.Tests.{eqb-true}
-use Rattle.convergence.proofs.Tests.{either, clash, passes}
+use Rattle.lists.proofs.Tests.{either, clash, passes}
 use Rattle.codec.specs.Lines.{lineFeed, has, before, after, ended, firstLine, rest, columns, lineOf}
 use Rattle.codec.proofs.Trips.{no-feed}
 use Rattle.saved.specs.Lines.{onLine, lines, last, closed, leading, trailing, joined}

@@ -12,11 +12,12 @@ use borrow.Author.Tests.{leb-true, leb-false}
 use Rattle.woot.specs.declared.Site.{Site}
 use Rattle.woot.specs.declared.Replica.{Replica}
 use Rattle.woot.specs.declared.Refusal.the-variants.{Layout, Range, Form}
-use Rattle.woot.specs.Lists.{every}
+use Rattle.lists.specs.Lists.{every}
 use Rattle.woot.specs.Ranges.{siteInRange, characterInRange, inRange}
-use Rattle.woot.specs.State.{State, characterSlots, pendingSlots, waiting, blankCharacter, blankPending, pad, documentOf, stored, counted}
+use Rattle.woot.specs.State.{State, characterSlots, pendingSlots, waiting, blankCharacter, blankPending, documentOf, stored, counted}
+use Rattle.lists.specs.Padding.{pad}
 use Rattle.woot.specs.Form.{allInRange, wellFormed, replicaWellFormed}
-use Rattle.convergence.proofs.Tests.{clash, fails, and-left, and-right, and-intro}
+use Rattle.lists.proofs.Tests.{clash, fails, and-left, and-right, and-intro}
 use Rattle.codec.specs.Lines.{rest}
 use Rattle.replica.proofs.Runs.{Within, formed-within, form-stored}
 use Rattle.saved.specs.declared.LoadAnswer.the-variants.{Done}

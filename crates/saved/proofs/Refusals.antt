@@ -18,7 +18,7 @@ use Rattle.woot.specs.declared.Written.the-variants.{Length, Refused as written
 use Rattle.woot.specs.State.{State, stored}
 use Rattle.woot.specs.Form.{wellFormed, replicaWellFormed}
 use Rattle.woot.specs.Answers.{first, number}
-use Rattle.convergence.proofs.Tests.{clash}
+use Rattle.lists.proofs.Tests.{clash}
 use Rattle.codec.specs.Calls.{decided}
 use Rattle.codec.proofs.Refusals.{decided-exactly}
 use Rattle.saved.specs.declared.LoadAnswer.{LoadAnswer}

@@ -16,8 +16,8 @@ use Rattle.woot.specs.declared.Refusal.the-variants.{Form, Output}
 use Rattle.woot.specs.declared.Written.the-variants.{Length, Refused}
 use Rattle.woot.specs.State.{characterSlots, pendingSlots, meaning, counted}
 use Rattle.woot.specs.Form.{wellFormed, replicaWellFormed}
-use Rattle.convergence.proofs.Tests.{and-left, and-right}
-use Rattle.order.proofs.Packing.{take-lesser}
+use Rattle.lists.proofs.Tests.{and-left, and-right}
+use Rattle.lists.proofs.Padding.{take-lesser}
 use Rattle.codec.specs.Operations.{operationLine}
 use Rattle.codec.specs.Calls.{decided}
 use Rattle.codec.proofs.Writing.{Run, run-none, run-on}

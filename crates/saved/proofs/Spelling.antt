@@ -12,7 +12,7 @@ use Rattle.woot.specs.declared.Site.{Site}
 use Rattle.woot.specs.declared.Operation.{Operation}
 use Rattle.woot.specs.declared.Operation.the-variants.{Insert as insert, Delete as delete}
 use Rattle.woot.specs.declared.Character.{Character}
-use Rattle.convergence.proofs.Tests.{or-right}
+use Rattle.lists.proofs.Tests.{or-right}
 use Rattle.codec.specs.Lines.{tab, lineFeed, fields, hasLayout, numbers, columns, lineOf}
 use Rattle.codec.specs.Operations.{insertLetter, deleteLetter, insertNumbers, deleteNumbers, identifierAt, insertOf, deleteOf, isInsert, isDelete, said, operationLine}
 use Rattle.codec.specs.Calls.{lineLaidOut}

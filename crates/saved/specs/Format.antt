@@ -11,7 +11,7 @@ use Rattle.woot.specs.declared.Operation.{Operation}
 use Rattle.woot.specs.declared.Character.{Character}
 use Rattle.woot.specs.declared.Pending.{Pending}
 use Rattle.woot.specs.Limits.{lastSite, lastClock, lastCodePoint}
-use Rattle.woot.specs.Lists.{every}
+use Rattle.lists.specs.Lists.{every}
 use Rattle.woot.specs.State.{State}
 use Rattle.woot.specs.Form.{allInRange}
 use Rattle.codec.specs.Lines.{fields, hasLayout, numbers, lineOf}

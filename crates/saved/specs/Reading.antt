@@ -10,9 +10,10 @@ use Rattle.woot.specs.declared.Pending.{Pending}
 use Rattle.woot.specs.declared.Replica.{Replica}
 use Rattle.woot.specs.declared.Refusal.{Refusal}
 use Rattle.woot.specs.declared.Refusal.the-variants.{Form}
-use Rattle.woot.specs.Lists.{every}
+use Rattle.lists.specs.Lists.{every}
 use Rattle.woot.specs.Ranges.{siteInRange, characterInRange, inRange}
-use Rattle.woot.specs.State.{characterSlots, pendingSlots, waiting, blankCharacter, blankPending, pad}
+use Rattle.woot.specs.State.{characterSlots, pendingSlots, waiting, blankCharacter, blankPending}
+use Rattle.lists.specs.Padding.{pad}
 use Rattle.woot.specs.Form.{replicaWellFormed}
 use Rattle.saved.specs.declared.LoadAnswer.the-variants.{Done, Refused}
 use Rattle.saved.specs.declared.Loaded.{Loaded}

@@ -13,11 +13,11 @@ use lib.Seq.{drop-cons, getD-take, length-take-le}
 use Rattle.woot.specs.declared.Character.{Character}
 use Rattle.woot.specs.declared.Refusal.the-variants.{Output}
 use Rattle.woot.specs.declared.Written.the-variants.{Length, Refused}
-use Rattle.woot.specs.Lists.{keep}
+use Rattle.lists.specs.Lists.{keep}
 use Rattle.woot.specs.Text.{text, encoded}
 use Rattle.utf8.specs.Encoding.{encode}
 use Rattle.utf8.proofs.Laws.{length-encode, length-bounds}
-use Rattle.convergence.proofs.Places.{side}
+use Rattle.lists.proofs.Tests.{side}
 use Rattle.output.specs.Output.{placed, past}
 use Rattle.output.proofs.Laws.{placed-append, placed-room, past-room, placed-short, past-short, length-placed}
 use Rattle.visible.specs.Visible.{spelt, writtenIn}

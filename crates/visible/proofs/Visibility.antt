@@ -9,7 +9,7 @@ use lib.ListN.{take, drop, getD, length, length-take, drop-of-length-le}
 use lib.Seq.{drop-cons, getD-take, length-take-le}
 use Rattle.woot.specs.declared.Identifier.{Identifier}
 use Rattle.woot.specs.declared.Character.{Character}
-use Rattle.woot.specs.Lists.{keep}
+use Rattle.lists.specs.Lists.{keep}
 use Rattle.woot.specs.Placing.{identifiers}
 use Rattle.woot.specs.Calls.{visibles}
 use Rattle.arrays.proofs.Padding.{first-or-all}

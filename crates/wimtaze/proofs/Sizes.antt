@@ -18,13 +18,13 @@ use Rattle.woot.specs.declared.Refusal.{Refusal}
 use Rattle.woot.specs.declared.Refusal.the-variants.{Range, Form, Output}
 use Rattle.woot.specs.declared.Written.{Written}
 use Rattle.woot.specs.declared.Written.the-variants.{Length, Refused}
-use Rattle.woot.specs.Lists.{keep}
+use Rattle.lists.specs.Lists.{keep}
 use Rattle.woot.specs.Ranges.{inRange}
 use Rattle.woot.specs.State.{meaning, counted}
 use Rattle.woot.specs.Form.{wellFormed, replicaWellFormed}
 use Rattle.woot.specs.Text.{encoded, text}
 use Rattle.woot.specs.Answers.{_⇒_, first, number}
-use Rattle.convergence.proofs.Tests.{and-right}
+use Rattle.lists.proofs.Tests.{and-right}
 use Rattle.convergence.proofs.Forms.{formed}
 use Rattle.replica.specs.Replicas.{textOf, textChecks, textWritten}
 use Rattle.form.proofs.Throughout.{keep-length}

@@ -27,7 +27,7 @@ use Rattle.woot.specs.Placing.{identifiers, integrateInsert, integrateDe
 use Rattle.woot.specs.Pending.{executable, crossed, unplaceable, pendingFrom, drain, Drained}
 use Rattle.woot.specs.Form.{known, wellFormed}
 use Rattle.woot.specs.Answers.{Check, _⇒_, first}
-use Rattle.woot.specs.Lists.{any, keep}
+use Rattle.lists.specs.Lists.{any, keep}
 
 -- what a call answers and leaves: the state, its own operation where that was carried out, and what was drained from
 -- the pending operations or discarded on the way

@@ -14,7 +14,7 @@ use Rattle.woot.specs.Ranges.{siteInRange, characterInRange, inRange}
 use Rattle.woot.specs.State.{State, meaning, counted}
 use Rattle.woot.specs.Placing.{above}
 use Rattle.woot.specs.Pending.{executable, pendingFrom}
-use Rattle.woot.specs.Lists.{any, every, distinct}
+use Rattle.lists.specs.Lists.{any, every, distinct}
 
 -- the inserts of the characters and the pending inserts
 unfoldable pub known : State → List Insert

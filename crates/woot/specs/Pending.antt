@@ -11,7 +11,7 @@ use Rattle.woot.specs.declared.Operation.the-variants.{Insert as insert,
 use Rattle.woot.specs.declared.Character.{Character}
 use Rattle.woot.specs.Operations.{sender}
 use Rattle.woot.specs.Placing.{held, above, position, between, integrateInsert, integrateDelete}
-use Rattle.woot.specs.Lists.{keep, missing}
+use Rattle.lists.specs.Lists.{keep, missing}
 
 -- "an insert needs its previous and next held. An erase needs its row" (001, isExecutable)
 unfoldable pub executable : List Character → Operation → Bool

@@ -10,7 +10,7 @@ use Rattle.woot.specs.declared.Insert.{Insert}
 use Rattle.woot.specs.declared.Character.{Character}
 use Rattle.woot.specs.Identifiers.{begin, end, same, below}
 use Rattle.woot.specs.Operations.{character, hidden}
-use Rattle.woot.specs.Lists.{keep}
+use Rattle.lists.specs.Lists.{keep}
 
 abbrev pub identifiers : List Character → List Identifier
 identifiers cs = map (λ c. c .id) cs

@@ -1,9 +1,9 @@
 -- A replica's meaning: its site and two plain lists, on which the rules are written.
-use Prim.Native.Nat.{ℕ, _-_}
+use Prim.Native.Nat.{ℕ}
 use mathlib.Core.Bool.{Bool, false, _&&_}
-use mathlib.Core.List.{List, [], _++_, map}
+use mathlib.Core.List.{List, [], map}
 use lib.Dec.{leb}
-use lib.ListN.{length, take, replicate}
+use lib.ListN.{length, take}
 use Rattle.woot.specs.declared.Site.{Site}
 use Rattle.woot.specs.declared.Operation.{Operation}
 use Rattle.woot.specs.declared.Operation.the-variants.{Insert as insert}
@@ -12,6 +12,7 @@ use Rattle.woot.specs.declared.Pending.{Pending}
 use Rattle.woot.specs.declared.Document.{Document}
 use Rattle.woot.specs.declared.Replica.{Replica}
 use Rattle.woot.specs.Identifiers.{begin}
+use Rattle.lists.specs.Padding.{pad}
 
 -- characters from the top, pending operations earliest first
 pub record State : Type 0 where
@@ -39,10 +40,6 @@ blankCharacter = record { id = begin; «code_point» = 0; visible = false; previ
 
 unfoldable pub blankPending : Pending
 blankPending = record { operation = insert (record { id = begin; «code_point» = 0; previous = begin; next = begin }) }
-
--- a list in an array of m slots, z in those that are left
-unfoldable pub pad : {A : Type 0} → ℕ → A → List A → List A
-pad m z xs = xs ++ replicate (m - length xs) z
 
 -- the part of the arrays that is in use
 unfoldable pub meaning : Replica → State

@@ -4,10 +4,11 @@ use Prim.Native.Nat.{_-_, _≤_, min, zero-le}
 use native.Mathlib.Omega.{arith}
 use borrow.Author.Needs.{needs}
 use lib.ListN.{length, take}
-use Rattle.woot.specs.State.{pad, blankCharacter}
+use Rattle.woot.specs.State.{blankCharacter}
+use Rattle.lists.specs.Padding.{pad}
 use Rattle.woot.specs.Placing.{integrateDelete}
 use Rattle.convergence.proofs.Deletion.{marked}
-use Rattle.order.proofs.Packing.{pad-none, pad-map}
+use Rattle.lists.proofs.Padding.{pad-none, pad-map}
 use Rattle.arrays.proofs.Padding.{first-or-all}
 use Rattle.arrays.proofs.hidden.Statement.{statement}
 use Rattle.arrays.proofs.hidden.Tie as tie

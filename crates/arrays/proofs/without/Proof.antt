@@ -6,7 +6,8 @@ use native.Mathlib.Omega.{arith}
 use lib.ListN.{length, take, length-take}
 use Rattle.woot.specs.declared.Pending.{Pending}
 use borrow.Author.Needs.{needs}
-use Rattle.woot.specs.State.{pad, blankPending}
+use Rattle.woot.specs.State.{blankPending}
+use Rattle.lists.specs.Padding.{pad}
 use Rattle.arrays.specs.Edit.{removed}
 use Rattle.arrays.proofs.Padding.{first-or-all, removed-beyond, pad-without}
 use Rattle.arrays.proofs.without.Statement.{statement}

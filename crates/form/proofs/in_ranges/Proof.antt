@@ -5,7 +5,7 @@ use mathlib.Core.Bool.{Bool, _&&_}
 use lib.Dec.{leb}
 use borrow.Author.Tests.{lt-leb, le-leb}
 use Rattle.woot.specs.declared.Replica.{Replica}
-use Rattle.woot.specs.Lists.{every}
+use Rattle.lists.specs.Lists.{every}
 use Rattle.woot.specs.Ranges.{siteInRange, characterInRange, inRange}
 use Rattle.woot.specs.State.{meaning, counted, characterSlots, pendingSlots}
 use Rattle.woot.specs.Form.{allInRange}

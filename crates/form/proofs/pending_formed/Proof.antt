@@ -8,7 +8,7 @@ use mathlib.Core.List.{List}
 use lib.Dec.{eqb}
 use lib.ListN.{length}
 use borrow.Author.Tests.{lt-leb, le-leb}
-use Rattle.woot.specs.Lists.{keep}
+use Rattle.lists.specs.Lists.{keep}
 use Rattle.ranges.proofs.Laws.{refused, passed}
 use Rattle.form.specs.Form.{sharesIn, roomKept, keysNew, noneRepeated, noneReady, pendingFormed}
 use Rattle.form.proofs.Throughout.{keep-length}

@@ -8,7 +8,7 @@ use lib.ListN.{length, take}
 use borrow.Author.Needs.{needs}
 use Rattle.woot.specs.declared.Pending.{Pending}
 use Rattle.woot.specs.Ranges.{inRange}
-use Rattle.woot.specs.Lists.{every}
+use Rattle.lists.specs.Lists.{every}
 use Rattle.woot.specs.State.{blankPending}
 use Rattle.ranges.proofs.Laws.{refused, passed}
 use Rattle.form.specs.Queue.{operations}

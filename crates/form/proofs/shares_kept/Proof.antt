@@ -6,7 +6,7 @@ use native.Mathlib.Omega.{arith}
 use mathlib.Core.Path.{_≡_, refl, sym}
 use mathlib.Core.Bool.{true}
 use borrow.Author.Needs.{needs}
-use Rattle.woot.specs.Lists.{every}
+use Rattle.lists.specs.Lists.{every}
 use Rattle.woot.specs.Form.{numbers}
 use Rattle.form.specs.Form.{senderWithin, sharesIn}
 use Rattle.form.proofs.Throughout.{numbers-more, numbers-fail}

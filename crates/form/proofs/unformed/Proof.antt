@@ -1,6 +1,6 @@
 -- `form::unformed`: arrays of zeros are what is packed of nothing.
 use mathlib.Core.Path.{refl}
-use Rattle.woot.specs.State.{pad}
+use Rattle.lists.specs.Padding.{pad}
 use Rattle.form.specs.Index.{indexOf}
 use Rattle.form.specs.Queue.{packed}
 use Rattle.form.specs.Form.{unformed}

@@ -6,11 +6,13 @@ use mathlib.Core.List.{List, [], List·Memᴰ·not-nil}
 use lib.ListN.{length, take}
 use borrow.Author.Needs.{needs}
 use Rattle.woot.specs.declared.Character.{Character}
-use Rattle.woot.specs.State.{characterSlots, pad}
+use Rattle.woot.specs.State.{characterSlots}
+use Rattle.lists.specs.Padding.{pad}
 use Rattle.order.specs.declared.Packed.{Packed}
 use Rattle.order.specs.Keys.{key, AllSmall, keys, previousKeys, nextKeys}
 use Rattle.order.specs.Packing.{packed}
-use Rattle.order.proofs.Packing.{pad-none, pad-map, take-lesser, small-more, packed-path}
+use Rattle.order.proofs.Packing.{small-more, packed-path}
+use Rattle.lists.proofs.Padding.{pad-none, pad-map, take-lesser}
 use Rattle.order.proofs.pack.Statement.{statement}
 use Rattle.order.proofs.pack.Tie as tie
 

@@ -5,11 +5,12 @@ use mathlib.Core.Path.{_≡_, refl, sym, _∙_}
 use mathlib.Core.List.{List, map}
 use lib.ListN.{length, take, length-take}
 use borrow.Author.Needs.{needs}
-use Rattle.woot.specs.State.{characterSlots, pad}
+use Rattle.woot.specs.State.{characterSlots}
+use Rattle.lists.specs.Padding.{pad}
 use Rattle.order.specs.Keys.{placeIn}
 use Rattle.order.specs.Packing.{placesIn}
 use Rattle.order.proofs.Indices.{place-bounded}
-use Rattle.order.proofs.Packing.{pad-none, pad-map, take-lesser}
+use Rattle.lists.proofs.Padding.{pad-none, pad-map, take-lesser}
 use Rattle.order.proofs.places.Statement.{statement}
 use Rattle.order.proofs.places.Tie as tie
 

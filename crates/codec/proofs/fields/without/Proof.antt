@@ -1,6 +1,6 @@
 -- `codec::fields::without` meets its contract: eight zeros are no numbers, padded.
 use mathlib.Core.Path.{refl}
-use Rattle.woot.specs.State.{pad}
+use Rattle.lists.specs.Padding.{pad}
 use Rattle.codec.specs.Numbers.{holding}
 use Rattle.codec.proofs.fields.without.Statement.{statement}
 use Rattle.codec.proofs.fields.without.Tie as tie

@@ -7,7 +7,7 @@ use mathlib.Core.Logic.{⊎-elim}
 use borrow.Author.Tests.{leb-true, leb-false, le-leb, lt-leb}
 use lib.Dec.{leb}
 use lib.ListN.{length-take}
-use Rattle.convergence.proofs.Tests.{either}
+use Rattle.lists.proofs.Tests.{either}
 use Rattle.arrays.proofs.Padding.{first-or-all}
 use Rattle.form.proofs.Fullness.{full-queue}
 use Rattle.form.proofs.Queues.{FullQueue}

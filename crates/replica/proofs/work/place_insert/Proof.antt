@@ -5,7 +5,7 @@ use borrow.Author.Needs.{needs}
 use Rattle.woot.specs.declared.Insert.{Insert}
 use Rattle.woot.specs.declared.Operation.the-variants.{Insert as insert}
 use Rattle.woot.specs.Ranges.{characterInRange}
-use Rattle.convergence.proofs.Members.{every-member}
+use Rattle.lists.proofs.Members.{every-member}
 use Rattle.order.proofs.Keys.{all-range-small}
 use Rattle.replica.specs.declared.placing.Placement.{Placement}
 use Rattle.replica.specs.declared.placing.Placement.the-variants.{Missing, Crossed, Unplaceable}

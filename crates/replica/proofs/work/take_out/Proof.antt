@@ -1,7 +1,8 @@
 -- `replica::work::take_out` has the array without the one at j, one shorter.
 use native.Mathlib.Omega.{arith}
 use mathlib.Core.Path.{refl, sym, ap, _∙_}
-use Rattle.woot.specs.State.{pad, blankPending}
+use Rattle.woot.specs.State.{blankPending}
+use Rattle.lists.specs.Padding.{pad}
 use Rattle.replica.specs.Work.{pendingIn}
 use Rattle.form.proofs.Queues.{waiting-removed}
 use Rattle.replica.proofs.Works.{parts, work-path, length-removed}

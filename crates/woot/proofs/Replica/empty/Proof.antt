@@ -1,7 +1,8 @@
 -- `woot::Replica::empty` is the empty state as it is stored: the arrays are filler throughout.
 use mathlib.Core.Path.{refl}
 use borrow.Author.Needs.{needs}
-use Rattle.woot.specs.State.{stored, documentOf, initial, pad, blankCharacter, blankPending}
+use Rattle.woot.specs.State.{stored, documentOf, initial, blankCharacter, blankPending}
+use Rattle.lists.specs.Padding.{pad}
 use Rattle.woot.proofs.Replica.empty.Statement.{statement}
 use Rattle.woot.proofs.Replica.empty.Tie as tie
 

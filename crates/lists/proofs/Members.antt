@@ -3,8 +3,8 @@ use mathlib.Core.Path.{_≡_, refl, ap, sym, _∙_, subst}
 use mathlib.Core.Bool.{Bool, true, false, _&&_, _||_, cond}
 use mathlib.Core.List.{List, [], _∷_, _++_, map, List·Memᴰ, List·Memᴰ·head, List·Memᴰ·tail, List·Memᴰ·cases-cons, List·Memᴰ·not-nil}
 use mathlib.Core.Logic.{⊎-elim}
-use Rattle.woot.specs.Lists.{any, every, keep}
-use Rattle.convergence.proofs.Tests.{and-left, and-right, and-intro, or-cases, or-left, or-right, or-false-left, or-false-right, or-false}
+use Rattle.lists.specs.Lists.{any, every, keep}
+use Rattle.lists.proofs.Tests.{and-left, and-right, and-intro, or-cases, or-left, or-right, or-false-left, or-false-right, or-false}
 
 or-assoc : (a b c : Bool) → (a || (b || c)) ≡ ((a || b) || c)
 or-assoc true b c = refl

@@ -1,12 +1,19 @@
 -- Tests on Bools taken apart and put together, and going by a test.
+use Prim.Native.Nat.{ℕ, _≤_, _<_}
 use mathlib.Core.Path.{_≡_, refl, sym}
 use mathlib.Core.Bool.{Bool, true, false, _&&_, _||_, not, false≢true, true≢false}
-use mathlib.Core.Logic.{_⊎_, inl, inr}
+use mathlib.Core.Logic.{_⊎_, inl, inr, ⊎-elim}
+use lib.Dec.{leb}
+use borrow.Author.Tests.{leb-true, leb-false}
 
 -- the two ways that a test can come out
 pub either : (b : Bool) → (b ≡ true) ⊎ (b ≡ false)
 either true = inl refl
 either false = inr refl
+
+-- two numbers stand one way or the other
+pub side : (a b : ℕ) → (a ≤ b) ⊎ (b < a)
+side a b = ⊎-elim (λ e. inl (leb-true a b e)) (λ e. inr (leb-false a b e)) (either (leb a b))
 
 pub clash : {b : Bool} {A : Type 0} → b ≡ true → b ≡ false → A
 clash {b} p q = absurd (go b p q)
