@@ -63,7 +63,7 @@ module _ {A : Type 0} (num : A → ℕ) (x y done : A) (xy : num x ≡ num y →
   )
 
 pub read-numbers : ReadNumbers
-unfolding readOperation readAs readChecks readNumber number
+unfolding readOperation readAs readChecks readNumber
 read-numbers s =
     let o = saidBy s in
     let t = by-number readNumber (readRefused Layout) (readRefused Range) (readsAs o) (λ e. omega arith) (λ e. omega arith) (λ e. omega arith) (laidOut s) (not (inRange o)) in (
@@ -93,7 +93,7 @@ write-refuses o out r = (
 )
 
 pub write-numbers : WriteNumbers
-unfolding written writeChecks writtenNumber number
+unfolding written writeChecks writtenNumber
 write-numbers o out =
     let m = length out in
     let n = length (operationLine o) in

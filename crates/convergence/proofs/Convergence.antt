@@ -1,6 +1,5 @@
 -- Demand 3: histories with the same inserts give the same list of origins, since both lists have grown, and those with the
 -- same deletes the same visibility.
-use Prim.Native.Nat.{ℕ}
 use mathlib.Core.Path.{_≡_, refl, ap, sym, subst}
 use mathlib.Core.Bool.{false}
 use mathlib.Core.List.{List, [], _∷_, map, List·Memᴰ, List·Memᴰ·head, List·Memᴰ·tail, nil≢cons, head-eq-of-cons-eq, tail-eq-of-cons-eq}
@@ -9,16 +8,16 @@ use Rattle.woot.specs.declared.Insert.{Insert}
 use Rattle.woot.specs.declared.Character.{Character}
 use Rattle.woot.specs.Operations.{origin}
 use Rattle.woot.specs.Text.{text}
-use Rattle.woot.specs.Histories.{Call, DeletedIn, charactersAfter, historyOf, SameInserted, SameDeleted}
+use Rattle.woot.specs.Histories.{Call, Begun, DeletedIn, charactersAfter, historyOf, SameInserted, SameDeleted}
 use Rattle.convergence.specs.Theorems.{Agreement, Convergence}
 use Rattle.lists.proofs.Tests.{agree-false}
 use Rattle.convergence.proofs.Agreement.{agreement}
 use Rattle.convergence.proofs.Listing.{same-list}
-use Rattle.convergence.proofs.Grown.{grown-from-empty}
+use Rattle.convergence.proofs.Grown.{grown-throughout}
 use Rattle.convergence.proofs.Histories.{held-are-inserted, hidden-are-deleted}
 
 pub characters-agree : Agreement
-characters-agree m n cs ds = agreement (charactersAfter m cs) (charactersAfter n ds) (grown-from-empty m cs) (grown-from-empty n ds)
+characters-agree a b cs ds = agreement (charactersAfter a cs) (charactersAfter b ds) (grown-throughout a cs) (grown-throughout b ds)
 
 -- two characters of one origin, as visible as each other, are the same
 character-path : (c d : Character) → origin c ≡ origin d → c .visible ≡ d .visible → c ≡ d
@@ -36,18 +35,18 @@ characters-path (c ∷ cs) (d ∷ ds) e f =
     let l : cs ≡ ds = characters-path cs ds (tail-eq-of-cons-eq e) (λ a b m n. f a b (List·Memᴰ·tail m) (List·Memᴰ·tail n)) in
     λ i. k i ∷ l i
 
-same-characters : (m n : ℕ) (cs ds : List Call) → SameInserted (historyOf m cs) (historyOf n ds) → SameDeleted (historyOf m cs) (historyOf n ds) → charactersAfter m cs ≡ charactersAfter n ds
+same-characters : (a b : Begun) (cs ds : List Call) → SameInserted (historyOf a cs) (historyOf b ds) → SameDeleted (historyOf a cs) (historyOf b ds) → charactersAfter a cs ≡ charactersAfter b ds
 unfolding origin
-same-characters m n cs ds inserted deleted =
-    characters-path (charactersAfter m cs) (charactersAfter n ds)
-    (same-list (charactersAfter m cs) (charactersAfter n ds) (grown-from-empty m cs) (grown-from-empty n ds) (λ i. (λ h. held-are-inserted n ds i .1 (inserted i .0 (held-are-inserted m cs i .0 h)), λ h. held-are-inserted m cs i .1 (inserted i .1 (held-are-inserted n ds i .0 h)))))
+same-characters a b cs ds inserted deleted =
+    characters-path (charactersAfter a cs) (charactersAfter b ds)
+    (same-list (charactersAfter a cs) (charactersAfter b ds) (grown-throughout a cs) (grown-throughout b ds) (λ i. (λ h. held-are-inserted b ds i .1 (inserted i .0 (held-are-inserted a cs i .0 h)), λ h. held-are-inserted a cs i .1 (inserted i .1 (held-are-inserted b ds i .0 h)))))
     (λ c d p q e.
     let x : c .id ≡ d .id = ap (λ (i : Insert). i .id) e in
     agree-false (c .visible) (d .visible)
-    (λ h. hidden-are-deleted n ds d q .1 (subst (λ (y : Identifier). DeletedIn y (historyOf n ds)) x (deleted (c .id) .0 (hidden-are-deleted m cs c p .0 h))))
-    (λ h. hidden-are-deleted m cs c p .1 (deleted (c .id) .1 (subst (λ (y : Identifier). DeletedIn y (historyOf n ds)) (sym x) (hidden-are-deleted n ds d q .0 h)))))
+    (λ h. hidden-are-deleted b ds d q .1 (subst (λ (y : Identifier). DeletedIn y (historyOf b ds)) x (deleted (c .id) .0 (hidden-are-deleted a cs c p .0 h))))
+    (λ h. hidden-are-deleted a cs c p .1 (deleted (c .id) .1 (subst (λ (y : Identifier). DeletedIn y (historyOf b ds)) (sym x) (hidden-are-deleted b ds d q .0 h)))))
 
 pub convergence : Convergence
-convergence m n cs ds inserted deleted =
-    let e = same-characters m n cs ds inserted deleted in
+convergence a b cs ds inserted deleted =
+    let e = same-characters a b cs ds inserted deleted in
     (e, ap text e)

@@ -19,9 +19,9 @@ use Rattle.woot.specs.Pending.{executable, crossed, unplaceable, integrate, Dra
 use Rattle.woot.specs.Form.{wellFormed}
 use Rattle.woot.specs.Answers.{Check, Reported, here, number}
 use Rattle.woot.specs.Calls.{Outcome, unchanged, withCharacters, withPending, carryOut, defer, receiveChecks, receive, generatedInsert, insertChecks, localInsert, deleteChecks, localDelete}
-use Rattle.woot.specs.Histories.{Call, inserting, deleting, receiving, outcome, run}
+use Rattle.woot.specs.Histories.{Call, Begun, empty, startOf, inserting, deleting, receiving, outcome, run}
 use Rattle.convergence.specs.Agreement.{Grown}
-use Rattle.convergence.specs.Theorems.{GrownFromEmpty, NeverUnplaceable}
+use Rattle.convergence.specs.Theorems.{GrownThroughout, NeverUnplaceable}
 use Rattle.lists.proofs.Tests.{clash, and-left}
 use Rattle.lists.proofs.Members.{every-member}
 use Rattle.convergence.proofs.Extract.{Extract, extract-itself}
@@ -61,9 +61,12 @@ grown-run : (s : State) (cs : List Call) → Grown (s .characters) → Grown (ru
 grown-run s [] g = g
 grown-run s (c ∷ cs) g = grown-run (outcome s c .state) cs (grown-step s (step s c) g)
 
-pub grown-from-empty : GrownFromEmpty
+begun-grown : (b : Begun) → Grown (startOf b .characters)
 unfolding initial
-grown-from-empty n cs = grown-run (initial n) cs grown-empty
+begun-grown (empty n) = grown-empty
+
+pub grown-throughout : GrownThroughout
+grown-throughout b cs = grown-run (startOf b) cs (begun-grown b)
 
 -- ---- refusal 9
 
@@ -74,7 +77,7 @@ operation-placeable cs (insert i) g uncrossed u = clash u (grown-placeable cs i 
 operation-placeable cs (delete d) g uncrossed u = clash u refl
 
 receive-placeable : (s : State) (o : Operation) → Grown (s .characters) → Reported (Refused Unplaceable) (receiveChecks (wellFormed s) s o) → ⊥
-unfolding receiveChecks number
+unfolding receiveChecks
 receive-placeable s o g r =
     let r1 = skipped (other (λ h. omega arith)) r in
     let r2 = skipped (other (λ h. omega arith)) (r1 .1) in
@@ -85,7 +88,7 @@ receive-placeable s o g r =
     (held-there (λ q. never (skipped (other (λ h. omega arith)) (skipped (other (λ h. omega arith)) q .1) .1)) (r5 .1))
 
 insert-placeable : (s : State) (g n : ℕ) → Grown (s .characters) → Reported (sentRefused Unplaceable) (insertChecks (wellFormed s) s g n) → ⊥
-unfolding insertChecks number
+unfolding insertChecks
 insert-placeable s g n w r =
     let r1 = skipped (other-sent (λ h. omega arith)) r in
     let r2 = skipped (other-sent (λ h. omega arith)) (r1 .1) in
@@ -96,7 +99,7 @@ insert-placeable s g n w r =
     (held-there (λ q. never (skipped (other-sent (λ h. omega arith)) q .1)) (r5 .1))
 
 delete-placeable : (s : State) (p : ℕ) → Reported (sentRefused Unplaceable) (deleteChecks (wellFormed s) s p) → ⊥
-unfolding deleteChecks number
+unfolding deleteChecks
 delete-placeable s p r = never (skipped (other-sent (λ h. omega arith)) (skipped (other-sent (λ h. omega arith)) r .1) .1)
 
 placeable : (s : State) (c : Call) → Grown (s .characters) → outcome s c .answer ≡ Refused Unplaceable → ⊥
@@ -106,4 +109,4 @@ placeable s (deleting p) w e = delete-placeable s p (delete-refuses (wellFormed 
 placeable s (receiving o) w e = receive-placeable s o w (receive-refuses (wellFormed s) s o Unplaceable .0 e)
 
 pub never-unplaceable : NeverUnplaceable
-never-unplaceable n cs c = placeable (run (initial n) cs) c (grown-from-empty n cs)
+never-unplaceable b cs c = placeable (run (startOf b) cs) c (grown-throughout b cs)

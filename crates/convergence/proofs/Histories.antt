@@ -16,7 +16,7 @@ use Rattle.woot.specs.Ranges.{inRange}
 use Rattle.woot.specs.State.{State, initial}
 use Rattle.woot.specs.Pending.{executable, crossed, unplaceable, integrate, Drained, andIntegrated, andDiscarded, drained}
 use Rattle.woot.specs.Calls.{Outcome, unchanged, integrated, withCharacters, withPending, insertCarried, carryOut, defer}
-use Rattle.woot.specs.Histories.{Call, outcome, run, integratedBy, drainedBy, discardedBy, isDeferred, deferredBy, historyOf, charactersAfter}
+use Rattle.woot.specs.Histories.{Call, Begun, empty, startOf, beforehand, outcome, run, integratedBy, drainedBy, discardedBy, isDeferred, deferredBy, historyOf, charactersAfter}
 use Rattle.convergence.specs.Theorems.{HeldAreInserted, HeldCount, HiddenAreDeleted, WaitsBalance}
 use Rattle.lists.proofs.Members.{every-member}
 use Rattle.convergence.proofs.Extract.{Extract, extract-itself}
@@ -59,18 +59,22 @@ faithful-run s os (c ∷ cs) f =
     subst (λ qs. Faithful (run s (c ∷ cs) .characters) qs) (append-assoc os (integrated (outcome s c)) (integratedBy (outcome s c .state) cs))
     (faithful-run (outcome s c .state) (os ++ integrated (outcome s c)) cs (faithful-step s os (step s c) f))
 
-pub faithful : (n : ℕ) (cs : List Call) → Faithful (charactersAfter n cs) (historyOf n cs)
+-- a beginning is faithful to what was carried out to make it
+begun-faithful : (b : Begun) → Faithful (startOf b .characters) (beforehand b)
 unfolding initial
-faithful n cs = faithful-run (initial n) [] cs faithful-empty
+begun-faithful (empty n) = faithful-empty
+
+pub faithful : (b : Begun) (cs : List Call) → Faithful (charactersAfter b cs) (historyOf b cs)
+faithful b cs = faithful-run (startOf b) (beforehand b) cs (begun-faithful b)
 
 pub held-are-inserted : HeldAreInserted
-held-are-inserted n cs i = faithful n cs .inserted i
+held-are-inserted b cs i = faithful b cs .inserted i
 
 pub held-count : HeldCount
-held-count n cs = faithful n cs .counted
+held-count b cs = faithful b cs .counted
 
 pub hidden-are-deleted : HiddenAreDeleted
-hidden-are-deleted n cs c m = faithful n cs .deleted c m
+hidden-are-deleted b cs c m = faithful b cs .deleted c m
 
 -- ---- what was deferred
 
@@ -82,11 +86,7 @@ balance-step s (adds t i a) = omega (arith, drained-balance (after-insert s i))
 balance-step s (removes d a) = omega arith
 balance-step s (defers o a) = omega (arith, length-append (s .pending) (o ∷ []))
 
-balance-run : (s : State) (cs : List Call) → deferredBy s cs + length (s .pending) ≡ length (run s cs .pending) + length (drainedBy s cs) + length (discardedBy s cs)
-balance-run s [] = omega arith
-balance-run s (c ∷ cs) =
-    omega (arith, balance-step s (step s c), balance-run (outcome s c .state) cs, length-append (outcome s c .drained) (drainedBy (outcome s c .state) cs), length-append (outcome s c .discarded) (discardedBy (outcome s c .state) cs))
-
 pub waits-balance : WaitsBalance
-unfolding initial
-waits-balance n cs = omega (arith, balance-run (initial n) cs)
+waits-balance s [] = omega arith
+waits-balance s (c ∷ cs) =
+    omega (arith, balance-step s (step s c), waits-balance (outcome s c .state) cs, length-append (outcome s c .drained) (drainedBy (outcome s c .state) cs), length-append (outcome s c .discarded) (discardedBy (outcome s c .state) cs))

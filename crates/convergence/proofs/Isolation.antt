@@ -16,14 +16,14 @@ use Rattle.woot.specs.declared.Operation.{Operation}
 use Rattle.woot.specs.declared.Operation.the-variants.{Insert as insert, Delete as delete}
 use Rattle.woot.specs.declared.Refusal.the-variants.{Form, SenderFull, DocumentFull}
 use Rattle.woot.specs.declared.Answer.{Answer}
-use Rattle.woot.specs.declared.Answer.the-variants.{Deferred, Refused}
+use Rattle.woot.specs.declared.Answer.the-variants.{Done, Deferred, Refused}
 use Rattle.woot.specs.Identifiers.{same}
 use Rattle.woot.specs.Operations.{sender, origin, inserts, sameInsert, sameDelete, sameOperation}
 use Rattle.woot.specs.State.{State}
 use Rattle.woot.specs.Pending.{executable, crossed, unplaceable, sentBy, pendingFrom}
 use Rattle.woot.specs.Form.{known, wellFormed}
-use Rattle.woot.specs.Answers.{Check, first, Reported, here, later, number}
-use Rattle.woot.specs.Calls.{unchanged, decided, duplicate, conflicting, senderFull, documentFull, receiveChecks, carryOut, defer, accept, receiveWhen, receive}
+use Rattle.woot.specs.Answers.{Check, first, decided, Reported, here, later, number}
+use Rattle.woot.specs.Calls.{unchanged, duplicate, conflicting, senderFull, documentFull, receiveChecks, carryOut, defer, accept, receiveWhen, receive}
 use Rattle.convergence.specs.Theorems.{Isolation}
 use Rattle.lists.specs.Lists.{any, keep}
 use Rattle.lists.proofs.Tests.{clash, and-left, four}
@@ -129,7 +129,7 @@ level s t o form held own =
 
 -- refusal 10 in one is refusal 10 in the other
 full-alike : (s t : State) (o : Operation) → Level s t o → Reported (Refused SenderFull) (receiveChecks (wellFormed s) s o) → Reported (Refused SenderFull) (receiveChecks (wellFormed t) t o)
-unfolding receiveChecks number
+unfolding receiveChecks
 full-alike s t o l r =
     let r1 = skipped (other (λ h. omega arith)) r in
     let r2 = skipped (other (λ h. omega arith)) (r1 .1) in
@@ -149,15 +149,15 @@ deferred-checks : (s : State) (o : Operation) → receive s o .answer ≡ Deferr
 unfolding receive receiveWhen accept decided unchanged carryOut
 deferred-checks s o h = go (first (receiveChecks (wellFormed s) s o)) refl h
   where
-    carried : (o : Operation) → carryOut s o .answer ≡ Deferred → ⊥
+    carried : (o : Operation) → carryOut Done s o .answer ≡ Deferred → ⊥
     carried (insert i) e = let z : _≡_ {A = ℕ} 0 1 = cc in omega arith
     carried (delete d) e = let z : _≡_ {A = ℕ} 0 1 = cc in omega arith
 
-    lacks : (b : Bool) → cond b (carryOut s o) (defer s o) .answer ≡ Deferred → b ≡ false
+    lacks : (b : Bool) → cond b (carryOut Done s o) (defer s o) .answer ≡ Deferred → b ≡ false
     lacks true e = absurd (carried o e)
     lacks false e = refl
 
-    go : (m : Option Answer) → first (receiveChecks (wellFormed s) s o) ≡ m → decided s m (accept s o) .answer ≡ Deferred → AllFail (receiveChecks (wellFormed s) s o) × (executable (s .characters) o ≡ false)
+    go : (m : Option Answer) → first (receiveChecks (wellFormed s) s o) ≡ m → decided (unchanged s) m (accept s o) .answer ≡ Deferred → AllFail (receiveChecks (wellFormed s) s o) × (executable (s .characters) o ≡ false)
     go none e k = (first-none (receiveChecks (wellFormed s) s o) e, lacks (executable (s .characters) o) k)
     go (some a) e k = absurd (subst Turned k (first-some Turned (receiveChecks (wellFormed s) s o) (receive-turned s o) a e))
 

@@ -1,7 +1,7 @@
 -- A refusal is answered exactly when it is the first in its list of checks to hold, and what is done where none holds
 -- answers no refusal.
 use Prim.Native.Nat.{ℕ}
-use mathlib.Core.Path.{_≡_, refl, ap, subst}
+use mathlib.Core.Path.{_≡_, refl, ap, sym, _∙_, subst}
 use mathlib.Core.Bool.{Bool, true, false, cond}
 use mathlib.Core.Option.{Option, none, some}
 use mathlib.Core.Logic.{_↔_}
@@ -17,8 +17,8 @@ use Rattle.woot.specs.declared.Sent.the-variants.{Done as sentDone, Refused as 
 use Rattle.woot.specs.State.{State}
 use Rattle.woot.specs.Pending.{executable}
 use Rattle.woot.specs.Form.{wellFormed}
-use Rattle.woot.specs.Answers.{Check, first, Reported, here, later, number, answerOf}
-use Rattle.woot.specs.Calls.{Outcome, unchanged, decided, carryOut, defer, accept, receiveChecks, receiveWhen, receive, insertChecks, generatedInsert, sendInsert, localInsertWhen, localInsert, deleteChecks, generatedDelete, sendDelete, localDeleteWhen, localDelete}
+use Rattle.woot.specs.Answers.{Check, first, decided, Reported, here, later, number, answerOf}
+use Rattle.woot.specs.Calls.{Outcome, unchanged, carryOut, defer, accept, receiveChecks, receiveWhen, receive, insertChecks, generatedInsert, sendInsert, localInsertWhen, localInsert, deleteChecks, generatedDelete, sendDelete, localDeleteWhen, localDelete}
 use Rattle.woot.specs.Histories.{inserting, deleting, receiving, withAnswer, outcome}
 use Rattle.convergence.specs.Theorems.{ReceiveRefuses, ReceiveKnows, InsertRefuses, DeleteRefuses, RefusedUnchanged, KnownUnchanged}
 
@@ -41,17 +41,23 @@ module _ {A : Type 0} where
   reported-first cs a (here {c = c} {cs = ds} e f) = rw (e, f)
   reported-first cs a (later {c = c} {cs = ds} e r) = rw e (reported-first ds a r)
 
-  -- an answer that what is done never gives is the first of the checks
-  pub decided-exactly : (s : State) (cs : List (Check A)) (r : Outcome A) (a : A) → (r .answer ≡ a → ⊥) → (decided s (first cs) r .answer ≡ a) ↔ Reported a cs
-  unfolding decided unchanged
-  decided-exactly s cs r a never = (λ h. first-reported cs a (go (first cs) h), λ k. rw (reported-first cs a k))
+  -- an answer that what is done never gives is the first of the checks: `view` reads off the answer that is turned
+  pub decided-exactly : {B : Type 0} (turned : A → B) (view : B → A) → ((x : A) → view (turned x) ≡ x) → (cs : List (Check A)) (b : B) (a : A) → (view b ≡ a → ⊥)
+      → (view (decided turned (first cs) b) ≡ a) ↔ Reported a cs
+  unfolding decided
+  decided-exactly turned view reads cs b a never = (λ h. first-reported cs a (go (first cs) h), λ k. rw (reported-first cs a k) (reads a))
     where
-      go : (m : Option A) → decided s m r .answer ≡ a → m ≡ some a
+      go : (m : Option A) → view (decided turned m b) ≡ a → m ≡ some a
       go none h = absurd (never h)
-      go (some x) h = ap some h
+      go (some x) h = ap some (sym (reads x) ∙ h)
+
+  -- so of what a call answers
+  pub answered-exactly : (s : State) (cs : List (Check A)) (r : Outcome A) (a : A) → (r .answer ≡ a → ⊥) → (decided (unchanged s) (first cs) r .answer ≡ a) ↔ Reported a cs
+  unfolding unchanged
+  answered-exactly s = decided-exactly (unchanged s) (λ r. r .answer) (λ x. refl)
 
   -- and with it nothing is changed
-  pub decided-unchanged : (s : State) (m : Option A) (r : Outcome A) (a : A) → (r .answer ≡ a → ⊥) → decided s m r .answer ≡ a → decided s m r ≡ unchanged s a
+  pub decided-unchanged : (s : State) (m : Option A) (r : Outcome A) (a : A) → (r .answer ≡ a → ⊥) → decided (unchanged s) m r .answer ≡ a → decided (unchanged s) m r ≡ unchanged s a
   unfolding decided unchanged
   decided-unchanged s none r a never h = absurd (never h)
   decided-unchanged s (some x) r a never h = ap (unchanged s) h
@@ -72,10 +78,10 @@ module _ {A : Type 0} {a : A} where
 
 -- refusals with other numbers differ, as answers of either kind
 pub other : {r q : Refusal} → (number r ≡ number q → ⊥) → Refused r ≡ Refused q → ⊥
-other f e = f (ap number (let k = e in cc))
+other {r} {q} f e = f (ap number {x = r} {y = q} (let k = e in cc))
 
 pub other-sent : {r q : Refusal} → (number r ≡ number q → ⊥) → sentRefused r ≡ sentRefused q → ⊥
-other-sent f e = f (ap number (let k = e in cc))
+other-sent {r} {q} f e = f (ap number {x = r} {y = q} (let k = e in cc))
 
 -- what is done where no condition holds answers done or waits
 pub Accepted : Answer → Type 0
@@ -88,7 +94,7 @@ accept-accepted : (s : State) (o : Operation) → Accepted (accept s o .answer)
 unfolding Accepted accept carryOut defer
 accept-accepted s o = go (executable (s .characters) o) o
   where
-    go : (b : Bool) (o : Operation) → Accepted (cond b (carryOut s o) (defer s o) .answer)
+    go : (b : Bool) (o : Operation) → Accepted (cond b (carryOut Done s o) (defer s o) .answer)
     go true (insert i) = tt
     go true (delete d) = tt
     go false o = tt
@@ -107,19 +113,19 @@ sent-never-refused r e = let z : _≡_ {A = ℕ} 0 1 = cc in omega arith
 
 pub receive-refuses : ReceiveRefuses
 unfolding receiveWhen
-receive-refuses formed s o r = decided-exactly s (receiveChecks formed s o) (accept s o) (Refused r) (accept-never-refused s o r)
+receive-refuses formed s o r = answered-exactly s (receiveChecks formed s o) (accept s o) (Refused r) (accept-never-refused s o r)
 
 pub receive-knows : ReceiveKnows
 unfolding receiveWhen
-receive-knows formed s o = decided-exactly s (receiveChecks formed s o) (accept s o) Duplicate (accept-never-known s o)
+receive-knows formed s o = answered-exactly s (receiveChecks formed s o) (accept s o) Duplicate (accept-never-known s o)
 
 pub insert-refuses : InsertRefuses
-unfolding localInsertWhen sendInsert
-insert-refuses formed s g n r = decided-exactly s (insertChecks formed s g n) (sendInsert s (generatedInsert s g n)) (sentRefused r) (sent-never-refused r)
+unfolding localInsertWhen sendInsert carryOut
+insert-refuses formed s g n r = answered-exactly s (insertChecks formed s g n) (sendInsert s (generatedInsert s g n)) (sentRefused r) (sent-never-refused r)
 
 pub delete-refuses : DeleteRefuses
-unfolding localDeleteWhen sendDelete
-delete-refuses formed s p r = decided-exactly s (deleteChecks formed s p) (sendDelete s (generatedDelete s p)) (sentRefused r) (sent-never-refused r)
+unfolding localDeleteWhen sendDelete carryOut
+delete-refuses formed s p r = answered-exactly s (deleteChecks formed s p) (sendDelete s (generatedDelete s p)) (sentRefused r) (sent-never-refused r)
 
 -- an answer without its operation is a refusal only of that refusal, and never known
 pub answer-refused : (a : Sent) (r : Refusal) → answerOf a ≡ Refused r → a ≡ sentRefused r
@@ -133,7 +139,7 @@ answer-known (sentDone o n m) e = let z : _≡_ {A = ℕ} 0 1 = cc in omega arit
 answer-known (sentRefused q) e = let z : _≡_ {A = ℕ} 0 1 = cc in omega arith
 
 pub refused-unchanged : RefusedUnchanged
-unfolding outcome localInsert localInsertWhen sendInsert localDelete localDeleteWhen sendDelete receive receiveWhen answerOf unchanged
+unfolding outcome localInsert localInsertWhen sendInsert carryOut localDelete localDeleteWhen sendDelete receive receiveWhen answerOf unchanged
 refused-unchanged s (inserting g n) r e =
     ap (withAnswer answerOf) (decided-unchanged s (first (insertChecks (wellFormed s) s g n)) (sendInsert s (generatedInsert s g n)) (sentRefused r) (sent-never-refused r) (answer-refused _ r e))
 refused-unchanged s (deleting p) r e =

@@ -30,8 +30,8 @@ use Rattle.woot.specs.State.{State}
 use Rattle.woot.specs.Placing.{identifiers, held}
 use Rattle.woot.specs.Pending.{executable, crossed, unplaceable, pendingFrom, Drained}
 use Rattle.woot.specs.Form.{known, wellFormed}
-use Rattle.woot.specs.Answers.{Check, first, answerOf}
-use Rattle.woot.specs.Calls.{Outcome, unchanged, decided, afterDrain, insertCarried, duplicate, conflicting, senderFull, documentFull, receiveChecks, carryOut, defer, accept, receiveWhen, receive, visibles, nextIdentifier, generatedInsert, beyondVisible, taken, insertChecks, advanced, sendInsert, localInsertWhen, localInsert, notVisible, deleteChecks, generatedDelete, sendDelete, localDeleteWhen, localDelete}
+use Rattle.woot.specs.Answers.{Check, first, decided, answerOf}
+use Rattle.woot.specs.Calls.{Outcome, unchanged, afterDrain, insertCarried, duplicate, conflicting, senderFull, documentFull, receiveChecks, carryOut, defer, accept, receiveWhen, receive, visibles, nextIdentifier, generatedInsert, beyondVisible, taken, insertChecks, advanced, sendInsert, localInsertWhen, localInsert, notVisible, deleteChecks, generatedDelete, sendDelete, localDeleteWhen, localDelete}
 use Rattle.woot.specs.Histories.{Call, inserting, deleting, receiving, withAnswer, outcome}
 use Rattle.lists.specs.Lists.{any}
 use Rattle.lists.proofs.Tests.{clash, and-left, and-intro, and-false, or-left, or-right, or-false, or-false-left, or-false-right, not-intro, fails}
@@ -89,7 +89,7 @@ added s t i =
 pub data Step (s : State) : Outcome Answer → Type 0 where
   turned : (a : Answer) → Turned a → Step s (unchanged s a)
   adds : (t : Site) (i : Insert) → Addable s t i → Step s (added s t i)
-  removes : (d : Delete) → Removable s d → Step s (carryOut s (delete d))
+  removes : (d : Delete) → Removable s d → Step s (carryOut Done s (delete d))
   defers : (o : Operation) → Deferrable s o → Step s (defer s o)
 
 module _ {A : Type 0} where
@@ -172,7 +172,7 @@ unused s (delete d) new sole space =
     any-deletes d (s .pending)
     ∙ or-false-right (any (λ c. same (d .target) (c .id) && not (c .visible)) (s .characters)) (any (sameOperation (delete d)) (s .pending)) new
 
-carried-step : (s : State) (o : Operation) → Formed s → inRange o ≡ true → Unused (s .characters) (s .pending) o → executable (s .characters) o ≡ true → crossed (s .characters) o ≡ false → unplaceable (s .characters) o ≡ false → Step s (carryOut s o)
+carried-step : (s : State) (o : Operation) → Formed s → inRange o ≡ true → Unused (s .characters) (s .pending) o → executable (s .characters) o ≡ true → crossed (s .characters) o ≡ false → unplaceable (s .characters) o ≡ false → Step s (carryOut Done s o)
 unfolding carryOut afterDrain inRange executable
 carried-step s (insert i) f r u e x p =
     adds (s .site) i (record { formed = f; site = f .site; ranged = r; fresh = u .0; space = u .1; ready = e; uncrossed = x; placeable = p })
@@ -194,7 +194,7 @@ accept-step s o w = go (executable (s .characters) o) refl
     share-left : executable (s .characters) o ≡ false → pendingFrom (sender o) (s .pending) < share
     share-left e = leb-false share (pendingFrom (sender o) (s .pending)) (and-false (not (executable (s .characters) o)) (leb share (pendingFrom (sender o) (s .pending))) (w .1 .1 .1 .1 .1 .1 .0) (not-intro e))
 
-    go : (b : Bool) → executable (s .characters) o ≡ b → Step s (cond b (carryOut s o) (defer s o))
+    go : (b : Bool) → executable (s .characters) o ≡ b → Step s (cond b (carryOut Done s o) (defer s o))
     go true e = carried-step s o form ranged free e (w .1 .1 .1 .1 .0) (w .1 .1 .1 .1 .1 .0)
     go false e = defers o (record { formed = form; ranged = ranged; unready = e; space = share-left e; unused = free })
 
@@ -329,12 +329,12 @@ generated-step s g n w =
 
 -- ---- every call
 
-insert-step : (s : State) (g n : ℕ) (m : Option Sent) → first (insertChecks (wellFormed s) s g n) ≡ m → Step s (withAnswer answerOf (decided s m (sendInsert s (generatedInsert s g n))))
-unfolding decided unchanged sendInsert answerOf afterDrain advanced
+insert-step : (s : State) (g n : ℕ) (m : Option Sent) → first (insertChecks (wellFormed s) s g n) ≡ m → Step s (withAnswer answerOf (decided (unchanged s) m (sendInsert s (generatedInsert s g n))))
+unfolding decided unchanged sendInsert carryOut insertCarried answerOf afterDrain advanced
 insert-step s g n none e = adds (ahead (s .site)) (generatedInsert s g n) (generated-step s g n (first-none (insertChecks (wellFormed s) s g n) e))
 insert-step s g n (some a) e = turned (answerOf a) (refusing-turned a (first-some Refusing (insertChecks (wellFormed s) s g n) (insert-turned s g n) a e))
 
-delete-step : (s : State) (p : ℕ) (m : Option Sent) → first (deleteChecks (wellFormed s) s p) ≡ m → Step s (withAnswer answerOf (decided s m (sendDelete s (generatedDelete s p))))
+delete-step : (s : State) (p : ℕ) (m : Option Sent) → first (deleteChecks (wellFormed s) s p) ≡ m → Step s (withAnswer answerOf (decided (unchanged s) m (sendDelete s (generatedDelete s p))))
 unfolding decided unchanged sendDelete answerOf carryOut deleteChecks notVisible beyondVisible generatedDelete
 delete-step s p none e =
     let w = first-none (deleteChecks (wellFormed s) s p) e in
@@ -343,7 +343,7 @@ delete-step s p none e =
     removes (generatedDelete s p) (record { formed = form; ready = marked-held (left-marked (standing (form .sound)) p visible) (held-begin (s .characters)) })
 delete-step s p (some a) e = turned (answerOf a) (refusing-turned a (first-some Refusing (deleteChecks (wellFormed s) s p) (delete-turned s p) a e))
 
-receive-step : (s : State) (o : Operation) (m : Option Answer) → first (receiveChecks (wellFormed s) s o) ≡ m → Step s (decided s m (accept s o))
+receive-step : (s : State) (o : Operation) (m : Option Answer) → first (receiveChecks (wellFormed s) s o) ≡ m → Step s (decided (unchanged s) m (accept s o))
 unfolding decided
 receive-step s o none e = accept-step s o (first-none (receiveChecks (wellFormed s) s o) e)
 receive-step s o (some a) e = turned a (first-some Turned (receiveChecks (wellFormed s) s o) (receive-turned s o) a e)

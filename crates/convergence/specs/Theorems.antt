@@ -23,7 +23,7 @@ use Rattle.woot.specs.Form.{wellFormed}
 use Rattle.woot.specs.Answers.{reply, Reported}
 use Rattle.woot.specs.Calls.{unchanged, integrated, receiveChecks, receiveWhen, receive, insertChecks, localInsertWhen, deleteChecks, localDeleteWhen}
 use Rattle.woot.specs.Text.{text}
-use Rattle.woot.specs.Histories.{Call, outcome, run, drainedBy, discardedBy, deferredBy, InsertedIn, DeletedIn, charactersAfter, historyOf, SameInserted, SameDeleted}
+use Rattle.woot.specs.Histories.{Call, Begun, startOf, outcome, run, drainedBy, discardedBy, deferredBy, InsertedIn, DeletedIn, charactersAfter, historyOf, SameInserted, SameDeleted}
 use Rattle.convergence.specs.Agreement.{Grown, OneMeaning}
 
 -- ---- the rules as recursions, with no count of steps
@@ -129,52 +129,53 @@ Isolation =
     ((receive s o .answer ≡ Refused SenderFull) ↔ (receive t o .answer ≡ Refused SenderFull))
     × (receive s o .answer ≡ Deferred → (receive t o .answer ≡ Deferred) ⊎ (receive t o .answer ≡ Refused DocumentFull))
 
--- ---- histories from an empty replica of any number
+-- ---- histories from any beginning
 
 -- "the characters held are the inserts carried out, every field counted"
 abbrev pub HeldAreInserted : Type 0
 HeldAreInserted =
-    (n : ℕ) (cs : List Call) (i : Insert) →
-    List·Memᴰ i (map origin (charactersAfter n cs)) ↔ InsertedIn i (historyOf n cs)
+    (b : Begun) (cs : List Call) (i : Insert) →
+    List·Memᴰ i (map origin (charactersAfter b cs)) ↔ InsertedIn i (historyOf b cs)
 
 -- "rows equal inserts carried out", counted
 abbrev pub HeldCount : Type 0
-HeldCount = (n : ℕ) (cs : List Call) → length (charactersAfter n cs) ≡ length (inserts (historyOf n cs))
+HeldCount = (b : Begun) (cs : List Call) → length (charactersAfter b cs) ≡ length (inserts (historyOf b cs))
 
 -- a character is hidden exactly when a delete of it was carried out
 abbrev pub HiddenAreDeleted : Type 0
 HiddenAreDeleted =
-    (n : ℕ) (cs : List Call) (c : Character) → List·Memᴰ c (charactersAfter n cs) →
-    (c .visible ≡ false) ↔ DeletedIn (c .id) (historyOf n cs)
+    (b : Begun) (cs : List Call) (c : Character) → List·Memᴰ c (charactersAfter b cs) →
+    (c .visible ≡ false) ↔ DeletedIn (c .id) (historyOf b cs)
 
--- "operations answered waits equal those waiting now, plus those carried out from the list, plus those thrown out"
+-- "operations answered waits equal those waiting now, plus those carried out from the list, plus those thrown out"; those
+-- that wait at the start count as answered so
 abbrev pub WaitsBalance : Type 0
 WaitsBalance =
-    (n : ℕ) (cs : List Call) →
-    deferredBy (initial n) cs
-    ≡ length (run (initial n) cs .pending) + length (drainedBy (initial n) cs) + length (discardedBy (initial n) cs)
+    (s : State) (cs : List Call) →
+    deferredBy s cs + length (s .pending)
+    ≡ length (run s cs .pending) + length (drainedBy s cs) + length (discardedBy s cs)
 
 -- each character stands between its neighbours, was born after them, and concurrent ones stand by identifier
-abbrev pub GrownFromEmpty : Type 0
-GrownFromEmpty = (n : ℕ) (cs : List Call) → Grown (charactersAfter n cs)
+abbrev pub GrownThroughout : Type 0
+GrownThroughout = (b : Begun) (cs : List Call) → Grown (charactersAfter b cs)
 
 -- refusal 9 is never answered
 abbrev pub NeverUnplaceable : Type 0
-NeverUnplaceable = (n : ℕ) (cs : List Call) (c : Call) → outcome (run (initial n) cs) c .answer ≡ Refused Unplaceable → ⊥
+NeverUnplaceable = (b : Begun) (cs : List Call) (c : Call) → outcome (run (startOf b) cs) c .answer ≡ Refused Unplaceable → ⊥
 
 -- two characters that two replicas hold stand in the same order on both, whatever else each holds or lacks
 abbrev pub Agreement : Type 0
 Agreement =
-    (m n : ℕ) (cs ds : List Call) → OneMeaning (charactersAfter m cs) (charactersAfter n ds) →
+    (a b : Begun) (cs ds : List Call) → OneMeaning (charactersAfter a cs) (charactersAfter b ds) →
     (x y : Identifier) →
-    List·Memᴰ x (identifiers (charactersAfter m cs)) → List·Memᴰ y (identifiers (charactersAfter m cs)) →
-    List·Memᴰ x (identifiers (charactersAfter n ds)) → List·Memᴰ y (identifiers (charactersAfter n ds)) →
-    above (charactersAfter m cs) x y ≡ above (charactersAfter n ds) x y
+    List·Memᴰ x (identifiers (charactersAfter a cs)) → List·Memᴰ y (identifiers (charactersAfter a cs)) →
+    List·Memᴰ x (identifiers (charactersAfter b ds)) → List·Memᴰ y (identifiers (charactersAfter b ds)) →
+    above (charactersAfter a cs) x y ≡ above (charactersAfter b ds) x y
 
 -- Demand 3, "a single claim about two lists of calls": the same inserts carried out, every field counted, and the same
 -- characters deleted, by whatever sender, give equal characters and equal visible bytes.
 abbrev pub Convergence : Type 0
 Convergence =
-    (m n : ℕ) (cs ds : List Call) →
-    SameInserted (historyOf m cs) (historyOf n ds) → SameDeleted (historyOf m cs) (historyOf n ds) →
-    (charactersAfter m cs ≡ charactersAfter n ds) × (text (charactersAfter m cs) ≡ text (charactersAfter n ds))
+    (a b : Begun) (cs ds : List Call) →
+    SameInserted (historyOf a cs) (historyOf b ds) → SameDeleted (historyOf a cs) (historyOf b ds) →
+    (charactersAfter a cs ≡ charactersAfter b ds) × (text (charactersAfter a cs) ≡ text (charactersAfter b ds))

@@ -20,5 +20,5 @@ use Rattle.report.specs.Calls.{answeredAs, answered, printedFrom, printe
 use Rattle.report.specs.Theorems.{Example}
 
 pub example : Example
-unfolding same below sender character origin hidden sameInsert sameDelete sameOperation within siteNumber codePoint characterId previousId nextId siteInRange insertInRange deleteInRange inRange characterInRange initial pad waiting blankCharacter blankPending meaning documentOf stored counted sequence indexOf placeOf held above adjacent candidate candidates narrowed search position between insertAt integrateInsert integrateDelete executable crossed unplaceable integrate pendingFrom earliest andIntegrated andDiscarded drained drainSteps drain known allInRange sharesKept capacityKept identifiersDistinct deletesDistinct ordered neighboursOrdered noneExecutable wellFormed replicaWellFormed number reply unchanged decided integrated withCharacters withPending afterDrain insertCarried duplicate conflicting senderFull documentFull receiveChecks carryOut defer accept receiveWhen isDigit leadingZero isNumeral valueOf digitsIn digits ended firstLine rest isLetter numerals hasLayout numbers identifierAt insertOf deleteOf isInsert isDelete said decidedRead lineLaidOut laidOut readChecks readAs saidBy readOperation afterAnswer receipt received lineFrom spelled replyLine reportLine codePoints textNumbers textLine answeredAs answered printedFrom printed
+unfolding same below sender character origin hidden sameInsert sameDelete sameOperation within siteNumber codePoint characterId previousId nextId siteInRange insertInRange deleteInRange inRange characterInRange initial pad waiting blankCharacter blankPending meaning documentOf stored counted sequence indexOf placeOf held above adjacent candidate candidates narrowed search position between insertAt integrateInsert integrateDelete executable crossed unplaceable integrate pendingFrom earliest andIntegrated andDiscarded drained drainSteps drain known allInRange sharesKept capacityKept identifiersDistinct deletesDistinct ordered neighboursOrdered noneExecutable wellFormed replicaWellFormed reply unchanged decided integrated withCharacters withPending afterDrain insertCarried duplicate conflicting senderFull documentFull receiveChecks carryOut defer accept receiveWhen isDigit leadingZero isNumeral valueOf digitsIn digits ended firstLine rest isLetter numerals hasLayout numbers identifierAt insertOf deleteOf isInsert isDelete said decidedRead lineLaidOut laidOut readChecks readAs saidBy readOperation afterAnswer receipt received lineFrom spelled replyLine reportLine codePoints textNumbers textLine answeredAs answered printedFrom printed
 example = refl

@@ -52,7 +52,6 @@ reply-length n r =
 
 -- the number of a refusal has at most two digits
 number-few : (r : Refusal) → number r < 100
-unfolding number
 number-few Layout = omega arith
 number-few Range = omega arith
 number-few Form = omega arith

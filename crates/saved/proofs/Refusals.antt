@@ -71,7 +71,7 @@ load-refuses s r = (
 )
 
 pub load-numbers : LoadNumbers
-unfolding loadNumber number refusal
+unfolding loadNumber refusal
 load-numbers s = go (savedLaidOut s) (savedInRange s) (wellFormed (savedState s)) refl refl refl
   where
     go : (a b d : Bool) → savedLaidOut s ≡ a → savedInRange s ≡ b → wellFormed (savedState s) ≡ d

@@ -79,14 +79,14 @@ module _ (r : Replica) where
   checked e = formed-meaning r (not-false (replicaWellFormed r) e)
 
   pub receive-fine : (o : Operation) → Fine (received r o .answer)
-  unfolding received receipt receiveWhen receiveChecks number
+  unfolding received receipt receiveWhen receiveChecks
   receive-fine o =
       by-checks Fine (meaning r) (receiveChecks (replicaWellFormed r) (meaning r) o) (accept (meaning r) o)
       (refl, (refl, (tt, (refl, (refl, (refl, (refl, (refl, tt))))))))
       (λ w. accept-fine (meaning r) o (checked (w .1 .0)))
 
   pub insert-sends : (g n : ℕ) → Sends insertMost (inserted r g n .answer)
-  unfolding inserted generated localInsertWhen insertChecks sendInsert number
+  unfolding inserted generated localInsertWhen insertChecks sendInsert
   insert-sends g n =
       let i = generatedInsert (meaning r) g n in
       by-checks (Sends insertMost) (meaning r) (insertChecks (replicaWellFormed r) (meaning r) g n)
@@ -95,7 +95,7 @@ module _ (r : Replica) where
       (λ w. (insert-fine (meaning r) i (checked (w .1 .0)), line-lengths .0 i))
 
   pub delete-sends : (p : ℕ) → Sends deleteMost (deleted r p .answer)
-  unfolding deleted generated localDeleteWhen deleteChecks sendDelete number
+  unfolding deleted generated localDeleteWhen deleteChecks sendDelete
   delete-sends p =
       let d = generatedDelete (meaning r) p in
       by-checks (Sends deleteMost) (meaning r) (deleteChecks (replicaWellFormed r) (meaning r) p)

@@ -40,7 +40,6 @@ use Rattle.wimtaze.proofs.Counts.{Fine, Sends, receive-fine, insert-sen
 -- ---- what is returned
 
 number-few : (q : Refusal) → number q ≤ 12
-unfolding number
 number-few Layout = omega arith
 number-few Range = omega arith
 number-few Form = omega arith
@@ -135,7 +134,7 @@ send-good k x out line f = go (x .answer) f
     go (sentRefused q) f = turned-good q (λ h. f)
 
 begin-good : (n : ℕ) (out : List ℕ) → Good savedMost 0 (savedMost ≤ length out) (beginning n out .result)
-unfolding beginning saving number
+unfolding beginning saving
 begin-good n out =
     let r = stored (initial n) in
     unless-good _ _ _ _ (first-some Other ((not (siteNumber n) ⇒ Range) ∷ []) (refl, tt))
@@ -143,7 +142,7 @@ begin-good n out =
 
 module _ (bytes : List ℕ) where
   input-other : (laid ranged : Bool) (q : Refusal) → inputRefusal bytes laid ranged ≡ some q → Other q
-  unfolding inputRefusal inputChecks number
+  unfolding inputRefusal inputChecks
   input-other laid ranged = first-some Other (inputChecks bytes laid ranged) (refl, (refl, (refl, tt)))
 
   receive-line-good : (line out : List ℕ)

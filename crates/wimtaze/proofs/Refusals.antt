@@ -52,7 +52,7 @@ done false b c s h = (cc, cc)
 
 laid-out : (a b c d : Bool) (s : State) →
     refusing (a && false) (b && d) c ≡ some (lowestOf (loadedAs (loading a b c) s .answer) Layout)
-unfolding loadedAs lowestOf lower number
+unfolding loadedAs lowestOf lower
 laid-out true true true d s = refl
 laid-out true true false d s = refl
 laid-out true false c d s = refl
@@ -60,7 +60,7 @@ laid-out false b c d s = refl
 
 ranged : (a b c : Bool) (s : State) →
     refusing (a && true) (b && false) c ≡ some (lowestOf (loadedAs (loading a b c) s .answer) Range)
-unfolding loadedAs lowestOf lower number
+unfolding loadedAs lowestOf lower
 ranged true true true s = refl
 ranged true true false s = refl
 ranged true false c s = refl

@@ -74,7 +74,7 @@ by-size true q size n m other few = go (ltb size n) refl
 
 pub line-bounded : (o : Operation) (line : List ℕ) (m : ℕ) → (inRange o ≡ true → length (operationLine o) ≤ m)
     → Bounded m (m ≤ length line) (written o line)
-unfolding written writeChecks number
+unfolding written writeChecks
 line-bounded o line m few = by-size (inRange o) Range (length line) (length (operationLine o)) m refl few
 
 -- what `textWritten` answers, as the other writers do
@@ -90,13 +90,13 @@ module _ (r : Replica) where
 
   module _ (out : List ℕ) where
     pub save-bounded : Bounded savedMost (savedMost ≤ length out) (saved r out)
-    unfolding saved saveChecks bytesOf number
+    unfolding saved saveChecks bytesOf
     save-bounded =
         by-size (replicaWellFormed r) Form (length out) (length (bytesOf r)) savedMost refl
         (λ e. saved-length (meaning r) (formed-meaning e))
 
     pub text-bounded : Bounded textMost (textMost ≤ length out) (textWritten r out)
-    unfolding textWritten textChecks textOf number
+    unfolding textWritten textChecks textOf
     text-bounded =
         rw (← text-decided (first (textChecks r out)) (Length (length (textOf r))))
         (by-size (replicaWellFormed r) Form (length out) (length (textOf r)) textMost refl

@@ -13,7 +13,7 @@ use Rattle.woot.specs.declared.Sent.{Sent}
 use Rattle.woot.specs.declared.Sent.the-variants.{Done as sentDone, Refused as sentRefused}
 
 -- document 01, "Grounds for turning a call away"
-unfoldable pub number : Refusal → ℕ
+abbrev pub number : Refusal → ℕ
 number Layout = 1
 number Range = 2
 number Form = 3
@@ -26,6 +26,22 @@ number Unplaceable = 9
 number SenderFull = 10
 number DocumentFull = 11
 number Output = 12
+
+-- the place of a refusal in the checking order: what compares two refusals compares these, since a later number may be
+-- checked earlier
+abbrev pub rank : Refusal → ℕ
+rank Layout = 1
+rank Range = 2
+rank Form = 3
+rank Position = 4
+rank Clock = 5
+rank Taken = 6
+rank Conflict = 7
+rank Crossed = 8
+rank Unplaceable = 9
+rank SenderFull = 10
+rank DocumentFull = 11
+rank Output = 12
 
 -- the words of document 01's replies
 pub data Word : Type 0 where
@@ -65,6 +81,11 @@ module _ {A : Type 0} where
   abbrev pub first : List (Check A) → Option A
   first [] = none
   first (c ∷ cs) = cond (c .holds) (some (c .answer)) (first cs)
+
+  -- what is made of the answer at the first condition that holds; where none does, what is done
+  unfoldable pub decided : {B : Type 0} → (A → B) → Option A → B → B
+  decided turned none b = b
+  decided turned (some a) b = turned a
 
   -- a is the answer at a condition that holds, and no condition before it holds
   pub data Reported (a : A) : List (Check A) → Type 0 where

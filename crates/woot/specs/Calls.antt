@@ -26,7 +26,7 @@ use Rattle.woot.specs.State.{State}
 use Rattle.woot.specs.Placing.{identifiers, integrateInsert, integrateDelete}
 use Rattle.woot.specs.Pending.{executable, crossed, unplaceable, pendingFrom, drain, Drained}
 use Rattle.woot.specs.Form.{known, wellFormed}
-use Rattle.woot.specs.Answers.{Check, _⇒_, first}
+use Rattle.woot.specs.Answers.{Check, _⇒_, first, decided}
 use Rattle.lists.specs.Lists.{any, keep}
 
 -- what a call answers and leaves: the state, its own operation where that was carried out, and what was drained from
@@ -41,11 +41,6 @@ pub record Outcome (A : Type 0) : Type 0 where
 -- a call that changes nothing
 unfoldable pub unchanged : {A : Type 0} → State → A → Outcome A
 unchanged s a = record { answer = a; state = s; own = []; drained = []; discarded = [] }
-
--- the first condition that holds decides, and the call changes nothing; where none holds, what is done
-unfoldable pub decided : {A : Type 0} → State → Option A → Outcome A → Outcome A
-decided s none r = r
-decided s (some a) r = unchanged s a
 
 -- "every operation carried out by the call including its own"
 unfoldable pub integrated : {A : Type 0} → Outcome A → List Operation
@@ -100,21 +95,21 @@ receiveChecks formed s o =
     ∷ (documentFull s o ⇒ Refused DocumentFull)
     ∷ []
 
--- an operation that has everything it needs: "with all needed it is carried out"
-unfoldable pub carryOut : State → Operation → Outcome Answer
-carryOut s (insert i) =
+-- "with all needed it is carried out"; `done` makes the answer of the counts
+unfoldable pub carryOut : {A : Type 0} → (ℕ → ℕ → A) → State → Operation → Outcome A
+carryOut done s (insert i) =
     let d : Drained = insertCarried s i in
     record {
-      answer = Done (suc (length (d .integrated))) (length (d .discarded));
+      answer = done (suc (length (d .integrated))) (length (d .discarded));
       state = afterDrain s d;
       own = insert i ∷ [];
       drained = d .integrated;
       discarded = d .discarded;
     }
-carryOut s (delete d) =
+carryOut done s (delete d) =
     let cs : List Character = integrateDelete (s .characters) (d .target) in
     record {
-      answer = Done 1 0;
+      answer = done 1 0;
       state = withCharacters s cs;
       own = delete d ∷ [];
       drained = [];
@@ -127,10 +122,10 @@ defer s o = record { answer = Deferred; state = withPending s o; own = []; drain
 
 -- what is done where no condition holds
 unfoldable pub accept : State → Operation → Outcome Answer
-accept s o = cond (executable (s .characters) o) (carryOut s o) (defer s o)
+accept s o = cond (executable (s .characters) o) (carryOut Done s o) (defer s o)
 
 unfoldable pub receiveWhen : Bool → State → Operation → Outcome Answer
-receiveWhen formed s o = decided s (first (receiveChecks formed s o)) (accept s o)
+receiveWhen formed s o = decided (unchanged s) (first (receiveChecks formed s o)) (accept s o)
 
 -- receiving an operation
 unfoldable pub receive : State → Operation → Outcome Answer
@@ -185,20 +180,11 @@ advanced s =
 
 -- what is done where no condition holds: the character is put in, and what waited for it follows
 unfoldable pub sendInsert : State → Insert → Outcome Sent
-sendInsert s i =
-    let d : Drained = insertCarried s i in
-    record {
-      answer =
-          sentDone (insert i) (suc (length (d .integrated))) (length (d .discarded));
-      state = afterDrain (advanced s) d;
-      own = insert i ∷ [];
-      drained = d .integrated;
-      discarded = d .discarded;
-    }
+sendInsert s i = carryOut (sentDone (insert i)) (advanced s) (insert i)
 
 unfoldable pub localInsertWhen : Bool → State → ℕ → ℕ → Outcome Sent
 localInsertWhen formed s g n =
-    decided s (first (insertChecks formed s g n)) (sendInsert s (generatedInsert s g n))
+    decided (unchanged s) (first (insertChecks formed s g n)) (sendInsert s (generatedInsert s g n))
 
 -- typing the code point n at gap g
 unfoldable pub localInsert : State → ℕ → ℕ → Outcome Sent
@@ -218,19 +204,11 @@ unfoldable pub generatedDelete : State → ℕ → Delete
 generatedDelete s p = record { sender = s .site .number; target = getD (begin ∷ visibles (s .characters)) p begin }
 
 unfoldable pub sendDelete : State → Delete → Outcome Sent
-sendDelete s d =
-    let cs : List Character = integrateDelete (s .characters) (d .target) in
-    record {
-      answer = sentDone (delete d) 1 0;
-      state = withCharacters s cs;
-      own = delete d ∷ [];
-      drained = [];
-      discarded = [];
-    }
+sendDelete s d = carryOut (sentDone (delete d)) s (delete d)
 
 unfoldable pub localDeleteWhen : Bool → State → ℕ → Outcome Sent
 localDeleteWhen formed s p =
-    decided s (first (deleteChecks formed s p)) (sendDelete s (generatedDelete s p))
+    decided (unchanged s) (first (deleteChecks formed s p)) (sendDelete s (generatedDelete s p))
 
 -- erasing the visible character p, counted from 1
 unfoldable pub localDelete : State → ℕ → Outcome Sent

@@ -71,13 +71,25 @@ InsertedIn i os = List·Memᴰ (insert i) os
 abbrev pub DeletedIn : Identifier → List Operation → Type 0
 DeletedIn x os = (d : Delete) × (d .target ≡ x) × List·Memᴰ (delete d) os
 
--- ---- from an empty replica of the number
+-- ---- from a beginning
 
-abbrev pub charactersAfter : ℕ → List Call → List Character
-charactersAfter n cs = run (initial n) cs .characters
+-- what a list of calls may start from: "each list starts from an empty sheet of any laptop number"
+pub data Begun : Type 0 where
+  empty : ℕ → Begun
 
-abbrev pub historyOf : ℕ → List Call → List Operation
-historyOf n cs = integratedBy (initial n) cs
+-- the state that it is
+abbrev pub startOf : Begun → State
+startOf (empty n) = initial n
+
+-- the operations that were carried out to make it
+abbrev pub beforehand : Begun → List Operation
+beforehand (empty n) = []
+
+abbrev pub charactersAfter : Begun → List Call → List Character
+charactersAfter b cs = run (startOf b) cs .characters
+
+abbrev pub historyOf : Begun → List Call → List Operation
+historyOf b cs = beforehand b ++ integratedBy (startOf b) cs
 
 -- the same characters held
 abbrev pub SameInserted : List Operation → List Operation → Type 0

@@ -2,6 +2,7 @@
 // the calls. The rules that they live by are in specs/; the crate
 // `convergence` has the theorems about them.
 ghost use mathlib.Core.Path.{_≡_};
+ghost use Rattle.woot.specs.Answers.{number};
 ghost use Rattle.woot.specs.State.{initial, stored};
 
 // The name of a character: the site that typed it and that site's clock then. (Document 01: identifier.)
@@ -139,6 +140,28 @@ pub enum Refusal {
     DocumentFull,
     // 12: the lent output is too short.
     Output,
+}
+
+impl Refusal {
+    // The number that document 01 gives it.
+    pub fn number(self) -> u64
+        ensures { λ r. ⌜ r ≡ number self ⌝ }
+    {
+        match self {
+            Refusal::Layout => 1,
+            Refusal::Range => 2,
+            Refusal::Form => 3,
+            Refusal::Position => 4,
+            Refusal::Clock => 5,
+            Refusal::Taken => 6,
+            Refusal::Conflict => 7,
+            Refusal::Crossed => 8,
+            Refusal::Unplaceable => 9,
+            Refusal::SenderFull => 10,
+            Refusal::DocumentFull => 11,
+            Refusal::Output => 12,
+        }
+    }
 }
 
 // What receiving answers. (Document 01: done with carried and thrown, waits, known, refused.)
