@@ -6,7 +6,7 @@ use mathlib.Core.List.{List, [], _∷_, map, List·Memᴰ, List·Memᴰ·head, L
 use Rattle.woot.specs.declared.Identifier.{Identifier}
 use Rattle.woot.specs.declared.Insert.{Insert}
 use Rattle.woot.specs.declared.Character.{Character}
-use Rattle.woot.specs.Operations.{origin}
+use Rattle.woot.specs.Operations.{origin, isVisible}
 use Rattle.woot.specs.Text.{text}
 use Rattle.woot.specs.Histories.{Call, Begun, DeletedIn, charactersAfter, historyOf, SameInserted, SameDeleted}
 use Rattle.convergence.specs.Theorems.{Agreement, Convergence}
@@ -20,12 +20,12 @@ pub characters-agree : Agreement
 characters-agree a b cs ds = agreement (charactersAfter a cs) (charactersAfter b ds) (grown-throughout a cs) (grown-throughout b ds)
 
 -- two characters of one origin, as visible as each other, are the same
-character-path : (c d : Character) → origin c ≡ origin d → c .visible ≡ d .visible → c ≡ d
-unfolding origin
+character-path : (c d : Character) → origin c ≡ origin d → isVisible c ≡ isVisible d → c ≡ d
+unfolding origin isVisible
 character-path c d e v = λ i. record { id = e i .id; «code_point» = e i .«code_point»; visible = v i; previous = e i .previous; next = e i .next }
 
 -- two lists of the same origins, as visible as each other, are the same
-characters-path : (cs ds : List Character) → map origin cs ≡ map origin ds → ((c d : Character) → List·Memᴰ c cs → List·Memᴰ d ds → origin c ≡ origin d → c .visible ≡ d .visible) → cs ≡ ds
+characters-path : (cs ds : List Character) → map origin cs ≡ map origin ds → ((c d : Character) → List·Memᴰ c cs → List·Memᴰ d ds → origin c ≡ origin d → isVisible c ≡ isVisible d) → cs ≡ ds
 characters-path [] [] e f = refl
 characters-path [] (d ∷ ds) e f = absurd (nil≢cons e)
 characters-path (c ∷ cs) [] e f = absurd (nil≢cons (sym e))
@@ -42,7 +42,7 @@ same-characters a b cs ds inserted deleted =
     (same-list (charactersAfter a cs) (charactersAfter b ds) (grown-throughout a cs) (grown-throughout b ds) (λ i. (λ h. held-are-inserted b ds i .1 (inserted i .0 (held-are-inserted a cs i .0 h)), λ h. held-are-inserted a cs i .1 (inserted i .1 (held-are-inserted b ds i .0 h)))))
     (λ c d p q e.
     let x : c .id ≡ d .id = ap (λ (i : Insert). i .id) e in
-    agree-false (c .visible) (d .visible)
+    agree-false (isVisible c) (isVisible d)
     (λ h. hidden-are-deleted b ds d q .1 (subst (λ (y : Identifier). DeletedIn y (historyOf b ds)) x (deleted (c .id) .0 (hidden-are-deleted a cs c p .0 h))))
     (λ h. hidden-are-deleted a cs c p .1 (deleted (c .id) .1 (subst (λ (y : Identifier). DeletedIn y (historyOf b ds)) (sym x) (hidden-are-deleted b ds d q .0 h)))))
 

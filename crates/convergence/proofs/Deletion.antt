@@ -8,23 +8,21 @@ use mathlib.Core.Option.{Option, none, some}
 use lib.ListN.{length, length-map}
 use Rattle.woot.specs.declared.Identifier.{Identifier}
 use Rattle.woot.specs.declared.Insert.{Insert}
+use Rattle.woot.specs.declared.Delete.{Delete}
 use Rattle.woot.specs.declared.Operation.{Operation}
 use Rattle.woot.specs.declared.Operation.the-variants.{Insert as insert, Delete as delete}
 use Rattle.woot.specs.declared.Character.{Character}
 use Rattle.woot.specs.Identifiers.{begin, end, same, below}
-use Rattle.woot.specs.Operations.{origin, hidden}
+use Rattle.woot.specs.Operations.{origin, isVisible, hidden, deletedBy}
 use Rattle.lists.specs.Lists.{keep}
 use Rattle.woot.specs.Placing.{identifiers, sequence, placeOf, held, above, Interval, Located, located, adjacent, candidate, candidates, narrowed, search, position, between, integrateDelete}
 use Rattle.lists.proofs.Members.{keep-map}
 use Rattle.woot.specs.Pending.{executable, crossed, unplaceable}
 
--- what a delete of x makes of a character
-abbrev pub marked : Identifier → Character → Character
-marked x c = cond (same x (c .id)) (hidden c) c
-
-module _ {B : Type 0} (f : Character → B) (indifferent : (c : Character) → f (hidden c) ≡ f c) (x : Identifier) where
-  pub marked-same : (c : Character) → f (marked x c) ≡ f c
-  marked-same c = go (same x (c .id))
+module _ {B : Type 0} (f : Character → B) (indifferent : (c : Character) → f (hidden c) ≡ f c) (x : Delete) where
+  pub marked-same : (c : Character) → f (deletedBy x c) ≡ f c
+  unfolding deletedBy
+  marked-same c = go (same (x .target) (c .id))
     where
       go : (b : Bool) → f (cond b (hidden c) c) ≡ f c
       go true = indifferent c
@@ -36,27 +34,27 @@ module _ {B : Type 0} (f : Character → B) (indifferent : (c : Character) → f
   delete-map [] = refl
   delete-map (c ∷ cs) = ap₂ (λ (b : B) (bs : List B). b ∷ bs) (marked-same c) (delete-map cs)
 
-module _ (x : Identifier) where
-  pub marked-origin : (c : Character) → origin (marked x c) ≡ origin c
+module _ (x : Delete) where
+  pub marked-origin : (c : Character) → origin (deletedBy x c) ≡ origin c
   unfolding origin hidden
   marked-origin = marked-same origin (λ c. refl) x
 
-  pub marked-id : (c : Character) → marked x c .id ≡ c .id
+  pub marked-id : (c : Character) → deletedBy x c .id ≡ c .id
   unfolding hidden
   marked-id = marked-same (λ c. c .id) (λ c. refl) x
 
-  pub marked-previous : (c : Character) → marked x c .previous ≡ c .previous
+  pub marked-previous : (c : Character) → deletedBy x c .previous ≡ c .previous
   unfolding hidden
   marked-previous = marked-same (λ c. c .previous) (λ c. refl) x
 
-  pub marked-next : (c : Character) → marked x c .next ≡ c .next
+  pub marked-next : (c : Character) → deletedBy x c .next ≡ c .next
   unfolding hidden
   marked-next = marked-same (λ c. c .next) (λ c. refl) x
 
-  -- "hidden, no longer visible": x, where it is a character, and no other becomes so
-  pub marked-visible : (c : Character) → marked x c .visible ≡ (c .visible && not (same x (c .id)))
-  unfolding hidden
-  marked-visible c = go (same x (c .id))
+  -- the target, where it is a character, is no longer visible, and no other becomes so
+  pub marked-visible : (c : Character) → isVisible (deletedBy x c) ≡ (isVisible c && not (same (x .target) (c .id)))
+  unfolding hidden deletedBy isVisible
+  marked-visible c = go (same (x .target) (c .id))
     where
       go : (b : Bool) → (cond b (hidden c) c) .visible ≡ (c .visible && not b)
       go true = sym (neither (c .visible))
@@ -70,10 +68,10 @@ module _ (x : Identifier) where
           unchanged true = refl
           unchanged false = refl
 
-module _ (cs : List Character) (x : Identifier) where
+module _ (cs : List Character) (x : Delete) where
   pub delete-length : length (integrateDelete cs x) ≡ length cs
   unfolding integrateDelete
-  delete-length = length-map cs (marked x)
+  delete-length = length-map cs (deletedBy x)
 
   pub delete-identifiers : identifiers (integrateDelete cs x) ≡ identifiers cs
   unfolding hidden
@@ -99,13 +97,13 @@ module _ (cs : List Character) (x : Identifier) where
   unfolding above
   delete-above y z = rw (delete-place y, delete-place z, delete-held z)
 
-  pub delete-member : {d : Character} → List·Memᴰ d (integrateDelete cs x) → (c : Character) × List·Memᴰ c cs × (marked x c ≡ d)
+  pub delete-member : {d : Character} → List·Memᴰ d (integrateDelete cs x) → (c : Character) × List·Memᴰ c cs × (deletedBy x c ≡ d)
   unfolding integrateDelete
-  delete-member m = Memᴰ·of-map (marked x) cs m
+  delete-member m = Memᴰ·of-map (deletedBy x) cs m
 
-  pub member-delete : {c : Character} → List·Memᴰ c cs → List·Memᴰ (marked x c) (integrateDelete cs x)
+  pub member-delete : {c : Character} → List·Memᴰ c cs → List·Memᴰ (deletedBy x c) (integrateDelete cs x)
   unfolding integrateDelete
-  member-delete m = Memᴰ·map (marked x) m
+  member-delete m = Memᴰ·map (deletedBy x) m
 
   -- what holds of where each character came from
   pub delete-each : (P : Insert → Type 0) → ((c : Character) → List·Memᴰ c cs → P (origin c))
@@ -123,15 +121,15 @@ module _ (cs : List Character) (x : Identifier) where
   delete-crossed (delete d) = refl
 
 -- placing looks at the places and at where the characters came from, so it is as it was
-module _ (cs : List Character) (x : Identifier) where
+module _ (cs : List Character) (x : Delete) where
   -- a character with its place, after the delete
   abbrev relocated : Located → Located
-  relocated l = record { place = l .place; at = marked x (l .at) }
+  relocated l = record { place = l .place; at = deletedBy x (l .at) }
 
   delete-located : (k : ℕ) (ds : List Character) → located k (integrateDelete ds x) ≡ map relocated (located k ds)
   unfolding integrateDelete
   delete-located k [] = refl
-  delete-located k (d ∷ ds) = ap (λ (ls : List Located). record { place = k; at = marked x d } ∷ ls) (delete-located (suc k) ds)
+  delete-located k (d ∷ ds) = ap (λ (ls : List Located). record { place = k; at = deletedBy x d } ∷ ls) (delete-located (suc k) ds)
 
   delete-candidate : (v : Interval) (l : Located) → candidate (integrateDelete cs x) v (relocated l) ≡ candidate cs v l
   unfolding candidate

@@ -22,7 +22,7 @@ pub sound-carry : {cs : List Character} {os ps : List Operation} (o : Operation)
 unfolding integrate inRange
 sound-carry {cs} {os} {ps} (insert i) e s ready uncrossed placeable =
     sound-in i (sound-out e s) (every-member inRange (s .pending-ranges) (extract-itself e)) (out-fresh e s) (out-room e s) ready uncrossed placeable
-sound-carry {cs} {os} {ps} (delete d) e s ready uncrossed placeable = sound-hide (d .target) (sound-out e s)
+sound-carry {cs} {os} {ps} (delete d) e s ready uncrossed placeable = sound-hide d (sound-out e s)
 
 pub drained-sound : {cs : List Character} {ps : List Operation} {d : Drained} → Draining cs ps d → Sound cs ps → Sound (d .characters) (d .pending)
 unfolding drained andDiscarded andIntegrated

@@ -14,18 +14,18 @@ use Rattle.woot.specs.declared.Operation.{Operation}
 use Rattle.woot.specs.declared.Operation.the-variants.{Insert as insert, Delete as delete}
 use Rattle.woot.specs.declared.Character.{Character}
 use Rattle.woot.specs.Identifiers.{same}
-use Rattle.woot.specs.Operations.{character, origin, inserts}
+use Rattle.woot.specs.Operations.{character, origin, isVisible, deletedBy, inserts}
 use Rattle.woot.specs.Placing.{held, integrateDelete}
 use Rattle.woot.specs.Histories.{InsertedIn, DeletedIn}
 use Rattle.lists.proofs.Tests.{either, clash}
 use Rattle.convergence.proofs.Extract.{Extract, extract-length, extract-cases, extract-itself, extract-old, extract-map}
 use Rattle.convergence.proofs.Identifiers.{same-eq, eq-same}
-use Rattle.convergence.proofs.Deletion.{marked, marked-id, marked-visible, delete-length, delete-origins, delete-held, delete-member}
+use Rattle.convergence.proofs.Deletion.{marked-id, marked-visible, delete-length, delete-origins, delete-held, delete-member}
 
 pub record Faithful (cs : List Character) (os : List Operation) : Type 0 where
   pub inserted : (i : Insert) → List·Memᴰ i (map origin cs) ↔ InsertedIn i os
   pub counted : length cs ≡ length (inserts os)
-  pub deleted : (c : Character) → List·Memᴰ c cs → (c .visible ≡ false) ↔ DeletedIn (c .id) os
+  pub deleted : (c : Character) → List·Memᴰ c cs → (isVisible c ≡ false) ↔ DeletedIn (c .id) os
   pub targets : (x : Identifier) → DeletedIn x os → held cs x ≡ true
 
 pub faithful-empty : Faithful [] []
@@ -69,12 +69,12 @@ deleted-now os d e = (d, e, Memᴰ·append-right os (List·Memᴰ·head refl))
 -- ---- an insert carried out
 
 pub faithful-insert : {cs ds : List Character} {os : List Operation} (i : Insert) → Extract (character i) cs ds → held cs (i .id) ≡ false → ((x : Identifier) → held cs x ≡ true → held ds x ≡ true) → Faithful cs os → Faithful ds (os ++ insert i ∷ [])
-unfolding character origin
+unfolding character origin isVisible
 faithful-insert {cs} {ds} {os} i e fresh grows f =
     record {
       inserted = λ j. (to j, from j);
       counted = omega (arith, extract-length e, f .counted, ap length (inserts-append os (insert i ∷ [])), length-append (inserts os) (i ∷ []));
-      deleted = λ c m. ⊎-elim (λ k. subst (λ (b : Character). (b .visible ≡ false) ↔ DeletedIn (b .id) (os ++ insert i ∷ [])) (sym k) new) (λ k. (λ h. deleted-before (insert i) (f .deleted c k .0 h), λ w. f .deleted c k .1 (deleted-insert os i w))) (extract-cases e m);
+      deleted = λ c m. ⊎-elim (λ k. subst (λ (b : Character). (isVisible b ≡ false) ↔ DeletedIn (b .id) (os ++ insert i ∷ [])) (sym k) new) (λ k. (λ h. deleted-before (insert i) (f .deleted c k .0 h), λ w. f .deleted c k .1 (deleted-insert os i w))) (extract-cases e m);
       targets = λ x w. grows x (f .targets x (deleted-insert os i w));
     }
   where
@@ -89,33 +89,34 @@ faithful-insert {cs} {ds} {os} i e fresh grows f =
 
 -- ---- a delete carried out
 
-pub faithful-delete : {cs : List Character} {os : List Operation} (d : Delete) → held cs (d .target) ≡ true → Faithful cs os → Faithful (integrateDelete cs (d .target)) (os ++ delete d ∷ [])
+pub faithful-delete : {cs : List Character} {os : List Operation} (d : Delete) → held cs (d .target) ≡ true → Faithful cs os → Faithful (integrateDelete cs d) (os ++ delete d ∷ [])
+unfolding deletedBy
 faithful-delete {cs} {os} d ready f =
     record {
       inserted = λ j. (to j, from j);
-      counted = delete-length cs x ∙ f .counted ∙ sym (ap length (inserts-append os (delete d ∷ []) ∙ append-nil (inserts os)));
-      deleted = λ c m. let w = delete-member cs x m in subst (λ (b : Character). (b .visible ≡ false) ↔ DeletedIn (b .id) (os ++ delete d ∷ [])) (w .2) (each (w .0) (w .1));
-      targets = λ y w. delete-held cs x y ∙ ⊎-elim (λ k. f .targets y k) (λ k. subst (λ (z : Identifier). held cs z ≡ true) k ready) (deleted-delete os d w);
+      counted = delete-length cs d ∙ f .counted ∙ sym (ap length (inserts-append os (delete d ∷ []) ∙ append-nil (inserts os)));
+      deleted = λ c m. let w = delete-member cs d m in subst (λ (b : Character). (isVisible b ≡ false) ↔ DeletedIn (b .id) (os ++ delete d ∷ [])) (w .2) (each (w .0) (w .1));
+      targets = λ y w. delete-held cs d y ∙ ⊎-elim (λ k. f .targets y k) (λ k. subst (λ (z : Identifier). held cs z ≡ true) k ready) (deleted-delete os d w);
     }
   where
     x : Identifier
     x = d .target
 
-    to : (j : Insert) → List·Memᴰ j (map origin (integrateDelete cs x)) → InsertedIn j (os ++ delete d ∷ [])
-    to j m = Memᴰ·append-left (delete d ∷ []) (f .inserted j .0 (subst (λ (js : List Insert). List·Memᴰ j js) (delete-origins cs x) m))
+    to : (j : Insert) → List·Memᴰ j (map origin (integrateDelete cs d)) → InsertedIn j (os ++ delete d ∷ [])
+    to j m = Memᴰ·append-left (delete d ∷ []) (f .inserted j .0 (subst (λ (js : List Insert). List·Memᴰ j js) (delete-origins cs d) m))
 
-    from : (j : Insert) → InsertedIn j (os ++ delete d ∷ []) → List·Memᴰ j (map origin (integrateDelete cs x))
-    from j m = ⊎-elim (λ k. subst (λ (js : List Insert). List·Memᴰ j js) (sym (delete-origins cs x)) (f .inserted j .1 k)) (λ k. absurd (insert-delete (List·Memᴰ·eq-of-singleton k))) (List·Memᴰ·append-cases os m)
+    from : (j : Insert) → InsertedIn j (os ++ delete d ∷ []) → List·Memᴰ j (map origin (integrateDelete cs d))
+    from j m = ⊎-elim (λ k. subst (λ (js : List Insert). List·Memᴰ j js) (sym (delete-origins cs d)) (f .inserted j .1 k)) (λ k. absurd (insert-delete (List·Memᴰ·eq-of-singleton k))) (List·Memᴰ·append-cases os m)
 
-    hides : (c : Character) → List·Memᴰ c cs → marked x c .visible ≡ false → DeletedIn (c .id) (os ++ delete d ∷ [])
+    hides : (c : Character) → List·Memᴰ c cs → isVisible (deletedBy d c) ≡ false → DeletedIn (c .id) (os ++ delete d ∷ [])
     hides c m h = ⊎-elim (λ k. deleted-now os d (same-eq x (c .id) k)) (λ k. deleted-before (delete d) (f .deleted c m .0 (rw k at h))) (either (same x (c .id)))
 
-    hidden-by : (c : Character) → List·Memᴰ c cs → DeletedIn (c .id) (os ++ delete d ∷ []) → marked x c .visible ≡ false
-    hidden-by c m w = marked-visible x c ∙ ⊎-elim (λ k. rw (f .deleted c m .1 k)) (λ k. and-not (c .visible) (eq-same k)) (deleted-delete os d w)
+    hidden-by : (c : Character) → List·Memᴰ c cs → DeletedIn (c .id) (os ++ delete d ∷ []) → isVisible (deletedBy d c) ≡ false
+    hidden-by c m w = marked-visible d c ∙ ⊎-elim (λ k. rw (f .deleted c m .1 k)) (λ k. and-not (isVisible c) (eq-same k)) (deleted-delete os d w)
       where
         and-not : (b : Bool) {a : Bool} → a ≡ true → (b && not a) ≡ false
         and-not true {a} e = rw e
         and-not false e = refl
 
-    each : (c : Character) → List·Memᴰ c cs → (marked x c .visible ≡ false) ↔ DeletedIn (marked x c .id) (os ++ delete d ∷ [])
-    each c m = (λ h. subst (λ (y : Identifier). DeletedIn y (os ++ delete d ∷ [])) (sym (marked-id x c)) (hides c m h), λ w. hidden-by c m (subst (λ (y : Identifier). DeletedIn y (os ++ delete d ∷ [])) (marked-id x c) w))
+    each : (c : Character) → List·Memᴰ c cs → (isVisible (deletedBy d c) ≡ false) ↔ DeletedIn (deletedBy d c .id) (os ++ delete d ∷ [])
+    each c m = (λ h. subst (λ (y : Identifier). DeletedIn y (os ++ delete d ∷ [])) (sym (marked-id d c)) (hides c m h), λ w. hidden-by c m (subst (λ (y : Identifier). DeletedIn y (os ++ delete d ∷ [])) (marked-id d c) w))

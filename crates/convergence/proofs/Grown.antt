@@ -39,7 +39,7 @@ unfolding integrate inRange
 grown-carry {cs} {os} (insert i) e s ready uncrossed g =
     let r = every-member inRange (s .pending-ranges) (extract-itself e) in
     grown-insert cs i g r (fresh-unheld cs os i r (out-fresh e s)) ready uncrossed
-grown-carry {cs} (delete d) e s ready uncrossed g = grown-delete cs (d .target) g
+grown-carry {cs} (delete d) e s ready uncrossed g = grown-delete cs d g
 
 grown-drained : {cs : List Character} {ps : List Operation} {d : Drained} → Draining cs ps d → Sound cs ps → Grown cs → Grown (d .characters)
 unfolding drained andDiscarded andIntegrated
@@ -54,7 +54,7 @@ grown-step s (turned a w) g = g
 grown-step s (adds t i a) g =
     grown-drained (after-insert s i) (sound-in i (a .formed .sound) (a .ranged) (a .fresh) (a .space) (a .ready) (a .uncrossed) (a .placeable))
     (grown-insert (s .characters) i g (a .ranged) (fresh-unheld (s .characters) (s .pending) i (a .ranged) (a .fresh)) (a .ready) (a .uncrossed))
-grown-step s (removes d a) g = grown-delete (s .characters) (d .target) g
+grown-step s (removes d a) g = grown-delete (s .characters) d g
 grown-step s (defers o a) g = g
 
 grown-run : (s : State) (cs : List Call) → Grown (s .characters) → Grown (run s cs .characters)

@@ -11,6 +11,7 @@ use borrow.Author.Tests.{leb-false}
 use lib.ListN.{length, getD}
 use Rattle.woot.specs.declared.Identifier.{Identifier}
 use Rattle.woot.specs.declared.Insert.{Insert}
+use Rattle.woot.specs.declared.Delete.{Delete}
 use Rattle.woot.specs.declared.Operation.the-variants.{Insert as insert}
 use Rattle.woot.specs.declared.Character.{Character}
 use Rattle.woot.specs.Identifiers.{same}
@@ -142,7 +143,7 @@ module _ (cs : List Character) (b : Births cs) (s : Standing cs) (i : Insert) (f
             (λ c m. omega (arith, birth-old (c .next) (next-held cs s m), birth-old (c .id) (held-id cs m), b .after-next c m));
       }
 
-births-delete : (cs : List Character) (x : Identifier) → Births cs → Births (integrateDelete cs x)
+births-delete : (cs : List Character) (x : Delete) → Births cs → Births (integrateDelete cs x)
 unfolding origin
 births-delete cs x b =
     record {
@@ -164,7 +165,7 @@ grown-empty =
       sorted = λ c d m. absurd (List·Memᴰ·not-nil m);
     }
 
-pub grown-delete : (cs : List Character) (x : Identifier) → Grown cs → Grown (integrateDelete cs x)
+pub grown-delete : (cs : List Character) (x : Delete) → Grown cs → Grown (integrateDelete cs x)
 grown-delete cs x g =
     record {
       standing = s;

@@ -11,7 +11,7 @@ use borrow.Author.Tests.{not-true}
 use Rattle.woot.specs.declared.Identifier.{Identifier}
 use Rattle.woot.specs.declared.Character.{Character}
 use Rattle.woot.specs.Identifiers.{begin, end, same}
-use Rattle.woot.specs.Operations.{origin}
+use Rattle.woot.specs.Operations.{origin, isVisible}
 use Rattle.woot.specs.Ranges.{characterId, characterInRange}
 use Rattle.woot.specs.Placing.{identifiers, sequence, indexOf, placeOf, held, above}
 use Rattle.woot.specs.Calls.{visibles}
@@ -47,9 +47,9 @@ part-append ys (keeps p) = keeps (part-append ys p)
 part-visible : (cs : List Character) → Part (visibles cs) (identifiers cs)
 unfolding visibles
 part-visible [] = none
-part-visible (c ∷ cs) = go (c .visible) (part-visible cs)
+part-visible (c ∷ cs) = go (isVisible c) (part-visible cs)
   where
-    go : (b : Bool) → Part (identifiers (keep (λ c. c .visible) cs)) (identifiers cs) → Part (identifiers (cond b (c ∷ keep (λ c. c .visible) cs) (keep (λ c. c .visible) cs))) (c .id ∷ identifiers cs)
+    go : (b : Bool) → Part (identifiers (keep isVisible cs)) (identifiers cs) → Part (identifiers (cond b (c ∷ keep isVisible cs) (keep isVisible cs))) (c .id ∷ identifiers cs)
     go true p = keeps p
     go false p = skip p
 

@@ -51,8 +51,8 @@ step-formed s (adds t i a) f =
 step-formed s (removes d a) f =
     record {
       site = f .site;
-      sound = sound-hide (d .target) (f .sound);
-      unready = any-same (executable (integrateDelete (s .characters) (d .target))) (executable (s .characters)) (delete-executable (s .characters) (d .target)) (s .pending) ∙ f .unready;
+      sound = sound-hide d (f .sound);
+      unready = any-same (executable (integrateDelete (s .characters) d)) (executable (s .characters)) (delete-executable (s .characters) d) (s .pending) ∙ f .unready;
     }
 step-formed s (defers o a) f =
     record {

@@ -8,6 +8,7 @@ use mathlib.Core.List.{List, List·Memᴰ}
 use mathlib.Core.Logic.{⊎-elim}
 use Rattle.woot.specs.declared.Identifier.{Identifier}
 use Rattle.woot.specs.declared.Insert.{Insert}
+use Rattle.woot.specs.declared.Delete.{Delete}
 use Rattle.woot.specs.declared.Character.{Character}
 use Rattle.woot.specs.Identifiers.{below}
 use Rattle.woot.specs.Operations.{character, origin}
@@ -213,7 +214,7 @@ module _ (cs : List Character) (s : Standing cs) (a : Ascending cs) (i : Insert)
             (old-order (d .previous) (c .id) (previous-held cs s n) (held-id cs m) r)
             (old-order (d .id) (c .next) (held-id cs n) (next-held cs s m) t)
 
-module _ (cs : List Character) (x : Identifier) (a : Ascending cs) where
+module _ (cs : List Character) (x : Delete) (a : Ascending cs) where
   -- by where the two came from
   abbrev Came : Insert → Insert → Type 0
   Came i j = Ranked (integrateDelete cs x) (i .id) (i .next) (j .previous) (j .id)

@@ -183,7 +183,7 @@ sound-in {cs} {ps} i s r fresh space ready uncrossed placeable =
 
 -- ---- a character hidden
 
-pub sound-hide : {cs : List Character} {ps : List Operation} (x : Identifier) → Sound cs ps → Sound (integrateDelete cs x) ps
+pub sound-hide : {cs : List Character} {ps : List Operation} (x : Delete) → Sound cs ps → Sound (integrateDelete cs x) ps
 sound-hide {cs} {ps} x s =
     let t = standing-delete cs x (standing s) in
     record {

@@ -11,6 +11,7 @@ use borrow.Author.Tests.{not-false}
 use lib.ListN.{length}
 use Rattle.woot.specs.declared.Identifier.{Identifier}
 use Rattle.woot.specs.declared.Insert.{Insert}
+use Rattle.woot.specs.declared.Delete.{Delete}
 use Rattle.woot.specs.declared.Operation.the-variants.{Insert as insert}
 use Rattle.woot.specs.declared.Character.{Character}
 use Rattle.woot.specs.Identifiers.{same}
@@ -174,7 +175,7 @@ standing-empty =
       above-next = λ c m. absurd (List·Memᴰ·not-nil m);
     }
 
-pub standing-delete : (cs : List Character) (x : Identifier) → Standing cs → Standing (integrateDelete cs x)
+pub standing-delete : (cs : List Character) (x : Delete) → Standing cs → Standing (integrateDelete cs x)
 unfolding characterInRange origin
 standing-delete cs x s =
     record {

@@ -23,7 +23,7 @@ use Rattle.woot.specs.declared.Sent.{Sent}
 use Rattle.woot.specs.declared.Sent.the-variants.{Done as sentDone, Refused as sentRefused}
 use Rattle.woot.specs.Limits.{lastClock, capacity, share}
 use Rattle.woot.specs.Identifiers.{begin, end, same}
-use Rattle.woot.specs.Operations.{sender, origin, inserts, deletes, sameInsert, sameDelete, sameOperation}
+use Rattle.woot.specs.Operations.{sender, origin, isVisible, inserts, deletes, sameInsert, sameDelete, sameOperation}
 use Rattle.woot.specs.Ranges
 use Rattle.woot.specs.Ranges.{siteNumber, codePoint, characterId, previousId, nextId, siteInRange, insertInRange, inRange}
 use Rattle.woot.specs.State.{State}
@@ -170,7 +170,7 @@ unfolding duplicate
 unused s (insert i) new sole space = (fresh-insert s i new sole, space-insert s i space)
 unused s (delete d) new sole space =
     any-deletes d (s .pending)
-    ∙ or-false-right (any (λ c. same (d .target) (c .id) && not (c .visible)) (s .characters)) (any (sameOperation (delete d)) (s .pending)) new
+    ∙ or-false-right (any (λ c. same (d .target) (c .id) && not (isVisible c)) (s .characters)) (any (sameOperation (delete d)) (s .pending)) new
 
 carried-step : (s : State) (o : Operation) → Formed s → inRange o ≡ true → Unused (s .characters) (s .pending) o → executable (s .characters) o ≡ true → crossed (s .characters) o ≡ false → unplaceable (s .characters) o ≡ false → Step s (carryOut Done s o)
 unfolding carryOut afterDrain inRange executable

@@ -14,7 +14,7 @@ use Rattle.woot.specs.declared.Refusal.{Refusal}
 use Rattle.woot.specs.declared.Refusal.the-variants.{Unplaceable, SenderFull, DocumentFull}
 use Rattle.woot.specs.declared.Answer.the-variants.{Deferred, Duplicate, Refused}
 use Rattle.woot.specs.declared.Sent.the-variants.{Refused as sentRefused}
-use Rattle.woot.specs.Operations.{sender, origin, inserts}
+use Rattle.woot.specs.Operations.{sender, origin, isVisible, inserts}
 use Rattle.woot.specs.Ranges.{siteNumber}
 use Rattle.woot.specs.State.{State, initial, pendingSlots}
 use Rattle.woot.specs.Placing.{identifiers, above, Interval, adjacent, candidates, narrowed, position}
@@ -145,7 +145,7 @@ HeldCount = (b : Begun) (cs : List Call) → length (charactersAfter b cs) ≡ l
 abbrev pub HiddenAreDeleted : Type 0
 HiddenAreDeleted =
     (b : Begun) (cs : List Call) (c : Character) → List·Memᴰ c (charactersAfter b cs) →
-    (c .visible ≡ false) ↔ DeletedIn (c .id) (historyOf b cs)
+    (isVisible c ≡ false) ↔ DeletedIn (c .id) (historyOf b cs)
 
 -- "operations answered waits equal those waiting now, plus those carried out from the list, plus those thrown out"; those
 -- that wait at the start count as answered so

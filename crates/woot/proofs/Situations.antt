@@ -6,7 +6,7 @@ use mathlib.Core.List.{List, [], _∷_, _++_, map}
 use lib.Count.{leadingZeros}
 use Rattle.utf8.specs.Encoding.{significantBits, encodedLength, continuation, oneByte, twoBytes, threeBytes, fourBytes, encode}
 use Rattle.woot.specs.Identifiers.{same, below}
-use Rattle.woot.specs.Operations.{sender, character, origin, hidden, sameInsert, sameDelete, sameOperation}
+use Rattle.woot.specs.Operations.{sender, character, origin, isVisible, hidden, deletedBy, sameInsert, sameDelete, sameOperation}
 use Rattle.woot.specs.Ranges.{within, siteNumber, codePoint, characterId, previousId, nextId, siteInRange, insertInRange, deleteInRange, inRange, characterInRange}
 use Rattle.woot.specs.State.{initial}
 use Rattle.woot.specs.Placing.{sequence, indexOf, placeOf, held, above, adjacent, candidate, candidates, narrowed, search, position, between, insertAt, integrateInsert, integrateDelete}
@@ -84,7 +84,7 @@ all-computed [] = refl
 all-computed (t ∷ ts) = ap₂ (λ a bs. a ∷ bs) (sym (computed-same (t .given))) (all-computed ts)
 
 both : SituationsHold × CasesTell
-unfolding table drainedIn tellingCases whole settled stepped computed leadingZeros significantBits encodedLength continuation oneByte twoBytes threeBytes fourBytes encode same below sender character origin hidden sameInsert sameDelete sameOperation within siteNumber codePoint characterId previousId nextId siteInRange insertInRange deleteInRange inRange characterInRange initial sequence indexOf placeOf held above adjacent candidate candidates narrowed search position between insertAt integrateInsert integrateDelete executable crossed unplaceable integrate pendingFrom earliest andIntegrated andDiscarded drained drainSteps drain known allInRange sharesKept capacityKept identifiersDistinct deletesDistinct ordered neighboursOrdered noneExecutable wellFormed reply answerOf unchanged decided integrated withCharacters withPending afterDrain insertCarried duplicate conflicting senderFull documentFull receiveChecks carryOut defer accept receiveWhen receive visibles nextIdentifier generatedInsert beyondVisible taken insertChecks advanced sendInsert localInsertWhen localInsert notVisible deleteChecks generatedDelete sendDelete localDeleteWhen localDelete outcome
+unfolding table drainedIn tellingCases whole settled stepped computed leadingZeros significantBits encodedLength continuation oneByte twoBytes threeBytes fourBytes encode same below sender character origin isVisible hidden deletedBy sameInsert sameDelete sameOperation within siteNumber codePoint characterId previousId nextId siteInRange insertInRange deleteInRange inRange characterInRange initial sequence indexOf placeOf held above adjacent candidate candidates narrowed search position between insertAt integrateInsert integrateDelete executable crossed unplaceable integrate pendingFrom earliest andIntegrated andDiscarded drained drainSteps drain known allInRange sharesKept capacityKept identifiersDistinct deletesDistinct ordered neighboursOrdered noneExecutable wellFormed reply answerOf unchanged decided integrated withCharacters withPending afterDrain insertCarried duplicate conflicting senderFull documentFull receiveChecks carryOut defer accept receiveWhen receive visibles nextIdentifier generatedInsert beyondVisible taken insertChecks advanced sendInsert localInsertWhen localInsert notVisible deleteChecks generatedDelete sendDelete localDeleteWhen localDelete outcome
 both = (all-computed table ∙ refl, all-computed tellingCases ∙ refl)
 
 pub situations-hold : SituationsHold

@@ -20,7 +20,7 @@ use Rattle.woot.specs.declared.Sent.{Sent}
 use Rattle.woot.specs.declared.Sent.the-variants.{Done as sentDone, Refused as sentRefused}
 use Rattle.woot.specs.Limits.{lastClock, capacity, share}
 use Rattle.woot.specs.Identifiers.{begin, end, same}
-use Rattle.woot.specs.Operations.{sender, origin, sameInsert, sameOperation}
+use Rattle.woot.specs.Operations.{sender, origin, isVisible, sameInsert, sameOperation}
 use Rattle.woot.specs.Ranges.{codePoint, inRange}
 use Rattle.woot.specs.State.{State}
 use Rattle.woot.specs.Placing.{identifiers, integrateInsert, integrateDelete}
@@ -68,7 +68,7 @@ insertCarried s i = let cs : List Character = integrateInsert (s .characters) i 
 unfoldable pub duplicate : State → Operation → Bool
 duplicate s (insert i) = any (λ c. sameInsert i (origin c)) (s .characters) || any (sameOperation (insert i)) (s .pending)
 duplicate s (delete d) =
-    any (λ c. same (d .target) (c .id) && not (c .visible)) (s .characters) || any (sameOperation (delete d)) (s .pending)
+    any (λ c. same (d .target) (c .id) && not (isVisible c)) (s .characters) || any (sameOperation (delete d)) (s .pending)
 
 -- condition 7: "a received insert's identifier belongs to a row or waiting insert with other fields"
 unfoldable pub conflicting : State → Operation → Bool
@@ -107,7 +107,7 @@ carryOut done s (insert i) =
       discarded = d .discarded;
     }
 carryOut done s (delete d) =
-    let cs : List Character = integrateDelete (s .characters) (d .target) in
+    let cs : List Character = integrateDelete (s .characters) d in
     record {
       answer = done 1 0;
       state = withCharacters s cs;
@@ -135,7 +135,7 @@ receive s o = receiveWhen (wellFormed s) s o
 
 -- the identifiers of the visible characters from the top
 unfoldable pub visibles : List Character → List Identifier
-visibles cs = identifiers (keep (λ c. c .visible) cs)
+visibles cs = identifiers (keep isVisible cs)
 
 -- "the laptop's number with its clock plus 1"
 unfoldable pub nextIdentifier : Site → Identifier

@@ -1,6 +1,6 @@
 -- Operations and characters: what one is made of the other, and equality in every field.
 use Prim.Native.Nat.{ℕ}
-use mathlib.Core.Bool.{Bool, true, false, _&&_}
+use mathlib.Core.Bool.{Bool, true, false, _&&_, cond}
 use mathlib.Core.List.{List, [], _∷_}
 use lib.Dec.{eqb}
 use Rattle.woot.specs.declared.Insert.{Insert}
@@ -24,10 +24,18 @@ character i =
 unfoldable pub origin : Character → Insert
 origin c = record { id = c .id; «code_point» = c .«code_point»; previous = c .previous; next = c .next }
 
+-- "shown"
+unfoldable pub isVisible : Character → Bool
+isVisible c = c .visible
+
 -- the character, no longer visible
 unfoldable pub hidden : Character → Character
 hidden c =
     record { id = c .id; «code_point» = c .«code_point»; visible = false; previous = c .previous; next = c .next }
+
+-- what a delete makes of a character: hidden, where it is its target
+unfoldable pub deletedBy : Delete → Character → Character
+deletedBy d c = cond (same (d .target) (c .id)) (hidden c) c
 
 -- "equal in every field"
 unfoldable pub sameInsert : Insert → Insert → Bool

@@ -31,7 +31,7 @@ unplaceable cs (delete d) = false
 -- the characters after an operation is carried out
 unfoldable pub integrate : List Character → Operation → List Character
 integrate cs (insert i) = integrateInsert cs i
-integrate cs (delete d) = integrateDelete cs (d .target)
+integrate cs (delete d) = integrateDelete cs d
 
 -- the operations of one sender
 abbrev pub sentBy : ℕ → List Operation → List Operation

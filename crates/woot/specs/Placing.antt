@@ -7,9 +7,10 @@ use lib.Dec.{leb, ltb}
 use lib.ListN.{length}
 use Rattle.woot.specs.declared.Identifier.{Identifier}
 use Rattle.woot.specs.declared.Insert.{Insert}
+use Rattle.woot.specs.declared.Delete.{Delete}
 use Rattle.woot.specs.declared.Character.{Character}
 use Rattle.woot.specs.Identifiers.{begin, end, same, below}
-use Rattle.woot.specs.Operations.{character, hidden}
+use Rattle.woot.specs.Operations.{character, deletedBy}
 use Rattle.lists.specs.Lists.{keep}
 
 abbrev pub identifiers : List Character → List Identifier
@@ -99,6 +100,6 @@ unfoldable pub integrateInsert : List Character → Insert → List Character
 integrateInsert cs i =
     elim (position cs (i .id) (between cs i)) [ none ↦ cs | some k ↦ insertAt k (character i) cs ]
 
--- the characters with x hidden (001, IntegrateDel)
-unfoldable pub integrateDelete : List Character → Identifier → List Character
-integrateDelete cs x = map (λ c. cond (same x (c .id)) (hidden c) c) cs
+-- the characters with the target of a delete hidden (001, IntegrateDel)
+unfoldable pub integrateDelete : List Character → Delete → List Character
+integrateDelete cs d = map (deletedBy d) cs

@@ -2,6 +2,7 @@
 use Prim.Native.Nat.{ℕ}
 use mathlib.Core.List.{List, [], _∷_, _++_}
 use Rattle.woot.specs.declared.Character.{Character}
+use Rattle.woot.specs.Operations.{isVisible}
 use Rattle.lists.specs.Lists.{keep}
 use Rattle.utf8.specs.Encoding.{encode}
 
@@ -12,4 +13,4 @@ encoded (c ∷ cs) = encode (c .«code_point») ++ encoded cs
 
 -- "visible text is the shown code points in UTF-8"
 unfoldable pub text : List Character → List ℕ
-text cs = encoded (keep (λ c. c .visible) cs)
+text cs = encoded (keep isVisible cs)

@@ -2,6 +2,7 @@
 // the calls. The rules that they live by are in specs/; the crate
 // `convergence` has the theorems about them.
 ghost use mathlib.Core.Path.{_≡_};
+ghost use Rattle.woot.specs.Operations.{isVisible};
 ghost use Rattle.woot.specs.Answers.{number};
 ghost use Rattle.woot.specs.State.{initial, stored};
 
@@ -58,6 +59,15 @@ pub struct Character {
     pub visible: bool,
     pub previous: Identifier,
     pub next: Identifier,
+}
+
+impl Character {
+    // Whether it is visible. (Document 01: shown.)
+    pub fn is_visible(self) -> bool
+        ensures { λ r. ⌜ r ≡ isVisible self ⌝ }
+    {
+        self.visible
+    }
 }
 
 // An operation that waits for what it needs.
