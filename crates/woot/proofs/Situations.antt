@@ -21,8 +21,8 @@ use Rattle.woot.specs.declared.Operation.{Operation}
 use Rattle.woot.specs.State.{State}
 use Rattle.woot.specs.Placing.{identifiers}
 use Rattle.woot.specs.Answers.{Reply}
-use Rattle.woot.specs.Histories.{Call, run, drainedBy}
-use Rattle.woot.specs.Situations.{Given, calling, draining, encoding, Seen, calls, released, bytes, replies, seen, Situation, table, tellingCases, SituationsHold, CasesTell, CheckingOrder}
+use Rattle.woot.specs.Histories.{Call, run, integratedBy}
+use Rattle.woot.specs.Situations.{Given, calling, carrying, encoding, Seen, calls, operations, bytes, replies, seen, Situation, table, slipCases, answerCases, SituationsHold, CasesTell, CheckingOrder}
 
 -- k at xs, whose cells are computed first
 whole : {A B : Type 0} → List A → (List A → B) → B
@@ -43,16 +43,16 @@ settled-same : {B : Type 0} (s : State) (k : State → B) → settled s k ≡ k 
 unfolding settled
 settled-same s k = whole-same (s .characters) _ ∙ whole-same (s .pending) _
 
--- k at what is drained, state by state
-drainedIn : {B : Type 0} → State → List Call → (List Operation → B) → B
-drainedIn s [] k = k []
-drainedIn s (c ∷ cs) k = let r = outcome s c in settled (r .state) (λ t. drainedIn t cs (λ os. k (r .drained ++ os)))
+-- k at what is carried out, state by state
+carriedIn : {B : Type 0} → State → List Call → (List Operation → B) → B
+carriedIn s [] k = k []
+carriedIn s (c ∷ cs) k = let r = outcome s c in settled (r .state) (λ t. carriedIn t cs (λ os. k (integrated r ++ os)))
 
-drained-same : {B : Type 0} (s : State) (cs : List Call) (k : List Operation → B) → drainedIn s cs k ≡ k (drainedBy s cs)
-unfolding drainedIn
-drained-same s [] k = refl
-drained-same s (c ∷ cs) k =
-    settled-same (outcome s c .state) _ ∙ drained-same (outcome s c .state) cs (λ os. k (outcome s c .drained ++ os))
+carried-same : {B : Type 0} (s : State) (cs : List Call) (k : List Operation → B) → carriedIn s cs k ≡ k (integratedBy s cs)
+unfolding carriedIn
+carried-same s [] k = refl
+carried-same s (c ∷ cs) k =
+    settled-same (outcome s c .state) _ ∙ carried-same (outcome s c .state) cs (λ os. k (integrated (outcome s c) ++ os))
 
 -- k at the replies and the identifiers, state by state
 stepped : {B : Type 0} → State → List Call → (List Reply → List Identifier → B) → B
@@ -70,13 +70,13 @@ stepped-same s (c ∷ cs) k =
 
 computed : Given → Seen
 computed (calling s cs) = stepped s cs calls
-computed (draining s cs) = drainedIn s cs released
+computed (carrying s cs) = carriedIn s cs operations
 computed (encoding n) = bytes (encode n)
 
 computed-same : (g : Given) → computed g ≡ seen g
 unfolding computed seen
 computed-same (calling s cs) = stepped-same s cs calls
-computed-same (draining s cs) = drained-same s cs released
+computed-same (carrying s cs) = carried-same s cs operations
 computed-same (encoding n) = refl
 
 all-computed : (ts : List Situation) → map (λ t. seen (t .given)) ts ≡ map (λ t. computed (t .given)) ts
@@ -84,8 +84,8 @@ all-computed [] = refl
 all-computed (t ∷ ts) = ap₂ (λ a bs. a ∷ bs) (sym (computed-same (t .given))) (all-computed ts)
 
 both : SituationsHold × CasesTell
-unfolding table drainedIn tellingCases whole settled stepped computed leadingZeros significantBits encodedLength continuation oneByte twoBytes threeBytes fourBytes encode same below sender character origin isVisible hidden deletedBy sameInsert sameDelete sameOperation within siteNumber codePoint characterId previousId nextId siteInRange insertInRange deleteInRange inRange characterInRange initial sequence indexOf placeOf held above adjacent candidate candidates narrowed search position between insertAt integrateInsert integrateDelete executable crossed unplaceable integrate pendingFrom earliest andIntegrated andDiscarded drained drainSteps drain known allInRange sharesKept capacityKept identifiersDistinct deletesDistinct ordered neighboursOrdered noneExecutable wellFormed reply answerOf unchanged decided integrated withCharacters withPending afterDrain insertCarried duplicate conflicting senderFull documentFull receiveChecks carryOut defer accept receiveWhen receive visibles nextIdentifier generatedInsert beyondVisible taken insertChecks advanced sendInsert localInsertWhen localInsert notVisible deleteChecks generatedDelete sendDelete localDeleteWhen localDelete outcome
-both = (all-computed table ∙ refl, all-computed tellingCases ∙ refl)
+unfolding table carriedIn slipCases answerCases whole settled stepped computed leadingZeros significantBits encodedLength continuation oneByte twoBytes threeBytes fourBytes encode same below sender character origin isVisible hidden deletedBy sameInsert sameDelete sameOperation within siteNumber codePoint characterId previousId nextId siteInRange insertInRange deleteInRange inRange characterInRange initial sequence indexOf placeOf held above adjacent candidate candidates narrowed search position between insertAt integrateInsert integrateDelete executable crossed unplaceable integrate pendingFrom earliest andIntegrated andDiscarded drained drainSteps drain known allInRange sharesKept capacityKept identifiersDistinct deletesDistinct ordered neighboursOrdered noneExecutable wellFormed reply answerOf unchanged decided integrated withCharacters withPending afterDrain insertCarried duplicate conflicting senderFull documentFull receiveChecks carryOut defer accept receiveWhen receive visibles nextIdentifier generatedInsert beyondVisible taken insertChecks advanced sendInsert localInsertWhen localInsert notVisible deleteChecks generatedDelete sendDelete localDeleteWhen localDelete outcome
+both = (all-computed table ∙ refl, (all-computed slipCases ∙ refl, all-computed answerCases ∙ refl))
 
 pub situations-hold : SituationsHold
 situations-hold = both .0
@@ -95,4 +95,4 @@ cases-tell = both .1
 
 pub checking-order : (formed : Bool) (s : State) → CheckingOrder formed s
 unfolding receiveChecks insertChecks deleteChecks reply answerOf
-checking-order formed s = record { receiving-meets = λ o. refl; inserting-meets = λ g n. refl; deleting-meets = λ p. refl }
+checking-order formed s = record { receiving-meets = λ o. refl; inserting-meets = λ g n. refl; deleting-meets = λ p. refl; receiving-rises = λ o. refl; inserting-rises = λ g n. refl; deleting-rises = λ p. refl }

@@ -1,7 +1,8 @@
 -- Document 01's situations marked P, as one table with one statement, and the cases that tell the slips it lists.
 use Prim.Native.Nat.{ℕ, zero, suc}
 use mathlib.Core.Path.{_≡_}
-use mathlib.Core.Bool.{Bool}
+use mathlib.Core.Bool.{Bool, true, _&&_}
+use lib.Dec.{ltb}
 use mathlib.Core.List.{List, [], _∷_, map}
 use Rattle.woot.specs.declared.Identifier.{Identifier}
 use Rattle.woot.specs.declared.Insert.{Insert}
@@ -12,16 +13,17 @@ use Rattle.woot.specs.Operations.{character}
 use Rattle.woot.specs.State.{State, initial}
 use Rattle.woot.specs.Placing.{identifiers}
 use Rattle.woot.specs.declared.Answer.{Answer}
+use Rattle.woot.specs.declared.Answer.the-variants.{Done as answerDone, Deferred, Duplicate, Refused as answerRefused}
 use Rattle.woot.specs.declared.Sent.{Sent}
-use Rattle.woot.specs.Answers.{done, waits, known, refused, Reply, reply, answerOf, Check}
+use Rattle.woot.specs.Answers.{rank, done, waits, known, refused, Reply, reply, answerOf, Check}
 use Rattle.woot.specs.Calls.{receiveChecks, insertChecks, deleteChecks}
-use Rattle.woot.specs.Histories.{Call, inserting, deleting, receiving, outcome, run, drainedBy}
+use Rattle.woot.specs.Histories.{Call, inserting, deleting, receiving, outcome, run, integratedBy}
 use Rattle.utf8.specs.Encoding.{encode}
 
-infix 90 _/_
--- identifiers as document 01 writes them
-abbrev pub _/_ : ℕ → ℕ → Identifier
-n / t = record { site = n; clock = t }
+infix 90 _at_
+-- the identifier that document 01 writes 3/2 is `3 at 2`: site 3 at clock 2
+abbrev pub _at_ : ℕ → ℕ → Identifier
+n at t = record { site = n; clock = t }
 
 -- the character of an identifier, typed between two others; its code point is of no matter here
 abbrev pub put : Identifier → Identifier → Identifier → Insert
@@ -38,17 +40,17 @@ insAs n x p q = receiving (insert (record { id = x; «code_point» = n; previous
 abbrev pub del : ℕ → Identifier → Call
 del n x = receiving (delete (record { sender = n; target = x }))
 
--- what is done in a situation: calls on a state, calls looked at for what they drain, or a code point encoded
+-- what is done in a situation: calls on a state, calls looked at for what they carry out, or a code point encoded
 pub data Given : Type 0 where
   calling : State → List Call → Given
-  draining : State → List Call → Given
+  carrying : State → List Call → Given
   encoding : ℕ → Given
 
--- what is seen: the replies in order with the identifiers of the characters afterwards, what was drained in order, or
--- bytes
+-- what is seen: the replies in order with the identifiers of the characters afterwards, what was carried out in order,
+-- every field of it, or bytes
 pub data Seen : Type 0 where
   calls : List Reply → List Identifier → Seen
-  released : List Operation → Seen
+  operations : List Operation → Seen
   bytes : List ℕ → Seen
 
 abbrev pub replies : State → List Call → List Reply
@@ -57,7 +59,7 @@ replies s (c ∷ cs) = let r = outcome s c in reply (r .answer) ∷ replies (r .
 
 unfoldable pub seen : Given → Seen
 seen (calling s cs) = calls (replies s cs) (identifiers (run s cs .characters))
-seen (draining s cs) = released (drainedBy s cs)
+seen (carrying s cs) = operations (integratedBy s cs)
 seen (encoding n) = bytes (encode n)
 
 -- calls on an empty replica of site 16
@@ -79,16 +81,16 @@ Refused n = record { word = refused; integrated = 0; discarded = 0; refusal = n 
 
 -- the four inserts of 001, section 3.4
 abbrev pub o1 : Call
-o1 = ins (1 / 1) begin end
+o1 = ins (1 at 1) begin end
 
 abbrev pub o2 : Call
-o2 = ins (2 / 1) begin end
+o2 = ins (2 at 1) begin end
 
 abbrev pub o3 : Call
-o3 = ins (3 / 1) begin (1 / 1)
+o3 = ins (3 at 1) begin (1 at 1)
 
 abbrev pub o4 : Call
-o4 = ins (3 / 2) (1 / 1) end
+o4 = ins (3 at 2) (1 at 1) end
 
 -- a state of site 1 with the given characters, visible, and nothing pending
 abbrev pub holding : List Insert → State
@@ -96,11 +98,11 @@ holding is = record { site = record { number = 1; clock = 9 }; characters = map 
 
 -- P7's rows: 1/1 (begin, 2/1) and 2/1 (1/1, end)
 abbrev pub crossRow : State
-crossRow = holding (put (1 / 1) begin (2 / 1) ∷ put (2 / 1) (1 / 1) end ∷ [])
+crossRow = holding (put (1 at 1) begin (2 at 1) ∷ put (2 at 1) (1 at 1) end ∷ [])
 
 -- P8's shown text xyz
 abbrev pub xyz : State
-xyz = holding (put (2 / 1) begin end ∷ put (2 / 2) (2 / 1) end ∷ put (2 / 3) (2 / 2) end ∷ [])
+xyz = holding (put (2 at 1) begin end ∷ put (2 at 2) (2 at 1) end ∷ put (2 at 3) (2 at 2) end ∷ [])
 
 pub record Situation : Type 0 where
   pub given : Given
@@ -113,23 +115,24 @@ g gives x = record { given = g; expected = x }
 unfoldable pub table : List Situation
 table =
     -- P1
-    (after (o1 ∷ o3 ∷ o4 ∷ o2 ∷ []) gives calls (Done 1 0 ∷ Done 1 0 ∷ Done 1 0 ∷ Done 1 0 ∷ []) (3 / 1 ∷ 1 / 1 ∷ 2 / 1 ∷ 3 / 2 ∷ []))
+    (after (o1 ∷ o3 ∷ o4 ∷ o2 ∷ []) gives calls (Done 1 0 ∷ Done 1 0 ∷ Done 1 0 ∷ Done 1 0 ∷ []) (3 at 1 ∷ 1 at 1 ∷ 2 at 1 ∷ 3 at 2 ∷ []))
     -- P2
-    ∷ (after (o2 ∷ o1 ∷ o3 ∷ o4 ∷ []) gives calls (Done 1 0 ∷ Done 1 0 ∷ Done 1 0 ∷ Done 1 0 ∷ []) (3 / 1 ∷ 1 / 1 ∷ 2 / 1 ∷ 3 / 2 ∷ []))
+    ∷ (after (o2 ∷ o1 ∷ o3 ∷ o4 ∷ []) gives calls (Done 1 0 ∷ Done 1 0 ∷ Done 1 0 ∷ Done 1 0 ∷ []) (3 at 1 ∷ 1 at 1 ∷ 2 at 1 ∷ 3 at 2 ∷ []))
     -- P3
-    ∷ (after (o1 ∷ o3 ∷ o2 ∷ []) gives calls (Done 1 0 ∷ Done 1 0 ∷ Done 1 0 ∷ []) (3 / 1 ∷ 1 / 1 ∷ 2 / 1 ∷ []))
+    ∷ (after (o1 ∷ o3 ∷ o2 ∷ []) gives calls (Done 1 0 ∷ Done 1 0 ∷ Done 1 0 ∷ []) (3 at 1 ∷ 1 at 1 ∷ 2 at 1 ∷ []))
     -- P4, either arrival
-    ∷ (after (o1 ∷ o2 ∷ []) gives calls (Done 1 0 ∷ Done 1 0 ∷ []) (1 / 1 ∷ 2 / 1 ∷ []))
-    ∷ (after (o2 ∷ o1 ∷ []) gives calls (Done 1 0 ∷ Done 1 0 ∷ []) (1 / 1 ∷ 2 / 1 ∷ []))
+    ∷ (after (o1 ∷ o2 ∷ []) gives calls (Done 1 0 ∷ Done 1 0 ∷ []) (1 at 1 ∷ 2 at 1 ∷ []))
+    ∷ (after (o2 ∷ o1 ∷ []) gives calls (Done 1 0 ∷ Done 1 0 ∷ []) (1 at 1 ∷ 2 at 1 ∷ []))
     -- P5
-    ∷ (after (o1 ∷ del 1 (1 / 1) ∷ ins (2 / 1) (1 / 1) end ∷ []) gives calls (Done 1 0 ∷ Done 1 0 ∷ Done 1 0 ∷ []) (1 / 1 ∷ 2 / 1 ∷ []))
+    ∷ (after (o1 ∷ del 1 (1 at 1) ∷ ins (2 at 1) (1 at 1) end ∷ []) gives calls (Done 1 0 ∷ Done 1 0 ∷ Done 1 0 ∷ []) (1 at 1 ∷ 2 at 1 ∷ []))
     -- P6
-    ∷ (after (o1 ∷ o2 ∷ ins (3 / 1) (2 / 1) (1 / 1) ∷ []) gives calls (Done 1 0 ∷ Done 1 0 ∷ Refused 8 ∷ []) (1 / 1 ∷ 2 / 1 ∷ []))
+    ∷ (after (o1 ∷ o2 ∷ ins (3 at 1) (2 at 1) (1 at 1) ∷ []) gives calls (Done 1 0 ∷ Done 1 0 ∷ Refused 8 ∷ []) (1 at 1 ∷ 2 at 1 ∷ []))
     -- P7
-    ∷ (calling crossRow (ins (3 / 1) begin end ∷ []) gives calls (Refused 9 ∷ []) (1 / 1 ∷ 2 / 1 ∷ []))
-    -- P8
-    ∷ (calling xyz (inserting 1 65 ∷ []) gives calls (Done 1 0 ∷ []) (2 / 1 ∷ 1 / 10 ∷ 2 / 2 ∷ 2 / 3 ∷ []))
-    ∷ (calling xyz (inserting 4 65 ∷ []) gives calls (Refused 4 ∷ []) (2 / 1 ∷ 2 / 2 ∷ 2 / 3 ∷ []))
+    ∷ (calling crossRow (ins (3 at 1) begin end ∷ []) gives calls (Refused 9 ∷ []) (1 at 1 ∷ 2 at 1 ∷ []))
+    -- P8, with the neighbours that the typed character got
+    ∷ (calling xyz (inserting 1 65 ∷ []) gives calls (Done 1 0 ∷ []) (2 at 1 ∷ 1 at 10 ∷ 2 at 2 ∷ 2 at 3 ∷ []))
+    ∷ (carrying xyz (inserting 1 65 ∷ []) gives operations (insert (put (1 at 10) (2 at 1) (2 at 2)) ∷ []))
+    ∷ (calling xyz (inserting 4 65 ∷ []) gives calls (Refused 4 ∷ []) (2 at 1 ∷ 2 at 2 ∷ 2 at 3 ∷ []))
     -- P9
     ∷ (encoding 127 gives bytes (0x7F ∷ []))
     ∷ (encoding 128 gives bytes (0xC2 ∷ 0x80 ∷ []))
@@ -145,55 +148,90 @@ AllHold ts = map (λ t. seen (t .given)) ts ≡ map (λ t. t .expected) ts
 abbrev pub SituationsHold : Type 0
 SituationsHold = AllHold table
 
--- ---- the slips of document 01, and three more
+-- ---- cases that tell the rules from slips
+
+-- a delete by site n
+abbrev pub erase : ℕ → Identifier → Operation
+erase n x = delete (record { sender = n; target = x })
 
 -- deletes of 4/1 to 4/n by site 2, the last first
 abbrev pub deletesBy2 : ℕ → List Operation
 deletesBy2 zero = []
-deletesBy2 (suc n) = delete (record { sender = 2; target = 4 / suc n }) ∷ deletesBy2 n
+deletesBy2 (suc n) = erase 2 (4 at suc n) ∷ deletesBy2 n
 
--- an empty replica with so many deletes of site 2 pending
-abbrev pub pendingBy2 : ℕ → State
-pendingBy2 n = record { site = record { number = 1; clock = 0 }; characters = []; pending = deletesBy2 n }
+-- a state of site 1 at the clock with the given characters, visible, and pending operations
+abbrev pub sheet : ℕ → List Insert → List Operation → State
+sheet clock is ps = record { site = record { number = 1; clock = clock }; characters = map character is; pending = ps }
 
--- each case tells the rule from the slip that its comment names
-unfoldable pub tellingCases : List Situation
-tellingCases =
+-- an insert that waits for 7/7, which never comes
+abbrev pub stray : Identifier → Operation
+stray x = insert (put x (7 at 7) end)
+
+-- the slips that document 01 lists, and others in placing and draining
+unfoldable pub slipCases : List Situation
+slipCases =
     -- waiting edits totalled over all laptops
-    (calling (pendingBy2 31) (del 2 (4 / 40) ∷ del 2 (4 / 41) ∷ del 3 (4 / 1) ∷ []) gives calls (Waits ∷ Refused 10 ∷ Waits ∷ []) [])
-    -- hidden rows left out of the rows between
-    ∷ (after (o1 ∷ del 1 (1 / 1) ∷ o2 ∷ []) gives calls (Done 1 0 ∷ Done 1 0 ∷ Done 1 0 ∷ []) (1 / 1 ∷ 2 / 1 ∷ []))
+    (calling (sheet 0 [] (deletesBy2 31)) (del 2 (4 at 40) ∷ del 2 (4 at 41) ∷ del 3 (4 at 1) ∷ []) gives calls (Waits ∷ Refused 10 ∷ Waits ∷ []) [])
+    -- hidden rows left out of the rows between, the new one put just below its previous, or just above its next
+    ∷ (after (o1 ∷ del 1 (1 at 1) ∷ o2 ∷ []) gives calls (Done 1 0 ∷ Done 1 0 ∷ Done 1 0 ∷ []) (1 at 1 ∷ 2 at 1 ∷ []))
+    ∷ (after (o2 ∷ del 1 (2 at 1) ∷ o1 ∷ []) gives calls (Done 1 0 ∷ Done 1 0 ∷ Done 1 0 ∷ []) (1 at 1 ∷ 2 at 1 ∷ []))
     -- every row between taken as a candidate
-    ∷ (after (o1 ∷ o3 ∷ o2 ∷ []) gives calls (Done 1 0 ∷ Done 1 0 ∷ Done 1 0 ∷ []) (3 / 1 ∷ 1 / 1 ∷ 2 / 1 ∷ []))
+    ∷ (after (o1 ∷ o3 ∷ o2 ∷ []) gives calls (Done 1 0 ∷ Done 1 0 ∷ Done 1 0 ∷ []) (3 at 1 ∷ 1 at 1 ∷ 2 at 1 ∷ []))
     -- stopping without the narrower step
-    ∷ (after (o1 ∷ ins (1 / 2) (1 / 1) end ∷ o2 ∷ []) gives calls (Done 1 0 ∷ Done 1 0 ∷ Done 1 0 ∷ []) (1 / 1 ∷ 1 / 2 ∷ 2 / 1 ∷ []))
-    -- one walk down the waiting list
-    ∷ (after (ins (3 / 1) (2 / 1) end ∷ ins (2 / 1) (1 / 1) end ∷ o1 ∷ []) gives calls (Waits ∷ Waits ∷ Done 3 0 ∷ []) (1 / 1 ∷ 2 / 1 ∷ 3 / 1 ∷ []))
-    -- the last ready one carried out where the earliest is due
-    ∷ (draining (initial 16) (del 3 (1 / 1) ∷ del 5 (1 / 1) ∷ o1 ∷ []) gives released (delete (record { sender = 3; target = 1 / 1 }) ∷ delete (record { sender = 5; target = 1 / 1 }) ∷ []))
+    ∷ (after (o1 ∷ ins (1 at 2) (1 at 1) end ∷ o2 ∷ []) gives calls (Done 1 0 ∷ Done 1 0 ∷ Done 1 0 ∷ []) (1 at 1 ∷ 1 at 2 ∷ 2 at 1 ∷ []))
+    -- not stopping at the first that is not below, on a sheet that was only loaded
+    ∷ (calling (sheet 9 (put (1 at 1) begin end ∷ put (5 at 1) begin end ∷ put (2 at 1) begin end ∷ []) []) (ins (3 at 1) begin end ∷ []) gives calls (Done 1 0 ∷ []) (1 at 1 ∷ 3 at 1 ∷ 5 at 1 ∷ 2 at 1 ∷ []))
     -- identifiers ordered by clock first
-    ∷ (after (ins (1 / 2) begin end ∷ o2 ∷ []) gives calls (Done 1 0 ∷ Done 1 0 ∷ []) (1 / 2 ∷ 2 / 1 ∷ []))
-    -- 8 reported before 7
-    ∷ (after (o1 ∷ o2 ∷ ins (3 / 1) begin end ∷ ins (3 / 1) (2 / 1) (1 / 1) ∷ []) gives calls (Done 1 0 ∷ Done 1 0 ∷ Done 1 0 ∷ Refused 7 ∷ []) (1 / 1 ∷ 2 / 1 ∷ 3 / 1 ∷ []))
-    -- previous equal to next: it waits, and is thrown out when the character comes
-    ∷ (after (ins (2 / 1) (1 / 1) (1 / 1) ∷ o1 ∷ ins (2 / 1) (1 / 1) (1 / 1) ∷ []) gives calls (Waits ∷ Done 1 1 ∷ Refused 8 ∷ []) (1 / 1 ∷ []))
-    -- a waiting operation that has everything it needs: out of form
-    ∷ (calling (record { site = record { number = 1; clock = 0 }; characters = []; pending = insert (put (1 / 1) begin end) ∷ [] }) (o2 ∷ []) gives calls (Refused 3 ∷ []) [])
+    ∷ (after (ins (1 at 2) begin end ∷ o2 ∷ []) gives calls (Done 1 0 ∷ Done 1 0 ∷ []) (1 at 2 ∷ 2 at 1 ∷ []))
+    -- one walk down the waiting list
+    ∷ (after (ins (3 at 1) (2 at 1) end ∷ ins (2 at 1) (1 at 1) end ∷ o1 ∷ []) gives calls (Waits ∷ Waits ∷ Done 3 0 ∷ []) (1 at 1 ∷ 2 at 1 ∷ 3 at 1 ∷ []))
+    -- walks repeated, but not from the front each time
+    ∷ (carrying (initial 16) (ins (3 at 1) (2 at 1) end ∷ ins (2 at 1) (1 at 1) end ∷ del 5 (1 at 1) ∷ o1 ∷ []) gives operations (insert (put (1 at 1) begin end) ∷ insert (put (2 at 1) (1 at 1) end) ∷ insert (put (3 at 1) (2 at 1) end) ∷ erase 5 (1 at 1) ∷ []))
+    -- the last ready one carried out where the earliest is due
+    ∷ (carrying (initial 16) (del 3 (1 at 1) ∷ del 5 (1 at 1) ∷ o1 ∷ []) gives operations (insert (put (1 at 1) begin end) ∷ erase 3 (1 at 1) ∷ erase 5 (1 at 1) ∷ []))
+    -- a drained erase of a row that is hidden already not counted
+    ∷ (after (del 3 (1 at 1) ∷ del 5 (1 at 1) ∷ o1 ∷ del 7 (1 at 1) ∷ []) gives calls (Waits ∷ Waits ∷ Done 3 0 ∷ Known ∷ []) (1 at 1 ∷ []))
+    -- a waiting insert that meets 8 carried out: previous equal to next, sent again it is refused
+    ∷ (after (ins (2 at 1) (1 at 1) (1 at 1) ∷ o1 ∷ ins (2 at 1) (1 at 1) (1 at 1) ∷ []) gives calls (Waits ∷ Done 1 1 ∷ Refused 8 ∷ []) (1 at 1 ∷ []))
+    -- a waiting insert that meets 9 carried out
+    ∷ (calling (sheet 9 (put (1 at 1) begin (2 at 1) ∷ put (2 at 1) (1 at 1) end ∷ []) (insert (put (3 at 1) begin (5 at 1)) ∷ [])) (ins (5 at 1) (2 at 1) end ∷ []) gives calls (Done 1 1 ∷ []) (1 at 1 ∷ 2 at 1 ∷ 5 at 1 ∷ []))
+    -- typing that does not drain
+    ∷ (calling (sheet 0 [] (insert (put (2 at 1) (1 at 1) end) ∷ [])) (inserting 0 65 ∷ []) gives calls (Done 2 0 ∷ []) (1 at 1 ∷ 2 at 1 ∷ []))
     -- the clock not advanced, or counted from another start
-    ∷ (after (inserting 0 65 ∷ inserting 1 66 ∷ inserting 0 67 ∷ []) gives calls (Done 1 0 ∷ Done 1 0 ∷ Done 1 0 ∷ []) (16 / 3 ∷ 16 / 1 ∷ 16 / 2 ∷ []))
+    ∷ (after (inserting 0 65 ∷ inserting 1 66 ∷ inserting 0 67 ∷ []) gives calls (Done 1 0 ∷ Done 1 0 ∷ Done 1 0 ∷ []) (16 at 3 ∷ 16 at 1 ∷ 16 at 2 ∷ []))
     -- an erased row counted among the shown ones
-    ∷ (after (inserting 0 65 ∷ deleting 1 ∷ deleting 1 ∷ inserting 1 66 ∷ inserting 0 66 ∷ []) gives calls (Done 1 0 ∷ Done 1 0 ∷ Refused 4 ∷ Refused 4 ∷ Done 1 0 ∷ []) (16 / 1 ∷ 16 / 2 ∷ []))
+    ∷ (after (inserting 0 65 ∷ deleting 1 ∷ deleting 1 ∷ inserting 1 66 ∷ inserting 0 66 ∷ []) gives calls (Done 1 0 ∷ Done 1 0 ∷ Refused 4 ∷ Refused 4 ∷ Done 1 0 ∷ []) (16 at 1 ∷ 16 at 2 ∷ []))
     -- the hall program's example
-    ∷ (after (insAs 66 (2 / 1) (1 / 1) end ∷ o1 ∷ del 3 (1 / 1) ∷ o1 ∷ insAs 67 (1 / 1) begin end ∷ []) gives calls (Waits ∷ Done 2 0 ∷ Done 1 0 ∷ Known ∷ Refused 7 ∷ []) (1 / 1 ∷ 2 / 1 ∷ []))
-    -- a drained erase of a row that is hidden already is carried out and counted
-    ∷ (after (del 3 (1 / 1) ∷ del 5 (1 / 1) ∷ o1 ∷ del 7 (1 / 1) ∷ []) gives calls (Waits ∷ Waits ∷ Done 3 0 ∷ Known ∷ []) (1 / 1 ∷ []))
-    -- on a sheet that was only loaded: stops at the first that is not below
-    ∷ (calling (holding (put (1 / 1) begin end ∷ put (5 / 1) begin end ∷ put (2 / 1) begin end ∷ [])) (ins (3 / 1) begin end ∷ []) gives calls (Done 1 0 ∷ []) (1 / 1 ∷ 3 / 1 ∷ 5 / 1 ∷ 2 / 1 ∷ []))
+    ∷ (after (insAs 66 (2 at 1) (1 at 1) end ∷ o1 ∷ del 3 (1 at 1) ∷ o1 ∷ insAs 67 (1 at 1) begin end ∷ []) gives calls (Waits ∷ Done 2 0 ∷ Done 1 0 ∷ Known ∷ Refused 7 ∷ []) (1 at 1 ∷ 2 at 1 ∷ []))
     ∷ []
 
--- the cases tell
+-- answers given too early, too late, or never
+unfoldable pub answerCases : List Situation
+answerCases =
+    -- 2 lets pass an insert that names itself, the end mark as previous, a surrogate
+    (after (ins (1 at 1) (1 at 1) end ∷ ins (1 at 1) end end ∷ insAs 55296 (1 at 1) begin end ∷ []) gives calls (Refused 2 ∷ Refused 2 ∷ Refused 2 ∷ []) [])
+    -- 3 passes a row above its previous, an identifier held twice, an erase waiting twice, one that has all it needs
+    ∷ (calling (sheet 9 (put (1 at 1) (2 at 1) end ∷ put (2 at 1) begin end ∷ []) []) (del 3 (1 at 1) ∷ []) gives calls (Refused 3 ∷ []) (1 at 1 ∷ 2 at 1 ∷ []))
+    ∷ (calling (sheet 9 (put (1 at 1) begin end ∷ put (1 at 1) begin end ∷ []) []) (del 3 (1 at 1) ∷ []) gives calls (Refused 3 ∷ []) (1 at 1 ∷ 1 at 1 ∷ []))
+    ∷ (calling (sheet 9 (put (1 at 1) begin end ∷ []) (stray (1 at 1) ∷ [])) (del 3 (1 at 1) ∷ []) gives calls (Refused 3 ∷ []) (1 at 1 ∷ []))
+    ∷ (calling (sheet 9 [] (erase 3 (1 at 1) ∷ erase 3 (1 at 1) ∷ [])) (o2 ∷ []) gives calls (Refused 3 ∷ []) [])
+    ∷ (calling (sheet 0 [] (insert (put (1 at 1) begin end) ∷ [])) (o2 ∷ []) gives calls (Refused 3 ∷ []) [])
+    -- known does not see a waiting insert, or a waiting erase
+    ∷ (after (ins (2 at 1) (1 at 1) end ∷ ins (2 at 1) (1 at 1) end ∷ del 3 (1 at 1) ∷ del 3 (1 at 1) ∷ del 4 (1 at 1) ∷ []) gives calls (Waits ∷ Known ∷ Waits ∷ Known ∷ Waits ∷ []) [])
+    -- 5 one clock too early, or too late
+    ∷ (calling (sheet 65534 [] []) (inserting 0 65 ∷ inserting 0 65 ∷ []) gives calls (Done 1 0 ∷ Refused 5 ∷ []) (1 at 65535 ∷ []))
+    -- 6 never, or by the rows alone
+    ∷ (calling (sheet 0 (put (1 at 1) begin end ∷ []) []) (inserting 0 65 ∷ []) gives calls (Refused 6 ∷ []) (1 at 1 ∷ []))
+    ∷ (calling (sheet 0 [] (stray (1 at 1) ∷ [])) (inserting 0 65 ∷ []) gives calls (Refused 6 ∷ []) [])
+    -- 7 by the rows alone
+    ∷ (after (ins (2 at 1) (1 at 1) end ∷ insAs 67 (2 at 1) (1 at 1) end ∷ []) gives calls (Waits ∷ Refused 7 ∷ []) [])
+    -- 8 reported before 7
+    ∷ (after (o1 ∷ o2 ∷ ins (3 at 1) begin end ∷ ins (3 at 1) (2 at 1) (1 at 1) ∷ []) gives calls (Done 1 0 ∷ Done 1 0 ∷ Done 1 0 ∷ Refused 7 ∷ []) (1 at 1 ∷ 2 at 1 ∷ 3 at 1 ∷ []))
+    ∷ []
+
+-- each case tells the rule from the slip that its comment names
 abbrev pub CasesTell : Type 0
-CasesTell = AllHold tellingCases
+CasesTell = AllHold slipCases × AllHold answerCases
 
 -- ---- the checking order
 
@@ -204,8 +242,26 @@ numbersOf cs = map (λ c. reply (c .answer) .refusal) cs
 abbrev pub sentNumbersOf : List (Check Sent) → List ℕ
 sentNumbersOf cs = map (λ c. reply (answerOf (c .answer)) .refusal) cs
 
+-- the ranks of the refusals among answers, those of known left out
+abbrev pub ranksOf : List Answer → List ℕ
+ranksOf [] = []
+ranksOf (answerDone n m ∷ answers) = ranksOf answers
+ranksOf (Deferred ∷ answers) = ranksOf answers
+ranksOf (Duplicate ∷ answers) = ranksOf answers
+ranksOf (answerRefused r ∷ answers) = rank r ∷ ranksOf answers
+
+-- each is above the one before it
+abbrev pub rises : List ℕ → Bool
+rises [] = true
+rises (n ∷ []) = true
+rises (n ∷ m ∷ ns) = ltb n m && rises (m ∷ ns)
+
 -- receiving meets 2, 3, known, 7, 8, 9, 10, 11; typing 2, 3, 4, 5, 6, 9, 11; erasing 3, 4: in this order, on any state
 pub record CheckingOrder (formed : Bool) (s : State) : Type 0 where
   pub receiving-meets : (o : Operation) → numbersOf (receiveChecks formed s o) ≡ 2 ∷ 3 ∷ 0 ∷ 7 ∷ 8 ∷ 9 ∷ 10 ∷ 11 ∷ []
   pub inserting-meets : (g n : ℕ) → sentNumbersOf (insertChecks formed s g n) ≡ 2 ∷ 3 ∷ 4 ∷ 5 ∷ 6 ∷ 9 ∷ 11 ∷ []
   pub deleting-meets : (p : ℕ) → sentNumbersOf (deleteChecks formed s p) ≡ 3 ∷ 4 ∷ []
+  -- and by rising rank, so that the first that holds is the lowest
+  pub receiving-rises : (o : Operation) → rises (ranksOf (map (λ c. c .answer) (receiveChecks formed s o))) ≡ true
+  pub inserting-rises : (g n : ℕ) → rises (ranksOf (map (λ c. answerOf (c .answer)) (insertChecks formed s g n))) ≡ true
+  pub deleting-rises : (p : ℕ) → rises (ranksOf (map (λ c. answerOf (c .answer)) (deleteChecks formed s p))) ≡ true
