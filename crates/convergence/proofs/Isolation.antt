@@ -22,14 +22,14 @@ use Rattle.woot.specs.Operations.{sender, origin, inserts, sameInsert, sameDele
 use Rattle.woot.specs.State.{State}
 use Rattle.woot.specs.Pending.{executable, crossed, unplaceable, sentBy, pendingFrom}
 use Rattle.woot.specs.Form.{known, wellFormed}
-use Rattle.woot.specs.Answers.{Check, first, decided, Reported, here, later, number}
+use Rattle.woot.specs.Answers.{Check, first, NoneHolds, decided, Reported, here, later, number}
 use Rattle.woot.specs.Calls.{unchanged, duplicate, conflicting, senderFull, documentFull, receiveChecks, carryOut, defer, accept, receiveWhen, receive}
 use Rattle.convergence.specs.Theorems.{Isolation}
 use Rattle.lists.specs.Lists.{any, keep}
 use Rattle.lists.proofs.Tests.{clash, and-left, four}
 use Rattle.convergence.proofs.Identifiers.{same-eq}
 use Rattle.convergence.proofs.Refusals.{receive-refuses, skipped, held-there, never, other}
-use Rattle.convergence.proofs.Steps.{AllFail, first-none, first-some, Turned, receive-turned}
+use Rattle.convergence.proofs.Steps.{first-none, first-some, Turned, receive-turned}
 
 any-append : {A : Type 0} (p : A → Bool) (xs ys : List A) → any p (xs ++ ys) ≡ any p xs || any p ys
 any-append p [] ys = refl
@@ -145,7 +145,7 @@ full-alike s t o l r =
     (later (sym (l .crossing) ∙ r5 .0) (later (sym (l .placing) ∙ r6 .0) (here (sym (l .full) ∙ full) refl))))))
 
 -- what waits has passed every check, and lacks something
-deferred-checks : (s : State) (o : Operation) → receive s o .answer ≡ Deferred → AllFail (receiveChecks (wellFormed s) s o) × (executable (s .characters) o ≡ false)
+deferred-checks : (s : State) (o : Operation) → receive s o .answer ≡ Deferred → NoneHolds (receiveChecks (wellFormed s) s o) × (executable (s .characters) o ≡ false)
 unfolding receive receiveWhen accept decided unchanged carryOut
 deferred-checks s o h = go (first (receiveChecks (wellFormed s) s o)) refl h
   where
@@ -157,16 +157,16 @@ deferred-checks s o h = go (first (receiveChecks (wellFormed s) s o)) refl h
     lacks true e = absurd (carried o e)
     lacks false e = refl
 
-    go : (m : Option Answer) → first (receiveChecks (wellFormed s) s o) ≡ m → decided (unchanged s) m (accept s o) .answer ≡ Deferred → AllFail (receiveChecks (wellFormed s) s o) × (executable (s .characters) o ≡ false)
+    go : (m : Option Answer) → first (receiveChecks (wellFormed s) s o) ≡ m → decided (unchanged s) m (accept s o) .answer ≡ Deferred → NoneHolds (receiveChecks (wellFormed s) s o) × (executable (s .characters) o ≡ false)
     go none e k = (first-none (receiveChecks (wellFormed s) s o) e, lacks (executable (s .characters) o) k)
-    go (some a) e k = absurd (subst Turned k (first-some Turned (receiveChecks (wellFormed s) s o) (receive-turned s o) a e))
+    go (some a) e k = absurd (subst Turned k (first-some Turned (receiveChecks (wellFormed s) s o) (receive-turned (wellFormed s) s o) a e))
 
 -- with every check but the last passed in t, it waits there or the document is full
 deferred-alike : (s t : State) (o : Operation) → Level s t o → receive s o .answer ≡ Deferred → (receive t o .answer ≡ Deferred) ⊎ (receive t o .answer ≡ Refused DocumentFull)
 unfolding receive receiveWhen receiveChecks decided unchanged accept defer
 deferred-alike s t o l h = go (documentFull t o) refl
   where
-    fails : AllFail (receiveChecks (wellFormed s) s o)
+    fails : NoneHolds (receiveChecks (wellFormed s) s o)
     fails = deferred-checks s o h .0
 
     go : (b : Bool) → documentFull t o ≡ b → (receive t o .answer ≡ Deferred) ⊎ (receive t o .answer ≡ Refused DocumentFull)

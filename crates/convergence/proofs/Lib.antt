@@ -25,3 +25,4 @@ pub mod Refusals
 pub mod Grown
 pub mod Convergence
 pub mod Isolation
+pub mod Replies

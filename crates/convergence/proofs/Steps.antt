@@ -30,7 +30,7 @@ use Rattle.woot.specs.State.{State}
 use Rattle.woot.specs.Placing.{identifiers, held}
 use Rattle.woot.specs.Pending.{executable, crossed, unplaceable, pendingFrom, Drained}
 use Rattle.woot.specs.Form.{known, wellFormed}
-use Rattle.woot.specs.Answers.{Check, first, decided, answerOf}
+use Rattle.woot.specs.Answers.{Check, first, NoneHolds, decided, answerOf}
 use Rattle.woot.specs.Calls.{Outcome, unchanged, afterDrain, insertCarried, duplicate, conflicting, senderFull, documentFull, receiveChecks, carryOut, defer, accept, receiveWhen, receive, visibles, nextIdentifier, generatedInsert, beyondVisible, taken, insertChecks, advanced, sendInsert, localInsertWhen, localInsert, notVisible, deleteChecks, generatedDelete, sendDelete, localDeleteWhen, localDelete}
 use Rattle.woot.specs.Histories.{Call, inserting, deleting, receiving, withAnswer, outcome}
 use Rattle.lists.specs.Lists.{any}
@@ -93,16 +93,11 @@ pub data Step (s : State) : Outcome Answer → Type 0 where
   defers : (o : Operation) → Deferrable s o → Step s (defer s o)
 
 module _ {A : Type 0} where
-  -- no condition of the list holds
-  abbrev pub AllFail : List (Check A) → Type 0
-  AllFail [] = Unit
-  AllFail (c ∷ cs) = (c .holds ≡ false) × AllFail cs
-
-  pub first-none : (cs : List (Check A)) → first cs ≡ none → AllFail cs
+  pub first-none : (cs : List (Check A)) → first cs ≡ none → NoneHolds cs
   first-none [] h = tt
   first-none (c ∷ cs) h = go (c .holds) refl (first-none cs)
     where
-      go : (b : Bool) → c .holds ≡ b → (first cs ≡ none → AllFail cs) → (c .holds ≡ false) × AllFail cs
+      go : (b : Bool) → c .holds ≡ b → (first cs ≡ none → NoneHolds cs) → (c .holds ≡ false) × NoneHolds cs
       go true e f = absurd (let q = rw e at h in let z : _≡_ {A = ℕ} 0 1 = cc in omega arith)
       go false e f = (e, f (rw e at h))
 
@@ -178,7 +173,7 @@ carried-step s (insert i) f r u e x p =
     adds (s .site) i (record { formed = f; site = f .site; ranged = r; fresh = u .0; space = u .1; ready = e; uncrossed = x; placeable = p })
 carried-step s (delete d) f r u e x p = removes d (record { formed = f; ready = e })
 
-accept-step : (s : State) (o : Operation) → AllFail (receiveChecks (wellFormed s) s o) → Step s (accept s o)
+accept-step : (s : State) (o : Operation) → NoneHolds (receiveChecks (wellFormed s) s o) → Step s (accept s o)
 unfolding receiveChecks accept senderFull
 accept-step s o w = go (executable (s .characters) o) refl
   where
@@ -198,14 +193,14 @@ accept-step s o w = go (executable (s .characters) o) refl
     go true e = carried-step s o form ranged free e (w .1 .1 .1 .1 .0) (w .1 .1 .1 .1 .1 .0)
     go false e = defers o (record { formed = form; ranged = ranged; unready = e; space = share-left e; unused = free })
 
-pub receive-turned : (s : State) (o : Operation) → All Turned (receiveChecks (wellFormed s) s o)
+pub receive-turned : (formed : Bool) (s : State) (o : Operation) → All Turned (receiveChecks formed s o)
 unfolding receiveChecks
-receive-turned s o = (tt, (tt, (tt, (tt, (tt, (tt, (tt, (tt, tt))))))))
+receive-turned formed s o = (tt, (tt, (tt, (tt, (tt, (tt, (tt, (tt, tt))))))))
 
 -- ---- typing
 
 -- the answer of a refused call that sends
-abbrev Refusing : Sent → Type 0
+abbrev pub Refusing : Sent → Type 0
 Refusing (sentDone o n m) = ⊥
 Refusing (sentRefused r) = Unit
 
@@ -213,13 +208,13 @@ refusing-turned : (a : Sent) → Refusing a → Turned (answerOf a)
 unfolding answerOf
 refusing-turned (sentRefused r) w = tt
 
-insert-turned : (s : State) (g n : ℕ) → All Refusing (insertChecks (wellFormed s) s g n)
+pub insert-turned : (formed : Bool) (s : State) (g n : ℕ) → All Refusing (insertChecks formed s g n)
 unfolding insertChecks
-insert-turned s g n = (tt, (tt, (tt, (tt, (tt, (tt, (tt, tt)))))))
+insert-turned formed s g n = (tt, (tt, (tt, (tt, (tt, (tt, (tt, tt)))))))
 
-delete-turned : (s : State) (p : ℕ) → All Refusing (deleteChecks (wellFormed s) s p)
+pub delete-turned : (formed : Bool) (s : State) (p : ℕ) → All Refusing (deleteChecks formed s p)
 unfolding deleteChecks
-delete-turned s p = (tt, (tt, tt))
+delete-turned formed s p = (tt, (tt, tt))
 
 -- the site after its clock is advanced
 abbrev ahead : Site → Site
@@ -311,7 +306,7 @@ advanced-site s form early =
     and-intro (and-left (siteNumber (s .site .number)) (Ranges.within 0 lastClock (s .site .clock)) (form .site)) (to-within 0 lastClock (s .site .clock + 1) (omega arith) (omega arith))
 
 -- where every condition fails, it is carried out
-generated-step : (s : State) (g n : ℕ) → AllFail (insertChecks (wellFormed s) s g n) → Addable s (ahead (s .site)) (generatedInsert s g n)
+generated-step : (s : State) (g n : ℕ) → NoneHolds (insertChecks (wellFormed s) s g n) → Addable s (ahead (s .site)) (generatedInsert s g n)
 unfolding insertChecks
 generated-step s g n w =
     let form = formed s (not-false (wellFormed s) (w .1 .0)) in
@@ -332,7 +327,7 @@ generated-step s g n w =
 insert-step : (s : State) (g n : ℕ) (m : Option Sent) → first (insertChecks (wellFormed s) s g n) ≡ m → Step s (withAnswer answerOf (decided (unchanged s) m (sendInsert s (generatedInsert s g n))))
 unfolding decided unchanged sendInsert carryOut insertCarried answerOf afterDrain advanced
 insert-step s g n none e = adds (ahead (s .site)) (generatedInsert s g n) (generated-step s g n (first-none (insertChecks (wellFormed s) s g n) e))
-insert-step s g n (some a) e = turned (answerOf a) (refusing-turned a (first-some Refusing (insertChecks (wellFormed s) s g n) (insert-turned s g n) a e))
+insert-step s g n (some a) e = turned (answerOf a) (refusing-turned a (first-some Refusing (insertChecks (wellFormed s) s g n) (insert-turned (wellFormed s) s g n) a e))
 
 delete-step : (s : State) (p : ℕ) (m : Option Sent) → first (deleteChecks (wellFormed s) s p) ≡ m → Step s (withAnswer answerOf (decided (unchanged s) m (sendDelete s (generatedDelete s p))))
 unfolding decided unchanged sendDelete answerOf carryOut deleteChecks notVisible beyondVisible generatedDelete
@@ -341,12 +336,12 @@ delete-step s p none e =
     let form = formed s (not-false (wellFormed s) (w .0)) in
     let visible : p ≤ length (visibles (s .characters)) = ltb-false (length (visibles (s .characters))) p (or-false-right (eqb p 0) (ltb (length (visibles (s .characters))) p) (w .1 .0)) in
     removes (generatedDelete s p) (record { formed = form; ready = marked-held (left-marked (standing (form .sound)) p visible) (held-begin (s .characters)) })
-delete-step s p (some a) e = turned (answerOf a) (refusing-turned a (first-some Refusing (deleteChecks (wellFormed s) s p) (delete-turned s p) a e))
+delete-step s p (some a) e = turned (answerOf a) (refusing-turned a (first-some Refusing (deleteChecks (wellFormed s) s p) (delete-turned (wellFormed s) s p) a e))
 
 receive-step : (s : State) (o : Operation) (m : Option Answer) → first (receiveChecks (wellFormed s) s o) ≡ m → Step s (decided (unchanged s) m (accept s o))
 unfolding decided
 receive-step s o none e = accept-step s o (first-none (receiveChecks (wellFormed s) s o) e)
-receive-step s o (some a) e = turned a (first-some Turned (receiveChecks (wellFormed s) s o) (receive-turned s o) a e)
+receive-step s o (some a) e = turned a (first-some Turned (receiveChecks (wellFormed s) s o) (receive-turned (wellFormed s) s o) a e)
 
 pub step : (s : State) (c : Call) → Step s (outcome s c)
 unfolding outcome localInsert localInsertWhen localDelete localDeleteWhen receive receiveWhen

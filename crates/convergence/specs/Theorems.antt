@@ -20,7 +20,7 @@ use Rattle.woot.specs.State.{State, initial, pendingSlots}
 use Rattle.woot.specs.Placing.{identifiers, above, Interval, adjacent, candidates, narrowed, position}
 use Rattle.woot.specs.Pending.{executable, crossed, unplaceable, integrate, sentBy, Taken, earliest, Drained, andIntegrated, andDiscarded, drained, drain}
 use Rattle.woot.specs.Form.{wellFormed}
-use Rattle.woot.specs.Answers.{reply, Reported}
+use Rattle.woot.specs.Answers.{number, done, waits, reply, answerOf, NoneHolds, Reported}
 use Rattle.woot.specs.Calls.{unchanged, integrated, receiveChecks, receiveWhen, receive, insertChecks, localInsertWhen, deleteChecks, localDeleteWhen}
 use Rattle.woot.specs.Text.{text}
 use Rattle.woot.specs.Histories.{Call, Begun, startOf, outcome, run, drainedBy, discardedBy, deferredBy, InsertedIn, DeletedIn, charactersAfter, historyOf, SameInserted, SameDeleted}
@@ -73,6 +73,53 @@ abbrev pub DeleteRefuses : Type 0
 DeleteRefuses =
     (formed : Bool) (s : State) (p : ℕ) (r : Refusal) →
     (localDeleteWhen formed s p .answer ≡ sentRefused r) ↔ Reported (sentRefused r) (deleteChecks formed s p)
+
+-- no two refusals have one number
+abbrev pub NumbersDiffer : Type 0
+NumbersDiffer = (r q : Refusal) → number r ≡ number q → r ≡ q
+
+-- so each is answered by its number exactly when its condition holds and none before it
+abbrev pub ReceiveNumbers : Type 0
+ReceiveNumbers =
+    (formed : Bool) (s : State) (o : Operation) (r : Refusal) →
+    (reply (receiveWhen formed s o .answer) .refusal ≡ number r) ↔ Reported (Refused r) (receiveChecks formed s o)
+
+abbrev pub InsertNumbers : Type 0
+InsertNumbers =
+    (formed : Bool) (s : State) (g n : ℕ) (r : Refusal) →
+    (reply (answerOf (localInsertWhen formed s g n .answer)) .refusal ≡ number r)
+    ↔ Reported (sentRefused r) (insertChecks formed s g n)
+
+abbrev pub DeleteNumbers : Type 0
+DeleteNumbers =
+    (formed : Bool) (s : State) (p : ℕ) (r : Refusal) →
+    (reply (answerOf (localDeleteWhen formed s p .answer)) .refusal ≡ number r)
+    ↔ Reported (sentRefused r) (deleteChecks formed s p)
+
+-- receiving answers done exactly when no condition holds and everything needed is held
+abbrev pub ReceiveDoes : Type 0
+ReceiveDoes =
+    (formed : Bool) (s : State) (o : Operation) →
+    (reply (receiveWhen formed s o .answer) .word ≡ done)
+    ↔ (NoneHolds (receiveChecks formed s o) × (executable (s .characters) o ≡ true))
+
+-- and waits exactly when no condition holds and something needed is not
+abbrev pub ReceiveWaits : Type 0
+ReceiveWaits =
+    (formed : Bool) (s : State) (o : Operation) →
+    (reply (receiveWhen formed s o .answer) .word ≡ waits)
+    ↔ (NoneHolds (receiveChecks formed s o) × (executable (s .characters) o ≡ false))
+
+-- typing and erasing answer done exactly when no condition holds
+abbrev pub InsertDoes : Type 0
+InsertDoes =
+    (formed : Bool) (s : State) (g n : ℕ) →
+    (reply (answerOf (localInsertWhen formed s g n .answer)) .word ≡ done) ↔ NoneHolds (insertChecks formed s g n)
+
+abbrev pub DeleteDoes : Type 0
+DeleteDoes =
+    (formed : Bool) (s : State) (p : ℕ) →
+    (reply (answerOf (localDeleteWhen formed s p .answer)) .word ≡ done) ↔ NoneHolds (deleteChecks formed s p)
 
 -- a refused call changes nothing and carries nothing out
 abbrev pub RefusedUnchanged : Type 0

@@ -82,6 +82,11 @@ module _ {A : Type 0} where
   first [] = none
   first (c ∷ cs) = cond (c .holds) (some (c .answer)) (first cs)
 
+  -- no condition of the list holds
+  abbrev pub NoneHolds : List (Check A) → Type 0
+  NoneHolds [] = Unit
+  NoneHolds (c ∷ cs) = (c .holds ≡ false) × NoneHolds cs
+
   -- what is made of the answer at the first condition that holds; where none does, what is done
   unfoldable pub decided : {B : Type 0} → (A → B) → Option A → B → B
   decided turned none b = b

@@ -1,0 +1,198 @@
+-- What is answered tells which conditions hold: a word or a number stands for one way through the checks, since no check
+-- answers done or waits, and what is done where none holds answers nothing else.
+use Prim.Native.Nat.{ℕ}
+use native.Mathlib.Omega.{arith}
+use mathlib.Core.Path.{_≡_, refl, ap, sym, _∙_, subst}
+use mathlib.Core.Bool.{Bool, true, false, cond, false≢true, true≢false}
+use mathlib.Core.Option.{Option, none, some}
+use mathlib.Core.Logic.{_↔_}
+use mathlib.Core.List.{List, [], _∷_}
+use lib.ListN.{getD}
+use Rattle.woot.specs.declared.Operation.{Operation}
+use Rattle.woot.specs.declared.Operation.the-variants.{Insert as insert, Delete as delete}
+use Rattle.woot.specs.declared.Refusal.{Refusal}
+use Rattle.woot.specs.declared.Refusal.the-variants.{Layout, Range, Form, Position, Clock, Taken, Conflict, Crossed, Unplaceable, SenderFull, DocumentFull, Output}
+use Rattle.woot.specs.declared.Answer.{Answer}
+use Rattle.woot.specs.declared.Answer.the-variants.{Done, Deferred, Duplicate, Refused}
+use Rattle.woot.specs.declared.Sent.{Sent}
+use Rattle.woot.specs.declared.Sent.the-variants.{Done as sentDone, Refused as sentRefused}
+use Rattle.woot.specs.State.{State}
+use Rattle.woot.specs.Pending.{executable}
+use Rattle.woot.specs.Answers.{number, Word, done, waits, known, refused, reply, answerOf, Check, first, NoneHolds, decided, Reported}
+use Rattle.woot.specs.Calls.{Outcome, unchanged, carryOut, defer, accept, receiveChecks, receiveWhen, generatedInsert, insertChecks, advanced, sendInsert, localInsertWhen, generatedDelete, deleteChecks, sendDelete, localDeleteWhen}
+use Rattle.convergence.specs.Theorems.{NumbersDiffer, ReceiveNumbers, InsertNumbers, DeleteNumbers, ReceiveDoes, ReceiveWaits, InsertDoes, DeleteDoes}
+use Rattle.convergence.proofs.Refusals.{receive-refuses, insert-refuses, delete-refuses, answer-refused}
+use Rattle.convergence.proofs.Steps.{first-none, All, first-some, Turned, receive-turned, Refusing, insert-turned, delete-turned}
+
+-- ---- by number
+
+-- the refusal of a number
+refusalOf : ℕ → Refusal
+refusalOf n =
+    getD (Layout ∷ Layout ∷ Range ∷ Form ∷ Position ∷ Clock ∷ Taken ∷ Conflict ∷ Crossed ∷ Unplaceable ∷ SenderFull ∷ DocumentFull ∷ Output ∷ []) n Layout
+
+refusal-of : (r : Refusal) → refusalOf (number r) ≡ r
+unfolding refusalOf
+refusal-of Layout = refl
+refusal-of Range = refl
+refusal-of Form = refl
+refusal-of Position = refl
+refusal-of Clock = refl
+refusal-of Taken = refl
+refusal-of Conflict = refl
+refusal-of Crossed = refl
+refusal-of Unplaceable = refl
+refusal-of SenderFull = refl
+refusal-of DocumentFull = refl
+refusal-of Output = refl
+
+pub numbers-differ : NumbersDiffer
+numbers-differ r q e = sym (refusal-of r) ∙ ap refusalOf e ∙ refusal-of q
+
+positive : (r : Refusal) → 0 ≡ number r → ⊥
+positive Layout e = omega arith
+positive Range e = omega arith
+positive Form e = omega arith
+positive Position e = omega arith
+positive Clock e = omega arith
+positive Taken e = omega arith
+positive Conflict e = omega arith
+positive Crossed e = omega arith
+positive Unplaceable e = omega arith
+positive SenderFull e = omega arith
+positive DocumentFull e = omega arith
+positive Output e = omega arith
+
+-- an answer with the number of a refusal is that refusal
+pub answer-number : (a : Answer) (r : Refusal) → (reply a .refusal ≡ number r) ↔ (a ≡ Refused r)
+unfolding reply
+answer-number a r = (to a, λ e. rw e)
+  where
+    to : (b : Answer) → reply b .refusal ≡ number r → b ≡ Refused r
+    to (Done n m) e = absurd (positive r e)
+    to Deferred e = absurd (positive r e)
+    to Duplicate e = absurd (positive r e)
+    to (Refused q) e = ap Refused (numbers-differ q r e)
+
+-- so has a sending call's
+sent-number : (a : Sent) (r : Refusal) → (reply (answerOf a) .refusal ≡ number r) ↔ (a ≡ sentRefused r)
+unfolding answerOf
+sent-number a r = (λ e. answer-refused a r (answer-number (answerOf a) r .0 e), λ e. answer-number (answerOf a) r .1 (ap answerOf e))
+
+pub receive-numbers : ReceiveNumbers
+receive-numbers formed s o r =
+    let a = answer-number (receiveWhen formed s o .answer) r in
+    let b = receive-refuses formed s o r in
+    (λ h. b .0 (a .0 h), λ h. a .1 (b .1 h))
+
+pub insert-numbers : InsertNumbers
+insert-numbers formed s g n r =
+    let a = sent-number (localInsertWhen formed s g n .answer) r in
+    let b = insert-refuses formed s g n r in
+    (λ h. b .0 (a .0 h), λ h. a .1 (b .1 h))
+
+pub delete-numbers : DeleteNumbers
+delete-numbers formed s p r =
+    let a = sent-number (localDeleteWhen formed s p .answer) r in
+    let b = delete-refuses formed s p r in
+    (λ h. b .0 (a .0 h), λ h. a .1 (b .1 h))
+
+-- ---- by word
+
+none-first : {A : Type 0} (cs : List (Check A)) → NoneHolds cs → first cs ≡ none
+none-first [] w = refl
+none-first (c ∷ cs) w = rw (w .0) (none-first cs (w .1))
+
+-- a word that no check answers is that of what is done where none holds
+module _ {A : Type 0} (word : A → Word) (w : Word) (s : State) (cs : List (Check A)) (r : Outcome A) (never : All (λ a. word a ≡ w → ⊥) cs) where
+  pub done-exactly : (word (decided (unchanged s) (first cs) r .answer) ≡ w) ↔ (NoneHolds cs × (word (r .answer) ≡ w))
+  unfolding decided unchanged
+  done-exactly = (go (first cs) refl, λ h. rw (none-first cs (h .0)) (h .1))
+    where
+      go : (m : Option A) → first cs ≡ m → word (decided (unchanged s) m r .answer) ≡ w → NoneHolds cs × (word (r .answer) ≡ w)
+      go none e h = (first-none cs e, h)
+      go (some a) e h = absurd (first-some (λ a. word a ≡ w → ⊥) cs never a e h)
+
+abbrev wordOf : Answer → Word
+wordOf a = reply a .word
+
+-- what is done where no condition holds: done where everything needed is held, else waits
+accept-word : (s : State) (o : Operation) → wordOf (accept s o .answer) ≡ cond (executable (s .characters) o) done waits
+unfolding accept carryOut defer reply
+accept-word s o = go (executable (s .characters) o) o
+  where
+    go : (b : Bool) (p : Operation) → wordOf (cond b (carryOut Done s p) (defer s p) .answer) ≡ cond b done waits
+    go true (insert i) = refl
+    go true (delete d) = refl
+    go false p = refl
+
+done-waits : done ≡ waits → ⊥
+done-waits e = let z : _≡_ {A = ℕ} 0 1 = cc in omega arith
+
+cond-done : (b : Bool) → (cond b done waits ≡ done) ↔ (b ≡ true)
+cond-done true = (λ e. refl, λ e. refl)
+cond-done false = (λ e. absurd (done-waits (sym e)), λ e. absurd (false≢true e))
+
+cond-waits : (b : Bool) → (cond b done waits ≡ waits) ↔ (b ≡ false)
+cond-waits true = (λ e. absurd (done-waits e), λ e. absurd (true≢false e))
+cond-waits false = (λ e. refl, λ e. refl)
+
+-- no check of receiving answers done or waits
+turned-word : (a : Answer) (w : Word) → (w ≡ known → ⊥) → (w ≡ refused → ⊥) → Turned a → wordOf a ≡ w → ⊥
+unfolding reply
+turned-word (Done n m) w f g t e = t
+turned-word Deferred w f g t e = t
+turned-word Duplicate w f g t e = f (sym e)
+turned-word (Refused r) w f g t e = g (sym e)
+
+all-turned : (w : Word) → (w ≡ known → ⊥) → (w ≡ refused → ⊥) → (cs : List (Check Answer)) → All Turned cs → All (λ a. wordOf a ≡ w → ⊥) cs
+all-turned w f g [] t = tt
+all-turned w f g (c ∷ cs) t = (turned-word (c .answer) w f g (t .0), all-turned w f g cs (t .1))
+
+pub receive-does : ReceiveDoes
+unfolding receiveWhen
+receive-does formed s o =
+    let never = all-turned done (λ e. let z : _≡_ {A = ℕ} 0 1 = cc in omega arith) (λ e. let z : _≡_ {A = ℕ} 0 1 = cc in omega arith) (receiveChecks formed s o) (receive-turned formed s o) in
+    let w = done-exactly wordOf done s (receiveChecks formed s o) (accept s o) never in
+    let b = rw (← accept-word s o) at (cond-done (executable (s .characters) o)) in
+    (λ h. (w .0 h .0, b .0 (w .0 h .1)), λ h. w .1 (h .0, b .1 (h .1)))
+
+pub receive-waits : ReceiveWaits
+unfolding receiveWhen
+receive-waits formed s o =
+    let never = all-turned waits (λ e. let z : _≡_ {A = ℕ} 0 1 = cc in omega arith) (λ e. let z : _≡_ {A = ℕ} 0 1 = cc in omega arith) (receiveChecks formed s o) (receive-turned formed s o) in
+    let w = done-exactly wordOf waits s (receiveChecks formed s o) (accept s o) never in
+    let b = rw (← accept-word s o) at (cond-waits (executable (s .characters) o)) in
+    (λ h. (w .0 h .0, b .0 (w .0 h .1)), λ h. w .1 (h .0, b .1 (h .1)))
+
+-- ---- typing and erasing
+
+abbrev wordSent : Sent → Word
+wordSent a = wordOf (answerOf a)
+
+all-refusing : (cs : List (Check Sent)) → All Refusing cs → All (λ a. wordSent a ≡ done → ⊥) cs
+unfolding answerOf reply
+all-refusing [] t = tt
+all-refusing (c ∷ cs) t = (refusing-word (c .answer) (t .0), all-refusing cs (t .1))
+  where
+    refusing-word : (a : Sent) → Refusing a → wordSent a ≡ done → ⊥
+    refusing-word (sentDone o n m) t e = t
+    refusing-word (sentRefused r) t e = let z : _≡_ {A = ℕ} 0 1 = cc in omega arith
+
+-- what is sent is done
+sent-done : (s : State) (o : Operation) → wordSent (carryOut (sentDone o) s o .answer) ≡ done
+unfolding carryOut answerOf reply
+sent-done s (insert i) = refl
+sent-done s (delete d) = refl
+
+pub insert-does : InsertDoes
+unfolding localInsertWhen sendInsert
+insert-does formed s g n =
+    let w = done-exactly wordSent done s (insertChecks formed s g n) (sendInsert s (generatedInsert s g n)) (all-refusing (insertChecks formed s g n) (insert-turned formed s g n)) in
+    (λ h. w .0 h .0, λ h. w .1 (h, sent-done (advanced s) (insert (generatedInsert s g n))))
+
+pub delete-does : DeleteDoes
+unfolding localDeleteWhen sendDelete
+delete-does formed s p =
+    let w = done-exactly wordSent done s (deleteChecks formed s p) (sendDelete s (generatedDelete s p)) (all-refusing (deleteChecks formed s p) (delete-turned formed s p)) in
+    (λ h. w .0 h .0, λ h. w .1 (h, sent-done s (delete (generatedDelete s p))))
