@@ -13,7 +13,7 @@ use Rattle.woot.specs.Pending.{executable, crossed, unplaceable, integrate, Dra
 use Rattle.lists.specs.Lists.{any, every}
 use Rattle.lists.proofs.Members.{every-member}
 use Rattle.convergence.proofs.Extract.{Extract, extract-length, extract-itself}
-use Rattle.convergence.proofs.Forms.{Sound}
+use Rattle.convergence.specs.Invariants.{Sound}
 use Rattle.convergence.proofs.Soundness.{sound-out, out-fresh, out-room, sound-in, sound-hide}
 use Rattle.convergence.proofs.Drains.{Draining, stop, discard, carry}
 

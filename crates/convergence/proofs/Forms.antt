@@ -2,40 +2,23 @@
 use Prim.Native.Nat.{ℕ, _+_, _≤_}
 use native.Mathlib.Omega.{arith}
 use mathlib.Core.Path.{_≡_, refl, ap, _∙_, subst}
-use mathlib.Core.Bool.{Bool, true, false, not}
+use mathlib.Core.Bool.{Bool, true, false}
 use mathlib.Core.List.{List, [], _∷_, _++_, map}
-use lib.Dec.{leb}
 use lib.ListN.{length, length-append, length-map}
 use borrow.Author.Tests.{leb-true, le-leb, not-true}
-use Rattle.woot.specs.declared.Identifier.{Identifier}
-use Rattle.woot.specs.declared.Site.{Site}
-use Rattle.woot.specs.declared.Operation.{Operation}
 use Rattle.woot.specs.declared.Character.{Character}
-use Rattle.woot.specs.Limits.{lastSite, capacity, share}
+use Rattle.woot.specs.Limits.{capacity}
 use Rattle.woot.specs.Identifiers.{same}
-use Rattle.woot.specs.Operations.{origin, inserts, deletes, sameDelete}
+use Rattle.woot.specs.Operations.{origin, inserts}
 use Rattle.woot.specs.Ranges.{within, siteNumber, siteInRange, characterInRange, inRange}
 use Rattle.woot.specs.State.{State, initial}
 use Rattle.woot.specs.Placing.{identifiers}
 use Rattle.woot.specs.Pending.{executable, pendingFrom}
-use Rattle.woot.specs.Form.{known, numbers, allInRange, sharesKept, capacityKept, identifiersDistinct, deletesDistinct, ordered, neighboursOrdered, noneExecutable, wellFormed}
+use Rattle.woot.specs.Form.{known, allInRange, sharesKept, capacityKept, identifiersDistinct, deletesDistinct, neighboursOrdered, noneExecutable, wellFormed}
+use Rattle.convergence.specs.Invariants.{pendingIds, Sound}
 use Rattle.convergence.specs.Theorems.{EmptyFormed}
 use Rattle.lists.specs.Lists.{any, every, distinct}
 use Rattle.lists.proofs.Tests.{three, seven}
-
--- the identifiers of pending inserts
-abbrev pub pendingIds : List Operation → List Identifier
-pendingIds ps = map (λ i. i .id) (inserts ps)
-
--- the form of the lists, but for the last condition, which does not hold while pending operations are drained
-pub record Sound (cs : List Character) (ps : List Operation) : Type 0 where
-  pub ranges : every characterInRange cs ≡ true
-  pub ordered-all : every (ordered cs) cs ≡ true
-  pub pending-ranges : every inRange ps ≡ true
-  pub shares : every (λ n. leb (pendingFrom n ps) share) (numbers lastSite) ≡ true
-  pub room : length cs + length (inserts ps) ≤ capacity
-  pub apart : distinct same (identifiers cs ++ pendingIds ps) ≡ true
-  pub deletes-apart : distinct sameDelete (deletes ps) ≡ true
 
 pub record Formed (s : State) : Type 0 where
   pub site : siteInRange (s .site) ≡ true

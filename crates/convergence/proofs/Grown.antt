@@ -26,7 +26,8 @@ use Rattle.lists.proofs.Tests.{clash, and-left}
 use Rattle.lists.proofs.Members.{every-member}
 use Rattle.convergence.proofs.Extract.{Extract, extract-itself}
 use Rattle.convergence.proofs.Growth.{grown-empty, grown-delete, grown-insert, grown-placeable}
-use Rattle.convergence.proofs.Forms.{Sound, formed}
+use Rattle.convergence.specs.Invariants.{Sound}
+use Rattle.convergence.proofs.Forms.{formed}
 use Rattle.convergence.proofs.Soundness.{fresh-unheld, sound-in, sound-out, out-fresh}
 use Rattle.convergence.proofs.Drains.{Draining, stop, discard, carry}
 use Rattle.convergence.proofs.Draining.{sound-carry}

@@ -20,7 +20,7 @@ use Rattle.woot.specs.Histories.{Call, Begun, empty, startOf, beforehand, outco
 use Rattle.convergence.specs.Theorems.{HeldAreInserted, HeldCount, HiddenAreDeleted, WaitsBalance}
 use Rattle.lists.proofs.Members.{every-member}
 use Rattle.convergence.proofs.Extract.{Extract, extract-itself}
-use Rattle.convergence.proofs.Forms.{Sound}
+use Rattle.convergence.specs.Invariants.{Sound}
 use Rattle.convergence.proofs.Soundness.{placed-extract, placed-held, fresh-unheld, sound-in, sound-out, out-fresh}
 use Rattle.convergence.proofs.Drains.{Draining, stop, discard, carry}
 use Rattle.convergence.proofs.Draining.{sound-carry, drained-balance}

@@ -22,7 +22,8 @@ use Rattle.lists.specs.Lists.{every}
 use Rattle.lists.proofs.Tests.{either, and-left, and-right}
 use Rattle.lists.proofs.Members.{every-member}
 use Rattle.convergence.proofs.Ranges.{within-low, within-high, in-range}
-use Rattle.convergence.proofs.Forms.{Sound, formed}
+use Rattle.convergence.specs.Invariants.{Sound}
+use Rattle.convergence.proofs.Forms.{formed}
 
 -- what the senders of the list have pending, together
 total : List ℕ → List Operation → ℕ

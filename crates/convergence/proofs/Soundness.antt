@@ -31,7 +31,7 @@ use Rattle.convergence.proofs.Places.{held-parts, held-insert}
 use Rattle.convergence.proofs.Deletion.{delete-length, delete-identifiers}
 use Rattle.convergence.proofs.Ranges.{no-mark, in-range}
 use Rattle.convergence.proofs.Extract.{Extract, front, past, extract-length, extract-front, extract-append, extract-last, extract-map, extract-every, every-extract, keep-extract, keep-same, distinct-extract, extract-distinct}
-use Rattle.convergence.proofs.Forms.{Sound, pendingIds}
+use Rattle.convergence.specs.Invariants.{Sound, pendingIds}
 use Rattle.convergence.proofs.Standing.{standing-insert, integrate-insert, standing-delete}
 
 -- ---- one operation taken out of the pending ones

@@ -34,9 +34,10 @@ use Rattle.woot.specs.Answers.{Check, first, NoneHolds, decided, answerOf}
 use Rattle.woot.specs.Calls.{Outcome, unchanged, afterDrain, insertCarried, duplicate, conflicting, senderFull, documentFull, receiveChecks, carryOut, defer, accept, receiveWhen, receive, visibles, nextIdentifier, generatedInsert, beyondVisible, taken, insertChecks, advanced, sendInsert, localInsertWhen, localInsert, notVisible, deleteChecks, generatedDelete, sendDelete, localDeleteWhen, localDelete}
 use Rattle.woot.specs.Histories.{Call, inserting, deleting, receiving, withAnswer, outcome}
 use Rattle.lists.specs.Lists.{any}
-use Rattle.lists.proofs.Tests.{clash, and-left, and-intro, and-false, or-left, or-right, or-false, or-false-left, or-false-right, not-intro, fails}
+use Rattle.lists.proofs.Tests.{clash, and-left, and-intro, and-false, or-left, or-right, or-false-left, or-false-right, not-intro, fails}
 use Rattle.lists.proofs.Members.{any-none, none-any}
-use Rattle.convergence.proofs.Forms.{Formed, formed, pendingIds, known-ids, known-length}
+use Rattle.convergence.specs.Invariants.{pendingIds, Made}
+use Rattle.convergence.proofs.Forms.{Formed, formed, known-ids, known-length}
 use Rattle.convergence.specs.Agreement.{Standing}
 use Rattle.convergence.proofs.Identifiers.{eq-same, ne-same}
 use Rattle.convergence.proofs.Ranges.{InRange, to-range, to-within, no-mark}
@@ -243,13 +244,6 @@ unfolding nextIdentifier characterId siteInRange
 next-character s form early =
     let low = leb-false lastClock (s .site .clock) early in
     and-intro (and-left (siteNumber (s .site .number)) (Ranges.within 0 lastClock (s .site .clock)) (form .site)) (to-within 1 lastClock (s .site .clock + 1) (omega arith) (omega arith))
-
--- what typing makes, before it is known whether there is a place and room for it
-pub record Made (s : State) (i : Insert) : Type 0 where
-  pub ranged : insertInRange i ≡ true
-  pub fresh : any (same (i .id)) (identifiers (s .characters) ++ pendingIds (s .pending)) ≡ false
-  pub ready : executable (s .characters) (insert i) ≡ true
-  pub uncrossed : crossed (s .characters) (insert i) ≡ false
 
 -- it is in range, and has what it needs
 pub generated-made : (s : State) (g n : ℕ) → Formed s → codePoint n ≡ true → beyondVisible s g ≡ false → leb lastClock (s .site .clock) ≡ false → taken s ≡ false → Made s (generatedInsert s g n)

@@ -19,9 +19,8 @@ use Rattle.woot.specs.State.{State, initial, stored}
 use Rattle.woot.specs.Form.{wellFormed}
 use Rattle.woot.specs.Answers.{reply, number, answerOf}
 use Rattle.woot.specs.Calls.{receive, localInsert, localDelete}
-use Rattle.woot.specs.Histories.{inserting, deleting, receiving, outcome}
-use Rattle.woot.specs.Histories.{Call as RuleCall}
-use Rattle.replica.specs.Replicas.{afterAnswer, afterSent, receipt, generated}
+use Rattle.woot.specs.Histories.{inserting, deleting, receiving, outcome, Call as RuleCall}
+use Rattle.storage.specs.Replicas.{afterAnswer, afterSent, receipt, generated}
 use Rattle.replica.proofs.Runs.{formed-within}
 use Rattle.codec.specs.Lines.{isLetter, hasLayout}
 use Rattle.codec.specs.Calls.{saidBy, written, outAfter as lineAfter}
@@ -30,10 +29,8 @@ use Rattle.saved.specs.Format.{isSite, headLine, savedLaidOut, savedState, save
 use Rattle.saved.specs.Calls.{loadChecks, loadedAs, loaded, outAfter}
 use Rattle.saved.proofs.Trips.{saved-says, saved-reads-back}
 use Rattle.wimtaze.specs.Results.{result, silent, wordNumber, joined, packed}
-use Rattle.wimtaze.specs.Effects.{Effect, turned, unless, afterWriting, changes, generating, sending, sendingBoth}
-use Rattle.wimtaze.specs.Effects.{receiving as receivingEffect, saving as savingEffect}
-use Rattle.wimtaze.specs.Calls.{inputChecks, inputRefusal, receivingLine}
-use Rattle.wimtaze.specs.Calls.{said as saidReplica, inserting as typing, deleting as erasing}
+use Rattle.wimtaze.specs.Effects.{Effect, turned, unless, afterWriting, changes, generating, sending, sendingBoth, receiving as receivingEffect, saving as savingEffect}
+use Rattle.wimtaze.specs.Calls.{inputChecks, inputRefusal, receivingLine, said as saidReplica, inserting as typing, deleting as erasing}
 use Rattle.wimtaze.specs.Theorems.{Fits}
 use Rattle.wimtaze.proofs.Fitting.{results-fit}
 use Rattle.wimtaze.proofs.Outputs.{line-refused, save-refused, both-written}

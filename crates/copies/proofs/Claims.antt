@@ -9,13 +9,11 @@ use Rattle.woot.specs.Ranges.{siteNumber}
 use Rattle.woot.specs.State.{State, initial}
 use Rattle.woot.specs.Answers.{reply}
 use Rattle.woot.specs.Text.{text}
-use Rattle.woot.specs.Histories.{outcome, run, integratedBy}
-use Rattle.woot.specs.Histories.{Call as RuleCall}
+use Rattle.woot.specs.Histories.{outcome, run, integratedBy, Call as RuleCall}
 use Rattle.convergence.proofs.Convergence.{convergence}
 use Rattle.replica.proofs.Runs.{initial-within}
 use Rattle.wimtaze.specs.Results.{result, silent}
-use Rattle.wimtaze.specs.Effects.{turned, unless, afterWriting}
-use Rattle.wimtaze.specs.Effects.{saving as savingEffect}
+use Rattle.wimtaze.specs.Effects.{turned, unless, afterWriting, saving as savingEffect}
 use Rattle.wimtaze.specs.Calls.{beginning}
 use Rattle.wimtaze.proofs.Fitting.{results-fit}
 use Rattle.copies.specs.Copies.{Copy, Call, bytesAfter, after, carried, ran, carriedBy, Empty, emptyReplica, emptyBytes, begun, charactersOf, textOf}

@@ -12,11 +12,9 @@ use Rattle.woot.specs.State.{State, initial, stored}
 use Rattle.woot.specs.Form.{wellFormed}
 use Rattle.woot.specs.Answers.{reply}
 use Rattle.woot.specs.Calls.{Outcome, unchanged, integrated}
-use Rattle.woot.specs.Histories.{outcome}
-use Rattle.woot.specs.Histories.{Call as RuleCall}
+use Rattle.woot.specs.Histories.{outcome, Call as RuleCall}
 use Rattle.convergence.proofs.Forms.{reformed}
-use Rattle.convergence.proofs.Steps.{turned, adds, removes, defers, step}
-use Rattle.convergence.proofs.Steps.{Step as RuleStep}
+use Rattle.convergence.proofs.Steps.{turned, adds, removes, defers, step, Step as RuleStep}
 use Rattle.convergence.proofs.Kept.{form-kept, counts-true}
 use Rattle.codec.specs.Lines.{numbers}
 use Rattle.replica.proofs.Runs.{Within, meaning-stored}

@@ -14,13 +14,12 @@ use Rattle.woot.specs.Ranges.{inRange}
 use Rattle.woot.specs.State.{State, stored}
 use Rattle.woot.specs.Answers.{reply, answerOf}
 use Rattle.woot.specs.Calls.{receive, localInsert, localDelete}
-use Rattle.woot.specs.Histories.{inserting, deleting, receiving, outcome}
-use Rattle.woot.specs.Histories.{Call as RuleCall}
-use Rattle.replica.specs.Replicas.{afterAnswer, afterSent, receipt, generated, received, inserted, deleted}
+use Rattle.woot.specs.Histories.{inserting, deleting, receiving, outcome, Call as RuleCall}
+use Rattle.storage.specs.Replicas.{afterAnswer, afterSent, receipt, generated, received, inserted, deleted}
 use Rattle.replica.specs.Theorems.{called}
 use Rattle.replica.proofs.Runs.{Within, formed-within, meaning-stored, form-stored}
-use Rattle.lent.specs.Lent.{returned}
-use Rattle.lent.proofs.Sites.{lent-follows}
+use Rattle.site_record.specs.Lent.{returned}
+use Rattle.site_record.proofs.Sites.{lent-follows}
 use Rattle.codec.specs.Calls.{laidOut, saidBy, readOperation}
 use Rattle.codec.proofs.Judging.{read-layout, read-range, read-operation}
 use Rattle.report.specs.Calls.{answeredAs, answered}

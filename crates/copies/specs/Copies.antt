@@ -14,12 +14,11 @@ use Rattle.woot.specs.State.{State, initial, meaning, stored}
 use Rattle.woot.specs.Answers.{Word, done, waits, known, refused, reply, answerOf}
 use Rattle.woot.specs.Calls.{integrated}
 use Rattle.woot.specs.Text.{text}
-use Rattle.woot.specs.Histories.{inserting, deleting, receiving, outcome}
-use Rattle.woot.specs.Histories.{Call as RuleCall}
-use Rattle.replica.specs.Replicas.{received, inserted, deleted}
+use Rattle.woot.specs.Histories.{inserting, deleting, receiving, outcome, Call as RuleCall}
+use Rattle.storage.specs.Replicas.{received, inserted, deleted}
 use Rattle.replica.specs.Theorems.{called}
-use Rattle.lent.specs.declared.Returned.{Returned}
-use Rattle.lent.specs.Lent.{joined, returned, siteAfter}
+use Rattle.site_record.specs.declared.Returned.{Returned}
+use Rattle.site_record.specs.Lent.{joined, returned, siteAfter}
 use Rattle.codec.specs.Calls.{saidBy}
 use Rattle.report.specs.Calls.{answered}
 use Rattle.saved.specs.declared.LoadAnswer.{LoadAnswer}
@@ -39,7 +38,7 @@ pub data Copy : Type 0 where
 pub data Call : Type 0 where
   -- `replica::insert`, `replica::delete`, `replica::receive`
   onReplica : RuleCall → Call
-  -- `lent::insert_on`: an insertion point and a code point
+  -- `site_record::insert_on`: an insertion point and a code point
   onRecord : ℕ → ℕ → Call
   -- `report::answer_line`: the first line of these bytes is read and received
   onLine : List ℕ → Call

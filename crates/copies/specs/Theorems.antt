@@ -3,8 +3,7 @@ use Prim.Native.Nat.{ℕ}
 use mathlib.Core.Path.{_≡_}
 use mathlib.Core.List.{List}
 use Rattle.woot.specs.State.{initial}
-use Rattle.woot.specs.Histories.{run, historyOf, SameInserted, SameDeleted}
-use Rattle.woot.specs.Histories.{Call as RuleCall}
+use Rattle.woot.specs.Histories.{run, historyOf, SameInserted, SameDeleted, Call as RuleCall}
 use Rattle.copies.specs.Copies.{Call, Empty, begun, ran, carriedBy, stateOf, charactersOf, textOf}
 
 -- a copy begun empty says at every moment what the rules leave after some calls, which carried out the same operations

@@ -47,3 +47,7 @@ take-lesser k n xs e = ⊎-elim short long (side k n)
 
     long : n < k → take (min k n) xs ≡ take n xs
     long h = let cut : min k n ≡ n = omega arith in rw cut
+
+-- the same, where the lesser is taken the other way round
+pub first-or-all : {A : Type 0} (xs : List A) (n m : ℕ) → length xs ≡ m → take (min n m) xs ≡ take n xs
+first-or-all xs n m e = let turn : min n m ≡ min m n = omega arith in rw turn (take-lesser m n xs e)

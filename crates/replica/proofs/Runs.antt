@@ -30,7 +30,8 @@ use Rattle.convergence.proofs.Steps.{Step, turned, adds, removes, defers, step}
 use Rattle.convergence.proofs.Kept.{form-kept}
 use Rattle.convergence.proofs.Refusals.{refused-unchanged, known-unchanged}
 use Rattle.convergence.proofs.Convergence.{convergence}
-use Rattle.replica.specs.Replicas.{afterAnswer, afterSent, receipt, generated, received, inserted, deleted, textOf}
+use Rattle.storage.specs.Replicas.{afterAnswer, afterSent, receipt, generated, received, inserted, deleted}
+use Rattle.replica.specs.Texts.{textOf}
 use Rattle.replica.specs.Theorems.{called, ran, ReplicasFollow, ReplicasConverge}
 
 -- the lists are within the arrays

@@ -1,5 +1,2 @@
-pub mod Replicas
+pub mod Texts
 pub mod Theorems
-pub mod Work
-pub mod Needs
-pub mod Sending

@@ -5,7 +5,8 @@ use mathlib.Core.List.{List, [], _∷_}
 use Rattle.woot.specs.declared.Replica.{Replica}
 use Rattle.woot.specs.State.{initial, meaning, stored}
 use Rattle.woot.specs.Histories.{Call, inserting, deleting, receiving, run, historyOf, SameInserted, SameDeleted}
-use Rattle.replica.specs.Replicas.{received, inserted, deleted, textOf}
+use Rattle.storage.specs.Replicas.{received, inserted, deleted}
+use Rattle.replica.specs.Texts.{textOf}
 
 -- the replica that a call returns: `replica::insert`, `replica::delete` and `replica::receive`
 unfoldable pub called : Replica → Call → Replica

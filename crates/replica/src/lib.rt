@@ -1,10 +1,4 @@
 // The calls on a replica: receiving, inserting, deleting, the check of its form and the visible text.
-mod generation;
-mod placing;
-mod reception;
-mod storing;
-mod work;
-
 use woot::Generated;
 use woot::Operation;
 use woot::Receipt;
@@ -13,13 +7,14 @@ use woot::Replica;
 use woot::Written;
 ghost use mathlib.Core.Path.{_≡_};
 ghost use Rattle.woot.specs.Form.{replicaWellFormed};
-ghost use Rattle.replica.specs.Replicas.{received, inserted, deleted, textWritten, textOut};
+ghost use Rattle.storage.specs.Replicas.{received, inserted, deleted};
+ghost use Rattle.replica.specs.Texts.{textWritten, textOut};
 
 // Whether a replica is well formed. (Document 01: in form.)
 pub fn well_formed(r: Replica) -> bool
     ensures { λ x. ⌜ x ≡ replicaWellFormed r ⌝ }
 {
-    let c = form::check(r);
+    let c = well_formed::check(r);
     c.formed
 }
 
@@ -30,7 +25,7 @@ pub fn receive(r: Replica, o: Operation) -> Receipt
     if !ranges::in_range(o) {
         return reception::refused(r, Refusal::Range);
     }
-    let c = form::check(r);
+    let c = well_formed::check(r);
     if !c.formed {
         return reception::refused(r, Refusal::Form);
     }
@@ -50,7 +45,7 @@ pub fn insert(r: Replica, point: usize, code_point: u32) -> Generated
     if !ranges::code_point(code_point) {
         return generation::refused(r, Refusal::Range);
     }
-    let c = form::check(r);
+    let c = well_formed::check(r);
     if !c.formed {
         return generation::refused(r, Refusal::Form);
     }

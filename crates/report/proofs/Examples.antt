@@ -14,7 +14,7 @@ use Rattle.decimal.specs.Numeral.{isDigit, leadingZero, isNumeral, valueOf, dig
 use Rattle.codec.specs.Lines.{ended, firstLine, rest, isLetter, numerals, hasLayout, numbers}
 use Rattle.codec.specs.Operations.{identifierAt, insertOf, deleteOf, isInsert, isDelete, said}
 use Rattle.codec.specs.Calls.{decided as decidedRead, lineLaidOut, laidOut, readChecks, readAs, saidBy, readOperation}
-use Rattle.replica.specs.Replicas.{afterAnswer, receipt, received}
+use Rattle.storage.specs.Replicas.{afterAnswer, receipt, received}
 use Rattle.report.specs.Lines.{lineFrom, spelled, replyLine, reportLine, codePoints, textNumbers, textLine}
 use Rattle.report.specs.Calls.{answeredAs, answered, printedFrom, printed}
 use Rattle.report.specs.Theorems.{Example}

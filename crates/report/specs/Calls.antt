@@ -12,7 +12,7 @@ use Rattle.codec.specs.declared.Read.{Read}
 use Rattle.codec.specs.declared.Read.the-variants.{Operation as readsAs, Refused as readRefused}
 use Rattle.codec.specs.Lines.{rest}
 use Rattle.codec.specs.Calls.{readOperation}
-use Rattle.replica.specs.Replicas.{received}
+use Rattle.storage.specs.Replicas.{received}
 use Rattle.report.specs.Lines.{reportLine, textLine}
 
 -- an operation is received; what could not be read is refused, and the very replica comes back

@@ -12,7 +12,7 @@ use Rattle.woot.specs.declared.Character.{Character}
 use Rattle.lists.specs.Lists.{keep}
 use Rattle.woot.specs.Placing.{identifiers}
 use Rattle.woot.specs.Calls.{visibles}
-use Rattle.arrays.proofs.Padding.{first-or-all}
+use Rattle.lists.proofs.Padding.{first-or-all}
 
 -- ---- what is left
 

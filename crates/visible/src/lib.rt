@@ -18,7 +18,7 @@ ghost use Rattle.visible.specs.Visible.{spelt, writtenIn};
 pub fn count(cs: [Character; 1024], n: usize) -> usize
     ensures { λ r. ⌜ r ≡ length (visibles (take n cs)) ⌝ }
 {
-    let end = order::lesser(n, 1024);
+    let end = index::lesser(n, 1024);
     let mut number = 0;
     let mut i = 0;
     while i < end {
@@ -35,7 +35,7 @@ pub fn count(cs: [Character; 1024], n: usize) -> usize
 fn identifier(cs: [Character; 1024], n: usize, k: usize, mark: Identifier) -> Identifier
     ensures { λ r. ⌜ r ≡ getD (visibles (take n cs)) k mark ⌝ }
 {
-    let end = order::lesser(n, 1024);
+    let end = index::lesser(n, 1024);
     let mut rest = k;
     let mut i = 0;
     while i < end {
@@ -122,7 +122,7 @@ fn put_text(cs: [Character; 1024], n: usize, out: &mut [u8])
 pub fn write_text(cs: [Character; 1024], n: usize, out: &mut [u8]) -> Written
     ensures { λ r. ⌜ (r ≡ writtenIn (length (now (out .entry))) (text (take n cs))) × (now (out .exit) ≡ placed (now (out .entry)) 0 (text (take n cs))) ⌝ }
 {
-    let end = order::lesser(n, 1024);
+    let end = index::lesser(n, 1024);
     let bytes = text_length(cs, end);
     if out.len() < bytes {
         return Written::Refused(Refusal::Output);

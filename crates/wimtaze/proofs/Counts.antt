@@ -21,15 +21,12 @@ use Rattle.woot.specs.State.{State, meaning}
 use Rattle.woot.specs.Form.{wellFormed, replicaWellFormed}
 use Rattle.woot.specs.Pending.{executable}
 use Rattle.woot.specs.Answers.{Check, first, number}
-use Rattle.woot.specs.Calls.{Outcome, unchanged, decided, insertCarried}
-use Rattle.woot.specs.Calls.{receiveChecks, carryOut, defer, accept, receiveWhen}
-use Rattle.woot.specs.Calls.{generatedInsert, insertChecks, sendInsert, localInsertWhen}
-use Rattle.woot.specs.Calls.{generatedDelete, deleteChecks, sendDelete, localDeleteWhen}
+use Rattle.woot.specs.Calls.{Outcome, unchanged, decided, insertCarried, receiveChecks, carryOut, defer, accept, receiveWhen, generatedInsert, insertChecks, sendInsert, localInsertWhen, generatedDelete, deleteChecks, sendDelete, localDeleteWhen}
 use Rattle.convergence.proofs.Shares.{pending-fit}
 use Rattle.convergence.proofs.Draining.{drained-balance}
 use Rattle.convergence.proofs.Steps.{All, AllFail, first-none, first-some}
 use Rattle.convergence.proofs.Kept.{after-insert}
-use Rattle.replica.specs.Replicas.{receipt, generated, received, inserted, deleted}
+use Rattle.storage.specs.Replicas.{receipt, generated, received, inserted, deleted}
 use Rattle.codec.specs.Operations.{operationLine}
 use Rattle.codec.proofs.Sizes.{line-lengths}
 use Rattle.wimtaze.specs.Theorems.{insertMost, deleteMost}

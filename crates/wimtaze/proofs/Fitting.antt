@@ -9,8 +9,7 @@ use mathlib.Core.List.{List, [], _∷_}
 use lib.ListN.{length}
 use borrow.Author.Tests.{eqb-false}
 use Rattle.woot.specs.declared.Refusal.{Refusal}
-use Rattle.woot.specs.declared.Refusal.the-variants.{Layout, Range, Form, Position, Clock, Taken}
-use Rattle.woot.specs.declared.Refusal.the-variants.{Conflict, Crossed, Unplaceable, SenderFull, DocumentFull, Output}
+use Rattle.woot.specs.declared.Refusal.the-variants.{Layout, Range, Form, Position, Clock, Taken, Conflict, Crossed, Unplaceable, SenderFull, DocumentFull, Output}
 use Rattle.woot.specs.declared.Answer.{Answer}
 use Rattle.woot.specs.declared.Answer.the-variants.{Done, Deferred, Duplicate, Refused}
 use Rattle.woot.specs.declared.Sent.{Sent}
@@ -23,16 +22,14 @@ use Rattle.woot.specs.Ranges.{siteNumber, codePoint, inRange}
 use Rattle.woot.specs.State.{initial, stored}
 use Rattle.woot.specs.Answers.{_⇒_, number, reply}
 use Rattle.convergence.proofs.Steps.{first-some}
-use Rattle.replica.specs.Replicas.{received, inserted, deleted, textWritten}
+use Rattle.storage.specs.Replicas.{received, inserted, deleted}
+use Rattle.replica.specs.Texts.{textWritten}
 use Rattle.codec.specs.Calls.{written, saidBy}
 use Rattle.saved.specs.Calls.{saved}
 use Rattle.wimtaze.specs.Results.{Result, result, silent}
-use Rattle.wimtaze.specs.Effects.{Effect, turned, unless, afterWriting, saving, changes, receiving}
-use Rattle.wimtaze.specs.Effects.{afterBoth, sendingBoth, sending, generating}
-use Rattle.wimtaze.specs.Calls.{inputChecks, inputRefusal, said, oneLine, showing}
-use Rattle.wimtaze.specs.Calls.{beginning, receivingLine, inserting, deleting, showingText}
-use Rattle.wimtaze.specs.Theorems.{savedMost, insertMost, deleteMost, textMost}
-use Rattle.wimtaze.specs.Theorems.{Fits, ResultsFit, HasRoom, BuffersSuffice}
+use Rattle.wimtaze.specs.Effects.{Effect, turned, unless, afterWriting, saving, changes, receiving, afterBoth, sendingBoth, sending, generating}
+use Rattle.wimtaze.specs.Calls.{inputChecks, inputRefusal, said, oneLine, showing, beginning, receivingLine, inserting, deleting, showingText}
+use Rattle.wimtaze.specs.Theorems.{savedMost, insertMost, deleteMost, textMost, Fits, ResultsFit, HasRoom, BuffersSuffice}
 use Rattle.wimtaze.proofs.Outputs.{unchanged, changed}
 use Rattle.wimtaze.proofs.Sizes.{Other, Bounded, line-bounded, save-bounded, text-bounded}
 use Rattle.wimtaze.proofs.Counts.{Fine, Sends, receive-fine, insert-sends, delete-sends}

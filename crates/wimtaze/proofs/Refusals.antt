@@ -17,7 +17,7 @@ use Rattle.codec.specs.declared.Read.{Read}
 use Rattle.codec.specs.declared.Read.the-variants.{Operation as readsAs, Refused as readRefused}
 use Rattle.codec.specs.Lines.{rest}
 use Rattle.codec.specs.Calls.{decided, readChecks, readAs, readOperation, saidBy}
-use Rattle.replica.specs.Replicas.{received}
+use Rattle.storage.specs.Replicas.{received}
 use Rattle.saved.specs.declared.LoadAnswer.{LoadAnswer}
 use Rattle.saved.specs.declared.LoadAnswer.the-variants.{Done, Refused}
 use Rattle.saved.specs.declared.Loaded.{Loaded}

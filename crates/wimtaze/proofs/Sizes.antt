@@ -26,8 +26,8 @@ use Rattle.woot.specs.Text.{encoded, text}
 use Rattle.woot.specs.Answers.{_⇒_, first, number}
 use Rattle.lists.proofs.Tests.{and-right}
 use Rattle.convergence.proofs.Forms.{formed}
-use Rattle.replica.specs.Replicas.{textOf, textChecks, textWritten}
-use Rattle.form.proofs.Throughout.{keep-length}
+use Rattle.replica.specs.Texts.{textOf, textChecks, textWritten}
+use Rattle.lists.proofs.Members.{keep-length}
 use Rattle.codec.specs.Operations.{operationLine}
 use Rattle.codec.specs.Calls.{decided, writeChecks, written}
 use Rattle.saved.specs.Calls.{bytesOf, saveChecks, saved}

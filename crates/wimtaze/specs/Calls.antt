@@ -13,7 +13,8 @@ use Rattle.woot.specs.Ranges.{siteNumber, codePoint, inRange}
 use Rattle.woot.specs.State.{initial, stored}
 use Rattle.woot.specs.Form.{wellFormed}
 use Rattle.woot.specs.Answers.{Check, _⇒_, first}
-use Rattle.replica.specs.Replicas.{received, inserted, deleted, textWritten, textOut}
+use Rattle.storage.specs.Replicas.{received, inserted, deleted}
+use Rattle.replica.specs.Texts.{textWritten, textOut}
 use Rattle.codec.specs.Lines.{rest}
 use Rattle.codec.specs.Calls.{laidOut, saidBy}
 use Rattle.saved.specs.Format.{savedLaidOut, savedInRange, savedState}

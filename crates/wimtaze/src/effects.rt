@@ -9,7 +9,7 @@ use woot::Sent;
 use woot::Written;
 ghost use mathlib.Core.Path.{_≡_};
 ghost use mathlib.Core.List.{[]};
-ghost use Rattle.replica.specs.Replicas.{received};
+ghost use Rattle.storage.specs.Replicas.{received};
 ghost use Rattle.codec.specs.Calls.{written};
 ghost use Rattle.wimtaze.specs.Results.{packed};
 ghost use Rattle.wimtaze.specs.Effects.{Leaves, afterWriting, saving, changes, receiving, sendingBoth, generating};

@@ -2,7 +2,7 @@
 use mathlib.Core.Path.{sym, _∙_}
 use borrow.Author.Needs.{needs}
 use Rattle.ranges.proofs.Laws.{refused, passed}
-use Rattle.replica.proofs.Outcomes.{delete-unformed}
+use Rattle.generation.proofs.Outcomes.{delete-unformed}
 use Rattle.replica.proofs.delete.Statement.{statement}
 use Rattle.replica.proofs.delete.Tie as tie
 

@@ -2,8 +2,8 @@
 use mathlib.Core.Path.{sym, _∙_}
 use borrow.Author.Needs.{needs}
 use Rattle.ranges.proofs.Laws.{refused, passed}
-use Rattle.replica.proofs.Outcomes.{insert-unranged, insert-unformed}
-use Rattle.replica.proofs.Examining.{check-formed, check-examined}
+use Rattle.generation.proofs.Outcomes.{insert-unranged, insert-unformed}
+use Rattle.well_formed.proofs.Examining.{check-formed, check-examined}
 use Rattle.replica.proofs.insert.Statement.{statement}
 use Rattle.replica.proofs.insert.Tie as tie
 

@@ -3,9 +3,9 @@ use mathlib.Core.Path.{_≡_, sym, _∙_}
 use mathlib.Core.Bool.{true}
 use Rattle.woot.specs.Ranges.{inRange}
 use Rattle.ranges.proofs.Laws.{refused, passed}
-use Rattle.replica.specs.Needs.{Examined}
-use Rattle.replica.proofs.Outcomes.{unranged, unformed}
-use Rattle.replica.proofs.Examining.{check-formed, check-examined}
+use Rattle.well_formed.specs.Examined.{Examined}
+use Rattle.reception.proofs.Outcomes.{unranged, unformed}
+use Rattle.well_formed.proofs.Examining.{check-formed, check-examined}
 use borrow.Author.Needs.{needs}
 use Rattle.replica.proofs.receive.Statement.{statement}
 use Rattle.replica.proofs.receive.Tie as tie

@@ -18,7 +18,7 @@ use Rattle.woot.specs.Form.{replicaWellFormed}
 use Rattle.output.specs.Output.{placed}
 use Rattle.output.proofs.Laws.{placed-short}
 use Rattle.visible.specs.Visible.{writtenIn}
-use Rattle.replica.specs.Replicas.{textOf, textChecks, textWritten, textOut}
+use Rattle.replica.specs.Texts.{textOf, textChecks, textWritten, textOut}
 use Rattle.replica.proofs.visible_text.Statement.{statement}
 use Rattle.replica.proofs.visible_text.Tie as tie
 

@@ -1,8 +1,8 @@
 -- `replica::well_formed` is the first of what the check answers.
 use borrow.Author.Needs.{needs}
 use mathlib.Core.Path.{ap, _∙_}
-use Rattle.form.specs.declared.Checked.{Checked}
-use Rattle.form.proofs.Checks.{checked-formed}
+use Rattle.well_formed.specs.declared.Checked.{Checked}
+use Rattle.well_formed.proofs.Checks.{checked-formed}
 use Rattle.replica.proofs.well_formed.Statement.{statement}
 use Rattle.replica.proofs.well_formed.Tie as tie
 

@@ -4,7 +4,7 @@ use lib.ListN.{take}
 use native.Mathlib.Omega.{arith}
 use borrow.Author.Needs.{needs}
 use Rattle.woot.specs.declared.Written.the-variants.{Length}
-use Rattle.arrays.proofs.Padding.{first-or-all}
+use Rattle.lists.proofs.Padding.{first-or-all}
 use Rattle.output.proofs.Laws.{placed-short}
 use Rattle.visible.proofs.Texts.{written-short, written-room}
 use Rattle.visible.proofs.write_text.Statement.{statement}

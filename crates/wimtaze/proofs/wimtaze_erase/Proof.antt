@@ -2,7 +2,7 @@
 use mathlib.Core.Path.{refl, sym, ap, _∙_}
 use Rattle.woot.specs.declared.Replica.{Replica}
 use Rattle.woot.specs.declared.Generated.{Generated}
-use Rattle.replica.specs.Replicas.{deleted}
+use Rattle.storage.specs.Replicas.{deleted}
 use Rattle.wimtaze.specs.Effects.{turned, generating}
 use Rattle.wimtaze.specs.Calls.{deleting}
 use Rattle.wimtaze.proofs.Refusals.{refused-alone, passed}

@@ -5,7 +5,7 @@ use mathlib.Core.Option.{some}
 use borrow.Author.Tests.{not-true, not-false}
 use Rattle.woot.specs.declared.Replica.{Replica}
 use Rattle.woot.specs.declared.Generated.{Generated}
-use Rattle.replica.specs.Replicas.{inserted}
+use Rattle.storage.specs.Replicas.{inserted}
 use Rattle.wimtaze.specs.Effects.{turned, generating}
 use Rattle.wimtaze.specs.Calls.{inserting, inputRefusal}
 use Rattle.wimtaze.proofs.Refusals.{refused-alone, passed, refused-range}

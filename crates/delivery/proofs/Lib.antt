@@ -1,0 +1,3 @@
+pub mod Works
+pub mod Carrying
+pub mod Stepping

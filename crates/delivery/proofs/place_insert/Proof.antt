@@ -1,0 +1,96 @@
+-- `delivery::place_insert` does with an insert what is found for it.
+use native.Mathlib.Omega.{arith}
+use mathlib.Core.Path.{_≡_, sym, _∙_}
+use borrow.Author.Needs.{needs}
+use Rattle.woot.specs.declared.Insert.{Insert}
+use Rattle.woot.specs.declared.Operation.the-variants.{Insert as insert}
+use Rattle.woot.specs.Ranges.{characterInRange}
+use Rattle.lists.proofs.Members.{every-member}
+use Rattle.index.proofs.Keys.{all-range-small}
+use Rattle.integration.specs.declared.Placement.{Placement}
+use Rattle.integration.specs.declared.Placement.the-variants.{Missing, Crossed, Unplaceable}
+use Rattle.delivery.specs.declared.Work.{Work}
+use Rattle.delivery.specs.Work.{charactersIn, pendingIn, carried}
+use Rattle.integration.proofs.Placements.{Says, says}
+use Rattle.delivery.proofs.Works.{parts, judged, carried-insert}
+use Rattle.delivery.proofs.place_insert.Statement.{statement}
+use Rattle.delivery.proofs.place_insert.Tie as tie
+
+-- what is found for the insert is what the rules say of it, and what becomes of it goes by that
+record Judges (w : Work) (i : Insert) (p : Placement) : Type 0 where
+  says-so : Says (charactersIn (w .document)) i p
+  becomes :
+      carried (charactersIn (w .document)) (pendingIn (w .document)) (w .integrated) (w .discarded) (insert i)
+      ≡ judged (charactersIn (w .document)) (pendingIn (w .document)) (w .integrated) (w .discarded) i p
+
+on : (c : tie.After-find-place) (p : Placement) → c .find-place .result ≡ p → let a = c .before .before .before .before .args in Judges (a .w) (a .i) p
+on c p e =
+    let d = c .before .before .before .before .pre in
+    let small = all-range-small _ (λ b m. every-member characterInRange (d .ranges) m) in
+    let is = sym (c .find-place .ensures _ (c .before .index-of .ensures) (sym (parts (d .tidy) .length-is)) small) ∙ e in
+    record { says-so = says _ _ p is; becomes = carried-insert _ _ _ _ _ (d .ready) p is }
+
+index-of-requires : tie.Need-index-of-requires
+index-of-requires c κs = search needs
+
+find-place-requires : tie.Need-find-place-requires
+find-place-requires c κs = search needs
+
+enum-told : tie.Need-enum-told
+enum-told c = search needs
+
+discard-requires : tie.Need-discard-requires
+discard-requires c κs = search needs
+
+enum-told-2 : tie.Need-enum-told-2
+enum-told-2 c = search needs
+
+discard-requires-2 : tie.Need-discard-requires-2
+discard-requires-2 c κs = search needs
+
+enum-told-3 : tie.Need-enum-told-3
+enum-told-3 c = search needs
+
+discard-requires-3 : tie.Need-discard-requires-3
+discard-requires-3 c κs = search needs
+
+enum-known-k : tie.Need-enum-known-k
+enum-known-k c = search needs
+
+carry-insert-requires : tie.Need-carry-insert-requires
+carry-insert-requires c κs =
+    let d = c .before .before .before .before .before .before .before .pre in
+    let s = on (c .before .before .before) _ (c .before .k .given .1) .says-so in
+    (d .tidy, omega (arith, s .4, parts (d .tidy) .length-is), omega (arith, d .room), d .integrated-fits)
+
+returns : tie.Need-returns
+returns c = rw (c .discard .ensures) (sym (on (c .before .before .before) Missing (c .before .enum-told .given .1) .becomes))
+
+returns-2 : tie.Need-returns-2
+returns-2 c = rw (c .discard2 .ensures) (sym (on (c .before .before .before) Crossed (c .before .enum-told2 .given .1) .becomes))
+
+returns-3 : tie.Need-returns-3
+returns-3 c = rw (c .discard3 .ensures) (sym (on (c .before .before .before) Unplaceable (c .before .enum-told3 .given .1) .becomes))
+
+returns-4 : tie.Need-returns-4
+returns-4 c =
+    rw (c .carry-insert .ensures) (sym (on (c .before .before .before .before) _ (c .before .before .k .given .1) .becomes))
+
+pub place-insert-spec : {M : Type 1} → statement M
+place-insert-spec =
+    tie.close
+    (tie.spec
+    index-of-requires
+    find-place-requires
+    enum-told
+    discard-requires
+    enum-told-2
+    discard-requires-2
+    enum-told-3
+    discard-requires-3
+    enum-known-k
+    carry-insert-requires
+    returns
+    returns-2
+    returns-3
+    returns-4)

@@ -1,9 +1,0 @@
-pub mod Indexes
-pub mod Throughout
-pub mod Conditions
-pub mod Checks
-pub mod Searches
-pub mod Queues
-pub mod Pending
-pub mod Earliest
-pub mod Fullness

@@ -1,4 +1,0 @@
-pub mod Queue
-pub mod Index
-pub mod Ready
-pub mod Form

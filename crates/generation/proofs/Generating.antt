@@ -1,0 +1,109 @@
+-- What inserting and deleting here test and make is what the rules say.
+use Prim.Native.Nat.{ℕ, _+_, _≤_, _<_}
+use mathlib.Core.Path.{_≡_, sym}
+use mathlib.Core.Bool.{true, false}
+use mathlib.Core.List.{_∷_}
+use borrow.Author.Tests.{eq-eqb, ne-eqb, lt-ltb, le-ltb}
+use lib.Dec.{leb}
+use lib.ListN.{length, take, getD}
+use Rattle.woot.specs.declared.Identifier.{Identifier}
+use Rattle.woot.specs.declared.Insert.{Insert}
+use Rattle.woot.specs.declared.Operation.the-variants.{Insert as insert, Delete as delete}
+use Rattle.woot.specs.declared.Replica.{Replica}
+use Rattle.woot.specs.declared.Sent.the-variants.{Done as sentDone, Refused as sentRefused}
+use Rattle.woot.specs.declared.Refusal.the-variants.{Position, Unplaceable as placeless, DocumentFull}
+use Rattle.woot.specs.declared.Generated.{Generated}
+use Rattle.woot.specs.Limits.{capacity}
+use Rattle.woot.specs.Identifiers.{begin}
+use Rattle.woot.specs.State.{meaning, stored}
+use Rattle.woot.specs.Placing.{integrateInsert, integrateDelete}
+use Rattle.woot.specs.Pending.{unplaceable}
+use Rattle.woot.specs.Form.{known, replicaWellFormed}
+use Rattle.woot.specs.Calls.{visibles, withCharacters, afterDrain, insertCarried, documentFull, advanced, beyondVisible, notVisible, generatedDelete}
+use Rattle.lists.proofs.Tests.{clash}
+use Rattle.convergence.proofs.Steps.{space-insert}
+use Rattle.delivery.specs.declared.Work.{Work}
+use Rattle.integration.specs.declared.Placement.the-variants.{Missing, Crossed, Unplaceable, Below}
+use Rattle.storage.specs.Replicas.{deleted}
+use Rattle.integration.specs.Placements.{placementOf}
+use Rattle.delivery.specs.Work.{finished, Placed}
+use Rattle.generation.specs.Sending.{Sendable, sentInsert}
+use Rattle.integration.proofs.Placements.{says}
+use Rattle.delivery.proofs.Carrying.{finished-integrated, finished-discarded, finished-stored, addable-placed}
+use Rattle.well_formed.proofs.Examining.{form}
+use Rattle.generation.proofs.Outcomes.{sent-placeless, sent-full, sent-done, delete-nowhere, delete-done}
+
+-- whether there are so many visible characters, by their count
+module _ (r : Replica) (k g : ℕ) (e : k ≡ length (visibles (take (r .document .length) (r .document .characters)))) where
+  pub count-below : k < g → beyondVisible (meaning r) g ≡ true
+  unfolding beyondVisible meaning
+  count-below h = rw (← e) (lt-ltb k g h)
+
+  pub count-reaches : g ≤ k → beyondVisible (meaning r) g ≡ false
+  unfolding beyondVisible meaning
+  count-reaches h = rw (← e) (le-ltb k g h)
+
+-- ---- inserting
+
+module _ (r : Replica) (i : Insert) (a : Sendable r i) where
+  -- its neighbours are held and in order
+  pub never-missing : placementOf (meaning r .characters) i ≡ Missing → ⊥
+  never-missing p = clash (a .made .ready) (says (meaning r .characters) i Missing p)
+
+  pub never-crossed : placementOf (meaning r .characters) i ≡ Crossed → ⊥
+  never-crossed p = clash (says (meaning r .characters) i Crossed p .1) (a .made .uncrossed)
+
+  pub send-placeless : placementOf (meaning r .characters) i ≡ Unplaceable → sentInsert r i ≡ record { answer = sentRefused placeless; replica = r }
+  send-placeless p = sent-placeless r i (says (meaning r .characters) i Unplaceable p .2)
+
+  module _ (k : ℕ) (p : placementOf (meaning r .characters) i ≡ Below k) where
+    placeable : unplaceable (meaning r .characters) (insert i) ≡ false
+    placeable = says (meaning r .characters) i (Below k) p .2
+
+    pub send-full : leb capacity (length (known (meaning r))) ≡ true → sentInsert r i ≡ record { answer = sentRefused DocumentFull; replica = r }
+    unfolding documentFull
+    send-full e = sent-full r i placeable e
+
+    module _ (space : leb capacity (length (known (meaning r))) ≡ false) where
+      pub send-placed : Placed r i k
+      unfolding documentFull
+      send-placed =
+          addable-placed r (a .form) (meaning r .site) i k
+          record {
+            formed = form r (a .form);
+            site = form r (a .form) .site;
+            ranged = a .made .ranged;
+            fresh = a .made .fresh;
+            space = space-insert (meaning r) i space;
+            ready = a .made .ready;
+            uncrossed = a .made .uncrossed;
+            placeable = placeable;
+          }
+          p
+
+      pub send-done : (w : Work) → w ≡ finished (integrateInsert (meaning r .characters) i) (meaning r .pending) 1 0
+          → _≡_ {A = Generated} (record { answer = sentDone (insert i) (w .integrated) (w .discarded); replica = record { site = record { number = r .site .number; clock = r .site .clock + 1 }; document = w .document } }) (sentInsert r i)
+      unfolding documentFull afterDrain advanced insertCarried meaning
+      send-done w e =
+          let cs = integrateInsert (meaning r .characters) i in
+          rw (finished-integrated cs (meaning r .pending) e, finished-discarded cs (meaning r .pending) e, finished-stored cs (meaning r .pending) e (record { number = r .site .number; clock = r .site .clock + 1 }))
+          (sym (sent-done r i placeable space))
+
+-- ---- deleting
+
+module _ (r : Replica) (p : ℕ) (form : replicaWellFormed r ≡ true) where
+  pub delete-zero : p ≡ 0 → deleted r p ≡ record { answer = sentRefused Position; replica = r }
+  unfolding notVisible
+  delete-zero e = delete-nowhere r p form (rw (eq-eqb p 0 e))
+
+  module _ (later : p ≡ 0 → ⊥) where
+    pub delete-beyond : beyondVisible (meaning r) p ≡ true → deleted r p ≡ record { answer = sentRefused Position; replica = r }
+    unfolding notVisible
+    delete-beyond e = delete-nowhere r p form (rw (ne-eqb p 0 later, e))
+
+    pub delete-within : beyondVisible (meaning r) p ≡ false → (x : Identifier) (q : Replica)
+        → x ≡ getD (begin ∷ visibles (meaning r .characters)) p begin
+        → q ≡ stored (withCharacters (meaning r) (integrateDelete (meaning r .characters) x))
+        → _≡_ {A = Generated} (record { answer = sentDone (delete (record { sender = r .site .number; target = x })) 1 0; replica = q }) (deleted r p)
+    unfolding notVisible generatedDelete meaning
+    delete-within e x q t h = rw (h, t) (sym (delete-done r p form (rw (ne-eqb p 0 later, e))))

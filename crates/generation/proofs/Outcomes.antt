@@ -1,0 +1,92 @@
+-- What inserting and deleting here return, by the conditions of their lists: each law is for the condition that decides,
+-- below those that do not hold.
+use Prim.Native.Nat.{ℕ, suc}
+use mathlib.Core.Path.{_≡_}
+use mathlib.Core.Bool.{true, false}
+use lib.Dec.{leb}
+use lib.ListN.{length}
+use Rattle.woot.specs.declared.Insert.{Insert}
+use Rattle.woot.specs.declared.Operation.the-variants.{Insert as insert, Delete as delete}
+use Rattle.woot.specs.declared.Replica.{Replica}
+use Rattle.woot.specs.declared.Refusal.{Refusal}
+use Rattle.woot.specs.declared.Refusal.the-variants.{Range, Form, Position, Clock, Taken, Unplaceable, DocumentFull}
+use Rattle.woot.specs.declared.Sent.the-variants.{Done as sentDone, Refused as sentRefused}
+use Rattle.woot.specs.declared.Generated.{Generated}
+use Rattle.woot.specs.Limits.{lastClock}
+use Rattle.woot.specs.Ranges.{codePoint}
+use Rattle.woot.specs.State.{meaning, stored}
+use Rattle.woot.specs.Placing.{integrateDelete}
+use Rattle.woot.specs.Pending.{unplaceable}
+use Rattle.woot.specs.Form.{replicaWellFormed}
+use Rattle.woot.specs.Calls.{unchanged, decided, withCharacters, afterDrain, insertCarried, documentFull, generatedInsert, beyondVisible, taken, insertChecks, advanced, sendInsert, localInsertWhen, notVisible, deleteChecks, generatedDelete, sendDelete, localDeleteWhen}
+use Rattle.generation.specs.Sending.{sendChecks, sentInsert}
+use Rattle.storage.specs.Replicas.{afterSent, generated, inserted, deleted}
+
+-- ---- inserting
+
+module _ (r : Replica) (g n : ℕ) where
+  -- the replica as it was, with a refusal
+  abbrev insert-refused : Refusal → Generated
+  insert-refused q = record { answer = sentRefused q; replica = r }
+
+  pub insert-unranged : codePoint n ≡ false → inserted r g n ≡ insert-refused Range
+  unfolding inserted generated afterSent localInsertWhen insertChecks decided unchanged
+  insert-unranged e = rw e
+
+  module _ (ranged : codePoint n ≡ true) where
+    pub insert-unformed : replicaWellFormed r ≡ false → inserted r g n ≡ insert-refused Form
+    unfolding inserted generated afterSent localInsertWhen insertChecks decided unchanged
+    insert-unformed e = rw (ranged, e)
+
+    module _ (form : replicaWellFormed r ≡ true) where
+      pub insert-beyond : beyondVisible (meaning r) g ≡ true → inserted r g n ≡ insert-refused Position
+      unfolding inserted generated afterSent localInsertWhen insertChecks decided unchanged
+      insert-beyond e = rw (ranged, form, e)
+
+      module _ (visible : beyondVisible (meaning r) g ≡ false) where
+        pub insert-late : leb lastClock (meaning r .site .clock) ≡ true → inserted r g n ≡ insert-refused Clock
+        unfolding inserted generated afterSent localInsertWhen insertChecks decided unchanged
+        insert-late e = rw (ranged, form, visible, e)
+
+        module _ (early : leb lastClock (meaning r .site .clock) ≡ false) where
+          pub insert-taken : taken (meaning r) ≡ true → inserted r g n ≡ insert-refused Taken
+          unfolding inserted generated afterSent localInsertWhen insertChecks decided unchanged
+          insert-taken e = rw (ranged, form, visible, early, e)
+
+          module _ (free : taken (meaning r) ≡ false) where
+            pub insert-sent : inserted r g n ≡ sentInsert r (generatedInsert (meaning r) g n)
+            unfolding inserted localInsertWhen insertChecks sentInsert sendChecks
+            insert-sent = rw (ranged, form, visible, early, free)
+
+-- once the insert is made
+module _ (r : Replica) (i : Insert) where
+  pub sent-placeless : unplaceable (meaning r .characters) (insert i) ≡ true → sentInsert r i ≡ record { answer = sentRefused Unplaceable; replica = r }
+  unfolding sentInsert sendChecks generated afterSent decided unchanged
+  sent-placeless e = rw e
+
+  module _ (placed : unplaceable (meaning r .characters) (insert i) ≡ false) where
+    pub sent-full : documentFull (meaning r) (insert i) ≡ true → sentInsert r i ≡ record { answer = sentRefused DocumentFull; replica = r }
+    unfolding sentInsert sendChecks generated afterSent decided unchanged
+    sent-full e = rw (placed, e)
+
+    pub sent-done : documentFull (meaning r) (insert i) ≡ false
+        → sentInsert r i ≡ record { answer = sentDone (insert i) (suc (length (insertCarried (meaning r) i .integrated))) (length (insertCarried (meaning r) i .discarded)); replica = stored (afterDrain (advanced (meaning r)) (insertCarried (meaning r) i)) }
+    unfolding sentInsert sendChecks generated afterSent decided sendInsert
+    sent-done e = rw (placed, e)
+
+-- ---- deleting
+
+module _ (r : Replica) (p : ℕ) where
+  pub delete-unformed : replicaWellFormed r ≡ false → deleted r p ≡ record { answer = sentRefused Form; replica = r }
+  unfolding deleted generated afterSent localDeleteWhen deleteChecks decided unchanged
+  delete-unformed e = rw e
+
+  module _ (form : replicaWellFormed r ≡ true) where
+    pub delete-nowhere : notVisible (meaning r) p ≡ true → deleted r p ≡ record { answer = sentRefused Position; replica = r }
+    unfolding deleted generated afterSent localDeleteWhen deleteChecks decided unchanged
+    delete-nowhere e = rw (form, e)
+
+    module _ (visible : notVisible (meaning r) p ≡ false) where
+      pub delete-done : deleted r p ≡ record { answer = sentDone (delete (generatedDelete (meaning r) p)) 1 0; replica = stored (withCharacters (meaning r) (integrateDelete (meaning r .characters) (generatedDelete (meaning r) p .target))) }
+      unfolding deleted generated afterSent localDeleteWhen deleteChecks decided sendDelete
+      delete-done = rw (form, visible)

@@ -1,0 +1,97 @@
+-- `generation::insert_visible` meets its contract: what it tests, in this order, is what the rules test.
+use mathlib.Core.Path.{_≡_, sym, _∙_}
+use mathlib.Core.Bool.{false}
+use borrow.Author.Tests.{le-leb, lt-leb}
+use lib.Dec.{leb}
+use Rattle.woot.specs.Limits.{lastClock}
+use Rattle.woot.specs.State.{meaning}
+use Rattle.woot.specs.Calls.{generatedInsert, beyondVisible, taken}
+use Rattle.convergence.proofs.Steps.{next-character, generated-made}
+use Rattle.well_formed.proofs.Examining.{form}
+use Rattle.generation.proofs.Outcomes.{insert-beyond, insert-late, insert-taken, insert-sent}
+use Rattle.generation.proofs.Generating.{count-below, count-reaches}
+use borrow.Author.Needs.{needs}
+use Rattle.generation.proofs.insert_visible.Statement.{statement}
+use Rattle.generation.proofs.insert_visible.Tie as tie
+
+visible : (c : tie.Else1) → let a = c .before .before .before .before .args in beyondVisible (meaning (a .r)) (a .point) ≡ false
+visible c = count-reaches _ _ _ (c .before .count .ensures) (c .if1 .left)
+
+early : (c : tie.Else2) → leb lastClock (meaning (c .before .before .before .before .before .before .before .args .r) .site .clock) ≡ false
+unfolding meaning
+early c = lt-leb _ _ (c .if2 .left)
+
+free : (c : tie.After-is-taken) → c .is-taken .result ≡ taken (meaning (c .before .before .before .before .before .before .before .before .before .before .args .r))
+unfolding taken generatedInsert
+free c = rw (c .before .before .generated-insert .ensures) at (c .is-taken .ensures)
+
+count-requires : tie.Need-count-requires
+count-requires c κs = search needs
+
+refused-requires : tie.Need-refused-requires
+refused-requires c κs = search needs
+
+returns : tie.Need-returns
+returns c =
+    let p = c .before .before .before .before .before .pre in
+    c .refused .ensures ∙ sym (insert-beyond _ _ _ (p .1) (p .0 .form) (count-below _ _ _ (c .before .before .count .ensures) (c .before .if1 .taken)))
+
+refused-requires-2 : tie.Need-refused-requires-2
+refused-requires-2 c κs = search needs
+
+returns-2 : tie.Need-returns-2
+unfolding meaning
+returns-2 c =
+    let p = c .before .before .before .before .before .before .before .before .pre in
+    c .refused2 .ensures ∙ sym (insert-late _ _ _ (p .1) (p .0 .form) (visible (c .before .before .before .before)) (le-leb _ _ (c .before .if2 .taken)))
+
+generated-insert-requires : tie.Need-generated-insert-requires
+generated-insert-requires c κs = search needs
+
+is-taken-requires : tie.Need-is-taken-requires
+unfolding generatedInsert
+is-taken-requires c κs =
+    let x = c .before .before .before .before .before .before .before .before .before .pre .0 in
+    (x, rw (c .before .generated-insert .ensures) (next-character _ (form _ (x .form)) (early (c .before .before))))
+
+refused-requires-3 : tie.Need-refused-requires-3
+refused-requires-3 c κs = search needs
+
+returns-3 : tie.Need-returns-3
+returns-3 c =
+    let p = c .before .before .before .before .before .before .before .before .before .before .before .before .pre in
+    c .refused3 .ensures
+    ∙ sym (insert-taken _ _ _ (p .1) (p .0 .form) (visible (c .before .before .before .before .before .before .before .before)) (early (c .before .before .before .before .before)) (sym (free (c .before .before)) ∙ c .before .if3 .taken))
+
+send-placed-requires : tie.Need-send-placed-requires
+send-placed-requires c κs =
+    let p = c .before .before .before .before .before .before .before .before .before .before .before .pre in (
+      p .0,
+      rw (c .before .before .before .generated-insert .ensures) record {
+        form = p .0 .form;
+        early = c .before .before .before .before .if2 .left;
+        made = generated-made _ _ _ (form _ (p .0 .form)) (p .1) (visible (c .before .before .before .before .before .before .before)) (early (c .before .before .before .before)) (sym (free (c .before)) ∙ c .if3 .left);
+      },
+    )
+
+returns-4 : tie.Need-returns-4
+returns-4 c =
+    let p = c .before .before .before .before .before .before .before .before .before .before .before .before .pre in
+    rw (c .send-placed .ensures, c .before .before .before .before .generated-insert .ensures)
+    (sym (insert-sent _ _ _ (p .1) (p .0 .form) (visible (c .before .before .before .before .before .before .before .before)) (early (c .before .before .before .before .before)) (sym (free (c .before .before)) ∙ c .before .if3 .left)))
+
+pub insert-visible-spec : {M : Type 1} → statement M
+insert-visible-spec =
+    tie.close
+    (tie.spec
+    count-requires
+    refused-requires
+    returns
+    refused-requires-2
+    returns-2
+    generated-insert-requires
+    is-taken-requires
+    refused-requires-3
+    returns-3
+    send-placed-requires
+    returns-4)

@@ -1,0 +1,75 @@
+-- `generation::send_placed` goes by what is found for the insert, whose neighbours are held and in order.
+use mathlib.Core.Path.{_≡_, sym, _∙_}
+use Rattle.woot.specs.State.{meaning}
+use Rattle.integration.specs.Placements.{placementOf}
+use Rattle.storage.proofs.Fullness.{full-replica}
+use Rattle.storage.proofs.Stored.{character-count}
+use Rattle.well_formed.proofs.Examining.{few, small}
+use Rattle.generation.proofs.Generating.{never-missing, never-crossed, send-placeless}
+use borrow.Author.Needs.{needs}
+use Rattle.generation.proofs.send_placed.Statement.{statement}
+use Rattle.generation.proofs.send_placed.Tie as tie
+
+-- what is found is the rules' placement
+found : (c : tie.After-find-place) → let a = c .before .before .args in c .find-place .result ≡ placementOf (meaning (a .r) .characters) (a .i)
+found c =
+    let s = c .before .before in
+    let x = s .pre .0 in
+    c .find-place .ensures _ (x .index) (character-count _ (full-replica (s .good .0)) (few _ (x .form))) (small _ (x .form))
+
+find-place-requires : tie.Need-find-place-requires
+find-place-requires c κs = few _ (c .before .pre .0 .form) .characters
+
+enum-told : tie.Need-enum-told
+enum-told c = search needs
+
+refused-requires : tie.Need-refused-requires
+refused-requires c κs = search needs
+
+enum-told-2 : tie.Need-enum-told-2
+enum-told-2 c = search needs
+
+refused-requires-2 : tie.Need-refused-requires-2
+refused-requires-2 c κs = search needs
+
+enum-told-3 : tie.Need-enum-told-3
+enum-told-3 c = search needs
+
+refused-requires-3 : tie.Need-refused-requires-3
+refused-requires-3 c κs = search needs
+
+enum-known-k : tie.Need-enum-known-k
+enum-known-k c = search needs
+
+send-requires : tie.Need-send-requires
+send-requires c κs = let p = c .before .before .before .before .before .pre in (p .1, p .0 .queue, sym (found (c .before .before .before)) ∙ c .before .k .given .1)
+
+returns : tie.Need-returns
+returns c = absurd (never-missing _ _ (c .before .before .before .before .before .pre .1) (sym (found (c .before .before .before)) ∙ c .before .enum-told .given .1))
+
+returns-2 : tie.Need-returns-2
+returns-2 c = absurd (never-crossed _ _ (c .before .before .before .before .before .pre .1) (sym (found (c .before .before .before)) ∙ c .before .enum-told2 .given .1))
+
+returns-3 : tie.Need-returns-3
+returns-3 c = c .refused3 .ensures ∙ sym (send-placeless _ _ (c .before .before .before .before .before .pre .1) (sym (found (c .before .before .before)) ∙ c .before .enum-told3 .given .1))
+
+returns-4 : tie.Need-returns-4
+returns-4 c = search needs
+
+pub send-placed-spec : {M : Type 1} → statement M
+send-placed-spec =
+    tie.close
+    (tie.spec
+    find-place-requires
+    enum-told
+    refused-requires
+    enum-told-2
+    refused-requires-2
+    enum-told-3
+    refused-requires-3
+    enum-known-k
+    send-requires
+    returns
+    returns-2
+    returns-3
+    returns-4)

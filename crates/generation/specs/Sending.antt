@@ -1,0 +1,35 @@
+-- Inserting here once the insert is made: the conditions that are left, and what is sent. It serves the proofs of the
+-- code, and no contract of a call cites it.
+use mathlib.Core.List.{List, [], _∷_}
+use Rattle.woot.specs.declared.Insert.{Insert}
+use Rattle.woot.specs.declared.Operation.the-variants.{Insert as insert}
+use Rattle.woot.specs.declared.Replica.{Replica}
+use Rattle.woot.specs.declared.Refusal.the-variants.{Unplaceable, DocumentFull}
+use Rattle.woot.specs.declared.Sent.{Sent}
+use Rattle.woot.specs.declared.Sent.the-variants.{Refused as sentRefused}
+use Rattle.woot.specs.declared.Generated.{Generated}
+use Rattle.woot.specs.State.{State, meaning}
+use Rattle.woot.specs.Pending.{unplaceable}
+use Rattle.woot.specs.Answers.{Check, _⇒_, first}
+use Rattle.woot.specs.Calls.{decided, documentFull, sendInsert}
+use Rattle.storage.specs.Replicas.{generated}
+use Prim.Native.Nat.{_<_}
+use mathlib.Core.Path.{_≡_}
+use mathlib.Core.Bool.{true}
+use Rattle.woot.specs.Limits.{lastClock}
+use Rattle.woot.specs.Form.{replicaWellFormed}
+use Rattle.convergence.specs.Invariants.{Made}
+
+-- an insert that was made here: nothing has its identifier, and its neighbours are held and in order
+pub record Sendable (r : Replica) (i : Insert) : Type 0 where
+  pub form : replicaWellFormed r ≡ true
+  pub early : r .site .clock < lastClock
+  pub made : Made (meaning r) i
+
+-- the conditions that are left
+unfoldable pub sendChecks : State → Insert → List (Check Sent)
+sendChecks s i =
+    (unplaceable (s .characters) (insert i) ⇒ sentRefused Unplaceable) ∷ (documentFull s (insert i) ⇒ sentRefused DocumentFull) ∷ []
+
+unfoldable pub sentInsert : Replica → Insert → Generated
+sentInsert r i = generated r (decided (meaning r) (first (sendChecks (meaning r) i)) (sendInsert (meaning r) i))

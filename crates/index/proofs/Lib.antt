@@ -1,0 +1,5 @@
+pub mod Keys
+pub mod Indices
+pub mod Packing
+pub mod Indexes
+pub mod Fullness

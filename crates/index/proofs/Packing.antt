@@ -1,0 +1,81 @@
+-- The arrays that a call packs: what their slots in use hold, and that the places in them are those of the rules.
+use Prim.Native.Nat.{ℕ, suc, _+_, _-_, _≤_, _<_, min}
+use native.Mathlib.Numerals.{add-one}
+use native.Mathlib.Omega.{arith}
+use mathlib.Core.Path.{_≡_, refl, ap₂, sym, _∙_, subst}
+use mathlib.Core.List.{List, [], _∷_, _++_, map, map-append, List·Memᴰ, List·Memᴰ·head, List·Memᴰ·tail, List·Memᴰ·append-cases, List·Memᴰ·eq-of-singleton}
+use mathlib.Core.Logic.{⊎-elim}
+use lib.ListN.{length, take, getD, set, replicate, length-append, length-map, length-replicate, length-take}
+use lib.Seq.{take-at, take-all, take-suc, set-append-seam, append-snoc, length-take-le}
+use Rattle.woot.specs.declared.Identifier.{Identifier}
+use Rattle.woot.specs.declared.Character.{Character}
+use Rattle.woot.specs.Placing.{placeOf}
+use Rattle.woot.specs.State.{characterSlots}
+use Rattle.lists.specs.Padding.{pad}
+use Rattle.lists.proofs.Padding.{pad-length, pad-take}
+use Rattle.index.specs.declared.Packed.{Packed}
+use Rattle.index.specs.Keys.{key, Small, AllSmall, SmallParts, keys, previousKeys, nextKeys, placeIn}
+use Rattle.index.specs.Packing.{packed, placesIn, previousPlaces, nextPlaces}
+use Rattle.index.proofs.Indices.{place-keys}
+
+-- small so far, and the next
+pub small-more : (cs : List Character) (i : ℕ) (d : Character) → i < length cs → AllSmall (take i cs) → SmallParts (getD cs i d) → AllSmall (take (i + 1) cs)
+small-more cs i d h s p c m = ⊎-elim (s c) (λ n. subst SmallParts (sym (List·Memᴰ·eq-of-singleton n)) p) (List·Memᴰ·append-cases (take i cs) (rw (add-one i, take-suc cs i d h) at m))
+
+pub packed-path : (cs : List Character) (r : Packed) → r .ids ≡ pad characterSlots 0 (keys cs) → r .previous ≡ pad characterSlots 0 (previousKeys cs) → r .next ≡ pad characterSlots 0 (nextKeys cs) → r ≡ packed cs
+unfolding packed
+packed-path cs r p q t = λ i. record { ids = p i; previous = q i; next = t i }
+
+-- the arrays have their length
+pub packed-sizes : (cs : List Character) → length cs ≤ characterSlots → (length (packed cs .ids) ≡ characterSlots) × (length (packed cs .previous) ≡ characterSlots) × (length (packed cs .next) ≡ characterSlots)
+unfolding packed
+packed-sizes cs h = (size (λ c. key (c .id)), size (λ c. key (c .previous)), size (λ c. key (c .next)))
+  where
+    size : (f : Character → ℕ) → length (pad characterSlots 0 (map f cs)) ≡ characterSlots
+    size f = pad-length characterSlots 0 (map f cs) (omega (arith, length-map cs f))
+
+pub places-length : (ids of : List ℕ) → length (placesIn ids of) ≡ characterSlots
+unfolding placesIn
+places-length ids of = pad-length characterSlots 0 _ (omega (arith, length-map (take characterSlots of) (placeIn (take characterSlots ids)), length-take characterSlots of))
+
+-- what a caller lends: the slots in use are the keys, and their places those of the rules
+module _ (cs : List Character) (n : ℕ) (e : length cs ≡ n) where
+  used : {B : Type 0} (f : Character → B) (z : B) → take n (pad characterSlots z (map f cs)) ≡ map f cs
+  used f z = pad-take characterSlots z (map f cs) n (length-map cs f ∙ e)
+
+  pub packed-ids : take n (packed cs .ids) ≡ keys cs
+  unfolding packed
+  packed-ids = used (λ c. key (c .id)) 0
+
+  pub packed-previous : take n (packed cs .previous) ≡ previousKeys cs
+  unfolding packed
+  packed-previous = used (λ c. key (c .previous)) 0
+
+  pub packed-next : take n (packed cs .next) ≡ nextKeys cs
+  unfolding packed
+  packed-next = used (λ c. key (c .next)) 0
+
+  module _ (few : n ≤ characterSlots) (s : AllSmall cs) where
+    place-each : (f : Character → Identifier) (ds : List Character) → ((c : Character) → List·Memᴰ c ds → Small (f c)) → map (placeIn (keys cs)) (map (λ c. key (f c)) ds) ≡ map (λ c. placeOf cs (f c)) ds
+    place-each f [] t = refl
+    place-each f (d ∷ ds) t = ap₂ (λ (k : ℕ) (ks : List ℕ). k ∷ ks) (place-keys (f d) (t d (List·Memᴰ·head refl)) cs s) (place-each f ds (λ c m. t c (List·Memᴰ·tail m)))
+
+    -- the array of the places
+    padded-places : (f : Character → Identifier) → ((c : Character) → List·Memᴰ c cs → Small (f c)) → placesIn (keys cs) (map (λ c. key (f c)) cs) ≡ pad characterSlots 0 (map (λ c. placeOf cs (f c)) cs)
+    unfolding placesIn
+    padded-places f t =
+        let ids = take-all characterSlots (keys cs) (omega (arith, length-map cs (λ (c : Character). key (c .id)))) in
+        let of = take-all characterSlots (map (λ c. key (f c)) cs) (omega (arith, length-map cs (λ (c : Character). key (f c)))) in
+        rw (ids, of, place-each f cs t)
+
+    pub padded-previous : placesIn (keys cs) (previousKeys cs) ≡ pad characterSlots 0 (previousPlaces cs)
+    padded-previous = padded-places (λ c. c .previous) (λ c m. s c m .previous)
+
+    pub padded-next : placesIn (keys cs) (nextKeys cs) ≡ pad characterSlots 0 (nextPlaces cs)
+    padded-next = padded-places (λ c. c .next) (λ c m. s c m .next)
+
+    pub places-previous : take n (placesIn (keys cs) (previousKeys cs)) ≡ previousPlaces cs
+    places-previous = rw padded-previous (used (λ c. placeOf cs (c .previous)) 0)
+
+    pub places-next : take n (placesIn (keys cs) (nextKeys cs)) ≡ nextPlaces cs
+    places-next = rw padded-next (used (λ c. placeOf cs (c .next)) 0)

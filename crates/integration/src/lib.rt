@@ -1,0 +1,134 @@
+// Where an insert goes: the place between its neighbours, found in passes over the candidates there.
+use index::Found;
+use index::Index;
+use woot::Insert;
+ghost use mathlib.Core.Path.{_≡_};
+ghost use Prim.Native.Nat.{_<_, _≤_};
+ghost use lib.ListN.{length};
+ghost use Rattle.index.specs.Keys.{key, AllSmall, keys};
+ghost use Rattle.index.specs.Packing.{previousPlaces, nextPlaces};
+ghost use Rattle.integration.specs.Passes.{entries, outside, passIn, width, positionIn, found};
+ghost use mathlib.Core.List.{List};
+ghost use Rattle.woot.specs.declared.Character.{Character};
+ghost use Rattle.index.specs.Index.{indexOf};
+ghost use Rattle.integration.specs.Placements.{placementOf};
+
+// The places strictly between which a character is to be put.
+struct Interval {
+    upper: usize,
+    lower: usize,
+}
+
+// How far apart the ends are.
+fn width(v: Interval) -> usize
+    ensures { λ r. ⌜ r ≡ width v ⌝ }
+{
+    if v.lower <= v.upper {
+        return 0;
+    }
+    v.lower - v.upper
+}
+
+// Whether the places of both neighbours are outside the interval, or its ends.
+fn outside(above: u16, below: u16, v: Interval) -> bool
+    ensures { λ r. ⌜ r ≡ outside above below v ⌝ }
+{
+    if v.upper < above as usize {
+        return false;
+    }
+    v.lower <= below as usize
+}
+
+// One pass over the candidates: the interval between the last that the key passes and the one that it stops at.
+fn pass(ids: &[u32], above: &[u16], below: &[u16], key: u32, v: Interval) -> Interval
+    requires { ⌜ v .upper < v .lower ⌝ }
+    ensures { λ r. ⌜ r ≡ passIn (entries 1 (now (ids .entry)) (now (above .entry)) (now (below .entry))) key v ⌝ }
+{
+    let shortest = index::lesser(ids.len(), index::lesser(above.len(), below.len()));
+    let end = index::lesser(shortest, v.lower - 1);
+    let mut upper = v.upper;
+    let mut i = upper;
+    while i < end {
+        let at = i;
+        i += 1;
+        if outside(above[at], below[at], v) {
+            if key <= ids[at] {
+                return Interval { upper, lower: i };
+            }
+            upper = i;
+        }
+    }
+    Interval {
+        upper,
+        lower: v.lower,
+    }
+}
+
+// The place just above which the key goes in, between the upper and the lower place. `above` and `below` have the places
+// of the previous and the next of each of `ids`. Each pass narrows the interval, until nothing is between, or no candidate.
+fn position(
+    ids: &[u32],
+    above: &[u16],
+    below: &[u16],
+    key: u32,
+    upper: usize,
+    lower: usize,
+) -> Found
+    ensures { λ r. ⌜ r ≡ found (positionIn (now (ids .entry)) (now (above .entry)) (now (below .entry)) key upper lower) ⌝ }
+{
+    let mut v = Interval { upper, lower };
+    while 1 < width(v) {
+        let next = pass(ids, above, below, key, v);
+        if width(v) <= width(next) {
+            return Found::Nothing;
+        }
+        v = next;
+    }
+    Found::At(v.upper)
+}
+
+// What is found for an insert: a neighbour is not held, they stand in the wrong order, there is no candidate, or the
+// place just above it.
+pub enum Placement {
+    Missing,
+    Crossed,
+    Unplaceable,
+    Below(usize),
+}
+
+// Finds the place of an insert among the characters with these keys, whose neighbours have these places.
+fn place_among(ids: &[u32], above: &[u16], below: &[u16], i: Insert) -> Placement
+    requires { ⌜ length (now ids) ≤ 1024 ⌝ }
+    ensures { λ r. ⌜ ((cs : List Character) → now (ids .entry) ≡ keys cs → now (above .entry) ≡ previousPlaces cs → now (below .entry) ≡ nextPlaces cs → AllSmall cs → r ≡ placementOf cs i) ⌝ }
+{
+    let previous = i.previous;
+    let next = i.next;
+    let id = i.id;
+    let upper = index::place_of(ids, index::key(previous));
+    let lower = index::place_of(ids, index::key(next));
+    if ids.len() + 1 < upper {
+        return Placement::Missing;
+    }
+    if ids.len() + 1 < lower {
+        return Placement::Missing;
+    }
+    if lower <= upper {
+        return Placement::Crossed;
+    }
+    match position(ids, above, below, index::key(id), upper, lower) {
+        Found::At(k) => Placement::Below(k),
+        Found::Nothing => Placement::Unplaceable,
+    }
+}
+
+// Finds the place of an insert among n characters, by their index. A step of the calls and not a call: they have an index
+// of the characters in use.
+pub fn find_place(x: Index, n: usize, i: Insert) -> Placement
+    requires { ⌜ n ≤ 1024 ⌝ }
+    ensures { λ r. ⌜ ((cs : List Character) → x ≡ indexOf cs → length cs ≡ n → AllSmall cs → r ≡ placementOf cs i) ⌝ }
+{
+    let ids = x.ids;
+    let above = x.above;
+    let below = x.below;
+    place_among(&ids[..n], &above[..n], &below[..n], i)
+}

@@ -1,0 +1,6 @@
+pub mod Searches
+pub mod Queues
+pub mod Fullness
+pub mod Pending
+pub mod Earliest
+pub mod Holders

@@ -1,0 +1,50 @@
+-- `pending::known::holder_among` looks among the characters first.
+use mathlib.Core.Path.{sym, _∙_}
+use Rattle.pending.specs.Known.{firstHolder, holderIn}
+use borrow.Author.Needs.{needs}
+use Rattle.pending.proofs.known.holder_among.Statement.{statement}
+use Rattle.pending.proofs.known.holder_among.Tie as tie
+
+find-requires : tie.Need-find-requires
+find-requires c κs = search needs
+
+enum-known-k : tie.Need-enum-known-k
+enum-known-k c = search needs
+
+enum-told : tie.Need-enum-told
+enum-told c = search needs
+
+find-requires-2 : tie.Need-find-requires-2
+find-requires-2 c κs = search needs
+
+enum-known-j : tie.Need-enum-known-j
+enum-known-j c = search needs
+
+enum-told-2 : tie.Need-enum-told-2
+enum-told-2 c = search needs
+
+returns : tie.Need-returns
+unfolding holderIn firstHolder
+returns c = rw (sym (c .before .before .before .find .ensures) ∙ c .before .k .given .1)
+
+returns-2 : tie.Need-returns-2
+unfolding holderIn firstHolder
+returns-2 c = rw (sym (c .before .before .before .before .before .before .find .ensures) ∙ c .before .before .before .before .enum-told .given .1, sym (c .before .before .before .find2 .ensures) ∙ c .before .j .given .1)
+
+returns-3 : tie.Need-returns-3
+unfolding holderIn firstHolder
+returns-3 c = rw (sym (c .before .before .before .before .before .find .ensures) ∙ c .before .before .before .enum-told .given .1, sym (c .before .before .find2 .ensures) ∙ c .enum-told2 .given .1)
+
+pub holder-among-spec : {M : Type 1} → statement M
+holder-among-spec =
+    tie.close
+    (tie.spec
+    find-requires
+    enum-known-k
+    enum-told
+    find-requires-2
+    enum-known-j
+    enum-told-2
+    returns
+    returns-2
+    returns-3)

@@ -1,0 +1,12 @@
+-- `pending::known::origin` has the character's fields without visible.
+use mathlib.Core.Path.{refl}
+use Rattle.woot.specs.Operations.{origin}
+use Rattle.pending.proofs.known.origin.Statement.{statement}
+use Rattle.pending.proofs.known.origin.Tie as tie
+
+returns : tie.Need-returns
+unfolding origin
+returns c = refl
+
+pub origin-spec : {M : Type 1} → statement M
+origin-spec = tie.close (tie.spec returns)

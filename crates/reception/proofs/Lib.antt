@@ -1,0 +1,5 @@
+pub mod Outcomes
+pub mod Named
+pub mod Seeing
+pub mod Receiving
+pub mod Deleting

@@ -1,0 +1,74 @@
+-- `reception::defer` meets its contract: the sender's share is looked at before the room.
+use mathlib.Core.Path.{_≡_, sym, _∙_}
+use lib.Dec.{leb}
+use Rattle.woot.specs.Limits.{share}
+use Rattle.woot.specs.Operations.{sender}
+use Rattle.woot.specs.State.{meaning}
+use Rattle.woot.specs.Pending.{pendingFrom}
+use Rattle.storage.proofs.Fullness.{FullDocument, full-replica}
+use Rattle.storage.proofs.Stored.{form-counted}
+use Rattle.well_formed.proofs.Examining.{share-counted}
+use Rattle.reception.proofs.Receiving.{defer-sender-full, defer-full, defer-slot, defer-done}
+use borrow.Author.Needs.{needs}
+use Rattle.reception.proofs.defer.Statement.{statement}
+use Rattle.reception.proofs.defer.Tie as tie
+
+full : (c : tie.Start) → FullDocument (c .args .r .document)
+full c = full-replica (c .good .0)
+
+-- whether its sender has its full share
+tested : (c : tie.After-sender-full) → let a = c .before .before .before .args in c .sender-full .result ≡ leb share (pendingFrom (sender (a .o)) (meaning (a .r) .pending))
+tested c =
+    let s = c .before .before .before in
+    c .sender-full .ensures ∙ rw (c .before .sender .ensures) (share-counted _ (s .pre .0 .form) (full s) _ (s .pre .0 .queue) _)
+
+sender-requires : tie.Need-sender-requires
+sender-requires c κs = search needs
+
+sender-full-requires : tie.Need-sender-full-requires
+sender-full-requires c κs = search needs
+
+refused-requires : tie.Need-refused-requires
+refused-requires c κs = search needs
+
+returns : tie.Need-returns
+returns c =
+    let p = c .before .before .before .before .before .pre in
+    c .refused .ensures ∙ sym (defer-sender-full _ _ _ (p .0) (p .1) (sym (tested (c .before .before)) ∙ c .before .if1 .taken))
+
+is-full-requires : tie.Need-is-full-requires
+is-full-requires c κs = search needs
+
+refused-requires-2 : tie.Need-refused-requires-2
+refused-requires-2 c κs = search needs
+
+returns-2 : tie.Need-returns-2
+returns-2 c =
+    let p = c .before .before .before .before .before .before .before .pre in
+    c .refused2 .ensures
+    ∙ sym (defer-full _ _ _ (p .0) (p .1) (sym (tested (c .before .before .before .before)) ∙ c .before .before .before .if1 .left) (sym (c .before .before .is-full .ensures) ∙ c .before .if2 .taken))
+
+deferred-requires : tie.Need-deferred-requires
+deferred-requires c κs =
+    let s = c .before .before .before .before .before .before in
+    (form-counted _ (s .pre .0 .form), defer-slot _ _ _ (s .pre .0) (s .pre .1) (sym (tested (c .before .before .before)) ∙ c .before .before .if1 .left) (full s) (sym (c .before .is-full .ensures) ∙ c .if2 .left))
+
+returns-3 : tie.Need-returns-3
+returns-3 c =
+    let p = c .before .before .before .before .before .before .before .pre in
+    rw (c .deferred .ensures)
+    (sym (defer-done _ _ _ (p .0) (p .1) (sym (tested (c .before .before .before .before)) ∙ c .before .before .before .if1 .left) (sym (c .before .before .is-full .ensures) ∙ c .before .if2 .left)))
+
+pub defer-spec : {M : Type 1} → statement M
+defer-spec =
+    tie.close
+    (tie.spec
+    sender-requires
+    sender-full-requires
+    refused-requires
+    returns
+    is-full-requires
+    refused-requires-2
+    returns-2
+    deferred-requires
+    returns-3)

@@ -1,0 +1,97 @@
+-- `reception::receive_delete` goes by the character that has the target.
+use Prim.Native.Nat.{_<_}
+use native.Mathlib.Omega.{arith}
+use mathlib.Core.Path.{_≡_, sym, _∙_}
+use mathlib.Core.Bool.{true}
+use borrow.Author.Tests.{not-true, not-false}
+use Rattle.woot.specs.Ranges.{characterId}
+use Rattle.woot.specs.State.{meaning}
+use Rattle.storage.proofs.Fullness.{FullDocument, full-replica}
+use Rattle.storage.proofs.Stored.{form-counted}
+use Rattle.pending.proofs.Holders.{CharacterAt}
+use Rattle.well_formed.proofs.Examining.{few, stands-at, character-within, character-member, character-named}
+use Rattle.reception.proofs.Deleting.{target-ranged, delete-again, delete-done}
+use borrow.Author.Needs.{needs}
+use Rattle.reception.proofs.receive_delete.Statement.{statement}
+use Rattle.reception.proofs.receive_delete.Tie as tie
+
+full : (c : tie.Start) → FullDocument (c .args .r .document)
+full c = full-replica (c .good .0)
+
+ranged : (c : tie.Start) → characterId (c .args .e .target) ≡ true
+ranged c = target-ranged _ (c .pre .1)
+
+-- the character at the index found
+at : (c : tie.After-known-told) → let a = c .before .before .before .before .before .before .args in CharacterAt (a .e .target) (meaning (a .r) .characters) (c .before .k .given .0 .0)
+at c = let s = c .before .before .before .before .before .before in stands-at _ _ _ (full s) (s .pre .0) _ (ranged s) (c .before .before .before .character-of .ensures) (c .before .k .given .1)
+
+within : (c : tie.After-known-told) → c .before .k .given .0 .0 < 1024
+within c =
+    let s = c .before .before .before .before .before .before in
+    let n = few _ (s .pre .0 .form) in
+    let h = character-within _ _ _ (full s) (s .pre .0) _ (ranged s) (c .before .k .given .0 .0) (at c) in
+    omega arith
+
+character-of-requires : tie.Need-character-of-requires
+character-of-requires c κs = search needs
+
+enum-known-k : tie.Need-enum-known-k
+enum-known-k c = search needs
+
+mul-c : tie.Need-mul-c
+mul-c c = omega (arith, within c)
+
+element-copy-out-c : tie.Need-element-copy-out-c
+element-copy-out-c c = within c
+
+kept-requires : tie.Need-kept-requires
+kept-requires c κs = search needs
+
+returns : tie.Need-returns
+returns c =
+    let s = c .before .before .before .before .before .before .before .before .before .before in
+    let h = at (c .before .before .before .before) in
+    c .kept .ensures
+    ∙ sym (delete-again _ (s .pre .0 .form) _ (s .pre .1) _ (character-member _ _ _ (full s) (s .pre .0) _ (ranged s) _ h _) (character-named _ _ _ (full s) (s .pre .0) _ (ranged s) _ h _) (not-true _ (c .before .if1 .taken)))
+
+hidden-requires : tie.Need-hidden-requires
+hidden-requires c κs = form-counted _ (c .before .before .before .before .before .before .before .before .before .pre .0 .form)
+
+enum-told : tie.Need-enum-told
+enum-told c = search needs
+
+receive-absent-requires : tie.Need-receive-absent-requires
+receive-absent-requires c κs =
+    let s = c .before .before .before .before .before in
+    record {
+      form = s .pre .0 .form;
+      queue = s .pre .0 .queue;
+      ranged = s .pre .1;
+      nowhere = stands-at _ _ _ (full s) (s .pre .0) _ (ranged s) (c .before .before .character-of .ensures) (c .enum-told .given .1);
+    }
+
+returns-2 : tie.Need-returns-2
+returns-2 c =
+    let s = c .before .before .before .before .before .before .before .before .before .before in
+    let h = at (c .before .before .before .before) in
+    rw (c .hidden .ensures)
+    (sym (delete-done _ (s .pre .0 .form) _ (s .pre .1) _ (character-member _ _ _ (full s) (s .pre .0) _ (ranged s) _ h _) (character-named _ _ _ (full s) (s .pre .0) _ (ranged s) _ h _) (not-false _ (c .before .if1 .left))))
+
+returns-3 : tie.Need-returns-3
+returns-3 c = search needs
+
+pub receive-delete-spec : {M : Type 1} → statement M
+receive-delete-spec =
+    tie.close
+    (tie.spec
+    character-of-requires
+    enum-known-k
+    mul-c
+    element-copy-out-c
+    kept-requires
+    returns
+    hidden-requires
+    enum-told
+    receive-absent-requires
+    returns-2
+    returns-3)

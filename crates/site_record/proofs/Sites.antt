@@ -1,0 +1,53 @@
+-- What an insert leaves in the record is told by its answer: each check refuses, and a refusal leaves the very replica.
+use Prim.Native.Nat.{ℕ}
+use mathlib.Core.Path.{_≡_, refl, sym, ap, _∙_}
+use mathlib.Core.Bool.{Bool}
+use mathlib.Core.Option.{Option, none, some}
+use Rattle.woot.specs.declared.Site.{Site}
+use Rattle.woot.specs.declared.Replica.{Replica}
+use Rattle.woot.specs.declared.Sent.{Sent}
+use Rattle.woot.specs.declared.Sent.the-variants.{Done, Refused}
+use Rattle.woot.specs.State.{meaning, stored}
+use Rattle.woot.specs.Form.{replicaWellFormed}
+use Rattle.woot.specs.Answers.{first}
+use Rattle.woot.specs.Calls.{Outcome, unchanged, decided, afterDrain, insertChecks, generatedInsert, advanced, sendInsert, localInsertWhen}
+use Rattle.convergence.proofs.Steps.{All, first-some}
+use Rattle.storage.specs.Replicas.{afterSent, generated, inserted}
+use Rattle.replica.specs.Theorems.{called}
+use Rattle.site_record.specs.Lent.{joined, returned, withClock, siteAfter, LentFollows}
+
+module _ (r : Replica) (g n : ℕ) where
+  -- what the call comes to where the checks report m
+  come : Option Sent → Outcome Sent
+  come m = decided (meaning r) m (sendInsert (meaning r) (generatedInsert (meaning r) g n))
+
+  Told : Option Sent → Type 0
+  Told m = afterSent r (come m .state) (come m .answer) .site ≡ siteAfter (r .site) (come m .answer)
+
+  told : (m : Option Sent) → ((a : Sent) → m ≡ some a → Told (some a)) → Told m
+  unfolding come Told decided sendInsert afterDrain advanced afterSent siteAfter stored meaning
+  told none t = refl
+  told (some a) t = t a refl
+
+  refusals : (formed : Bool) → All (λ a. Told (some a)) (insertChecks formed (meaning r) g n)
+  unfolding come Told decided unchanged afterSent siteAfter insertChecks
+  refusals formed = (refl, (refl, (refl, (refl, (refl, (refl, (refl, tt)))))))
+
+  site-after : inserted r g n .replica .site ≡ siteAfter (r .site) (inserted r g n .answer)
+  unfolding come Told inserted generated localInsertWhen
+  site-after =
+      let checks = insertChecks (replicaWellFormed r) (meaning r) g n in
+      told (first checks) (first-some (λ a. Told (some a)) checks (refusals (replicaWellFormed r)))
+
+-- the number is kept
+same-number : (s : Site) (a : Sent) → withClock s (siteAfter s a .clock) ≡ siteAfter s a
+unfolding siteAfter
+same-number s (Done o n m) = refl
+same-number s (Refused q) = refl
+
+pub clock-after : (r : Replica) (g n : ℕ) → withClock (r .site) (inserted r g n .replica .site .clock) ≡ siteAfter (r .site) (inserted r g n .answer)
+clock-after r g n = ap (λ t. withClock (r .site) (t .clock)) (site-after r g n) ∙ same-number (r .site) (inserted r g n .answer)
+
+pub lent-follows : LentFollows
+unfolding returned called
+lent-follows s d g n = λ i. joined (sym (site-after (joined s d) g n) i) (inserted (joined s d) g n .replica .document)

@@ -1,0 +1,4 @@
+pub mod Padding
+pub mod Fullness
+pub mod Slots
+pub mod Stored

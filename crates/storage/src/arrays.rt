@@ -1,0 +1,167 @@
+// The arrays of a document, built anew from filler, so that what is not in use is filler again. A count above the slots is
+// taken as all of them.
+use woot::Character;
+use woot::Identifier;
+use woot::Insert;
+use woot::Operation;
+use woot::Pending;
+ghost use mathlib.Core.Path.{_≡_};
+ghost use mathlib.Core.Bool.{cond};
+ghost use mathlib.Core.List.{_++_, _∷_, []};
+ghost use Prim.Native.Nat.{_+_, _≤_, min};
+ghost use lib.ListN.{take};
+ghost use Rattle.woot.specs.Identifiers.{same};
+ghost use Rattle.woot.specs.Operations.{hidden};
+ghost use Rattle.woot.specs.State.{waiting, blankCharacter, blankPending};
+ghost use Rattle.lists.specs.Padding.{pad};
+ghost use Rattle.woot.specs.Placing.{insertAt, integrateDelete};
+ghost use Rattle.storage.specs.Edit.{copiedInto, removed};
+
+// What stands in a slot for a character that is not in use.
+fn blank_character() -> Character
+    ensures { λ r. ⌜ r ≡ blankCharacter ⌝ }
+{
+    let none = Identifier::BEGIN;
+    Character {
+        id: none,
+        code_point: 0,
+        visible: false,
+        previous: none,
+        next: none,
+    }
+}
+
+// The array with count characters of another put at the index.
+fn copied(
+    mut out: [Character; 1024],
+    at: usize,
+    cs: [Character; 1024],
+    from: usize,
+    count: usize,
+) -> [Character; 1024]
+    requires { ⌜ (at + count ≤ 1024) × (from + count ≤ 1024) ⌝ }
+    ensures { λ r. ⌜ r ≡ copiedInto out at cs from count ⌝ }
+{
+    let mut i = 0;
+    while i < count {
+        let c = cs[from + i];
+        out[at + i] = c;
+        i += 1;
+    }
+    out
+}
+
+// The first n characters, and filler after them.
+pub fn kept(cs: [Character; 1024], n: usize) -> [Character; 1024]
+    ensures { λ r. ⌜ r ≡ pad 1024 blankCharacter (take n cs) ⌝ }
+{
+    copied([blank_character(); 1024], 0, cs, 0, index::lesser(n, 1024))
+}
+
+// The first n characters, but for one that there is no slot for, with c after the first k of them.
+pub fn inserted(cs: [Character; 1024], n: usize, k: usize, c: Character) -> [Character; 1024]
+    ensures { λ r. ⌜ r ≡ pad 1024 blankCharacter (insertAt k c (take (min n 1023) cs)) ⌝ }
+{
+    let size = index::lesser(n, 1023);
+    let at = index::lesser(k, size);
+    let mut out = kept(cs, at);
+    out[at] = c;
+    copied(out, at + 1, cs, at, size - at)
+}
+
+// A character, hidden if it is the target.
+fn marked(c: Character, target: Identifier) -> Character
+    ensures { λ r. ⌜ r ≡ cond (same target (c .id)) (hidden c) c ⌝ }
+{
+    let id = c.id;
+    if ranges::same_id(target, id) {
+        let previous = c.previous;
+        let next = c.next;
+        return Character {
+            id,
+            code_point: c.code_point,
+            visible: false,
+            previous,
+            next,
+        };
+    }
+    c
+}
+
+// The first n characters with the target hidden.
+pub fn hidden(cs: [Character; 1024], n: usize, target: Identifier) -> [Character; 1024]
+    ensures { λ r. ⌜ r ≡ pad 1024 blankCharacter (integrateDelete (take n cs) target) ⌝ }
+{
+    let end = index::lesser(n, 1024);
+    let mut out = [blank_character(); 1024];
+    let mut i = 0;
+    while i < end {
+        let c = cs[i];
+        out[i] = marked(c, target);
+        i += 1;
+    }
+    out
+}
+
+// What stands in a slot for a pending operation that is not in use.
+fn blank_pending() -> Pending
+    ensures { λ r. ⌜ r ≡ blankPending ⌝ }
+{
+    let none = Identifier::BEGIN;
+    Pending {
+        operation: Operation::Insert(Insert {
+            id: none,
+            code_point: 0,
+            previous: none,
+            next: none,
+        }),
+    }
+}
+
+// The array with count pending operations of another put at the index.
+fn copied_pending(
+    mut out: [Pending; 512],
+    at: usize,
+    ps: [Pending; 512],
+    from: usize,
+    count: usize,
+) -> [Pending; 512]
+    requires { ⌜ (at + count ≤ 512) × (from + count ≤ 512) ⌝ }
+    ensures { λ r. ⌜ r ≡ copiedInto out at ps from count ⌝ }
+{
+    let mut i = 0;
+    while i < count {
+        let p = ps[from + i];
+        out[at + i] = p;
+        i += 1;
+    }
+    out
+}
+
+// The first n pending operations, and filler after them.
+pub fn kept_pending(ps: [Pending; 512], n: usize) -> [Pending; 512]
+    ensures { λ r. ⌜ r ≡ pad 512 blankPending (take n ps) ⌝ }
+{
+    copied_pending([blank_pending(); 512], 0, ps, 0, index::lesser(n, 512))
+}
+
+// The first n pending operations, but for one that there is no slot for, with o after the last.
+pub fn pushed(ps: [Pending; 512], n: usize, o: Operation) -> [Pending; 512]
+    ensures { λ r. ⌜ r ≡ pad 512 blankPending (take (min n 511) ps ++ waiting o ∷ []) ⌝ }
+{
+    let size = index::lesser(n, 511);
+    let mut out = kept_pending(ps, size);
+    out[size] = Pending { operation: o };
+    out
+}
+
+// The first n pending operations without the one at j.
+pub fn without(ps: [Pending; 512], n: usize, j: usize) -> [Pending; 512]
+    ensures { λ r. ⌜ r ≡ pad 512 blankPending (removed j (take n ps)) ⌝ }
+{
+    let size = index::lesser(n, 512);
+    if size <= j {
+        return kept_pending(ps, size);
+    }
+    copied_pending(kept_pending(ps, j), j, ps, j + 1, size - (j + 1))
+}

@@ -1,0 +1,4 @@
+pub mod Throughout
+pub mod Conditions
+pub mod Checks
+pub mod Examining

@@ -1,0 +1,99 @@
+-- A loop that tests index by index: what it has passed, where it stops, and what it has tested at the end.
+use Prim.Native.Nat.{ℕ, zero, suc, _+_, _≤_, _<_}
+use native.Mathlib.Nat.{not-suc-le-zero, le-of-suc-le-suc}
+use native.Mathlib.Numerals.{add-one}
+use native.Mathlib.Omega.{arith}
+use mathlib.Core.Path.{_≡_, refl, ap, ap₂, sym, _∙_}
+use mathlib.Core.Bool.{Bool, true, false, _&&_, and-true, and-false, and-assoc}
+use mathlib.Core.List.{List, [], _∷_, _++_, map, List·Memᴰ, List·Memᴰ·head, List·Memᴰ·tail}
+use mathlib.Core.Logic.{⊎-elim}
+use lib.ListN.{length, take, getD}
+use lib.Seq.{take-suc, take-length}
+use Rattle.lists.specs.Lists.{every}
+use Rattle.woot.specs.Form.{numbers}
+use Rattle.lists.proofs.Tests.{and-intro, side}
+use Rattle.lists.proofs.Members.{every-append}
+use Rattle.well_formed.specs.Form.{throughout}
+
+module _ (p : ℕ → Bool) where
+  pub throughout-more : (i : ℕ) → throughout p i ≡ true → p i ≡ true → throughout p (i + 1) ≡ true
+  throughout-more i h e = rw (add-one i) (and-intro h e)
+
+  pub throughout-fails : (n i : ℕ) → i < n → p i ≡ false → throughout p n ≡ false
+  throughout-fails zero i h e = absurd (not-suc-le-zero h)
+  throughout-fails (suc n) i h e = ⊎-elim (λ k. rw (last k) (and-false (throughout p n))) (λ k. rw (throughout-fails n i k e)) (side n i)
+    where
+      last : n ≤ i → p n ≡ false
+      last k = let same : n ≡ i = omega arith in rw same e
+
+-- tests that agree at each index
+pub throughout-cong : (p q : ℕ → Bool) (n : ℕ) → ((i : ℕ) → i < n → p i ≡ q i) → throughout p n ≡ throughout q n
+throughout-cong p q zero f = refl
+throughout-cong p q (suc n) f = ap₂ (λ (a b : Bool). a && b) (throughout-cong p q n (λ i h. f i (omega arith))) (f n (omega arith))
+
+-- ---- lists by their indices
+
+module _ {A : Type 0} where
+  pub getD-member : (xs : List A) (i : ℕ) (d : A) → i < length xs → List·Memᴰ (getD xs i d) xs
+  getD-member [] i d h = absurd (not-suc-le-zero h)
+  getD-member (x ∷ xs) zero d h = List·Memᴰ·head refl
+  getD-member (x ∷ xs) (suc i) d h = List·Memᴰ·tail (getD-member xs i d (le-of-suc-le-suc h))
+
+  pub take-member : (n : ℕ) (xs : List A) {x : A} → List·Memᴰ x (take n xs) → List·Memᴰ x xs
+  take-member (suc n) (y ∷ xs) (List·Memᴰ·head e) = List·Memᴰ·head e
+  take-member (suc n) (y ∷ xs) (List·Memᴰ·tail m) = List·Memᴰ·tail (take-member n xs m)
+
+module _ {A B : Type 0} (f : A → B) where
+  pub take-map : (n : ℕ) (xs : List A) → take n (map f xs) ≡ map f (take n xs)
+  take-map zero xs = refl
+  take-map (suc n) [] = refl
+  take-map (suc n) (x ∷ xs) = ap (λ (ys : List B). f x ∷ ys) (take-map n xs)
+
+  pub map-getD : (xs : List A) (i : ℕ) (z : B) (d : A) → i < length xs → getD (map f xs) i z ≡ f (getD xs i d)
+  map-getD [] i z d h = absurd (not-suc-le-zero h)
+  map-getD (x ∷ xs) zero z d h = refl
+  map-getD (x ∷ xs) (suc i) z d h = map-getD xs i z d (le-of-suc-le-suc h)
+
+-- ---- conditions on lists as tests at their indices
+
+-- a condition that one element more adds a test to
+module _ {A : Type 0} (D : List A → Bool) (t : ℕ → Bool) (xs : List A) (d : A)
+    (step : (i : ℕ) → i < length xs → D (take i xs ++ getD xs i d ∷ []) ≡ D (take i xs) && t i) where
+  pub grown-prefix : (n : ℕ) → n ≤ length xs → D (take n xs) ≡ D [] && throughout t n
+  grown-prefix zero h = sym (and-true (D []))
+  grown-prefix (suc n) h =
+      rw (take-suc xs n d (omega arith), step n (omega arith), grown-prefix n (omega arith)) (and-assoc (D []) (throughout t n) (t n))
+
+  pub grown : D xs ≡ D [] && throughout t (length xs)
+  grown = ap D (sym (take-length xs)) ∙ grown-prefix (length xs) (omega arith)
+
+-- a test of each element
+module _ {A : Type 0} (p : A → Bool) (xs : List A) (d : A) where
+  abbrev pub elementAt : ℕ → Bool
+  elementAt i = p (getD xs i d)
+
+  last : (i : ℕ) → i < length xs → every p (take i xs ++ getD xs i d ∷ []) ≡ every p (take i xs) && elementAt i
+  last i h = every-append p (take i xs) (getD xs i d ∷ []) ∙ ap (λ (b : Bool). every p (take i xs) && b) (and-true (p (getD xs i d)))
+
+  pub every-prefix : (n : ℕ) → n ≤ length xs → every p (take n xs) ≡ throughout elementAt n
+  every-prefix = grown-prefix (every p) elementAt xs d last
+
+  pub every-throughout : every p xs ≡ throughout elementAt (length xs)
+  every-throughout = grown (every p) elementAt xs d last
+
+-- a test of what is made of each element
+pub every-map : {A B : Type 0} (f : A → B) (p : B → Bool) (xs : List A) → every p (map f xs) ≡ every (λ x. p (f x)) xs
+every-map f p [] = refl
+every-map f p (x ∷ xs) = ap (λ (b : Bool). p (f x) && b) (every-map f p xs)
+
+-- a loop that counts up to n and tests each number
+module _ (p : ℕ → Bool) where
+  pub numbers-more : (k : ℕ) → every p (numbers k) ≡ true → p (k + 1) ≡ true → every p (numbers (k + 1)) ≡ true
+  numbers-more k h e = let f : p (suc k) ≡ true = rw add-one at e in rw (add-one k) (and-intro f h)
+
+  pub numbers-fail : (n k : ℕ) → k < n → p (k + 1) ≡ false → every p (numbers n) ≡ false
+  numbers-fail zero k h e = absurd (not-suc-le-zero h)
+  numbers-fail (suc n) k h e = ⊎-elim last (λ l. rw (numbers-fail n k l e) (and-false (p (suc n)))) (side n k)
+    where
+      last : n ≤ k → every p (numbers (suc n)) ≡ false
+      last l = let same : k + 1 ≡ suc n = omega arith in let f : p (suc n) ≡ false = rw same at e in rw f

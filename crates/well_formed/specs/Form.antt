@@ -1,0 +1,100 @@
+-- The conditions of form on packed numbers.
+use Prim.Native.Nat.{ℕ, zero, suc, _+_}
+use mathlib.Core.Bool.{Bool, true, false, _&&_, _||_, not, cond}
+use mathlib.Core.List.{List, []}
+use lib.Dec.{leb, ltb, eqb}
+use lib.ListN.{length, take, getD}
+use Rattle.woot.specs.declared.Replica.{Replica}
+use Rattle.woot.specs.Limits.{lastSite, capacity, share}
+use Rattle.lists.specs.Lists.{every, keep}
+use Rattle.woot.specs.State.{State, meaning, counted}
+use Rattle.woot.specs.Form.{numbers, allInRange, replicaWellFormed}
+use Rattle.index.specs.declared.Found.{Found}
+use Rattle.index.specs.declared.Found.the-variants.{At, Nothing}
+use Rattle.well_formed.specs.declared.Checked.{Checked}
+use Rattle.index.specs.Index.{indexOf}
+use Rattle.pending.specs.Queue.{packed, hasDelete}
+use Rattle.pending.specs.Ready.{heldIn, readyIn}
+
+-- p passes every number below n
+abbrev pub throughout : (ℕ → Bool) → ℕ → Bool
+throughout p zero = true
+throughout p (suc n) = throughout p n && p n
+
+-- no site has sent more than its share
+abbrev pub senderWithin : List ℕ → ℕ → Bool
+senderWithin senders n = leb (length (keep (λ s. eqb s n) senders)) share
+
+unfoldable pub sharesIn : List ℕ → Bool
+sharesIn senders = every (senderWithin senders) (numbers lastSite)
+
+-- there is room for the characters and the pending inserts
+unfoldable pub roomKept : List ℕ → List ℕ → Bool
+roomKept ids own = leb (length ids + length (keep (λ k. not (eqb k 0)) own)) capacity
+
+-- the key is 0, as a delete has it, or not among the others
+unfoldable pub unheldKey : List ℕ → ℕ → Bool
+unheldKey ks k = eqb k 0 || not (heldIn ks k)
+
+-- the key with index i is not among those before it
+abbrev pub newAt : List ℕ → ℕ → Bool
+newAt ks i = unheldKey (take i ks) (getD ks i 0)
+
+abbrev pub keysDistinct : List ℕ → Bool
+keysDistinct ks = throughout (newAt ks) (length ks)
+
+-- the key with index j is neither among the characters' nor among those before it
+unfoldable pub freeAt : List ℕ → List ℕ → ℕ → Bool
+freeAt ids own j = unheldKey ids (getD own j 0) && newAt own j
+
+abbrev pub keysNew : List ℕ → List ℕ → Bool
+keysNew ids own = throughout (freeAt ids own) (length own)
+
+-- the operation with index j is no delete that stands before it too
+unfoldable pub freshAt : List ℕ → List ℕ → List ℕ → ℕ → Bool
+freshAt own first senders j =
+    not (eqb (getD own j 0) 0 && hasDelete (getD first j 0) (getD senders j 0) (take j own) (take j first) (take j senders))
+
+abbrev pub noneRepeated : List ℕ → List ℕ → List ℕ → Bool
+noneRepeated own first senders = throughout (freshAt own first senders) (length own)
+
+-- the character with index i stands below its previous and above its next, which is held
+unfoldable pub orderedAt : List ℕ → List ℕ → ℕ → Bool
+orderedAt above below i =
+    ltb (getD above i 0) (i + 1) && (ltb (i + 1) (getD below i 0) && leb (getD below i 0) (length above + 1))
+
+abbrev pub placesOrdered : List ℕ → List ℕ → Bool
+placesOrdered above below = throughout (orderedAt above below) (length above)
+
+abbrev pub nothing : Found → Bool
+nothing (At j) = false
+nothing Nothing = true
+
+-- no operation has all that it needs
+abbrev pub noneReady : List ℕ → List ℕ → List ℕ → Bool
+noneReady ids first second = nothing (readyIn ids first second)
+
+-- the conditions on the characters alone, but for the ranges
+unfoldable pub charactersFormed : List ℕ → List ℕ → List ℕ → Bool
+charactersFormed ids above below = keysDistinct ids && placesOrdered above below
+
+-- the conditions on the pending operations, but for the ranges
+unfoldable pub pendingFormed : List ℕ → List ℕ → List ℕ → List ℕ → List ℕ → Bool
+pendingFormed ids own first second senders =
+    sharesIn senders && roomKept ids own && keysNew ids own && noneRepeated own first senders
+    && noneReady ids first second
+
+-- the counts are within the arrays, and every number, mark and neighbour in its range
+unfoldable pub rangesKept : Replica → Bool
+rangesKept r = counted r && allInRange (meaning r)
+
+-- what the check answers of a replica that is well formed
+unfoldable pub formedWith : State → Checked
+formedWith s = record { formed = true; index = indexOf (s .characters); queue = packed (s .pending) }
+
+-- what it answers of any other, with nothing packed
+unfoldable pub unformed : Checked
+unformed = record { formed = false; index = indexOf []; queue = packed [] }
+
+unfoldable pub checked : Replica → Checked
+checked r = cond (replicaWellFormed r) (formedWith (meaning r)) unformed
