@@ -104,7 +104,7 @@ module _ (cs : List Character) (ps : List Operation) (n m : ℕ) where
   unfolding carried
   carried-integrated o e = rw e
 
-  pub carried-delete : (d : Delete) → carried cs ps n m (delete d) ≡ workOf (integrateDelete cs (d .target)) ps (n + 1) m
+  pub carried-delete : (d : Delete) → carried cs ps n m (delete d) ≡ workOf (integrateDelete cs d) ps (n + 1) m
   unfolding crossed unplaceable integrate
   carried-delete d = carried-integrated (delete d) refl
 

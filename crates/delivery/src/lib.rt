@@ -5,8 +5,8 @@ use pending::queue;
 use pending::ready;
 use storage::arrays;
 use woot::Character;
+use woot::Delete;
 use woot::Document;
-use woot::Identifier;
 use woot::Insert;
 use woot::Operation;
 use woot::Replica;
@@ -67,13 +67,13 @@ fn carry_insert(w: Work, i: Insert, k: usize) -> Work
 }
 
 // Carries out a delete: the target is hidden.
-fn carry_delete(w: Work, target: Identifier) -> Work
+fn carry_delete(w: Work, deletion: Delete) -> Work
     requires { ⌜ Tidy w × (w .document .length ≤ 1024) × (w .integrated + 1 < 2 ^ 64) ⌝ }
-    ensures { λ r. ⌜ r ≡ workOf (integrateDelete (charactersIn (w .document)) target) (pendingIn (w .document)) (w .integrated + 1) (w .discarded) ⌝ }
+    ensures { λ r. ⌜ r ≡ workOf (integrateDelete (charactersIn (w .document)) deletion) (pendingIn (w .document)) (w .integrated + 1) (w .discarded) ⌝ }
 {
     let d = w.document;
     let cs = d.characters;
-    let characters = arrays::hidden(cs, d.length, target);
+    let characters = arrays::hidden(cs, d.length, deletion);
     let document = Document { characters, ..d };
     Work {
         document,
@@ -116,10 +116,7 @@ fn carry(w: Work, o: Operation) -> Work
 {
     match o {
         Operation::Insert(i) => place_insert(w, i),
-        Operation::Delete(d) => {
-            let target = d.target;
-            carry_delete(w, target)
-        }
+        Operation::Delete(d) => carry_delete(w, d),
     }
 }
 

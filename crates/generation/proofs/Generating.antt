@@ -103,7 +103,7 @@ module _ (r : Replica) (p : ℕ) (form : replicaWellFormed r ≡ true) where
 
     pub delete-within : beyondVisible (meaning r) p ≡ false → (x : Identifier) (q : Replica)
         → x ≡ getD (begin ∷ visibles (meaning r .characters)) p begin
-        → q ≡ stored (withCharacters (meaning r) (integrateDelete (meaning r .characters) x))
+        → q ≡ stored (withCharacters (meaning r) (integrateDelete (meaning r .characters) (record { sender = r .site .number; target = x })))
         → _≡_ {A = Generated} (record { answer = sentDone (delete (record { sender = r .site .number; target = x })) 1 0; replica = q }) (deleted r p)
     unfolding notVisible generatedDelete meaning
     delete-within e x q t h = rw (h, t) (sym (delete-done r p form (rw (ne-eqb p 0 later, e))))

@@ -18,7 +18,8 @@ use Rattle.woot.specs.State.{meaning, stored}
 use Rattle.woot.specs.Placing.{integrateDelete}
 use Rattle.woot.specs.Pending.{unplaceable}
 use Rattle.woot.specs.Form.{replicaWellFormed}
-use Rattle.woot.specs.Calls.{unchanged, decided, withCharacters, afterDrain, insertCarried, documentFull, generatedInsert, beyondVisible, taken, insertChecks, advanced, sendInsert, localInsertWhen, notVisible, deleteChecks, generatedDelete, sendDelete, localDeleteWhen}
+use Rattle.woot.specs.Answers.{decided}
+use Rattle.woot.specs.Calls.{unchanged, withCharacters, afterDrain, insertCarried, documentFull, generatedInsert, beyondVisible, taken, insertChecks, advanced, carryOut, sendInsert, localInsertWhen, notVisible, deleteChecks, generatedDelete, sendDelete, localDeleteWhen}
 use Rattle.generation.specs.Sending.{sendChecks, sentInsert}
 use Rattle.storage.specs.Replicas.{afterSent, generated, inserted, deleted}
 
@@ -71,7 +72,7 @@ module _ (r : Replica) (i : Insert) where
 
     pub sent-done : documentFull (meaning r) (insert i) ≡ false
         → sentInsert r i ≡ record { answer = sentDone (insert i) (suc (length (insertCarried (meaning r) i .integrated))) (length (insertCarried (meaning r) i .discarded)); replica = stored (afterDrain (advanced (meaning r)) (insertCarried (meaning r) i)) }
-    unfolding sentInsert sendChecks generated afterSent decided sendInsert
+    unfolding sentInsert sendChecks generated afterSent decided sendInsert carryOut insertCarried advanced
     sent-done e = rw (placed, e)
 
 -- ---- deleting
@@ -87,6 +88,6 @@ module _ (r : Replica) (p : ℕ) where
     delete-nowhere e = rw (form, e)
 
     module _ (visible : notVisible (meaning r) p ≡ false) where
-      pub delete-done : deleted r p ≡ record { answer = sentDone (delete (generatedDelete (meaning r) p)) 1 0; replica = stored (withCharacters (meaning r) (integrateDelete (meaning r .characters) (generatedDelete (meaning r) p .target))) }
-      unfolding deleted generated afterSent localDeleteWhen deleteChecks decided sendDelete
+      pub delete-done : deleted r p ≡ record { answer = sentDone (delete (generatedDelete (meaning r) p)) 1 0; replica = stored (withCharacters (meaning r) (integrateDelete (meaning r .characters) (generatedDelete (meaning r) p))) }
+      unfolding deleted generated afterSent localDeleteWhen deleteChecks decided sendDelete carryOut
       delete-done = rw (form, visible)

@@ -10,8 +10,8 @@ use Rattle.woot.specs.declared.Sent.the-variants.{Refused as sentRefused}
 use Rattle.woot.specs.declared.Generated.{Generated}
 use Rattle.woot.specs.State.{State, meaning}
 use Rattle.woot.specs.Pending.{unplaceable}
-use Rattle.woot.specs.Answers.{Check, _⇒_, first}
-use Rattle.woot.specs.Calls.{decided, documentFull, sendInsert}
+use Rattle.woot.specs.Answers.{Check, _⇒_, first, decided}
+use Rattle.woot.specs.Calls.{unchanged, documentFull, sendInsert}
 use Rattle.storage.specs.Replicas.{generated}
 use Prim.Native.Nat.{_<_}
 use mathlib.Core.Path.{_≡_}
@@ -32,4 +32,4 @@ sendChecks s i =
     (unplaceable (s .characters) (insert i) ⇒ sentRefused Unplaceable) ∷ (documentFull s (insert i) ⇒ sentRefused DocumentFull) ∷ []
 
 unfoldable pub sentInsert : Replica → Insert → Generated
-sentInsert r i = generated r (decided (meaning r) (first (sendChecks (meaning r) i)) (sendInsert (meaning r) i))
+sentInsert r i = generated r (decided (unchanged (meaning r)) (first (sendChecks (meaning r) i)) (sendInsert (meaning r) i))

@@ -157,16 +157,16 @@ pub fn delete_visible(r: Replica, index: usize) -> Generated
     }
     let target = visible::left(cs, n, index);
     let site = r.site;
-    let operation = Operation::Delete(Delete {
+    let deletion = Delete {
         sender: site.number,
         target,
-    });
+    };
     Generated {
         answer: Sent::Done {
-            operation,
+            operation: Operation::Delete(deletion),
             integrated: 1,
             discarded: 0,
         },
-        replica: storage::hidden(r, target),
+        replica: storage::hidden(r, deletion),
     }
 }

@@ -13,7 +13,7 @@ use Rattle.woot.specs.declared.Replica.{Replica}
 use Rattle.woot.specs.declared.Answer.the-variants.{Done, Duplicate}
 use Rattle.woot.specs.Identifiers.{same}
 use Rattle.lists.specs.Lists.{any}
-use Rattle.woot.specs.Operations.{sameDelete, sameOperation}
+use Rattle.woot.specs.Operations.{sameDelete, sameOperation, isVisible}
 use Rattle.woot.specs.Ranges.{siteNumber, characterId, deleteInRange, inRange}
 use Rattle.woot.specs.State.{meaning, stored}
 use Rattle.woot.specs.Placing.{held, integrateDelete}
@@ -55,8 +55,8 @@ module _ (r : Replica) (f : replicaWellFormed r ≡ true) (d : Delete) (ranged :
   ready : held (meaning r .characters) (d .target) ≡ true
   ready = rw is (held-id (meaning r .characters) m)
 
-  hides : any (λ z. same (d .target) (z .id) && not (z .visible)) (meaning r .characters) ≡ not (c .visible)
-  hides = one-named (λ z. z .id) (λ z. not (z .visible)) (d .target) (meaning r .characters) (standing (form r f .sound) .apart) m is
+  hides : any (λ z. same (d .target) (z .id) && not (isVisible z)) (meaning r .characters) ≡ not (isVisible c)
+  hides = one-named (λ z. z .id) (λ z. not (isVisible z)) (d .target) (meaning r .characters) (standing (form r f .sound) .apart) m is
 
   -- nothing pending could be carried out, so no equal delete is pending
   none-equal : any (sameOperation (delete d)) (meaning r .pending) ≡ false
@@ -64,11 +64,11 @@ module _ (r : Replica) (f : replicaWellFormed r ≡ true) (d : Delete) (ranged :
       none-any (sameOperation (delete d)) (meaning r .pending)
       (λ o n. fails (sameOperation (delete d) o) (λ e. clash (equal-ready (meaning r .characters) d ready o e) (any-none (executable (meaning r .characters)) (form r f .unready) n)))
 
-  pub delete-again : c .visible ≡ false → received r (delete d) ≡ record { answer = Duplicate; replica = r }
+  pub delete-again : isVisible c ≡ false → received r (delete d) ≡ record { answer = Duplicate; replica = r }
   unfolding inRange duplicate
   delete-again v = outcomes.known r (delete d) ranged f (rw (hides, v))
 
-  pub delete-done : c .visible ≡ true → received r (delete d) ≡ record { answer = Done 1 0; replica = stored (withCharacters (meaning r) (integrateDelete (meaning r .characters) (d .target))) }
+  pub delete-done : isVisible c ≡ true → received r (delete d) ≡ record { answer = Done 1 0; replica = stored (withCharacters (meaning r) (integrateDelete (meaning r .characters) d)) }
   unfolding inRange duplicate conflicting crossed unplaceable senderFull documentFull executable
   delete-done v =
       outcomes.accepted r (delete d) ranged f (rw (hides, v, none-equal)) refl refl refl (rw ready) refl ∙ outcomes.carried-delete r d ready
@@ -76,9 +76,9 @@ module _ (r : Replica) (f : replicaWellFormed r ≡ true) (d : Delete) (ranged :
 -- ---- no character has the target
 
 module _ (r : Replica) (q : Queue) (d : Delete) (a : Absent r q d) where
-  nothing-hid : any (λ c. same (d .target) (c .id) && not (c .visible)) (meaning r .characters) ≡ false
+  nothing-hid : any (λ c. same (d .target) (c .id) && not (isVisible c)) (meaning r .characters) ≡ false
   nothing-hid =
-      none-named (λ c. c .id) (λ c. not (c .visible)) (d .target) (meaning r .characters)
+      none-named (λ c. c .id) (λ c. not (isVisible c)) (d .target) (meaning r .characters)
       (sym (any-map (same (d .target)) (λ c. c .id) (meaning r .characters)) ∙ a .nowhere)
 
   -- it is known where an equal one is pending

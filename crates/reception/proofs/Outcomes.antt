@@ -18,7 +18,8 @@ use Rattle.woot.specs.State.{meaning, stored}
 use Rattle.woot.specs.Placing.{integrateDelete}
 use Rattle.woot.specs.Pending.{executable, crossed, unplaceable}
 use Rattle.woot.specs.Form.{replicaWellFormed}
-use Rattle.woot.specs.Calls.{unchanged, decided, withCharacters, withPending, afterDrain, insertCarried, duplicate, conflicting, senderFull, documentFull, receiveChecks, carryOut, defer, accept, receiveWhen}
+use Rattle.woot.specs.Answers.{decided}
+use Rattle.woot.specs.Calls.{unchanged, withCharacters, withPending, afterDrain, insertCarried, duplicate, conflicting, senderFull, documentFull, receiveChecks, carryOut, defer, accept, receiveWhen}
 use Rattle.storage.specs.Replicas.{afterAnswer, receipt, received}
 
 module _ (r : Replica) (o : Operation) where
@@ -79,6 +80,6 @@ pub carried-insert : (r : Replica) (i : Insert) → executable (meaning r .chara
 unfolding receipt afterAnswer accept carryOut
 carried-insert r i e = rw e
 
-pub carried-delete : (r : Replica) (d : Delete) → executable (meaning r .characters) (delete d) ≡ true → receipt r (accept (meaning r) (delete d)) ≡ record { answer = Done 1 0; replica = stored (withCharacters (meaning r) (integrateDelete (meaning r .characters) (d .target))) }
+pub carried-delete : (r : Replica) (d : Delete) → executable (meaning r .characters) (delete d) ≡ true → receipt r (accept (meaning r) (delete d)) ≡ record { answer = Done 1 0; replica = stored (withCharacters (meaning r) (integrateDelete (meaning r .characters) d)) }
 unfolding receipt afterAnswer accept carryOut
 carried-delete r d e = rw e

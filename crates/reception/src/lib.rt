@@ -175,7 +175,7 @@ pub fn receive_delete(r: Replica, x: Index, q: Queue, e: Delete) -> Receipt
     match known::character_of(x, d.length, target) {
         Found::At(k) => {
             let c = d.characters[k];
-            if !c.visible {
+            if !c.is_visible() {
                 return kept(r, Answer::Duplicate);
             }
             Receipt {
@@ -183,7 +183,7 @@ pub fn receive_delete(r: Replica, x: Index, q: Queue, e: Delete) -> Receipt
                     integrated: 1,
                     discarded: 0,
                 },
-                replica: storage::hidden(r, target),
+                replica: storage::hidden(r, e),
             }
         }
         Found::Nothing => receive_absent(r, q, e),

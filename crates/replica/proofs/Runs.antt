@@ -22,7 +22,7 @@ use Rattle.lists.specs.Padding.{pad}
 use Rattle.woot.specs.Form.{wellFormed, replicaWellFormed}
 use Rattle.woot.specs.Answers.{answerOf}
 use Rattle.woot.specs.Calls.{Outcome, unchanged, receive, localInsert, localDelete}
-use Rattle.woot.specs.Histories.{Call, inserting, deleting, receiving, outcome, run}
+use Rattle.woot.specs.Histories.{Begun, empty, startOf, Call, inserting, deleting, receiving, outcome, run}
 use Rattle.lists.proofs.Tests.{either, clash}
 use Rattle.convergence.proofs.Forms.{formed, reformed}
 use Rattle.convergence.proofs.Shares.{pending-bound}
@@ -132,11 +132,15 @@ pub initial-within : (n : ℕ) → Within (initial n)
 unfolding initial
 initial-within n = record { characters-fit = omega arith; pending-fit = omega arith }
 
+-- a beginning has its place in the arrays
+begun-within : (b : Begun) → Within (startOf b)
+begun-within (empty n) = initial-within n
+
 pub replicas-follow : ReplicasFollow
-replicas-follow n cs = ran-stored (initial n) cs (initial-within n)
+replicas-follow b cs = ran-stored (startOf b) cs (begun-within b)
 
 pub replicas-converge : ReplicasConverge
 unfolding textOf
-replicas-converge m n cs ds inserted deleted =
-    rw (replicas-follow m cs, replicas-follow n ds, meaning-stored (run (initial m) cs), meaning-stored (run (initial n) ds))
-    (convergence m n cs ds inserted deleted)
+replicas-converge a b cs ds inserted deleted =
+    rw (replicas-follow a cs, replicas-follow b ds, meaning-stored (run (startOf a) cs), meaning-stored (run (startOf b) ds))
+    (convergence a b cs ds inserted deleted)

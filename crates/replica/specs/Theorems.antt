@@ -1,10 +1,9 @@
 -- Demand 3 for replicas in memory: lists of the calls whose contracts cite `received`, `inserted` and `deleted`.
-use Prim.Native.Nat.{ℕ}
 use mathlib.Core.Path.{_≡_}
 use mathlib.Core.List.{List, [], _∷_}
 use Rattle.woot.specs.declared.Replica.{Replica}
-use Rattle.woot.specs.State.{initial, meaning, stored}
-use Rattle.woot.specs.Histories.{Call, inserting, deleting, receiving, run, historyOf, SameInserted, SameDeleted}
+use Rattle.woot.specs.State.{meaning, stored}
+use Rattle.woot.specs.Histories.{Call, Begun, startOf, inserting, deleting, receiving, run, historyOf, SameInserted, SameDeleted}
 use Rattle.storage.specs.Replicas.{received, inserted, deleted}
 use Rattle.replica.specs.Texts.{textOf}
 
@@ -21,12 +20,12 @@ ran r (c ∷ cs) = ran (called r c) cs
 
 -- replicas in memory, begun by `Replica::empty`, are at every moment the states of the rules as they are stored
 abbrev pub ReplicasFollow : Type 0
-ReplicasFollow = (n : ℕ) (cs : List Call) → ran (stored (initial n)) cs ≡ stored (run (initial n) cs)
+ReplicasFollow = (b : Begun) (cs : List Call) → ran (stored (startOf b)) cs ≡ stored (run (startOf b) cs)
 
 -- demand 3: the same inserts carried out and the same characters deleted give equal characters and equal visible bytes
 abbrev pub ReplicasConverge : Type 0
 ReplicasConverge =
-    (m n : ℕ) (cs ds : List Call) →
-    SameInserted (historyOf m cs) (historyOf n ds) → SameDeleted (historyOf m cs) (historyOf n ds) →
-    (meaning (ran (stored (initial m)) cs) .characters ≡ meaning (ran (stored (initial n)) ds) .characters)
-    × (textOf (ran (stored (initial m)) cs) ≡ textOf (ran (stored (initial n)) ds))
+    (a b : Begun) (cs ds : List Call) →
+    SameInserted (historyOf a cs) (historyOf b ds) → SameDeleted (historyOf a cs) (historyOf b ds) →
+    (meaning (ran (stored (startOf a)) cs) .characters ≡ meaning (ran (stored (startOf b)) ds) .characters)
+    × (textOf (ran (stored (startOf a)) cs) ≡ textOf (ran (stored (startOf b)) ds))

@@ -9,8 +9,8 @@ use Rattle.woot.specs.declared.Sent.{Sent}
 use Rattle.woot.specs.declared.Sent.the-variants.{Done, Refused}
 use Rattle.woot.specs.State.{meaning, stored}
 use Rattle.woot.specs.Form.{replicaWellFormed}
-use Rattle.woot.specs.Answers.{first}
-use Rattle.woot.specs.Calls.{Outcome, unchanged, decided, afterDrain, insertChecks, generatedInsert, advanced, sendInsert, localInsertWhen}
+use Rattle.woot.specs.Answers.{first, decided}
+use Rattle.woot.specs.Calls.{Outcome, unchanged, afterDrain, insertChecks, generatedInsert, advanced, insertCarried, carryOut, sendInsert, localInsertWhen}
 use Rattle.convergence.proofs.Steps.{All, first-some}
 use Rattle.storage.specs.Replicas.{afterSent, generated, inserted}
 use Rattle.replica.specs.Theorems.{called}
@@ -19,13 +19,13 @@ use Rattle.site_record.specs.Lent.{joined, returned, withClock, siteAfte
 module _ (r : Replica) (g n : ℕ) where
   -- what the call comes to where the checks report m
   come : Option Sent → Outcome Sent
-  come m = decided (meaning r) m (sendInsert (meaning r) (generatedInsert (meaning r) g n))
+  come m = decided (unchanged (meaning r)) m (sendInsert (meaning r) (generatedInsert (meaning r) g n))
 
   Told : Option Sent → Type 0
   Told m = afterSent r (come m .state) (come m .answer) .site ≡ siteAfter (r .site) (come m .answer)
 
   told : (m : Option Sent) → ((a : Sent) → m ≡ some a → Told (some a)) → Told m
-  unfolding come Told decided sendInsert afterDrain advanced afterSent siteAfter stored meaning
+  unfolding come Told decided sendInsert carryOut insertCarried afterDrain advanced afterSent siteAfter stored meaning
   told none t = refl
   told (some a) t = t a refl
 

@@ -8,7 +8,7 @@ use borrow.Author.Tests.{leb-true}
 use lib.Dec.{leb}
 use lib.ListN.{length, take, length-map, length-append}
 use lib.Seq.{length-take-le}
-use Rattle.woot.specs.declared.Identifier.{Identifier}
+use Rattle.woot.specs.declared.Delete.{Delete}
 use Rattle.woot.specs.declared.Site.{Site}
 use Rattle.woot.specs.declared.Operation.{Operation}
 use Rattle.woot.specs.declared.Character.{Character}
@@ -85,7 +85,7 @@ module _ (r : Replica) (full : FullDocument (r .document)) (few : Counts r) wher
       record { characters = p; length-is = sym character-count; pending = kept-pending ps q; waiting-is = sym pending-count }
 
   -- with a character hidden
-  pub hidden-parts : (x : Identifier) (cs : List Character) (ps : List Pending)
+  pub hidden-parts : (x : Delete) (cs : List Character) (ps : List Pending)
       → cs ≡ pad 1024 blankCharacter (integrateDelete (take (r .document .length) (r .document .characters)) x)
       → ps ≡ pad 512 blankPending (take (r .document .waiting) (r .document .pending))
       → Parts (record { characters = cs; length = r .document .length; pending = ps; waiting = r .document .waiting }) (integrateDelete (meaning r .characters) x) (meaning r .pending)

@@ -1,17 +1,16 @@
 // The arrays of a document, built anew from filler, so that what is not in use is filler again. A count above the slots is
 // taken as all of them.
 use woot::Character;
+use woot::Delete;
 use woot::Identifier;
 use woot::Insert;
 use woot::Operation;
 use woot::Pending;
 ghost use mathlib.Core.Path.{_≡_};
-ghost use mathlib.Core.Bool.{cond};
 ghost use mathlib.Core.List.{_++_, _∷_, []};
 ghost use Prim.Native.Nat.{_+_, _≤_, min};
 ghost use lib.ListN.{take};
-ghost use Rattle.woot.specs.Identifiers.{same};
-ghost use Rattle.woot.specs.Operations.{hidden};
+ghost use Rattle.woot.specs.Operations.{deletedBy};
 ghost use Rattle.woot.specs.State.{waiting, blankCharacter, blankPending};
 ghost use Rattle.lists.specs.Padding.{pad};
 ghost use Rattle.woot.specs.Placing.{insertAt, integrateDelete};
@@ -69,11 +68,12 @@ pub fn inserted(cs: [Character; 1024], n: usize, k: usize, c: Character) -> [Cha
     copied(out, at + 1, cs, at, size - at)
 }
 
-// A character, hidden if it is the target.
-fn marked(c: Character, target: Identifier) -> Character
-    ensures { λ r. ⌜ r ≡ cond (same target (c .id)) (hidden c) c ⌝ }
+// What a delete makes of a character: hidden, if it is the target.
+fn marked(c: Character, deletion: Delete) -> Character
+    ensures { λ r. ⌜ r ≡ deletedBy deletion c ⌝ }
 {
     let id = c.id;
+    let target = deletion.target;
     if ranges::same_id(target, id) {
         let previous = c.previous;
         let next = c.next;
@@ -88,16 +88,16 @@ fn marked(c: Character, target: Identifier) -> Character
     c
 }
 
-// The first n characters with the target hidden.
-pub fn hidden(cs: [Character; 1024], n: usize, target: Identifier) -> [Character; 1024]
-    ensures { λ r. ⌜ r ≡ pad 1024 blankCharacter (integrateDelete (take n cs) target) ⌝ }
+// The first n characters with the target of a delete hidden.
+pub fn hidden(cs: [Character; 1024], n: usize, deletion: Delete) -> [Character; 1024]
+    ensures { λ r. ⌜ r ≡ pad 1024 blankCharacter (integrateDelete (take n cs) deletion) ⌝ }
 {
     let end = index::lesser(n, 1024);
     let mut out = [blank_character(); 1024];
     let mut i = 0;
     while i < end {
         let c = cs[i];
-        out[i] = marked(c, target);
+        out[i] = marked(c, deletion);
         i += 1;
     }
     out

@@ -1,8 +1,8 @@
 // A replica after a change: stored anew, so that every slot that is not in use is filler.
 pub mod arrays;
 
+use woot::Delete;
 use woot::Document;
-use woot::Identifier;
 use woot::Operation;
 use woot::Replica;
 ghost use mathlib.Core.Path.{_≡_};
@@ -12,16 +12,16 @@ ghost use Rattle.woot.specs.State.{meaning, stored, counted};
 ghost use Rattle.woot.specs.Placing.{integrateDelete};
 ghost use Rattle.woot.specs.Calls.{withCharacters, withPending};
 
-// The replica with the target hidden. A step of the calls and not a call: they have checked the counts.
-pub fn hidden(r: Replica, target: Identifier) -> Replica
+// The replica with the target of a delete hidden. A step of the calls and not a call: they have checked the counts.
+pub fn hidden(r: Replica, deletion: Delete) -> Replica
     requires { ⌜ counted r ≡ true ⌝ }
-    ensures { λ x. ⌜ x ≡ stored (withCharacters (meaning r) (integrateDelete (meaning r .characters) target)) ⌝ }
+    ensures { λ x. ⌜ x ≡ stored (withCharacters (meaning r) (integrateDelete (meaning r .characters) deletion)) ⌝ }
 {
     let site = r.site;
     let d = r.document;
     let cs = d.characters;
     let ps = d.pending;
-    let characters = arrays::hidden(cs, d.length, target);
+    let characters = arrays::hidden(cs, d.length, deletion);
     let pending = arrays::kept_pending(ps, d.waiting);
     let document = Document {
         characters,

@@ -11,6 +11,7 @@ use borrow.Author.Tests.{lt-ltb, le-ltb}
 use lib.ListN.{length, take, drop, getD, length-append, length-take, take-append-drop, drop-of-length-le}
 use lib.Seq.{drop-cons, getD-take, length-take-le}
 use Rattle.woot.specs.declared.Character.{Character}
+use Rattle.woot.specs.Operations.{isVisible}
 use Rattle.woot.specs.declared.Refusal.the-variants.{Output}
 use Rattle.woot.specs.declared.Written.the-variants.{Length, Refused}
 use Rattle.lists.specs.Lists.{keep}
@@ -25,17 +26,17 @@ use Rattle.visible.specs.Visible.{spelt, writtenIn}
 -- ---- one character
 
 module _ (c : Character) where
-  pub spelt-visible : c .visible ≡ true → spelt c ≡ encode (c .«code_point»)
+  pub spelt-visible : isVisible c ≡ true → spelt c ≡ encode (c .«code_point»)
   unfolding spelt
   spelt-visible e = rw e
 
-  pub spelt-hidden : c .visible ≡ false → spelt c ≡ []
+  pub spelt-hidden : isVisible c ≡ false → spelt c ≡ []
   unfolding spelt
   spelt-hidden e = rw e
 
   pub spelt-bound : (n : ℕ) → n ≡ length (spelt c) → n ≤ 4
   unfolding spelt
-  spelt-bound n e = rw e (go (c .visible))
+  spelt-bound n e = rw e (go (isVisible c))
     where
       go : (b : Bool) → length (cond b (encode (c .«code_point»)) []) ≤ 4
       go true = omega (arith, length-encode (c .«code_point»), length-bounds (c .«code_point») .1)
@@ -43,10 +44,10 @@ module _ (c : Character) where
 
 text-cons : (c : Character) (cs : List Character) → text (c ∷ cs) ≡ spelt c ++ text cs
 unfolding text encoded spelt
-text-cons c cs = go (c .visible)
+text-cons c cs = go (isVisible c)
   where
     rest : List Character
-    rest = keep (λ c. c .visible) cs
+    rest = keep isVisible cs
 
     go : (b : Bool) → encoded (cond b (c ∷ rest) rest) ≡ cond b (encode (c .«code_point»)) [] ++ encoded rest
     go true = refl

@@ -9,6 +9,7 @@ use lib.ListN.{take, drop, getD, length, length-take, drop-of-length-le}
 use lib.Seq.{drop-cons, getD-take, length-take-le}
 use Rattle.woot.specs.declared.Identifier.{Identifier}
 use Rattle.woot.specs.declared.Character.{Character}
+use Rattle.woot.specs.Operations.{isVisible}
 use Rattle.lists.specs.Lists.{keep}
 use Rattle.woot.specs.Placing.{identifiers}
 use Rattle.woot.specs.Calls.{visibles}
@@ -16,12 +17,12 @@ use Rattle.lists.proofs.Padding.{first-or-all}
 
 -- ---- what is left
 
-visible-cons : (c : Character) (cs : List Character) → visibles (c ∷ cs) ≡ cond (c .visible) (c .id ∷ visibles cs) (visibles cs)
+visible-cons : (c : Character) (cs : List Character) → visibles (c ∷ cs) ≡ cond (isVisible c) (c .id ∷ visibles cs) (visibles cs)
 unfolding visibles
-visible-cons c cs = go (c .visible)
+visible-cons c cs = go (isVisible c)
   where
     rest : List Character
-    rest = keep (λ c. c .visible) cs
+    rest = keep isVisible cs
 
     go : (b : Bool) → identifiers (cond b (c ∷ rest) rest) ≡ cond b (c .id ∷ identifiers rest) (identifiers rest)
     go true = refl
@@ -33,15 +34,15 @@ visiblesLeft cs n i = visibles (drop i (take n cs))
 
 module _ (cs : List Character) (n i : ℕ) where
   module _ (d : Character) (h : i < n) (few : n ≤ length cs) where
-    next : visiblesLeft cs n i ≡ cond (getD cs i d .visible) (getD cs i d .id ∷ visiblesLeft cs n (i + 1)) (visiblesLeft cs n (i + 1))
+    next : visiblesLeft cs n i ≡ cond (isVisible (getD cs i d)) (getD cs i d .id ∷ visiblesLeft cs n (i + 1)) (visiblesLeft cs n (i + 1))
     next =
         rw (drop-cons (take n cs) i d (omega (arith, length-take-le n cs few)), getD-take n cs i d h, add-one i)
         (visible-cons (getD cs i d) (drop (suc i) (take n cs)))
 
-    pub one-visible : getD cs i d .visible ≡ true → visiblesLeft cs n i ≡ getD cs i d .id ∷ visiblesLeft cs n (i + 1)
+    pub one-visible : isVisible (getD cs i d) ≡ true → visiblesLeft cs n i ≡ getD cs i d .id ∷ visiblesLeft cs n (i + 1)
     one-visible v = next ∙ rw v
 
-    pub one-hidden : getD cs i d .visible ≡ false → visiblesLeft cs n i ≡ visiblesLeft cs n (i + 1)
+    pub one-hidden : isVisible (getD cs i d) ≡ false → visiblesLeft cs n i ≡ visiblesLeft cs n (i + 1)
     one-hidden v = next ∙ rw v
 
   pub none-left : n ≤ i → visiblesLeft cs n i ≡ []
@@ -69,13 +70,13 @@ module _ {A : Type 0} where
 
 module _ (cs : List Character) (n i k : ℕ) (x : Identifier) where
   module _ (d : Character) (h : i < n) (few : n ≤ length cs) where
-    pub nth-here : getD cs i d .visible ≡ true → k ≡ 0 → getD cs i d .id ≡ getD (visiblesLeft cs n i) k x
+    pub nth-here : isVisible (getD cs i d) ≡ true → k ≡ 0 → getD cs i d .id ≡ getD (visiblesLeft cs n i) k x
     nth-here v z = rw (one-visible cs n i d h few v, z)
 
-    pub nth-counted : getD cs i d .visible ≡ true → (k ≡ 0 → ⊥) → getD (visiblesLeft cs n (i + 1)) (k - 1) x ≡ getD (visiblesLeft cs n i) k x
+    pub nth-counted : isVisible (getD cs i d) ≡ true → (k ≡ 0 → ⊥) → getD (visiblesLeft cs n (i + 1)) (k - 1) x ≡ getD (visiblesLeft cs n i) k x
     nth-counted v z = rw (one-visible cs n i d h few v) (getD-past (getD cs i d .id) (visiblesLeft cs n (i + 1)) k x z)
 
-    pub nth-passed : getD cs i d .visible ≡ false → getD (visiblesLeft cs n (i + 1)) k x ≡ getD (visiblesLeft cs n i) k x
+    pub nth-passed : isVisible (getD cs i d) ≡ false → getD (visiblesLeft cs n (i + 1)) k x ≡ getD (visiblesLeft cs n i) k x
     nth-passed v = rw (one-hidden cs n i d h few v)
 
   pub nth-none : n ≤ i → x ≡ getD (visiblesLeft cs n i) k x

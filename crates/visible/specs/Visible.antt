@@ -8,11 +8,12 @@ use Rattle.woot.specs.declared.Character.{Character}
 use Rattle.woot.specs.declared.Refusal.the-variants.{Output}
 use Rattle.woot.specs.declared.Written.{Written}
 use Rattle.woot.specs.declared.Written.the-variants.{Length, Refused}
+use Rattle.woot.specs.Operations.{isVisible}
 use Rattle.utf8.specs.Encoding.{encode}
 
 -- the bytes of a character that is visible
 unfoldable pub spelt : Character → List ℕ
-spelt c = cond (c .visible) (encode (c .«code_point»)) []
+spelt c = cond (isVisible c) (encode (c .«code_point»)) []
 
 -- the answer for bytes into a slice of the given size: their number, or refusal 12
 unfoldable pub writtenIn : ℕ → List ℕ → Written

@@ -23,7 +23,7 @@ pub fn count(cs: [Character; 1024], n: usize) -> usize
     let mut i = 0;
     while i < end {
         let c = cs[i];
-        if c.visible {
+        if c.is_visible() {
             number += 1;
         }
         i += 1;
@@ -40,7 +40,7 @@ fn identifier(cs: [Character; 1024], n: usize, k: usize, mark: Identifier) -> Id
     let mut i = 0;
     while i < end {
         let c = cs[i];
-        if c.visible {
+        if c.is_visible() {
             if rest == 0 {
                 return c.id;
             }
@@ -73,7 +73,7 @@ pub fn right(cs: [Character; 1024], n: usize, g: usize) -> Identifier
 fn size(c: Character) -> usize
     ensures { λ r. ⌜ r ≡ length (spelt c) ⌝ }
 {
-    if c.visible {
+    if c.is_visible() {
         return utf8::encoded_length(c.code_point);
     }
     0
@@ -98,7 +98,7 @@ fn text_length(cs: [Character; 1024], n: usize) -> usize
 fn put(c: Character, out: &mut [u8], at: usize) -> usize
     ensures { λ r. ⌜ (r ≡ past (now (out .entry)) at (spelt c)) × (now (out .exit) ≡ placed (now (out .entry)) at (spelt c)) ⌝ }
 {
-    if !c.visible {
+    if !c.is_visible() {
         return at;
     }
     utf8::write(c.code_point, out, at)

@@ -21,7 +21,7 @@ returns : tie.Need-returns
 returns c = rw (c .before .before .o .given .1) (c .place-insert .ensures)
 
 returns-2 : tie.Need-returns-2
-returns-2 c = rw (c .before .before .before .o2 .given .1) (c .carry-delete .ensures ∙ sym (carried-delete _ _ _ _ _))
+returns-2 c = rw (c .before .before .o2 .given .1) (c .carry-delete .ensures ∙ sym (carried-delete _ _ _ _ _))
 
 pub carry-spec : {M : Type 1} → statement M
 carry-spec =

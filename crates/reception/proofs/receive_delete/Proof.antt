@@ -44,6 +44,9 @@ mul-c c = omega (arith, within c)
 element-copy-out-c : tie.Need-element-copy-out-c
 element-copy-out-c c = within c
 
+is-visible-requires : tie.Need-is-visible-requires
+is-visible-requires c κs = search needs
+
 kept-requires : tie.Need-kept-requires
 kept-requires c κs = search needs
 
@@ -52,7 +55,7 @@ returns c =
     let s = c .before .before .before .before .before .before .before .before .before .before in
     let h = at (c .before .before .before .before) in
     c .kept .ensures
-    ∙ sym (delete-again _ (s .pre .0 .form) _ (s .pre .1) _ (character-member _ _ _ (full s) (s .pre .0) _ (ranged s) _ h _) (character-named _ _ _ (full s) (s .pre .0) _ (ranged s) _ h _) (not-true _ (c .before .if1 .taken)))
+    ∙ sym (delete-again _ (s .pre .0 .form) _ (s .pre .1) _ (character-member _ _ _ (full s) (s .pre .0) _ (ranged s) _ h _) (character-named _ _ _ (full s) (s .pre .0) _ (ranged s) _ h _) (sym (c .before .before .is-visible .ensures) ∙ not-true _ (c .before .if1 .taken)))
 
 hidden-requires : tie.Need-hidden-requires
 hidden-requires c κs = form-counted _ (c .before .before .before .before .before .before .before .before .before .pre .0 .form)
@@ -75,7 +78,7 @@ returns-2 c =
     let s = c .before .before .before .before .before .before .before .before .before .before in
     let h = at (c .before .before .before .before) in
     rw (c .hidden .ensures)
-    (sym (delete-done _ (s .pre .0 .form) _ (s .pre .1) _ (character-member _ _ _ (full s) (s .pre .0) _ (ranged s) _ h _) (character-named _ _ _ (full s) (s .pre .0) _ (ranged s) _ h _) (not-false _ (c .before .if1 .left))))
+    (sym (delete-done _ (s .pre .0 .form) _ (s .pre .1) _ (character-member _ _ _ (full s) (s .pre .0) _ (ranged s) _ h _) (character-named _ _ _ (full s) (s .pre .0) _ (ranged s) _ h _) (sym (c .before .before .is-visible .ensures) ∙ not-false _ (c .before .if1 .left))))
 
 returns-3 : tie.Need-returns-3
 returns-3 c = search needs
@@ -88,6 +91,7 @@ receive-delete-spec =
     enum-known-k
     mul-c
     element-copy-out-c
+    is-visible-requires
     kept-requires
     returns
     hidden-requires

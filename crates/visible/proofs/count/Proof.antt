@@ -1,5 +1,5 @@
 -- `visible::count` meets its contract. The loop's invariant: the count, with the visible ones that are left, is all.
-use mathlib.Core.Path.{_≡_, ap}
+use mathlib.Core.Path.{_≡_, sym, ap, _∙_}
 use mathlib.Core.Logic.{⊎-elim}
 use Prim.Native.Nat.{_+_, _-_, _≤_}
 use native.Mathlib.Omega.{arith}
@@ -28,6 +28,9 @@ mul-c c = omega arith
 array-copy-out-c : tie.Need-array-copy-out-c Inv-loop μ-loop
 array-copy-out-c c = omega arith
 
+is-visible-requires : tie.Need-is-visible-requires Inv-loop μ-loop
+is-visible-requires c κs = search needs
+
 add-number : tie.Need-add-number Inv-loop μ-loop
 add-number c = omega arith
 
@@ -39,12 +42,13 @@ loop-less c = omega arith
 
 loop-again : tie.Need-loop-again Inv-loop μ-loop
 loop-again c =
-    let a = c .before .before .before .before .before .args in
-    let l = c .before .before .before .loop in
-    let end = c .before .before .before .before .lesser in
+    let a = c .before .before .before .before .before .before .args in
+    let l = c .before .before .before .before .loop in
+    let end = c .before .before .before .before .before .lesser in
+    let asked = sym (c .before .is-visible .ensures) in
     let few : end .result ≤ length (a .t1) = omega (arith, end .ensures) in
-    ⊎-elim (λ w. (omega arith, omega arith, l .inv .2, omega (arith, ap length (one-visible (a .t1) (end .result) (l .i) _ (omega arith) few (w .0 .taken)))))
-    (λ w. (omega arith, omega arith, l .inv .2, omega (arith, ap length (one-hidden (a .t1) (end .result) (l .i) _ (omega arith) few (w .0 .left)))))
+    ⊎-elim (λ w. (omega arith, omega arith, l .inv .2, omega (arith, ap length (one-visible (a .t1) (end .result) (l .i) _ (omega arith) few (asked ∙ w .0 .taken)))))
+    (λ w. (omega arith, omega arith, l .inv .2, omega (arith, ap length (one-hidden (a .t1) (end .result) (l .i) _ (omega arith) few (asked ∙ w .0 .left)))))
     (c .if1 .came)
 
 returns : tie.Need-returns Inv-loop μ-loop
@@ -64,6 +68,7 @@ count-spec =
     loop-holds
     mul-c
     array-copy-out-c
+    is-visible-requires
     add-number
     add-i
     loop-less

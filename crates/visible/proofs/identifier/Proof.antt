@@ -1,6 +1,6 @@
 -- `visible::identifier` meets its contract. The loop's invariant: what is left of the count, sought among the visible
 -- ones that are left, gives what the whole search gives.
-use mathlib.Core.Path.{_≡_, refl, ap, _∙_}
+use mathlib.Core.Path.{_≡_, refl, sym, ap, _∙_}
 use mathlib.Core.List.{List}
 use mathlib.Core.Logic.{⊎-elim}
 use Prim.Native.Nat.{_-_, _≤_}
@@ -39,13 +39,16 @@ mul-c c = omega arith
 array-copy-out-c : tie.Need-array-copy-out-c Inv-loop μ-loop
 array-copy-out-c c = omega arith
 
+is-visible-requires : tie.Need-is-visible-requires Inv-loop μ-loop
+is-visible-requires c κs = search needs
+
 returns : tie.Need-returns Inv-loop μ-loop
 returns c =
-    let b = c .before .before .before .before .before .before in
+    let b = c .before .before .before .before .before .before .before in
     let a = b .before .args in
-    let l = c .before .before .before .before .before .loop in
+    let l = c .before .before .before .before .before .before .loop in
     let few : b .lesser .result ≤ length (a .t1) = omega (arith, b .lesser .ensures) in
-    nth-here (a .t1) (b .lesser .result) (l .i) (l .rest) (a .mark) _ (omega arith) few (c .before .before .if1 .taken) (c .before .if2 .taken) ∙ l .inv .2 ∙ whole b (l .inv .1)
+    nth-here (a .t1) (b .lesser .result) (l .i) (l .rest) (a .mark) _ (omega arith) few (sym (c .before .before .before .is-visible .ensures) ∙ c .before .before .if1 .taken) (c .before .if2 .taken) ∙ l .inv .2 ∙ whole b (l .inv .1)
 
 sub-rest : tie.Need-sub-rest Inv-loop μ-loop
 sub-rest c = omega arith
@@ -58,12 +61,13 @@ loop-less c = omega arith
 
 loop-again : tie.Need-loop-again Inv-loop μ-loop
 loop-again c =
-    let b = c .before .before .before .before in
+    let b = c .before .before .before .before .before in
     let a = b .before .args in
-    let l = c .before .before .before .loop in
+    let l = c .before .before .before .before .loop in
+    let asked = sym (c .before .is-visible .ensures) in
     let few : b .lesser .result ≤ length (a .t1) = omega (arith, b .lesser .ensures) in
-    ⊎-elim (λ w. (omega arith, l .inv .1, rw (w .2) (nth-counted (a .t1) (b .lesser .result) (l .i) (l .rest) (a .mark) _ (omega arith) few (w .0 .taken) (w .1 .left) ∙ l .inv .2)))
-    (λ w. (omega arith, l .inv .1, rw (w .1) (nth-passed (a .t1) (b .lesser .result) (l .i) (l .rest) (a .mark) _ (omega arith) few (w .0 .left) ∙ l .inv .2)))
+    ⊎-elim (λ w. (omega arith, l .inv .1, rw (w .2) (nth-counted (a .t1) (b .lesser .result) (l .i) (l .rest) (a .mark) _ (omega arith) few (asked ∙ w .0 .taken) (w .1 .left) ∙ l .inv .2)))
+    (λ w. (omega arith, l .inv .1, rw (w .1) (nth-passed (a .t1) (b .lesser .result) (l .i) (l .rest) (a .mark) _ (omega arith) few (asked ∙ w .0 .left) ∙ l .inv .2)))
     (c .if1 .came)
 
 returns-2 : tie.Need-returns-2 Inv-loop μ-loop
@@ -82,6 +86,7 @@ identifier-spec =
     loop-holds
     mul-c
     array-copy-out-c
+    is-visible-requires
     returns
     sub-rest
     add-i

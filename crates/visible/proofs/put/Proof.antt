@@ -1,14 +1,17 @@
 -- `visible::put` meets its contract: a hidden character leaves the slice and the offset.
-use mathlib.Core.Path.{sym}
+use mathlib.Core.Path.{sym, _∙_}
 use borrow.Author.Needs.{needs}
 use borrow.Author.Tests.{not-true, not-false}
 use Rattle.visible.proofs.Texts.{spelt-visible, spelt-hidden, placed-none, past-none}
 use Rattle.visible.proofs.put.Statement.{statement}
 use Rattle.visible.proofs.put.Tie as tie
 
+is-visible-requires : tie.Need-is-visible-requires
+is-visible-requires c κs = search needs
+
 returns : tie.Need-returns
 returns c =
-    rw (spelt-hidden (c .before .before .before .args .c) (not-true _ (c .if1 .taken))) (sym (past-none _ _), sym (placed-none _ _))
+    rw (spelt-hidden (c .before .before .before .args .c) (sym (c .before .is-visible .ensures) ∙ not-true _ (c .if1 .taken))) (sym (past-none _ _), sym (placed-none _ _))
 
 write-requires : tie.Need-write-requires
 write-requires c κs = search needs
@@ -20,7 +23,7 @@ returns-2 : tie.Need-returns-2
 returns-2 c =
     let w = c .before .before .write .ensures in
     let d = c .before .before .before .before .before .before .before .args .c in
-    rw (spelt-visible d (not-false _ (c .before .before .before .before .if1 .left))) (w .0, w .1)
+    rw (spelt-visible d (sym (c .before .before .before .before .before .is-visible .ensures) ∙ not-false _ (c .before .before .before .before .if1 .left))) (w .0, w .1)
 
 pub put-spec : {M : Type 1} → statement M
-put-spec = tie.close (tie.spec returns write-requires same-length returns-2)
+put-spec = tie.close (tie.spec is-visible-requires returns write-requires same-length returns-2)
