@@ -26,3 +26,4 @@ pub mod Grown
 pub mod Convergence
 pub mod Isolation
 pub mod Replies
+pub mod Writing

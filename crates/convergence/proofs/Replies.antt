@@ -49,7 +49,7 @@ refusal-of Output = refl
 pub numbers-differ : NumbersDiffer
 numbers-differ r q e = sym (refusal-of r) ∙ ap refusalOf e ∙ refusal-of q
 
-positive : (r : Refusal) → 0 ≡ number r → ⊥
+pub positive : (r : Refusal) → 0 ≡ number r → ⊥
 positive Layout e = omega arith
 positive Range e = omega arith
 positive Form e = omega arith
@@ -99,7 +99,7 @@ delete-numbers formed s p r =
 
 -- ---- by word
 
-none-first : {A : Type 0} (cs : List (Check A)) → NoneHolds cs → first cs ≡ none
+pub none-first : {A : Type 0} (cs : List (Check A)) → NoneHolds cs → first cs ≡ none
 none-first [] w = refl
 none-first (c ∷ cs) w = rw (w .0) (none-first cs (w .1))
 

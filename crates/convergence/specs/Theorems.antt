@@ -14,14 +14,18 @@ use Rattle.woot.specs.declared.Refusal.{Refusal}
 use Rattle.woot.specs.declared.Refusal.the-variants.{Unplaceable, SenderFull, DocumentFull}
 use Rattle.woot.specs.declared.Answer.the-variants.{Deferred, Duplicate, Refused}
 use Rattle.woot.specs.declared.Sent.the-variants.{Refused as sentRefused}
+use Rattle.woot.specs.declared.Written.{Written}
+use Rattle.woot.specs.declared.Written.the-variants.{Length, Refused as writtenRefused}
+use Rattle.output.specs.Output.{placed}
 use Rattle.woot.specs.Operations.{sender, origin, isVisible, inserts}
 use Rattle.woot.specs.Ranges.{siteNumber}
 use Rattle.woot.specs.State.{State, initial, pendingSlots}
 use Rattle.woot.specs.Placing.{identifiers, above, Interval, adjacent, candidates, narrowed, position}
 use Rattle.woot.specs.Pending.{executable, crossed, unplaceable, integrate, sentBy, Taken, earliest, Drained, andIntegrated, andDiscarded, drained, drain}
 use Rattle.woot.specs.Form.{wellFormed}
-use Rattle.woot.specs.Answers.{number, done, waits, reply, answerOf, NoneHolds, Reported}
+use Rattle.woot.specs.Answers.{number, done, waits, reply, answerOf, Check, NoneHolds, Reported}
 use Rattle.woot.specs.Calls.{unchanged, integrated, receiveChecks, receiveWhen, receive, insertChecks, localInsertWhen, deleteChecks, localDeleteWhen}
+use Rattle.woot.specs.Writing.{writingChecks, writtenAs, outputAfter, writtenNumber}
 use Rattle.woot.specs.Text.{text}
 use Rattle.woot.specs.Histories.{Call, Begun, startOf, outcome, run, drainedBy, discardedBy, deferredBy, InsertedIn, DeletedIn, charactersAfter, historyOf, SameInserted, SameDeleted}
 use Rattle.convergence.specs.Agreement.{Grown, OneMeaning}
@@ -129,6 +133,20 @@ RefusedUnchanged =
 -- and so does a known one
 abbrev pub KnownUnchanged : Type 0
 KnownUnchanged = (s : State) (c : Call) → outcome s c .answer ≡ Duplicate → outcome s c ≡ unchanged s Duplicate
+
+-- a writer answers refusal r exactly when its condition holds and none before it, by its number too, and changes no byte
+abbrev pub WritingRefuses : Type 0
+WritingRefuses =
+    (own : List (Check Written)) (bytes out : List ℕ) (r : Refusal) →
+    ((writtenAs own bytes out ≡ writtenRefused r) ↔ Reported (writtenRefused r) (writingChecks own bytes out))
+    × ((writtenNumber (writtenAs own bytes out) ≡ number r) ↔ Reported (writtenRefused r) (writingChecks own bytes out))
+    × (writtenAs own bytes out ≡ writtenRefused r → outputAfter own bytes out ≡ out)
+
+-- and writes, and answers the length, where no condition holds
+abbrev pub WritingWrites : Type 0
+WritingWrites =
+    (own : List (Check Written)) (bytes out : List ℕ) → NoneHolds (writingChecks own bytes out) →
+    (writtenAs own bytes out ≡ Length (length bytes)) × (outputAfter own bytes out ≡ placed out 0 bytes)
 
 -- ---- the form, on any state in form
 

@@ -21,7 +21,7 @@ use Rattle.utf8.proofs.Laws.{length-encode, length-bounds}
 use Rattle.lists.proofs.Tests.{side}
 use Rattle.output.specs.Output.{placed, past}
 use Rattle.output.proofs.Laws.{placed-append, placed-room, past-room, placed-short, past-short, length-placed}
-use Rattle.visible.specs.Visible.{spelt, writtenIn}
+use Rattle.visible.specs.Visible.{spelt}
 
 -- ---- one character
 
@@ -100,14 +100,3 @@ module _ (out : List ℕ) (at : ℕ) where
       go : (at + 0 ≤ length out) ⊎ (length out < at + 0) → placed out at [] ≡ out
       go (inl h) = placed-room out at [] h ∙ rw (add-zero at, append-nil) (take-append-drop at out)
       go (inr h) = placed-short out at [] h
-
--- ---- the answer
-
-module _ (size : ℕ) (bytes : List ℕ) where
-  pub written-short : size < length bytes → Refused Output ≡ writtenIn size bytes
-  unfolding writtenIn
-  written-short h = rw (lt-ltb size (length bytes) h)
-
-  pub written-room : length bytes ≤ size → Length (length bytes) ≡ writtenIn size bytes
-  unfolding writtenIn
-  written-room h = rw (le-ltb size (length bytes) h)

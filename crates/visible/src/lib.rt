@@ -12,7 +12,8 @@ ghost use Rattle.output.specs.Output.{placed, past};
 ghost use Rattle.woot.specs.Identifiers.{begin, end};
 ghost use Rattle.woot.specs.Calls.{visibles};
 ghost use Rattle.woot.specs.Text.{text};
-ghost use Rattle.visible.specs.Visible.{spelt, writtenIn};
+ghost use Rattle.woot.specs.Writing.{writtenAs, outputAfter};
+ghost use Rattle.visible.specs.Visible.{spelt};
 
 // How many of the first n characters are visible.
 pub fn count(cs: [Character; 1024], n: usize) -> usize
@@ -120,7 +121,7 @@ fn put_text(cs: [Character; 1024], n: usize, out: &mut [u8])
 
 // Writes the text of the first n characters, or refuses where the slice is too short, and leaves it as it was then.
 pub fn write_text(cs: [Character; 1024], n: usize, out: &mut [u8]) -> Written
-    ensures { λ r. ⌜ (r ≡ writtenIn (length (now (out .entry))) (text (take n cs))) × (now (out .exit) ≡ placed (now (out .entry)) 0 (text (take n cs))) ⌝ }
+    ensures { λ r. ⌜ (r ≡ writtenAs [] (text (take n cs)) (now (out .entry))) × (now (out .exit) ≡ outputAfter [] (text (take n cs)) (now (out .entry))) ⌝ }
 {
     let end = index::lesser(n, 1024);
     let bytes = text_length(cs, end);

@@ -7,6 +7,7 @@ pub mod Placing
 pub mod Pending
 pub mod Form
 pub mod Answers
+pub mod Writing
 pub mod Calls
 pub mod Text
 pub mod Histories

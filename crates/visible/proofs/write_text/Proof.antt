@@ -1,12 +1,10 @@
 -- `visible::write_text` meets its contract: the text's length decides, and a text that has no room is not placed.
-use mathlib.Core.Path.{_≡_, sym, ap, _∙_}
+use mathlib.Core.Path.{_≡_}
 use lib.ListN.{take}
 use native.Mathlib.Omega.{arith}
 use borrow.Author.Needs.{needs}
-use Rattle.woot.specs.declared.Written.the-variants.{Length}
 use Rattle.lists.proofs.Padding.{first-or-all}
-use Rattle.output.proofs.Laws.{placed-short}
-use Rattle.visible.proofs.Texts.{written-short, written-room}
+use Rattle.convergence.proofs.Writing.{ends-short, ends-written}
 use Rattle.visible.proofs.write_text.Statement.{statement}
 use Rattle.visible.proofs.write_text.Tie as tie
 
@@ -25,7 +23,7 @@ first c =
 returns : tie.Need-returns
 returns c =
     let e = c .before .text-length .ensures in
-    rw (← first (c .before .before)) (written-short _ _ (omega (arith, e)), sym (placed-short _ 0 _ (omega (arith, e))))
+    rw (← first (c .before .before)) (ends-short _ _ (omega (arith, e)))
 
 put-text-requires : tie.Need-put-text-requires
 put-text-requires c κs = (omega (arith, c .before .before .before .lesser .ensures), omega (arith, c .before .before .text-length .ensures))
@@ -37,7 +35,7 @@ returns-2 : tie.Need-returns-2
 returns-2 c =
     let e = c .before .before .before .before .before .text-length .ensures in
     rw (← first (c .before .before .before .before .before .before))
-    (ap Length e ∙ written-room _ _ (omega (arith, e)), c .before .before .put-text .ensures)
+    (ends-written _ _ _ _ e (c .before .before .put-text .ensures) (omega (arith, e)))
 
 pub write-text-spec : {M : Type 1} → statement M
 write-text-spec =
