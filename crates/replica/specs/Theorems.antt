@@ -1,8 +1,14 @@
 -- Demand 3 for replicas in memory: lists of the calls whose contracts cite `received`, `inserted` and `deleted`.
+use Prim.Native.Nat.{ℕ}
 use mathlib.Core.Path.{_≡_}
+use mathlib.Core.Bool.{true}
 use mathlib.Core.List.{List, [], _∷_}
 use Rattle.woot.specs.declared.Replica.{Replica}
-use Rattle.woot.specs.State.{meaning, stored}
+use Rattle.woot.specs.declared.Answer.{Answer}
+use Rattle.woot.specs.State.{initial, meaning, stored}
+use Rattle.woot.specs.Ranges.{siteNumber}
+use Rattle.woot.specs.Form.{replicaWellFormed}
+use Rattle.woot.specs.Answers.{changes, answerOf}
 use Rattle.woot.specs.Histories.{Call, Begun, startOf, inserting, deleting, receiving, run, historyOf, SameInserted, SameDeleted}
 use Rattle.storage.specs.Replicas.{received, inserted, deleted}
 use Rattle.replica.specs.Texts.{textOf}
@@ -17,6 +23,24 @@ called r (receiving o) = received r o .replica
 abbrev pub ran : Replica → List Call → Replica
 ran r [] = r
 ran r (c ∷ cs) = ran (called r c) cs
+
+-- what it answers
+unfoldable pub answerTo : Replica → Call → Answer
+answerTo r (inserting g n) = answerOf (inserted r g n .answer)
+answerTo r (deleting p) = answerOf (deleted r p .answer)
+answerTo r (receiving o) = received r o .answer
+
+-- "every call keeps the form", of what runs: a replica in form comes back in form
+abbrev pub ReplicasFormed : Type 0
+ReplicasFormed = (r : Replica) (c : Call) → replicaWellFormed r ≡ true → replicaWellFormed (called r c) ≡ true
+
+-- and so does what comes back with done or waits, whatever was handed
+abbrev pub AcceptedFormed : Type 0
+AcceptedFormed = (r : Replica) (c : Call) → changes (answerTo r c) ≡ true → replicaWellFormed (called r c) ≡ true
+
+-- what `Replica::empty` begins is in form when its number is one of a site
+abbrev pub EmptyReplicaFormed : Type 0
+EmptyReplicaFormed = (n : ℕ) → replicaWellFormed (stored (initial n)) ≡ siteNumber n
 
 -- replicas in memory, begun by `Replica::empty`, are at every moment the states of the rules as they are stored
 abbrev pub ReplicasFollow : Type 0

@@ -61,6 +61,13 @@ reply Deferred = record { word = waits; integrated = 0; discarded = 0; refusal =
 reply Duplicate = record { word = known; integrated = 0; discarded = 0; refusal = 0 }
 reply (Refused r) = record { word = refused; integrated = 0; discarded = 0; refusal = number r }
 
+-- done and waits change the replica; known and refusals leave it
+unfoldable pub changes : Answer → Bool
+changes (Done n m) = true
+changes Deferred = true
+changes Duplicate = false
+changes (Refused r) = false
+
 -- the answer of a call that sends, without the operation
 unfoldable pub answerOf : Sent → Answer
 answerOf (sentDone o n m) = Done n m
