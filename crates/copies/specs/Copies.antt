@@ -18,7 +18,7 @@ use Rattle.woot.specs.Histories.{inserting, deleting, receiving, outcome, Call 
 use Rattle.storage.specs.Replicas.{received, inserted, deleted}
 use Rattle.replica.specs.Theorems.{called}
 use Rattle.site_record.specs.declared.Returned.{Returned}
-use Rattle.site_record.specs.Lent.{joined, returned, siteAfter}
+use Rattle.site_record.specs.Lent.{together, returned, siteAfter}
 use Rattle.codec.specs.Calls.{saidBy}
 use Rattle.report.specs.Calls.{answered}
 use Rattle.saved.specs.declared.LoadAnswer.{LoadAnswer}
@@ -77,7 +77,7 @@ afterEffect bytes e = asBytes (bytesAfter (wordOf e) bytes (take (writtenRead (p
 
 -- inserting on the lent record: the record as it is left, and the document that came back
 unfoldable pub afterRecord : Replica → Returned → Replica
-afterRecord r x = joined (siteAfter (r .site) (x .answer)) (x .document)
+afterRecord r x = together (siteAfter (r .site) (x .answer)) (x .document)
 
 -- saved, the copy is the bytes at the front of the slice
 unfoldable pub afterSaving : Replica → List ℕ → Written → Copy

@@ -14,7 +14,9 @@ use Rattle.woot.specs.Calls.{Outcome, unchanged, afterDrain, insertChecks, gene
 use Rattle.convergence.proofs.Steps.{All, first-some}
 use Rattle.storage.specs.Replicas.{afterSent, generated, inserted}
 use Rattle.replica.specs.Theorems.{called}
-use Rattle.site_record.specs.Lent.{joined, returned, withClock, siteAfter, LentFollows}
+use Rattle.woot.specs.Histories.{inserting}
+use Rattle.replica.proofs.Kept.{replicas-formed}
+use Rattle.site_record.specs.Lent.{together, returned, withClock, siteAfter, LentFollows, RecordFormed}
 
 module _ (r : Replica) (g n : ℕ) where
   -- what the call comes to where the checks report m
@@ -50,4 +52,7 @@ clock-after r g n = ap (λ t. withClock (r .site) (t .clock)) (site-after r g n)
 
 pub lent-follows : LentFollows
 unfolding returned called
-lent-follows s d g n = λ i. joined (sym (site-after (joined s d) g n) i) (inserted (joined s d) g n .replica .document)
+lent-follows s d g n = λ i. together (sym (site-after (together s d) g n) i) (inserted (together s d) g n .replica .document)
+
+pub record-formed : RecordFormed
+record-formed s d g n h = rw (lent-follows s d g n) (replicas-formed (together s d) (inserting g n) h)

@@ -1,7 +1,7 @@
 -- `site_record::insert_with` takes apart what the call on replicas returns.
 use mathlib.Core.Path.{refl}
 use borrow.Author.Needs.{needs}
-use Rattle.site_record.specs.Lent.{joined, returned}
+use Rattle.site_record.specs.Lent.{together, returned}
 use Rattle.site_record.proofs.Sites.{clock-after}
 use Rattle.site_record.proofs.insert_with.Statement.{statement}
 use Rattle.site_record.proofs.insert_with.Tie as tie
@@ -14,7 +14,7 @@ unfolding returned
 returns c =
     let e = c .before .before .insert .ensures in
     let a = c .before .before .before .args in
-    rw e (refl, clock-after (joined (a .site) (a .document)) (a .point) (a .code-point))
+    rw e (refl, clock-after (together (a .site) (a .document)) (a .point) (a .code-point))
 
 pub insert-with-spec : {M : Type 1} → statement M
 insert-with-spec = tie.close (tie.spec insert-requires returns)
