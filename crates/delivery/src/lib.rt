@@ -18,7 +18,7 @@ ghost use Rattle.woot.specs.Placing.{insertAt, integrateDelete, integrateInsert
 ghost use Rattle.woot.specs.Pending.{executable, earliest};
 ghost use Rattle.index.specs.declared.Found.the-variants.{At};
 ghost use Rattle.storage.specs.Edit.{removed};
-ghost use Rattle.pending.specs.Ready.{firstIndex};
+ghost use Rattle.index.specs.Keys.{firstIndex};
 ghost use Rattle.delivery.specs.Work.{charactersIn, pendingIn, workOf, Tidy, Workable, Due, carried, stepped, finished, Placed};
 ghost use mathlib.Core.Bool.{true};
 ghost use Rattle.woot.specs.State.{meaning, counted};

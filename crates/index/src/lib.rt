@@ -5,7 +5,7 @@ use woot::Identifier;
 ghost use mathlib.Core.Path.{_≡_};
 ghost use Prim.Native.Nat.{min};
 ghost use lib.ListN.{take};
-ghost use Rattle.index.specs.Keys.{key, placeIn, Small, AllSmall};
+ghost use Rattle.index.specs.Keys.{key, found, placeIn, Small, AllSmall};
 ghost use Rattle.index.specs.Packing.{packed, placesIn};
 ghost use Rattle.index.specs.Index.{indexOf};
 
@@ -38,6 +38,20 @@ pub fn key(x: Identifier) -> u32
     x.site as u32 * 65536 + x.clock as u32
 }
 
+// The first index of a key. Every search among keys, of characters or of pending inserts, is this one.
+pub fn find(keys: &[u32], key: u32) -> Found
+    ensures { λ r. ⌜ r ≡ found key (now (keys .entry)) ⌝ }
+{
+    let mut i = 0;
+    while i < keys.len() {
+        if keys[i] == key {
+            return Found::At(i);
+        }
+        i += 1;
+    }
+    Found::Nothing
+}
+
 // The place of the character with the given key: 0 for the begin mark, one past the last for the end mark, further where
 // there is none.
 pub fn place_of(ids: &[u32], key: u32) -> usize
@@ -46,18 +60,16 @@ pub fn place_of(ids: &[u32], key: u32) -> usize
     if key == 0 {
         return 0;
     }
-    let mut i = 0;
-    while i < ids.len() {
-        if ids[i] == key {
-            return i + 1;
+    match find(ids, key) {
+        Found::At(i) => i + 1,
+        Found::Nothing => {
+            let end = ids.len() + 1;
+            if key == 1 {
+                return end;
+            }
+            end + 1
         }
-        i += 1;
     }
-    let end = i + 1;
-    if key == 1 {
-        return end;
-    }
-    end + 1
 }
 
 // The same, where the place of the end mark's key, which most inserts name, is at hand.

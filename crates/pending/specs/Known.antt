@@ -12,7 +12,7 @@ use Rattle.pending.specs.declared.known.Holder.{Holder}
 use Rattle.pending.specs.declared.known.Holder.the-variants.{Character, Pending, Nobody}
 use Rattle.pending.specs.declared.known.Seen.{Seen}
 use Rattle.pending.specs.declared.known.Seen.the-variants.{New, Same, Other}
-use Rattle.pending.specs.Queue.{found}
+use Rattle.index.specs.Keys.{found}
 
 -- a character before a pending insert
 unfoldable pub firstHolder : Found → Found → Holder

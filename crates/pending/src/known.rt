@@ -11,8 +11,8 @@ use woot::Operation;
 ghost use mathlib.Core.Path.{_≡_};
 ghost use lib.ListN.{take};
 ghost use Rattle.woot.specs.Operations.{origin, sameInsert};
-ghost use Rattle.index.specs.Keys.{key};
-ghost use Rattle.pending.specs.Queue.{found, hasDelete};
+ghost use Rattle.index.specs.Keys.{key, found};
+ghost use Rattle.pending.specs.Queue.{hasDelete};
 ghost use Rattle.pending.specs.Known.{holderIn, comparedTo, comparedWith};
 
 // Who has an identifier: the character or the pending insert at an index, or nobody.
@@ -33,9 +33,9 @@ pub enum Seen {
 fn holder_among(ids: &[u32], own: &[u32], key: u32) -> Holder
     ensures { λ r. ⌜ r ≡ holderIn (now (ids .entry)) (now (own .entry)) key ⌝ }
 {
-    match queue::find(ids, key) {
+    match index::find(ids, key) {
         Found::At(k) => Holder::Character(k),
-        Found::Nothing => match queue::find(own, key) {
+        Found::Nothing => match index::find(own, key) {
             Found::At(j) => Holder::Pending(j),
             Found::Nothing => Holder::Nobody,
         },
@@ -59,7 +59,7 @@ pub fn character_of(x: Index, n: usize, id: Identifier) -> Found
 {
     let ids = x.ids;
     let end = index::lesser(n, 1024);
-    queue::find(&ids[..end], index::key(id))
+    index::find(&ids[..end], index::key(id))
 }
 
 // Whether an equal delete is among the first w pending operations.

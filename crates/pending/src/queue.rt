@@ -1,5 +1,4 @@
 // The pending operations packed into numbers: a call packs them once, and lends the numbers to every search that it makes.
-use index::Found;
 use woot::Operation;
 use woot::Pending;
 ghost use mathlib.Core.Path.{_≡_};
@@ -8,7 +7,7 @@ ghost use lib.Dec.{eqb};
 ghost use lib.ListN.{length, take};
 ghost use Rattle.lists.specs.Lists.{keep};
 ghost use Rattle.storage.specs.Edit.{operations};
-ghost use Rattle.pending.specs.Queue.{entryOf, packed, found, hasDelete};
+ghost use Rattle.pending.specs.Queue.{entryOf, packed, hasDelete};
 
 // A pending operation as numbers: of an insert its own key, its previous's and its next's, of a delete 0, its target's key
 // and 0; and the sender.
@@ -111,20 +110,6 @@ pub fn count_inserts(own: &[u32]) -> usize
         i += 1;
     }
     count
-}
-
-// The first of the operations whose own key is the given one.
-pub fn find(own: &[u32], key: u32) -> Found
-    ensures { λ r. ⌜ r ≡ found key (now (own .entry)) ⌝ }
-{
-    let mut i = 0;
-    while i < own.len() {
-        if own[i] == key {
-            return Found::At(i);
-        }
-        i += 1;
-    }
-    Found::Nothing
 }
 
 // Whether the numbers of an operation are those of a delete of the key by the sender.

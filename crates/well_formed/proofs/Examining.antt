@@ -23,7 +23,7 @@ use Rattle.convergence.proofs.Identifiers.{eq-same}
 use Rattle.lists.proofs.Tests.{or-false}
 use Rattle.convergence.proofs.Forms.{Formed, formed, known-ids, known-length}
 use Rattle.convergence.proofs.Steps.{any-map}
-use Rattle.index.specs.Keys.{key, AllSmall, keys}
+use Rattle.index.specs.Keys.{key, AllSmall, keys, found}
 use Rattle.index.proofs.Keys.{character-small, all-range-small}
 use Rattle.index.specs.declared.Index.{Index}
 use Rattle.pending.specs.declared.queue.Queue.{Queue}
@@ -32,7 +32,7 @@ use Rattle.well_formed.specs.declared.Checked.{Checked}
 use Rattle.pending.specs.declared.known.Holder.{Holder}
 use Rattle.pending.specs.declared.known.Holder.the-variants.{Character as ofCharacter, Pending as ofPending, Nobody}
 use Rattle.index.specs.Index.{indexOf}
-use Rattle.pending.specs.Queue.{ownKey, firstKey, packed, found}
+use Rattle.pending.specs.Queue.{ownKey, firstKey, packed}
 use Rattle.pending.specs.Known.{holderIn}
 use Rattle.well_formed.specs.Form.{formedWith, checked}
 use Rattle.well_formed.specs.Examined.{Examined}

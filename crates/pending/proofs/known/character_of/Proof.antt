@@ -2,8 +2,7 @@
 use native.Mathlib.Omega.{arith}
 use mathlib.Core.Path.{ap}
 use lib.ListN.{length-take}
-use Rattle.index.specs.Keys.{key}
-use Rattle.pending.specs.Queue.{found}
+use Rattle.index.specs.Keys.{key, found}
 use Rattle.lists.proofs.Padding.{first-or-all}
 use Rattle.index.proofs.Fullness.{FullIndex, full-index}
 use borrow.Author.Needs.{needs}
