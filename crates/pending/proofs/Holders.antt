@@ -16,10 +16,10 @@ use Rattle.woot.specs.Placing.{identifiers}
 use Rattle.index.specs.Keys.{key, Small, AllSmall, keys, found}
 use Rattle.index.specs.declared.Found.{Found}
 use Rattle.index.specs.declared.Found.the-variants.{At, Nothing}
-use Rattle.pending.specs.declared.known.Holder.{Holder}
-use Rattle.pending.specs.declared.known.Holder.the-variants.{Character as ofCharacter, Pending as ofPending, Nobody}
+use Rattle.pending.specs.declared.holder.Holder.{Holder}
+use Rattle.pending.specs.declared.holder.Holder.the-variants.{Character as ofCharacter, Pending as ofPending, Nobody}
 use Rattle.pending.specs.Queue.{ownKey}
-use Rattle.pending.specs.Known.{firstHolder, holderIn}
+use Rattle.pending.specs.Holder.{firstHolder, holderIn}
 use Rattle.index.proofs.Searches.{Says, first-says, first-map}
 use Rattle.index.proofs.Keys.{key-injective, key-same}
 use Rattle.lists.proofs.Members.{any-none, none-any}

@@ -29,8 +29,8 @@ unfoldable pub entryOf : Operation → Entry
 entryOf o = record { own = ownKey o; first = firstKey o; second = secondKey o; sender = sender o }
 
 -- the numbers of each operation in its slot
-unfoldable pub packed : List Operation → Queue
-packed os =
+unfoldable pub queueOf : List Operation → Queue
+queueOf os =
     record {
       own = pad pendingSlots 0 (map ownKey os);
       first = pad pendingSlots 0 (map firstKey os);

@@ -13,12 +13,12 @@ ghost use Rattle.woot.specs.Placing.{integrateDelete};
 ghost use Rattle.woot.specs.Calls.{withCharacters, withPending};
 
 // The replica with the target hidden. A step of the calls and not a call: they have checked the counts.
-pub fn hidden(r: Replica, target: Identifier) -> Replica
-    requires { ⌜ counted r ≡ true ⌝ }
-    ensures { λ x. ⌜ x ≡ stored (withCharacters (meaning r) (integrateDelete (meaning r .characters) target)) ⌝ }
+pub fn hidden(replica: Replica, target: Identifier) -> Replica
+    requires { ⌜ counted replica ≡ true ⌝ }
+    ensures { λ r. ⌜ r ≡ stored (withCharacters (meaning replica) (integrateDelete (meaning replica .characters) target)) ⌝ }
 {
-    let site = r.site;
-    let d = r.document;
+    let site = replica.site;
+    let d = replica.document;
     let cs = d.characters;
     let ps = d.pending;
     let characters = arrays::hidden(cs, d.length, target);
@@ -34,16 +34,16 @@ pub fn hidden(r: Replica, target: Identifier) -> Replica
 
 // The replica with one operation more at the end of the pending ones. A step of the calls and not a call: they have checked
 // the counts, and that there is a slot.
-pub fn deferred(r: Replica, o: Operation) -> Replica
-    requires { ⌜ (counted r ≡ true) × (r .document .waiting < 512) ⌝ }
-    ensures { λ x. ⌜ x ≡ stored (withPending (meaning r) o) ⌝ }
+pub fn deferred(replica: Replica, operation: Operation) -> Replica
+    requires { ⌜ (counted replica ≡ true) × (replica .document .waiting < 512) ⌝ }
+    ensures { λ r. ⌜ r ≡ stored (withPending (meaning replica) operation) ⌝ }
 {
-    let site = r.site;
-    let d = r.document;
+    let site = replica.site;
+    let d = replica.document;
     let cs = d.characters;
     let ps = d.pending;
     let characters = arrays::kept(cs, d.length);
-    let pending = arrays::pushed(ps, d.waiting, o);
+    let pending = arrays::pushed(ps, d.waiting, operation);
     let document = Document {
         characters,
         length: d.length,

@@ -8,7 +8,7 @@ use Rattle.visible.proofs.put.Tie as tie
 
 returns : tie.Need-returns
 returns c =
-    rw (spelt-hidden (c .before .before .before .args .c) (not-true _ (c .if1 .taken))) (sym (past-none _ _), sym (placed-none _ _))
+    rw (spelt-hidden (c .before .before .before .args .character) (not-true _ (c .if1 .taken))) (sym (past-none _ _), sym (placed-none _ _))
 
 write-requires : tie.Need-write-requires
 write-requires c κs = search needs
@@ -19,7 +19,7 @@ same-length c = search needs
 returns-2 : tie.Need-returns-2
 returns-2 c =
     let w = c .before .before .write .ensures in
-    let d = c .before .before .before .before .before .before .before .args .c in
+    let d = c .before .before .before .before .before .before .before .args .character in
     rw (spelt-visible d (not-false _ (c .before .before .before .before .if1 .left))) (w .0, w .1)
 
 pub put-spec : {M : Type 1} → statement M
