@@ -25,7 +25,7 @@ use Rattle.convergence.proofs.Draining.{sound-carry}
 use Rattle.index.specs.declared.Found.the-variants.{At, Nothing}
 use Rattle.delivery.specs.declared.Work.{Work}
 use Rattle.storage.specs.Edit.{removed}
-use Rattle.pending.specs.Ready.{firstIndex}
+use Rattle.index.specs.Keys.{firstIndex}
 use Rattle.delivery.specs.Work.{charactersIn, pendingIn, workOf, Workable, Due, carried, stepped, finished}
 use Rattle.pending.proofs.Earliest.{takes}
 use Rattle.delivery.proofs.Works.{pending-at, parts, work-characters, work-pending, work-length, work-waiting, work-integrated, work-discarded, work-tidy, carried-discarded, carried-integrated}

@@ -12,13 +12,13 @@ use woot::Operation;
 use woot::Replica;
 ghost use mathlib.Core.Path.{_≡_};
 ghost use Prim.Native.Nat.{_+_, _≤_, _<_, _^_};
-ghost use Rattle.woot.specs.declared.Operation.the-variants.{Insert as insert};
+ghost use Rattle.woot.specs.declared.Operation.the-variants.{Insert as ofInsert};
 ghost use Rattle.woot.specs.Operations.{character};
 ghost use Rattle.woot.specs.Placing.{insertAt, integrateDelete, integrateInsert};
 ghost use Rattle.woot.specs.Pending.{executable, earliest};
 ghost use Rattle.index.specs.declared.Found.the-variants.{At};
 ghost use Rattle.storage.specs.Edit.{removed};
-ghost use Rattle.pending.specs.Ready.{firstIndex};
+ghost use Rattle.index.specs.Keys.{firstIndex};
 ghost use Rattle.delivery.specs.Work.{charactersIn, pendingIn, workOf, Tidy, Workable, Due, carried, stepped, finished, Placed};
 ghost use mathlib.Core.Bool.{true};
 ghost use Rattle.woot.specs.State.{meaning, counted};
@@ -31,15 +31,15 @@ pub struct Work {
 }
 
 // The character that an insert brings.
-fn character(i: Insert) -> Character
-    ensures { λ r. ⌜ r ≡ character i ⌝ }
+fn character(insert: Insert) -> Character
+    ensures { λ r. ⌜ r ≡ character insert ⌝ }
 {
-    let id = i.id;
-    let previous = i.previous;
-    let next = i.next;
+    let id = insert.id;
+    let previous = insert.previous;
+    let next = insert.next;
     Character {
         id,
-        code_point: i.code_point,
+        code_point: insert.code_point,
         visible: true,
         previous,
         next,
@@ -47,13 +47,13 @@ fn character(i: Insert) -> Character
 }
 
 // Carries out an insert: its character goes in after the first k.
-fn carry_insert(w: Work, i: Insert, k: usize) -> Work
-    requires { ⌜ Tidy w × (k ≤ w .document .length) × (w .document .length < 1024) × (w .integrated + 1 < 2 ^ 64) ⌝ }
-    ensures { λ r. ⌜ r ≡ workOf (insertAt k (character i) (charactersIn (w .document))) (pendingIn (w .document)) (w .integrated + 1) (w .discarded) ⌝ }
+fn carry_insert(work: Work, insert: Insert, k: usize) -> Work
+    requires { ⌜ Tidy work × (k ≤ work .document .length) × (work .document .length < 1024) × (work .integrated + 1 < 2 ^ 64) ⌝ }
+    ensures { λ r. ⌜ r ≡ workOf (insertAt k (character insert) (charactersIn (work .document))) (pendingIn (work .document)) (work .integrated + 1) (work .discarded) ⌝ }
 {
-    let d = w.document;
+    let d = work.document;
     let cs = d.characters;
-    let characters = arrays::inserted(cs, d.length, k, character(i));
+    let characters = arrays::put_in(cs, d.length, k, character(insert));
     let document = Document {
         characters,
         length: d.length + 1,
@@ -61,71 +61,71 @@ fn carry_insert(w: Work, i: Insert, k: usize) -> Work
     };
     Work {
         document,
-        integrated: w.integrated + 1,
-        ..w
+        integrated: work.integrated + 1,
+        ..work
     }
 }
 
 // Carries out a delete: the target is hidden.
-fn carry_delete(w: Work, deletion: Delete) -> Work
-    requires { ⌜ Tidy w × (w .document .length ≤ 1024) × (w .integrated + 1 < 2 ^ 64) ⌝ }
-    ensures { λ r. ⌜ r ≡ workOf (integrateDelete (charactersIn (w .document)) deletion) (pendingIn (w .document)) (w .integrated + 1) (w .discarded) ⌝ }
+fn carry_delete(work: Work, delete: Delete) -> Work
+    requires { ⌜ Tidy work × (work .document .length ≤ 1024) × (work .integrated + 1 < 2 ^ 64) ⌝ }
+    ensures { λ r. ⌜ r ≡ workOf (integrateDelete (charactersIn (work .document)) delete) (pendingIn (work .document)) (work .integrated + 1) (work .discarded) ⌝ }
 {
-    let d = w.document;
+    let d = work.document;
     let cs = d.characters;
-    let characters = arrays::hidden(cs, d.length, deletion);
+    let characters = arrays::hidden(cs, d.length, delete);
     let document = Document { characters, ..d };
     Work {
         document,
-        integrated: w.integrated + 1,
-        ..w
+        integrated: work.integrated + 1,
+        ..work
     }
 }
 
 // One operation more discarded.
-fn discard(w: Work) -> Work
-    requires { ⌜ Tidy w × (w .discarded + 1 < 2 ^ 64) ⌝ }
-    ensures { λ r. ⌜ r ≡ workOf (charactersIn (w .document)) (pendingIn (w .document)) (w .integrated) (w .discarded + 1) ⌝ }
+fn discard(work: Work) -> Work
+    requires { ⌜ Tidy work × (work .discarded + 1 < 2 ^ 64) ⌝ }
+    ensures { λ r. ⌜ r ≡ workOf (charactersIn (work .document)) (pendingIn (work .document)) (work .integrated) (work .discarded + 1) ⌝ }
 {
     Work {
-        discarded: w.discarded + 1,
-        ..w
+        discarded: work.discarded + 1,
+        ..work
     }
 }
 
 // Carries out an insert where the index has a place for it, or discards it.
-fn place_insert(w: Work, i: Insert) -> Work
-    requires { ⌜ Due w (insert i) ⌝ }
-    ensures { λ r. ⌜ r ≡ carried (charactersIn (w .document)) (pendingIn (w .document)) (w .integrated) (w .discarded) (insert i) ⌝ }
+fn place_insert(work: Work, insert: Insert) -> Work
+    requires { ⌜ Due work (ofInsert insert) ⌝ }
+    ensures { λ r. ⌜ r ≡ carried (charactersIn (work .document)) (pendingIn (work .document)) (work .integrated) (work .discarded) (ofInsert insert) ⌝ }
 {
-    let d = w.document;
+    let d = work.document;
     let cs = d.characters;
     let n = d.length;
-    match integration::find_place(index::index_of(cs, n), n, i) {
-        Placement::Missing => discard(w),
-        Placement::Crossed => discard(w),
-        Placement::Unplaceable => discard(w),
-        Placement::Below(k) => carry_insert(w, i, k),
+    match integration::find_place(index::index_of(cs, n), n, insert) {
+        Placement::Missing => discard(work),
+        Placement::Crossed => discard(work),
+        Placement::Unplaceable => discard(work),
+        Placement::Below(k) => carry_insert(work, insert, k),
     }
 }
 
 // Carries out an operation that is executable, or discards it.
-fn carry(w: Work, o: Operation) -> Work
-    requires { ⌜ Due w o ⌝ }
-    ensures { λ r. ⌜ r ≡ carried (charactersIn (w .document)) (pendingIn (w .document)) (w .integrated) (w .discarded) o ⌝ }
+fn carry(work: Work, operation: Operation) -> Work
+    requires { ⌜ Due work operation ⌝ }
+    ensures { λ r. ⌜ r ≡ carried (charactersIn (work .document)) (pendingIn (work .document)) (work .integrated) (work .discarded) operation ⌝ }
 {
-    match o {
-        Operation::Insert(i) => place_insert(w, i),
-        Operation::Delete(d) => carry_delete(w, d),
+    match operation {
+        Operation::Insert(i) => place_insert(work, i),
+        Operation::Delete(d) => carry_delete(work, d),
     }
 }
 
 // Takes out the pending operation at the index.
-fn take_out(w: Work, j: usize) -> Work
-    requires { ⌜ Tidy w × (j < w .document .waiting) × (w .document .waiting ≤ 512) ⌝ }
-    ensures { λ r. ⌜ r ≡ workOf (charactersIn (w .document)) (removed j (pendingIn (w .document))) (w .integrated) (w .discarded) ⌝ }
+fn take_out(work: Work, j: usize) -> Work
+    requires { ⌜ Tidy work × (j < work .document .waiting) × (work .document .waiting ≤ 512) ⌝ }
+    ensures { λ r. ⌜ r ≡ workOf (charactersIn (work .document)) (removed j (pendingIn (work .document))) (work .integrated) (work .discarded) ⌝ }
 {
-    let d = w.document;
+    let d = work.document;
     let ps = d.pending;
     let pending = arrays::without(ps, d.waiting, j);
     let document = Document {
@@ -133,63 +133,63 @@ fn take_out(w: Work, j: usize) -> Work
         waiting: d.waiting - 1,
         ..d
     };
-    Work { document, ..w }
+    Work { document, ..work }
 }
 
 // The index of the earliest pending operation that is executable.
-fn due(w: Work) -> Found
-    requires { ⌜ Workable w ⌝ }
-    ensures { λ r. ⌜ r ≡ firstIndex (executable (charactersIn (w .document))) (pendingIn (w .document)) ⌝ }
+fn due(work: Work) -> Found
+    requires { ⌜ Workable work ⌝ }
+    ensures { λ r. ⌜ r ≡ firstIndex (executable (charactersIn (work .document))) (pendingIn (work .document)) ⌝ }
 {
-    let d = w.document;
+    let d = work.document;
     let cs = d.characters;
     let ps = d.pending;
     let n = d.length;
     let m = d.waiting;
-    let packed = index::pack(cs, n);
-    let queue = queue::pack(ps, m);
-    let ids = packed.ids;
+    let keys = index::keys_of(cs, n);
+    let queue = queue::queue_of(ps, m);
+    let ids = keys.ids;
     let first = queue.first;
     let second = queue.second;
     ready::ready(&ids[..n], &first[..m], &second[..m])
 }
 
 // Takes out the pending operation that is due, and carries it out or discards it.
-fn step(w: Work, j: usize) -> Work
-    requires { ⌜ Workable w × (firstIndex (executable (charactersIn (w .document))) (pendingIn (w .document)) ≡ At j) ⌝ }
-    ensures { λ r. ⌜ r ≡ stepped (charactersIn (w .document)) (pendingIn (w .document)) (w .integrated) (w .discarded) (earliest (executable (charactersIn (w .document))) (pendingIn (w .document))) ⌝ }
+fn step(work: Work, j: usize) -> Work
+    requires { ⌜ Workable work × (firstIndex (executable (charactersIn (work .document))) (pendingIn (work .document)) ≡ At j) ⌝ }
+    ensures { λ r. ⌜ r ≡ stepped (charactersIn (work .document)) (pendingIn (work .document)) (work .integrated) (work .discarded) (earliest (executable (charactersIn (work .document))) (pendingIn (work .document))) ⌝ }
 {
-    let d = w.document;
+    let d = work.document;
     let ps = d.pending;
     let p = ps[j];
     let o = p.operation;
-    carry(take_out(w, j), o)
+    carry(take_out(work, j), o)
 }
 
 // Carries out or discards pending operations, the earliest that is executable first, until none is.
-fn drain(mut w: Work) -> Work
-    requires { ⌜ Workable w ⌝ }
-    ensures { λ r. ⌜ r ≡ finished (charactersIn (w .document)) (pendingIn (w .document)) (w .integrated) (w .discarded) ⌝ }
+fn drain(mut work: Work) -> Work
+    requires { ⌜ Workable work ⌝ }
+    ensures { λ r. ⌜ r ≡ finished (charactersIn (work .document)) (pendingIn (work .document)) (work .integrated) (work .discarded) ⌝ }
 {
-    while 0 < w.document.waiting {
-        match due(w) {
+    while 0 < work.document.waiting {
+        match due(work) {
             Found::At(j) => {
-                w = step(w, j);
+                work = step(work, j);
             }
             Found::Nothing => {
-                return w;
+                return work;
             }
         }
     }
-    w
+    work
 }
 
 // The replica's document at work, with nothing carried out yet.
-fn started(r: Replica) -> Work
-    requires { ⌜ counted r ≡ true ⌝ }
-    ensures { λ w. ⌜ w ≡ workOf (meaning r .characters) (meaning r .pending) 0 0 ⌝ }
+fn started(replica: Replica) -> Work
+    requires { ⌜ counted replica ≡ true ⌝ }
+    ensures { λ r. ⌜ r ≡ workOf (meaning replica .characters) (meaning replica .pending) 0 0 ⌝ }
 {
-    let d = r.document;
+    let d = replica.document;
     let cs = d.characters;
     let ps = d.pending;
     let characters = arrays::kept(cs, d.length);
@@ -209,9 +209,9 @@ fn started(r: Replica) -> Work
 
 // The document with an insert carried out at its place, and with all that it released. A step of the calls and not a call:
 // they have checked the replica and found the place.
-pub fn integrated(r: Replica, i: Insert, k: usize) -> Work
-    requires { ⌜ Placed r i k ⌝ }
-    ensures { λ w. ⌜ w ≡ finished (integrateInsert (meaning r .characters) i) (meaning r .pending) 1 0 ⌝ }
+pub fn integrate_and_drain(replica: Replica, insert: Insert, k: usize) -> Work
+    requires { ⌜ Placed replica insert k ⌝ }
+    ensures { λ r. ⌜ r ≡ finished (integrateInsert (meaning replica .characters) insert) (meaning replica .pending) 1 0 ⌝ }
 {
-    drain(carry_insert(started(r), i, k))
+    drain(carry_insert(started(replica), insert, k))
 }

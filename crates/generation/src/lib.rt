@@ -2,8 +2,8 @@
 // steps of the calls and not calls: the calls have checked the range and the form.
 use index::Index;
 use integration::Placement;
-use pending::known;
-use pending::known::Holder;
+use pending::holder;
+use pending::holder::Holder;
 use pending::queue::Queue;
 use pending::room;
 use woot::Delete;
@@ -28,28 +28,28 @@ ghost use Rattle.woot.specs.Form.{known, replicaWellFormed};
 ghost use Rattle.woot.specs.Calls.{generatedInsert};
 ghost use Rattle.integration.specs.declared.Placement.the-variants.{Below};
 ghost use Rattle.storage.specs.Replicas.{inserted, deleted};
-ghost use Rattle.pending.specs.Queue.{packed};
+ghost use Rattle.pending.specs.Queue.{queueOf};
 ghost use Rattle.integration.specs.Placements.{placementOf};
 ghost use Rattle.well_formed.specs.Examined.{Examined};
 ghost use Rattle.generation.specs.Sending.{Sendable, sentInsert};
 
 // The replica as it was, with a refusal.
-pub fn refused(r: Replica, refusal: Refusal) -> Generated
-    ensures { λ x. ⌜ x ≡ record { answer = sentRefused refusal; replica = r } ⌝ }
+pub fn refused(replica: Replica, refusal: Refusal) -> Generated
+    ensures { λ r. ⌜ r ≡ record { answer = sentRefused refusal; replica = replica } ⌝ }
 {
     Generated {
         answer: Sent::Refused(refusal),
-        replica: r,
+        replica,
     }
 }
 
 // The insert that is made here: the next identifier, and the visible neighbours of the insertion point.
-fn generated_insert(r: Replica, point: usize, code_point: u32) -> Insert
-    requires { ⌜ r .site .clock < lastClock ⌝ }
-    ensures { λ x. ⌜ x ≡ generatedInsert (meaning r) point «code_point» ⌝ }
+fn generated_insert(replica: Replica, point: usize, code_point: u32) -> Insert
+    requires { ⌜ replica .site .clock < lastClock ⌝ }
+    ensures { λ r. ⌜ r ≡ generatedInsert (meaning replica) point «code_point» ⌝ }
 {
-    let site = r.site;
-    let d = r.document;
+    let site = replica.site;
+    let d = replica.document;
     let n = d.length;
     let cs = d.characters;
     Insert {
@@ -64,12 +64,12 @@ fn generated_insert(r: Replica, point: usize, code_point: u32) -> Insert
 }
 
 // Whether an identifier belongs to a character or a pending insert.
-fn is_taken(r: Replica, x: Index, q: Queue, id: Identifier) -> bool
-    requires { ⌜ Examined r x q × (characterId id ≡ true) ⌝ }
-    ensures { λ y. ⌜ y ≡ any (λ j. same id (j .id)) (known (meaning r)) ⌝ }
+fn is_taken(replica: Replica, index: Index, queue: Queue, id: Identifier) -> bool
+    requires { ⌜ Examined replica index queue × (characterId id ≡ true) ⌝ }
+    ensures { λ r. ⌜ r ≡ any (λ j. same id (j .id)) (known (meaning replica)) ⌝ }
 {
-    let d = r.document;
-    match known::holder_of(x, d.length, q, d.waiting, id) {
+    let d = replica.document;
+    match holder::holder_of(index, d.length, queue, d.waiting, id) {
         Holder::Character(_) => true,
         Holder::Pending(_) => true,
         Holder::Nobody => false,
@@ -77,22 +77,22 @@ fn is_taken(r: Replica, x: Index, q: Queue, id: Identifier) -> bool
 }
 
 // Carries out an insert that goes in after the first k characters, and advances the clock.
-fn send(r: Replica, q: Queue, i: Insert, k: usize) -> Generated
-    requires { ⌜ Sendable r i × (q ≡ packed (meaning r .pending)) × (placementOf (meaning r .characters) i ≡ Below k) ⌝ }
-    ensures { λ y. ⌜ y ≡ sentInsert r i ⌝ }
+fn send(replica: Replica, queue: Queue, insert: Insert, k: usize) -> Generated
+    requires { ⌜ Sendable replica insert × (queue ≡ queueOf (meaning replica .pending)) × (placementOf (meaning replica .characters) insert ≡ Below k) ⌝ }
+    ensures { λ r. ⌜ r ≡ sentInsert replica insert ⌝ }
 {
-    let d = r.document;
-    if room::document_full(d.length, q, d.waiting) {
-        return refused(r, Refusal::DocumentFull);
+    let d = replica.document;
+    if room::document_full(d.length, queue, d.waiting) {
+        return refused(replica, Refusal::DocumentFull);
     }
-    let site = r.site;
-    let w = delivery::integrated(r, i, k);
-    let document = w.document;
+    let site = replica.site;
+    let work = delivery::integrate_and_drain(replica, insert, k);
+    let document = work.document;
     Generated {
         answer: Sent::Done {
-            operation: Operation::Insert(i),
-            integrated: w.integrated,
-            discarded: w.discarded,
+            operation: Operation::Insert(insert),
+            integrated: work.integrated,
+            discarded: work.discarded,
         },
         replica: Replica {
             site: Site {
@@ -105,68 +105,74 @@ fn send(r: Replica, q: Queue, i: Insert, k: usize) -> Generated
 }
 
 // Carries out an insert that was made here, where it has a place. Its neighbours are held and in order.
-fn send_placed(r: Replica, x: Index, q: Queue, i: Insert) -> Generated
-    requires { ⌜ Examined r x q × Sendable r i ⌝ }
-    ensures { λ y. ⌜ y ≡ sentInsert r i ⌝ }
+fn send_placed(replica: Replica, index: Index, queue: Queue, insert: Insert) -> Generated
+    requires { ⌜ Examined replica index queue × Sendable replica insert ⌝ }
+    ensures { λ r. ⌜ r ≡ sentInsert replica insert ⌝ }
 {
-    let d = r.document;
-    match integration::find_place(x, d.length, i) {
-        Placement::Missing => refused(r, Refusal::Unplaceable),
-        Placement::Crossed => refused(r, Refusal::Unplaceable),
-        Placement::Unplaceable => refused(r, Refusal::Unplaceable),
-        Placement::Below(k) => send(r, q, i, k),
+    let d = replica.document;
+    match integration::find_place(index, d.length, insert) {
+        Placement::Missing => refused(replica, Refusal::Unplaceable),
+        Placement::Crossed => refused(replica, Refusal::Unplaceable),
+        Placement::Unplaceable => refused(replica, Refusal::Unplaceable),
+        Placement::Below(k) => send(replica, queue, insert, k),
     }
 }
 
 // Inserts a code point at an insertion point among the visible characters.
-pub fn insert_visible(r: Replica, x: Index, q: Queue, point: usize, code_point: u32) -> Generated
-    requires { ⌜ Examined r x q × (codePoint «code_point» ≡ true) ⌝ }
-    ensures { λ y. ⌜ y ≡ inserted r point «code_point» ⌝ }
+pub fn insert_visible(
+    replica: Replica,
+    index: Index,
+    queue: Queue,
+    point: usize,
+    code_point: u32,
+) -> Generated
+    requires { ⌜ Examined replica index queue × (codePoint «code_point» ≡ true) ⌝ }
+    ensures { λ r. ⌜ r ≡ inserted replica point «code_point» ⌝ }
 {
-    let d = r.document;
+    let d = replica.document;
     let n = d.length;
     let cs = d.characters;
     if visible::count(cs, n) < point {
-        return refused(r, Refusal::Position);
+        return refused(replica, Refusal::Position);
     }
-    let site = r.site;
+    let site = replica.site;
     if 65535 <= site.clock {
-        return refused(r, Refusal::Clock);
+        return refused(replica, Refusal::Clock);
     }
-    let i = generated_insert(r, point, code_point);
+    let i = generated_insert(replica, point, code_point);
     let id = i.id;
-    if is_taken(r, x, q, id) {
-        return refused(r, Refusal::Taken);
+    if is_taken(replica, index, queue, id) {
+        return refused(replica, Refusal::Taken);
     }
-    send_placed(r, x, q, i)
+    send_placed(replica, index, queue, i)
 }
 
 // Deletes the visible character at the index, counted from 1.
-pub fn delete_visible(r: Replica, index: usize) -> Generated
-    requires { ⌜ replicaWellFormed r ≡ true ⌝ }
-    ensures { λ x. ⌜ x ≡ deleted r index ⌝ }
+pub fn delete_visible(replica: Replica, index: usize) -> Generated
+    requires { ⌜ replicaWellFormed replica ≡ true ⌝ }
+    ensures { λ r. ⌜ r ≡ deleted replica index ⌝ }
 {
     if index == 0 {
-        return refused(r, Refusal::Position);
+        return refused(replica, Refusal::Position);
     }
-    let d = r.document;
+    let d = replica.document;
     let n = d.length;
     let cs = d.characters;
     if visible::count(cs, n) < index {
-        return refused(r, Refusal::Position);
+        return refused(replica, Refusal::Position);
     }
     let target = visible::left(cs, n, index);
-    let site = r.site;
-    let deletion = Delete {
+    let site = replica.site;
+    let delete = Delete {
         sender: site.number,
         target,
     };
     Generated {
         answer: Sent::Done {
-            operation: Operation::Delete(deletion),
+            operation: Operation::Delete(delete),
             integrated: 1,
             discarded: 0,
         },
-        replica: storage::hidden(r, deletion),
+        replica: storage::hidden(replica, delete),
     }
 }

@@ -1,5 +1,6 @@
 pub mod Keys
 pub mod Indices
+pub mod Searches
 pub mod Packing
 pub mod Indexes
 pub mod Fullness

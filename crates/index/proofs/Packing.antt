@@ -1,35 +1,35 @@
 -- The arrays that a call packs: what their slots in use hold, and that the places in them are those of the rules.
-use Prim.Native.Nat.{ℕ, suc, _+_, _-_, _≤_, _<_, min}
+use Prim.Native.Nat.{ℕ, _+_, _-_, _≤_, _<_}
 use native.Mathlib.Numerals.{add-one}
 use native.Mathlib.Omega.{arith}
 use mathlib.Core.Path.{_≡_, refl, ap₂, sym, _∙_, subst}
-use mathlib.Core.List.{List, [], _∷_, _++_, map, map-append, List·Memᴰ, List·Memᴰ·head, List·Memᴰ·tail, List·Memᴰ·append-cases, List·Memᴰ·eq-of-singleton}
+use mathlib.Core.List.{List, [], _∷_, map, List·Memᴰ, List·Memᴰ·head, List·Memᴰ·tail, List·Memᴰ·append-cases, List·Memᴰ·eq-of-singleton}
 use mathlib.Core.Logic.{⊎-elim}
-use lib.ListN.{length, take, getD, set, replicate, length-append, length-map, length-replicate, length-take}
-use lib.Seq.{take-at, take-all, take-suc, set-append-seam, append-snoc, length-take-le}
+use lib.ListN.{length, take, getD, length-map, length-take}
+use lib.Seq.{take-all, take-suc}
 use Rattle.woot.specs.declared.Identifier.{Identifier}
 use Rattle.woot.specs.declared.Character.{Character}
 use Rattle.woot.specs.Placing.{placeOf}
 use Rattle.woot.specs.State.{characterSlots}
 use Rattle.lists.specs.Padding.{pad}
 use Rattle.lists.proofs.Padding.{pad-length, pad-take}
-use Rattle.index.specs.declared.Packed.{Packed}
+use Rattle.index.specs.declared.CharacterKeys.{CharacterKeys}
 use Rattle.index.specs.Keys.{key, Small, AllSmall, SmallParts, keys, previousKeys, nextKeys, placeIn}
-use Rattle.index.specs.Packing.{packed, placesIn, previousPlaces, nextPlaces}
+use Rattle.index.specs.Packing.{keysOf, placesIn, previousPlaces, nextPlaces}
 use Rattle.index.proofs.Indices.{place-keys}
 
 -- small so far, and the next
 pub small-more : (cs : List Character) (i : ℕ) (d : Character) → i < length cs → AllSmall (take i cs) → SmallParts (getD cs i d) → AllSmall (take (i + 1) cs)
 small-more cs i d h s p c m = ⊎-elim (s c) (λ n. subst SmallParts (sym (List·Memᴰ·eq-of-singleton n)) p) (List·Memᴰ·append-cases (take i cs) (rw (add-one i, take-suc cs i d h) at m))
 
-pub packed-path : (cs : List Character) (r : Packed) → r .ids ≡ pad characterSlots 0 (keys cs) → r .previous ≡ pad characterSlots 0 (previousKeys cs) → r .next ≡ pad characterSlots 0 (nextKeys cs) → r ≡ packed cs
-unfolding packed
-packed-path cs r p q t = λ i. record { ids = p i; previous = q i; next = t i }
+pub keys-path : (cs : List Character) (r : CharacterKeys) → r .ids ≡ pad characterSlots 0 (keys cs) → r .previous ≡ pad characterSlots 0 (previousKeys cs) → r .next ≡ pad characterSlots 0 (nextKeys cs) → r ≡ keysOf cs
+unfolding keysOf
+keys-path cs r p q t = λ i. record { ids = p i; previous = q i; next = t i }
 
 -- the arrays have their length
-pub packed-sizes : (cs : List Character) → length cs ≤ characterSlots → (length (packed cs .ids) ≡ characterSlots) × (length (packed cs .previous) ≡ characterSlots) × (length (packed cs .next) ≡ characterSlots)
-unfolding packed
-packed-sizes cs h = (size (λ c. key (c .id)), size (λ c. key (c .previous)), size (λ c. key (c .next)))
+pub keys-sizes : (cs : List Character) → length cs ≤ characterSlots → (length (keysOf cs .ids) ≡ characterSlots) × (length (keysOf cs .previous) ≡ characterSlots) × (length (keysOf cs .next) ≡ characterSlots)
+unfolding keysOf
+keys-sizes cs h = (size (λ c. key (c .id)), size (λ c. key (c .previous)), size (λ c. key (c .next)))
   where
     size : (f : Character → ℕ) → length (pad characterSlots 0 (map f cs)) ≡ characterSlots
     size f = pad-length characterSlots 0 (map f cs) (omega (arith, length-map cs f))
@@ -43,17 +43,17 @@ module _ (cs : List Character) (n : ℕ) (e : length cs ≡ n) where
   used : {B : Type 0} (f : Character → B) (z : B) → take n (pad characterSlots z (map f cs)) ≡ map f cs
   used f z = pad-take characterSlots z (map f cs) n (length-map cs f ∙ e)
 
-  pub packed-ids : take n (packed cs .ids) ≡ keys cs
-  unfolding packed
-  packed-ids = used (λ c. key (c .id)) 0
+  pub keys-ids : take n (keysOf cs .ids) ≡ keys cs
+  unfolding keysOf
+  keys-ids = used (λ c. key (c .id)) 0
 
-  pub packed-previous : take n (packed cs .previous) ≡ previousKeys cs
-  unfolding packed
-  packed-previous = used (λ c. key (c .previous)) 0
+  pub keys-previous : take n (keysOf cs .previous) ≡ previousKeys cs
+  unfolding keysOf
+  keys-previous = used (λ c. key (c .previous)) 0
 
-  pub packed-next : take n (packed cs .next) ≡ nextKeys cs
-  unfolding packed
-  packed-next = used (λ c. key (c .next)) 0
+  pub keys-next : take n (keysOf cs .next) ≡ nextKeys cs
+  unfolding keysOf
+  keys-next = used (λ c. key (c .next)) 0
 
   module _ (few : n ≤ characterSlots) (s : AllSmall cs) where
     place-each : (f : Character → Identifier) (ds : List Character) → ((c : Character) → List·Memᴰ c ds → Small (f c)) → map (placeIn (keys cs)) (map (λ c. key (f c)) ds) ≡ map (λ c. placeOf cs (f c)) ds

@@ -1,10 +1,12 @@
 -- Identifiers as numbers, and where they stand.
 use Prim.Native.Nat.{ℕ, suc, _+_, _*_, _<_}
-use mathlib.Core.Bool.{cond}
+use mathlib.Core.Bool.{Bool, cond}
 use mathlib.Core.List.{List, [], _∷_, _++_, map, List·Memᴰ}
 use lib.Dec.{eqb}
 use Rattle.woot.specs.declared.Identifier.{Identifier}
 use Rattle.woot.specs.declared.Character.{Character}
+use Rattle.index.specs.declared.Found.{Found}
+use Rattle.index.specs.declared.Found.the-variants.{At, Nothing}
 
 -- the site above the clock's 16 bits
 unfoldable pub key : Identifier → ℕ
@@ -37,6 +39,20 @@ nextKeys cs = map (λ c. key (c .next)) cs
 unfoldable pub indexIn : ℕ → List ℕ → ℕ
 indexIn k [] = 0
 indexIn k (x ∷ xs) = cond (eqb k x) 0 (suc (indexIn k xs))
+
+-- the index n further on
+abbrev pub further : ℕ → Found → Found
+further n (At j) = At (n + j)
+further n Nothing = Nothing
+
+-- the index of the first that passes the test
+unfoldable pub firstIndex : {A : Type 0} → (A → Bool) → List A → Found
+firstIndex p [] = Nothing
+firstIndex p (x ∷ xs) = cond (p x) (At 0) (further 1 (firstIndex p xs))
+
+-- the first index of k
+unfoldable pub found : ℕ → List ℕ → Found
+found k xs = firstIndex (λ x. eqb k x) xs
 
 -- where k stands among the keys, the begin mark's above them and the end mark's below
 unfoldable pub placeIn : List ℕ → ℕ → ℕ

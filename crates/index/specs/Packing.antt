@@ -6,12 +6,12 @@ use Rattle.woot.specs.declared.Character.{Character}
 use Rattle.woot.specs.State.{characterSlots}
 use Rattle.lists.specs.Padding.{pad}
 use Rattle.woot.specs.Placing.{placeOf}
-use Rattle.index.specs.declared.Packed.{Packed}
+use Rattle.index.specs.declared.CharacterKeys.{CharacterKeys}
 use Rattle.index.specs.Keys.{keys, previousKeys, nextKeys, placeIn}
 
 -- the keys of the characters, of their previous and of their next
-unfoldable pub packed : List Character → Packed
-packed cs =
+unfoldable pub keysOf : List Character → CharacterKeys
+keysOf cs =
     record {
       ids = pad characterSlots 0 (keys cs);
       previous = pad characterSlots 0 (previousKeys cs);

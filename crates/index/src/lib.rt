@@ -5,12 +5,12 @@ use woot::Identifier;
 ghost use mathlib.Core.Path.{_≡_};
 ghost use Prim.Native.Nat.{min};
 ghost use lib.ListN.{take};
-ghost use Rattle.index.specs.Keys.{key, placeIn, Small, AllSmall};
-ghost use Rattle.index.specs.Packing.{packed, placesIn};
+ghost use Rattle.index.specs.Keys.{key, found, placeIn, Small, AllSmall};
+ghost use Rattle.index.specs.Packing.{keysOf, placesIn};
 ghost use Rattle.index.specs.Index.{indexOf};
 
 // The keys of characters and of their neighbours, each in the slot of its character.
-pub struct Packed {
+pub struct CharacterKeys {
     pub ids: [u32; 1024],
     pub previous: [u32; 1024],
     pub next: [u32; 1024],
@@ -32,10 +32,24 @@ pub struct Index {
 }
 
 // An identifier as one number. Numbers are ordered as their identifiers are, and the marks are 0 and 1.
-pub fn key(x: Identifier) -> u32
-    ensures { λ r. ⌜ (r ≡ key x) × Small x ⌝ }
+pub fn key(id: Identifier) -> u32
+    ensures { λ r. ⌜ (r ≡ key id) × Small id ⌝ }
 {
-    x.site as u32 * 65536 + x.clock as u32
+    id.site as u32 * 65536 + id.clock as u32
+}
+
+// The first index of a key. Every search among keys, of characters or of pending inserts, is this one.
+pub fn find(keys: &[u32], key: u32) -> Found
+    ensures { λ r. ⌜ r ≡ found key (now (keys .entry)) ⌝ }
+{
+    let mut i = 0;
+    while i < keys.len() {
+        if keys[i] == key {
+            return Found::At(i);
+        }
+        i += 1;
+    }
+    Found::Nothing
 }
 
 // The place of the character with the given key: 0 for the begin mark, one past the last for the end mark, further where
@@ -46,18 +60,16 @@ pub fn place_of(ids: &[u32], key: u32) -> usize
     if key == 0 {
         return 0;
     }
-    let mut i = 0;
-    while i < ids.len() {
-        if ids[i] == key {
-            return i + 1;
+    match find(ids, key) {
+        Found::At(i) => i + 1,
+        Found::Nothing => {
+            let end = ids.len() + 1;
+            if key == 1 {
+                return end;
+            }
+            end + 1
         }
-        i += 1;
     }
-    let end = i + 1;
-    if key == 1 {
-        return end;
-    }
-    end + 1
 }
 
 // The same, where the place of the end mark's key, which most inserts name, is at hand.
@@ -79,8 +91,8 @@ pub fn lesser(a: usize, b: usize) -> usize
 }
 
 // Packs the first n characters, all of them where n is above the slots.
-pub fn pack(cs: [Character; 1024], n: usize) -> Packed
-    ensures { λ r. ⌜ (r ≡ packed (take n cs)) × AllSmall (take n cs) ⌝ }
+pub fn keys_of(characters: [Character; 1024], n: usize) -> CharacterKeys
+    ensures { λ r. ⌜ (r ≡ keysOf (take n characters)) × AllSmall (take n characters) ⌝ }
 {
     let end = lesser(1024, n);
     let mut ids = [0u32; 1024];
@@ -88,13 +100,13 @@ pub fn pack(cs: [Character; 1024], n: usize) -> Packed
     let mut next = [0u32; 1024];
     let mut i = 0;
     while i < end {
-        let c = cs[i];
+        let c = characters[i];
         ids[i] = key(c.id);
         previous[i] = key(c.previous);
         next[i] = key(c.next);
         i += 1;
     }
-    Packed {
+    CharacterKeys {
         ids,
         previous,
         next,
@@ -119,14 +131,14 @@ pub fn places(ids: &[u32], of: &[u32]) -> [u16; 1024]
 }
 
 // The index of the first n characters, of all of them where n is above the slots.
-pub fn index_of(cs: [Character; 1024], n: usize) -> Index
-    ensures { λ r. ⌜ r ≡ indexOf (take n cs) ⌝ }
+pub fn index_of(characters: [Character; 1024], n: usize) -> Index
+    ensures { λ r. ⌜ r ≡ indexOf (take n characters) ⌝ }
 {
     let end = lesser(n, 1024);
-    let packed = pack(cs, end);
-    let ids = packed.ids;
-    let previous = packed.previous;
-    let next = packed.next;
+    let keys = keys_of(characters, end);
+    let ids = keys.ids;
+    let previous = keys.previous;
+    let next = keys.next;
     let above = places(&ids[..end], &previous[..end]);
     let below = places(&ids[..end], &next[..end]);
     Index { ids, above, below }

@@ -15,10 +15,10 @@ use Rattle.woot.specs.Placing.{placeOf, held, above, position, between, insertA
 use Rattle.woot.specs.Pending.{executable, crossed, unplaceable}
 use Rattle.convergence.proofs.Standing.{placement-at}
 use Rattle.index.specs.declared.Found.the-variants.{At, Nothing}
-use Rattle.integration.specs.Passes.{found}
+use Rattle.integration.specs.Passes.{asFound}
 use Rattle.integration.specs.declared.Placement.{Placement}
 use Rattle.integration.specs.declared.Placement.the-variants.{Missing, Crossed, Unplaceable, Below}
-use Rattle.integration.specs.Placements.{placed, placementOf}
+use Rattle.integration.specs.Placements.{placementAt, placementOf}
 
 module _ (cs : List Character) (i : Insert) where
   -- ---- from the places
@@ -45,19 +45,19 @@ module _ (cs : List Character) (i : Insert) where
       unfolding above held
       ordered = rw (lt-ltb (placeOf cs (i .previous)) (placeOf cs (i .next)) l, le-leb (placeOf cs (i .next)) (suc (length cs)) h)
 
-      pub places-at : (k : ℕ) → At k ≡ found (position cs (i .id) (between cs i)) → placementOf cs i ≡ Below k
-      unfolding placementOf placed
+      pub places-at : (k : ℕ) → At k ≡ asFound (position cs (i .id) (between cs i)) → placementOf cs i ≡ Below k
+      unfolding placementOf placementAt
       places-at k e = rw (ready, ordered) (go (position cs (i .id) (between cs i)) e)
         where
-          go : (o : Option ℕ) → At k ≡ found o → placed o ≡ Below k
+          go : (o : Option ℕ) → At k ≡ asFound o → placementAt o ≡ Below k
           go none e = absurd (let z : _≡_ {A = ℕ} 0 1 = cc in omega arith)
           go (some j) e = let z : j ≡ k = cc in rw z
 
-      pub places-nothing : Nothing ≡ found (position cs (i .id) (between cs i)) → placementOf cs i ≡ Unplaceable
-      unfolding placementOf placed
+      pub places-nothing : Nothing ≡ asFound (position cs (i .id) (between cs i)) → placementOf cs i ≡ Unplaceable
+      unfolding placementOf placementAt
       places-nothing e = rw (ready, ordered) (go (position cs (i .id) (between cs i)) e)
         where
-          go : (o : Option ℕ) → Nothing ≡ found o → placed o ≡ Unplaceable
+          go : (o : Option ℕ) → Nothing ≡ asFound o → placementAt o ≡ Unplaceable
           go none e = refl
           go (some j) e = absurd (let z : _≡_ {A = ℕ} 0 1 = cc in omega arith)
 
@@ -75,7 +75,7 @@ module _ (cs : List Character) (i : Insert) where
       × (k ≤ length cs)
 
   pub says : (p : Placement) → placementOf cs i ≡ p → Says p
-  unfolding placementOf placed crossed unplaceable
+  unfolding placementOf placementAt crossed unplaceable
   says p e = subst Says e (go (executable cs (insert i)) refl (above cs (i .previous) (i .next)) refl (position cs (i .id) (between cs i)) refl)
     where
       go : (b : Bool) → executable cs (insert i) ≡ b → (a : Bool) → above cs (i .previous) (i .next) ≡ a → (o : Option ℕ) → position cs (i .id) (between cs i) ≡ o

@@ -17,7 +17,7 @@ use Rattle.convergence.proofs.Placing.{narrowing}
 use Rattle.integration.specs.declared.Interval.{Interval}
 use Rattle.index.specs.Keys.{key, Small, AllSmall, keys}
 use Rattle.index.specs.Packing.{previousPlaces, nextPlaces}
-use Rattle.integration.specs.Passes.{Entry, entries, outside, candidateIn, walkIn, passIn, width, searchIn, positionIn}
+use Rattle.integration.specs.Passes.{LocatedKey, locatedKeys, outside, candidateIn, walkIn, passIn, width, searchIn, positionIn}
 use Rattle.index.proofs.Keys.{key-below}
 
 -- an interval as the rules have it
@@ -35,12 +35,12 @@ adjacent-width v = agree _ _ (λ e. le-leb (width v) 1 (near (leb-true _ _ e))) 
     far h = omega arith
 
 module _ (cs : List Character) (x : Identifier) (p : Small x) where
-  abbrev entry : ℕ → Character → Entry
+  abbrev entry : ℕ → Character → LocatedKey
   entry k c = record { place = k; id = key (c .id); above = placeOf cs (c .previous); below = placeOf cs (c .next) }
 
   -- characters as a pass sees them, the first at place k
-  abbrev seen : ℕ → List Character → List Entry
-  seen k ds = entries k (keys ds) (map (λ c. placeOf cs (c .previous)) ds) (map (λ c. placeOf cs (c .next)) ds)
+  abbrev seen : ℕ → List Character → List LocatedKey
+  seen k ds = locatedKeys k (keys ds) (map (λ c. placeOf cs (c .previous)) ds) (map (λ c. placeOf cs (c .next)) ds)
 
   candidate-same : (v : Interval) (k : ℕ) (c : Character) → candidateIn v (entry k c) ≡ candidate cs (rules v) (record { place = k; at = c })
   unfolding candidateIn outside candidate
@@ -48,7 +48,7 @@ module _ (cs : List Character) (x : Identifier) (p : Small x) where
 
   -- passing what is no candidate over is keeping the candidates
   walk-narrowed : (v : Interval) (u k : ℕ) (ds : List Character) → AllSmall ds → rules (walkIn (key x) v u (seen k ds)) ≡ narrowed x (record { upper = u; lower = v .lower }) (keep (candidate cs (rules v)) (located k ds))
-  unfolding walkIn entries narrowed
+  unfolding walkIn locatedKeys narrowed
   walk-narrowed v u k [] s = refl
   walk-narrowed v u k (d ∷ ds) s =
       let later : AllSmall ds = λ c m. s c (List·Memᴰ·tail m) in
@@ -69,8 +69,8 @@ module _ (cs : List Character) (x : Identifier) (p : Small x) where
       go false e f = f
 
 module _ (cs : List Character) (s : AllSmall cs) (x : Identifier) (p : Small x) where
-  abbrev all : List Entry
-  all = entries 1 (keys cs) (previousPlaces cs) (nextPlaces cs)
+  abbrev all : List LocatedKey
+  all = locatedKeys 1 (keys cs) (previousPlaces cs) (nextPlaces cs)
 
   -- each step of the rules is one pass
   pass-narrowed : (v : Interval) → rules (passIn all (key x) v) ≡ narrowed x (rules v) (candidates cs (rules v))

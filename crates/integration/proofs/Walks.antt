@@ -1,4 +1,4 @@
--- A walk over entries: it passes over what is not strictly between the ends, so it may begin at the upper end and need not
+-- A walk over locatedKeys: it passes over what is not strictly between the ends, so it may begin at the upper end and need not
 -- go past the lower.
 use Prim.Native.Nat.{ℕ, zero, suc, _+_, _-_, _≤_, _<_, min}
 use native.Mathlib.Nat.{add-zero, add-suc, suc-add}
@@ -13,9 +13,9 @@ use lib.ListN.{length, drop, getD, drop-of-length-le}
 use lib.Seq.{drop-cons}
 use Rattle.lists.proofs.Tests.{side}
 use Rattle.integration.specs.declared.Interval.{Interval}
-use Rattle.integration.specs.Passes.{Entry, entries, outside, candidateIn, walkIn, passIn}
+use Rattle.integration.specs.Passes.{LocatedKey, locatedKeys, outside, candidateIn, walkIn, passIn}
 
-module _ (v : Interval) (e : Entry) where
+module _ (v : Interval) (e : LocatedKey) where
   too-high : e .place ≤ v .upper → candidateIn v e ≡ false
   unfolding candidateIn
   too-high h = rw (le-ltb (v .upper) (e .place) h)
@@ -29,7 +29,7 @@ module _ (v : Interval) (e : Entry) where
   unfolding candidateIn
   between h g = rw (lt-ltb (v .upper) (e .place) h, lt-ltb (e .place) (v .lower) g)
 
-module _ (k : ℕ) (v : Interval) (u : ℕ) (e : Entry) (es : List Entry) where
+module _ (k : ℕ) (v : Interval) (u : ℕ) (e : LocatedKey) (es : List LocatedKey) where
   pub walk-over : candidateIn v e ≡ false → walkIn k v u (e ∷ es) ≡ walkIn k v u es
   unfolding walkIn
   walk-over c = rw c
@@ -48,27 +48,27 @@ module _ (k : ℕ) (v : Interval) where
   walk-none u = refl
 
   -- nothing at the lower end or past it is a candidate
-  walk-below : (u p : ℕ) (ids above below : List ℕ) → v .lower ≤ p → walkIn k v u (entries p ids above below) ≡ record { upper = u; lower = v .lower }
-  unfolding entries
+  walk-below : (u p : ℕ) (ids above below : List ℕ) → v .lower ≤ p → walkIn k v u (locatedKeys p ids above below) ≡ record { upper = u; lower = v .lower }
+  unfolding locatedKeys
   walk-below u p [] above below h = walk-none u
   walk-below u p (x ∷ ids) [] below h = walk-none u
   walk-below u p (x ∷ ids) (a ∷ above) [] h = walk-none u
   walk-below u p (x ∷ ids) (a ∷ above) (b ∷ below) h = walk-over k v u _ _ (too-low v _ h) ∙ walk-below u (suc p) ids above below (omega arith)
 
-short-above : (p : ℕ) (ids below : List ℕ) → entries p ids [] below ≡ []
-unfolding entries
+short-above : (p : ℕ) (ids below : List ℕ) → locatedKeys p ids [] below ≡ []
+unfolding locatedKeys
 short-above p [] below = refl
 short-above p (x ∷ ids) below = refl
 
-short-below : (p : ℕ) (ids above : List ℕ) → entries p ids above [] ≡ []
-unfolding entries
+short-below : (p : ℕ) (ids above : List ℕ) → locatedKeys p ids above [] ≡ []
+unfolding locatedKeys
 short-below p [] above = refl
 short-below p (x ∷ ids) [] = refl
 short-below p (x ∷ ids) (a ∷ above) = refl
 
 -- nothing down to the upper end is one either
-walk-above : (k : ℕ) (v : Interval) (u n p : ℕ) (ids above below : List ℕ) → p + n ≤ suc (v .upper) → walkIn k v u (entries p ids above below) ≡ walkIn k v u (entries (p + n) (drop n ids) (drop n above) (drop n below))
-unfolding entries
+walk-above : (k : ℕ) (v : Interval) (u n p : ℕ) (ids above below : List ℕ) → p + n ≤ suc (v .upper) → walkIn k v u (locatedKeys p ids above below) ≡ walkIn k v u (locatedKeys (p + n) (drop n ids) (drop n above) (drop n below))
+unfolding locatedKeys
 walk-above k v u zero p ids above below h = rw (add-zero p)
 walk-above k v u (suc n) p [] above below h = refl
 walk-above k v u (suc n) p (x ∷ ids) [] below h = rw (short-above (p + suc n) (drop n ids) (drop (suc n) below))
@@ -78,19 +78,19 @@ walk-above k v u (suc n) p (x ∷ ids) (a ∷ above) (b ∷ below) h =
 
 module _ (ids above below : List ℕ) where
   -- the entry at index i, and those from it on
-  abbrev pub at : ℕ → Entry
+  abbrev pub at : ℕ → LocatedKey
   at i = record { place = suc i; id = getD ids i 0; above = getD above i 0; below = getD below i 0 }
 
-  abbrev pub from : ℕ → List Entry
-  from i = entries (suc i) (drop i ids) (drop i above) (drop i below)
+  abbrev pub from : ℕ → List LocatedKey
+  from i = locatedKeys (suc i) (drop i ids) (drop i above) (drop i below)
 
   pub from-step : (i : ℕ) → i < length ids → i < length above → i < length below → from i ≡ at i ∷ from (suc i)
-  unfolding entries
+  unfolding locatedKeys
   from-step i x a b = rw (drop-cons ids i 0 x, drop-cons above i 0 a, drop-cons below i 0 b)
 
   module _ (k : ℕ) (v : Interval) where
     -- a pass begins at the upper end
-    pub pass-from : passIn (entries 1 ids above below) k v ≡ walkIn k v (v .upper) (from (v .upper))
+    pub pass-from : passIn (locatedKeys 1 ids above below) k v ≡ walkIn k v (v .upper) (from (v .upper))
     unfolding passIn
     pass-from =
         let first : 1 + v .upper ≡ suc (v .upper) = omega arith in
@@ -98,7 +98,7 @@ module _ (ids above below : List ℕ) where
 
     -- past the end of a list, or at the lower end, nothing is left to pass
     pub from-end : (u i : ℕ) → min (min (length ids) (min (length above) (length below))) (v .lower - 1) ≤ i → walkIn k v u (from i) ≡ record { upper = u; lower = v .lower }
-    unfolding entries
+    unfolding locatedKeys
     from-end u i h = go (side (length ids) i) (side (length above) i) (side (length below) i)
       where
         go : (length ids ≤ i) ⊎ (i < length ids) → (length above ≤ i) ⊎ (i < length above) → (length below ≤ i) ⊎ (i < length below) → walkIn k v u (from i) ≡ record { upper = u; lower = v .lower }

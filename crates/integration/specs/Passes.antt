@@ -9,37 +9,37 @@ use Rattle.index.specs.declared.Found.{Found}
 use Rattle.index.specs.declared.Found.the-variants.{At, Nothing}
 
 -- a character as a pass sees it: its place and key, and where its previous and its next stand
-pub record Entry : Type 0 where
+pub record LocatedKey : Type 0 where
   pub place : ℕ
   pub id : ℕ
   pub above : ℕ
   pub below : ℕ
 
--- the entries, the first at place p, as many as each of the lists has
-unfoldable pub entries : ℕ → List ℕ → List ℕ → List ℕ → List Entry
-entries p [] above below = []
-entries p (x ∷ ids) [] below = []
-entries p (x ∷ ids) (a ∷ above) [] = []
-entries p (x ∷ ids) (a ∷ above) (b ∷ below) =
-    record { place = p; id = x; above = a; below = b } ∷ entries (suc p) ids above below
+-- the locatedKeys, the first at place p, as many as each of the lists has
+unfoldable pub locatedKeys : ℕ → List ℕ → List ℕ → List ℕ → List LocatedKey
+locatedKeys p [] above below = []
+locatedKeys p (x ∷ ids) [] below = []
+locatedKeys p (x ∷ ids) (a ∷ above) [] = []
+locatedKeys p (x ∷ ids) (a ∷ above) (b ∷ below) =
+    record { place = p; id = x; above = a; below = b } ∷ locatedKeys (suc p) ids above below
 
 -- both neighbours stand outside the interval, or at its ends
 unfoldable pub outside : ℕ → ℕ → Interval → Bool
 outside a b v = leb a (v .upper) && leb (v .lower) b
 
 -- strictly between, with both neighbours outside
-unfoldable pub candidateIn : Interval → Entry → Bool
+unfoldable pub candidateIn : Interval → LocatedKey → Bool
 candidateIn v e = ltb (v .upper) (e .place) && ltb (e .place) (v .lower) && outside (e .above) (e .below) v
 
 -- what is left of a pass once the candidate at u is the last passed: k stops at the first candidate that is not below it
-unfoldable pub walkIn : ℕ → Interval → ℕ → List Entry → Interval
+unfoldable pub walkIn : ℕ → Interval → ℕ → List LocatedKey → Interval
 walkIn k v u [] = record { upper = u; lower = v .lower }
 walkIn k v u (e ∷ es) =
     cond (candidateIn v e) (cond (ltb (e .id) k) (walkIn k v (e .place) es) (record { upper = u; lower = e .place }))
     (walkIn k v u es)
 
 -- one pass: the interval between the candidates that k comes to stand between
-unfoldable pub passIn : List Entry → ℕ → Interval → Interval
+unfoldable pub passIn : List LocatedKey → ℕ → Interval → Interval
 passIn es k v = walkIn k v (v .upper) es
 
 -- how far apart the ends are, at most 1 where nothing is between
@@ -47,7 +47,7 @@ abbrev pub width : Interval → ℕ
 width v = v .lower - v .upper
 
 -- the place just above which k goes in, after at most n passes; a pass that leaves the interval as it was met no candidate
-unfoldable pub searchIn : ℕ → List Entry → ℕ → Interval → Option ℕ
+unfoldable pub searchIn : ℕ → List LocatedKey → ℕ → Interval → Option ℕ
 searchIn zero es k v = some (v .upper)
 searchIn (suc n) es k v =
     cond (leb (width v) 1) (some (v .upper))
@@ -56,9 +56,9 @@ searchIn (suc n) es k v =
 -- each pass narrows the interval, so as many passes as its lower place are enough
 unfoldable pub positionIn : List ℕ → List ℕ → List ℕ → ℕ → ℕ → ℕ → Option ℕ
 positionIn ids above below k upper lower =
-    searchIn lower (entries 1 ids above below) k (record { upper = upper; lower = lower })
+    searchIn lower (locatedKeys 1 ids above below) k (record { upper = upper; lower = lower })
 
 -- as the code answers it
-abbrev pub found : Option ℕ → Found
-found none = Nothing
-found (some n) = At n
+abbrev pub asFound : Option ℕ → Found
+asFound none = Nothing
+asFound (some n) = At n

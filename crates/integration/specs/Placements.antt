@@ -12,13 +12,13 @@ use Rattle.integration.specs.declared.Placement.{Placement}
 use Rattle.integration.specs.declared.Placement.the-variants.{Missing, Crossed, Unplaceable, Below}
 
 -- as it is answered
-unfoldable pub placed : Option ℕ → Placement
-placed none = Unplaceable
-placed (some k) = Below k
+unfoldable pub placementAt : Option ℕ → Placement
+placementAt none = Unplaceable
+placementAt (some k) = Below k
 
 -- what is met first: a neighbour that is not held, condition 8, condition 9; else the place above the insert
 unfoldable pub placementOf : List Character → Insert → Placement
 placementOf cs i =
     cond (executable cs (insert i))
-    (cond (above cs (i .previous) (i .next)) (placed (position cs (i .id) (between cs i))) Crossed)
+    (cond (above cs (i .previous) (i .next)) (placementAt (position cs (i .id) (between cs i))) Crossed)
     Missing

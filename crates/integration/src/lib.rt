@@ -7,7 +7,7 @@ ghost use Prim.Native.Nat.{_<_, _≤_};
 ghost use lib.ListN.{length};
 ghost use Rattle.index.specs.Keys.{key, AllSmall, keys};
 ghost use Rattle.index.specs.Packing.{previousPlaces, nextPlaces};
-ghost use Rattle.integration.specs.Passes.{entries, outside, passIn, width, positionIn, found};
+ghost use Rattle.integration.specs.Passes.{locatedKeys, outside, passIn, width, positionIn, asFound};
 ghost use mathlib.Core.List.{List};
 ghost use Rattle.woot.specs.declared.Character.{Character};
 ghost use Rattle.index.specs.Index.{indexOf};
@@ -20,38 +20,38 @@ struct Interval {
 }
 
 // How far apart the ends are.
-fn width(v: Interval) -> usize
-    ensures { λ r. ⌜ r ≡ width v ⌝ }
+fn width(interval: Interval) -> usize
+    ensures { λ r. ⌜ r ≡ width interval ⌝ }
 {
-    if v.lower <= v.upper {
+    if interval.lower <= interval.upper {
         return 0;
     }
-    v.lower - v.upper
+    interval.lower - interval.upper
 }
 
 // Whether the places of both neighbours are outside the interval, or its ends.
-fn outside(above: u16, below: u16, v: Interval) -> bool
-    ensures { λ r. ⌜ r ≡ outside above below v ⌝ }
+fn outside(above: u16, below: u16, interval: Interval) -> bool
+    ensures { λ r. ⌜ r ≡ outside above below interval ⌝ }
 {
-    if v.upper < above as usize {
+    if interval.upper < above as usize {
         return false;
     }
-    v.lower <= below as usize
+    interval.lower <= below as usize
 }
 
 // One pass over the candidates: the interval between the last that the key passes and the one that it stops at.
-fn pass(ids: &[u32], above: &[u16], below: &[u16], key: u32, v: Interval) -> Interval
-    requires { ⌜ v .upper < v .lower ⌝ }
-    ensures { λ r. ⌜ r ≡ passIn (entries 1 (now (ids .entry)) (now (above .entry)) (now (below .entry))) key v ⌝ }
+fn pass(ids: &[u32], above: &[u16], below: &[u16], key: u32, interval: Interval) -> Interval
+    requires { ⌜ interval .upper < interval .lower ⌝ }
+    ensures { λ r. ⌜ r ≡ passIn (locatedKeys 1 (now (ids .entry)) (now (above .entry)) (now (below .entry))) key interval ⌝ }
 {
     let shortest = index::lesser(ids.len(), index::lesser(above.len(), below.len()));
-    let end = index::lesser(shortest, v.lower - 1);
-    let mut upper = v.upper;
+    let end = index::lesser(shortest, interval.lower - 1);
+    let mut upper = interval.upper;
     let mut i = upper;
     while i < end {
         let at = i;
         i += 1;
-        if outside(above[at], below[at], v) {
+        if outside(above[at], below[at], interval) {
             if key <= ids[at] {
                 return Interval { upper, lower: i };
             }
@@ -60,7 +60,7 @@ fn pass(ids: &[u32], above: &[u16], below: &[u16], key: u32, v: Interval) -> Int
     }
     Interval {
         upper,
-        lower: v.lower,
+        lower: interval.lower,
     }
 }
 
@@ -74,7 +74,7 @@ fn position(
     upper: usize,
     lower: usize,
 ) -> Found
-    ensures { λ r. ⌜ r ≡ found (positionIn (now (ids .entry)) (now (above .entry)) (now (below .entry)) key upper lower) ⌝ }
+    ensures { λ r. ⌜ r ≡ asFound (positionIn (now (ids .entry)) (now (above .entry)) (now (below .entry)) key upper lower) ⌝ }
 {
     let mut v = Interval { upper, lower };
     while 1 < width(v) {
@@ -97,13 +97,13 @@ pub enum Placement {
 }
 
 // Finds the place of an insert among the characters with these keys, whose neighbours have these places.
-fn place_among(ids: &[u32], above: &[u16], below: &[u16], i: Insert) -> Placement
+fn place_among(ids: &[u32], above: &[u16], below: &[u16], insert: Insert) -> Placement
     requires { ⌜ length (now ids) ≤ 1024 ⌝ }
-    ensures { λ r. ⌜ ((cs : List Character) → now (ids .entry) ≡ keys cs → now (above .entry) ≡ previousPlaces cs → now (below .entry) ≡ nextPlaces cs → AllSmall cs → r ≡ placementOf cs i) ⌝ }
+    ensures { λ r. ⌜ ((cs : List Character) → now (ids .entry) ≡ keys cs → now (above .entry) ≡ previousPlaces cs → now (below .entry) ≡ nextPlaces cs → AllSmall cs → r ≡ placementOf cs insert) ⌝ }
 {
-    let previous = i.previous;
-    let next = i.next;
-    let id = i.id;
+    let previous = insert.previous;
+    let next = insert.next;
+    let id = insert.id;
     let upper = index::place_of(ids, index::key(previous));
     let lower = index::place_of(ids, index::key(next));
     if ids.len() + 1 < upper {
@@ -123,12 +123,12 @@ fn place_among(ids: &[u32], above: &[u16], below: &[u16], i: Insert) -> Placemen
 
 // Finds the place of an insert among n characters, by their index. A step of the calls and not a call: they have an index
 // of the characters in use.
-pub fn find_place(x: Index, n: usize, i: Insert) -> Placement
+pub fn find_place(index: Index, n: usize, insert: Insert) -> Placement
     requires { ⌜ n ≤ 1024 ⌝ }
-    ensures { λ r. ⌜ ((cs : List Character) → x ≡ indexOf cs → length cs ≡ n → AllSmall cs → r ≡ placementOf cs i) ⌝ }
+    ensures { λ r. ⌜ ((cs : List Character) → index ≡ indexOf cs → length cs ≡ n → AllSmall cs → r ≡ placementOf cs insert) ⌝ }
 {
-    let ids = x.ids;
-    let above = x.above;
-    let below = x.below;
-    place_among(&ids[..n], &above[..n], &below[..n], i)
+    let ids = index.ids;
+    let above = index.above;
+    let below = index.below;
+    place_among(&ids[..n], &above[..n], &below[..n], insert)
 }

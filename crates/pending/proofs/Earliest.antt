@@ -21,20 +21,13 @@ use Rattle.woot.specs.Pending.{executable, earliest}
 use Rattle.lists.proofs.Tests.{and-left, and-right}
 use Rattle.index.specs.declared.Found.{Found}
 use Rattle.index.specs.declared.Found.the-variants.{At, Nothing}
-use Rattle.index.specs.Keys.{key, Small, AllSmall, keys, placeIn}
+use Rattle.index.specs.Keys.{key, Small, AllSmall, keys, placeIn, further, firstIndex}
 use Rattle.index.proofs.Indices.{index-here, place-keys}
+use Rattle.index.proofs.Searches.{further-none, further-more}
 use Rattle.storage.specs.Edit.{removed}
 use Rattle.pending.specs.Queue.{firstKey, secondKey}
-use Rattle.pending.specs.Ready.{further, firstIndex, heldIn, readyIn}
+use Rattle.pending.specs.Ready.{heldIn, readyIn}
 use Rattle.pending.proofs.Pending.{range-keyed}
-
-further-none : (r : Found) → further 0 r ≡ r
-further-none (At j) = ap At (omega arith)
-further-none Nothing = refl
-
-further-more : (i : ℕ) (r : Found) → further i (further 1 r) ≡ further (i + 1) r
-further-more i (At j) = ap At (omega arith)
-further-more i Nothing = refl
 
 -- ---- the search
 

@@ -1,29 +1,28 @@
 -- A search among the keys answers who has the identifier: the keys of what is in range tell identifiers apart.
 use Prim.Native.Nat.{ℕ, _<_}
-use native.Mathlib.Omega.{arith}
-use mathlib.Core.Path.{_≡_, refl, sym, ap, subst, _∙_}
-use mathlib.Core.Bool.{true, false}
-use mathlib.Core.List.{List, map, map-map, List·Memᴰ, Memᴰ·of-map}
-use borrow.Author.Tests.{lt-ltb, le-ltb}
-use lib.ListN.{length, getD, length-map, List·getD-map}
+use mathlib.Core.Path.{_≡_, refl, sym, subst, _∙_}
+use mathlib.Core.Bool.{Bool, false}
+use mathlib.Core.List.{List, map, List·Memᴰ, Memᴰ·of-map}
+use borrow.Author.Tests.{eqb-true}
+use lib.Dec.{eqb}
+use lib.ListN.{length, getD}
 use Rattle.woot.specs.declared.Identifier.{Identifier}
 use Rattle.woot.specs.declared.Operation.{Operation}
 use Rattle.woot.specs.declared.Character.{Character}
 use Rattle.woot.specs.Identifiers.{same}
 use Rattle.lists.specs.Lists.{any}
 use Rattle.woot.specs.Operations.{inserts}
-use Rattle.woot.specs.Placing.{identifiers, indexOf}
-use Rattle.convergence.proofs.Places.{index-any, index-member}
-use Rattle.convergence.proofs.InsertionPoint.{get-member}
-use Rattle.index.specs.Keys.{key, Small, AllSmall, keys, indexIn}
-use Rattle.index.proofs.Indices.{index-keys}
+use Rattle.woot.specs.Placing.{identifiers}
+use Rattle.index.specs.Keys.{key, Small, AllSmall, keys, found}
 use Rattle.index.specs.declared.Found.{Found}
 use Rattle.index.specs.declared.Found.the-variants.{At, Nothing}
-use Rattle.pending.specs.declared.known.Holder.{Holder}
-use Rattle.pending.specs.declared.known.Holder.the-variants.{Character as ofCharacter, Pending as ofPending, Nobody}
-use Rattle.pending.specs.Queue.{ownKey, found}
-use Rattle.pending.specs.Known.{firstHolder, holderIn}
-use Rattle.pending.proofs.Searches.{at-found, nothing-found}
+use Rattle.pending.specs.declared.holder.Holder.{Holder}
+use Rattle.pending.specs.declared.holder.Holder.the-variants.{Character as ofCharacter, Pending as ofPending, Nobody}
+use Rattle.pending.specs.Queue.{ownKey}
+use Rattle.pending.specs.Holder.{firstHolder, holderIn}
+use Rattle.index.proofs.Searches.{Says, first-says, first-map}
+use Rattle.index.proofs.Keys.{key-injective, key-same}
+use Rattle.lists.proofs.Members.{any-none, none-any}
 use Rattle.pending.proofs.Pending.{AllKeyed, InsertAt, Sought, sought}
 
 -- the character at the index has it
@@ -33,34 +32,28 @@ pub record CharacterAt (x : Identifier) (cs : List Character) (k : ℕ) : Type 0
   pub member : (d : Character) → List·Memᴰ (getD cs k d) cs
 
 module _ (x : Identifier) (small : Small x) (positive : 0 < key x) (cs : List Character) (all : AllSmall cs) where
-  key-index : indexIn (key x) (keys cs) ≡ indexOf x (identifiers cs)
-  key-index =
-      ap (indexIn (key x)) (sym (map-map key (λ (c : Character). c .id) cs))
-      ∙ index-keys x small (identifiers cs) (λ y m. let w = Memᴰ·of-map (λ (c : Character). c .id) cs m in rw (← (w .2)) (all (w .0) (w .1) .id))
-
   -- what the search among the characters' keys answers
   abbrev pub Stands : Found → Type 0
   Stands (At k) = CharacterAt x cs k
   Stands Nothing = any (same x) (identifiers cs) ≡ false
 
+  -- the character has the key
+  abbrev named : Character → Bool
+  named c = eqb (key x) (key (c .id))
+
   pub stands : {r : Found} → found (key x) (keys cs) ≡ r → Stands r
-  stands {r = At k} e =
-      let f = at-found (key x) (keys cs) e in
-      let size = length-map cs (λ (c : Character). key (c .id)) in
-      let at : indexOf x (identifiers cs) ≡ k = sym key-index ∙ f .0 in
-      let within : k < length cs = omega arith in
-      let ids = length-map cs (λ (c : Character). c .id) in
-      let held : any (same x) (identifiers cs) ≡ true = sym (index-any x (identifiers cs)) ∙ lt-ltb (indexOf x (identifiers cs)) (length (identifiers cs)) (omega arith) in
-      record {
-        within = within;
-        is = λ d. sym (rw at at (index-member x (d .id) (identifiers cs) held)) ∙ List·getD-map (λ (c : Character). c .id) cs k d;
-        member = λ d. get-member cs k d within;
-      }
-  stands {r = Nothing} e =
-      let f = nothing-found (key x) (keys cs) e in
-      let size = length-map cs (λ (c : Character). key (c .id)) in
-      let ids = length-map cs (λ (c : Character). c .id) in
-      sym (index-any x (identifiers cs)) ∙ le-ltb (indexOf x (identifiers cs)) (length (identifiers cs)) (omega (arith, key-index))
+  unfolding found
+  stands {r} e = go r (first-says named cs (sym (first-map (λ (c : Character). key (c .id)) (λ n. eqb (key x) n) cs) ∙ e))
+    where
+      go : (r : Found) → Says named cs r → Stands r
+      go (At k) f =
+          let is = key-injective x (f .here .id) small (all (f .here) (f .member) .id) (eqb-true (key x) (key (f .here .id)) (f .passes)) in
+          record { within = f .within; is = λ d. rw (f .at d) is; member = λ d. rw (f .at d) (f .member) }
+      go Nothing f =
+          none-any (same x) (identifiers cs)
+          (λ y m.
+          let w = Memᴰ·of-map (λ (c : Character). c .id) cs m in
+          rw (← (w .2)) (sym (key-same x (w .0 .id) small (all (w .0) (w .1) .id)) ∙ any-none named f (w .1)))
 
   module _ (ps : List Operation) (keyed : AllKeyed ps) where
     -- what a holder says

@@ -1,14 +1,13 @@
 -- What the searches find in the numbers is what the rules say of the operations: keys are equal as their identifiers are,
 -- and the key of an insert is not the 0 of a delete.
-use mathlib.Core.Path.{_≡_, refl, ap, _∙_, subst}
+use mathlib.Core.Path.{_≡_, refl, sym, ap, _∙_}
 use mathlib.Core.Bool.{Bool, true, false, _||_, not}
 use mathlib.Core.List.{List, [], _∷_, map, List·Memᴰ, List·Memᴰ·head, List·Memᴰ·tail}
 use mathlib.Core.Option.{some}
-use mathlib.Core.Logic.{_⊎_, inl, inr, ⊎-elim}
-use Prim.Native.Nat.{ℕ, zero, suc, _≤_, _<_}
+use Prim.Native.Nat.{ℕ, zero, suc, _<_}
 use native.Mathlib.Nat.{not-suc-le-zero, le-of-suc-le-suc}
 use native.Mathlib.Omega.{arith}
-use borrow.Author.Tests.{ne-eqb}
+use borrow.Author.Tests.{eqb-true, ne-eqb}
 use lib.Dec.{eqb}
 use lib.ListN.{length, getD, take, length-map}
 use Rattle.woot.specs.declared.Identifier.{Identifier}
@@ -21,18 +20,17 @@ use Rattle.lists.specs.Lists.{any, every, keep}
 use Rattle.woot.specs.Operations.{sender, character, origin, inserts, sameDelete, sameOperation}
 use Rattle.woot.specs.Pending.{sentBy, pendingFrom, earliest, behind}
 use Rattle.woot.specs.Ranges.{inRange, deleteInRange, characterInRange, characterId, siteNumber}
-use Rattle.lists.proofs.Tests.{and-right, either, or-false-left, or-false-right}
-use Rattle.convergence.proofs.Identifiers.{same-eq, same-ne, eq-same}
+use Rattle.lists.proofs.Tests.{and-right, clash, or-false, or-false-left, or-false-right}
+use Rattle.convergence.proofs.Identifiers.{eq-same}
 use Rattle.lists.proofs.Members.{member-any, every-member, keep-map}
 use Rattle.convergence.proofs.Ranges.{in-range, character-site}
-use Rattle.index.specs.Keys.{key, Small, indexIn}
+use Rattle.index.specs.Keys.{key, Small, found}
 use Rattle.index.proofs.Keys.{key-same, key-injective, character-small, range-small}
-use Rattle.index.proofs.Indices.{index-here, index-later}
 use Rattle.index.specs.declared.Found.{Found}
 use Rattle.index.specs.declared.Found.the-variants.{At, Nothing}
 use Rattle.storage.specs.Edit.{removed}
-use Rattle.pending.specs.Queue.{ownKey, firstKey, found, hasDelete}
-use Rattle.pending.proofs.Searches.{at-found, nothing-found}
+use Rattle.pending.specs.Queue.{ownKey, firstKey, hasDelete}
+use Rattle.index.proofs.Searches.{FoundAt, Says, first-says, first-map}
 
 -- ---- what the numbers are to be
 
@@ -103,57 +101,42 @@ abbrev pub Sought : Identifier → List Operation → Found → Type 0
 Sought x os (At n) = (n < length os) × InsertAt x os n
 Sought x os Nothing = any (λ j. same x (j .id)) (inserts os) ≡ false
 
+member-inserts : (os : List Operation) {i : Insert} → List·Memᴰ (insert i) os → List·Memᴰ i (inserts os)
+member-inserts (insert j ∷ os) {i} (List·Memᴰ·head e) = List·Memᴰ·head (let q : i ≡ j = cc in q)
+member-inserts (insert j ∷ os) (List·Memᴰ·tail m) = List·Memᴰ·tail (member-inserts os m)
+member-inserts (delete d ∷ os) (List·Memᴰ·head e) = let z : _≡_ {A = ℕ} 0 1 = cc in absurd (omega arith)
+member-inserts (delete d ∷ os) (List·Memᴰ·tail m) = member-inserts os m
+
 module _ (x : Identifier) (small : Small x) (positive : 0 < key x) where
-  -- past an operation that is not the one
-  later-delete : (d : Delete) {os : List Operation} {n : ℕ} → InsertAt x os n → InsertAt x (delete d ∷ os) (suc n)
-  later-delete d r = record { here = r .here; at = r .at; is = r .is; member = r .member }
+  -- the operation has the key of x
+  abbrev owns : Operation → Bool
+  owns o = eqb (key x) (ownKey o)
 
-  later-insert : (i : Insert) {os : List Operation} {n : ℕ} → InsertAt x os n → InsertAt x (insert i ∷ os) (suc n)
-  later-insert i r = record { here = r .here; at = r .at; is = r .is; member = List·Memᴰ·tail (r .member) }
-
-  first-insert : (i : Insert) (os : List Operation) → same x (i .id) ≡ true → InsertAt x (insert i ∷ os) 0
-  first-insert i os e = record { here = i; at = λ d. refl; is = same-eq x (i .id) e; member = List·Memᴰ·head refl }
-
-  -- an insert of x is at n, or there is none
-  abbrev Stands : List Operation → ℕ → Type 0
-  Stands os n = ((n < length os) × InsertAt x os n) ⊎ ((length os ≤ n) × (any (λ j. same x (j .id)) (inserts os) ≡ false))
-
-  past-delete : (d : Delete) {os : List Operation} {n : ℕ} → Stands os n → Stands (delete d ∷ os) (suc n)
-  past-delete d = ⊎-elim (λ r. inl (omega arith, later-delete d (r .1))) (λ r. inr (omega arith, r .1))
-
-  past-insert : (i : Insert) → same x (i .id) ≡ false → {os : List Operation} {n : ℕ} → Stands os n → Stands (insert i ∷ os) (suc n)
-  past-insert i e = ⊎-elim (λ r. inl (omega arith, later-insert i (r .1))) (λ r. inr (omega arith, rw e (r .1)))
-
-  stands : (os : List Operation) → AllKeyed os → Stands os (indexIn (key x) (map ownKey os))
+  insert-at : (os : List Operation) → AllKeyed os → (n : ℕ) → FoundAt owns os n → InsertAt x os n
   unfolding ownKey
-  stands [] a = inr (omega arith, refl)
-  stands (delete d ∷ os) a =
-      let later = index-later (key x) 0 (map ownKey os) (λ (e : key x ≡ 0). omega arith) in
-      rw later (past-delete d (stands os (others-keyed a)))
-  stands (insert i ∷ os) a = ⊎-elim here (λ e. there e (stands os (others-keyed a))) (either (same x (i .id)))
+  insert-at os a n f = go (f .here) (f .at) (f .member) (f .passes)
     where
-      here : same x (i .id) ≡ true → Stands (insert i ∷ os) (indexIn (key x) (key (i .id) ∷ map ownKey os))
-      here e =
-          let first = index-here (key x) (key (i .id)) (map ownKey os) (ap key (same-eq x (i .id) e)) in
-          rw first (inl (omega arith, first-insert i os e))
+      go : (o : Operation) → ((d : Operation) → getD os n d ≡ o) → List·Memᴰ o os → owns o ≡ true → InsertAt x os n
+      go (insert i) at m e =
+          record { here = i; at = at; is = key-injective x (i .id) small (a (insert i) m .id) (eqb-true (key x) (key (i .id)) e); member = member-inserts os m }
+      go (delete d) at m e = clash e (not-zero (key x) positive)
 
-      there : same x (i .id) ≡ false → Stands os (indexIn (key x) (map ownKey os))
-          → Stands (insert i ∷ os) (indexIn (key x) (key (i .id) ∷ map ownKey os))
-      there e r =
-          let other : key x ≡ key (i .id) → ⊥ =
-          λ f. same-ne x (i .id) e (key-injective x (i .id) small (first-keyed a .id) f) in
-          rw (index-later (key x) (key (i .id)) (map ownKey os) other) (past-insert i e r)
+  no-insert : (os : List Operation) → AllKeyed os → any owns os ≡ false → any (λ j. same x (j .id)) (inserts os) ≡ false
+  unfolding ownKey
+  no-insert [] a f = refl
+  no-insert (insert i ∷ os) a f =
+      or-false (sym (key-same x (i .id) small (first-keyed a .id)) ∙ or-false-left (owns (insert i)) _ f)
+      (no-insert os (others-keyed a) (or-false-right (owns (insert i)) _ f))
+  no-insert (delete d ∷ os) a f = no-insert os (others-keyed a) (or-false-right (owns (delete d)) _ f)
 
   -- what the search for x answers
   pub sought : (os : List Operation) → AllKeyed os → {r : Found} → found (key x) (map ownKey os) ≡ r → Sought x os r
-  sought os a {r = At n} e =
-      let f = at-found (key x) (map ownKey os) e in
-      let size = length-map os ownKey in
-      ⊎-elim (λ s. (omega arith, subst (InsertAt x os) (f .0) (s .1))) (λ s. absurd (omega arith)) (stands os a)
-  sought os a {r = Nothing} e =
-      let f = nothing-found (key x) (map ownKey os) e in
-      let size = length-map os ownKey in
-      ⊎-elim (λ s. absurd (omega arith)) (λ s. s .1) (stands os a)
+  unfolding found
+  sought os a {r} e = go r (first-says owns os (sym (first-map ownKey (λ k. eqb (key x) k) os) ∙ e))
+    where
+      go : (r : Found) → Says owns os r → Sought x os r
+      go (At n) f = (f .within, insert-at os a n f)
+      go Nothing f = no-insert os a f
 
 -- ---- a delete
 

@@ -1,4 +1,4 @@
--- The pending operations in their slots, packed: the numbers of the first so many fill the arrays from the
+-- The pending operations in their slots, queueOf: the numbers of the first so many fill the arrays from the
 -- front.
 use mathlib.Core.Path.{_≡_, sym, ap, _∙_}
 use mathlib.Core.List.{List, [], map, map-map}
@@ -14,7 +14,7 @@ use Rattle.lists.proofs.Padding.{pad-none, pad-length, pad-map, pad-take}
 use Rattle.pending.specs.declared.queue.Queue.{Queue}
 use Rattle.pending.specs.declared.queue.Entry.{Entry}
 use Rattle.storage.specs.Edit.{operations}
-use Rattle.pending.specs.Queue.{ownKey, firstKey, secondKey, entryOf, packed}
+use Rattle.pending.specs.Queue.{ownKey, firstKey, secondKey, entryOf, queueOf}
 
 -- the array holds the numbers of the first i
 abbrev pub filled : (Operation → ℕ) → List Pending → ℕ → List ℕ
@@ -47,10 +47,10 @@ filled-more {ps} {i} f d e is h g =
     more : (k : Operation → ℕ) → set (filled k ps i) i (k (getD ps i d .operation)) ≡ filled k ps (i + 1)
     more k = pad-map pendingSlots 0 (λ (p : Pending). k (p .operation)) d ps i h g
 
-pub filled-packed : {ps : List Pending} {n : ℕ} {own first second senders : List ℕ} → Filled ps n own first second senders
-    → _≡_ {A = Queue} (record { own = own; first = first; second = second; senders = senders }) (packed (operations (take n ps)))
-unfolding packed
-filled-packed {ps} {n} f = λ i. record {
+pub filled-queue : {ps : List Pending} {n : ℕ} {own first second senders : List ℕ} → Filled ps n own first second senders
+    → _≡_ {A = Queue} (record { own = own; first = first; second = second; senders = senders }) (queueOf (operations (take n ps)))
+unfolding queueOf
+filled-queue {ps} {n} f = λ i. record {
   own = (f .of-own ∙ whole ownKey) i;
   first = (f .of-first ∙ whole firstKey) i;
   second = (f .of-second ∙ whole secondKey) i;
@@ -67,9 +67,9 @@ pub record FullQueue (q : Queue) : Type 0 where
   pub second : length (q .second) ≡ pendingSlots
   pub senders : length (q .senders) ≡ pendingSlots
 
-pub packed-full : (os : List Operation) → length os ≤ pendingSlots → FullQueue (packed os)
-unfolding packed
-packed-full os h =
+pub queue-full : (os : List Operation) → length os ≤ pendingSlots → FullQueue (queueOf os)
+unfolding queueOf
+queue-full os h =
     record { own = full ownKey; first = full firstKey; second = full secondKey; senders = full sender }
   where
     full : (f : Operation → ℕ) → length (pad pendingSlots 0 (map f os)) ≡ pendingSlots
@@ -80,18 +80,18 @@ module _ (os : List Operation) (n : ℕ) (e : length os ≡ n) where
   used : (f : Operation → ℕ) → take n (pad pendingSlots 0 (map f os)) ≡ map f os
   used f = pad-take pendingSlots 0 (map f os) n (length-map os f ∙ e)
 
-  pub packed-own : take n (packed os .own) ≡ map ownKey os
-  unfolding packed
-  packed-own = used ownKey
+  pub queue-own : take n (queueOf os .own) ≡ map ownKey os
+  unfolding queueOf
+  queue-own = used ownKey
 
-  pub packed-first : take n (packed os .first) ≡ map firstKey os
-  unfolding packed
-  packed-first = used firstKey
+  pub queue-first : take n (queueOf os .first) ≡ map firstKey os
+  unfolding queueOf
+  queue-first = used firstKey
 
-  pub packed-second : take n (packed os .second) ≡ map secondKey os
-  unfolding packed
-  packed-second = used secondKey
+  pub queue-second : take n (queueOf os .second) ≡ map secondKey os
+  unfolding queueOf
+  queue-second = used secondKey
 
-  pub packed-senders : take n (packed os .senders) ≡ map sender os
-  unfolding packed
-  packed-senders = used sender
+  pub queue-senders : take n (queueOf os .senders) ≡ map sender os
+  unfolding queueOf
+  queue-senders = used sender

@@ -1,3 +1,3 @@
 pub mod Queue
 pub mod Ready
-pub mod Known
+pub mod Holder

@@ -1,19 +1,16 @@
 -- The pending operations as numbers, and what the searches in them find.
 use Prim.Native.Nat.{ℕ}
-use mathlib.Core.Bool.{Bool, false, _&&_, _||_, cond}
+use mathlib.Core.Bool.{Bool, false, _&&_, _||_}
 use mathlib.Core.List.{List, [], _∷_, map}
-use lib.Dec.{eqb, ltb}
-use lib.ListN.{length}
+use lib.Dec.{eqb}
 use Rattle.woot.specs.declared.Operation.{Operation}
 use Rattle.woot.specs.declared.Operation.the-variants.{Insert as insert, Delete as delete}
 use Rattle.woot.specs.Operations.{sender}
 use Rattle.woot.specs.State.{pendingSlots}
 use Rattle.lists.specs.Padding.{pad}
-use Rattle.index.specs.Keys.{key, indexIn}
+use Rattle.index.specs.Keys.{key}
 use Rattle.pending.specs.declared.queue.Entry.{Entry}
 use Rattle.pending.specs.declared.queue.Queue.{Queue}
-use Rattle.index.specs.declared.Found.{Found}
-use Rattle.index.specs.declared.Found.the-variants.{At, Nothing}
 
 -- the numbers of one operation
 unfoldable pub ownKey : Operation → ℕ
@@ -32,18 +29,14 @@ unfoldable pub entryOf : Operation → Entry
 entryOf o = record { own = ownKey o; first = firstKey o; second = secondKey o; sender = sender o }
 
 -- the numbers of each operation in its slot
-unfoldable pub packed : List Operation → Queue
-packed os =
+unfoldable pub queueOf : List Operation → Queue
+queueOf os =
     record {
       own = pad pendingSlots 0 (map ownKey os);
       first = pad pendingSlots 0 (map firstKey os);
       second = pad pendingSlots 0 (map secondKey os);
       senders = pad pendingSlots 0 (map sender os);
     }
-
--- the first index of k
-unfoldable pub found : ℕ → List ℕ → Found
-found k xs = cond (ltb (indexIn k xs) (length xs)) (At (indexIn k xs)) Nothing
 
 -- one of the operations with these numbers is a delete of the key k by the sender n
 unfoldable pub hasDelete : ℕ → ℕ → List ℕ → List ℕ → List ℕ → Bool

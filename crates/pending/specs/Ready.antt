@@ -1,22 +1,12 @@
 -- Which pending operation has all it needs, on keys.
-use Prim.Native.Nat.{ℕ, suc, _+_}
+use Prim.Native.Nat.{ℕ, suc}
 use mathlib.Core.Bool.{Bool, _&&_, cond}
 use mathlib.Core.List.{List, [], _∷_}
 use lib.Dec.{leb}
 use lib.ListN.{length}
-use Rattle.index.specs.Keys.{placeIn}
+use Rattle.index.specs.Keys.{placeIn, further}
 use Rattle.index.specs.declared.Found.{Found}
 use Rattle.index.specs.declared.Found.the-variants.{At, Nothing}
-
--- the index n further on
-abbrev pub further : ℕ → Found → Found
-further n (At j) = At (n + j)
-further n Nothing = Nothing
-
--- the index of the first that passes the test
-unfoldable pub firstIndex : {A : Type 0} → (A → Bool) → List A → Found
-firstIndex p [] = Nothing
-firstIndex p (x ∷ xs) = cond (p x) (At 0) (further 1 (firstIndex p xs))
 
 -- the key has a place among the keys and the marks
 unfoldable pub heldIn : List ℕ → ℕ → Bool

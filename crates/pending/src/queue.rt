@@ -1,5 +1,4 @@
-// The pending operations packed into numbers: a call packs them once, and lends the numbers to every search that it makes.
-use index::Found;
+// The pending operations queueOf into numbers: a call packs them once, and lends the numbers to every search that it makes.
 use woot::Operation;
 use woot::Pending;
 ghost use mathlib.Core.Path.{_≡_};
@@ -8,7 +7,7 @@ ghost use lib.Dec.{eqb};
 ghost use lib.ListN.{length, take};
 ghost use Rattle.lists.specs.Lists.{keep};
 ghost use Rattle.storage.specs.Edit.{operations};
-ghost use Rattle.pending.specs.Queue.{entryOf, packed, found, hasDelete};
+ghost use Rattle.pending.specs.Queue.{entryOf, queueOf, hasDelete};
 
 // A pending operation as numbers: of an insert its own key, its previous's and its next's, of a delete 0, its target's key
 // and 0; and the sender.
@@ -28,10 +27,10 @@ pub struct Queue {
 }
 
 // The numbers of one operation.
-fn entry_of(o: Operation) -> Entry
-    ensures { λ r. ⌜ r ≡ entryOf o ⌝ }
+fn entry_of(operation: Operation) -> Entry
+    ensures { λ r. ⌜ r ≡ entryOf operation ⌝ }
 {
-    match o {
+    match operation {
         Operation::Insert(i) => {
             let id = i.id;
             let previous = i.previous;
@@ -56,8 +55,8 @@ fn entry_of(o: Operation) -> Entry
 }
 
 // Packs the first n pending operations, all of them where n is above the slots.
-pub fn pack(ps: [Pending; 512], n: usize) -> Queue
-    ensures { λ r. ⌜ r ≡ packed (operations (take n ps)) ⌝ }
+pub fn queue_of(pending: [Pending; 512], n: usize) -> Queue
+    ensures { λ r. ⌜ r ≡ queueOf (operations (take n pending)) ⌝ }
 {
     let end = index::lesser(n, 512);
     let mut own = [0u32; 512];
@@ -66,7 +65,7 @@ pub fn pack(ps: [Pending; 512], n: usize) -> Queue
     let mut senders = [0u8; 512];
     let mut i = 0;
     while i < end {
-        let p = ps[i];
+        let p = pending[i];
         let o = p.operation;
         let e = entry_of(o);
         own[i] = e.own;
@@ -111,20 +110,6 @@ pub fn count_inserts(own: &[u32]) -> usize
         i += 1;
     }
     count
-}
-
-// The first of the operations whose own key is the given one.
-pub fn find(own: &[u32], key: u32) -> Found
-    ensures { λ r. ⌜ r ≡ found key (now (own .entry)) ⌝ }
-{
-    let mut i = 0;
-    while i < own.len() {
-        if own[i] == key {
-            return Found::At(i);
-        }
-        i += 1;
-    }
-    Found::Nothing
 }
 
 // Whether the numbers of an operation are those of a delete of the key by the sender.

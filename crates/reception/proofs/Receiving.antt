@@ -28,8 +28,8 @@ use Rattle.convergence.proofs.Steps.{fresh-insert, space-insert, unused}
 use Rattle.pending.specs.declared.queue.Queue.{Queue}
 use Rattle.delivery.specs.declared.Work.{Work}
 use Rattle.integration.specs.declared.Placement.the-variants.{Crossed as crossing, Unplaceable as placeless, Below}
-use Rattle.pending.specs.declared.known.Seen.{Seen}
-use Rattle.pending.specs.declared.known.Seen.the-variants.{New as unseen, Same, Other}
+use Rattle.pending.specs.declared.holder.Seen.{Seen}
+use Rattle.pending.specs.declared.holder.Seen.the-variants.{New as unseen, Same, Other}
 use Rattle.storage.specs.Replicas.{received}
 use Rattle.reception.specs.Needs.{seenOf, New}
 use Rattle.integration.specs.Placements.{placementOf}

@@ -14,15 +14,15 @@ use Rattle.woot.specs.Placing.{identifiers}
 use Rattle.woot.specs.Form.{replicaWellFormed}
 use Rattle.woot.specs.Calls.{duplicate, conflicting}
 use Rattle.pending.specs.declared.queue.Queue.{Queue}
-use Rattle.pending.specs.Queue.{packed}
+use Rattle.pending.specs.Queue.{queueOf}
 use Rattle.woot.specs.declared.Operation.the-variants.{Insert as insert}
-use Rattle.pending.specs.declared.known.Seen.{Seen}
-use Rattle.pending.specs.declared.known.Seen.the-variants.{New as unseen, Same, Other}
+use Rattle.pending.specs.declared.holder.Seen.{Seen}
+use Rattle.pending.specs.declared.holder.Seen.the-variants.{New as unseen, Same, Other}
 
 -- an operation that is neither refused nor known by what is looked at first
 pub record New (r : Replica) (q : Queue) (o : Operation) : Type 0 where
   pub form : replicaWellFormed r ≡ true
-  pub queue : q ≡ packed (meaning r .pending)
+  pub queue : q ≡ queueOf (meaning r .pending)
   pub ranged : inRange o ≡ true
   pub new : duplicate (meaning r) o ≡ false
   pub sole : conflicting (meaning r) o ≡ false
@@ -30,7 +30,7 @@ pub record New (r : Replica) (q : Queue) (o : Operation) : Type 0 where
 -- a delete whose target no character is
 pub record Absent (r : Replica) (q : Queue) (d : Delete) : Type 0 where
   pub form : replicaWellFormed r ≡ true
-  pub queue : q ≡ packed (meaning r .pending)
+  pub queue : q ≡ queueOf (meaning r .pending)
   pub ranged : deleteInRange d ≡ true
   pub nowhere : any (same (d .target)) (identifiers (meaning r .characters)) ≡ false
 

@@ -3,9 +3,9 @@
 use index::Found;
 use index::Index;
 use integration::Placement;
-use pending::known;
-use pending::known::Holder;
-use pending::known::Seen;
+use pending::holder;
+use pending::holder::Holder;
+use pending::holder::Seen;
 use pending::queue::Queue;
 use pending::room;
 use woot::Answer;
@@ -17,7 +17,7 @@ use woot::Refusal;
 use woot::Replica;
 ghost use mathlib.Core.Path.{_≡_};
 ghost use mathlib.Core.Bool.{true, false};
-ghost use Rattle.woot.specs.declared.Operation.the-variants.{Insert as insert, Delete as delete};
+ghost use Rattle.woot.specs.declared.Operation.the-variants.{Insert as ofInsert, Delete as ofDelete};
 ghost use Rattle.woot.specs.declared.Answer.the-variants.{Refused};
 ghost use Rattle.woot.specs.Operations.{sender};
 ghost use Rattle.woot.specs.Ranges.{insertInRange, deleteInRange};
@@ -26,166 +26,166 @@ ghost use Rattle.woot.specs.Pending.{executable};
 ghost use Rattle.woot.specs.Form.{replicaWellFormed};
 ghost use Rattle.woot.specs.Calls.{documentFull};
 ghost use Rattle.storage.specs.Replicas.{received};
-ghost use Rattle.pending.specs.Queue.{packed};
+ghost use Rattle.pending.specs.Queue.{queueOf};
 ghost use Rattle.reception.specs.Needs.{seenOf, New, Absent};
 ghost use Rattle.integration.specs.Placements.{placementOf};
 ghost use Rattle.well_formed.specs.Examined.{Examined};
 ghost use Rattle.integration.specs.declared.Placement.the-variants.{Below};
 
 // The replica as it was, with an answer.
-fn kept(r: Replica, answer: Answer) -> Receipt
-    ensures { λ x. ⌜ x ≡ record { answer = answer; replica = r } ⌝ }
+fn answered(replica: Replica, answer: Answer) -> Receipt
+    ensures { λ r. ⌜ r ≡ record { answer = answer; replica = replica } ⌝ }
 {
-    Receipt { answer, replica: r }
+    Receipt { answer, replica }
 }
 
 // The replica as it was, with a refusal.
-pub fn refused(r: Replica, refusal: Refusal) -> Receipt
-    ensures { λ x. ⌜ x ≡ record { answer = Refused refusal; replica = r } ⌝ }
+pub fn refused(replica: Replica, refusal: Refusal) -> Receipt
+    ensures { λ r. ⌜ r ≡ record { answer = Refused refusal; replica = replica } ⌝ }
 {
-    kept(r, Answer::Refused(refusal))
+    answered(replica, Answer::Refused(refusal))
 }
 
 // Who sends an operation.
-fn sender(o: Operation) -> u8
-    ensures { λ r. ⌜ r ≡ sender o ⌝ }
+fn sender(operation: Operation) -> u8
+    ensures { λ r. ⌜ r ≡ sender operation ⌝ }
 {
-    match o {
+    match operation {
         Operation::Insert(i) => i.id.site,
         Operation::Delete(d) => d.sender,
     }
 }
 
 // Whether an operation is an insert, and the document is full.
-fn is_full(r: Replica, q: Queue, o: Operation) -> bool
-    requires { ⌜ (replicaWellFormed r ≡ true) × (q ≡ packed (meaning r .pending)) ⌝ }
-    ensures { λ x. ⌜ x ≡ documentFull (meaning r) o ⌝ }
+fn is_full(replica: Replica, queue: Queue, operation: Operation) -> bool
+    requires { ⌜ (replicaWellFormed replica ≡ true) × (queue ≡ queueOf (meaning replica .pending)) ⌝ }
+    ensures { λ r. ⌜ r ≡ documentFull (meaning replica) operation ⌝ }
 {
-    let d = r.document;
-    match o {
-        Operation::Insert(_) => room::document_full(d.length, q, d.waiting),
+    let d = replica.document;
+    match operation {
+        Operation::Insert(_) => room::document_full(d.length, queue, d.waiting),
         Operation::Delete(_) => false,
     }
 }
 
 // Puts an operation that lacks something at the end of the pending ones.
-fn defer(r: Replica, q: Queue, o: Operation) -> Receipt
-    requires { ⌜ New r q o × (executable (meaning r .characters) o ≡ false) ⌝ }
-    ensures { λ x. ⌜ x ≡ received r o ⌝ }
+fn defer(replica: Replica, queue: Queue, operation: Operation) -> Receipt
+    requires { ⌜ New replica queue operation × (executable (meaning replica .characters) operation ≡ false) ⌝ }
+    ensures { λ r. ⌜ r ≡ received replica operation ⌝ }
 {
-    let d = r.document;
-    if room::sender_full(q, d.waiting, sender(o)) {
-        return refused(r, Refusal::SenderFull);
+    let d = replica.document;
+    if room::sender_full(queue, d.waiting, sender(operation)) {
+        return refused(replica, Refusal::SenderFull);
     }
-    if is_full(r, q, o) {
-        return refused(r, Refusal::DocumentFull);
+    if is_full(replica, queue, operation) {
+        return refused(replica, Refusal::DocumentFull);
     }
     Receipt {
         answer: Answer::Deferred,
-        replica: storage::deferred(r, o),
+        replica: storage::deferred(replica, operation),
     }
 }
 
 // Carries out an insert that goes in after the first k characters.
-fn integrate(r: Replica, q: Queue, i: Insert, k: usize) -> Receipt
-    requires { ⌜ New r q (insert i) × (placementOf (meaning r .characters) i ≡ Below k) ⌝ }
-    ensures { λ x. ⌜ x ≡ received r (insert i) ⌝ }
+fn integrate(replica: Replica, queue: Queue, insert: Insert, k: usize) -> Receipt
+    requires { ⌜ New replica queue (ofInsert insert) × (placementOf (meaning replica .characters) insert ≡ Below k) ⌝ }
+    ensures { λ r. ⌜ r ≡ received replica (ofInsert insert) ⌝ }
 {
-    if is_full(r, q, Operation::Insert(i)) {
-        return refused(r, Refusal::DocumentFull);
+    if is_full(replica, queue, Operation::Insert(insert)) {
+        return refused(replica, Refusal::DocumentFull);
     }
-    let site = r.site;
-    let w = delivery::integrated(r, i, k);
-    let document = w.document;
+    let site = replica.site;
+    let work = delivery::integrate_and_drain(replica, insert, k);
+    let document = work.document;
     Receipt {
         answer: Answer::Done {
-            integrated: w.integrated,
-            discarded: w.discarded,
+            integrated: work.integrated,
+            discarded: work.discarded,
         },
         replica: Replica { site, document },
     }
 }
 
 // Receives an insert that is new.
-fn receive_new(r: Replica, x: Index, q: Queue, i: Insert) -> Receipt
-    requires { ⌜ Examined r x q × New r q (insert i) ⌝ }
-    ensures { λ y. ⌜ y ≡ received r (insert i) ⌝ }
+fn receive_new(replica: Replica, index: Index, queue: Queue, insert: Insert) -> Receipt
+    requires { ⌜ Examined replica index queue × New replica queue (ofInsert insert) ⌝ }
+    ensures { λ r. ⌜ r ≡ received replica (ofInsert insert) ⌝ }
 {
-    let d = r.document;
-    match integration::find_place(x, d.length, i) {
-        Placement::Missing => defer(r, q, Operation::Insert(i)),
-        Placement::Crossed => refused(r, Refusal::Crossed),
-        Placement::Unplaceable => refused(r, Refusal::Unplaceable),
-        Placement::Below(k) => integrate(r, q, i, k),
+    let d = replica.document;
+    match integration::find_place(index, d.length, insert) {
+        Placement::Missing => defer(replica, queue, Operation::Insert(insert)),
+        Placement::Crossed => refused(replica, Refusal::Crossed),
+        Placement::Unplaceable => refused(replica, Refusal::Unplaceable),
+        Placement::Below(k) => integrate(replica, queue, insert, k),
     }
 }
 
 // What a received insert is to a replica that is well formed.
-fn seen_by(r: Replica, x: Index, q: Queue, i: Insert) -> Seen
-    requires { ⌜ Examined r x q × (insertInRange i ≡ true) ⌝ }
-    ensures { λ y. ⌜ y ≡ seenOf (meaning r) i ⌝ }
+fn seen_by(replica: Replica, index: Index, queue: Queue, insert: Insert) -> Seen
+    requires { ⌜ Examined replica index queue × (insertInRange insert ≡ true) ⌝ }
+    ensures { λ r. ⌜ r ≡ seenOf (meaning replica) insert ⌝ }
 {
-    let d = r.document;
-    let id = i.id;
-    match known::holder_of(x, d.length, q, d.waiting, id) {
+    let d = replica.document;
+    let id = insert.id;
+    match holder::holder_of(index, d.length, queue, d.waiting, id) {
         Holder::Character(k) => {
             let c = d.characters[k];
-            known::compared(i, known::origin(c))
+            holder::compared(insert, holder::origin(c))
         }
         Holder::Pending(j) => {
             let p = d.pending[j];
             let o = p.operation;
-            known::compared_pending(i, o)
+            holder::compared_pending(insert, o)
         }
         Holder::Nobody => Seen::New,
     }
 }
 
 // Receives an insert.
-pub fn receive_insert(r: Replica, x: Index, q: Queue, i: Insert) -> Receipt
-    requires { ⌜ Examined r x q × (insertInRange i ≡ true) ⌝ }
-    ensures { λ y. ⌜ y ≡ received r (insert i) ⌝ }
+pub fn receive_insert(replica: Replica, index: Index, queue: Queue, insert: Insert) -> Receipt
+    requires { ⌜ Examined replica index queue × (insertInRange insert ≡ true) ⌝ }
+    ensures { λ r. ⌜ r ≡ received replica (ofInsert insert) ⌝ }
 {
-    match seen_by(r, x, q, i) {
-        Seen::New => receive_new(r, x, q, i),
-        Seen::Same => kept(r, Answer::Duplicate),
-        Seen::Other => refused(r, Refusal::Conflict),
+    match seen_by(replica, index, queue, insert) {
+        Seen::New => receive_new(replica, index, queue, insert),
+        Seen::Same => answered(replica, Answer::Duplicate),
+        Seen::Other => refused(replica, Refusal::Conflict),
     }
 }
 
 // Receives a delete whose target is not held.
-fn receive_absent(r: Replica, q: Queue, e: Delete) -> Receipt
-    requires { ⌜ Absent r q e ⌝ }
-    ensures { λ y. ⌜ y ≡ received r (delete e) ⌝ }
+fn receive_absent(replica: Replica, queue: Queue, delete: Delete) -> Receipt
+    requires { ⌜ Absent replica queue delete ⌝ }
+    ensures { λ r. ⌜ r ≡ received replica (ofDelete delete) ⌝ }
 {
-    let d = r.document;
-    if known::is_pending(q, d.waiting, e) {
-        return kept(r, Answer::Duplicate);
+    let d = replica.document;
+    if holder::is_pending(queue, d.waiting, delete) {
+        return answered(replica, Answer::Duplicate);
     }
-    defer(r, q, Operation::Delete(e))
+    defer(replica, queue, Operation::Delete(delete))
 }
 
 // Receives a delete.
-pub fn receive_delete(r: Replica, x: Index, q: Queue, e: Delete) -> Receipt
-    requires { ⌜ Examined r x q × (deleteInRange e ≡ true) ⌝ }
-    ensures { λ y. ⌜ y ≡ received r (delete e) ⌝ }
+pub fn receive_delete(replica: Replica, index: Index, queue: Queue, delete: Delete) -> Receipt
+    requires { ⌜ Examined replica index queue × (deleteInRange delete ≡ true) ⌝ }
+    ensures { λ r. ⌜ r ≡ received replica (ofDelete delete) ⌝ }
 {
-    let d = r.document;
-    let target = e.target;
-    match known::character_of(x, d.length, target) {
+    let d = replica.document;
+    let target = delete.target;
+    match holder::character_of(index, d.length, target) {
         Found::At(k) => {
             let c = d.characters[k];
             if !c.is_visible() {
-                return kept(r, Answer::Duplicate);
+                return answered(replica, Answer::Duplicate);
             }
             Receipt {
                 answer: Answer::Done {
                     integrated: 1,
                     discarded: 0,
                 },
-                replica: storage::hidden(r, e),
+                replica: storage::hidden(replica, delete),
             }
         }
-        Found::Nothing => receive_absent(r, q, e),
+        Found::Nothing => receive_absent(replica, queue, delete),
     }
 }

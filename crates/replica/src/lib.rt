@@ -11,67 +11,67 @@ ghost use Rattle.storage.specs.Replicas.{received, inserted, deleted};
 ghost use Rattle.replica.specs.Texts.{textWritten, textOut};
 
 // Whether a replica is well formed. (Document 01: in form.)
-pub fn well_formed(r: Replica) -> bool
-    ensures { λ x. ⌜ x ≡ replicaWellFormed r ⌝ }
+pub fn well_formed(replica: Replica) -> bool
+    ensures { λ r. ⌜ r ≡ replicaWellFormed replica ⌝ }
 {
-    let c = well_formed::check(r);
-    c.formed
+    let checked = well_formed::check(replica);
+    checked.formed
 }
 
 // Receives an operation. (Document 01: receiving.)
-pub fn receive(r: Replica, o: Operation) -> Receipt
-    ensures { λ x. ⌜ x ≡ received r o ⌝ }
+pub fn receive(replica: Replica, operation: Operation) -> Receipt
+    ensures { λ r. ⌜ r ≡ received replica operation ⌝ }
 {
-    if !ranges::in_range(o) {
-        return reception::refused(r, Refusal::Range);
+    if !ranges::in_range(operation) {
+        return reception::refused(replica, Refusal::Range);
     }
-    let c = well_formed::check(r);
-    if !c.formed {
-        return reception::refused(r, Refusal::Form);
+    let checked = well_formed::check(replica);
+    if !checked.formed {
+        return reception::refused(replica, Refusal::Form);
     }
-    let index = c.index;
-    let queue = c.queue;
-    match o {
-        Operation::Insert(i) => reception::receive_insert(r, index, queue, i),
-        Operation::Delete(d) => reception::receive_delete(r, index, queue, d),
+    let index = checked.index;
+    let queue = checked.queue;
+    match operation {
+        Operation::Insert(i) => reception::receive_insert(replica, index, queue, i),
+        Operation::Delete(d) => reception::receive_delete(replica, index, queue, d),
     }
 }
 
 // Inserts a code point at the insertion point, counted in visible characters, and answers the operation to be sent.
 // (Document 01: typing.)
-pub fn insert(r: Replica, point: usize, code_point: u32) -> Generated
-    ensures { λ x. ⌜ x ≡ inserted r point «code_point» ⌝ }
+pub fn insert(replica: Replica, point: usize, code_point: u32) -> Generated
+    ensures { λ r. ⌜ r ≡ inserted replica point «code_point» ⌝ }
 {
     if !ranges::code_point(code_point) {
-        return generation::refused(r, Refusal::Range);
+        return generation::refused(replica, Refusal::Range);
     }
-    let c = well_formed::check(r);
-    if !c.formed {
-        return generation::refused(r, Refusal::Form);
+    let checked = well_formed::check(replica);
+    if !checked.formed {
+        return generation::refused(replica, Refusal::Form);
     }
-    let index = c.index;
-    let queue = c.queue;
-    generation::insert_visible(r, index, queue, point, code_point)
+    let index = checked.index;
+    let queue = checked.queue;
+    generation::insert_visible(replica, index, queue, point, code_point)
 }
 
 // Deletes the visible character at the index, counted from 1, and answers the operation to be sent. (Document 01: erasing.)
-pub fn delete(r: Replica, index: usize) -> Generated
-    ensures { λ x. ⌜ x ≡ deleted r index ⌝ }
+pub fn delete(replica: Replica, index: usize) -> Generated
+    ensures { λ r. ⌜ r ≡ deleted replica index ⌝ }
 {
-    if !well_formed(r) {
-        return generation::refused(r, Refusal::Form);
+    if !well_formed(replica) {
+        return generation::refused(replica, Refusal::Form);
     }
-    generation::delete_visible(r, index)
+    generation::delete_visible(replica, index)
 }
 
 // The visible text of a replica as UTF-8 into the slice: its length, or refusal 3 or 12, and then no byte is changed.
-pub fn visible_text(r: Replica, out: &mut [u8]) -> Written
-    ensures { λ x. ⌜ (x ≡ textWritten r (now (out .entry))) × (now (out .exit) ≡ textOut r (now (out .entry))) ⌝ }
+pub fn visible_text(replica: Replica, out: &mut [u8]) -> Written
+    ensures { λ r. ⌜ (r ≡ textWritten replica (now (out .entry))) × (now (out .exit) ≡ textOut replica (now (out .entry))) ⌝ }
 {
-    if !well_formed(r) {
+    if !well_formed(replica) {
         return Written::Refused(Refusal::Form);
     }
-    let d = r.document;
+    let d = replica.document;
     let cs = d.characters;
     visible::write_text(cs, d.length, out)
 }

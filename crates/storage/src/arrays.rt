@@ -34,16 +34,16 @@ fn blank_character() -> Character
 fn copied(
     mut out: [Character; 1024],
     at: usize,
-    cs: [Character; 1024],
+    characters: [Character; 1024],
     from: usize,
     count: usize,
 ) -> [Character; 1024]
     requires { ⌜ (at + count ≤ 1024) × (from + count ≤ 1024) ⌝ }
-    ensures { λ r. ⌜ r ≡ copiedInto out at cs from count ⌝ }
+    ensures { λ r. ⌜ r ≡ copiedInto out at characters from count ⌝ }
 {
     let mut i = 0;
     while i < count {
-        let c = cs[from + i];
+        let c = characters[from + i];
         out[at + i] = c;
         i += 1;
     }
@@ -51,53 +51,65 @@ fn copied(
 }
 
 // The first n characters, and filler after them.
-pub fn kept(cs: [Character; 1024], n: usize) -> [Character; 1024]
-    ensures { λ r. ⌜ r ≡ pad 1024 blankCharacter (take n cs) ⌝ }
+pub fn kept(characters: [Character; 1024], n: usize) -> [Character; 1024]
+    ensures { λ r. ⌜ r ≡ pad 1024 blankCharacter (take n characters) ⌝ }
 {
-    copied([blank_character(); 1024], 0, cs, 0, index::lesser(n, 1024))
+    copied(
+        [blank_character(); 1024],
+        0,
+        characters,
+        0,
+        index::lesser(n, 1024),
+    )
 }
 
-// The first n characters, but for one that there is no slot for, with c after the first k of them.
-pub fn inserted(cs: [Character; 1024], n: usize, k: usize, c: Character) -> [Character; 1024]
-    ensures { λ r. ⌜ r ≡ pad 1024 blankCharacter (insertAt k c (take (min n 1023) cs)) ⌝ }
+// The array with the character put in after the first k of the first n. Where they fill every slot, the last of them is
+// dropped.
+pub fn put_in(
+    characters: [Character; 1024],
+    n: usize,
+    k: usize,
+    character: Character,
+) -> [Character; 1024]
+    ensures { λ r. ⌜ r ≡ pad 1024 blankCharacter (insertAt k character (take (min n 1023) characters)) ⌝ }
 {
     let size = index::lesser(n, 1023);
     let at = index::lesser(k, size);
-    let mut out = kept(cs, at);
-    out[at] = c;
-    copied(out, at + 1, cs, at, size - at)
+    let mut out = kept(characters, at);
+    out[at] = character;
+    copied(out, at + 1, characters, at, size - at)
 }
 
 // What a delete makes of a character: hidden, if it is the target.
-fn marked(c: Character, deletion: Delete) -> Character
-    ensures { λ r. ⌜ r ≡ deletedBy deletion c ⌝ }
+fn marked(character: Character, delete: Delete) -> Character
+    ensures { λ r. ⌜ r ≡ deletedBy delete character ⌝ }
 {
-    let id = c.id;
-    let target = deletion.target;
+    let id = character.id;
+    let target = delete.target;
     if ranges::same_id(target, id) {
-        let previous = c.previous;
-        let next = c.next;
+        let previous = character.previous;
+        let next = character.next;
         return Character {
             id,
-            code_point: c.code_point,
+            code_point: character.code_point,
             visible: false,
             previous,
             next,
         };
     }
-    c
+    character
 }
 
 // The first n characters with the target of a delete hidden.
-pub fn hidden(cs: [Character; 1024], n: usize, deletion: Delete) -> [Character; 1024]
-    ensures { λ r. ⌜ r ≡ pad 1024 blankCharacter (integrateDelete (take n cs) deletion) ⌝ }
+pub fn hidden(characters: [Character; 1024], n: usize, delete: Delete) -> [Character; 1024]
+    ensures { λ r. ⌜ r ≡ pad 1024 blankCharacter (integrateDelete (take n characters) delete) ⌝ }
 {
     let end = index::lesser(n, 1024);
     let mut out = [blank_character(); 1024];
     let mut i = 0;
     while i < end {
-        let c = cs[i];
-        out[i] = marked(c, deletion);
+        let c = characters[i];
+        out[i] = marked(c, delete);
         i += 1;
     }
     out
@@ -122,16 +134,16 @@ fn blank_pending() -> Pending
 fn copied_pending(
     mut out: [Pending; 512],
     at: usize,
-    ps: [Pending; 512],
+    pending: [Pending; 512],
     from: usize,
     count: usize,
 ) -> [Pending; 512]
     requires { ⌜ (at + count ≤ 512) × (from + count ≤ 512) ⌝ }
-    ensures { λ r. ⌜ r ≡ copiedInto out at ps from count ⌝ }
+    ensures { λ r. ⌜ r ≡ copiedInto out at pending from count ⌝ }
 {
     let mut i = 0;
     while i < count {
-        let p = ps[from + i];
+        let p = pending[from + i];
         out[at + i] = p;
         i += 1;
     }
@@ -139,29 +151,29 @@ fn copied_pending(
 }
 
 // The first n pending operations, and filler after them.
-pub fn kept_pending(ps: [Pending; 512], n: usize) -> [Pending; 512]
-    ensures { λ r. ⌜ r ≡ pad 512 blankPending (take n ps) ⌝ }
+pub fn kept_pending(pending: [Pending; 512], n: usize) -> [Pending; 512]
+    ensures { λ r. ⌜ r ≡ pad 512 blankPending (take n pending) ⌝ }
 {
-    copied_pending([blank_pending(); 512], 0, ps, 0, index::lesser(n, 512))
+    copied_pending([blank_pending(); 512], 0, pending, 0, index::lesser(n, 512))
 }
 
-// The first n pending operations, but for one that there is no slot for, with o after the last.
-pub fn pushed(ps: [Pending; 512], n: usize, o: Operation) -> [Pending; 512]
-    ensures { λ r. ⌜ r ≡ pad 512 blankPending (take (min n 511) ps ++ waiting o ∷ []) ⌝ }
+// The array with the operation put behind the first n. Where they fill every slot, the last of them is dropped.
+pub fn pushed(pending: [Pending; 512], n: usize, operation: Operation) -> [Pending; 512]
+    ensures { λ r. ⌜ r ≡ pad 512 blankPending (take (min n 511) pending ++ waiting operation ∷ []) ⌝ }
 {
     let size = index::lesser(n, 511);
-    let mut out = kept_pending(ps, size);
-    out[size] = Pending { operation: o };
+    let mut out = kept_pending(pending, size);
+    out[size] = Pending { operation };
     out
 }
 
 // The first n pending operations without the one at j.
-pub fn without(ps: [Pending; 512], n: usize, j: usize) -> [Pending; 512]
-    ensures { λ r. ⌜ r ≡ pad 512 blankPending (removed j (take n ps)) ⌝ }
+pub fn without(pending: [Pending; 512], n: usize, j: usize) -> [Pending; 512]
+    ensures { λ r. ⌜ r ≡ pad 512 blankPending (removed j (take n pending)) ⌝ }
 {
     let size = index::lesser(n, 512);
     if size <= j {
-        return kept_pending(ps, size);
+        return kept_pending(pending, size);
     }
-    copied_pending(kept_pending(ps, j), j, ps, j + 1, size - (j + 1))
+    copied_pending(kept_pending(pending, j), j, pending, j + 1, size - (j + 1))
 }

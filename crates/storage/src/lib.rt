@@ -13,15 +13,15 @@ ghost use Rattle.woot.specs.Placing.{integrateDelete};
 ghost use Rattle.woot.specs.Calls.{withCharacters, withPending};
 
 // The replica with the target of a delete hidden. A step of the calls and not a call: they have checked the counts.
-pub fn hidden(r: Replica, deletion: Delete) -> Replica
-    requires { ⌜ counted r ≡ true ⌝ }
-    ensures { λ x. ⌜ x ≡ stored (withCharacters (meaning r) (integrateDelete (meaning r .characters) deletion)) ⌝ }
+pub fn hidden(replica: Replica, delete: Delete) -> Replica
+    requires { ⌜ counted replica ≡ true ⌝ }
+    ensures { λ r. ⌜ r ≡ stored (withCharacters (meaning replica) (integrateDelete (meaning replica .characters) delete)) ⌝ }
 {
-    let site = r.site;
-    let d = r.document;
+    let site = replica.site;
+    let d = replica.document;
     let cs = d.characters;
     let ps = d.pending;
-    let characters = arrays::hidden(cs, d.length, deletion);
+    let characters = arrays::hidden(cs, d.length, delete);
     let pending = arrays::kept_pending(ps, d.waiting);
     let document = Document {
         characters,
@@ -34,16 +34,16 @@ pub fn hidden(r: Replica, deletion: Delete) -> Replica
 
 // The replica with one operation more at the end of the pending ones. A step of the calls and not a call: they have checked
 // the counts, and that there is a slot.
-pub fn deferred(r: Replica, o: Operation) -> Replica
-    requires { ⌜ (counted r ≡ true) × (r .document .waiting < 512) ⌝ }
-    ensures { λ x. ⌜ x ≡ stored (withPending (meaning r) o) ⌝ }
+pub fn deferred(replica: Replica, operation: Operation) -> Replica
+    requires { ⌜ (counted replica ≡ true) × (replica .document .waiting < 512) ⌝ }
+    ensures { λ r. ⌜ r ≡ stored (withPending (meaning replica) operation) ⌝ }
 {
-    let site = r.site;
-    let d = r.document;
+    let site = replica.site;
+    let d = replica.document;
     let cs = d.characters;
     let ps = d.pending;
     let characters = arrays::kept(cs, d.length);
-    let pending = arrays::pushed(ps, d.waiting, o);
+    let pending = arrays::pushed(ps, d.waiting, operation);
     let document = Document {
         characters,
         length: d.length,

@@ -18,13 +18,13 @@ use Rattle.pending.specs.declared.queue.Queue.{Queue}
 use Rattle.well_formed.specs.declared.Checked.{Checked}
 use Rattle.index.specs.Index.{indexOf}
 use Rattle.storage.specs.Edit.{operations}
-use Rattle.pending.specs.Queue.{packed}
+use Rattle.pending.specs.Queue.{queueOf}
 use Rattle.well_formed.specs.Form.{charactersFormed, pendingFormed, rangesKept, formedWith, unformed, checked}
 use Rattle.index.proofs.Indexes.{index-ids, index-above, index-below}
-use Rattle.pending.proofs.Queues.{packed-own, packed-first, packed-second, packed-senders}
+use Rattle.pending.proofs.Queues.{queue-own, queue-first, queue-second, queue-senders}
 use Rattle.well_formed.proofs.Conditions.{conditions}
 
-pub formed-path : (s : State) {x : Index} {q : Queue} → x ≡ indexOf (s .characters) → q ≡ packed (s .pending)
+pub formed-path : (s : State) {x : Index} {q : Queue} → x ≡ indexOf (s .characters) → q ≡ queueOf (s .pending)
     → _≡_ {A = Checked} (record { formed = true; index = x; queue = q }) (formedWith s)
 unfolding formedWith
 formed-path s e f = λ i. record { formed = true; index = e i; queue = f i }
@@ -46,7 +46,7 @@ module _ (r : Replica) where
       go true = refl
       go false = refl
 
-  -- the tests of what is packed, in the slots in use
+  -- the tests of what is queueOf, in the slots in use
   abbrev pub indexFormed : Index → Bool
   indexFormed x =
       charactersFormed (take (r .document .length) (x .ids)) (take (r .document .length) (x .above)) (take (r .document .length) (x .below))
@@ -78,7 +78,7 @@ module _ (r : Replica) where
     few-pending = leb-true _ _ (and-right (leb (r .document .length) characterSlots) _ counts)
 
     module _ (slots : length (r .document .characters) ≡ characterSlots) (pending-slots : length (r .document .pending) ≡ pendingSlots) where
-      pub in-range : (x : Index) (q : Queue) → x ≡ indexOf (meaning r .characters) → q ≡ packed (meaning r .pending)
+      pub in-range : (x : Index) (q : Queue) → x ≡ indexOf (meaning r .characters) → q ≡ queueOf (meaning r .pending)
           → replicaWellFormed r ≡ indexFormed x && queueFormed x q
       unfolding replicaWellFormed meaning rangesKept
       in-range x q e f =
@@ -88,5 +88,5 @@ module _ (r : Replica) where
           let w : length os ≡ r .document .waiting =
           length-map (take (r .document .waiting) (r .document .pending)) (λ (p : Pending). p .operation) ∙ length-take-le _ _ (omega (arith, few-pending))
           in
-          rw (e, f, counts, index-ids cs _ n, index-above cs _ n, index-below cs _ n, packed-own os _ w, packed-first os _ w, packed-second os _ w, packed-senders os _ w)
+          rw (e, f, counts, index-ids cs _ n, index-above cs _ n, index-below cs _ n, queue-own os _ w, queue-first os _ w, queue-second os _ w, queue-senders os _ w)
           (conditions (meaning r) (and-right (counted r) (allInRange (meaning r)) ranges))

@@ -1,4 +1,4 @@
--- The conditions on packed numbers are those of the rules, for characters and operations in range: keys are then found as
+-- The conditions on queueOf numbers are those of the rules, for characters and operations in range: keys are then found as
 -- their identifiers are. A list is distinct where each element is not among those before it.
 use Prim.Native.Nat.{ℕ, suc, _+_, _<_}
 use native.Mathlib.Numerals.{add-one}
@@ -36,12 +36,12 @@ use Rattle.convergence.proofs.Soundness.{inserts-same, deletes-extract, deletes
 use Rattle.convergence.proofs.Steps.{any-deletes}
 use Rattle.index.specs.declared.Found.{Found}
 use Rattle.index.specs.declared.Found.the-variants.{At, Nothing}
-use Rattle.index.specs.Keys.{key, Small, AllSmall, keys, indexIn, placeIn}
+use Rattle.index.specs.Keys.{key, Small, AllSmall, keys, indexIn, placeIn, further, firstIndex}
 use Rattle.index.specs.Packing.{previousPlaces, nextPlaces}
 use Rattle.index.proofs.Keys.{key-same, character-small, all-range-small}
 use Rattle.index.proofs.Indices.{index-later as key-later}
 use Rattle.pending.specs.Queue.{ownKey, firstKey, secondKey, hasDelete}
-use Rattle.pending.specs.Ready.{further, firstIndex, heldIn}
+use Rattle.pending.specs.Ready.{heldIn}
 use Rattle.well_formed.specs.Form.{charactersFormed, pendingFormed, throughout, sharesIn, roomKept, unheldKey, newAt, keysDistinct, freeAt, keysNew, freshAt, noneRepeated, orderedAt, placesOrdered, nothing, noneReady}
 use Rattle.well_formed.proofs.Throughout.{throughout-cong, every-throughout, elementAt, getD-member, take-member, take-map, map-getD, grown}
 use Rattle.pending.proofs.Earliest.{ready-executable}

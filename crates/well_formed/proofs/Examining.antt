@@ -1,4 +1,4 @@
--- A replica in form with what was packed of it: what the numbers say is what the rules say of its meaning.
+-- A replica in form with what was queueOf of it: what the numbers say is what the rules say of its meaning.
 use Prim.Native.Nat.{ℕ, _<_, _+_}
 use native.Mathlib.Omega.{arith}
 use mathlib.Core.Path.{_≡_, sym, ap, subst, _∙_}
@@ -23,23 +23,23 @@ use Rattle.convergence.proofs.Identifiers.{eq-same}
 use Rattle.lists.proofs.Tests.{or-false}
 use Rattle.convergence.proofs.Forms.{Formed, formed, known-ids, known-length}
 use Rattle.convergence.proofs.Steps.{any-map}
-use Rattle.index.specs.Keys.{key, AllSmall, keys}
+use Rattle.index.specs.Keys.{key, AllSmall, keys, found}
 use Rattle.index.proofs.Keys.{character-small, all-range-small}
 use Rattle.index.specs.declared.Index.{Index}
 use Rattle.pending.specs.declared.queue.Queue.{Queue}
 use Rattle.index.specs.declared.Found.{Found}
 use Rattle.well_formed.specs.declared.Checked.{Checked}
-use Rattle.pending.specs.declared.known.Holder.{Holder}
-use Rattle.pending.specs.declared.known.Holder.the-variants.{Character as ofCharacter, Pending as ofPending, Nobody}
+use Rattle.pending.specs.declared.holder.Holder.{Holder}
+use Rattle.pending.specs.declared.holder.Holder.the-variants.{Character as ofCharacter, Pending as ofPending, Nobody}
 use Rattle.index.specs.Index.{indexOf}
-use Rattle.pending.specs.Queue.{ownKey, firstKey, packed, found}
-use Rattle.pending.specs.Known.{holderIn}
+use Rattle.pending.specs.Queue.{ownKey, firstKey, queueOf}
+use Rattle.pending.specs.Holder.{holderIn}
 use Rattle.well_formed.specs.Form.{formedWith, checked}
 use Rattle.well_formed.specs.Examined.{Examined}
 use Rattle.well_formed.proofs.Checks.{checked-true, checked-formed}
 use Rattle.storage.proofs.Fullness.{FullDocument}
 use Rattle.index.proofs.Indexes.{index-ids}
-use Rattle.pending.proofs.Queues.{packed-own, packed-first, packed-senders}
+use Rattle.pending.proofs.Queues.{queue-own, queue-first, queue-senders}
 use Rattle.pending.proofs.Pending.{AllKeyed, all-keyed, positive-key, count-senders, count-own}
 use Rattle.pending.proofs.Holders.{CharacterAt, Stands, stands, Holds, holds}
 use Rattle.storage.proofs.Stored.{Counts, counts, form-counted, form-meant, character-count, pending-count}
@@ -65,14 +65,14 @@ module _ (r : Replica) (f : replicaWellFormed r ≡ true) where
     pub ids-used : (x : Index) → x ≡ indexOf (meaning r .characters) → take (r .document .length) (x .ids) ≡ keys (meaning r .characters)
     ids-used x e = rw e (index-ids (meaning r .characters) (r .document .length) (character-count r full few))
 
-    pub own-used : (q : Queue) → q ≡ packed (meaning r .pending) → take (r .document .waiting) (q .own) ≡ map ownKey (meaning r .pending)
-    own-used q e = rw e (packed-own (meaning r .pending) (r .document .waiting) (pending-count r full few))
+    pub own-used : (q : Queue) → q ≡ queueOf (meaning r .pending) → take (r .document .waiting) (q .own) ≡ map ownKey (meaning r .pending)
+    own-used q e = rw e (queue-own (meaning r .pending) (r .document .waiting) (pending-count r full few))
 
-    pub first-used : (q : Queue) → q ≡ packed (meaning r .pending) → take (r .document .waiting) (q .first) ≡ map firstKey (meaning r .pending)
-    first-used q e = rw e (packed-first (meaning r .pending) (r .document .waiting) (pending-count r full few))
+    pub first-used : (q : Queue) → q ≡ queueOf (meaning r .pending) → take (r .document .waiting) (q .first) ≡ map firstKey (meaning r .pending)
+    first-used q e = rw e (queue-first (meaning r .pending) (r .document .waiting) (pending-count r full few))
 
-    pub senders-used : (q : Queue) → q ≡ packed (meaning r .pending) → take (r .document .waiting) (q .senders) ≡ map sender (meaning r .pending)
-    senders-used q e = rw e (packed-senders (meaning r .pending) (r .document .waiting) (pending-count r full few))
+    pub senders-used : (q : Queue) → q ≡ queueOf (meaning r .pending) → take (r .document .waiting) (q .senders) ≡ map sender (meaning r .pending)
+    senders-used q e = rw e (queue-senders (meaning r .pending) (r .document .waiting) (pending-count r full few))
 
     -- the slots in use hold what is meant
     pub character-read : (k : ℕ) (d : Character) → k < r .document .length → getD (meaning r .characters) k d ≡ getD (r .document .characters) k d
@@ -97,7 +97,7 @@ module _ (r : Replica) (k : Checked) (e : k ≡ checked r) where
       let g : k ≡ formedWith (meaning r) = e ∙ checked-true r f in
       record { form = f; index = ap (λ (c : Checked). c .index) g; queue = ap (λ (c : Checked). c .queue) g }
 
--- ---- with all that was packed
+-- ---- with all that was queueOf
 
 module _ (r : Replica) (x : Index) (q : Queue) (full : FullDocument (r .document)) (e : Examined r x q) where
   -- ---- who has an identifier
@@ -153,7 +153,7 @@ module _ (r : Replica) (x : Index) (q : Queue) (full : FullDocument (r .document
 
 -- ---- room
 
-module _ (r : Replica) (f : replicaWellFormed r ≡ true) (full : FullDocument (r .document)) (q : Queue) (e : q ≡ packed (meaning r .pending)) where
+module _ (r : Replica) (f : replicaWellFormed r ≡ true) (full : FullDocument (r .document)) (q : Queue) (e : q ≡ queueOf (meaning r .pending)) where
   pub share-counted : (n : ℕ) → leb share (length (keep (λ s. eqb s n) (take (r .document .waiting) (q .senders)))) ≡ leb share (pendingFrom n (meaning r .pending))
   share-counted n = rw (senders-used r f full q e, count-senders n (meaning r .pending))
 

@@ -7,10 +7,10 @@ use Rattle.woot.specs.Form.{replicaWellFormed}
 use Rattle.index.specs.declared.Index.{Index}
 use Rattle.pending.specs.declared.queue.Queue.{Queue}
 use Rattle.index.specs.Index.{indexOf}
-use Rattle.pending.specs.Queue.{packed}
+use Rattle.pending.specs.Queue.{queueOf}
 
--- a replica in form, with what was packed of it
+-- a replica in form, with what was queueOf of it
 pub record Examined (r : Replica) (x : Index) (q : Queue) : Type 0 where
   pub form : replicaWellFormed r ≡ true
   pub index : x ≡ indexOf (meaning r .characters)
-  pub queue : q ≡ packed (meaning r .pending)
+  pub queue : q ≡ queueOf (meaning r .pending)

@@ -1,4 +1,4 @@
--- The conditions of form on packed numbers.
+-- The conditions of form on queueOf numbers.
 use Prim.Native.Nat.{ℕ, zero, suc, _+_}
 use mathlib.Core.Bool.{Bool, true, false, _&&_, _||_, not, cond}
 use mathlib.Core.List.{List, []}
@@ -13,7 +13,7 @@ use Rattle.index.specs.declared.Found.{Found}
 use Rattle.index.specs.declared.Found.the-variants.{At, Nothing}
 use Rattle.well_formed.specs.declared.Checked.{Checked}
 use Rattle.index.specs.Index.{indexOf}
-use Rattle.pending.specs.Queue.{packed, hasDelete}
+use Rattle.pending.specs.Queue.{queueOf, hasDelete}
 use Rattle.pending.specs.Ready.{heldIn, readyIn}
 
 -- p passes every number below n
@@ -90,11 +90,11 @@ rangesKept r = counted r && allInRange (meaning r)
 
 -- what the check answers of a replica that is well formed
 unfoldable pub formedWith : State → Checked
-formedWith s = record { formed = true; index = indexOf (s .characters); queue = packed (s .pending) }
+formedWith s = record { formed = true; index = indexOf (s .characters); queue = queueOf (s .pending) }
 
--- what it answers of any other, with nothing packed
+-- what it answers of any other, with nothing queueOf
 unfoldable pub unformed : Checked
-unformed = record { formed = false; index = indexOf []; queue = packed [] }
+unformed = record { formed = false; index = indexOf []; queue = queueOf [] }
 
 unfoldable pub checked : Replica → Checked
 checked r = cond (replicaWellFormed r) (formedWith (meaning r)) unformed

@@ -1,5 +1,5 @@
 // The check of a replica's form. The ranges are checked first, on the arrays; then every number is small and no character
-// has a mark's identifier, and the other conditions are checked on what is packed.
+// has a mark's identifier, and the other conditions are checked on what is queueOf.
 use index::Found;
 use index::Index;
 use pending::queue;
@@ -17,13 +17,13 @@ ghost use Rattle.storage.specs.Edit.{operations};
 ghost use Rattle.well_formed.specs.Form.{sharesIn, keysDistinct, unheldKey, keysNew, freshAt, noneRepeated, placesOrdered, noneReady, charactersFormed, pendingFormed, rangesKept, unformed, checked};
 
 // Whether refusal 2 would let the first n characters pass.
-fn characters_in_range(cs: [Character; 1024], n: usize) -> bool
+fn characters_in_range(characters: [Character; 1024], n: usize) -> bool
     requires { ⌜ n ≤ 1024 ⌝ }
-    ensures { λ r. ⌜ r ≡ every characterInRange (take n cs) ⌝ }
+    ensures { λ r. ⌜ r ≡ every characterInRange (take n characters) ⌝ }
 {
     let mut i = 0;
     while i < n {
-        let c = cs[i];
+        let c = characters[i];
         if !ranges::character_in_range(c) {
             return false;
         }
@@ -33,13 +33,13 @@ fn characters_in_range(cs: [Character; 1024], n: usize) -> bool
 }
 
 // Whether refusal 2 would let the first n pending operations pass.
-fn pending_in_range(ps: [Pending; 512], n: usize) -> bool
+fn pending_in_range(pending: [Pending; 512], n: usize) -> bool
     requires { ⌜ n ≤ 512 ⌝ }
-    ensures { λ r. ⌜ r ≡ every inRange (operations (take n ps)) ⌝ }
+    ensures { λ r. ⌜ r ≡ every inRange (operations (take n pending)) ⌝ }
 {
     let mut i = 0;
     while i < n {
-        let p = ps[i];
+        let p = pending[i];
         let o = p.operation;
         if !ranges::in_range(o) {
             return false;
@@ -167,13 +167,13 @@ fn none_ready<'a>(ids: &'a [u32], first: &'a [u32], second: &'a [u32]) -> bool
 }
 
 // The conditions of form on the characters alone, but for their ranges.
-fn characters_formed(x: Index, n: usize) -> bool
+fn characters_formed(index: Index, n: usize) -> bool
     requires { ⌜ n ≤ 1024 ⌝ }
-    ensures { λ r. ⌜ r ≡ charactersFormed (take n (x .ids)) (take n (x .above)) (take n (x .below)) ⌝ }
+    ensures { λ r. ⌜ r ≡ charactersFormed (take n (index .ids)) (take n (index .above)) (take n (index .below)) ⌝ }
 {
-    let ids = x.ids;
-    let above = x.above;
-    let below = x.below;
+    let ids = index.ids;
+    let above = index.above;
+    let below = index.below;
     if !keys_distinct(&ids[..n]) {
         return false;
     }
@@ -207,14 +207,14 @@ fn pending_formed<'a>(
 }
 
 // The same of the first w pending operations, with the first n characters.
-fn queue_formed(ids: [u32; 1024], n: usize, q: Queue, w: usize) -> bool
+fn queue_formed(ids: [u32; 1024], n: usize, queue: Queue, w: usize) -> bool
     requires { ⌜ (n ≤ 1024) × (w ≤ 512) ⌝ }
-    ensures { λ r. ⌜ r ≡ pendingFormed (take n ids) (take w (q .own)) (take w (q .first)) (take w (q .second)) (take w (q .senders)) ⌝ }
+    ensures { λ r. ⌜ r ≡ pendingFormed (take n ids) (take w (queue .own)) (take w (queue .first)) (take w (queue .second)) (take w (queue .senders)) ⌝ }
 {
-    let own = q.own;
-    let first = q.first;
-    let second = q.second;
-    let senders = q.senders;
+    let own = queue.own;
+    let first = queue.first;
+    let second = queue.second;
+    let senders = queue.senders;
     pending_formed(
         &ids[..n],
         &own[..w],
@@ -225,11 +225,11 @@ fn queue_formed(ids: [u32; 1024], n: usize, q: Queue, w: usize) -> bool
 }
 
 // The counts are within the arrays, and refusal 2 would let every number, mark and neighbour pass.
-fn in_ranges(r: Replica) -> bool
-    ensures { λ x. ⌜ x ≡ rangesKept r ⌝ }
+fn in_ranges(replica: Replica) -> bool
+    ensures { λ r. ⌜ r ≡ rangesKept replica ⌝ }
 {
-    let site = r.site;
-    let d = r.document;
+    let site = replica.site;
+    let d = replica.document;
     let n = d.length;
     let w = d.waiting;
     if 1024 < n {
@@ -249,7 +249,7 @@ fn in_ranges(r: Replica) -> bool
     pending_in_range(ps, w)
 }
 
-// What the check finds: whether the replica is well formed, and what was packed of it to find that out.
+// What the check finds: whether the replica is well formed, and what was queueOf of it to find that out.
 pub struct Checked {
     pub formed: bool,
     pub index: Index,
@@ -277,13 +277,13 @@ fn unformed() -> Checked
 }
 
 // Checks a replica's form.
-pub fn check(r: Replica) -> Checked
-    ensures { λ x. ⌜ x ≡ checked r ⌝ }
+pub fn check(replica: Replica) -> Checked
+    ensures { λ r. ⌜ r ≡ checked replica ⌝ }
 {
-    if !in_ranges(r) {
+    if !in_ranges(replica) {
         return unformed();
     }
-    let d = r.document;
+    let d = replica.document;
     let n = d.length;
     let w = d.waiting;
     let cs = d.characters;
@@ -293,7 +293,7 @@ pub fn check(r: Replica) -> Checked
     }
     let ids = index.ids;
     let ps = d.pending;
-    let queue = queue::pack(ps, w);
+    let queue = queue::queue_of(ps, w);
     if !queue_formed(ids, n, queue, w) {
         return unformed();
     }

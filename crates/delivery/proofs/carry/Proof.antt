@@ -5,31 +5,31 @@ use borrow.Author.Needs.{needs}
 use Rattle.delivery.proofs.carry.Statement.{statement}
 use Rattle.delivery.proofs.carry.Tie as tie
 
-enum-known-o : tie.Need-enum-known-o
-enum-known-o c = search needs
+enum-known-operation : tie.Need-enum-known-operation
+enum-known-operation c = search needs
 
 place-insert-requires : tie.Need-place-insert-requires
-place-insert-requires c κs = rw (c .before .o .given .1) at (c .before .before .before .pre)
+place-insert-requires c κs = rw (c .before .operation .given .1) at (c .before .before .before .pre)
 
-enum-known-o-2 : tie.Need-enum-known-o-2
-enum-known-o-2 c = search needs
+enum-known-operation-2 : tie.Need-enum-known-operation-2
+enum-known-operation-2 c = search needs
 
 carry-delete-requires : tie.Need-carry-delete-requires
 carry-delete-requires c κs = search needs
 
 returns : tie.Need-returns
-returns c = rw (c .before .before .o .given .1) (c .place-insert .ensures)
+returns c = rw (c .before .before .operation .given .1) (c .place-insert .ensures)
 
 returns-2 : tie.Need-returns-2
-returns-2 c = rw (c .before .before .o2 .given .1) (c .carry-delete .ensures ∙ sym (carried-delete _ _ _ _ _))
+returns-2 c = rw (c .before .before .operation2 .given .1) (c .carry-delete .ensures ∙ sym (carried-delete _ _ _ _ _))
 
 pub carry-spec : {M : Type 1} → statement M
 carry-spec =
     tie.close
     (tie.spec
-    enum-known-o
+    enum-known-operation
     place-insert-requires
-    enum-known-o-2
+    enum-known-operation-2
     carry-delete-requires
     returns
     returns-2)

@@ -12,8 +12,8 @@ use Rattle.delivery.proofs.carry_insert.Tie as tie
 character-requires : tie.Need-character-requires
 character-requires c κs = search needs
 
-inserted-requires : tie.Need-inserted-requires
-inserted-requires c κs = search needs
+put-in-requires : tie.Need-put-in-requires
+put-in-requires c κs = search needs
 
 add-t9 : tie.Need-add-t9
 add-t9 c = search needs
@@ -25,11 +25,11 @@ returns : tie.Need-returns
 returns c =
     let a = c .before .before .before .before .before .before .before .args in
     let p = parts (c .before .before .before .before .before .before .before .pre .0) in
-    let few : min (a .w .document .length) 1023 ≡ a .w .document .length = omega arith in
+    let few : min (a .work .document .length) 1023 ≡ a .work .document .length = omega arith in
     work-path
     (record {
-      characters = rw few at (rw (c .before .before .before .before .character .ensures) at (c .before .before .before .inserted .ensures));
-      length-is = omega (arith, p .length-is, length-inserted (a .k) (character (a .i)) (charactersIn (a .w .document)));
+      characters = rw few at (rw (c .before .before .before .before .character .ensures) at (c .before .before .before .put-in .ensures));
+      length-is = omega (arith, p .length-is, length-inserted (a .k) (character (a .insert)) (charactersIn (a .work .document)));
       pending = p .pending;
       waiting-is = p .waiting-is;
     })
@@ -38,4 +38,4 @@ returns c =
 
 pub carry-insert-spec : {M : Type 1} → statement M
 carry-insert-spec =
-    tie.close (tie.spec character-requires inserted-requires add-t9 add-t9-2 returns)
+    tie.close (tie.spec character-requires put-in-requires add-t9 add-t9-2 returns)

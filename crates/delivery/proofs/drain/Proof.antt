@@ -14,7 +14,7 @@ Inv-loop w₀ w = Workable w × (ends w ≡ ends w₀)
 abbrev μ-loop : tie.MeasureT-loop
 μ-loop w₀ w = w .document .waiting
 
-near : (c : tie.After-step Inv-loop μ-loop) → Nearer (c .before .before .before .before .before .before .before .loop .w) (c .step .result)
+near : (c : tie.After-step Inv-loop μ-loop) → Nearer (c .before .before .before .before .before .before .before .loop .work) (c .step .result)
 near c = step-nearer (c .before .before .before .before .before .before .before .loop .inv .0) _ (sym (c .before .before .before .before .due .ensures) ∙ c .before .before .j .given .1) _ (c .step .ensures)
 
 loop-holds : tie.Need-loop-holds Inv-loop μ-loop

@@ -23,7 +23,7 @@ record Judges (w : Work) (i : Insert) (p : Placement) : Type 0 where
       carried (charactersIn (w .document)) (pendingIn (w .document)) (w .integrated) (w .discarded) (insert i)
       ≡ judged (charactersIn (w .document)) (pendingIn (w .document)) (w .integrated) (w .discarded) i p
 
-on : (c : tie.After-find-place) (p : Placement) → c .find-place .result ≡ p → let a = c .before .before .before .before .args in Judges (a .w) (a .i) p
+on : (c : tie.After-find-place) (p : Placement) → c .find-place .result ≡ p → let a = c .before .before .before .before .args in Judges (a .work) (a .insert) p
 on c p e =
     let d = c .before .before .before .before .pre in
     let small = all-range-small _ (λ b m. every-member characterInRange (d .ranges) m) in

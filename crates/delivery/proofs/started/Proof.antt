@@ -16,7 +16,7 @@ kept-pending-requires c κs = search needs
 returns : tie.Need-returns
 returns c =
     let start = c .before .before .before .before .before in
-    work-path (started-parts (start .args .r) (full-replica (start .good .0)) (counts _ (start .pre)) _ _ (c .before .kept .ensures) (c .kept-pending .ensures)) refl refl
+    work-path (started-parts (start .args .replica) (full-replica (start .good .0)) (counts _ (start .pre)) _ _ (c .before .kept .ensures) (c .kept-pending .ensures)) refl refl
 
 pub started-spec : {M : Type 1} → statement M
 started-spec = tie.close (tie.spec kept-requires kept-pending-requires returns)

@@ -25,7 +25,7 @@ returns c =
       characters = p .characters;
       length-is = p .length-is;
       pending = c .before .before .without .ensures ∙ ap (pad 512 blankPending) (sym (waiting-removed _ _));
-      waiting-is = omega (arith, p .waiting-is, length-removed (a .j) (pendingIn (a .w .document)) (omega arith));
+      waiting-is = omega (arith, p .waiting-is, length-removed (a .j) (pendingIn (a .work .document)) (omega arith));
     })
     refl
     refl

@@ -34,7 +34,7 @@ returns-3 : tie.Need-returns-3
 unfolding meaning
 returns-3 c =
     let start = c .before .before .before .before .before .before .before .before in
-    delete-within _ _ (start .pre) (c .before .before .before .before .before .before .before .if1 .left) (count-reaches (start .args .r) _ _ (c .before .before .before .before .count .ensures) (c .before .before .before .if2 .left)) _ _ (c .before .before .left .ensures) (c .hidden .ensures)
+    delete-within _ _ (start .pre) (c .before .before .before .before .before .before .before .if1 .left) (count-reaches (start .args .replica) _ _ (c .before .before .before .before .count .ensures) (c .before .before .before .if2 .left)) _ _ (c .before .before .left .ensures) (c .hidden .ensures)
 
 pub delete-visible-spec : {M : Type 1} → statement M
 delete-visible-spec =

@@ -14,14 +14,14 @@ use borrow.Author.Needs.{needs}
 use Rattle.generation.proofs.insert_visible.Statement.{statement}
 use Rattle.generation.proofs.insert_visible.Tie as tie
 
-visible : (c : tie.Else1) → let a = c .before .before .before .before .args in beyondVisible (meaning (a .r)) (a .point) ≡ false
+visible : (c : tie.Else1) → let a = c .before .before .before .before .args in beyondVisible (meaning (a .replica)) (a .point) ≡ false
 visible c = count-reaches _ _ _ (c .before .count .ensures) (c .if1 .left)
 
-early : (c : tie.Else2) → leb lastClock (meaning (c .before .before .before .before .before .before .before .args .r) .site .clock) ≡ false
+early : (c : tie.Else2) → leb lastClock (meaning (c .before .before .before .before .before .before .before .args .replica) .site .clock) ≡ false
 unfolding meaning
 early c = lt-leb _ _ (c .if2 .left)
 
-free : (c : tie.After-is-taken) → c .is-taken .result ≡ taken (meaning (c .before .before .before .before .before .before .before .before .before .before .args .r))
+free : (c : tie.After-is-taken) → c .is-taken .result ≡ taken (meaning (c .before .before .before .before .before .before .before .before .before .before .args .replica))
 unfolding taken generatedInsert
 free c = rw (c .before .before .generated-insert .ensures) at (c .is-taken .ensures)
 

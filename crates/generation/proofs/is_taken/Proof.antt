@@ -1,13 +1,13 @@
 -- `generation::is_taken` goes by who has the identifier.
 use mathlib.Core.Path.{_≡_, sym}
-use Rattle.pending.specs.declared.known.Holder.{Holder}
+use Rattle.pending.specs.declared.holder.Holder.{Holder}
 use Rattle.storage.proofs.Fullness.{FullDocument, full-replica}
 use Rattle.well_formed.proofs.Examining.{Has, has, nobody, character-takes, pending-takes}
 use borrow.Author.Needs.{needs}
 use Rattle.generation.proofs.is_taken.Statement.{statement}
 use Rattle.generation.proofs.is_taken.Tie as tie
 
-full : (c : tie.Start) → FullDocument (c .args .r .document)
+full : (c : tie.Start) → FullDocument (c .args .replica .document)
 full c = full-replica (c .good .0)
 
 held : (c : tie.After-holder-of) (h : Holder) → c .holder-of .result ≡ h → let s = c .before .before in Has _ _ _ (full s) (s .pre .0) _ (s .pre .1) h

@@ -13,7 +13,7 @@ use Rattle.generation.proofs.send.Statement.{statement}
 use Rattle.generation.proofs.send.Tie as tie
 
 -- whether the document is full
-tested : (c : tie.After-document-full) → c .document-full .result ≡ leb capacity (length (known (meaning (c .before .before .args .r))))
+tested : (c : tie.After-document-full) → c .document-full .result ≡ leb capacity (length (known (meaning (c .before .before .args .replica))))
 tested c =
     let s = c .before .before in
     c .document-full .ensures ∙ room-counted _ (s .pre .0 .form) (full-replica (s .good .0)) _ (s .pre .1)
@@ -29,8 +29,8 @@ returns c =
     let p = c .before .before .before .before .pre in
     c .refused .ensures ∙ sym (send-full _ _ (p .0) _ (p .2) (sym (tested (c .before .before)) ∙ c .before .if1 .taken))
 
-integrated-requires : tie.Need-integrated-requires
-integrated-requires c κs =
+integrate-and-drain-requires : tie.Need-integrate-and-drain-requires
+integrate-and-drain-requires c κs =
     let p = c .before .before .before .before .pre in
     send-placed _ _ (p .0) _ (p .2) (sym (tested (c .before .before)) ∙ c .before .if1 .left)
 
@@ -40,7 +40,7 @@ add-t13 c = search needs
 returns-2 : tie.Need-returns-2
 returns-2 c =
     let p = c .before .before .before .before .before .before .before .pre in
-    send-done _ _ (p .0) _ (p .2) (sym (tested (c .before .before .before .before .before)) ∙ c .before .before .before .before .if1 .left) _ (c .before .before .integrated .ensures)
+    send-done _ _ (p .0) _ (p .2) (sym (tested (c .before .before .before .before .before)) ∙ c .before .before .before .before .if1 .left) _ (c .before .before .integrate-and-drain .ensures)
 
 pub send-spec : {M : Type 1} → statement M
 send-spec =
@@ -49,6 +49,6 @@ send-spec =
     document-full-requires
     refused-requires
     returns
-    integrated-requires
+    integrate-and-drain-requires
     add-t13
     returns-2)

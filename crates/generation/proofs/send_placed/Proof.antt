@@ -11,7 +11,7 @@ use Rattle.generation.proofs.send_placed.Statement.{statement}
 use Rattle.generation.proofs.send_placed.Tie as tie
 
 -- what is found is the rules' placement
-found : (c : tie.After-find-place) → let a = c .before .before .args in c .find-place .result ≡ placementOf (meaning (a .r) .characters) (a .i)
+found : (c : tie.After-find-place) → let a = c .before .before .args in c .find-place .result ≡ placementOf (meaning (a .replica) .characters) (a .insert)
 found c =
     let s = c .before .before in
     let x = s .pre .0 in

@@ -6,7 +6,7 @@ use Rattle.index.proofs.Fullness.{FullIndex, full-index}
 use Rattle.integration.proofs.find_place.Statement.{statement}
 use Rattle.integration.proofs.find_place.Tie as tie
 
-full : (c : tie.Start) → FullIndex (c .args .x)
+full : (c : tie.Start) → FullIndex (c .args .index)
 full c = full-index (c .good .0)
 
 array-share-prefix-ids : tie.Need-array-share-prefix-ids

@@ -10,7 +10,7 @@ use lib.ListN.{length, getD}
 use borrow.Author.Count.{falls}
 use borrow.Author.Needs.{needs}
 use Rattle.integration.specs.declared.Interval.{Interval}
-use Rattle.integration.specs.Passes.{entries, outside, candidateIn, walkIn, passIn}
+use Rattle.integration.specs.Passes.{locatedKeys, outside, candidateIn, walkIn, passIn}
 use Rattle.integration.proofs.Walks.{at, from, between, walk-over, walk-passed, walk-stopped, from-step, from-end, pass-from}
 use Rattle.integration.proofs.pass.Statement.{statement}
 use Rattle.integration.proofs.pass.Tie as tie
@@ -39,7 +39,7 @@ module _ (ids above below : List ℕ) (k : ℕ) (v : Interval) (u i end : ℕ) (
 abbrev Inv-loop : tie.InvT-loop
 Inv-loop ids above below key v shortest end upper₀ i₀ upper i =
     (v .upper < v .lower) × (end ≡ ending ids above below v) × (v .upper ≤ i)
-    × (walkIn key v upper (from ids above below i) ≡ passIn (entries 1 ids above below) key v)
+    × (walkIn key v upper (from ids above below i) ≡ passIn (locatedKeys 1 ids above below) key v)
 
 abbrev μ-loop : tie.MeasureT-loop
 μ-loop ids above below key v shortest end upper₀ i₀ upper i = end - i
@@ -62,7 +62,7 @@ loop-holds c =
       c .before .before .before .before .before .before .before .pre,
       c .lesser3 .ensures ∙ rw (c .before .before .lesser2 .ensures, c .before .before .before .lesser .ensures),
       omega arith,
-      sym (pass-from (a .ids .now) (a .above .now) (a .below .now) (a .key) (a .v)),
+      sym (pass-from (a .ids .now) (a .above .now) (a .below .now) (a .key) (a .interval)),
     )
 
 add-i : tie.Need-add-i Inv-loop μ-loop
@@ -93,7 +93,7 @@ returns : tie.Need-returns Inv-loop μ-loop
 returns c =
     let a = c .before .before .before .before .before .before .before .before .before .before .before .before .before .before .before .args in
     let l = c .before .before .before .before .before .before .before .loop in
-    let here = stopped (a .ids .now) (a .above .now) (a .below .now) (a .key) (a .v) (l .upper) (l .i) _ (l .inv .1) (l .inv .2) (c .before .before .before .before .before .before .loop-test .taken) in
+    let here = stopped (a .ids .now) (a .above .now) (a .below .now) (a .key) (a .interval) (l .upper) (l .i) _ (l .inv .1) (l .inv .2) (c .before .before .before .before .before .before .loop-test .taken) in
     here (sym (c .before .before .before .outside .ensures) ∙ c .before .before .if1 .taken) (c .if2 .taken) ∙ l .inv .3
 
 loop-less : tie.Need-loop-less Inv-loop μ-loop
@@ -103,7 +103,7 @@ loop-again : tie.Need-loop-again Inv-loop μ-loop
 loop-again c =
     let a = c .before .before .before .before .before .before .before .before .before .before .before .before .before .before .before .args in
     let l = c .before .before .before .before .before .before .before .loop in
-    let here = passed (a .ids .now) (a .above .now) (a .below .now) (a .key) (a .v) (l .upper) (l .i) _ (l .inv .1) (l .inv .2) (c .before .before .before .before .before .before .loop-test .taken) in
+    let here = passed (a .ids .now) (a .above .now) (a .below .now) (a .key) (a .interval) (l .upper) (l .i) _ (l .inv .1) (l .inv .2) (c .before .before .before .before .before .before .loop-test .taken) in
     (l .inv .0, l .inv .1, omega arith, here (sym (c .before .before .before .outside .ensures) ∙ c .before .before .if1 .taken) (c .if2 .left) ∙ l .inv .3)
 
 loop-less-2 : tie.Need-loop-less-2 Inv-loop μ-loop
@@ -113,7 +113,7 @@ loop-again-2 : tie.Need-loop-again-2 Inv-loop μ-loop
 loop-again-2 c =
     let a = c .before .before .before .before .before .before .before .before .before .before .before .before .before .args in
     let l = c .before .before .before .before .before .loop in
-    let here = over (a .ids .now) (a .above .now) (a .below .now) (a .key) (a .v) (l .upper) (l .i) _ (l .inv .1) (l .inv .2) (c .before .before .before .before .loop-test .taken) in
+    let here = over (a .ids .now) (a .above .now) (a .below .now) (a .key) (a .interval) (l .upper) (l .i) _ (l .inv .1) (l .inv .2) (c .before .before .before .before .loop-test .taken) in
     (l .inv .0, l .inv .1, omega arith, here (sym (c .before .outside .ensures) ∙ c .if1 .left) ∙ l .inv .3)
 
 returns-2 : tie.Need-returns-2 Inv-loop μ-loop
@@ -121,7 +121,7 @@ returns-2 c =
     let a = c .before .before .before .before .before .before .before .before .before .args in
     let l = c .before .loop in
     let done = subst (λ (n : ℕ). n ≤ l .i) (l .inv .1) (c .loop-test .left) in
-    sym (from-end (a .ids .now) (a .above .now) (a .below .now) (a .key) (a .v) (l .upper) (l .i) done) ∙ l .inv .3
+    sym (from-end (a .ids .now) (a .above .now) (a .below .now) (a .key) (a .interval) (l .upper) (l .i) done) ∙ l .inv .3
 
 pub pass-spec : {M : Type 1} → statement M
 pass-spec =

@@ -12,7 +12,7 @@ use Rattle.woot.specs.Placing.{placeOf, position, between}
 use Rattle.index.specs.Keys.{key, Small, AllSmall, keys, placeIn}
 use Rattle.index.specs.declared.Found.{Found}
 use Rattle.index.specs.Packing.{previousPlaces, nextPlaces}
-use Rattle.integration.specs.Passes.{found}
+use Rattle.integration.specs.Passes.{asFound}
 use Rattle.index.proofs.Indices.{place-keys}
 use Rattle.integration.proofs.Placing.{position-same}
 use Rattle.integration.proofs.Placements.{previous-missing, next-missing, places-crossed, places-at, places-nothing}
@@ -30,7 +30,7 @@ record Sought (cs : List Character) (i : Insert) (ids : List ℕ) (upper lower :
   below : lower ≡ placeOf cs (i .next)
 
 on : (c : tie.After-place-of2) → let a = c .before .before .before .before .before .before .before .before .before .before .args in (cs : List Character) → a .ids .now ≡ keys cs → AllSmall cs
-    → Sought cs (a .i) (a .ids .now) (c .before .before .place-of .result) (c .place-of2 .result)
+    → Sought cs (a .insert) (a .ids .now) (c .before .before .place-of .result) (c .place-of2 .result)
 on c cs e s =
     record {
       size = rw e (length-map cs (λ (d : Character). key (d .id)));
@@ -43,10 +43,10 @@ record Searched (cs : List Character) (i : Insert) (r : Found) : Type 0 where
   previous-in : placeOf cs (i .previous) ≤ suc (length cs)
   next-in : placeOf cs (i .next) ≤ suc (length cs)
   ordered : placeOf cs (i .previous) < placeOf cs (i .next)
-  result : r ≡ found (position cs (i .id) (between cs i))
+  result : r ≡ asFound (position cs (i .id) (between cs i))
 
 searched : (c : tie.After-position) → let a = c .before .before .before .before .before .before .before .before .before .before .before .before .before .before .before .args in (cs : List Character)
-    → a .ids .now ≡ keys cs → a .above .now ≡ previousPlaces cs → a .below .now ≡ nextPlaces cs → AllSmall cs → Searched cs (a .i) (c .position .result)
+    → a .ids .now ≡ keys cs → a .above .now ≡ previousPlaces cs → a .below .now ≡ nextPlaces cs → AllSmall cs → Searched cs (a .insert) (c .position .result)
 unfolding between
 searched c cs e above below s =
     let p = on (c .before .before .before .before .before) cs e s in
@@ -55,7 +55,7 @@ searched c cs e above below s =
       previous-in = omega arith;
       next-in = omega arith;
       ordered = omega arith;
-      result = rw (c .position .ensures, e, above, below, k .0, p .above, p .below) (ap found (position-same cs s _ (k .1) _ _));
+      result = rw (c .position .ensures, e, above, below, k .0, p .above, p .below) (ap asFound (position-same cs s _ (k .1) _ _));
     }
 
 key-requires : tie.Need-key-requires
@@ -77,7 +77,7 @@ returns : tie.Need-returns
 returns c cs e above below s =
     let a = c .before .before .before .before .before .before .before .before .before .before .before .args in
     let p = on (c .before) cs e s in
-    sym (previous-missing cs (a .i) (omega arith))
+    sym (previous-missing cs (a .insert) (omega arith))
 
 add-if2 : tie.Need-add-if2
 add-if2 c = search needs
@@ -86,13 +86,13 @@ returns-2 : tie.Need-returns-2
 returns-2 c cs e above below s =
     let a = c .before .before .before .before .before .before .before .before .before .before .before .before .args in
     let p = on (c .before .before) cs e s in
-    sym (next-missing cs (a .i) (omega arith) (omega arith))
+    sym (next-missing cs (a .insert) (omega arith) (omega arith))
 
 returns-3 : tie.Need-returns-3
 returns-3 c cs e above below s =
     let a = c .before .before .before .before .before .before .before .before .before .before .before .before .before .args in
     let p = on (c .before .before .before) cs e s in
-    sym (places-crossed cs (a .i) (omega arith) (omega arith) (omega arith))
+    sym (places-crossed cs (a .insert) (omega arith) (omega arith) (omega arith))
 
 key-requires-3 : tie.Need-key-requires-3
 key-requires-3 c κs = search needs

@@ -8,17 +8,17 @@ use mathlib.Core.Option.{Option, none, some}
 use borrow.Author.Needs.{needs}
 use borrow.Author.Tests.{lt-ltb, le-ltb, le-leb, lt-leb}
 use Rattle.integration.specs.declared.Interval.{Interval}
-use Rattle.integration.specs.Passes.{Entry, entries, passIn, width, searchIn, positionIn, found}
+use Rattle.integration.specs.Passes.{LocatedKey, locatedKeys, passIn, width, searchIn, positionIn, asFound}
 use Rattle.integration.proofs.position.Statement.{statement}
 use Rattle.integration.proofs.position.Tie as tie
 
 -- a search from v that gives the answer, with passes enough
-record Searching (es : List Entry) (k : ℕ) (v : Interval) (answer : Option ℕ) : Type 0 where
+record Searching (es : List LocatedKey) (k : ℕ) (v : Interval) (answer : Option ℕ) : Type 0 where
   passes : ℕ
   enough : width v ≤ suc passes
   gives : searchIn passes es k v ≡ answer
 
-module _ (es : List Entry) (k : ℕ) (v : Interval) (answer : Option ℕ) where
+module _ (es : List LocatedKey) (k : ℕ) (v : Interval) (answer : Option ℕ) where
   arrived : width v ≤ 1 → Searching es k v answer → some (v .upper) ≡ answer
   unfolding searchIn
   arrived h s = go (s .passes) (s .gives)
@@ -46,7 +46,7 @@ module _ (es : List Entry) (k : ℕ) (v : Interval) (answer : Option ℕ) where
 
 abbrev Inv-loop : tie.InvT-loop
 Inv-loop ids above below key upper lower v₀ v =
-    Searching (entries 1 ids above below) key v (positionIn ids above below key upper lower)
+    Searching (locatedKeys 1 ids above below) key v (positionIn ids above below key upper lower)
 
 abbrev μ-loop : tie.MeasureT-loop
 μ-loop ids above below key upper lower v₀ v = width v
@@ -69,7 +69,7 @@ width-requires-3 c κs = search needs
 
 returns : tie.Need-returns Inv-loop μ-loop
 returns c =
-    ap found
+    ap asFound
     (nowhere _ _ _ _ _ (c .before .before .before .pass .ensures) (omega (arith, c .before .before .before .before .before .width .ensures))
     (omega (arith, c .before .before .width2 .ensures, c .before .width3 .ensures)) (c .before .before .before .before .before .before .loop .inv))
 
@@ -82,7 +82,7 @@ loop-again c =
     (omega (arith, c .before .before .width2 .ensures, c .before .width3 .ensures)) (c .before .before .before .before .before .before .loop .inv)
 
 returns-2 : tie.Need-returns-2 Inv-loop μ-loop
-returns-2 c = ap found (arrived _ _ _ _ (omega (arith, c .before .width .ensures)) (c .before .before .loop .inv))
+returns-2 c = ap asFound (arrived _ _ _ _ (omega (arith, c .before .width .ensures)) (c .before .before .loop .inv))
 
 pub position-spec : {M : Type 1} → statement M
 position-spec =

@@ -13,11 +13,11 @@ use borrow.Author.Needs.{needs}
 use Rattle.reception.proofs.defer.Statement.{statement}
 use Rattle.reception.proofs.defer.Tie as tie
 
-full : (c : tie.Start) → FullDocument (c .args .r .document)
+full : (c : tie.Start) → FullDocument (c .args .replica .document)
 full c = full-replica (c .good .0)
 
 -- whether its sender has its full share
-tested : (c : tie.After-sender-full) → let a = c .before .before .before .args in c .sender-full .result ≡ leb share (pendingFrom (sender (a .o)) (meaning (a .r) .pending))
+tested : (c : tie.After-sender-full) → let a = c .before .before .before .args in c .sender-full .result ≡ leb share (pendingFrom (sender (a .operation)) (meaning (a .replica) .pending))
 tested c =
     let s = c .before .before .before in
     c .sender-full .ensures ∙ rw (c .before .sender .ensures) (share-counted _ (s .pre .0 .form) (full s) _ (s .pre .0 .queue) _)

@@ -15,14 +15,14 @@ use borrow.Author.Needs.{needs}
 use Rattle.reception.proofs.receive_delete.Statement.{statement}
 use Rattle.reception.proofs.receive_delete.Tie as tie
 
-full : (c : tie.Start) → FullDocument (c .args .r .document)
+full : (c : tie.Start) → FullDocument (c .args .replica .document)
 full c = full-replica (c .good .0)
 
-ranged : (c : tie.Start) → characterId (c .args .e .target) ≡ true
+ranged : (c : tie.Start) → characterId (c .args .delete .target) ≡ true
 ranged c = target-ranged _ (c .pre .1)
 
 -- the character at the index found
-at : (c : tie.After-known-told) → let a = c .before .before .before .before .before .before .args in CharacterAt (a .e .target) (meaning (a .r) .characters) (c .before .k .given .0 .0)
+at : (c : tie.After-known-told) → let a = c .before .before .before .before .before .before .args in CharacterAt (a .delete .target) (meaning (a .replica) .characters) (c .before .k .given .0 .0)
 at c = let s = c .before .before .before .before .before .before in stands-at _ _ _ (full s) (s .pre .0) _ (ranged s) (c .before .before .before .character-of .ensures) (c .before .k .given .1)
 
 within : (c : tie.After-known-told) → c .before .k .given .0 .0 < 1024
@@ -47,14 +47,14 @@ element-copy-out-c c = within c
 is-visible-requires : tie.Need-is-visible-requires
 is-visible-requires c κs = search needs
 
-kept-requires : tie.Need-kept-requires
-kept-requires c κs = search needs
+answered-requires : tie.Need-answered-requires
+answered-requires c κs = search needs
 
 returns : tie.Need-returns
 returns c =
     let s = c .before .before .before .before .before .before .before .before .before .before in
     let h = at (c .before .before .before .before) in
-    c .kept .ensures
+    c .answered .ensures
     ∙ sym (delete-again _ (s .pre .0 .form) _ (s .pre .1) _ (character-member _ _ _ (full s) (s .pre .0) _ (ranged s) _ h _) (character-named _ _ _ (full s) (s .pre .0) _ (ranged s) _ h _) (sym (c .before .before .is-visible .ensures) ∙ not-true _ (c .before .if1 .taken)))
 
 hidden-requires : tie.Need-hidden-requires
@@ -92,7 +92,7 @@ receive-delete-spec =
     mul-c
     element-copy-out-c
     is-visible-requires
-    kept-requires
+    answered-requires
     returns
     hidden-requires
     enum-told

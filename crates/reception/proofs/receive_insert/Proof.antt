@@ -1,7 +1,7 @@
 -- `reception::receive_insert` goes by what the insert is to the replica.
 use mathlib.Core.Path.{sym, _∙_}
 use Rattle.woot.specs.Ranges.{inRange}
-use Rattle.pending.specs.declared.known.Seen.the-variants.{New, Same, Other}
+use Rattle.pending.specs.declared.holder.Seen.the-variants.{New, Same, Other}
 use Rattle.reception.proofs.Outcomes.{known, conflict}
 use Rattle.reception.proofs.Receiving.{seen-says}
 use borrow.Author.Needs.{needs}
@@ -24,8 +24,8 @@ receive-new-requires c κs =
 enum-told-2 : tie.Need-enum-told-2
 enum-told-2 c = search needs
 
-kept-requires : tie.Need-kept-requires
-kept-requires c κs = search needs
+answered-requires : tie.Need-answered-requires
+answered-requires c κs = search needs
 
 enum-told-3 : tie.Need-enum-told-3
 enum-told-3 c = search needs
@@ -40,7 +40,7 @@ returns-2 : tie.Need-returns-2
 unfolding inRange
 returns-2 c =
     let p = c .before .before .before .before .pre in
-    c .kept .ensures ∙ sym (known _ _ (p .1) (p .0 .form) (seen-says _ _ Same (sym (c .before .before .before .seen-by .ensures) ∙ c .before .enum-told2 .given .1)))
+    c .answered .ensures ∙ sym (known _ _ (p .1) (p .0 .form) (seen-says _ _ Same (sym (c .before .before .before .seen-by .ensures) ∙ c .before .enum-told2 .given .1)))
 
 returns-3 : tie.Need-returns-3
 unfolding inRange
@@ -57,7 +57,7 @@ receive-insert-spec =
     enum-told
     receive-new-requires
     enum-told-2
-    kept-requires
+    answered-requires
     enum-told-3
     refused-requires
     returns

@@ -13,7 +13,7 @@ use Rattle.reception.proofs.receive_new.Statement.{statement}
 use Rattle.reception.proofs.receive_new.Tie as tie
 
 -- what is found is the rules' placement
-found : (c : tie.After-find-place) → let a = c .before .before .args in c .find-place .result ≡ placementOf (meaning (a .r) .characters) (a .i)
+found : (c : tie.After-find-place) → let a = c .before .before .args in c .find-place .result ≡ placementOf (meaning (a .replica) .characters) (a .insert)
 found c =
     let s = c .before .before in
     let x = s .pre .0 in

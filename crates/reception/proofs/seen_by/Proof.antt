@@ -6,7 +6,7 @@ use mathlib.Core.Bool.{true}
 use borrow.Author.Needs.{needs}
 use Rattle.woot.specs.Ranges.{characterId}
 use Rattle.convergence.proofs.Ranges.{in-range}
-use Rattle.pending.specs.declared.known.Holder.{Holder}
+use Rattle.pending.specs.declared.holder.Holder.{Holder}
 use Rattle.storage.proofs.Fullness.{FullDocument, full-replica}
 use Rattle.storage.proofs.Stored.{Counts}
 use Rattle.well_formed.proofs.Examining.{few, Has, has, character-within, pending-within}
@@ -14,14 +14,14 @@ use Rattle.reception.proofs.Seeing.{seen-character, seen-pending, seen-
 use Rattle.reception.proofs.seen_by.Statement.{statement}
 use Rattle.reception.proofs.seen_by.Tie as tie
 
-full : (c : tie.Start) → FullDocument (c .args .r .document)
+full : (c : tie.Start) → FullDocument (c .args .replica .document)
 full c = full-replica (c .good .0)
 
-fits : (c : tie.Start) → Counts (c .args .r)
+fits : (c : tie.Start) → Counts (c .args .replica)
 fits c = few _ (c .pre .0 .form)
 
-id-ranged : (c : tie.Start) → characterId (c .args .i .id) ≡ true
-id-ranged c = in-range (c .args .i) (c .pre .1) .id
+id-ranged : (c : tie.Start) → characterId (c .args .insert .id) ≡ true
+id-ranged c = in-range (c .args .insert) (c .pre .1) .id
 
 held : (c : tie.After-holder-of) (h : Holder) → c .holder-of .result ≡ h → let s = c .before .before .before in Has _ _ _ (full s) (s .pre .0) _ (id-ranged s) h
 held c h e = let s = c .before .before .before in has _ _ _ (full s) (s .pre .0) _ (id-ranged s) (c .holder-of .ensures) e

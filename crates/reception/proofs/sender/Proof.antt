@@ -4,19 +4,19 @@ use borrow.Author.Needs.{needs}
 use Rattle.reception.proofs.sender.Statement.{statement}
 use Rattle.reception.proofs.sender.Tie as tie
 
-enum-known-o : tie.Need-enum-known-o
-enum-known-o c = search needs
+enum-known-operation : tie.Need-enum-known-operation
+enum-known-operation c = search needs
 
-enum-known-o-2 : tie.Need-enum-known-o-2
-enum-known-o-2 c = search needs
+enum-known-operation-2 : tie.Need-enum-known-operation-2
+enum-known-operation-2 c = search needs
 
 returns : tie.Need-returns
 unfolding sender
-returns c = rw (c .before .o .given .1)
+returns c = rw (c .before .operation .given .1)
 
 returns-2 : tie.Need-returns-2
 unfolding sender
-returns-2 c = rw (c .before .o2 .given .1)
+returns-2 c = rw (c .before .operation2 .given .1)
 
 pub sender-spec : {M : Type 1} → statement M
-sender-spec = tie.close (tie.spec enum-known-o enum-known-o-2 returns returns-2)
+sender-spec = tie.close (tie.spec enum-known-operation enum-known-operation-2 returns returns-2)

@@ -11,10 +11,10 @@ use Rattle.replica.proofs.receive.Statement.{statement}
 use Rattle.replica.proofs.receive.Tie as tie
 
 -- the operation is in range, and the replica in form with what was packed of it
-ranged : (c : tie.After-struct-known) → inRange (c .before .before .before .before .args .o) ≡ true
+ranged : (c : tie.After-struct-known) → inRange (c .before .before .before .before .args .operation) ≡ true
 ranged c = passed (c .before .before .before .in-range .ensures) (c .before .before .if1 .left)
 
-examined : (c : tie.Else2) → let k = c .before .before .check .result in Examined (c .before .before .before .before .before .args .r) (k .index) (k .queue)
+examined : (c : tie.Else2) → let k = c .before .before .check .result in Examined (c .before .before .before .before .before .args .replica) (k .index) (k .queue)
 examined c =
     let e = c .before .before .check .ensures in
     check-examined _ _ e (passed (check-formed _ _ e) (c .if2 .left))
@@ -37,25 +37,25 @@ refused-requires-2 c κs = search needs
 returns-2 : tie.Need-returns-2
 returns-2 c = c .refused2 .ensures ∙ sym (unformed _ _ (ranged (c .before .before)) (refused (check-formed _ _ (c .before .before .before .check .ensures)) (c .before .if2 .taken)))
 
-enum-known-o : tie.Need-enum-known-o
-enum-known-o c = search needs
+enum-known-operation : tie.Need-enum-known-operation
+enum-known-operation c = search needs
 
 receive-insert-requires : tie.Need-receive-insert-requires
 unfolding inRange
-receive-insert-requires c κs = (examined (c .before .before .before .before .before), rw (c .before .o .given .1) at (ranged (c .before .before .before .before .before .before)))
+receive-insert-requires c κs = (examined (c .before .before .before .before .before), rw (c .before .operation .given .1) at (ranged (c .before .before .before .before .before .before)))
 
-enum-known-o-2 : tie.Need-enum-known-o-2
-enum-known-o-2 c = search needs
+enum-known-operation-2 : tie.Need-enum-known-operation-2
+enum-known-operation-2 c = search needs
 
 receive-delete-requires : tie.Need-receive-delete-requires
 unfolding inRange
-receive-delete-requires c κs = (examined (c .before .before .before .before .before), rw (c .before .o2 .given .1) at (ranged (c .before .before .before .before .before .before)))
+receive-delete-requires c κs = (examined (c .before .before .before .before .before), rw (c .before .operation2 .given .1) at (ranged (c .before .before .before .before .before .before)))
 
 returns-3 : tie.Need-returns-3
-returns-3 c = rw (c .before .before .o .given .1) (c .receive-insert .ensures)
+returns-3 c = rw (c .before .before .operation .given .1) (c .receive-insert .ensures)
 
 returns-4 : tie.Need-returns-4
-returns-4 c = rw (c .before .before .o2 .given .1) (c .receive-delete .ensures)
+returns-4 c = rw (c .before .before .operation2 .given .1) (c .receive-delete .ensures)
 
 pub receive-spec : {M : Type 1} → statement M
 receive-spec =
@@ -67,9 +67,9 @@ receive-spec =
     check-requires
     refused-requires-2
     returns-2
-    enum-known-o
+    enum-known-operation
     receive-insert-requires
-    enum-known-o-2
+    enum-known-operation-2
     receive-delete-requires
     returns-3
     returns-4)

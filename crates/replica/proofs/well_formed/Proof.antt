@@ -10,7 +10,7 @@ check-requires : tie.Need-check-requires
 check-requires c κs = search needs
 
 returns : tie.Need-returns
-returns c = ap (λ (x : Checked). x .formed) (c .check .ensures) ∙ checked-formed (c .before .args .r)
+returns c = ap (λ (x : Checked). x .formed) (c .check .ensures) ∙ checked-formed (c .before .args .replica)
 
 pub well-formed-spec : {M : Type 1} → statement M
 well-formed-spec = tie.close (tie.spec check-requires returns)

@@ -23,9 +23,9 @@ returns : tie.Need-returns
 unfolding withPending meaning
 returns c =
     let start = c .before .before .before .before .before .before .before in
-    let few : min (start .args .r .document .waiting) 511 ≡ start .args .r .document .waiting = omega (arith, start .pre .1) in
-    stored-path (start .args .r .site)
-    (deferred-parts (start .args .r) (full-replica (start .good .0)) (counts _ (start .pre .0)) _ _ _ (c .before .before .kept .ensures) (rw few at (c .before .pushed .ensures)))
+    let few : min (start .args .replica .document .waiting) 511 ≡ start .args .replica .document .waiting = omega (arith, start .pre .1) in
+    stored-path (start .args .replica .site)
+    (deferred-parts (start .args .replica) (full-replica (start .good .0)) (counts _ (start .pre .0)) _ _ _ (c .before .before .kept .ensures) (rw few at (c .before .pushed .ensures)))
 
 pub deferred-spec : {M : Type 1} → statement M
 deferred-spec = tie.close (tie.spec kept-requires pushed-requires add-t10 returns)

@@ -17,8 +17,8 @@ returns : tie.Need-returns
 unfolding withCharacters meaning
 returns c =
     let start = c .before .before .before .before .before .before in
-    stored-path (start .args .r .site)
-    (hidden-parts (start .args .r) (full-replica (start .good .0)) (counts _ (start .pre)) _ _ _ (c .before .hidden .ensures) (c .kept-pending .ensures))
+    stored-path (start .args .replica .site)
+    (hidden-parts (start .args .replica) (full-replica (start .good .0)) (counts _ (start .pre)) _ _ _ (c .before .hidden .ensures) (c .kept-pending .ensures))
 
 pub hidden-spec : {M : Type 1} → statement M
 hidden-spec = tie.close (tie.spec hidden-requires kept-pending-requires returns)

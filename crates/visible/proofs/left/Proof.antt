@@ -19,7 +19,7 @@ identifier-requires c κs = search needs
 returns-2 : tie.Need-returns-2
 returns-2 c =
     let a = c .before .before .args in
-    rw (c .identifier .ensures) (getD-past begin (visibles (take (a .n) (a .cs))) (a .g) begin (c .before .if1 .left))
+    rw (c .identifier .ensures) (getD-past begin (visibles (take (a .n) (a .characters))) (a .point) begin (c .before .if1 .left))
 
 pub left-spec : {M : Type 1} → statement M
 left-spec = tie.close (tie.spec returns sub-identifier identifier-requires returns-2)

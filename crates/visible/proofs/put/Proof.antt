@@ -11,7 +11,7 @@ is-visible-requires c κs = search needs
 
 returns : tie.Need-returns
 returns c =
-    rw (spelt-hidden (c .before .before .before .args .c) (sym (c .before .is-visible .ensures) ∙ not-true _ (c .if1 .taken))) (sym (past-none _ _), sym (placed-none _ _))
+    rw (spelt-hidden (c .before .before .before .args .character) (sym (c .before .is-visible .ensures) ∙ not-true _ (c .if1 .taken))) (sym (past-none _ _), sym (placed-none _ _))
 
 write-requires : tie.Need-write-requires
 write-requires c κs = search needs
@@ -22,7 +22,7 @@ same-length c = search needs
 returns-2 : tie.Need-returns-2
 returns-2 c =
     let w = c .before .before .write .ensures in
-    let d = c .before .before .before .before .before .before .before .args .c in
+    let d = c .before .before .before .before .before .before .before .args .character in
     rw (spelt-visible d (sym (c .before .before .before .before .before .is-visible .ensures) ∙ not-false _ (c .before .before .before .before .if1 .left))) (w .0, w .1)
 
 pub put-spec : {M : Type 1} → statement M

@@ -13,7 +13,7 @@ identifier-requires c κs = search needs
 returns : tie.Need-returns
 returns c =
     let a = c .before .args in
-    rw (c .identifier .ensures) (getD-last (visibles (take (a .n) (a .cs))) (a .g) end)
+    rw (c .identifier .ensures) (getD-last (visibles (take (a .n) (a .characters))) (a .point) end)
 
 pub right-spec : {M : Type 1} → statement M
 right-spec = tie.close (tie.spec identifier-requires returns)

@@ -13,10 +13,10 @@ encoded-length-requires : tie.Need-encoded-length-requires
 encoded-length-requires c κs = search needs
 
 returns : tie.Need-returns
-returns c = rw (c .encoded-length .ensures, spelt-visible (c .before .before .before .args .c) (sym (c .before .before .is-visible .ensures) ∙ c .before .if1 .taken)) (sym (length-encode (c .before .before .before .args .c .«code_point»)))
+returns c = rw (c .encoded-length .ensures, spelt-visible (c .before .before .before .args .character) (sym (c .before .before .is-visible .ensures) ∙ c .before .if1 .taken)) (sym (length-encode (c .before .before .before .args .character .«code_point»)))
 
 returns-2 : tie.Need-returns-2
-returns-2 c = rw (spelt-hidden (c .before .before .args .c) (sym (c .before .is-visible .ensures) ∙ c .if1 .left))
+returns-2 c = rw (spelt-hidden (c .before .before .args .character) (sym (c .before .is-visible .ensures) ∙ c .if1 .left))
 
 pub size-spec : {M : Type 1} → statement M
 size-spec = tie.close (tie.spec is-visible-requires encoded-length-requires returns returns-2)

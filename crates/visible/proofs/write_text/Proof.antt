@@ -15,10 +15,10 @@ text-length-requires : tie.Need-text-length-requires
 text-length-requires c κs = omega (arith, c .lesser .ensures)
 
 -- the first n characters, or all
-first : (c : tie.After-lesser) → let a = c .before .before .args in take (c .lesser .result) (a .cs) ≡ take (a .n) (a .cs)
+first : (c : tie.After-lesser) → let a = c .before .before .args in take (c .lesser .result) (a .characters) ≡ take (a .n) (a .characters)
 first c =
     let a = c .before .before .args in
-    rw (c .lesser .ensures) (first-or-all (a .cs) (a .n) 1024 (c .before .before .good .0 .1 .0 .1))
+    rw (c .lesser .ensures) (first-or-all (a .characters) (a .n) 1024 (c .before .before .good .0 .1 .0 .1))
 
 returns : tie.Need-returns
 returns c =

@@ -12,7 +12,7 @@ use Rattle.index.proofs.Fullness.{FullIndex, full-index}
 use Rattle.well_formed.proofs.characters_formed.Statement.{statement}
 use Rattle.well_formed.proofs.characters_formed.Tie as tie
 
-full : (c : tie.Start) → FullIndex (c .args .x)
+full : (c : tie.Start) → FullIndex (c .args .index)
 full c = full-index (c .good .0)
 
 reading : (ids above below : List ℕ) {p q : Bool} → keysDistinct ids ≡ p → placesOrdered above below ≡ q → charactersFormed ids above below ≡ p && q

@@ -6,7 +6,7 @@ use Rattle.pending.proofs.Fullness.{full-queue}
 use Rattle.well_formed.proofs.queue_formed.Statement.{statement}
 use Rattle.well_formed.proofs.queue_formed.Tie as tie
 
-full : (c : tie.Start) → FullQueue (c .args .q)
+full : (c : tie.Start) → FullQueue (c .args .queue)
 full c = full-queue (c .good .1 .1 .0)
 
 array-share-prefix-ids : tie.Need-array-share-prefix-ids

@@ -5,8 +5,8 @@ use Rattle.pending.specs.Queue.{entryOf, ownKey, firstKey, secondKey}
 use Rattle.pending.proofs.queue.entry_of.Statement.{statement}
 use Rattle.pending.proofs.queue.entry_of.Tie as tie
 
-enum-known-o : tie.Need-enum-known-o
-enum-known-o c = search needs
+enum-known-operation : tie.Need-enum-known-operation
+enum-known-operation c = search needs
 
 key-requires : tie.Need-key-requires
 key-requires c κs = search needs
@@ -17,8 +17,8 @@ key-requires-2 c κs = search needs
 key-requires-3 : tie.Need-key-requires-3
 key-requires-3 c κs = search needs
 
-enum-known-o-2 : tie.Need-enum-known-o-2
-enum-known-o-2 c = search needs
+enum-known-operation-2 : tie.Need-enum-known-operation-2
+enum-known-operation-2 c = search needs
 
 key-requires-4 : tie.Need-key-requires-4
 key-requires-4 c κs = search needs
@@ -26,24 +26,24 @@ key-requires-4 c κs = search needs
 returns : tie.Need-returns
 unfolding entryOf ownKey firstKey secondKey sender
 returns c =
-    let is = c .before .before .before .before .before .before .before .o .given .1 in
+    let is = c .before .before .before .before .before .before .before .operation .given .1 in
     rw (is, c .before .before .key .ensures .0, c .before .key2 .ensures .0, c .key3 .ensures .0)
 
 returns-2 : tie.Need-returns-2
 unfolding entryOf ownKey firstKey secondKey sender
 returns-2 c =
-    let is = c .before .before .before .o2 .given .1 in
+    let is = c .before .before .before .operation2 .given .1 in
     rw (is, c .key4 .ensures .0)
 
 pub entry-of-spec : {M : Type 1} → statement M
 entry-of-spec =
     tie.close
     (tie.spec
-    enum-known-o
+    enum-known-operation
     key-requires
     key-requires-2
     key-requires-3
-    enum-known-o-2
+    enum-known-operation-2
     key-requires-4
     returns
     returns-2)

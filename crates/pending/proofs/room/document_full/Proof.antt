@@ -15,7 +15,7 @@ use borrow.Author.Needs.{needs}
 use Rattle.pending.proofs.room.document_full.Statement.{statement}
 use Rattle.pending.proofs.room.document_full.Tie as tie
 
-queued : (c : tie.Start) → FullQueue (c .args .q)
+queued : (c : tie.Start) → FullQueue (c .args .queue)
 queued c = full-queue (c .good .1 .0)
 
 -- what is left after n is compared, or the sum
@@ -51,7 +51,7 @@ count-inserts-requires c κs = search needs
 returns-2 : tie.Need-returns-2
 returns-2 c =
     let s = c .before .before .before .before .before in
-    rw (c .count-inserts .ensures, c .before .before .lesser .ensures, first-or-all (s .args .q .own) (s .args .w) 512 (queued s .own))
+    rw (c .count-inserts .ensures, c .before .before .lesser .ensures, first-or-all (s .args .queue .own) (s .args .w) 512 (queued s .own))
     (left-or-sum 1024 (s .args .n) _)
 
 pub document-full-spec : {M : Type 1} → statement M

@@ -8,7 +8,7 @@ use borrow.Author.Needs.{needs}
 use Rattle.pending.proofs.room.sender_full.Statement.{statement}
 use Rattle.pending.proofs.room.sender_full.Tie as tie
 
-queued : (c : tie.Start) → FullQueue (c .args .q)
+queued : (c : tie.Start) → FullQueue (c .args .queue)
 queued c = full-queue (c .good .0)
 
 lesser-requires : tie.Need-lesser-requires
@@ -26,7 +26,7 @@ count-sender-requires c κs = search needs
 returns : tie.Need-returns
 returns c =
     let s = c .before .before .before .before in
-    rw (c .count-sender .ensures, c .before .before .lesser .ensures, first-or-all (s .args .q .senders) (s .args .w) 512 (queued s .senders))
+    rw (c .count-sender .ensures, c .before .before .lesser .ensures, first-or-all (s .args .queue .senders) (s .args .w) 512 (queued s .senders))
 
 pub sender-full-spec : {M : Type 1} → statement M
 sender-full-spec =

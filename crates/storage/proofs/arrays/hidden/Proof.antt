@@ -13,11 +13,11 @@ use Rattle.storage.proofs.arrays.hidden.Statement.{statement}
 use Rattle.storage.proofs.arrays.hidden.Tie as tie
 
 abbrev Inv-loop : tie.InvT-loop
-Inv-loop n deletion cs end out₀ i₀ out i =
-    (i ≤ end) × (out ≡ pad 1024 blankCharacter (integrateDelete (take i cs) deletion)) × (length cs ≡ 1024)
+Inv-loop n delete cs end out₀ i₀ out i =
+    (i ≤ end) × (out ≡ pad 1024 blankCharacter (integrateDelete (take i cs) delete)) × (length cs ≡ 1024)
 
 abbrev μ-loop : tie.MeasureT-loop
-μ-loop n deletion cs end out₀ i₀ out i = end - i
+μ-loop n delete cs end out₀ i₀ out i = end - i
 
 lesser-requires : tie.Need-lesser-requires Inv-loop μ-loop
 lesser-requires c κs = search needs
@@ -55,7 +55,7 @@ unfolding integrateDelete
 loop-again c =
     let l = c .before .before .before .loop in
     let a = c .before .before .before .before .before .before .args in
-    (omega arith, rw (l .inv .1, c .marked .ensures) (pad-map 1024 blankCharacter (deletedBy (a .deletion)) _ (a .t1) (l .i) (omega arith) (omega arith)), l .inv .2)
+    (omega arith, rw (l .inv .1, c .marked .ensures) (pad-map 1024 blankCharacter (deletedBy (a .delete)) _ (a .t1) (l .i) (omega arith) (omega arith)), l .inv .2)
 
 returns : tie.Need-returns Inv-loop μ-loop
 returns c =

@@ -19,9 +19,9 @@ copied-requires c κs = search needs
 returns : tie.Need-returns
 returns c =
     let a = c .before .before .before .args in
-    let full : length (a .cs) ≡ 1024 = c .before .before .before .good .0 .1 .0 .1 in
+    let full : length (a .characters) ≡ 1024 = c .before .before .before .good .0 .1 .0 .1 in
     rw (c .copied .ensures, c .before .lesser .ensures, c .before .before .blank-character .ensures)
-    (pad-kept-all 1024 blankCharacter (a .cs) (a .n) full)
+    (pad-kept-all 1024 blankCharacter (a .characters) (a .n) full)
 
 pub kept-spec : {M : Type 1} → statement M
 kept-spec = tie.close (tie.spec blank-character-requires lesser-requires copied-requires returns)

@@ -19,9 +19,9 @@ copied-pending-requires c κs = search needs
 returns : tie.Need-returns
 returns c =
     let a = c .before .before .before .args in
-    let full : length (a .ps) ≡ 512 = c .before .before .before .good .0 .1 .0 .1 in
+    let full : length (a .pending) ≡ 512 = c .before .before .before .good .0 .1 .0 .1 in
     rw (c .copied-pending .ensures, c .before .lesser .ensures, c .before .before .blank-pending .ensures)
-    (pad-kept-all 512 blankPending (a .ps) (a .n) full)
+    (pad-kept-all 512 blankPending (a .pending) (a .n) full)
 
 pub kept-pending-spec : {M : Type 1} → statement M
 kept-pending-spec = tie.close (tie.spec blank-pending-requires lesser-requires copied-pending-requires returns)

@@ -24,7 +24,7 @@ unfolding waiting
 returns c =
     let a = c .before .before .args in
     rw (c .kept-pending .ensures, c .before .lesser .ensures)
-    (pad-after 512 blankPending (a .ps) (min (a .n) 511) _ (omega (arith, c .before .before .good .0 .1 .0 .1)) (omega arith))
+    (pad-after 512 blankPending (a .pending) (min (a .n) 511) _ (omega (arith, c .before .before .good .0 .1 .0 .1)) (omega arith))
 
 pub pushed-spec : {M : Type 1} → statement M
 pushed-spec = tie.close (tie.spec lesser-requires kept-pending-requires mul-out array-set-from-out returns)

@@ -23,11 +23,11 @@ kept-pending-requires c κs = search needs
 returns : tie.Need-returns
 returns c =
     let a = c .before .before .before .args in
-    let full : length (a .ps) ≡ 512 = c .before .before .before .good .0 .1 .0 .1 in
+    let full : length (a .pending) ≡ 512 = c .before .before .before .good .0 .1 .0 .1 in
     let size = c .before .before .lesser .ensures in
-    let past : length (take (a .n) (a .ps)) ≤ a .j = omega (arith, length-take (a .n) (a .ps), size, c .before .if1 .taken) in
+    let past : length (take (a .n) (a .pending)) ≤ a .j = omega (arith, length-take (a .n) (a .pending), size, c .before .if1 .taken) in
     rw (c .kept-pending .ensures, size)
-    (ap (pad 512 blankPending) (first-or-all (a .ps) (a .n) 512 full ∙ sym (removed-beyond (a .j) (take (a .n) (a .ps)) past)))
+    (ap (pad 512 blankPending) (first-or-all (a .pending) (a .n) 512 full ∙ sym (removed-beyond (a .j) (take (a .n) (a .pending)) past)))
 
 kept-pending-requires-2 : tie.Need-kept-pending-requires-2
 kept-pending-requires-2 c κs = search needs
@@ -47,12 +47,12 @@ copied-pending-requires c κs = search needs
 returns-2 : tie.Need-returns-2
 returns-2 c =
     let a = c .before .before .before .before .args in
-    let full : length (a .ps) ≡ 512 = c .before .before .before .before .good .0 .1 .0 .1 in
+    let full : length (a .pending) ≡ 512 = c .before .before .before .before .good .0 .1 .0 .1 in
     let size = c .before .before .before .lesser .ensures in
     let inside : a .j < min (a .n) 512 = omega (arith, size, c .before .before .if1 .left) in
     rw (c .copied-pending .ensures, c .before .kept-pending2 .ensures, size)
-    (pad-without 512 blankPending (a .ps) (min (a .n) 512) (a .j) inside (omega arith) (omega arith)
-    ∙ ap (λ (qs : List Pending). pad 512 blankPending (removed (a .j) qs)) (first-or-all (a .ps) (a .n) 512 full))
+    (pad-without 512 blankPending (a .pending) (min (a .n) 512) (a .j) inside (omega arith) (omega arith)
+    ∙ ap (λ (qs : List Pending). pad 512 blankPending (removed (a .j) qs)) (first-or-all (a .pending) (a .n) 512 full))
 
 pub without-spec : {M : Type 1} → statement M
 without-spec =

@@ -1,4 +1,4 @@
--- `index::pack` meets its contract. The loop's invariant: the arrays hold the keys of the first i characters.
+-- `index::keys_of` meets its contract. The loop's invariant: the arrays hold the keys of the first i characters.
 use Prim.Native.Nat.{ℕ, _-_, _≤_, min}
 use native.Mathlib.Omega.{arith}
 use mathlib.Core.Path.{_≡_, sym}
@@ -8,13 +8,13 @@ use borrow.Author.Needs.{needs}
 use Rattle.woot.specs.declared.Character.{Character}
 use Rattle.woot.specs.State.{characterSlots}
 use Rattle.lists.specs.Padding.{pad}
-use Rattle.index.specs.declared.Packed.{Packed}
+use Rattle.index.specs.declared.CharacterKeys.{CharacterKeys}
 use Rattle.index.specs.Keys.{key, AllSmall, keys, previousKeys, nextKeys}
-use Rattle.index.specs.Packing.{packed}
-use Rattle.index.proofs.Packing.{small-more, packed-path}
+use Rattle.index.specs.Packing.{keysOf}
+use Rattle.index.proofs.Packing.{small-more, keys-path}
 use Rattle.lists.proofs.Padding.{pad-none, pad-map, take-lesser}
-use Rattle.index.proofs.pack.Statement.{statement}
-use Rattle.index.proofs.pack.Tie as tie
+use Rattle.index.proofs.keys_of.Statement.{statement}
+use Rattle.index.proofs.keys_of.Tie as tie
 
 -- the arrays hold the keys of the first i characters, whose clocks are small
 record Filled (cs : List Character) (ids previous next : List ℕ) (i : ℕ) : Type 0 where
@@ -23,8 +23,8 @@ record Filled (cs : List Character) (ids previous next : List ℕ) (i : ℕ) : T
   of-next : next ≡ pad characterSlots 0 (nextKeys (take i cs))
   small : AllSmall (take i cs)
 
-whole : (cs : List Character) (n i : ℕ) {ids previous next : List ℕ} → take i cs ≡ take n cs → Filled cs ids previous next i → (_≡_ {A = Packed} (record { ids = ids; previous = previous; next = next }) (packed (take n cs))) × AllSmall (take n cs)
-whole cs n i e f = rw (← e) (packed-path (take i cs) _ (f .of-ids) (f .of-previous) (f .of-next), f .small)
+whole : (cs : List Character) (n i : ℕ) {ids previous next : List ℕ} → take i cs ≡ take n cs → Filled cs ids previous next i → (_≡_ {A = CharacterKeys} (record { ids = ids; previous = previous; next = next }) (keysOf (take n cs))) × AllSmall (take n cs)
+whole cs n i e f = rw (← e) (keys-path (take i cs) _ (f .of-ids) (f .of-previous) (f .of-next), f .small)
 
 abbrev Inv-loop : tie.InvT-loop
 Inv-loop n cs end ids₀ previous₀ next₀ i₀ ids previous next i =
@@ -107,8 +107,8 @@ returns c =
     let done : l .i ≡ min 1024 (a .n) = omega arith in
     whole (a .t1) (a .n) (l .i) (rw done (take-lesser 1024 (a .n) (a .t1) (l .inv .0))) (l .inv .3)
 
-pub pack-spec : {M : Type 1} → statement M
-pack-spec =
+pub keys-of-spec : {M : Type 1} → statement M
+keys-of-spec =
     tie.close
     (tie.spec
     Inv-loop

@@ -8,11 +8,11 @@ use Rattle.woot.specs.declared.Operation.the-variants.{Insert as insert, Delete
 use Rattle.woot.specs.Operations.{sameInsert}
 use Rattle.index.specs.declared.Found.{Found}
 use Rattle.index.specs.declared.Found.the-variants.{At, Nothing}
-use Rattle.pending.specs.declared.known.Holder.{Holder}
-use Rattle.pending.specs.declared.known.Holder.the-variants.{Character, Pending, Nobody}
-use Rattle.pending.specs.declared.known.Seen.{Seen}
-use Rattle.pending.specs.declared.known.Seen.the-variants.{New, Same, Other}
-use Rattle.pending.specs.Queue.{found}
+use Rattle.pending.specs.declared.holder.Holder.{Holder}
+use Rattle.pending.specs.declared.holder.Holder.the-variants.{Character, Pending, Nobody}
+use Rattle.pending.specs.declared.holder.Seen.{Seen}
+use Rattle.pending.specs.declared.holder.Seen.the-variants.{New, Same, Other}
+use Rattle.index.specs.Keys.{found}
 
 -- a character before a pending insert
 unfoldable pub firstHolder : Found → Found → Holder

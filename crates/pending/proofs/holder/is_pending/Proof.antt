@@ -1,14 +1,14 @@
--- `pending::known::is_pending` lends the slots that are in use.
+-- `pending::holder::is_pending` lends the slots that are in use.
 use native.Mathlib.Omega.{arith}
 use lib.ListN.{length-take}
 use Rattle.lists.proofs.Padding.{first-or-all}
 use Rattle.pending.proofs.Fullness.{full-queue}
 use Rattle.pending.proofs.Queues.{FullQueue}
 use borrow.Author.Needs.{needs}
-use Rattle.pending.proofs.known.is_pending.Statement.{statement}
-use Rattle.pending.proofs.known.is_pending.Tie as tie
+use Rattle.pending.proofs.holder.is_pending.Statement.{statement}
+use Rattle.pending.proofs.holder.is_pending.Tie as tie
 
-queued : (c : tie.Start) → FullQueue (c .args .q)
+queued : (c : tie.Start) → FullQueue (c .args .queue)
 queued c = full-queue (c .good .0)
 
 lesser-requires : tie.Need-lesser-requires
@@ -44,7 +44,7 @@ returns c =
     let s = b .before .before .before .before .before in
     let f = queued s in
     rw (c .has-delete .ensures, c .before .key .ensures .0, b .lesser .ensures)
-    (rw (first-or-all (s .args .q .own) (s .args .w) 512 (f .own), first-or-all (s .args .q .first) (s .args .w) 512 (f .first), first-or-all (s .args .q .senders) (s .args .w) 512 (f .senders)))
+    (rw (first-or-all (s .args .queue .own) (s .args .w) 512 (f .own), first-or-all (s .args .queue .first) (s .args .w) 512 (f .first), first-or-all (s .args .queue .senders) (s .args .w) 512 (f .senders)))
 
 pub is-pending-spec : {M : Type 1} → statement M
 is-pending-spec =

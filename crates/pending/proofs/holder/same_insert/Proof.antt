@@ -1,4 +1,4 @@
--- `pending::known::same_insert` meets its contract: each comparison is one of the definition's four.
+-- `pending::holder::same_insert` meets its contract: each comparison is one of the definition's four.
 use mathlib.Core.Path.{_≡_, refl, sym, _∙_}
 use mathlib.Core.Bool.{Bool, _&&_}
 use borrow.Author.Tests.{ne-eqb, eq-eqb}
@@ -8,8 +8,8 @@ use Rattle.woot.specs.Identifiers.{same}
 use Rattle.woot.specs.Operations.{sameInsert}
 use Rattle.ranges.proofs.Laws.{refused, passed}
 use borrow.Author.Needs.{needs}
-use Rattle.pending.proofs.known.same_insert.Statement.{statement}
-use Rattle.pending.proofs.known.same_insert.Tie as tie
+use Rattle.pending.proofs.holder.same_insert.Statement.{statement}
+use Rattle.pending.proofs.holder.same_insert.Tie as tie
 
 reading : (i j : Insert) {p q r s : Bool} → same (i .id) (j .id) ≡ p → eqb (i .«code_point») (j .«code_point») ≡ q → same (i .previous) (j .previous) ≡ r → same (i .next) (j .next) ≡ s → sameInsert i j ≡ p && q && r && s
 unfolding sameInsert

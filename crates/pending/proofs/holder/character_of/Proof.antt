@@ -1,16 +1,15 @@
--- `pending::known::character_of` lends the slots that are in use.
+-- `pending::holder::character_of` lends the slots that are in use.
 use native.Mathlib.Omega.{arith}
 use mathlib.Core.Path.{ap}
 use lib.ListN.{length-take}
-use Rattle.index.specs.Keys.{key}
-use Rattle.pending.specs.Queue.{found}
+use Rattle.index.specs.Keys.{key, found}
 use Rattle.lists.proofs.Padding.{first-or-all}
 use Rattle.index.proofs.Fullness.{FullIndex, full-index}
 use borrow.Author.Needs.{needs}
-use Rattle.pending.proofs.known.character_of.Statement.{statement}
-use Rattle.pending.proofs.known.character_of.Tie as tie
+use Rattle.pending.proofs.holder.character_of.Statement.{statement}
+use Rattle.pending.proofs.holder.character_of.Tie as tie
 
-indexed : (c : tie.Start) → FullIndex (c .args .x)
+indexed : (c : tie.Start) → FullIndex (c .args .index)
 indexed c = full-index (c .good .0)
 
 lesser-requires : tie.Need-lesser-requires
@@ -32,7 +31,7 @@ returns : tie.Need-returns
 returns c =
     let s = c .before .before .before .before .before in
     rw (c .find .ensures, c .before .key .ensures .0, c .before .before .before .lesser .ensures)
-    (ap (found (key (s .args .id))) (first-or-all (s .args .x .ids) (s .args .n) 1024 (indexed s .ids)))
+    (ap (found (key (s .args .id))) (first-or-all (s .args .index .ids) (s .args .n) 1024 (indexed s .ids)))
 
 pub character-of-spec : {M : Type 1} → statement M
 character-of-spec =

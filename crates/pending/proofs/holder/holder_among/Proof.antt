@@ -1,9 +1,9 @@
--- `pending::known::holder_among` looks among the characters first.
+-- `pending::holder::holder_among` looks among the characters first.
 use mathlib.Core.Path.{sym, _∙_}
-use Rattle.pending.specs.Known.{firstHolder, holderIn}
+use Rattle.pending.specs.Holder.{firstHolder, holderIn}
 use borrow.Author.Needs.{needs}
-use Rattle.pending.proofs.known.holder_among.Statement.{statement}
-use Rattle.pending.proofs.known.holder_among.Tie as tie
+use Rattle.pending.proofs.holder.holder_among.Statement.{statement}
+use Rattle.pending.proofs.holder.holder_among.Tie as tie
 
 find-requires : tie.Need-find-requires
 find-requires c κs = search needs

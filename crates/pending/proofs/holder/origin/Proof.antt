@@ -1,8 +1,8 @@
--- `pending::known::origin` has the character's fields without visible.
+-- `pending::holder::origin` has the character's fields without visible.
 use mathlib.Core.Path.{refl}
 use Rattle.woot.specs.Operations.{origin}
-use Rattle.pending.proofs.known.origin.Statement.{statement}
-use Rattle.pending.proofs.known.origin.Tie as tie
+use Rattle.pending.proofs.holder.origin.Statement.{statement}
+use Rattle.pending.proofs.holder.origin.Tie as tie
 
 returns : tie.Need-returns
 unfolding origin

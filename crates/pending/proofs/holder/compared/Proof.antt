@@ -1,9 +1,9 @@
--- `pending::known::compared` goes by the test of the fields.
+-- `pending::holder::compared` goes by the test of the fields.
 use mathlib.Core.Path.{sym, _∙_}
 use borrow.Author.Needs.{needs}
-use Rattle.pending.specs.Known.{comparedTo}
-use Rattle.pending.proofs.known.compared.Statement.{statement}
-use Rattle.pending.proofs.known.compared.Tie as tie
+use Rattle.pending.specs.Holder.{comparedTo}
+use Rattle.pending.proofs.holder.compared.Statement.{statement}
+use Rattle.pending.proofs.holder.compared.Tie as tie
 
 same-insert-requires : tie.Need-same-insert-requires
 same-insert-requires c κs = search needs

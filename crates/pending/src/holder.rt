@@ -11,9 +11,9 @@ use woot::Operation;
 ghost use mathlib.Core.Path.{_≡_};
 ghost use lib.ListN.{take};
 ghost use Rattle.woot.specs.Operations.{origin, sameInsert};
-ghost use Rattle.index.specs.Keys.{key};
-ghost use Rattle.pending.specs.Queue.{found, hasDelete};
-ghost use Rattle.pending.specs.Known.{holderIn, comparedTo, comparedWith};
+ghost use Rattle.index.specs.Keys.{key, found};
+ghost use Rattle.pending.specs.Queue.{hasDelete};
+ghost use Rattle.pending.specs.Holder.{holderIn, comparedTo, comparedWith};
 
 // Who has an identifier: the character or the pending insert at an index, or nobody.
 pub enum Holder {
@@ -33,9 +33,9 @@ pub enum Seen {
 fn holder_among(ids: &[u32], own: &[u32], key: u32) -> Holder
     ensures { λ r. ⌜ r ≡ holderIn (now (ids .entry)) (now (own .entry)) key ⌝ }
 {
-    match queue::find(ids, key) {
+    match index::find(ids, key) {
         Found::At(k) => Holder::Character(k),
-        Found::Nothing => match queue::find(own, key) {
+        Found::Nothing => match index::find(own, key) {
             Found::At(j) => Holder::Pending(j),
             Found::Nothing => Holder::Nobody,
         },
@@ -43,95 +43,95 @@ fn holder_among(ids: &[u32], own: &[u32], key: u32) -> Holder
 }
 
 // Who has an identifier, among the first n characters and the first w pending operations.
-pub fn holder_of(x: Index, n: usize, q: Queue, w: usize, id: Identifier) -> Holder
-    ensures { λ r. ⌜ r ≡ holderIn (take n (x .ids)) (take w (q .own)) (key id) ⌝ }
+pub fn holder_of(index: Index, n: usize, queue: Queue, w: usize, id: Identifier) -> Holder
+    ensures { λ r. ⌜ r ≡ holderIn (take n (index .ids)) (take w (queue .own)) (key id) ⌝ }
 {
-    let ids = x.ids;
-    let own = q.own;
+    let ids = index.ids;
+    let own = queue.own;
     let end = index::lesser(n, 1024);
     let last = index::lesser(w, 512);
     holder_among(&ids[..end], &own[..last], index::key(id))
 }
 
 // The index of the character that has an identifier, among the first n.
-pub fn character_of(x: Index, n: usize, id: Identifier) -> Found
-    ensures { λ r. ⌜ r ≡ found (key id) (take n (x .ids)) ⌝ }
+pub fn character_of(index: Index, n: usize, id: Identifier) -> Found
+    ensures { λ r. ⌜ r ≡ found (key id) (take n (index .ids)) ⌝ }
 {
-    let ids = x.ids;
+    let ids = index.ids;
     let end = index::lesser(n, 1024);
-    queue::find(&ids[..end], index::key(id))
+    index::find(&ids[..end], index::key(id))
 }
 
 // Whether an equal delete is among the first w pending operations.
-pub fn is_pending(q: Queue, w: usize, d: Delete) -> bool
-    ensures { λ r. ⌜ r ≡ hasDelete (key (d .target)) (d .sender) (take w (q .own)) (take w (q .first)) (take w (q .senders)) ⌝ }
+pub fn is_pending(queue: Queue, w: usize, delete: Delete) -> bool
+    ensures { λ r. ⌜ r ≡ hasDelete (key (delete .target)) (delete .sender) (take w (queue .own)) (take w (queue .first)) (take w (queue .senders)) ⌝ }
 {
-    let target = d.target;
-    let own = q.own;
-    let first = q.first;
-    let senders = q.senders;
+    let target = delete.target;
+    let own = queue.own;
+    let first = queue.first;
+    let senders = queue.senders;
     let end = index::lesser(w, 512);
     queue::has_delete(
         &own[..end],
         &first[..end],
         &senders[..end],
         index::key(target),
-        d.sender,
+        delete.sender,
     )
 }
 
 // Whether two inserts are equal in every field.
-fn same_insert(i: Insert, j: Insert) -> bool
-    ensures { λ r. ⌜ r ≡ sameInsert i j ⌝ }
+fn same_insert(insert: Insert, held: Insert) -> bool
+    ensures { λ r. ⌜ r ≡ sameInsert insert held ⌝ }
 {
-    let id = i.id;
-    let other = j.id;
+    let id = insert.id;
+    let other = held.id;
     if !ranges::same_id(id, other) {
         return false;
     }
-    if i.code_point != j.code_point {
+    if insert.code_point != held.code_point {
         return false;
     }
-    let previous = i.previous;
-    let above = j.previous;
+    let previous = insert.previous;
+    let above = held.previous;
     if !ranges::same_id(previous, above) {
         return false;
     }
-    let next = i.next;
-    let below = j.next;
+    let next = insert.next;
+    let below = held.next;
     ranges::same_id(next, below)
 }
 
 // What an insert is beside another with its identifier.
-pub fn compared(i: Insert, j: Insert) -> Seen
-    ensures { λ r. ⌜ r ≡ comparedTo i j ⌝ }
+pub fn compared(insert: Insert, held: Insert) -> Seen
+    ensures { λ r. ⌜ r ≡ comparedTo insert held ⌝ }
 {
-    if same_insert(i, j) {
+    if same_insert(insert, held) {
         return Seen::Same;
     }
     Seen::Other
 }
 
 // What it is beside a pending operation with its identifier.
-pub fn compared_pending(i: Insert, o: Operation) -> Seen
-    ensures { λ r. ⌜ r ≡ comparedWith i o ⌝ }
+pub fn compared_pending(insert: Insert, operation: Operation) -> Seen
+    ensures { λ r. ⌜ r ≡ comparedWith insert operation ⌝ }
 {
-    match o {
-        Operation::Insert(j) => compared(i, j),
+    match operation {
+        Operation::Insert(j) => compared(insert, j),
         Operation::Delete(_) => Seen::New,
     }
 }
 
 // The insert that brought a character.
-pub fn origin(c: Character) -> Insert
-    ensures { λ r. ⌜ r ≡ origin c ⌝ }
+pub fn origin(character: Character) -> Insert
+    ensures { λ r. ⌜ r ≡ origin character ⌝ }
 {
-    let id = c.id;
-    let previous = c.previous;
-    let next = c.next;
+    let id = character.id;
+    let previous = character.previous;
+    let next = character.next;
     Insert {
         id,
-        code_point: c.code_point,
+        code_point: character.code_point,
         previous,
         next,
     }

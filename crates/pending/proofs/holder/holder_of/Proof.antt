@@ -1,4 +1,4 @@
--- `pending::known::holder_of` lends the slots that are in use.
+-- `pending::holder::holder_of` lends the slots that are in use.
 use native.Mathlib.Omega.{arith}
 use lib.ListN.{length-take}
 use Rattle.lists.proofs.Padding.{first-or-all}
@@ -6,13 +6,13 @@ use Rattle.index.proofs.Fullness.{FullIndex, full-index}
 use Rattle.pending.proofs.Fullness.{full-queue}
 use Rattle.pending.proofs.Queues.{FullQueue}
 use borrow.Author.Needs.{needs}
-use Rattle.pending.proofs.known.holder_of.Statement.{statement}
-use Rattle.pending.proofs.known.holder_of.Tie as tie
+use Rattle.pending.proofs.holder.holder_of.Statement.{statement}
+use Rattle.pending.proofs.holder.holder_of.Tie as tie
 
-indexed : (c : tie.Start) → FullIndex (c .args .x)
+indexed : (c : tie.Start) → FullIndex (c .args .index)
 indexed c = full-index (c .good .0)
 
-queued : (c : tie.Start) → FullQueue (c .args .q)
+queued : (c : tie.Start) → FullQueue (c .args .queue)
 queued c = full-queue (c .good .1 .1 .0)
 
 lesser-requires : tie.Need-lesser-requires
@@ -44,7 +44,7 @@ returns c =
     let b = c .before .before .before .before in
     let s = b .before .before .before .before in
     rw (c .holder-among .ensures, c .before .key .ensures .0, b .before .lesser .ensures, b .lesser2 .ensures)
-    (rw (first-or-all (s .args .x .ids) (s .args .n) 1024 (indexed s .ids), first-or-all (s .args .q .own) (s .args .w) 512 (queued s .own)))
+    (rw (first-or-all (s .args .index .ids) (s .args .n) 1024 (indexed s .ids), first-or-all (s .args .queue .own) (s .args .w) 512 (queued s .own)))
 
 pub holder-of-spec : {M : Type 1} → statement M
 holder-of-spec =

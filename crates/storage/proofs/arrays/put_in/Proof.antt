@@ -1,4 +1,4 @@
--- `storage::arrays::inserted` keeps the first k, puts the character, and copies the rest behind it.
+-- `storage::arrays::put_in` keeps the first k, puts the character, and copies the rest behind it.
 use mathlib.Core.Path.{_≡_, refl}
 use native.Mathlib.Omega.{arith}
 use borrow.Author.Needs.{needs}
@@ -6,8 +6,8 @@ use lib.ListN.{length}
 use Rattle.woot.specs.State.{blankCharacter}
 use Rattle.convergence.proofs.Insertion.{insert-put}
 use Rattle.storage.proofs.Padding.{pad-put-first}
-use Rattle.storage.proofs.arrays.inserted.Statement.{statement}
-use Rattle.storage.proofs.arrays.inserted.Tie as tie
+use Rattle.storage.proofs.arrays.put_in.Statement.{statement}
+use Rattle.storage.proofs.arrays.put_in.Tie as tie
 
 lesser-requires : tie.Need-lesser-requires
 lesser-requires c κs = search needs
@@ -36,12 +36,12 @@ copied-requires c κs = search needs
 returns : tie.Need-returns
 returns c =
     let a = c .before .before .before .before .args in
-    let full : length (a .cs) ≡ 1024 = c .before .before .before .before .good .0 .1 .0 .1 in
+    let full : length (a .characters) ≡ 1024 = c .before .before .before .before .good .0 .1 .0 .1 in
     rw (c .copied .ensures, c .before .kept .ensures, c .before .before .lesser2 .ensures, c .before .before .before .lesser .ensures, insert-put)
-    (pad-put-first 1024 blankCharacter (a .cs) (a .n) (a .k) (a .c) 1023 refl full)
+    (pad-put-first 1024 blankCharacter (a .characters) (a .n) (a .k) (a .character) 1023 refl full)
 
-pub inserted-spec : {M : Type 1} → statement M
-inserted-spec =
+pub put-in-spec : {M : Type 1} → statement M
+put-in-spec =
     tie.close
     (tie.spec
     lesser-requires

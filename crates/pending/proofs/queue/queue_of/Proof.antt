@@ -1,13 +1,13 @@
--- `pending::queue::pack` meets its contract. The loop's invariant: the arrays hold the numbers of the first i operations.
+-- `pending::queue::queue_of` meets its contract. The loop's invariant: the arrays hold the numbers of the first i operations.
 use mathlib.Core.Path.{_≡_, _∙_}
 use Prim.Native.Nat.{_-_, _≤_, min, zero-le}
 use native.Mathlib.Omega.{arith}
 use borrow.Author.Needs.{needs}
 use lib.ListN.{length}
 use Rattle.lists.proofs.Padding.{first-or-all}
-use Rattle.pending.proofs.Queues.{Filled, filled-none, filled-more, filled-packed}
-use Rattle.pending.proofs.queue.pack.Statement.{statement}
-use Rattle.pending.proofs.queue.pack.Tie as tie
+use Rattle.pending.proofs.Queues.{Filled, filled-none, filled-more, filled-queue}
+use Rattle.pending.proofs.queue.queue_of.Statement.{statement}
+use Rattle.pending.proofs.queue.queue_of.Tie as tie
 
 abbrev Inv-loop : tie.InvT-loop
 Inv-loop n ps end own₀ first₀ second₀ senders₀ i₀ own first second senders i =
@@ -68,10 +68,10 @@ returns c =
     let l = c .before .loop in
     let a = c .before .before .before .args in
     let all : l .i ≡ min (a .n) 512 = omega (arith, c .before .before .lesser .ensures) in
-    filled-packed (l .inv .3) ∙ rw (all, first-or-all (a .t1) (a .n) 512 (l .inv .0))
+    filled-queue (l .inv .3) ∙ rw (all, first-or-all (a .t1) (a .n) 512 (l .inv .0))
 
-pub pack-spec : {M : Type 1} → statement M
-pack-spec =
+pub queue-of-spec : {M : Type 1} → statement M
+queue-of-spec =
     tie.close
     (tie.spec
     Inv-loop
