@@ -23,9 +23,9 @@ use Rattle.woot.specs.Histories.{inserting, deleting, receiving, outcome}
 use Rattle.woot.specs.Histories.{Call as RuleCall}
 use Rattle.replica.specs.Replicas.{afterAnswer, afterSent, receipt, generated}
 use Rattle.replica.proofs.Runs.{formed-within}
-use Rattle.codec.specs.Lines.{isLetter, hasLayout}
+use Rattle.lines.specs.Lines.{closed}
+use Rattle.lines.specs.Fields.{hasLayout}
 use Rattle.codec.specs.Calls.{saidBy, written, outAfter as lineAfter}
-use Rattle.saved.specs.Lines.{closed}
 use Rattle.saved.specs.Format.{isSite, headLine, savedLaidOut, savedState, savedBytes}
 use Rattle.saved.specs.Calls.{loadChecks, loadedAs, loaded, outAfter}
 use Rattle.saved.proofs.Trips.{saved-says, saved-reads-back}

@@ -14,7 +14,7 @@ use Rattle.woot.specs.State.{initial, stored}
 use Rattle.woot.specs.Form.{wellFormed}
 use Rattle.woot.specs.Answers.{Check, _⇒_, first}
 use Rattle.replica.specs.Replicas.{received, inserted, deleted, textWritten, textOut}
-use Rattle.codec.specs.Lines.{rest}
+use Rattle.lines.specs.Lines.{rest}
 use Rattle.codec.specs.Calls.{laidOut, saidBy}
 use Rattle.saved.specs.Format.{savedLaidOut, savedInRange, savedState}
 use Rattle.wimtaze.specs.Effects.{Effect, unless, afterWriting, saving, receiving, generating}
