@@ -13,15 +13,15 @@ use Rattle.woot.specs.declared.Delete.{Delete}
 use Rattle.woot.specs.declared.Operation.the-variants.{Insert as insert, Delete as delete}
 use Rattle.woot.specs.Limits.{lastSite, lastClock, lastCodePoint, firstSurrogate, lastSurrogate}
 use Rattle.woot.specs.Identifiers.{begin, end, same}
-use Rattle.woot.specs.Ranges.{within as inside, siteNumber, codePoint, characterId, previousId, nextId, insertInRange, deleteInRange, inRange}
+use Rattle.woot.specs.Ranges.{within, siteNumber, codePoint, characterId, previousId, nextId, insertInRange, deleteInRange, inRange}
 use Rattle.lists.proofs.Tests.{and-left, and-right, or-cases}
 use Rattle.convergence.proofs.Identifiers.{same-eq}
-use Rattle.codec.specs.Numbers.{within}
+use Rattle.lines.specs.Fields.{atMost}
 use Rattle.codec.specs.Operations.{insertLimits, deleteLimits, identifierAt, insertOf, deleteOf}
-use Rattle.codec.proofs.Numbers.{within-from}
+use Rattle.lines.proofs.Values.{at-most-from}
 
-upper : (low high n : ℕ) → inside low high n ≡ true → n ≤ high
-unfolding inside
+upper : (low high n : ℕ) → within low high n ≡ true → n ≤ high
+unfolding within
 upper low high n e = leb-true n high (and-right (leb low n) (leb n high) e)
 
 site-bound : (n : ℕ) → siteNumber n ≡ true → n ≤ lastSite
@@ -30,7 +30,7 @@ site-bound n e = upper 1 lastSite n e
 
 code-point-bound : (n : ℕ) → codePoint n ≡ true → n ≤ lastCodePoint
 unfolding codePoint
-code-point-bound n e = upper 0 lastCodePoint n (and-left (inside 0 lastCodePoint n) (not (inside firstSurrogate lastSurrogate n)) e)
+code-point-bound n e = upper 0 lastCodePoint n (and-left (within 0 lastCodePoint n) (not (within firstSurrogate lastSurrogate n)) e)
 
 -- an identifier whose numbers are at most the limits
 pub record Bounded (x : Identifier) : Type 0 where
@@ -40,8 +40,8 @@ pub record Bounded (x : Identifier) : Type 0 where
 character-bounds : (x : Identifier) → characterId x ≡ true → Bounded x
 unfolding characterId
 character-bounds x e = record {
-  site-le = site-bound (x .site) (and-left (siteNumber (x .site)) (inside 1 lastClock (x .clock)) e);
-  clock-le = upper 1 lastClock (x .clock) (and-right (siteNumber (x .site)) (inside 1 lastClock (x .clock)) e);
+  site-le = site-bound (x .site) (and-left (siteNumber (x .site)) (within 1 lastClock (x .clock)) e);
+  clock-le = upper 1 lastClock (x .clock) (and-right (siteNumber (x .site)) (within 1 lastClock (x .clock)) e);
 }
 
 -- a mark or a character
@@ -87,20 +87,20 @@ delete-bounds d e = record {
 }
 
 -- so numbers that say an operation in range are within the limits of its line
-pub insert-within : (ns : List ℕ) → inRange (insert (insertOf ns)) ≡ true → within insertLimits ns ≡ true
+pub insert-at-most : (ns : List ℕ) → inRange (insert (insertOf ns)) ≡ true → atMost insertLimits ns ≡ true
 unfolding inRange insertOf identifierAt
-insert-within ns e =
+insert-at-most ns e =
     let b = insert-bounds (insertOf ns) e in
-    within-from 0 insertLimits ns (b .id-bounds .site-le)
-    (within-from 1 insertLimits ns (b .id-bounds .clock-le)
-    (within-from 2 insertLimits ns (b .code-bound)
-    (within-from 3 insertLimits ns (b .previous-bounds .site-le)
-    (within-from 4 insertLimits ns (b .previous-bounds .clock-le)
-    (within-from 5 insertLimits ns (b .next-bounds .site-le) (within-from 6 insertLimits ns (b .next-bounds .clock-le) refl))))))
+    at-most-from 0 insertLimits ns (b .id-bounds .site-le)
+    (at-most-from 1 insertLimits ns (b .id-bounds .clock-le)
+    (at-most-from 2 insertLimits ns (b .code-bound)
+    (at-most-from 3 insertLimits ns (b .previous-bounds .site-le)
+    (at-most-from 4 insertLimits ns (b .previous-bounds .clock-le)
+    (at-most-from 5 insertLimits ns (b .next-bounds .site-le) (at-most-from 6 insertLimits ns (b .next-bounds .clock-le) refl))))))
 
-pub delete-within : (ns : List ℕ) → inRange (delete (deleteOf ns)) ≡ true → within deleteLimits ns ≡ true
+pub delete-at-most : (ns : List ℕ) → inRange (delete (deleteOf ns)) ≡ true → atMost deleteLimits ns ≡ true
 unfolding inRange deleteOf identifierAt
-delete-within ns e =
+delete-at-most ns e =
     let b = delete-bounds (deleteOf ns) e in
-    within-from 0 deleteLimits ns (b .sender-bound)
-    (within-from 1 deleteLimits ns (b .target-bounds .site-le) (within-from 2 deleteLimits ns (b .target-bounds .clock-le) refl))
+    at-most-from 0 deleteLimits ns (b .sender-bound)
+    (at-most-from 1 deleteLimits ns (b .target-bounds .site-le) (at-most-from 2 deleteLimits ns (b .target-bounds .clock-le) refl))

@@ -1,13 +1,7 @@
-pub mod Lines
-pub mod Numbers
-pub mod Reading
-pub mod Writing
 pub mod Bounds
 pub mod Judging
 pub mod Letters
-pub mod Tagged
 pub mod Answers
-pub mod Spelling
 pub mod Trips
 pub mod Sizes
 pub mod Refusals

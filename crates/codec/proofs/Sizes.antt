@@ -1,114 +1,38 @@
--- How long lines are, and which bytes they have. A number within its limit has no more digits than the limit.
-use mathlib.Core.Path.{_≡_, refl, _∙_}
-use mathlib.Core.List.{List, [], _∷_, _++_}
-use mathlib.Core.Logic.{_↔_}
-use mathlib.Core.Bool.{Bool, true, false}
-use Prim.Native.Nat.{ℕ, zero, suc, _+_, _≤_, _<_}
+-- How long operation lines are, and which bytes they have. A number within its limit has no more digits than the limit.
+use mathlib.Core.Path.{_≡_, refl}
 use native.Mathlib.Omega.{arith}
-use lib.Dec.{leb, ltb, eqb}
-use lib.ListN.{length, getD, length-append, List·getD-append}
-use lib.Seq.{getD-append-seam}
-use borrow.Author.Tests.{leb-true, lt-ltb, ltb-true, ltb-false, eqb-false}
+use lib.ListN.{length}
 use Rattle.woot.specs.declared.Operation.the-variants.{Insert as insert, Delete as delete}
-use Rattle.lists.specs.Lists.{every}
 use Rattle.woot.specs.Identifiers.{same}
-use Rattle.woot.specs.Ranges.{inRange, insertInRange, deleteInRange, characterId, previousId, nextId, siteNumber, codePoint, within as inside}
-use Rattle.lists.proofs.Tests.{and-left, and-right, and-intro, or-false-left, or-false-right}
-use Rattle.lists.proofs.Members.{every-append}
-use Rattle.decimal.specs.Numeral.{isDigit, allDigits, digitsIn, digits}
-use Rattle.decimal.proofs.Laws.{width-monotone, digit-range, all-digits}
-use Rattle.codec.specs.Lines.{lineFeed, has, columns, lineOf}
-use Rattle.codec.specs.Numbers.{within}
-use Rattle.codec.specs.Operations.{insertLetter, deleteLetter, insertNumbers, insertLimits, deleteNumbers, deleteLimits, identifierAt, insertOf, deleteOf, operationLine}
+use Rattle.woot.specs.Ranges.{inRange, insertInRange, deleteInRange, characterId, previousId, nextId, siteNumber, codePoint, within}
+use Rattle.decimal.specs.Numeral.{digitsIn, digits}
+use Rattle.lines.specs.Fields.{lineOf}
+use Rattle.lines.proofs.Sizes.{line-le, line-bytes as bytes-of-line}
+use Rattle.codec.specs.Operations.{insertHead, deleteHead, insertNumbers, insertLimits, deleteNumbers, deleteLimits, identifierAt, insertOf, deleteOf, operationLine}
 use Rattle.codec.specs.Theorems.{LineLengths, LongestLines, LineBytes}
-use Rattle.codec.proofs.Writing.{line-length}
-use Rattle.codec.proofs.Bounds.{insert-within, delete-within}
-use Rattle.codec.proofs.Trips.{no-feed}
+use Rattle.codec.proofs.Bounds.{insert-at-most, delete-at-most}
 
--- ---- lengths
-
--- numbers within their limits take no more bytes than the limits
-columns-le : (ls ns : List ℕ) → length ns ≤ length ls → within ls ns ≡ true → length (columns ns) ≤ length (columns ls)
-columns-le ls [] h e = omega arith
-columns-le [] (n ∷ ns) h e = absurd (omega arith)
-columns-le (l ∷ ls) (n ∷ ns) h e =
-    omega (
-      arith,
-      columns-le ls ns (omega arith) (and-right (leb n l) (within ls ns) e),
-      width-monotone n l (leb-true n l (and-left (leb n l) (within ls ns) e)),
-      length-append (digits n) (columns ns),
-      length-append (digits l) (columns ls),
-    )
-
-pub line-le : (letter : ℕ) (ls ns : List ℕ) → length ns ≤ length ls → within ls ns ≡ true → length (lineOf letter ns) ≤ 2 + length (columns ls)
-line-le letter ls ns h e = omega (arith, line-length letter ns, columns-le ls ns h e)
-
--- the limits take 35 and 12 bytes with their tabs
-insert-limits : length (columns insertLimits) ≡ 35
-unfolding digits digitsIn
+-- the lines of the limits
+insert-limits : length (lineOf insertHead insertLimits) ≡ 37
+unfolding lineOf digits digitsIn
 insert-limits = refl
 
-delete-limits : length (columns deleteLimits) ≡ 12
-unfolding digits digitsIn
+delete-limits : length (lineOf deleteHead deleteLimits) ≡ 14
+unfolding lineOf digits digitsIn
 delete-limits = refl
 
 pub line-lengths : LineLengths
 unfolding operationLine insertNumbers insertOf deleteNumbers deleteOf identifierAt
 line-lengths = (
-  λ i e. rw insert-limits at (line-le insertLetter insertLimits (insertNumbers i) (omega arith) (insert-within (insertNumbers i) e)),
-  λ d e. rw delete-limits at (line-le deleteLetter deleteLimits (deleteNumbers d) (omega arith) (delete-within (deleteNumbers d) e)),
+  λ i e. rw insert-limits at (line-le insertHead insertLimits (insertNumbers i) (omega arith) (insert-at-most (insertNumbers i) e)),
+  λ d e. rw delete-limits at (line-le deleteHead deleteLimits (deleteNumbers d) (omega arith) (delete-at-most (deleteNumbers d) e)),
 )
 
 pub longest-lines : LongestLines
-unfolding inRange insertInRange deleteInRange characterId previousId nextId siteNumber codePoint inside same operationLine lineOf insertNumbers deleteNumbers digits digitsIn
+unfolding inRange insertInRange deleteInRange characterId previousId nextId siteNumber codePoint within same operationLine lineOf insertNumbers deleteNumbers digits digitsIn
 longest-lines = ((refl, refl), (refl, refl))
 
--- ---- bytes
-
-abbrev isByte : ℕ → Bool
-isByte b = ltb b 256
-
-digit-bytes : (s : List ℕ) → allDigits s ≡ true → every isByte s ≡ true
-digit-bytes [] e = refl
-digit-bytes (b ∷ s) e =
-    let r = digit-range b (and-left (isDigit b) (allDigits s) e) in
-    and-intro (lt-ltb b 256 (omega (arith, r .1))) (digit-bytes s (and-right (isDigit b) (allDigits s) e))
-
-column-bytes : (ns : List ℕ) → every isByte (columns ns) ≡ true
-column-bytes [] = refl
-column-bytes (n ∷ ns) = every-append isByte (digits n) (columns ns) ∙ and-intro (digit-bytes (digits n) (all-digits n)) (column-bytes ns)
-
--- what holds of every byte, at any place
-byte-at : (s : List ℕ) (k : ℕ) → every isByte s ≡ true → k < length s → getD s k 0 < 256
-byte-at [] k e h = absurd (omega arith)
-byte-at (b ∷ s) zero e h = ltb-true b 256 (and-left (isByte b) (every isByte s) e)
-byte-at (b ∷ s) (suc k) e h = byte-at s k (and-right (isByte b) (every isByte s) e) (omega arith)
-
-absent-at : (b : ℕ) (s : List ℕ) (k : ℕ) → has b s ≡ false → k < length s → getD s k 0 ≡ b → ⊥
-absent-at b [] k e h = absurd (omega arith)
-absent-at b (x ∷ s) zero e h = eqb-false x b (or-false-left (eqb x b) (has b s) e)
-absent-at b (x ∷ s) (suc k) e h = absent-at b s k (or-false-right (eqb x b) (has b s) e) (omega arith)
-
--- bytes without a line feed, and one line feed after them
-ended-bytes : (s : List ℕ) → every isByte s ≡ true → has lineFeed s ≡ false → (k : ℕ) → k < length (s ++ (lineFeed ∷ []))
-    → (getD (s ++ (lineFeed ∷ [])) k 0 < 256) × ((getD (s ++ (lineFeed ∷ [])) k 0 ≡ lineFeed) ↔ (suc k ≡ length (s ++ (lineFeed ∷ []))))
-ended-bytes s e f k h = go (ltb k (length s)) refl
-  where
-    size : length (s ++ (lineFeed ∷ [])) ≡ length s + 1
-    size = length-append s (lineFeed ∷ [])
-
-    go : (b : Bool) → ltb k (length s) ≡ b → (getD (s ++ (lineFeed ∷ [])) k 0 < 256) × ((getD (s ++ (lineFeed ∷ [])) k 0 ≡ lineFeed) ↔ (suc k ≡ length (s ++ (lineFeed ∷ []))))
-    go true t =
-        let l : k < length s = ltb-true k (length s) t in
-        rw (List·getD-append s (lineFeed ∷ []) 0 k l)
-        (byte-at s k e l, (λ q. absurd (absent-at lineFeed s k f l q), λ q. absurd (omega (arith, size))))
-    go false t =
-        let l : k ≡ length s = omega (arith, ltb-false k (length s) t, size) in
-        rw (l, getD-append-seam s lineFeed [] 0) (omega arith, (λ q. omega (arith, size), λ q. refl))
-
 pub line-bytes : LineBytes
-unfolding operationLine lineOf
-line-bytes (insert i) k h =
-    ended-bytes (insertLetter ∷ columns (insertNumbers i)) (column-bytes (insertNumbers i)) (no-feed insertLetter (insertNumbers i) [] (eqb-false insertLetter lineFeed refl)) k h
-line-bytes (delete d) k h =
-    ended-bytes (deleteLetter ∷ columns (deleteNumbers d)) (column-bytes (deleteNumbers d)) (no-feed deleteLetter (deleteNumbers d) [] (eqb-false deleteLetter lineFeed refl)) k h
+unfolding operationLine
+line-bytes (insert i) k h = bytes-of-line insertHead (insertNumbers i) refl refl k h
+line-bytes (delete d) k h = bytes-of-line deleteHead (deleteNumbers d) refl refl k h

@@ -16,37 +16,14 @@ use Rattle.woot.specs.declared.Refusal.the-variants.{Layout, Range}
 use Rattle.woot.specs.Ranges.{inRange}
 use Rattle.lists.proofs.Tests.{either, and-left, and-right, or-false}
 use Rattle.codec.specs.declared.Read.the-variants.{Operation as readsAs, Refused as readRefused}
-use Rattle.codec.specs.Lines.{tab, lineFeed, has, after, ended, firstLine, rest, fields, numbers, columns, lineOf}
-use Rattle.codec.specs.Operations.{insertLetter, deleteLetter, insertNumbers, deleteNumbers, identifierAt, insertOf, deleteOf, isInsert, isDelete, said, operationLine}
+use Rattle.lines.specs.Lines.{lineFeed, has, after, ended, firstLine, rest}
+use Rattle.lines.specs.Fields.{tab, fields, valuesOf, columns, lineOf}
+use Rattle.codec.specs.Operations.{insertHead, deleteHead, insertNumbers, deleteNumbers, identifierAt, insertOf, deleteOf, isInsert, isDelete, operationOf, operationLine}
 use Rattle.codec.specs.Calls.{lineLaidOut, laidOut, saidBy, readAs, readLine, readOperation}
 use Rattle.codec.specs.Theorems.{LineSays, WrittenReadsBack, ReadWritesBack}
-use Rattle.codec.proofs.Lines.{split, before-append, after-append, has-append-seam}
+use Rattle.lines.proofs.Lines.{line-ended, line-first, line-rest, whole-line}
 use Rattle.codec.proofs.Judging.{read-layout, read-range, read-operation}
-use Rattle.codec.proofs.Letters.{by-letter}
-use Rattle.codec.proofs.Spelling.{no-columns, layout-line, numbers-line, spelled}
-
--- ---- a line before any bytes
-
-module _ (letter : ℕ) (ns bytes : List ℕ) (h : letter ≡ lineFeed → ⊥) where
-  -- the line and what follows it, parted at the line feed
-  seam : lineOf letter ns ++ bytes ≡ (letter ∷ columns ns) ++ lineFeed ∷ bytes
-  unfolding lineOf
-  seam = append-snoc (letter ∷ columns ns) lineFeed bytes
-
-  pub no-feed : has lineFeed (letter ∷ columns ns) ≡ false
-  no-feed = or-false (ne-eqb letter lineFeed h) (no-columns lineFeed (omega arith) (eqb-false tab lineFeed refl) ns)
-
-  line-ended : ended (lineOf letter ns ++ bytes) ≡ true
-  unfolding ended
-  line-ended = rw seam (has-append-seam lineFeed (letter ∷ columns ns) bytes)
-
-  line-first : firstLine (lineOf letter ns ++ bytes) ≡ letter ∷ columns ns
-  unfolding firstLine
-  line-first = rw seam (before-append lineFeed (letter ∷ columns ns) bytes no-feed)
-
-  line-rest : rest (lineOf letter ns ++ bytes) ≡ bytes
-  unfolding rest
-  line-rest = rw seam (after-append lineFeed (letter ∷ columns ns) bytes no-feed)
+use Rattle.lines.proofs.Spelling.{layout-line, values-line, spelled, other-letter}
 
 -- reading goes by the line before the line feed
 by-line : (s line : List ℕ) → ended s ≡ true → firstLine s ≡ line → readOperation s ≡ readLine line
@@ -55,34 +32,30 @@ by-line s line e f = rw (e, f)
 
 -- ---- what is written, read
 
-insert-says : (i : Insert) → readLine (insertLetter ∷ columns (insertNumbers i)) ≡ readAs true (insert i)
-unfolding readLine lineLaidOut said isInsert insertNumbers insertOf identifierAt
+insert-says : (i : Insert) → readLine (insertHead ++ columns (insertNumbers i)) ≡ readAs true (insert i)
+unfolding readLine lineLaidOut operationOf isInsert insertNumbers insertOf identifierAt
 insert-says i =
-    let other = eqb-false insertLetter tab refl in
-    rw (layout-line insertLetter (insertNumbers i) other 7 refl, numbers-line insertLetter (insertNumbers i) other)
+    rw (layout-line insertHead (insertNumbers i) refl 7 refl, values-line insertHead (insertNumbers i) refl)
 
-delete-says : (d : Delete) → readLine (deleteLetter ∷ columns (deleteNumbers d)) ≡ readAs true (delete d)
-unfolding readLine lineLaidOut said isInsert isDelete deleteNumbers deleteOf identifierAt
+delete-says : (d : Delete) → readLine (deleteHead ++ columns (deleteNumbers d)) ≡ readAs true (delete d)
+unfolding readLine lineLaidOut operationOf isInsert isDelete deleteNumbers deleteOf identifierAt
 delete-says d =
-    let other = eqb-false deleteLetter tab refl in
-    rw (by-letter insertLetter 7 deleteLetter (columns (deleteNumbers d)) (eqb-false tab insertLetter refl), layout-line deleteLetter (deleteNumbers d) other 3 refl, numbers-line deleteLetter (deleteNumbers d) other)
+    rw (other-letter 73 7 (deleteHead ++ columns (deleteNumbers d)) (eqb-false 68 73 refl), layout-line deleteHead (deleteNumbers d) refl 3 refl, values-line deleteHead (deleteNumbers d) refl)
 
 pub line-says : LineSays
 unfolding operationLine
 line-says (insert i) bytes =
-    let other = eqb-false insertLetter lineFeed refl in
     let ns = insertNumbers i in
-    by-line (lineOf insertLetter ns ++ bytes) (insertLetter ∷ columns ns) (line-ended insertLetter ns bytes other) (line-first insertLetter ns bytes other) ∙ insert-says i
+    by-line (lineOf insertHead ns ++ bytes) (insertHead ++ columns ns) (line-ended insertHead ns bytes refl) (line-first insertHead ns bytes refl) ∙ insert-says i
 line-says (delete d) bytes =
-    let other = eqb-false deleteLetter lineFeed refl in
     let ns = deleteNumbers d in
-    by-line (lineOf deleteLetter ns ++ bytes) (deleteLetter ∷ columns ns) (line-ended deleteLetter ns bytes other) (line-first deleteLetter ns bytes other) ∙ delete-says d
+    by-line (lineOf deleteHead ns ++ bytes) (deleteHead ++ columns ns) (line-ended deleteHead ns bytes refl) (line-first deleteHead ns bytes refl) ∙ delete-says d
 
 -- the bytes that follow a line
 rest-of-line : (o : Operation) (bytes : List ℕ) → rest (operationLine o ++ bytes) ≡ bytes
 unfolding operationLine
-rest-of-line (insert i) bytes = line-rest insertLetter (insertNumbers i) bytes (eqb-false insertLetter lineFeed refl)
-rest-of-line (delete d) bytes = line-rest deleteLetter (deleteNumbers d) bytes (eqb-false deleteLetter lineFeed refl)
+rest-of-line (insert i) bytes = line-rest insertHead (insertNumbers i) bytes refl
+rest-of-line (delete d) bytes = line-rest deleteHead (deleteNumbers d) bytes refl
 
 pub written-reads-back : WrittenReadsBack
 written-reads-back o e bytes = (line-says o bytes ∙ read-operation o e, rest-of-line o bytes)
@@ -123,21 +96,17 @@ was-read s o e = go (either (laidOut s)) (either (inRange (saidBy s)))
     go (inl p) (inl r) = let q : readsAs (saidBy s) ≡ readsAs o = sym (read-operation (saidBy s) r) ∙ rw p at e in (p, cc)
 
 module _ (s : List ℕ) (e : ended s ≡ true) where
-  whole : (letter : ℕ) (ns : List ℕ) → firstLine s ≡ letter ∷ columns ns → s ≡ lineOf letter ns ++ rest s
-  unfolding ended firstLine rest lineOf
-  whole letter ns f = split lineFeed s e ∙ rw f (sym (append-snoc (letter ∷ columns ns) lineFeed (after lineFeed s)))
-
   as-insert : isInsert (fields (firstLine s)) ≡ true → s ≡ operationLine (saidBy s) ++ rest s
-  unfolding isInsert saidBy said operationLine
+  unfolding isInsert saidBy operationOf operationLine
   as-insert i =
-      let p = spelled insertLetter 7 (firstLine s) i in
-      rw (i, insert-numbers-back (numbers (fields (firstLine s))) (p .1)) (whole insertLetter (numbers (fields (firstLine s))) (p .0))
+      let p = spelled insertHead 7 (firstLine s) i in
+      rw (i, insert-numbers-back (valuesOf (fields (firstLine s))) (p .1)) (whole-line s insertHead (valuesOf (fields (firstLine s))) e (p .0))
 
   as-delete : isInsert (fields (firstLine s)) ≡ false → isDelete (fields (firstLine s)) ≡ true → s ≡ operationLine (saidBy s) ++ rest s
-  unfolding isDelete saidBy said operationLine
+  unfolding isDelete saidBy operationOf operationLine
   as-delete n d =
-      let p = spelled deleteLetter 3 (firstLine s) d in
-      rw (n, delete-numbers-back (numbers (fields (firstLine s))) (p .1)) (whole deleteLetter (numbers (fields (firstLine s))) (p .0))
+      let p = spelled deleteHead 3 (firstLine s) d in
+      rw (n, delete-numbers-back (valuesOf (fields (firstLine s))) (p .1)) (whole-line s deleteHead (valuesOf (fields (firstLine s))) e (p .0))
 
 pub read-writes-back : ReadWritesBack
 unfolding laidOut lineLaidOut

@@ -15,8 +15,9 @@ use Rattle.codec.specs.declared.Read.{Read}
 use Rattle.codec.specs.declared.Read.the-variants.{Operation as readsAs, Refused as readRefused}
 use Rattle.woot.specs.declared.Written.{Written}
 use Rattle.woot.specs.declared.Written.the-variants.{Length, Refused as writtenRefused}
-use Rattle.codec.specs.Lines.{ended, firstLine, fields}
-use Rattle.codec.specs.Operations.{isInsert, isDelete, said, operationLine}
+use Rattle.lines.specs.Lines.{ended, firstLine}
+use Rattle.lines.specs.Fields.{fields}
+use Rattle.codec.specs.Operations.{isInsert, isDelete, operationOf, operationLine}
 
 -- the answer at the first condition that holds; where none does, the other
 unfoldable pub decided : {A : Type 0} → Option A → A → A
@@ -42,11 +43,11 @@ readAs laid o = decided (first (readChecks laid o)) (readsAs o)
 
 -- what a line without its line feed is read as
 unfoldable pub readLine : List ℕ → Read
-readLine line = readAs (lineLaidOut line) (said (fields line))
+readLine line = readAs (lineLaidOut line) (operationOf (fields line))
 
 -- the operation that the first line of the bytes says
 unfoldable pub saidBy : List ℕ → Operation
-saidBy s = said (fields (firstLine s))
+saidBy s = operationOf (fields (firstLine s))
 
 -- what the first line of the bytes is read as
 unfoldable pub readOperation : List ℕ → Read
@@ -58,6 +59,10 @@ readNumber (readsAs o) = 0
 readNumber (readRefused r) = number r
 
 -- ---- writing
+
+-- condition 12 alone: the number of bytes that are put at the front of a slice, or that it is too short for them
+unfoldable pub fitted : List ℕ → List ℕ → Written
+fitted bytes out = cond (ltb (length out) (length bytes)) (writtenRefused Output) (Length (length bytes))
 
 -- conditions 2 and 12
 unfoldable pub writeChecks : Operation → List ℕ → List (Check Written)

@@ -1,4 +1,4 @@
--- Operations as lines: which letter, and which numbers in which order.
+-- Operations as lines: which head word, and which numbers in which order.
 use Prim.Native.Nat.{ℕ, _+_}
 use mathlib.Core.List.{List, [], _∷_}
 use mathlib.Core.Bool.{Bool, cond}
@@ -9,15 +9,15 @@ use Rattle.woot.specs.declared.Delete.{Delete}
 use Rattle.woot.specs.declared.Operation.{Operation}
 use Rattle.woot.specs.declared.Operation.the-variants.{Insert as insert, Delete as delete}
 use Rattle.woot.specs.Limits.{lastSite, lastClock, lastCodePoint}
-use Rattle.codec.specs.Lines.{hasLayout, numbers, lineOf}
+use Rattle.lines.specs.Fields.{hasLayout, valuesOf, lineOf}
 
 -- `I`
-abbrev pub insertLetter : ℕ
-insertLetter = 73
+abbrev pub insertHead : List ℕ
+insertHead = 73 ∷ []
 
 -- `D`
-abbrev pub deleteLetter : ℕ
-deleteLetter = 68
+abbrev pub deleteHead : List ℕ
+deleteHead = 68 ∷ []
 
 -- "laptop clock codepoint prevlaptop prevclock nextlaptop nextclock"
 unfoldable pub insertNumbers : Insert → List ℕ
@@ -50,16 +50,16 @@ unfoldable pub deleteOf : List ℕ → Delete
 deleteOf ns = record { sender = getD ns 0 0; target = identifierAt 1 ns }
 
 unfoldable pub isInsert : List (List ℕ) → Bool
-isInsert fs = hasLayout insertLetter 7 fs
+isInsert fs = hasLayout insertHead 7 fs
 
 unfoldable pub isDelete : List (List ℕ) → Bool
-isDelete fs = hasLayout deleteLetter 3 fs
+isDelete fs = hasLayout deleteHead 3 fs
 
 -- the operation that fields with the layout say, whatever numbers they have
-unfoldable pub said : List (List ℕ) → Operation
-said fs = cond (isInsert fs) (insert (insertOf (numbers fs))) (delete (deleteOf (numbers fs)))
+unfoldable pub operationOf : List (List ℕ) → Operation
+operationOf fs = cond (isInsert fs) (insert (insertOf (valuesOf fs))) (delete (deleteOf (valuesOf fs)))
 
 -- the line of an operation, with its line feed
 unfoldable pub operationLine : Operation → List ℕ
-operationLine (insert i) = lineOf insertLetter (insertNumbers i)
-operationLine (delete d) = lineOf deleteLetter (deleteNumbers d)
+operationLine (insert i) = lineOf insertHead (insertNumbers i)
+operationLine (delete d) = lineOf deleteHead (deleteNumbers d)

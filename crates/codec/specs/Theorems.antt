@@ -14,7 +14,7 @@ use Rattle.woot.specs.Answers.{Reported}
 use Rattle.woot.specs.Ranges.{inRange}
 use Rattle.codec.specs.declared.Read.the-variants.{Operation as readsAs, Refused as readRefused}
 use Rattle.woot.specs.declared.Written.the-variants.{Length, Refused as writtenRefused}
-use Rattle.codec.specs.Lines.{lineFeed, rest}
+use Rattle.lines.specs.Lines.{lineFeed, rest}
 use Rattle.codec.specs.Operations.{operationLine}
 use Rattle.codec.specs.Calls.{laidOut, saidBy, readChecks, readAs, readOperation, readNumber, writeChecks, written, outAfter, writtenNumber}
 

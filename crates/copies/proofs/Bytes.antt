@@ -22,9 +22,9 @@ use Rattle.woot.specs.Calls.{receive, localInsert, localDelete}
 use Rattle.woot.specs.Histories.{inserting, deleting, receiving, outcome, Call as RuleCall}
 use Rattle.storage.specs.Replicas.{afterAnswer, afterSent, receipt, generated}
 use Rattle.replica.proofs.Runs.{formed-within}
-use Rattle.codec.specs.Lines.{isLetter, hasLayout}
+use Rattle.lines.specs.Lines.{closed}
+use Rattle.lines.specs.Fields.{hasLayout}
 use Rattle.codec.specs.Calls.{saidBy, written, outAfter as lineAfter}
-use Rattle.saved.specs.Lines.{closed}
 use Rattle.saved.specs.Format.{isSite, headLine, savedLaidOut, savedState, savedBytes}
 use Rattle.saved.specs.Calls.{loadChecks, loadedAs, loaded, outAfter}
 use Rattle.saved.proofs.Trips.{saved-says, saved-reads-back}

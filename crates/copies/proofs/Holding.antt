@@ -16,7 +16,7 @@ use Rattle.woot.specs.Histories.{outcome, Call as RuleCall}
 use Rattle.convergence.proofs.Forms.{reformed}
 use Rattle.convergence.proofs.Steps.{turned, adds, removes, defers, step, Step as RuleStep}
 use Rattle.convergence.proofs.Kept.{form-kept, counts-true}
-use Rattle.codec.specs.Lines.{numbers}
+use Rattle.lines.specs.Fields.{valuesOf}
 use Rattle.replica.proofs.Runs.{Within, meaning-stored}
 use Rattle.saved.specs.Format.{siteOf, siteSaid, headLine, characterLines, operationLines, savedState, savedBytes}
 use Rattle.saved.proofs.Trips.{saved-says}
@@ -39,7 +39,7 @@ abbrev pub Steps : State → Copy → Call → Type 0
 Steps s p c = Step s (after p c) (carried p c)
 
 pub says : {s : State} {p : Copy} → Holds s p → stateOf p ≡ s
-unfolding stateOf initial savedState siteSaid siteOf numbers headLine characterLines operationLines
+unfolding stateOf initial savedState siteSaid siteOf valuesOf headLine characterLines operationLines
 says (memory s w) = meaning-stored s
 says (bytes s h) = saved-says s
 says nothing = refl

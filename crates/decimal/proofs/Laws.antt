@@ -3,14 +3,14 @@ use mathlib.Core.Path.{_≡_, refl, sym, ap, _∙_}
 use mathlib.Core.Logic.{_⊎_, inl, inr, _↔_}
 use mathlib.Core.List.{List, [], _∷_, _++_, append-nil}
 use mathlib.Core.Bool.{Bool, true, false, not, _&&_}
-use Prim.Native.Nat.{ℕ, zero, suc, _+_, _-_, _*_, _/_, _%_, _^_, _≤_, _<_, min}
+use Prim.Native.Nat.{ℕ, zero, suc, _+_, _-_, _*_, _/_, _%_, _^_, _≤_, _<_}
 use native.Mathlib.Nat.{one-le-pow, le-refl, pow-suc, lt-of-le-of-lt}
 use native.Mathlib.Omega.{arith}
-use lib.ListN.{length, getD, length-append, List·getD-append}
+use lib.ListN.{length, take, getD, length-append, List·getD-append}
 use lib.Seq.{append-snoc}
 use lib.Dec.{leb, ltb, eqb}
-use borrow.Author.Tests.{lt-ltb, le-ltb, ltb-true, ltb-false, le-leb, leb-true, ne-eqb, eqb-false, not-true}
-use Rattle.decimal.specs.declared.Field.the-variants.{Number, Malformed}
+use borrow.Author.Tests.{lt-ltb, le-ltb, ltb-true, ltb-false, le-leb, leb-true, leb-false, ne-eqb, eqb-false, not-true}
+use Rattle.decimal.specs.declared.Field.the-variants.{Number, Above, Malformed}
 use Rattle.decimal.specs.Numeral.{isDigit, allDigits, leadingZero, isNumeral, valueFrom, valueOf, digitsIn, digits}
 use Rattle.decimal.specs.Answers.{fieldOf}
 use Rattle.decimal.specs.Theorems.{DigitsAreNumeral, DigitsReadBack, FieldReadsBack, NumeralWritesBack, FieldWritesBack, WidthByPower, WidthMonotone, DigitBytes}
@@ -130,6 +130,20 @@ pub value-snoc : (v : ℕ) (s : List ℕ) (b : ℕ) → valueFrom v (s ++ (b ∷
 value-snoc v [] b = refl
 value-snoc v (x ∷ s) b = value-snoc (v * 10 + (x - 48)) s b
 
+-- more digits make no smaller number
+grows : (v : ℕ) (s : List ℕ) → v ≤ valueFrom v s
+grows v [] = omega arith
+grows v (b ∷ s) = omega (arith, grows (v * 10 + (b - 48)) s)
+
+front-le : (v : ℕ) (s : List ℕ) (i : ℕ) → valueFrom v (take i s) ≤ valueFrom v s
+front-le v s zero = grows v s
+front-le v [] (suc i) = omega arith
+front-le v (b ∷ s) (suc i) = front-le (v * 10 + (b - 48)) s i
+
+pub value-front : (s : List ℕ) (i : ℕ) → valueOf (take i s) ≤ valueOf s
+unfolding valueOf
+value-front s i = front-le 0 s i
+
 pub digits-read-back : DigitsReadBack
 unfolding valueOf
 digits-read-back =
@@ -199,27 +213,42 @@ width-le n h = width-by-power n 20 (omega arith) .1 (omega arith)
 
 pub field-reads-back : FieldReadsBack
 unfolding fieldOf
-field-reads-back n cap = rw (digits-are-numeral n, digits-read-back n)
+field-reads-back n limit = rw (digits-are-numeral n, digits-read-back n)
+
+-- two answers that are not one
+clash : {A : Type 0} → _≡_ {A = ℕ} 0 1 → A
+clash e = absurd (omega arith)
 
 -- what an answer tells of the bytes
-pub field-number : (s : List ℕ) (n cap : ℕ) → fieldOf s cap ≡ Number n → (isNumeral s ≡ true) × (n ≡ min (valueOf s) cap)
+pub field-number : (s : List ℕ) (n limit : ℕ) → fieldOf s limit ≡ Number n → (isNumeral s ≡ true) × (n ≡ valueOf s) × (n ≤ limit)
 unfolding fieldOf
-field-number s n cap e = go (isNumeral s) refl
+field-number s n limit e = go (isNumeral s) (leb (valueOf s) limit) refl refl
   where
-    go : (b : Bool) → isNumeral s ≡ b → (isNumeral s ≡ true) × (n ≡ min (valueOf s) cap)
-    go true p = let q : Number (min (valueOf s) cap) ≡ Number n = rw p at e in (p, cc)
-    go false p = let q : Malformed ≡ Number n = rw p at e in (cc, cc)
+    go : (b c : Bool) → isNumeral s ≡ b → leb (valueOf s) limit ≡ c → (isNumeral s ≡ true) × (n ≡ valueOf s) × (n ≤ limit)
+    go true true p l = let q : Number (valueOf s) ≡ Number n = rw (p, l) at e in
+        let v : n ≡ valueOf s = cc in (p, v, omega (arith, leb-true (valueOf s) limit l))
+    go true false p l = let q : Above ≡ Number n = rw (p, l) at e in clash cc
+    go false c p l = let q : Malformed ≡ Number n = rw p at e in clash cc
 
-pub field-malformed : (s : List ℕ) (cap : ℕ) → fieldOf s cap ≡ Malformed → isNumeral s ≡ false
+pub field-above : (s : List ℕ) (limit : ℕ) → fieldOf s limit ≡ Above → (isNumeral s ≡ true) × (limit < valueOf s)
 unfolding fieldOf
-field-malformed s cap e = go (isNumeral s) refl
+field-above s limit e = go (isNumeral s) (leb (valueOf s) limit) refl refl
   where
-    go : (b : Bool) → isNumeral s ≡ b → isNumeral s ≡ false
-    go true p = let q : Number (min (valueOf s) cap) ≡ Malformed = rw p at e in cc
-    go false p = p
+    go : (b c : Bool) → isNumeral s ≡ b → leb (valueOf s) limit ≡ c → (isNumeral s ≡ true) × (limit < valueOf s)
+    go true true p l = let q : Number (valueOf s) ≡ Above = rw (p, l) at e in clash cc
+    go true false p l = (p, leb-false (valueOf s) limit l)
+    go false c p l = let q : Malformed ≡ Above = rw p at e in clash cc
+
+pub field-malformed : (s : List ℕ) (limit : ℕ) → fieldOf s limit ≡ Malformed → isNumeral s ≡ false
+unfolding fieldOf
+field-malformed s limit e = go (isNumeral s) (leb (valueOf s) limit) refl refl
+  where
+    go : (b c : Bool) → isNumeral s ≡ b → leb (valueOf s) limit ≡ c → isNumeral s ≡ false
+    go true true p l = let q : Number (valueOf s) ≡ Malformed = rw (p, l) at e in cc
+    go true false p l = let q : Above ≡ Malformed = rw (p, l) at e in cc
+    go false c p l = p
 
 pub field-writes-back : FieldWritesBack
-field-writes-back s n cap e h =
-    let f : (isNumeral s ≡ true) × (n ≡ min (valueOf s) cap) = field-number s n cap e in
-    let v : valueOf s ≡ n = omega arith in
-    rw (← v) (numeral-writes-back s (f .0))
+field-writes-back s n limit e =
+    let f : (isNumeral s ≡ true) × (n ≡ valueOf s) × (n ≤ limit) = field-number s n limit e in
+    rw (f .1) (numeral-writes-back s (f .0))

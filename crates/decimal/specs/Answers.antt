@@ -1,16 +1,17 @@
 -- What the functions answer, as values of their types.
-use Prim.Native.Nat.{ℕ, _-_, min}
+use Prim.Native.Nat.{ℕ, _-_}
 use mathlib.Core.List.{List, _++_}
 use mathlib.Core.Bool.{cond}
+use lib.Dec.{leb}
 use lib.ListN.{length, replicate}
 use Rattle.decimal.specs.declared.Field.{Field}
-use Rattle.decimal.specs.declared.Field.the-variants.{Number, Malformed}
+use Rattle.decimal.specs.declared.Field.the-variants.{Number, Above, Malformed}
 use Rattle.decimal.specs.declared.Aligned.{Aligned}
 use Rattle.decimal.specs.Numeral.{isNumeral, valueOf, digits}
 
--- a field of digits is its number, capped: to learn whether it is above a limit, cap it at the limit and one
+-- a field of digits is its number where that is at most the limit
 unfoldable pub fieldOf : List ℕ → ℕ → Field
-fieldOf s cap = cond (isNumeral s) (Number (min (valueOf s) cap)) Malformed
+fieldOf s limit = cond (isNumeral s) (cond (leb (valueOf s) limit) (Number (valueOf s)) Above) Malformed
 
 -- the digits at the end of an array of 20, zeros before them, and the index where they start
 unfoldable pub aligned : ℕ → Aligned

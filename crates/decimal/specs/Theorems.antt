@@ -1,11 +1,12 @@
 -- What holds of numbers as text, of every size. Each is proved in `proofs/Laws.antt`.
-use Prim.Native.Nat.{ℕ, _^_, _≤_, _<_, min}
+use Prim.Native.Nat.{ℕ, _^_, _≤_, _<_}
 use mathlib.Core.Path.{_≡_}
 use mathlib.Core.Logic.{_↔_}
 use mathlib.Core.List.{List}
-use mathlib.Core.Bool.{true}
+use mathlib.Core.Bool.{true, cond}
+use lib.Dec.{leb}
 use lib.ListN.{length, getD}
-use Rattle.decimal.specs.declared.Field.the-variants.{Number}
+use Rattle.decimal.specs.declared.Field.the-variants.{Number, Above}
 use Rattle.decimal.specs.Numeral.{isNumeral, valueOf, digits}
 use Rattle.decimal.specs.Answers.{fieldOf}
 
@@ -18,15 +19,15 @@ abbrev pub DigitsReadBack : Type 0
 DigitsReadBack = (n : ℕ) → valueOf (digits n) ≡ n
 
 abbrev pub FieldReadsBack : Type 0
-FieldReadsBack = (n cap : ℕ) → fieldOf (digits n) cap ≡ Number (min n cap)
+FieldReadsBack = (n limit : ℕ) → fieldOf (digits n) limit ≡ cond (leb n limit) (Number n) Above
 
 -- what has the layout is written back as the same bytes
 abbrev pub NumeralWritesBack : Type 0
 NumeralWritesBack = (s : List ℕ) → isNumeral s ≡ true → digits (valueOf s) ≡ s
 
--- so is a field whose number is below the cap
+-- so is a field that is read as a number, whatever the limit
 abbrev pub FieldWritesBack : Type 0
-FieldWritesBack = (s : List ℕ) (n cap : ℕ) → fieldOf s cap ≡ Number n → n < cap → digits n ≡ s
+FieldWritesBack = (s : List ℕ) (n limit : ℕ) → fieldOf s limit ≡ Number n → digits n ≡ s
 
 -- how many digits there are
 abbrev pub WidthByPower : Type 0

@@ -1,16 +1,19 @@
 // Numbers as text, for lines of fields: a field of digits read as its number, and a number's digits put into a lent
 // slice.
 ghost use mathlib.Core.Path.{_≡_};
-ghost use Prim.Native.Nat.{_+_, _-_, _*_, _<_, _≤_, min};
+ghost use Prim.Native.Nat.{_+_, _-_, _*_, _<_, _≤_};
+ghost use lib.Dec.{ltb};
 ghost use lib.ListN.{length};
 ghost use Rattle.output.specs.Output.{placed, past};
-ghost use Rattle.decimal.specs.Numeral.{isDigit, leadingZero, digits};
+ghost use Rattle.decimal.specs.Numeral.{isDigit, leadingZero, isNumeral, digits};
 ghost use Rattle.decimal.specs.Answers.{fieldOf, aligned};
 
 // What a field of bytes says.
 pub enum Field {
-    // Its number, or the cap if the number is above it.
+    // A number that is at most the limit.
     Number(u64),
+    // A number above the limit.
+    Above,
     // Not a number's digits, or not laid out as they should be.
     Malformed,
 }
@@ -41,39 +44,59 @@ fn has_leading_zero(s: &[u8]) -> bool
     s[0] == 48
 }
 
-// The value with one more digit after it, or the cap if that is above it. No step of it can wrap.
-fn extended(value: u64, byte: u8, cap: u64) -> u64
-    requires { ⌜ 48 ≤ byte ⌝ }
-    ensures { λ r. ⌜ r ≡ min (value * 10 + (byte - 48)) cap ⌝ }
-{
-    let digit = byte as u64 - 48;
-    if cap < digit {
-        return cap;
-    }
-    if (cap - digit) / 10 < value {
-        return cap;
-    }
-    value * 10 + digit
-}
-
-// Reads a field of any length. What is above the cap is told as the cap: a caller with a limit passes the limit and one.
-pub fn read(s: &[u8], cap: u64) -> Field
-    ensures { λ r. ⌜ r ≡ fieldOf (now (s .entry)) cap ⌝ }
+// Whether the bytes are laid out as a number.
+fn is_numeral(s: &[u8]) -> bool
+    ensures { λ r. ⌜ r ≡ isNumeral (now (s .entry)) ⌝ }
 {
     if s.len() == 0 {
-        return Field::Malformed;
+        return false;
     }
     if has_leading_zero(s) {
+        return false;
+    }
+    let mut i = 0;
+    while i < s.len() {
+        if !is_digit(s[i]) {
+            return false;
+        }
+        i += 1;
+    }
+    true
+}
+
+// Whether the value with one more digit after it is above the limit. No step of it can wrap.
+fn exceeds(value: u64, digit: u64, limit: u64) -> bool
+    ensures { λ r. ⌜ r ≡ ltb limit (value * 10 + digit) ⌝ }
+{
+    if limit < digit {
+        return true;
+    }
+    (limit - digit) / 10 < value
+}
+
+// The number of a digit's byte.
+fn digit_value(byte: u8) -> u64
+    requires { ⌜ 48 ≤ byte ⌝ }
+    ensures { λ r. ⌜ r ≡ byte - 48 ⌝ }
+{
+    byte as u64 - 48
+}
+
+// Reads a field of any length. A number above the limit is told apart from bytes that are none, and no digits wrap.
+pub fn read(s: &[u8], limit: u64) -> Field
+    ensures { λ r. ⌜ r ≡ fieldOf (now (s .entry)) limit ⌝ }
+{
+    if !is_numeral(s) {
         return Field::Malformed;
     }
     let mut value = 0;
     let mut i = 0;
     while i < s.len() {
-        let byte = s[i];
-        if !is_digit(byte) {
-            return Field::Malformed;
+        let digit = digit_value(s[i]);
+        if exceeds(value, digit, limit) {
+            return Field::Above;
         }
-        value = extended(value, byte, cap);
+        value = value * 10 + digit;
         i += 1;
     }
     Field::Number(value)

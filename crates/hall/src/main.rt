@@ -2,6 +2,7 @@
 // last the visible characters.
 use woot::Answer;
 use woot::Replica;
+use woot::Written;
 
 const STDIN: i32 = 0;
 
@@ -10,15 +11,19 @@ const STDOUT: i32 = 1;
 // Prints the report on a line of the input.
 fn print_report(number: u64, answer: Answer) {
     let mut line = [0u8; 70];
-    let n = report::report_line(number, answer, &mut line);
-    io::write_all(STDOUT, &line[..n]);
+    let written = report::report_line(number, answer, &mut line);
+    if let Written::Length(n) = written {
+        io::write_all(STDOUT, &line[..n]);
+    }
 }
 
 // Prints the visible characters.
 fn print_text(r: Replica) {
     let mut line = [0u8; 8199];
-    let n = report::text_line(r, &mut line);
-    io::write_all(STDOUT, &line[..n]);
+    let written = report::text_line(r, &mut line);
+    if let Written::Length(n) = written {
+        io::write_all(STDOUT, &line[..n]);
+    }
 }
 
 // Answers the lines of the input one after another.

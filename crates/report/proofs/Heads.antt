@@ -9,8 +9,8 @@ use Rattle.output.specs.Output.{placed, past}
 use Rattle.output.proofs.Laws.{placed-room, length-placed}
 use Rattle.decimal.specs.Numeral.{digits}
 use Rattle.decimal.proofs.Laws.{width-le}
-use Rattle.codec.specs.Lines.{tab}
-use Rattle.codec.proofs.Writing.{Run, run-none, run-on}
+use Rattle.lines.specs.Fields.{tab}
+use Rattle.lines.proofs.Writing.{Run, run-none, run-on}
 
 -- the bytes a are the first `end` of the array
 pub record Front (a h : List ℕ) (end : ℕ) : Type 0 where

@@ -8,28 +8,11 @@ use lib.Dec.{eqb}
 use lib.ListN.{length}
 use borrow.Author.Tests.{eq-eqb, ne-eqb}
 use Rattle.woot.specs.declared.Replica.{Replica}
-use Rattle.codec.specs.Lines.{lineFeed, after, rest}
+use Rattle.lines.specs.Lines.{rest}
+use Rattle.lines.proofs.Lines.{rest-shorter}
 use Rattle.report.specs.Lines.{reportLine}
 use Rattle.report.specs.Calls.{answered, printedFrom}
 use Rattle.report.specs.Theorems.{PrintedByLines}
-
-after-le : (b : ℕ) (s : List ℕ) → length (after b s) ≤ length s
-after-le b [] = omega arith
-after-le b (x ∷ s) = go (eqb x b) (after-le b s)
-  where
-    go : (t : Bool) → length (after b s) ≤ length s → length (cond t s (after b s)) ≤ suc (length s)
-    go true h = omega arith
-    go false h = omega arith
-
--- each line leaves fewer bytes
-pub rest-shorter : (s : List ℕ) → 0 < length s → length (rest s) < length s
-unfolding rest
-rest-shorter [] h = absurd (omega arith)
-rest-shorter (x ∷ s) h = go (eqb x lineFeed) (after-le lineFeed s)
-  where
-    go : (t : Bool) → length (after lineFeed s) ≤ length s → length (cond t s (after lineFeed s)) < suc (length s)
-    go true k = omega arith
-    go false k = omega arith
 
 -- what is allowed for more lines than there are makes no difference
 enough : (j k n : ℕ) (r : Replica) (s : List ℕ) → length s ≤ j → length s ≤ k → printedFrom j n r s ≡ printedFrom k n r s

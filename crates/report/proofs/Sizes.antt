@@ -5,8 +5,6 @@ use mathlib.Core.List.{List, [], _∷_, _++_}
 use Prim.Native.Nat.{ℕ, _+_, _*_, _^_, _≤_, _<_}
 use native.Mathlib.Omega.{arith}
 use lib.ListN.{length, length-append}
-use Rattle.output.specs.Output.{hasRoom, placed, past}
-use Rattle.output.proofs.Laws.{has-room, lacks-room, past-room, past-short, length-placed}
 use Rattle.woot.specs.declared.Character.{Character}
 use Rattle.woot.specs.declared.Answer.{Answer}
 use Rattle.woot.specs.declared.Refusal.{Refusal}
@@ -22,15 +20,11 @@ use Rattle.lists.proofs.Tests.{and-left, and-right}
 use Rattle.convergence.proofs.Forms.{formed}
 use Rattle.decimal.specs.Numeral.{digits}
 use Rattle.decimal.proofs.Laws.{width-by-power, width-le}
-use Rattle.codec.specs.Lines.{tab, lineFeed, columns}
+use Rattle.lines.specs.Fields.{tab, columns}
+use Rattle.lines.proofs.Writing.{line-length}
 use Rattle.codec.proofs.Bounds.{insert-bounds}
-use Rattle.report.specs.Lines.{lineFrom, spelled, replyLine, reportLine, codePoints, textLetter, textNumbers, textLine}
+use Rattle.report.specs.Lines.{spelled, replyLine, reportLine, codePoints, textHead, textNumbers, textLine}
 use Rattle.report.specs.Theorems.{ReportFits, TextFits}
-
-pub line-length : (head ns : List ℕ) → length (lineFrom head ns) ≡ length head + (length (columns ns) + 1)
-unfolding lineFrom
-line-length head ns =
-    length-append head (columns ns ++ (lineFeed ∷ [])) ∙ ap (λ (k : ℕ). length head + k) (length-append (columns ns) (lineFeed ∷ []))
 
 column-length : (n : ℕ) (ns : List ℕ) → length (columns (n ∷ ns)) ≡ length (digits n) + length (columns ns) + 1
 column-length n ns = omega (arith, length-append (digits n) (columns ns))
@@ -115,7 +109,7 @@ text-fits r e =
     omega (
       arith,
       f .room,
-      line-length (textLetter ∷ []) (textNumbers cs),
+      line-length textHead (textNumbers cs),
       column-length (length (codePoints cs)) (codePoints cs),
       points-le cs,
       points-fit cs (f .ranges),
@@ -123,14 +117,3 @@ text-fits r e =
     )
 
 -- ---- what is written
-
--- the length that is answered is within the slice
-pub written-within : (out bytes : List ℕ) {n : ℕ} {out′ : List ℕ} → n ≡ past out 0 bytes → out′ ≡ placed out 0 bytes → n ≤ length out′
-written-within out bytes {n} {out′} p q = go (hasRoom (length out) 0 (length bytes)) refl
-  where
-    kept : length out′ ≡ length out
-    kept = ap length q ∙ length-placed out 0 bytes
-
-    go : (b : Bool) → hasRoom (length out) 0 (length bytes) ≡ b → n ≤ length out′
-    go true e = omega (arith, kept, p, past-room out 0 bytes (has-room (length out) 0 (length bytes) e), has-room (length out) 0 (length bytes) e)
-    go false e = omega (arith, kept, p, past-short out 0 bytes (lacks-room (length out) 0 (length bytes) e))

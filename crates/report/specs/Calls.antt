@@ -10,7 +10,7 @@ use Rattle.woot.specs.declared.Answer.the-variants.{Refused}
 use Rattle.woot.specs.State.{initial, meaning, stored}
 use Rattle.codec.specs.declared.Read.{Read}
 use Rattle.codec.specs.declared.Read.the-variants.{Operation as readsAs, Refused as readRefused}
-use Rattle.codec.specs.Lines.{rest}
+use Rattle.lines.specs.Lines.{rest}
 use Rattle.codec.specs.Calls.{readOperation}
 use Rattle.storage.specs.Replicas.{received}
 use Rattle.report.specs.Lines.{reportLine, textLine}

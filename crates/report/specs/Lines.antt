@@ -9,12 +9,8 @@ use Rattle.woot.specs.State.{characterSlots}
 use Rattle.lists.specs.Padding.{pad}
 use Rattle.woot.specs.Answers.{Word, done, waits, known, refused, Reply, reply}
 use Rattle.decimal.specs.Numeral.{digits}
-use Rattle.codec.specs.Lines.{tab, lineFeed, columns}
+use Rattle.lines.specs.Fields.{tab, lineOf}
 use Rattle.report.specs.declared.Listing.{Listing}
-
--- a line that begins with the head and goes on with numbers, each after a tab; with its line feed
-unfoldable pub lineFrom : List ℕ → List ℕ → List ℕ
-lineFrom head ns = head ++ (columns ns ++ (lineFeed ∷ []))
 
 -- `done`, `waits`, `known`, `refused`
 unfoldable pub spelled : Word → List ℕ
@@ -25,15 +21,15 @@ spelled refused = 114 ∷ 101 ∷ 102 ∷ 117 ∷ 115 ∷ 101 ∷ 100 ∷ []
 
 -- "its number from 1, the word done, waits, known or refused, carried, thrown, refusal number or 0"
 unfoldable pub replyLine : ℕ → Reply → List ℕ
-replyLine n r = lineFrom (digits n ++ tab ∷ spelled (r .word)) (r .integrated ∷ r .discarded ∷ r .refusal ∷ [])
+replyLine n r = lineOf (digits n ++ tab ∷ spelled (r .word)) (r .integrated ∷ r .discarded ∷ r .refusal ∷ [])
 
 -- the line on the line n of the input
 unfoldable pub reportLine : ℕ → Answer → List ℕ
 reportLine n a = replyLine n (reply a)
 
 -- `T`
-abbrev pub textLetter : ℕ
-textLetter = 84
+abbrev pub textHead : List ℕ
+textHead = 84 ∷ []
 
 -- the code points of the visible characters, in order
 unfoldable pub codePoints : List Character → List ℕ
@@ -49,4 +45,4 @@ listing cs = record { values = pad (suc characterSlots) 0 (textNumbers cs); coun
 
 -- "last comes `T`"
 unfoldable pub textLine : List Character → List ℕ
-textLine cs = lineFrom (textLetter ∷ []) (textNumbers cs)
+textLine cs = lineOf textHead (textNumbers cs)

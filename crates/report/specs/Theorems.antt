@@ -9,7 +9,7 @@ use Rattle.woot.specs.declared.Replica.{Replica}
 use Rattle.woot.specs.Answers.{reply}
 use Rattle.woot.specs.State.{meaning}
 use Rattle.woot.specs.Form.{replicaWellFormed}
-use Rattle.codec.specs.Lines.{rest}
+use Rattle.lines.specs.Lines.{rest}
 use Rattle.report.specs.Lines.{reportLine, textLine}
 use Rattle.report.specs.Calls.{answered, printedFrom, printed}
 

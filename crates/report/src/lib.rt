@@ -5,59 +5,19 @@ use woot::Character;
 use woot::Receipt;
 use woot::Refusal;
 use woot::Replica;
+use woot::Written;
 ghost use mathlib.Core.Path.{_≡_};
 ghost use mathlib.Core.List.{_++_, _∷_};
-ghost use Prim.Native.Nat.{_+_, _≤_, min};
+ghost use Prim.Native.Nat.{_≤_, min};
 ghost use lib.ListN.{length, take};
-ghost use Rattle.output.specs.Output.{hasRoom, placed, past};
+ghost use Rattle.output.specs.Output.{placed};
 ghost use Rattle.decimal.specs.Numeral.{digits};
+ghost use Rattle.lines.specs.Fields.{tab, lineOf};
 ghost use Rattle.woot.specs.Answers.{number};
 ghost use Rattle.woot.specs.State.{meaning};
-ghost use Rattle.codec.specs.Lines.{tab, columns};
+ghost use Rattle.codec.specs.Calls.{fitted};
 ghost use Rattle.report.specs.Calls.{answered};
-ghost use Rattle.report.specs.Lines.{lineFrom, reportLine, textLine, listing};
-
-const TAB: u8 = 9;
-
-const LINE_FEED: u8 = 10;
-
-// Whether a slice of the given size has room for the numbers, each after a tab, and a line feed from the offset on.
-fn has_room(size: usize, at: usize, numbers: &[u64]) -> bool
-    ensures { λ r. ⌜ r ≡ hasRoom size at (length (columns (now (numbers .entry))) + 1) ⌝ }
-{
-    if !output::has_room(size, at, 1) {
-        return false;
-    }
-    let mut end = at + 1;
-    let mut i = 0;
-    while i < numbers.len() {
-        let count = decimal::width(numbers[i]) + 1;
-        if !output::has_room(size, end, count) {
-            return false;
-        }
-        end += count;
-        i += 1;
-    }
-    true
-}
-
-// Puts a line that begins with the head and goes on with numbers at the front of the slice, all of it or nothing, and
-// answers its length or 0.
-fn put_line(head: &[u8], numbers: &[u64], out: &mut [u8]) -> usize
-    ensures { λ r. ⌜ (r ≡ past (now (out .entry)) 0 (lineFrom (now (head .entry)) (now (numbers .entry)))) × (now (out .exit) ≡ placed (now (out .entry)) 0 (lineFrom (now (head .entry)) (now (numbers .entry)))) ⌝ }
-{
-    if !has_room(out.len(), head.len(), numbers) {
-        return 0;
-    }
-    let mut end = output::put_all(out, 0, head);
-    let mut i = 0;
-    while i < numbers.len() {
-        end = output::put(out, end, TAB);
-        end = decimal::write(numbers[i], out, end);
-        i += 1;
-    }
-    output::put(out, end, LINE_FEED)
-}
+ghost use Rattle.report.specs.Lines.{reportLine, textLine, listing};
 
 // The number that document 01 gives a refusal.
 fn refusal_number(r: Refusal) -> u64
@@ -79,21 +39,23 @@ fn refusal_number(r: Refusal) -> u64
     }
 }
 
-// Puts a line of a number, a word and three numbers at the front of the slice, all of it or nothing.
-fn put_report(number: u64, word: &[u8], values: [u64; 3], out: &mut [u8]) -> usize
+// Writes a line of a number, a word and three numbers at the front of the slice, all of it or nothing.
+fn put_report(number: u64, word: &[u8], values: [u64; 3], out: &mut [u8]) -> Written
     requires { ⌜ length (now word) ≤ 7 ⌝ }
-    ensures { λ r. ⌜ (r ≡ past (now (out .entry)) 0 (lineFrom (digits number ++ tab ∷ now (word .entry)) values)) × (now (out .exit) ≡ placed (now (out .entry)) 0 (lineFrom (digits number ++ tab ∷ now (word .entry)) values)) ⌝ }
+    ensures { λ r. ⌜ r ≡ fitted (lineOf (digits number ++ tab ∷ now (word .entry)) values) (now (out .entry)) ⌝ }
+    ensures { λ r. ⌜ now (out .exit) ≡ placed (now (out .entry)) 0 (lineOf (digits number ++ tab ∷ now (word .entry)) values) ⌝ }
 {
     let mut head = [0u8; 28];
     let mut end = decimal::write(number, &mut head, 0);
-    end = output::put(&mut head, end, TAB);
+    end = output::put(&mut head, end, lines::TAB);
     end = output::put_all(&mut head, end, word);
-    put_line(&head[..end], &values, out)
+    codec::fitted(lines::put(&head[..end], &values, out, 0))
 }
 
-// Writes the line on one line of input at the front of the slice, all of it or nothing, and answers its length or 0.
-pub fn report_line(number: u64, answer: Answer, out: &mut [u8]) -> usize
-    ensures { λ r. ⌜ (r ≡ past (now (out .entry)) 0 (reportLine number answer)) × (now (out .exit) ≡ placed (now (out .entry)) 0 (reportLine number answer)) ⌝ }
+// Writes the line on one line of input at the front of the slice. A slice that is too short keeps every byte.
+pub fn report_line(number: u64, answer: Answer, out: &mut [u8]) -> Written
+    ensures { λ r. ⌜ r ≡ fitted (reportLine number answer) (now (out .entry)) ⌝ }
+    ensures { λ r. ⌜ now (out .exit) ≡ placed (now (out .entry)) 0 (reportLine number answer) ⌝ }
 {
     match answer {
         Answer::Done {
@@ -162,21 +124,22 @@ fn used(n: usize) -> usize
     1024
 }
 
-// Puts the line of the visible ones of the first n characters at the front of the slice, all of it or nothing.
-fn put_text(cs: [Character; 1024], n: usize, out: &mut [u8]) -> usize
-    ensures { λ r. ⌜ (r ≡ past (now (out .entry)) 0 (textLine (take n cs))) × (now (out .exit) ≡ placed (now (out .entry)) 0 (textLine (take n cs))) ⌝ }
+// Writes the line of the visible ones of the first n characters at the front of the slice, all of it or nothing.
+fn put_text(cs: [Character; 1024], n: usize, out: &mut [u8]) -> Written
+    ensures { λ r. ⌜ r ≡ fitted (textLine (take n cs)) (now (out .entry)) ⌝ }
+    ensures { λ r. ⌜ now (out .exit) ≡ placed (now (out .entry)) 0 (textLine (take n cs)) ⌝ }
 {
-    let letter = [b'T'];
+    let head = [b'T'];
     let l = list(cs, used(n));
     let values = l.values;
     let size = l.count + 1;
-    put_line(&letter, &values[..size], out)
+    codec::fitted(lines::put(&head, &values[..size], out, 0))
 }
 
-// Writes the line of a replica's visible characters at the front of the slice, all of it or nothing, and answers its
-// length or 0.
-pub fn text_line(r: Replica, out: &mut [u8]) -> usize
-    ensures { λ x. ⌜ (x ≡ past (now (out .entry)) 0 (textLine (meaning r .characters))) × (now (out .exit) ≡ placed (now (out .entry)) 0 (textLine (meaning r .characters))) ⌝ }
+// Writes the line of a replica's visible characters at the front of the slice. A slice that is too short keeps every byte.
+pub fn text_line(r: Replica, out: &mut [u8]) -> Written
+    ensures { λ x. ⌜ x ≡ fitted (textLine (meaning r .characters)) (now (out .entry)) ⌝ }
+    ensures { λ x. ⌜ now (out .exit) ≡ placed (now (out .entry)) 0 (textLine (meaning r .characters)) ⌝ }
 {
     let d = r.document;
     let cs = d.characters;

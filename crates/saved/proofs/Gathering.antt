@@ -11,23 +11,23 @@ use lib.Seq.{take-all, take-nil, take-append-le, append-snoc}
 use Rattle.woot.specs.declared.Character.{Character}
 use Rattle.woot.specs.declared.Pending.{Pending}
 use Rattle.lists.specs.Lists.{every}
-use Rattle.woot.specs.Ranges.{characterInRange, inRange}
 use Rattle.woot.specs.State.{characterSlots, pendingSlots, blankCharacter, blankPending, waiting}
 use Rattle.lists.specs.Padding.{pad}
 use Rattle.lists.proofs.Tests.{either}
 use Rattle.lists.proofs.Members.{every-append}
 use Rattle.lists.proofs.Padding.{pad-push}
-use Rattle.codec.specs.Lines.{isLetter, hasLayout, ended, firstLine, rest}
+use Rattle.lines.specs.Lines.{ended, firstLine, rest, lines, closed, leading}
+use Rattle.lines.specs.Fields.{hasLayout}
 use Rattle.codec.specs.Operations.{isInsert, isDelete}
 use Rattle.codec.specs.Calls.{lineLaidOut}
-use Rattle.saved.specs.declared.read.CharacterLine.{CharacterLine}
-use Rattle.saved.specs.declared.read.OperationLine.{OperationLine}
-use Rattle.saved.specs.declared.read.Characters.{Characters}
-use Rattle.saved.specs.declared.read.Operations.{Operations}
-use Rattle.saved.specs.Lines.{lines, closed, leading}
-use Rattle.saved.specs.Format.{isCharacter, visibleInRange, characterSaid, isOperation, operationSaid}
-use Rattle.saved.specs.Reading.{noCharacter, characterJudged, characterRead, noOperation, operationJudged, operationRead, lineCharacter, characterPasses, charactersRead, linePending, operationPasses, noOperations, operationsRead}
-use Rattle.saved.proofs.Lines.{lines-ended, lines-unended, lines-rest, closed-rest, closed-unended, rest-shorter, head-first}
+use Rattle.saved.specs.declared.reading.CharacterLine.{CharacterLine}
+use Rattle.saved.specs.declared.reading.OperationLine.{OperationLine}
+use Rattle.saved.specs.declared.reading.Characters.{Characters}
+use Rattle.saved.specs.declared.reading.Operations.{Operations}
+use Rattle.saved.specs.Format.{isCharacter, isOperation}
+use Rattle.saved.specs.Reading.{characterRead, operationRead, lineCharacter, characterPasses, charactersRead, linePending, operationPasses, noOperations, operationsRead}
+use Rattle.saved.proofs.Judging.{character-laid, operation-laid}
+use Rattle.lines.proofs.Lines.{lines-ended, lines-unended, lines-rest, closed-rest, closed-unended, rest-shorter, head-first}
 
 -- ---- the array
 
@@ -84,30 +84,12 @@ module _ {A : Type 0} {m : ℕ} {z : A} {item : List ℕ → A} {passes : List �
 -- ---- the layout that a line is read with
 
 no-character : isCharacter [] ≡ false
-unfolding isCharacter hasLayout isLetter
+unfolding isCharacter hasLayout
 no-character = refl
 
 no-operation : isOperation [] ≡ false
-unfolding isOperation lineLaidOut isInsert isDelete hasLayout isLetter
+unfolding isOperation lineLaidOut isInsert isDelete hasLayout
 no-operation = refl
-
-pub character-laid : (line : List ℕ) → characterRead line .«laid_out» ≡ isCharacter line
-unfolding characterRead characterJudged noCharacter
-character-laid line = go (isCharacter line) (characterInRange (characterSaid line) && visibleInRange line) refl refl
-  where
-    go : (a b : Bool) → isCharacter line ≡ a → characterInRange (characterSaid line) && visibleInRange line ≡ b → characterRead line .«laid_out» ≡ isCharacter line
-    go false b p q = rw p
-    go true false p q = rw (p, q)
-    go true true p q = rw (p, q)
-
-pub operation-laid : (line : List ℕ) → operationRead line .«laid_out» ≡ isOperation line
-unfolding operationRead operationJudged noOperation
-operation-laid line = go (isOperation line) (inRange (operationSaid line)) refl refl
-  where
-    go : (a b : Bool) → isOperation line ≡ a → inRange (operationSaid line) ≡ b → operationRead line .«laid_out» ≡ isOperation line
-    go false b p q = rw p
-    go true false p q = rw (p, q)
-    go true true p q = rw (p, q)
 
 -- a line that has a layout stands there, and a line feed ends it
 module _ (p : List ℕ → Bool) (none : p [] ≡ false) (left : List ℕ) (h : p (getD (lines left) 0 []) ≡ true) where
@@ -140,11 +122,11 @@ characters-begun s = record { done = []; whole = refl; gathered = gathered-none;
 
 module _ {s : List ℕ} {items : List Character} {count : ℕ} {good : Bool} {left : List ℕ} (l : CharacterLoop s items count good left)
     (w : CharacterLine) (r : w ≡ characterRead (getD (lines left) 0 [])) where
-  read-character : w .«laid_out» ≡ isCharacter (getD (lines left) 0 [])
-  read-character = ap (λ x. x .«laid_out») r ∙ character-laid (getD (lines left) 0 [])
+  read-character : w .judged .«laid_out» ≡ isCharacter (getD (lines left) 0 [])
+  read-character = ap (λ x. x .judged .«laid_out») r ∙ character-laid (getD (lines left) 0 [])
 
   -- the next line is no character's
-  pub characters-end : w .«laid_out» ≡ false
+  pub characters-end : w .judged .«laid_out» ≡ false
       → _≡_ {A = Characters} (record { items = items; count = count; «in_range» = good }) (charactersRead (leading isCharacter (lines s)))
   unfolding charactersRead
   characters-end e =
@@ -156,7 +138,7 @@ module _ {s : List ℕ} {items : List Character} {count : ℕ} {good : Bool} {le
       ends (x ∷ ls) p = rw p
 
   -- it is one
-  module _ (e : w .«laid_out» ≡ true) where
+  module _ (e : w .judged .«laid_out» ≡ true) where
     is-character : isCharacter (getD (lines left) 0 []) ≡ true
     is-character = sym read-character ∙ e
 
@@ -165,7 +147,7 @@ module _ {s : List ℕ} {items : List Character} {count : ℕ} {good : Bool} {le
 
     pub characters-more : {items′ : List Character} {good′ : Bool} {left′ : List ℕ}
         → ((count < characterSlots) × (items′ ≡ set items count (w .character))) ⊎ ((characterSlots ≤ count) × (items′ ≡ items))
-        → good′ ≡ good && w .«in_range» → left′ ≡ rest left → CharacterLoop s items′ (count + 1) good′ left′
+        → good′ ≡ good && w .judged .«in_range» → left′ ≡ rest left → CharacterLoop s items′ (count + 1) good′ left′
     characters-more came q t = record {
       done = l .done ++ getD (lines left) 0 [] ∷ [];
       whole =
@@ -209,11 +191,11 @@ module _ {s : List ℕ} {items : List Pending} {count : ℕ} {good : Bool} {left
       all = l .whole ∙ rw (none left h) (append-nil (l .done))
 
   module _ (h : 0 < length left) (w : OperationLine) (r : w ≡ operationRead (getD (lines left) 0 [])) where
-    read-operation : w .«laid_out» ≡ isOperation (getD (lines left) 0 [])
-    read-operation = ap (λ x. x .«laid_out») r ∙ operation-laid (getD (lines left) 0 [])
+    read-operation : w .judged .«laid_out» ≡ isOperation (getD (lines left) 0 [])
+    read-operation = ap (λ x. x .judged .«laid_out») r ∙ operation-laid (getD (lines left) 0 [])
 
     -- the next line lacks the layout, or no line feed ends it
-    pub operations-lack : w .«laid_out» ≡ false → noOperations ≡ operationsRead s
+    pub operations-lack : w .judged .«laid_out» ≡ false → noOperations ≡ operationsRead s
     unfolding operationsRead
     operations-lack e = rw lacks
       where
@@ -233,13 +215,13 @@ module _ {s : List ℕ} {items : List Pending} {count : ℕ} {good : Bool} {left
         lacks = go (ended left) refl
 
     -- it has the layout
-    module _ (e : w .«laid_out» ≡ true) where
+    module _ (e : w .judged .«laid_out» ≡ true) where
       is-operation : isOperation (getD (lines left) 0 []) ≡ true
       is-operation = sym read-operation ∙ e
 
       pub operations-more : {items′ : List Pending} {good′ : Bool} {left′ : List ℕ}
           → ((count < pendingSlots) × (items′ ≡ set items count (waiting (w .operation)))) ⊎ ((pendingSlots ≤ count) × (items′ ≡ items))
-          → good′ ≡ good && w .«in_range» → left′ ≡ rest left → OperationLoop s items′ (count + 1) good′ left′
+          → good′ ≡ good && w .judged .«in_range» → left′ ≡ rest left → OperationLoop s items′ (count + 1) good′ left′
       operations-more came q t = record {
         done = l .done ++ getD (lines left) 0 [] ∷ [];
         whole =

@@ -1,4 +1,3 @@
-pub mod Lines
 pub mod Spelling
 pub mod Bounds
 pub mod Judging
@@ -6,6 +5,6 @@ pub mod Gathering
 pub mod Trips
 pub mod Refusals
 pub mod Sizes
+pub mod Held
 pub mod Loading
-pub mod Writing
 pub mod Saving

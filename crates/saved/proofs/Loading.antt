@@ -1,5 +1,5 @@
 -- What was read of the lines, put together: the first line, the lines of characters and those after them are the whole, and
--- where each has the layout and passes, the replica of what was read is the state's.
+-- where each has the layout and passes, the replica of what was read holds the state that the bytes say.
 use mathlib.Core.Path.{_≡_, refl, sym, ap, ap₂, _∙_}
 use mathlib.Core.List.{List, [], _∷_, map}
 use mathlib.Core.Bool.{Bool, true, false, _&&_}
@@ -11,6 +11,7 @@ use lib.Seq.{take-all}
 use borrow.Author.Tests.{leb-true, leb-false}
 use Rattle.woot.specs.declared.Site.{Site}
 use Rattle.woot.specs.declared.Replica.{Replica}
+use Rattle.woot.specs.declared.Refusal.{Refusal}
 use Rattle.woot.specs.declared.Refusal.the-variants.{Layout, Range, Form}
 use Rattle.lists.specs.Lists.{every}
 use Rattle.woot.specs.Ranges.{siteInRange, characterInRange, inRange}
@@ -18,83 +19,22 @@ use Rattle.woot.specs.State.{State, characterSlots, pendingSlots, waiting, blan
 use Rattle.lists.specs.Padding.{pad}
 use Rattle.woot.specs.Form.{allInRange, wellFormed, replicaWellFormed}
 use Rattle.lists.proofs.Tests.{clash, fails, and-left, and-right, and-intro}
-use Rattle.codec.specs.Lines.{rest}
-use Rattle.replica.proofs.Runs.{Within, formed-within, form-stored}
-use Rattle.saved.specs.declared.LoadAnswer.the-variants.{Done}
-use Rattle.saved.specs.declared.read.SiteLine.{SiteLine}
-use Rattle.saved.specs.declared.read.Characters.{Characters}
-use Rattle.saved.specs.declared.read.Operations.{Operations}
-use Rattle.saved.specs.Lines.{lines, closed, leading, trailing}
+use Rattle.lines.specs.Lines.{rest, lines, closed, leading, trailing}
+use Rattle.saved.specs.declared.LoadAnswer.the-variants.{Done, Refused}
+use Rattle.saved.specs.declared.Loaded.{Loaded}
+use Rattle.saved.specs.declared.reading.SiteLine.{SiteLine}
+use Rattle.saved.specs.declared.reading.Characters.{Characters}
+use Rattle.saved.specs.declared.reading.Operations.{Operations}
 use Rattle.saved.specs.Format.{isSite, siteSaid, isCharacter, characterSaid, visibleInRange, isOperation, operationSaid, headLine, characterLines, operationLines, savedLaidOut, savedState, savedInRange}
-use Rattle.saved.specs.Calls.{loaded}
-use Rattle.saved.specs.Reading.{noSite, siteJudged, siteRead, noCharacter, characterJudged, characterRead, noOperation, operationJudged, operationRead, lineCharacter, characterPasses, charactersRead, linePending, operationPasses, noOperations, operationsRead, replicaOf, refusal, assembled}
-use Rattle.saved.proofs.Lines.{apart, trailing-drop, lines-rest, closed-rest}
+use Rattle.codec.specs.Calls.{decided}
+use Rattle.saved.specs.Calls.{refusal, held, readingChecks, savedRead, loaded}
+use Rattle.saved.specs.Reading.{siteRead, lineCharacter, characterPasses, charactersRead, linePending, operationPasses, noOperations, operationsRead, replicaOf}
+use Rattle.saved.proofs.Judging.{site-laid, site-passes, site-says, character-passes, character-says, operation-passes, operation-says}
+use Rattle.lines.proofs.Lines.{apart, trailing-drop, lines-rest, closed-rest}
 use Rattle.saved.proofs.Gathering.{is-ended}
 use Rattle.saved.proofs.Trips.{no-site, every-leading}
+use Rattle.saved.proofs.Held.{held-form}
 use Rattle.saved.proofs.Refusals.{load-layout, load-range, load-form, load-done}
-
--- ---- one line that has the layout
-
-site-laid : (line : List ℕ) → siteRead line .«laid_out» ≡ isSite line
-unfolding siteRead siteJudged noSite
-site-laid line = go (isSite line) (siteInRange (siteSaid line)) refl refl
-  where
-    go : (a b : Bool) → isSite line ≡ a → siteInRange (siteSaid line) ≡ b → siteRead line .«laid_out» ≡ isSite line
-    go false b p q = rw p
-    go true false p q = rw (p, q)
-    go true true p q = rw (p, q)
-
-module _ (line : List ℕ) where
-  site-passes : isSite line ≡ true → siteRead line .«in_range» ≡ siteInRange (siteSaid line)
-  unfolding siteRead siteJudged noSite
-  site-passes p = go (siteInRange (siteSaid line)) refl
-    where
-      go : (b : Bool) → siteInRange (siteSaid line) ≡ b → siteRead line .«in_range» ≡ siteInRange (siteSaid line)
-      go true q = rw (p, q)
-      go false q = rw (p, q)
-
-  site-says : siteRead line .«in_range» ≡ true → siteRead line .site ≡ siteSaid line
-  unfolding siteRead siteJudged noSite
-  site-says e = go (isSite line) (siteInRange (siteSaid line)) refl refl
-    where
-      go : (a b : Bool) → isSite line ≡ a → siteInRange (siteSaid line) ≡ b → siteRead line .site ≡ siteSaid line
-      go false b p q = clash e (rw p)
-      go true false p q = clash e (rw (p, q))
-      go true true p q = rw (p, q)
-
-  character-passes : isCharacter line ≡ true → characterRead line .«in_range» ≡ characterInRange (characterSaid line) && visibleInRange line
-  unfolding characterRead characterJudged noCharacter
-  character-passes p = go (characterInRange (characterSaid line) && visibleInRange line) refl
-    where
-      go : (b : Bool) → characterInRange (characterSaid line) && visibleInRange line ≡ b → characterRead line .«in_range» ≡ characterInRange (characterSaid line) && visibleInRange line
-      go true q = rw (p, q)
-      go false q = rw (p, q)
-
-  character-says : characterRead line .«in_range» ≡ true → characterRead line .character ≡ characterSaid line
-  unfolding characterRead characterJudged noCharacter
-  character-says e = go (isCharacter line) (characterInRange (characterSaid line) && visibleInRange line) refl refl
-    where
-      go : (a b : Bool) → isCharacter line ≡ a → characterInRange (characterSaid line) && visibleInRange line ≡ b → characterRead line .character ≡ characterSaid line
-      go false b p q = clash e (rw p)
-      go true false p q = clash e (rw (p, q))
-      go true true p q = rw (p, q)
-
-  operation-passes : isOperation line ≡ true → operationRead line .«in_range» ≡ inRange (operationSaid line)
-  unfolding operationRead operationJudged noOperation
-  operation-passes p = go (inRange (operationSaid line)) refl
-    where
-      go : (b : Bool) → inRange (operationSaid line) ≡ b → operationRead line .«in_range» ≡ inRange (operationSaid line)
-      go true q = rw (p, q)
-      go false q = rw (p, q)
-
-  operation-says : operationRead line .«in_range» ≡ true → operationRead line .operation ≡ operationSaid line
-  unfolding operationRead operationJudged noOperation
-  operation-says e = go (isOperation line) (inRange (operationSaid line)) refl refl
-    where
-      go : (a b : Bool) → isOperation line ≡ a → inRange (operationSaid line) ≡ b → operationRead line .operation ≡ operationSaid line
-      go false b p q = clash e (rw p)
-      go true false p q = clash e (rw (p, q))
-      go true true p q = rw (p, q)
 
 -- ---- lines that have the layout
 
@@ -158,21 +98,36 @@ sorted true true false d = go d
 sorted true false c d = refl
 sorted false b c d = refl
 
+-- what is read, by its conditions
+module _ (s : List ℕ) where
+  read-lacks : savedLaidOut s ≡ false → savedRead s ≡ refusal Layout
+  unfolding savedRead readingChecks decided
+  read-lacks e = rw e
+
+  module _ (l : savedLaidOut s ≡ true) where
+    read-out : savedInRange s ≡ false → savedRead s ≡ refusal Range
+    unfolding savedRead readingChecks decided
+    read-out e = rw (l, e)
+
+    read-done : savedInRange s ≡ true → _≡_ {A = Loaded} (savedRead s) (record { answer = Done; replica = held (savedState s) })
+    unfolding savedRead readingChecks decided
+    read-done e = rw (l, e)
+
 module _ (s : List ℕ) (first : SiteLine) (f : first ≡ siteRead (getD (lines s) 0 [])) where
-  is-site : first .«laid_out» ≡ isSite (headLine s)
+  is-site : first .judged .«laid_out» ≡ isSite (headLine s)
   unfolding headLine
-  is-site = ap (λ x. x .«laid_out») f ∙ site-laid (headLine s)
+  is-site = ap (λ x. x .judged .«laid_out») f ∙ site-laid (headLine s)
 
   -- the first line is no site's
-  pub no-first : first .«laid_out» ≡ false → refusal Layout ≡ loaded s
+  pub no-first : first .judged .«laid_out» ≡ false → refusal Layout ≡ savedRead s
   unfolding savedLaidOut
-  no-first e = sym (load-layout s (rw (sym is-site ∙ e) (none (closed s))))
+  no-first e = sym (read-lacks s (rw (sym is-site ∙ e) (none (closed s))))
     where
       none : (b : Bool) → b && false && every isOperation (operationLines s) ≡ false
       none true = refl
       none false = refl
 
-  module _ (l : first .«laid_out» ≡ true) {body : List ℕ} (b : body ≡ rest s) (cs : Characters) (r : cs ≡ charactersRead (leading isCharacter (lines body))) where
+  module _ (l : first .judged .«laid_out» ≡ true) {body : List ℕ} (b : body ≡ rest s) (cs : Characters) (r : cs ≡ charactersRead (leading isCharacter (lines body))) where
     -- the lines of characters are lines of what is left
     pub skip-fits : cs .count ≤ length (lines body)
     unfolding charactersRead
@@ -204,8 +159,8 @@ module _ (s : List ℕ) (first : SiteLine) (f : first ≡ siteRead (getD (lines 
           ∙ sym (ap (λ x. x .«laid_out») o ∙ operations-laid later ∙ ap₂ (λ (x : Bool) (ls : List (List ℕ)). x && every isOperation ls) ends-so operations-are)
 
       -- a later line lacks the layout
-      pub no-later : ps .«laid_out» ≡ false → refusal Layout ≡ loaded s
-      no-later e = sym (load-layout s (laid-so ∙ e))
+      pub no-later : ps .«laid_out» ≡ false → refusal Layout ≡ savedRead s
+      no-later e = sym (read-lacks s (laid-so ∙ e))
 
       module _ (m : ps .«laid_out» ≡ true) where
         laid : savedLaidOut s ≡ true
@@ -229,14 +184,14 @@ module _ (s : List ℕ) (first : SiteLine) (f : first ≡ siteRead (getD (lines 
         read-operations =
             o ∙ rw (sym (operations-laid later) ∙ sym (ap (λ x. x .«laid_out») o) ∙ m, operations-are)
 
-        range-so : savedInRange s ≡ first .«in_range» && cs .«in_range» && ps .«in_range»
+        range-so : savedInRange s ≡ first .judged .«in_range» && cs .«in_range» && ps .«in_range»
         unfolding savedInRange allInRange savedState charactersRead headLine
         range-so =
             sorted (siteInRange (siteSaid (headLine s))) (every characterInRange (map characterSaid (characterLines s))) (every inRange (map operationSaid (operationLines s))) (every visibleInRange (characterLines s))
             ∙ (λ j. site j && characters j && operations j)
           where
-            site : siteInRange (siteSaid (headLine s)) ≡ first .«in_range»
-            site = sym (ap (λ x. x .«in_range») f ∙ site-passes (headLine s) (sym is-site ∙ l))
+            site : siteInRange (siteSaid (headLine s)) ≡ first .judged .«in_range»
+            site = sym (ap (λ x. x .judged .«in_range») f ∙ site-passes (headLine s) (sym is-site ∙ l))
 
             characters : every characterInRange (map characterSaid (characterLines s)) && every visibleInRange (characterLines s) ≡ cs .«in_range»
             characters = sym (ap (λ x. x .«in_range») read-characters ∙ characters-pass (characterLines s) characters-good)
@@ -245,10 +200,10 @@ module _ (s : List ℕ) (first : SiteLine) (f : first ≡ siteRead (getD (lines 
             operations = sym (ap (λ x. x .«in_range») read-operations ∙ operations-pass (operationLines s) operations-good)
 
         -- something is out of range
-        pub out-of-range : first .«in_range» && cs .«in_range» && ps .«in_range» ≡ false → refusal Range ≡ loaded s
-        out-of-range e = sym (load-range s laid (range-so ∙ e))
+        pub out-of-range : first .judged .«in_range» && cs .«in_range» && ps .«in_range» ≡ false → refusal Range ≡ savedRead s
+        out-of-range e = sym (read-out s laid (range-so ∙ e))
 
-        module _ (e₁ : first .«in_range» ≡ true) (e₂ : cs .«in_range» ≡ true) (e₃ : ps .«in_range» ≡ true) where
+        module _ (e₁ : first .judged .«in_range» ≡ true) (e₂ : cs .«in_range» ≡ true) (e₃ : ps .«in_range» ≡ true) where
           ranges : savedInRange s ≡ true
           ranges = range-so ∙ and-intro (and-intro e₁ e₂) e₃
 
@@ -262,68 +217,73 @@ module _ (s : List ℕ) (first : SiteLine) (f : first ≡ siteRead (getD (lines 
           operations-said =
               all-say linePending operationSaid waiting operationPasses (λ x e. ap waiting (operation-says x e)) (operationLines s) (sym (ap (λ x. x .«in_range») read-operations) ∙ e₃)
 
-          count-characters : cs .count ≡ length (savedState s .characters)
-          unfolding savedState charactersRead
-          count-characters = ap (λ x. x .count) read-characters ∙ sym (length-map (characterLines s) characterSaid)
-
-          count-operations : ps .count ≡ length (savedState s .pending)
-          unfolding savedState
-          count-operations = ap (λ x. x .count) read-operations ∙ sym (length-map (operationLines s) operationSaid)
-
-          replica : Replica
-          replica = replicaOf (first .site) cs ps
-
-          -- within the arrays it is the state as it is stored
-          is-stored : Within (savedState s) → replica ≡ stored (savedState s)
-          unfolding replica replicaOf stored documentOf savedState charactersRead headLine
-          is-stored w = λ j. record {
-            site = site j;
-            document = record { characters = characters j; length = count-characters j; pending = pending j; waiting = count-operations j };
-          }
+          -- so what is read is what the bytes say
+          pub all-read : _≡_ {A = Loaded} (record { answer = Done; replica = replicaOf (first .site) cs ps }) (savedRead s)
+          unfolding replicaOf held savedState charactersRead headLine
+          all-read =
+              (λ j. record {
+                answer = Done;
+                replica = record {
+                  site = site j;
+                  document = record { characters = characters j; length = count j; pending = pending j; waiting = fewer j };
+                };
+              })
+              ∙ sym (read-done s laid ranges)
             where
               site : first .site ≡ siteSaid (headLine s)
-              site = ap (λ x. x .site) f ∙ site-says (headLine s) (sym (ap (λ x. x .«in_range») f) ∙ e₁)
+              site = ap (λ x. x .site) f ∙ site-says (headLine s) (sym (ap (λ x. x .judged .«in_range») f) ∙ e₁)
 
-              characters : cs .items ≡ pad characterSlots blankCharacter (map characterSaid (characterLines s))
-              characters = ap (λ x. x .items) read-characters ∙ rw (characters-said, take-all characterSlots (map characterSaid (characterLines s)) (w .characters-fit))
+              characters : cs .items ≡ pad characterSlots blankCharacter (take characterSlots (map characterSaid (characterLines s)))
+              characters = ap (λ x. x .items) read-characters ∙ rw characters-said
 
-              pending : ps .items ≡ pad pendingSlots blankPending (map waiting (map operationSaid (operationLines s)))
-              pending =
-                  ap (λ x. x .items) read-operations
-                  ∙ rw (operations-said, take-all pendingSlots (map waiting (map operationSaid (operationLines s))) (omega (arith, length-map (map operationSaid (operationLines s)) waiting, w .pending-fit)))
+              count : cs .count ≡ length (map characterSaid (characterLines s))
+              count = ap (λ x. x .count) read-characters ∙ sym (length-map (characterLines s) characterSaid)
 
-          -- else neither is in form
-          not-counted : (Within (savedState s) → ⊥) → replicaWellFormed replica ≡ false
-          unfolding replicaWellFormed counted replica replicaOf
-          not-counted h = fails (replicaWellFormed replica) (λ p. h (fit (and-left (counted replica) _ p)))
-            where
-              fit : counted replica ≡ true → Within (savedState s)
-              fit q = record {
-                characters-fit = omega (arith, count-characters, leb-true (cs .count) characterSlots (and-left (leb (cs .count) characterSlots) (leb (ps .count) pendingSlots) q));
-                pending-fit = omega (arith, count-operations, leb-true (ps .count) pendingSlots (and-right (leb (cs .count) characterSlots) (leb (ps .count) pendingSlots) q));
-              }
+              pending : ps .items ≡ pad pendingSlots blankPending (take pendingSlots (map waiting (map operationSaid (operationLines s))))
+              pending = ap (λ x. x .items) read-operations ∙ rw operations-said
 
-          form-so : replicaWellFormed replica ≡ wellFormed (savedState s)
-          form-so = go (leb (length (savedState s .characters)) characterSlots) (leb (length (savedState s .pending)) pendingSlots) refl refl
-            where
-              apart-so : (Within (savedState s) → ⊥) → replicaWellFormed replica ≡ wellFormed (savedState s)
-              apart-so h = not-counted h ∙ sym (fails (wellFormed (savedState s)) (λ p. h (formed-within (savedState s) p)))
+              fewer : ps .count ≡ length (map operationSaid (operationLines s))
+              fewer = ap (λ x. x .count) read-operations ∙ sym (length-map (operationLines s) operationSaid)
 
-              go : (a b : Bool) → leb (length (savedState s .characters)) characterSlots ≡ a → leb (length (savedState s .pending)) pendingSlots ≡ b
-                  → replicaWellFormed replica ≡ wellFormed (savedState s)
-              go true true p q =
-                  let w : Within (savedState s) = record { characters-fit = leb-true (length (savedState s .characters)) characterSlots p; pending-fit = leb-true (length (savedState s .pending)) pendingSlots q } in
-                  ap replicaWellFormed (is-stored w) ∙ form-stored (savedState s) w
-              go true false p q = apart-so (λ w. omega (arith, w .pending-fit, leb-false (length (savedState s .pending)) pendingSlots q))
-              go false b p q = apart-so (λ w. omega (arith, w .characters-fit, leb-false (length (savedState s .characters)) characterSlots p))
+-- ---- the form
 
-          -- so what is answered is what is defined
-          pub all-in : assembled (replicaOf (first .site) cs ps) ≡ loaded s
-          unfolding assembled replica
-          all-in = go (wellFormed (savedState s)) refl
-            where
-              go : (b : Bool) → wellFormed (savedState s) ≡ b → assembled (replicaOf (first .site) cs ps) ≡ loaded s
-              go true p =
-                  rw (form-so ∙ p)
-                  ((λ j. record { answer = Done; replica = is-stored (formed-within (savedState s) p) j }) ∙ sym (load-done s laid ranges p))
-              go false p = rw (form-so ∙ p) (sym (load-form s laid ranges p))
+module _ (s : List ℕ) (x : Loaded) (e : x ≡ savedRead s) where
+  answer-is : x .answer ≡ savedRead s .answer
+  answer-is = ap (λ y. y .answer) e
+
+  -- what was refused is refused for the same
+  pub load-refused : (q : Refusal) → x .answer ≡ Refused q → x ≡ loaded s
+  load-refused q h = go (savedLaidOut s) (savedInRange s) refl refl
+    where
+      go : (a b : Bool) → savedLaidOut s ≡ a → savedInRange s ≡ b → x ≡ loaded s
+      go false b l i = e ∙ read-lacks s l ∙ sym (load-layout s l)
+      go true false l i = e ∙ read-out s l i ∙ sym (load-range s l i)
+      go true true l i =
+          let z : Done ≡ Refused q = sym (answer-is ∙ ap (λ y. y .answer) (read-done s l i)) ∙ h in
+          let w : _≡_ {A = ℕ} 0 1 = cc in
+          absurd (omega arith)
+
+  -- else its form decides
+  module _ (h : x .answer ≡ Done) where
+    both : (savedLaidOut s ≡ true) × (savedInRange s ≡ true)
+    unfolding refusal
+    both = go (savedLaidOut s) (savedInRange s) refl refl
+      where
+        go : (a b : Bool) → savedLaidOut s ≡ a → savedInRange s ≡ b → (savedLaidOut s ≡ true) × (savedInRange s ≡ true)
+        go true true l i = (l, i)
+        go true false l i = let z : Refused Range ≡ Done = sym (answer-is ∙ ap (λ y. y .answer) (read-out s l i)) ∙ h in (cc, cc)
+        go false b l i = let z : Refused Layout ≡ Done = sym (answer-is ∙ ap (λ y. y .answer) (read-lacks s l)) ∙ h in (cc, cc)
+
+    is-held : x ≡ record { answer = Done; replica = held (savedState s) }
+    is-held = e ∙ read-done s (both .0) (both .1)
+
+    form-is : replicaWellFormed (x .replica) ≡ wellFormed (savedState s)
+    form-is = ap (λ y. replicaWellFormed (y .replica)) is-held ∙ held-form (savedState s) .0
+
+    pub load-unformed : replicaWellFormed (x .replica) ≡ false → refusal Form ≡ loaded s
+    load-unformed p = sym (load-form s (both .0) (both .1) (sym form-is ∙ p))
+
+    pub load-formed : replicaWellFormed (x .replica) ≡ true → x ≡ loaded s
+    load-formed p =
+        is-held ∙ (λ j. record { answer = Done; replica = held-form (savedState s) .1 (sym form-is ∙ p) .0 j })
+        ∙ sym (load-done s (both .0) (both .1) (sym form-is ∙ p))

@@ -25,8 +25,7 @@ use Rattle.saved.specs.declared.LoadAnswer.{LoadAnswer}
 use Rattle.saved.specs.declared.LoadAnswer.the-variants.{Done, Refused}
 use Rattle.saved.specs.declared.Loaded.{Loaded}
 use Rattle.saved.specs.Format.{savedLaidOut, savedState, savedInRange}
-use Rattle.saved.specs.Calls.{loadChecks, noReplica, loadedAs, loaded, loadNumber, bytesOf, saveChecks, saved, outAfter}
-use Rattle.saved.specs.Reading.{refusal}
+use Rattle.saved.specs.Calls.{loadChecks, noReplica, refusal, loadedAs, loaded, loadNumber, bytesOf, saveChecks, saved, outAfter}
 use Rattle.saved.specs.Theorems.{LoadRefuses, LoadNumbers, SaveRefuses}
 
 -- ---- reading

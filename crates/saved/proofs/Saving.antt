@@ -1,126 +1,158 @@
--- A replica's bytes put one part after another: the site's line, the lines of the characters, those of the pending
--- operations.
-use mathlib.Core.Path.{_≡_, refl, sym, ap, _∙_}
+-- A replica's bytes one part after another, as far as its arrays hold them: the site's line, the lines of the characters,
+-- those of the pending operations.
+use mathlib.Core.Path.{_≡_, refl, sym, ap, ap₂, _∙_}
 use mathlib.Core.List.{List, [], _∷_, _++_, map}
-use mathlib.Core.Bool.{true, false, cond}
+use mathlib.Core.Bool.{Bool, true, false, cond}
 use Prim.Native.Nat.{ℕ, _+_, _≤_, _<_, min}
 use native.Mathlib.Omega.{arith}
-use lib.Dec.{leb}
+use lib.Dec.{ltb}
 use lib.ListN.{length, take, length-append}
-use borrow.Author.Tests.{leb-true, lt-ltb, le-ltb}
+use borrow.Author.Tests.{lt-ltb, le-ltb}
 use Rattle.output.specs.Output.{placed, past}
 use Rattle.output.proofs.Laws.{length-placed, placed-short}
 use Rattle.woot.specs.declared.Pending.{Pending}
 use Rattle.woot.specs.declared.Replica.{Replica}
 use Rattle.woot.specs.declared.Refusal.the-variants.{Form, Output}
 use Rattle.woot.specs.declared.Written.the-variants.{Length, Refused}
-use Rattle.woot.specs.State.{characterSlots, pendingSlots, meaning, counted}
-use Rattle.woot.specs.Form.{wellFormed, replicaWellFormed}
-use Rattle.lists.proofs.Tests.{and-left, and-right}
+use Rattle.woot.specs.Answers.{_⇒_, first}
+use Rattle.woot.specs.State.{characterSlots, pendingSlots, meaning}
+use Rattle.woot.specs.Form.{replicaWellFormed}
 use Rattle.lists.proofs.Padding.{take-lesser}
+use Rattle.lines.specs.declared.Room.{Room}
+use Rattle.lines.specs.declared.Room.the-variants.{Until, Short}
+use Rattle.lines.specs.Lines.{concatenated}
+use Rattle.lines.specs.Answers.{roomFor}
+use Rattle.lines.proofs.Writing.{until-tells, short-tells, Run, run-none, run-on}
+use Rattle.lines.proofs.Sequences.{room-on, room-short}
 use Rattle.codec.specs.Operations.{operationLine}
-use Rattle.codec.specs.Calls.{decided}
-use Rattle.codec.proofs.Writing.{Run, run-none, run-on}
-use Rattle.saved.specs.Lines.{joined}
+use Rattle.codec.specs.Calls.{decided, fitted}
 use Rattle.saved.specs.Format.{siteLine, characterLine, pendingLine, savedBytes}
 use Rattle.saved.specs.Calls.{bytesOf, saveChecks, saved, outAfter}
 
-pending-lines : (ps : List Pending) → joined operationLine (map (λ p. p .operation) ps) ≡ joined pendingLine ps
+pending-lines : (ps : List Pending) → concatenated operationLine (map (λ p. p .operation) ps) ≡ concatenated pendingLine ps
 pending-lines [] = refl
 pending-lines (p ∷ ps) = ap (λ (l : List ℕ). operationLine (p .operation) ++ l) (pending-lines ps)
 
 -- ---- the parts
 
-abbrev siteBytes : Replica → List ℕ
-siteBytes r = siteLine (r .site)
-
-abbrev characterBytes : Replica → List ℕ
-characterBytes r = joined characterLine (take (r .document .length) (r .document .characters))
-
-abbrev pendingBytes : Replica → List ℕ
-pendingBytes r = joined pendingLine (take (r .document .waiting) (r .document .pending))
-
-bytes-are : (r : Replica) → bytesOf r ≡ siteBytes r ++ characterBytes r ++ pendingBytes r
-unfolding bytesOf savedBytes meaning
-bytes-are r = ap (λ (l : List ℕ). siteBytes r ++ characterBytes r ++ l) (pending-lines (take (r .document .waiting) (r .document .pending)))
-
-length-are : (r : Replica) → length (bytesOf r) ≡ length (siteBytes r) + length (characterBytes r) + length (pendingBytes r)
-length-are r =
-    ap length (bytes-are r)
-    ∙ omega (arith, length-append (siteBytes r ++ characterBytes r) (pendingBytes r), length-append (siteBytes r) (characterBytes r))
-
 -- counts above the arrays take no more than the arrays
-pub length-sum : (r : Replica) → length (r .document .characters) ≡ characterSlots → length (r .document .pending) ≡ pendingSlots → {n w a b d : ℕ}
-    → n ≡ min characterSlots (r .document .length) → w ≡ min pendingSlots (r .document .waiting)
-    → a ≡ length (siteLine (r .site)) → b ≡ length (joined characterLine (take n (r .document .characters))) → d ≡ length (joined pendingLine (take w (r .document .pending)))
-    → a + b + d ≡ length (bytesOf r)
-length-sum r full full′ {n} {w} {a} {b} {d} e f p q t =
-    let characters : b ≡ length (characterBytes r) = q ∙ rw (e, take-lesser characterSlots (r .document .length) (r .document .characters) full) in
-    let pending : d ≡ length (pendingBytes r) = t ∙ rw (f, take-lesser pendingSlots (r .document .waiting) (r .document .pending) full′) in
-    omega (arith, length-are r)
+module _ (r : Replica) (full : length (r .document .characters) ≡ characterSlots) (full′ : length (r .document .pending) ≡ pendingSlots)
+    {n w : ℕ} (cut : n ≡ min characterSlots (r .document .length)) (cut′ : w ≡ min pendingSlots (r .document .waiting)) where
+  siteBytes : List ℕ
+  siteBytes = siteLine (r .site)
 
--- ---- one part after another
+  characterBytes : List ℕ
+  characterBytes = concatenated characterLine (take n (r .document .characters))
 
-module _ (r : Replica) (out : List ℕ) (room : length (bytesOf r) ≤ length out) where
-  module _ {out₁ : List ℕ} {e₁ : ℕ} (p : (e₁ ≡ past out 0 (siteLine (r .site))) × (out₁ ≡ placed out 0 (siteLine (r .site)))) where
-    first-run : Run out 0 (siteBytes r) out₁ e₁
-    first-run = run-on (run-none out 0 (omega arith)) (siteBytes r) (omega (arith, length-are r)) (p .0) (p .1)
+  pendingBytes : List ℕ
+  pendingBytes = concatenated pendingLine (take w (r .document .pending))
 
-    pub characters-room : e₁ + length (characterBytes r) ≤ length out₁
-    characters-room = omega (arith, first-run .offset, length-are r, ap length (p .1), length-placed out 0 (siteBytes r))
+  bytes-are : bytesOf r ≡ siteBytes ++ characterBytes ++ pendingBytes
+  unfolding bytesOf savedBytes meaning siteBytes characterBytes pendingBytes
+  bytes-are =
+      rw (cut, cut′, take-lesser characterSlots (r .document .length) (r .document .characters) full, take-lesser pendingSlots (r .document .waiting) (r .document .pending) full′)
+      (ap (λ (l : List ℕ). siteLine (r .site) ++ concatenated characterLine (take (r .document .length) (r .document .characters)) ++ l) (pending-lines (take (r .document .waiting) (r .document .pending))))
 
-    module _ {out₂ : List ℕ} {e₂ : ℕ} (q : (e₂ ≡ past out₁ e₁ (characterBytes r)) × (out₂ ≡ placed out₁ e₁ (characterBytes r))) where
-      second-run : Run out 0 (siteBytes r ++ characterBytes r) out₂ e₂
-      second-run =
-          run-on first-run (characterBytes r) (omega (arith, length-are r, length-append (siteBytes r) (characterBytes r))) (q .0) (q .1)
+  length-are : length (bytesOf r) ≡ length siteBytes + length characterBytes + length pendingBytes
+  length-are =
+      ap length bytes-are
+      ∙ omega (arith, length-append (siteBytes ++ characterBytes) pendingBytes, length-append siteBytes characterBytes)
 
-      pub pending-room : e₂ + length (pendingBytes r) ≤ length out₂
-      pending-room =
-          omega (
-            arith,
-            second-run .offset,
-            length-are r,
-            length-append (siteBytes r) (characterBytes r),
-            ap length (second-run .bytes),
-            length-placed out 0 (siteBytes r ++ characterBytes r),
-          )
+  -- ---- measured
 
-      pub all-put : {out₃ : List ℕ} {e₃ : ℕ} → (e₃ ≡ past out₂ e₂ (pendingBytes r)) × (out₃ ≡ placed out₂ e₂ (pendingBytes r))
-          → (e₃ ≡ length (bytesOf r)) × (out₃ ≡ placed out 0 (bytesOf r))
-      all-put t =
-          let third : Run out 0 (siteBytes r ++ characterBytes r ++ pendingBytes r) _ _ =
-          run-on second-run (pendingBytes r) (omega (arith, length-are r, length-append (siteBytes r) (characterBytes r), length-append (siteBytes r ++ characterBytes r) (pendingBytes r))) (t .0) (t .1)
-          in
-          (omega (arith, third .offset, ap length (bytes-are r)), third .bytes ∙ ap (placed out 0) (sym (bytes-are r)))
+  module _ (size : ℕ) {x : Room} (e : x ≡ roomFor size 0 (siteLine (r .site))) where
+    pub site-short : x ≡ Short → Short ≡ roomFor size 0 (bytesOf r)
+    unfolding siteBytes
+    site-short q =
+        rw bytes-are (room-short size 0 (siteBytes ++ characterBytes) pendingBytes refl (sym (room-short size 0 siteBytes characterBytes e q)))
+
+    module _ {second : ℕ} (q : x ≡ Until second) where
+      pub second-fits : second ≤ size
+      second-fits = let t = until-tells size 0 (siteLine (r .site)) e q in omega (arith, t .0, t .1)
+
+      module _ {y : Room} (f : y ≡ roomFor size second (concatenated characterLine (take n (r .document .characters)))) where
+        both : y ≡ roomFor size 0 (siteBytes ++ characterBytes)
+        unfolding siteBytes characterBytes
+        both = f ∙ room-on size 0 siteBytes characterBytes e q
+
+        pub characters-short : y ≡ Short → Short ≡ roomFor size 0 (bytesOf r)
+        characters-short p = rw bytes-are (room-short size 0 (siteBytes ++ characterBytes) pendingBytes both p)
+
+        module _ {third : ℕ} (p : y ≡ Until third) where
+          pub third-fits : third ≤ size
+          third-fits = let t = until-tells size second (concatenated characterLine (take n (r .document .characters))) f p in omega (arith, t .0, t .1)
+
+          pub all-measured : roomFor size third (concatenated pendingLine (take w (r .document .pending))) ≡ roomFor size 0 (bytesOf r)
+          unfolding pendingBytes
+          all-measured = room-on size 0 (siteBytes ++ characterBytes) pendingBytes both p ∙ ap (roomFor size 0) (sym bytes-are)
+
+  -- ---- put
+
+  module _ (out : List ℕ) (space : length (bytesOf r) ≤ length out) where
+    module _ {out₁ : List ℕ} {e₁ : ℕ} (p : (e₁ ≡ past out 0 (siteLine (r .site))) × (out₁ ≡ placed out 0 (siteLine (r .site)))) where
+      first-run : Run out 0 siteBytes out₁ e₁
+      unfolding siteBytes
+      first-run = run-on (run-none out 0 (omega arith)) siteBytes (omega (arith, length-are)) (p .0) (p .1)
+
+      pub characters-room : e₁ + length (concatenated characterLine (take n (r .document .characters))) ≤ length out₁
+      unfolding siteBytes characterBytes
+      characters-room = omega (arith, first-run .offset, length-are, ap length (p .1), length-placed out 0 siteBytes)
+
+      module _ {out₂ : List ℕ} {e₂ : ℕ} (q : (e₂ ≡ past out₁ e₁ (concatenated characterLine (take n (r .document .characters)))) × (out₂ ≡ placed out₁ e₁ (concatenated characterLine (take n (r .document .characters))))) where
+        second-run : Run out 0 (siteBytes ++ characterBytes) out₂ e₂
+        unfolding characterBytes
+        second-run =
+            run-on first-run characterBytes (omega (arith, length-are, length-append siteBytes characterBytes)) (q .0) (q .1)
+
+        pub pending-room : e₂ + length (concatenated pendingLine (take w (r .document .pending))) ≤ length out₂
+        unfolding pendingBytes
+        pending-room =
+            omega (
+              arith,
+              second-run .offset,
+              length-are,
+              length-append siteBytes characterBytes,
+              ap length (second-run .bytes),
+              length-placed out 0 (siteBytes ++ characterBytes),
+            )
+
+        pub all-put : {out₃ : List ℕ} {e₃ : ℕ} → (e₃ ≡ past out₂ e₂ (concatenated pendingLine (take w (r .document .pending)))) × (out₃ ≡ placed out₂ e₂ (concatenated pendingLine (take w (r .document .pending))))
+            → out₃ ≡ placed out 0 (bytesOf r)
+        unfolding pendingBytes
+        all-put t =
+            let third : Run out 0 (siteBytes ++ characterBytes ++ pendingBytes) _ _ =
+            run-on second-run pendingBytes (omega (arith, length-are, length-append siteBytes characterBytes, length-append (siteBytes ++ characterBytes) pendingBytes)) (t .0) (t .1)
+            in
+            third .bytes ∙ ap (placed out 0) (sym bytes-are)
 
 -- ---- the answers
+
+module _ (r : Replica) (out : List ℕ) {x : Room} (e : x ≡ roomFor (length out) 0 (bytesOf r)) where
+  pub put-short : x ≡ Short → (Refused Output ≡ fitted (bytesOf r) out) × (out ≡ placed out 0 (bytesOf r))
+  unfolding fitted
+  put-short q =
+      let low = short-tells (length out) 0 (bytesOf r) e q in
+      (rw (lt-ltb (length out) (length (bytesOf r)) (omega arith)), sym (placed-short out 0 (bytesOf r) low))
+
+  pub put-fits : {n : ℕ} → x ≡ Until n → length (bytesOf r) ≤ length out
+  put-fits q = omega (arith, until-tells (length out) 0 (bytesOf r) e q .1)
+
+  pub put-done : {n : ℕ} → x ≡ Until n → Length n ≡ fitted (bytesOf r) out
+  unfolding fitted
+  put-done q =
+      let t = until-tells (length out) 0 (bytesOf r) e q in
+      rw (le-ltb (length out) (length (bytesOf r)) (omega (arith, t .1))) (ap Length (omega (arith, t .0)))
 
 module _ (r : Replica) (out : List ℕ) where
   pub unformed : replicaWellFormed r ≡ false → (Refused Form ≡ saved r out) × (out ≡ outAfter r out)
   unfolding saved saveChecks decided outAfter
   unformed e = (rw e, rw e)
 
-  module _ (e : replicaWellFormed r ≡ true) where
-    pub within-arrays : counted r ≡ true
-    unfolding replicaWellFormed
-    within-arrays = and-left (counted r) (wellFormed (meaning r)) e
-
-    pub too-short : length out < length (bytesOf r) → (Refused Output ≡ saved r out) × (out ≡ outAfter r out)
-    unfolding saved saveChecks decided outAfter
-    too-short h =
-        (rw (e, lt-ltb (length out) (length (bytesOf r)) h), rw e (sym (placed-short out 0 (bytesOf r) (omega arith))))
-
-    pub done : length (bytesOf r) ≤ length out → {n : ℕ} {out′ : List ℕ} → (n ≡ length (bytesOf r)) × (out′ ≡ placed out 0 (bytesOf r))
-        → (Length n ≡ saved r out) × (out′ ≡ outAfter r out)
-    unfolding saved saveChecks decided outAfter
-    done h w = (rw (e, le-ltb (length out) (length (bytesOf r)) h) (ap Length (w .0)), rw e (w .1))
-
--- counts within the arrays
-module _ (r : Replica) (e : counted r ≡ true) where
-  pub few-characters : r .document .length ≤ characterSlots
-  unfolding counted
-  few-characters = leb-true (r .document .length) characterSlots (and-left (leb (r .document .length) characterSlots) (leb (r .document .waiting) pendingSlots) e)
-
-  pub few-pending : r .document .waiting ≤ pendingSlots
-  unfolding counted
-  few-pending = leb-true (r .document .waiting) pendingSlots (and-right (leb (r .document .length) characterSlots) (leb (r .document .waiting) pendingSlots) e)
+  -- a replica in form goes by the room alone
+  pub formed : replicaWellFormed r ≡ true → (fitted (bytesOf r) out ≡ saved r out) × (placed out 0 (bytesOf r) ≡ outAfter r out)
+  unfolding saved saveChecks decided outAfter fitted
+  formed e = (rw e (go (ltb (length out) (length (bytesOf r)))), rw e)
+    where
+      go : (b : Bool) → cond b (Refused Output) (Length (length (bytesOf r))) ≡ decided (first ((b ⇒ Refused Output) ∷ [])) (Length (length (bytesOf r)))
+      go true = refl
+      go false = refl

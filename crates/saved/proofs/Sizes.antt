@@ -17,22 +17,23 @@ use Rattle.lists.proofs.Tests.{and-left, and-right}
 use Rattle.convergence.proofs.Forms.{formed}
 use Rattle.convergence.proofs.Shares.{pending-bound}
 use Rattle.decimal.specs.Numeral.{digits, digitsIn}
-use Rattle.codec.specs.Lines.{columns}
+use Rattle.lines.specs.Lines.{concatenated}
+use Rattle.lines.specs.Fields.{lineOf}
 use Rattle.codec.specs.Operations.{identifierAt, operationLine}
-use Rattle.codec.proofs.Sizes.{line-le, line-lengths}
-use Rattle.saved.specs.Lines.{joined}
-use Rattle.saved.specs.Format.{siteLetter, siteNumbers, siteLimits, siteOf, siteLine, characterLetter, visibleNumber, characterNumbers, characterLimits, characterOf, characterLine, savedBytes}
+use Rattle.codec.proofs.Sizes.{line-lengths}
+use Rattle.lines.proofs.Sizes.{line-le}
+use Rattle.saved.specs.Format.{siteHead, siteNumbers, siteLimits, siteOf, siteLine, characterHead, visibleNumber, characterNumbers, characterLimits, characterOf, characterLine, savedBytes}
 use Rattle.saved.specs.Theorems.{SavedLength}
-use Rattle.saved.proofs.Bounds.{site-within, character-within}
+use Rattle.saved.proofs.Bounds.{site-at-most, character-at-most}
 
 -- ---- one line
 
-site-limits : length (columns siteLimits) ≡ 9
-unfolding digits digitsIn
+site-limits : length (lineOf siteHead siteLimits) ≡ 11
+unfolding lineOf digits digitsIn
 site-limits = refl
 
-character-limits : length (columns characterLimits) ≡ 37
-unfolding digits digitsIn
+character-limits : length (lineOf characterHead characterLimits) ≡ 39
+unfolding lineOf digits digitsIn
 character-limits = refl
 
 visible-le : (v : Bool) → visibleNumber v ≤ 1
@@ -42,39 +43,39 @@ visible-le false = omega arith
 -- "S 16 65535" and its line feed
 site-length : (s : Site) → siteInRange s ≡ true → length (siteLine s) ≤ 11
 unfolding siteLine siteNumbers siteOf
-site-length s e = rw site-limits at (line-le siteLetter siteLimits (siteNumbers s) (omega arith) (site-within (siteNumbers s) e))
+site-length s e = rw site-limits at (line-le siteHead siteLimits (siteNumbers s) (omega arith) (site-at-most (siteNumbers s) e))
 
 character-length : (c : Character) → characterInRange c ≡ true → length (characterLine c) ≤ 39
 unfolding characterLine characterNumbers characterOf identifierAt characterInRange origin
 character-length c e =
     rw character-limits at
-    (line-le characterLetter characterLimits (characterNumbers c) (omega arith) (character-within (characterNumbers c) e (visible-le (c .visible))))
+    (line-le characterHead characterLimits (characterNumbers c) (omega arith) (character-at-most (characterNumbers c) e (visible-le (c .visible))))
 
 -- ---- all lines
 
-characters-length : (cs : List Character) → every characterInRange cs ≡ true → length (joined characterLine cs) ≤ 39 * length cs
+characters-length : (cs : List Character) → every characterInRange cs ≡ true → length (concatenated characterLine cs) ≤ 39 * length cs
 characters-length [] e = omega arith
 characters-length (c ∷ cs) e =
     omega (
       arith,
-      length-append (characterLine c) (joined characterLine cs),
+      length-append (characterLine c) (concatenated characterLine cs),
       character-length c (and-left (characterInRange c) (every characterInRange cs) e),
       characters-length cs (and-right (characterInRange c) (every characterInRange cs) e),
     )
 
-operations-length : (os : List Operation) → every inRange os ≡ true → length (joined operationLine os) ≤ 37 * length (inserts os) + 14 * length (deletes os)
+operations-length : (os : List Operation) → every inRange os ≡ true → length (concatenated operationLine os) ≤ 37 * length (inserts os) + 14 * length (deletes os)
 operations-length [] e = omega arith
 operations-length (insert i ∷ os) e =
     omega (
       arith,
-      length-append (operationLine (insert i)) (joined operationLine os),
+      length-append (operationLine (insert i)) (concatenated operationLine os),
       line-lengths .0 i (and-left (inRange (insert i)) (every inRange os) e),
       operations-length os (and-right (inRange (insert i)) (every inRange os) e),
     )
 operations-length (delete d ∷ os) e =
     omega (
       arith,
-      length-append (operationLine (delete d)) (joined operationLine os),
+      length-append (operationLine (delete d)) (concatenated operationLine os),
       line-lengths .1 d (and-left (inRange (delete d)) (every inRange os) e),
       operations-length os (and-right (inRange (delete d)) (every inRange os) e),
     )
@@ -88,8 +89,8 @@ pub saved-length : SavedLength
 unfolding savedBytes
 saved-length s h =
     let f = formed s h in
-    let cs = joined characterLine (s .characters) in
-    let os = joined operationLine (s .pending) in
+    let cs = concatenated characterLine (s .characters) in
+    let os = concatenated operationLine (s .pending) in
     omega (
       arith,
       length-append (siteLine (s .site) ++ cs) os,

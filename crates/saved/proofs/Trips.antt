@@ -11,15 +11,15 @@ use Rattle.lists.specs.Lists.{every}
 use Rattle.woot.specs.State.{State, meaning, stored}
 use Rattle.woot.specs.Form.{allInRange, wellFormed}
 use Rattle.lists.proofs.Tests.{and-left, and-right, three, seven}
-use Rattle.codec.specs.Lines.{isLetter, hasLayout}
+use Rattle.lines.specs.Lines.{lines, closed, leading, trailing, concatenated}
+use Rattle.lines.specs.Fields.{hasLayout}
 use Rattle.codec.specs.Operations.{operationLine}
 use Rattle.replica.proofs.Runs.{meaning-stored}
 use Rattle.saved.specs.declared.LoadAnswer.the-variants.{Done}
-use Rattle.saved.specs.Lines.{lines, closed, leading, trailing, joined}
 use Rattle.saved.specs.Format.{siteLine, isSite, characterLine, isCharacter, characterSaid, visibleInRange, isOperation, operationSaid, headLine, characterLines, operationLines, savedLaidOut, savedState, savedInRange, savedBytes}
 use Rattle.saved.specs.Calls.{loaded}
 use Rattle.saved.specs.Theorems.{SavedReadsBack, LoadedWritesBack, LoadedFormed}
-use Rattle.saved.proofs.Lines.{whole, rejoined, apart, joined-append, head-first}
+use Rattle.lines.proofs.Lines.{whole, rejoined, apart, concatenated-append, head-first}
 use Rattle.saved.proofs.Spelling.{bareSite, bareCharacter, bareOperation, site-lines, site-closed, character-lines, character-closed, operation-lines, operation-closed, site-laid, site-back, character-laid, character-back, character-fits, operation-laid, operation-back, operation-other, site-again, character-again, operation-again}
 use Rattle.saved.proofs.Refusals.{load-done, load-numbers}
 
@@ -28,17 +28,17 @@ use Rattle.saved.proofs.Refusals.{load-done, load-numbers}
 module _ {A : Type 0} (line bare : A → List ℕ) where
   -- each is a line before any bytes, and so are all
   lines-joined : ((x : A) (bytes : List ℕ) → lines (line x ++ bytes) ≡ bare x ∷ lines bytes) → (xs : List A) (bytes : List ℕ)
-      → lines (joined line xs ++ bytes) ≡ map bare xs ++ lines bytes
+      → lines (concatenated line xs ++ bytes) ≡ map bare xs ++ lines bytes
   lines-joined each [] bytes = refl
   lines-joined each (x ∷ xs) bytes =
-      ap lines (append-assoc (line x) (joined line xs) bytes) ∙ each x (joined line xs ++ bytes)
+      ap lines (append-assoc (line x) (concatenated line xs) bytes) ∙ each x (concatenated line xs ++ bytes)
       ∙ ap (λ (ls : List (List ℕ)). bare x ∷ ls) (lines-joined each xs bytes)
 
   closed-joined : ((x : A) (bytes : List ℕ) → closed (line x ++ bytes) ≡ closed bytes) → (xs : List A) (bytes : List ℕ)
-      → closed (joined line xs ++ bytes) ≡ closed bytes
+      → closed (concatenated line xs ++ bytes) ≡ closed bytes
   closed-joined each [] bytes = refl
   closed-joined each (x ∷ xs) bytes =
-      ap closed (append-assoc (line x) (joined line xs) bytes) ∙ each x (joined line xs ++ bytes) ∙ closed-joined each xs bytes
+      ap closed (append-assoc (line x) (concatenated line xs) bytes) ∙ each x (concatenated line xs ++ bytes) ∙ closed-joined each xs bytes
 
 module _ {A B : Type 0} where
   map-back : (f : A → B) (g : B → A) → ((x : B) → f (g x) ≡ x) → (xs : List B) → map f (map g xs) ≡ xs
@@ -86,31 +86,31 @@ closed-none = refl
 
 module _ (s : State) where
   later : List ℕ
-  later = joined characterLine (s .characters) ++ joined operationLine (s .pending)
+  later = concatenated characterLine (s .characters) ++ concatenated operationLine (s .pending)
 
   later-lines : lines later ≡ map bareCharacter (s .characters) ++ map bareOperation (s .pending)
   unfolding later
   later-lines =
-      lines-joined characterLine bareCharacter (λ c bytes. character-lines bytes c) (s .characters) (joined operationLine (s .pending))
+      lines-joined characterLine bareCharacter (λ c bytes. character-lines bytes c) (s .characters) (concatenated operationLine (s .pending))
       ∙ ap (λ (ls : List (List ℕ)). map bareCharacter (s .characters) ++ ls)
-      (ap lines (sym (append-nil (joined operationLine (s .pending))))
+      (ap lines (sym (append-nil (concatenated operationLine (s .pending))))
       ∙ lines-joined operationLine bareOperation (λ o bytes. operation-lines bytes o) (s .pending) []
       ∙ append-nil (map bareOperation (s .pending)))
 
   saved-lines : lines (savedBytes s) ≡ bareSite (s .site) ∷ map bareCharacter (s .characters) ++ map bareOperation (s .pending)
   unfolding savedBytes later
   saved-lines =
-      ap lines (append-assoc (siteLine (s .site)) (joined characterLine (s .characters)) (joined operationLine (s .pending)))
+      ap lines (append-assoc (siteLine (s .site)) (concatenated characterLine (s .characters)) (concatenated operationLine (s .pending)))
       ∙ site-lines later (s .site)
       ∙ ap (λ (ls : List (List ℕ)). bareSite (s .site) ∷ ls) later-lines
 
   saved-closed : closed (savedBytes s) ≡ true
   unfolding savedBytes later
   saved-closed =
-      ap closed (append-assoc (siteLine (s .site)) (joined characterLine (s .characters)) (joined operationLine (s .pending)))
+      ap closed (append-assoc (siteLine (s .site)) (concatenated characterLine (s .characters)) (concatenated operationLine (s .pending)))
       ∙ site-closed later (s .site)
-      ∙ closed-joined characterLine bareCharacter (λ c bytes. character-closed bytes c) (s .characters) (joined operationLine (s .pending))
-      ∙ ap closed (sym (append-nil (joined operationLine (s .pending))))
+      ∙ closed-joined characterLine bareCharacter (λ c bytes. character-closed bytes c) (s .characters) (concatenated operationLine (s .pending))
+      ∙ ap closed (sym (append-nil (concatenated operationLine (s .pending))))
       ∙ closed-joined operationLine bareOperation (λ o bytes. operation-closed bytes o) (s .pending) []
       ∙ closed-none
 
@@ -173,7 +173,7 @@ saved-reads-back s h =
 
 -- lines that each are written again as they were
 joined-again : {A : Type 0} (line : A → List ℕ) (say : List ℕ → A) (p : List ℕ → Bool) → ((l : List ℕ) → p l ≡ true → line (say l) ≡ whole l)
-    → (ls : List (List ℕ)) → every p ls ≡ true → joined line (map say ls) ≡ joined whole ls
+    → (ls : List (List ℕ)) → every p ls ≡ true → concatenated line (map say ls) ≡ concatenated whole ls
 joined-again line say p each [] e = refl
 joined-again line say p each (l ∷ ls) e =
     ap₂ (λ (a b : List ℕ). a ++ b) (each l (and-left (p l) (every p ls) e)) (joined-again line say p each ls (and-right (p l) (every p ls) e))
@@ -185,7 +185,7 @@ every-and p q (x ∷ xs) e f =
     (every-and p q xs (and-right (p x) (every p xs) e) (and-right (q x) (every q xs) f))
 
 pub no-site : isSite [] ≡ false
-unfolding isSite hasLayout isLetter
+unfolding isSite hasLayout
 no-site = refl
 
 module _ (s : List ℕ) (l : savedLaidOut s ≡ true) where
@@ -201,18 +201,18 @@ module _ (s : List ℕ) (l : savedLaidOut s ≡ true) where
   unfolding savedBytes savedState characterLines
   says-saved v =
       let laid : every isCharacter (characterLines s) ≡ true = characters-laid in
-      let cs : joined characterLine (map characterSaid (characterLines s)) ≡ joined whole (characterLines s) =
+      let cs : concatenated characterLine (map characterSaid (characterLines s)) ≡ concatenated whole (characterLines s) =
       joined-again characterLine characterSaid (λ x. isCharacter x && visibleInRange x)
       (λ x e. character-again x (and-left (isCharacter x) (visibleInRange x) e) (and-right (isCharacter x) (visibleInRange x) e)) (characterLines s)
       (every-and isCharacter visibleInRange (characterLines s) laid v)
       in
-      let os : joined operationLine (map operationSaid (operationLines s)) ≡ joined whole (operationLines s) =
+      let os : concatenated operationLine (map operationSaid (operationLines s)) ≡ concatenated whole (operationLines s) =
       joined-again operationLine operationSaid isOperation operation-again (operationLines s) (parts .2)
       in
       rw (site-again (headLine s) (parts .1), cs, os)
-      (append-assoc (whole (headLine s)) (joined whole (characterLines s)) (joined whole (operationLines s))
-      ∙ ap (λ (b : List ℕ). whole (headLine s) ++ b) (sym (joined-append whole (characterLines s) (operationLines s)))
-      ∙ sym (rejoined s (parts .0) ∙ ap (joined whole) all-lines))
+      (append-assoc (whole (headLine s)) (concatenated whole (characterLines s)) (concatenated whole (operationLines s))
+      ∙ ap (λ (b : List ℕ). whole (headLine s) ++ b) (sym (concatenated-append whole (characterLines s) (operationLines s)))
+      ∙ sym (rejoined s (parts .0) ∙ ap (concatenated whole) all-lines))
     where
       characters-laid : every isCharacter (characterLines s) ≡ true
       characters-laid = every-leading isCharacter (drop 1 (lines s))

@@ -1,17 +1,19 @@
 -- The calls on saved replicas: reading one from bytes, and writing one into a lent slice. Each has its conditions in
 -- checking order; where none holds, what is done stands below them.
 use Prim.Native.Nat.{ℕ}
-use mathlib.Core.List.{List, [], _∷_}
+use mathlib.Core.List.{List, [], _∷_, map}
 use mathlib.Core.Bool.{not, cond}
 use mathlib.Core.Option.{Option, none, some}
 use lib.Dec.{ltb}
-use lib.ListN.{length}
+use lib.ListN.{length, take}
 use Rattle.output.specs.Output.{placed}
 use Rattle.woot.specs.declared.Replica.{Replica}
+use Rattle.woot.specs.declared.Refusal.{Refusal}
 use Rattle.woot.specs.declared.Refusal.the-variants.{Layout, Range, Form, Output}
 use Rattle.woot.specs.declared.Written.{Written}
 use Rattle.woot.specs.declared.Written.the-variants.{Length, Refused as writtenRefused}
-use Rattle.woot.specs.State.{State, initial, meaning, stored}
+use Rattle.woot.specs.State.{State, characterSlots, pendingSlots, waiting, blankCharacter, blankPending, initial, meaning, stored}
+use Rattle.lists.specs.Padding.{pad}
 use Rattle.woot.specs.Form.{wellFormed, replicaWellFormed}
 use Rattle.woot.specs.Answers.{Check, _⇒_, first, number}
 use Rattle.codec.specs.Calls.{decided}
@@ -33,6 +35,9 @@ loadChecks s =
 unfoldable pub noReplica : Replica
 noReplica = stored (initial 0)
 
+unfoldable pub refusal : Refusal → Loaded
+refusal r = record { answer = Refused r; replica = noReplica }
+
 -- the first condition that holds decides; where none does, the replica that the bytes say
 unfoldable pub loadedAs : Option LoadAnswer → State → Loaded
 loadedAs none s = record { answer = Done; replica = stored s }
@@ -40,6 +45,27 @@ loadedAs (some a) s = record { answer = a; replica = noReplica }
 
 unfoldable pub loaded : List ℕ → Loaded
 loaded s = loadedAs (first (loadChecks s)) (savedState s)
+
+-- a state as the arrays hold it, as far as they have slots, with the state's own counts
+unfoldable pub held : State → Replica
+held s =
+    record {
+      site = s .site;
+      document = record {
+        characters = pad characterSlots blankCharacter (take characterSlots (s .characters));
+        length = length (s .characters);
+        pending = pad pendingSlots blankPending (take pendingSlots (map waiting (s .pending)));
+        waiting = length (s .pending);
+      };
+    }
+
+-- conditions 1 and 2 alone
+unfoldable pub readingChecks : List ℕ → List (Check Loaded)
+readingChecks s = (not (savedLaidOut s) ⇒ refusal Layout) ∷ (not (savedInRange s) ⇒ refusal Range) ∷ []
+
+-- what the bytes say, its form not checked
+unfoldable pub savedRead : List ℕ → Loaded
+savedRead s = decided (first (readingChecks s)) (record { answer = Done; replica = held (savedState s) })
 
 -- the refusal's number, or 0
 unfoldable pub loadNumber : LoadAnswer → ℕ

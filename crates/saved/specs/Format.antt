@@ -14,16 +14,16 @@ use Rattle.woot.specs.Limits.{lastSite, lastClock, lastCodePoint}
 use Rattle.lists.specs.Lists.{every}
 use Rattle.woot.specs.State.{State}
 use Rattle.woot.specs.Form.{allInRange}
-use Rattle.codec.specs.Lines.{fields, hasLayout, numbers, lineOf}
-use Rattle.codec.specs.Operations.{identifierAt, said, operationLine}
+use Rattle.lines.specs.Lines.{lines, closed, leading, trailing, concatenated}
+use Rattle.lines.specs.Fields.{fields, hasLayout, valuesOf, lineOf}
+use Rattle.codec.specs.Operations.{identifierAt, operationOf, operationLine}
 use Rattle.codec.specs.Calls.{lineLaidOut}
-use Rattle.saved.specs.Lines.{lines, closed, leading, trailing, joined}
 
 -- ---- the site's line
 
 -- `S`
-abbrev pub siteLetter : ℕ
-siteLetter = 83
+abbrev pub siteHead : List ℕ
+siteHead = 83 ∷ []
 
 -- "laptop clock"
 unfoldable pub siteNumbers : Site → List ℕ
@@ -38,19 +38,19 @@ unfoldable pub siteOf : List ℕ → Site
 siteOf ns = record { number = getD ns 0 0; clock = getD ns 1 0 }
 
 unfoldable pub isSite : List ℕ → Bool
-isSite line = hasLayout siteLetter 2 (fields line)
+isSite line = hasLayout siteHead 2 (fields line)
 
 unfoldable pub siteSaid : List ℕ → Site
-siteSaid line = siteOf (numbers (fields line))
+siteSaid line = siteOf (valuesOf (fields line))
 
 unfoldable pub siteLine : Site → List ℕ
-siteLine s = lineOf siteLetter (siteNumbers s)
+siteLine s = lineOf siteHead (siteNumbers s)
 
 -- ---- a character's line
 
 -- `C`
-abbrev pub characterLetter : ℕ
-characterLetter = 67
+abbrev pub characterHead : List ℕ
+characterHead = 67 ∷ []
 
 -- "shown (1 or 0)"
 abbrev pub visibleNumber : Bool → ℕ
@@ -85,17 +85,17 @@ characterOf ns =
     }
 
 unfoldable pub isCharacter : List ℕ → Bool
-isCharacter line = hasLayout characterLetter 8 (fields line)
+isCharacter line = hasLayout characterHead 8 (fields line)
 
 unfoldable pub characterSaid : List ℕ → Character
-characterSaid line = characterOf (numbers (fields line))
+characterSaid line = characterOf (valuesOf (fields line))
 
 -- shown is in its range, which the character that is said does not tell
 unfoldable pub visibleInRange : List ℕ → Bool
-visibleInRange line = leb (getD (numbers (fields line)) 3 0) lastVisible
+visibleInRange line = leb (getD (valuesOf (fields line)) 3 0) lastVisible
 
 unfoldable pub characterLine : Character → List ℕ
-characterLine c = lineOf characterLetter (characterNumbers c)
+characterLine c = lineOf characterHead (characterNumbers c)
 
 -- ---- a pending operation's line
 
@@ -103,7 +103,7 @@ unfoldable pub isOperation : List ℕ → Bool
 isOperation line = lineLaidOut line
 
 unfoldable pub operationSaid : List ℕ → Operation
-operationSaid line = said (fields line)
+operationSaid line = operationOf (fields line)
 
 -- the line of what stands in a slot
 abbrev pub pendingLine : Pending → List ℕ
@@ -140,4 +140,4 @@ savedInRange s = allInRange (savedState s) && every visibleInRange (characterLin
 
 -- the bytes of a state
 unfoldable pub savedBytes : State → List ℕ
-savedBytes s = siteLine (s .site) ++ joined characterLine (s .characters) ++ joined operationLine (s .pending)
+savedBytes s = siteLine (s .site) ++ concatenated characterLine (s .characters) ++ concatenated operationLine (s .pending)

@@ -1,4 +1,3 @@
-pub mod Lines
 pub mod Format
 pub mod Calls
 pub mod Reading

@@ -1,4 +1,5 @@
--- What is read of a line, and of lines that follow each other, as values of the code's types.
+-- For the proofs of the code alone: what is read of a line, and of lines that follow each other, as values of the code's
+-- types.
 use Prim.Native.Nat.{ℕ}
 use mathlib.Core.List.{List, [], map}
 use mathlib.Core.Bool.{Bool, true, false, _&&_, cond}
@@ -8,52 +9,48 @@ use Rattle.woot.specs.declared.Operation.{Operation}
 use Rattle.woot.specs.declared.Character.{Character}
 use Rattle.woot.specs.declared.Pending.{Pending}
 use Rattle.woot.specs.declared.Replica.{Replica}
-use Rattle.woot.specs.declared.Refusal.{Refusal}
-use Rattle.woot.specs.declared.Refusal.the-variants.{Form}
 use Rattle.lists.specs.Lists.{every}
 use Rattle.woot.specs.Ranges.{siteInRange, characterInRange, inRange}
 use Rattle.woot.specs.State.{characterSlots, pendingSlots, waiting, blankCharacter, blankPending}
 use Rattle.lists.specs.Padding.{pad}
-use Rattle.woot.specs.Form.{replicaWellFormed}
-use Rattle.saved.specs.declared.LoadAnswer.the-variants.{Done, Refused}
-use Rattle.saved.specs.declared.Loaded.{Loaded}
-use Rattle.saved.specs.declared.read.SiteLine.{SiteLine}
-use Rattle.saved.specs.declared.read.CharacterLine.{CharacterLine}
-use Rattle.saved.specs.declared.read.OperationLine.{OperationLine}
-use Rattle.saved.specs.declared.read.Characters.{Characters}
-use Rattle.saved.specs.declared.read.Operations.{Operations}
-use Rattle.saved.specs.Lines.{lines, closed}
-use Rattle.saved.specs.Format.{isSite, siteSaid, isCharacter, characterSaid, visibleInRange, isOperation, operationSaid}
-use Rattle.saved.specs.Calls.{noReplica}
+use Rattle.saved.specs.declared.reading.Judged.{Judged}
+use Rattle.saved.specs.declared.reading.SiteLine.{SiteLine}
+use Rattle.saved.specs.declared.reading.CharacterLine.{CharacterLine}
+use Rattle.saved.specs.declared.reading.OperationLine.{OperationLine}
+use Rattle.saved.specs.declared.reading.Characters.{Characters}
+use Rattle.saved.specs.declared.reading.Operations.{Operations}
+use Rattle.lines.specs.declared.Verdict.{Verdict}
+use Rattle.lines.specs.declared.Numbers.{Numbers}
+use Rattle.lines.specs.Lines.{lines, closed}
+use Rattle.lines.specs.Fields.{fields}
+use Rattle.lines.specs.Answers.{byVerdict, numbersOf}
+use Rattle.saved.specs.Format.{siteHead, siteLimits, siteOf, characterHead, characterLimits, characterOf, isOperation, operationSaid}
 
--- ---- one line: its layout, then its range, then what it says; filler where either lacks
+-- ---- one line: its layout, then its range, then what it says
 
-unfoldable pub noSite : Bool → SiteLine
-noSite laid = record { «laid_out» = laid; «in_range» = false; site = record { number = 0; clock = 0 } }
+unfoldable pub judgement : Bool → Bool → Judged
+judgement laid passes = record { «laid_out» = laid; «in_range» = passes }
 
-unfoldable pub siteJudged : Site → SiteLine
-siteJudged s = cond (siteInRange s) (record { «laid_out» = true; «in_range» = true; site = s }) (noSite true)
+unfoldable pub judgedAs : Verdict → Bool → Judged
+judgedAs verdict passes = byVerdict verdict (judgement false false) (judgement true false) (judgement true passes)
 
 unfoldable pub siteRead : List ℕ → SiteLine
-siteRead line = cond (isSite line) (siteJudged (siteSaid line)) (noSite false)
-
-unfoldable pub noCharacter : Bool → CharacterLine
-noCharacter laid = record { «laid_out» = laid; «in_range» = false; character = blankCharacter }
-
-unfoldable pub characterJudged : Bool → Character → CharacterLine
-characterJudged visible c =
-    cond (characterInRange c && visible) (record { «laid_out» = true; «in_range» = true; character = c }) (noCharacter true)
+siteRead line =
+    let r : Numbers = numbersOf siteHead siteLimits (fields line) in
+    record { judged = judgedAs (r .verdict) (siteInRange (siteOf (r .values))); site = siteOf (r .values) }
 
 unfoldable pub characterRead : List ℕ → CharacterLine
 characterRead line =
-    cond (isCharacter line) (characterJudged (visibleInRange line) (characterSaid line)) (noCharacter false)
+    let r : Numbers = numbersOf characterHead characterLimits (fields line) in
+    record { judged = judgedAs (r .verdict) (characterInRange (characterOf (r .values))); character = characterOf (r .values) }
 
+-- filler where the layout or the range lacks
 unfoldable pub noOperation : Bool → OperationLine
-noOperation laid = record { «laid_out» = laid; «in_range» = false; operation = blankPending .operation }
+noOperation laid = record { judged = judgement laid false; operation = blankPending .operation }
 
 unfoldable pub operationJudged : Operation → OperationLine
 operationJudged o =
-    cond (inRange o) (record { «laid_out» = true; «in_range» = true; operation = o }) (noOperation true)
+    cond (inRange o) (record { judged = judgement true true; operation = o }) (noOperation true)
 
 unfoldable pub operationRead : List ℕ → OperationLine
 operationRead line = cond (isOperation line) (operationJudged (operationSaid line)) (noOperation false)
@@ -64,7 +61,7 @@ abbrev pub lineCharacter : List ℕ → Character
 lineCharacter line = characterRead line .character
 
 abbrev pub characterPasses : List ℕ → Bool
-characterPasses line = characterRead line .«in_range»
+characterPasses line = characterRead line .judged .«in_range»
 
 unfoldable pub charactersRead : List (List ℕ) → Characters
 charactersRead ls =
@@ -78,7 +75,7 @@ abbrev pub linePending : List ℕ → Pending
 linePending line = waiting (operationRead line .operation)
 
 abbrev pub operationPasses : List ℕ → Bool
-operationPasses line = operationRead line .«in_range»
+operationPasses line = operationRead line .judged .«in_range»
 
 -- with a line that lacks the layout, or bytes after the last line feed, nothing
 unfoldable pub noOperations : Operations
@@ -104,10 +101,3 @@ replicaOf site cs ps =
       site = site;
       document = record { characters = cs .items; length = cs .count; pending = ps .items; waiting = ps .count };
     }
-
-unfoldable pub refusal : Refusal → Loaded
-refusal r = record { answer = Refused r; replica = noReplica }
-
--- if it is in form
-unfoldable pub assembled : Replica → Loaded
-assembled r = cond (replicaWellFormed r) (record { answer = Done; replica = r }) (refusal Form)

@@ -9,12 +9,12 @@ use Rattle.woot.specs.declared.Replica.{Replica}
 use Rattle.woot.specs.declared.Refusal.{Refusal}
 use Rattle.woot.specs.declared.Written.the-variants.{Refused as writtenRefused}
 use Rattle.woot.specs.State.{State, meaning, stored}
-use Rattle.woot.specs.Form.{wellFormed}
+use Rattle.woot.specs.Form.{wellFormed, replicaWellFormed}
 use Rattle.woot.specs.Answers.{Reported}
 use Rattle.saved.specs.declared.LoadAnswer.the-variants.{Done, Refused}
 use Rattle.saved.specs.declared.Loaded.{Loaded}
 use Rattle.saved.specs.Format.{savedLaidOut, savedState, savedInRange, savedBytes}
-use Rattle.saved.specs.Calls.{loadChecks, noReplica, loaded, loadNumber, saveChecks, saved, outAfter}
+use Rattle.saved.specs.Calls.{loadChecks, noReplica, held, loaded, loadNumber, saveChecks, saved, outAfter}
 
 -- ---- round trips
 
@@ -32,6 +32,14 @@ LoadedWritesBack =
 -- a replica that is read is in form
 abbrev pub LoadedFormed : Type 0
 LoadedFormed = (bytes : List ℕ) → loaded bytes .answer ≡ Done → wellFormed (meaning (loaded bytes .replica)) ≡ true
+
+-- what is read before the form is checked: the replica is in form exactly when the state that the bytes say is, and then
+-- it is that state as it is stored, and means it
+abbrev pub HeldForm : Type 0
+HeldForm =
+    (s : State) →
+    (replicaWellFormed (held s) ≡ wellFormed s)
+    × (wellFormed s ≡ true → (held s ≡ stored s) × (meaning (held s) ≡ s))
 
 -- ---- sizes
 

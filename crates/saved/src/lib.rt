@@ -1,20 +1,22 @@
 // Saved replicas: read from bytes, and written into a lent slice.
-mod read;
-mod write;
+mod reading;
+mod writing;
 
-use read::Characters;
-use read::Operations;
+use lines::Room;
+use reading::Characters;
+use reading::Operations;
 use woot::Document;
 use woot::Refusal;
 use woot::Replica;
 use woot::Site;
 use woot::Written;
 ghost use mathlib.Core.Path.{_≡_};
-ghost use lib.ListN.{length};
-ghost use Rattle.saved.specs.Calls.{loaded, bytesOf, saved, outAfter};
-ghost use Rattle.saved.specs.Reading.{replicaOf, refusal, assembled};
+ghost use Rattle.output.specs.Output.{placed};
+ghost use Rattle.codec.specs.Calls.{fitted};
+ghost use Rattle.saved.specs.Calls.{refusal, savedRead, loaded, bytesOf, saved, outAfter};
+ghost use Rattle.saved.specs.Reading.{replicaOf};
 
-// The letters of the lines of a site and of a character.
+// The head words of the lines of a site and of a character.
 pub(crate) const SITE: u8 = 83;
 
 pub(crate) const CHARACTER: u8 = 67;
@@ -42,9 +44,9 @@ fn refuse(reason: Refusal) -> Loaded
     }
 }
 
-// The replica of what was read, if it is well formed; a count above its array is not.
-fn assemble(site: Site, characters: Characters, operations: Operations) -> Loaded
-    ensures { λ r. ⌜ r ≡ assembled (replicaOf site characters operations) ⌝ }
+// The replica of what was read.
+fn assemble(site: Site, characters: Characters, operations: Operations) -> Replica
+    ensures { λ r. ⌜ r ≡ replicaOf site characters operations ⌝ }
 {
     let items = characters.items;
     let pending = operations.items;
@@ -54,32 +56,26 @@ fn assemble(site: Site, characters: Characters, operations: Operations) -> Loade
         pending,
         waiting: operations.count,
     };
-    let replica = Replica { site, document };
-    if replica::well_formed(replica) {
-        return Loaded {
-            answer: LoadAnswer::Done,
-            replica,
-        };
-    }
-    refuse(Refusal::Form)
+    Replica { site, document }
 }
 
-// Reads a saved replica. A fault of the layout comes first, wherever it is, then a number out of range, then the form.
-pub fn load(s: &[u8]) -> Loaded
-    ensures { λ r. ⌜ r ≡ loaded (now (s .entry)) ⌝ }
+// Reads a saved replica whose form is not checked: its counts may be above its arrays. A fault of the layout comes first,
+// wherever it is, and then a number out of range.
+pub fn read(bytes: &[u8]) -> Loaded
+    ensures { λ r. ⌜ r ≡ savedRead (now (bytes .entry)) ⌝ }
 {
-    let first = read::read_site(read::head(s));
-    if !first.laid_out {
+    let first = reading::read_site(reading::head(bytes));
+    if !first.judged.laid_out {
         return refuse(Refusal::Layout);
     }
-    let body = codec::rest(s);
-    let characters = read::read_characters(body);
+    let body = lines::rest(bytes);
+    let characters = reading::read_characters(body);
     let count = characters.count;
-    let operations = read::read_operations(read::skip(body, count));
+    let operations = reading::read_operations(reading::skip(body, count));
     if !operations.laid_out {
         return refuse(Refusal::Layout);
     }
-    if !first.in_range {
+    if !first.judged.in_range {
         return refuse(Refusal::Range);
     }
     if !characters.in_range {
@@ -89,25 +85,52 @@ pub fn load(s: &[u8]) -> Loaded
         return refuse(Refusal::Range);
     }
     let site = first.site;
-    assemble(site, characters, operations)
+    let replica = assemble(site, characters, operations);
+    Loaded {
+        answer: LoadAnswer::Done,
+        replica,
+    }
 }
 
-// How many bytes the saved replica takes, in form or not.
-pub fn saved_length(r: Replica) -> usize
-    ensures { λ x. ⌜ x ≡ length (bytesOf r) ⌝ }
+// Reads a saved replica. A fault of the layout comes first, wherever it is, then a number out of range, then the form.
+pub fn load(bytes: &[u8]) -> Loaded
+    ensures { λ r. ⌜ r ≡ loaded (now (bytes .entry)) ⌝ }
 {
-    write::all_length(r)
+    let found = read(bytes);
+    let answer = found.answer;
+    if let LoadAnswer::Refused(_) = answer {
+        return found;
+    }
+    let replica = found.replica;
+    if !replica::well_formed(replica) {
+        return refuse(Refusal::Form);
+    }
+    found
+}
+
+// Writes a replica, in form or not, at the front of the slice; of counts above its arrays, what these hold. A refused call
+// leaves every byte as it was.
+pub fn put(replica: Replica, out: &mut [u8]) -> Written
+    ensures { λ r. ⌜ r ≡ fitted (bytesOf replica) (now (out .entry)) ⌝ }
+    ensures { λ r. ⌜ now (out .exit) ≡ placed (now (out .entry)) 0 (bytesOf replica) ⌝ }
+{
+    let room = writing::measure(replica, out.len());
+    match room {
+        Room::Until(length) => {
+            writing::put_all(replica, out);
+            Written::Length(length)
+        }
+        Room::Short => Written::Refused(Refusal::Output),
+    }
 }
 
 // Writes a saved replica at the front of the slice. A refused call leaves every byte as it was.
-pub fn save(r: Replica, out: &mut [u8]) -> Written
-    ensures { λ x. ⌜ (x ≡ saved r (now (out .entry))) × (now (out .exit) ≡ outAfter r (now (out .entry))) ⌝ }
+pub fn save(replica: Replica, out: &mut [u8]) -> Written
+    ensures { λ r. ⌜ r ≡ saved replica (now (out .entry)) ⌝ }
+    ensures { λ r. ⌜ now (out .exit) ≡ outAfter replica (now (out .entry)) ⌝ }
 {
-    if !replica::well_formed(r) {
+    if !replica::well_formed(replica) {
         return Written::Refused(Refusal::Form);
     }
-    if out.len() < saved_length(r) {
-        return Written::Refused(Refusal::Output);
-    }
-    Written::Length(write::put_all(r, out))
+    put(replica, out)
 }

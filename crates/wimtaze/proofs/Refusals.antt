@@ -15,7 +15,7 @@ use Rattle.woot.specs.Form.{wellFormed}
 use Rattle.woot.specs.State.{State}
 use Rattle.codec.specs.declared.Read.{Read}
 use Rattle.codec.specs.declared.Read.the-variants.{Operation as readsAs, Refused as readRefused}
-use Rattle.codec.specs.Lines.{rest}
+use Rattle.lines.specs.Lines.{rest}
 use Rattle.codec.specs.Calls.{decided, readChecks, readAs, readOperation, saidBy}
 use Rattle.storage.specs.Replicas.{received}
 use Rattle.saved.specs.declared.LoadAnswer.{LoadAnswer}

@@ -1,24 +1,25 @@
--- The five calls on any bytes and numbers: the refusals over what was handed, lowest first, and then what is done.
-use Prim.Native.Nat.{ℕ}
+-- The calls on any bytes and numbers: refusals 1, 2 and 3 over what was handed, then the rule on the state that the saved
+-- bytes say, then 12, then the bytes of the new state.
+use Prim.Native.Nat.{ℕ, _-_}
 use mathlib.Core.Bool.{Bool, true, _&&_, not}
 use mathlib.Core.List.{List, [], _∷_}
-use mathlib.Core.Option.{Option}
 use lib.Dec.{eqb}
 use lib.ListN.{length}
-use Rattle.woot.specs.declared.Replica.{Replica}
 use Rattle.woot.specs.declared.Refusal.{Refusal}
 use Rattle.woot.specs.declared.Refusal.the-variants.{Layout, Range, Form}
-use Rattle.woot.specs.declared.Answer.the-variants.{Done}
+use Rattle.woot.specs.declared.Answer.the-variants.{Done, Refused}
+use Rattle.woot.specs.Limits.{capacity}
 use Rattle.woot.specs.Ranges.{siteNumber, codePoint, inRange}
-use Rattle.woot.specs.State.{initial, stored}
-use Rattle.woot.specs.Form.{wellFormed}
-use Rattle.woot.specs.Answers.{Check, _⇒_, first}
-use Rattle.storage.specs.Replicas.{received, inserted, deleted}
-use Rattle.replica.specs.Texts.{textWritten, textOut}
-use Rattle.codec.specs.Lines.{rest}
+use Rattle.woot.specs.State.{State, initial}
+use Rattle.woot.specs.Form.{known, wellFormed}
+use Rattle.woot.specs.Answers.{Check, _⇒_, first, decided}
+use Rattle.woot.specs.Calls.{receive, visibles, localInsert, localDelete}
+use Rattle.woot.specs.Text.{text}
+use Rattle.lines.specs.Lines.{rest}
 use Rattle.codec.specs.Calls.{laidOut, saidBy}
-use Rattle.saved.specs.Format.{savedLaidOut, savedInRange, savedState}
-use Rattle.wimtaze.specs.Effects.{Effect, unless, afterWriting, saving, receiving, generating}
+use Rattle.saved.specs.Format.{savedLaidOut, savedInRange, savedState, savedBytes}
+use Rattle.wimtaze.specs.Results.{Result, result, silent}
+use Rattle.wimtaze.specs.Effects.{Effect, turned, writing, afterReceiving, afterSending}
 
 -- conditions 1, 2 and 3 over a saved replica and what else was handed, of which the two Bools say whether it has its
 -- layout and is in range
@@ -28,44 +29,46 @@ inputChecks bytes laid ranged =
     ∷ (not (wellFormed (savedState bytes)) ⇒ Form)
     ∷ []
 
--- the first of them that holds
-unfoldable pub inputRefusal : List ℕ → Bool → Bool → Option Refusal
-inputRefusal bytes laid ranged = first (inputChecks bytes laid ranged)
-
--- the replica that the bytes say
-unfoldable pub said : List ℕ → Replica
-said bytes = stored (savedState bytes)
-
--- `wimtaze_empty`
-unfoldable pub beginning : ℕ → List ℕ → Effect
-beginning number out =
-    unless out [] (first ((not (siteNumber number) ⇒ Range) ∷ [])) (saving (Done 0 0) (stored (initial number)) out)
-
 -- one line that has its layout, and nothing after its line feed
 unfoldable pub oneLine : List ℕ → Bool
 oneLine line = eqb (length (rest line)) 0 && laidOut line
 
+-- `wimtaze_empty`
+unfoldable pub beginning : ℕ → List ℕ → Effect
+beginning number out =
+    decided (turned out []) (first ((not (siteNumber number) ⇒ Range) ∷ []))
+    (writing (Done 0 0) (savedBytes (initial number)) out)
+
 -- `wimtaze_receive`
 unfoldable pub receivingLine : List ℕ → List ℕ → List ℕ → Effect
 receivingLine bytes line out =
-    unless out [] (inputRefusal bytes (oneLine line) (inRange (saidBy line)))
-    (receiving (received (said bytes) (saidBy line)) out)
+    decided (turned out []) (first (inputChecks bytes (oneLine line) (inRange (saidBy line))))
+    (afterReceiving (receive (savedState bytes) (saidBy line)) out)
 
 -- `wimtaze_type`
-unfoldable pub inserting : List ℕ → ℕ → ℕ → List ℕ → List ℕ → Effect
-inserting bytes point n out line =
-    unless out line (inputRefusal bytes true (codePoint n)) (generating (inserted (said bytes) point n) out line)
+unfoldable pub typing : List ℕ → ℕ → ℕ → List ℕ → List ℕ → Effect
+typing bytes point n out line =
+    decided (turned out line) (first (inputChecks bytes true (codePoint n)))
+    (afterSending (localInsert (savedState bytes) point n) out line)
 
 -- `wimtaze_erase`
-unfoldable pub deleting : List ℕ → ℕ → List ℕ → List ℕ → Effect
-deleting bytes index out line =
-    unless out line (inputRefusal bytes true true) (generating (deleted (said bytes) index) out line)
-
--- the visible text is written
-unfoldable pub showing : Replica → List ℕ → Effect
-showing r out =
-    record { result = afterWriting (Done 0 0) (textWritten r out); output = textOut r out; line = [] }
+unfoldable pub erasing : List ℕ → ℕ → List ℕ → List ℕ → Effect
+erasing bytes index out line =
+    decided (turned out line) (first (inputChecks bytes true true))
+    (afterSending (localDelete (savedState bytes) index) out line)
 
 -- `wimtaze_text`
 unfoldable pub showingText : List ℕ → List ℕ → Effect
-showingText bytes out = unless out [] (inputRefusal bytes true true) (showing (said bytes) out)
+showingText bytes out =
+    decided (turned out []) (first (inputChecks bytes true true)) (writing (Done 0 0) (text (savedState bytes .characters)) out)
+
+-- the counts of a state: its visible characters, its pending operations, all its characters, and how many more it has
+-- room for
+unfoldable pub countsOf : State → Result
+countsOf s =
+    result (Done (length (visibles (s .characters))) (length (s .pending))) (length (s .characters))
+    (capacity - length (known s))
+
+-- `wimtaze_counts`
+unfoldable pub counting : List ℕ → Result
+counting bytes = decided (λ q. silent (Refused q)) (first (inputChecks bytes true true)) (countsOf (savedState bytes))

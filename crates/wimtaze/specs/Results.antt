@@ -16,20 +16,20 @@ result a n m = record { reply = reply a; written = n; line = m }
 unfoldable pub silent : Answer → Result
 silent a = result a 0 0
 
-unfoldable pub wordNumber : Word → ℕ
+abbrev pub wordNumber : Word → ℕ
 wordNumber done = 0
 wordNumber waits = 1
 wordNumber known = 2
 wordNumber refused = 3
 
 -- six numbers in the bits of one, from the lowest: 2, 6, 12, 12, 16 and 16 of them
-unfoldable pub joined : ℕ → ℕ → ℕ → ℕ → ℕ → ℕ → ℕ
-joined word refusal integrated discarded written line =
+unfoldable pub inBits : ℕ → ℕ → ℕ → ℕ → ℕ → ℕ → ℕ
+inBits word refusal integrated discarded written line =
     word % 4 + refusal % 64 * 4 + integrated % 4096 * 256 + discarded % 4096 * 2 ^ 20 + written % 65536 * 2 ^ 32
     + line % 65536 * 2 ^ 48
 
 -- the number that is returned
-unfoldable pub packed : Result → ℕ
-packed x =
-    joined (wordNumber (x .reply .word)) (x .reply .refusal) (x .reply .integrated) (x .reply .discarded) (x .written)
+unfoldable pub numberOf : Result → ℕ
+numberOf x =
+    inBits (wordNumber (x .reply .word)) (x .reply .refusal) (x .reply .integrated) (x .reply .discarded) (x .written)
     (x .line)

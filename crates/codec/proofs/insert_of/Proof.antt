@@ -3,7 +3,7 @@ use native.Mathlib.Omega.{arith}
 use lib.ListN.{getD}
 use borrow.Author.Needs.{needs}
 use Rattle.codec.specs.Operations.{insertLimits, identifierAt, insertOf}
-use Rattle.codec.proofs.Numbers.{within-at}
+use Rattle.lines.proofs.Values.{at-most-at}
 use Rattle.codec.proofs.insert_of.Statement.{statement}
 use Rattle.codec.proofs.insert_of.Tie as tie
 
@@ -14,13 +14,13 @@ array-read-identifier-2 : tie.Need-array-read-identifier-2
 array-read-identifier-2 c = search needs
 
 identifier-requires : tie.Need-identifier-requires
-identifier-requires c κs = let b = within-at insertLimits (c .args .t1) (c .pre) in omega (arith, b 0 (omega arith), b 1 (omega arith))
+identifier-requires c κs = let b = at-most-at insertLimits (c .args .t1) (c .pre) in omega (arith, b 0 (omega arith), b 1 (omega arith))
 
 array-read-t12 : tie.Need-array-read-t12
 array-read-t12 c = search needs
 
 cast-t13 : tie.Need-cast-t13
-cast-t13 c = let b = within-at insertLimits (c .before .args .t1) (c .before .pre) in omega (arith, b 2 (omega arith))
+cast-t13 c = let b = at-most-at insertLimits (c .before .args .t1) (c .before .pre) in omega (arith, b 2 (omega arith))
 
 array-read-identifier-3 : tie.Need-array-read-identifier-3
 array-read-identifier-3 c = search needs
@@ -29,7 +29,7 @@ array-read-identifier-4 : tie.Need-array-read-identifier-4
 array-read-identifier-4 c = search needs
 
 identifier-requires-2 : tie.Need-identifier-requires-2
-identifier-requires-2 c κs = let b = within-at insertLimits (c .before .args .t1) (c .before .pre) in omega (arith, b 3 (omega arith), b 4 (omega arith))
+identifier-requires-2 c κs = let b = at-most-at insertLimits (c .before .args .t1) (c .before .pre) in omega (arith, b 3 (omega arith), b 4 (omega arith))
 
 array-read-identifier-5 : tie.Need-array-read-identifier-5
 array-read-identifier-5 c = search needs
@@ -38,7 +38,7 @@ array-read-identifier-6 : tie.Need-array-read-identifier-6
 array-read-identifier-6 c = search needs
 
 identifier-requires-3 : tie.Need-identifier-requires-3
-identifier-requires-3 c κs = let b = within-at insertLimits (c .before .before .args .t1) (c .before .before .pre) in omega (arith, b 5 (omega arith), b 6 (omega arith))
+identifier-requires-3 c κs = let b = at-most-at insertLimits (c .before .before .args .t1) (c .before .before .pre) in omega (arith, b 5 (omega arith), b 6 (omega arith))
 
 returns : tie.Need-returns
 unfolding insertOf identifierAt

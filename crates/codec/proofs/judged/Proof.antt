@@ -1,18 +1,43 @@
--- `codec::judged` meets its contract: the answer goes by the range alone.
+-- `codec::judged` meets its contract: the arm knows the verdict, and within the limits the range alone is left.
 use mathlib.Core.Path.{sym, _∙_}
 use borrow.Author.Needs.{needs}
 use Rattle.codec.proofs.Judging.{read-range, read-operation}
 use Rattle.codec.proofs.judged.Statement.{statement}
 use Rattle.codec.proofs.judged.Tie as tie
 
+enum-told : tie.Need-enum-told
+enum-told c = search needs
+
+enum-told-2 : tie.Need-enum-told-2
+enum-told-2 c = search needs
+
+enum-told-3 : tie.Need-enum-told-3
+enum-told-3 c = search needs
+
 in-range-requires : tie.Need-in-range-requires
 in-range-requires c κs = search needs
 
 returns : tie.Need-returns
-returns c = sym (read-operation _ (sym (c .before .in-range .ensures) ∙ c .if1 .taken))
+returns c = rw (c .before .before .enum-told3 .given .1) (sym (read-operation _ (sym (c .before .in-range .ensures) ∙ c .if1 .taken)))
 
 returns-2 : tie.Need-returns-2
-returns-2 c = sym (read-range _ (sym (c .before .in-range .ensures) ∙ c .if1 .left))
+returns-2 c = rw (c .enum-told .given .1)
+
+returns-3 : tie.Need-returns-3
+returns-3 c = rw (c .enum-told2 .given .1)
+
+returns-4 : tie.Need-returns-4
+returns-4 c = rw (c .before .before .enum-told3 .given .1) (sym (read-range _ (sym (c .before .in-range .ensures) ∙ c .if1 .left)))
 
 pub judged-spec : {M : Type 1} → statement M
-judged-spec = tie.close (tie.spec in-range-requires returns returns-2)
+judged-spec =
+    tie.close
+    (tie.spec
+    enum-told
+    enum-told-2
+    enum-told-3
+    in-range-requires
+    returns
+    returns-2
+    returns-3
+    returns-4)

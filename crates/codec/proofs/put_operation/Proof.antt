@@ -2,8 +2,9 @@
 use mathlib.Core.Path.{sym, ap, _∙_}
 use borrow.Author.Needs.{needs}
 use Rattle.output.specs.Output.{placed, past}
-use Rattle.codec.specs.Lines.{lineOf}
-use Rattle.codec.specs.Operations.{insertLetter, deleteLetter, operationLine}
+use Rattle.lines.specs.Fields.{lineOf}
+use Rattle.lines.specs.Answers.{roomFor}
+use Rattle.codec.specs.Operations.{insertHead, deleteHead, operationLine}
 use Rattle.codec.proofs.put_operation.Statement.{statement}
 use Rattle.codec.proofs.put_operation.Tie as tie
 
@@ -13,11 +14,14 @@ enum-known-o c = search needs
 insert-numbers-requires : tie.Need-insert-numbers-requires
 insert-numbers-requires c κs = search needs
 
-slice-aggregate-put-line : tie.Need-slice-aggregate-put-line
-slice-aggregate-put-line c = search needs
+slice-aggregate-put : tie.Need-slice-aggregate-put
+slice-aggregate-put c = search needs
 
-put-line-requires : tie.Need-put-line-requires
-put-line-requires c κs = search needs
+slice-aggregate-put-2 : tie.Need-slice-aggregate-put-2
+slice-aggregate-put-2 c = search needs
+
+put-requires : tie.Need-put-requires
+put-requires c κs = search needs
 
 enum-known-o-2 : tie.Need-enum-known-o-2
 enum-known-o-2 c = search needs
@@ -25,19 +29,23 @@ enum-known-o-2 c = search needs
 delete-numbers-requires : tie.Need-delete-numbers-requires
 delete-numbers-requires c κs = search needs
 
-slice-aggregate-put-line-2 : tie.Need-slice-aggregate-put-line-2
-slice-aggregate-put-line-2 c = search needs
+slice-aggregate-put-3 : tie.Need-slice-aggregate-put-3
+slice-aggregate-put-3 c = search needs
 
-put-line-requires-2 : tie.Need-put-line-requires-2
-put-line-requires-2 c κs = search needs
+slice-aggregate-put-4 : tie.Need-slice-aggregate-put-4
+slice-aggregate-put-4 c = search needs
+
+put-requires-2 : tie.Need-put-requires-2
+put-requires-2 c κs = search needs
 
 same-length : tie.Need-same-length
 same-length c = search needs
 
 returns : tie.Need-returns
 unfolding operationLine
-returns c = let p = c .before .before .put-line .ensures in
-    let e = ap (lineOf insertLetter) (c .before .before .before .before .before .insert-numbers .ensures) ∙ sym (ap operationLine (c .before .before .before .before .before .before .before .o .given .1)) in
+returns c =
+    let p = c .before .before .put .ensures in
+    let e = ap (lineOf insertHead) (c .before .before .before .before .before .before .insert-numbers .ensures) ∙ sym (ap operationLine (c .before .before .before .before .before .before .before .before .o .given .1)) in
     (p .0 ∙ ap (past _ _) e, p .1 ∙ ap (placed _ _) e)
 
 same-length-2 : tie.Need-same-length-2
@@ -45,8 +53,9 @@ same-length-2 c = search needs
 
 returns-2 : tie.Need-returns-2
 unfolding operationLine
-returns-2 c = let p = c .before .before .put-line2 .ensures in
-    let e = ap (lineOf deleteLetter) (c .before .before .before .before .before .delete-numbers .ensures) ∙ sym (ap operationLine (c .before .before .before .before .before .before .before .o2 .given .1)) in
+returns-2 c =
+    let p = c .before .before .put2 .ensures in
+    let e = ap (lineOf deleteHead) (c .before .before .before .before .before .before .delete-numbers .ensures) ∙ sym (ap operationLine (c .before .before .before .before .before .before .before .before .o2 .given .1)) in
     (p .0 ∙ ap (past _ _) e, p .1 ∙ ap (placed _ _) e)
 
 pub put-operation-spec : {M : Type 1} → statement M
@@ -55,12 +64,14 @@ put-operation-spec =
     (tie.spec
     enum-known-o
     insert-numbers-requires
-    slice-aggregate-put-line
-    put-line-requires
+    slice-aggregate-put
+    slice-aggregate-put-2
+    put-requires
     enum-known-o-2
     delete-numbers-requires
-    slice-aggregate-put-line-2
-    put-line-requires-2
+    slice-aggregate-put-3
+    slice-aggregate-put-4
+    put-requires-2
     same-length
     returns
     same-length-2

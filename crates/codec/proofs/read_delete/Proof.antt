@@ -1,63 +1,49 @@
--- `codec::read_delete` meets its contract: each verdict on the numbers is one of the three answers.
-use mathlib.Core.Path.{ap, _∙_}
+-- `codec::read_delete` meets its contract: what is answered by the verdict is what the line is read as.
+use mathlib.Core.Path.{ap}
 use mathlib.Core.List.{List}
 use Prim.Native.Nat.{ℕ}
 use borrow.Author.Needs.{needs}
 use Rattle.woot.specs.declared.Operation.{Operation}
 use Rattle.woot.specs.declared.Operation.the-variants.{Delete as delete}
-use Rattle.codec.specs.Operations.{deleteLimits, deleteOf}
-use Rattle.codec.specs.Calls.{readAs}
-use Rattle.codec.proofs.Bounds.{delete-within}
-use Rattle.codec.proofs.Judging.{malformed, above, array-within, array-says, delete-padded}
+use Rattle.lines.specs.Answers.{numbersOf}
+use Rattle.lines.proofs.Verdicts.{values-at-most}
+use Rattle.codec.specs.Operations.{deleteLimits, deleteOf, isDelete}
+use Rattle.codec.proofs.Bounds.{delete-at-most}
+use Rattle.codec.proofs.Judging.{read-says, delete-padded}
 use Rattle.codec.proofs.read_delete.Statement.{statement}
 use Rattle.codec.proofs.read_delete.Tie as tie
 
 abbrev say : List ℕ → Operation
 say ns = delete (deleteOf ns)
 
-slice-aggregate-read-numbers : tie.Need-slice-aggregate-read-numbers
-slice-aggregate-read-numbers c = search needs
+slice-aggregate-read : tie.Need-slice-aggregate-read
+slice-aggregate-read c = search needs
 
-read-numbers-requires : tie.Need-read-numbers-requires
-read-numbers-requires c κs = search needs
+slice-aggregate-read-2 : tie.Need-slice-aggregate-read-2
+slice-aggregate-read-2 c = search needs
 
-enum-told : tie.Need-enum-told
-enum-told c = search needs
-
-enum-told-2 : tie.Need-enum-told-2
-enum-told-2 c = search needs
-
-enum-told-3 : tie.Need-enum-told-3
-enum-told-3 c = search needs
+read-requires : tie.Need-read-requires
+read-requires c κs = search needs
 
 delete-of-requires : tie.Need-delete-of-requires
-delete-of-requires c κs = array-within say deleteLimits _ _ (c .before .before .before .read-numbers .ensures) (c .enum-told3 .given .1)
+unfolding numbersOf
+delete-of-requires c κs = values-at-most _ deleteLimits _ _ (c .before .read .ensures)
 
 judged-requires : tie.Need-judged-requires
 judged-requires c κs = search needs
 
 returns : tie.Need-returns
-returns c = malformed say deleteLimits _ _ (c .before .before .before .read-numbers .ensures) (c .enum-told .given .1)
-
-returns-2 : tie.Need-returns-2
-returns-2 c = above say deleteLimits _ _ (c .before .before .before .read-numbers .ensures) delete-within (c .enum-told2 .given .1)
-
-returns-3 : tie.Need-returns-3
-returns-3 c = c .judged .ensures
-    ∙ ap (readAs _) (ap delete (c .before .delete-of .ensures))
-    ∙ array-says say deleteLimits _ _ (c .before .before .before .before .before .read-numbers .ensures) delete-padded (c .before .before .enum-told3 .given .1)
+unfolding numbersOf isDelete
+returns c =
+    read-says say _ deleteLimits _ _ (c .before .before .before .read .ensures) delete-padded (delete-at-most _) (ap delete (c .before .delete-of .ensures)) (c .judged .ensures)
 
 pub read-delete-spec : {M : Type 1} → statement M
 read-delete-spec =
     tie.close
     (tie.spec
-    slice-aggregate-read-numbers
-    read-numbers-requires
-    enum-told
-    enum-told-2
-    enum-told-3
+    slice-aggregate-read
+    slice-aggregate-read-2
+    read-requires
     delete-of-requires
     judged-requires
-    returns
-    returns-2
-    returns-3)
+    returns)

@@ -1,9 +1,8 @@
 -- `codec::write_operation` meets its contract: an offset that did not move is a line that had no room.
-use mathlib.Core.Path.{sym, ap, _∙_}
+use mathlib.Core.Path.{sym, _∙_}
 use borrow.Author.Needs.{needs}
 use borrow.Author.Tests.{not-true, not-false}
-use Rattle.woot.specs.declared.Written.the-variants.{Length}
-use Rattle.codec.proofs.Answers.{not-in-range, out-after, too-short, done}
+use Rattle.codec.proofs.Answers.{operation-some, offset-fitted, not-in-range, out-after, written-fitted}
 use Rattle.codec.proofs.write_operation.Statement.{statement}
 use Rattle.codec.proofs.write_operation.Tie as tie
 
@@ -16,21 +15,17 @@ returns c = not-in-range _ _ (sym (c .before .in-range .ensures) ∙ not-true _ 
 put-operation-requires : tie.Need-put-operation-requires
 put-operation-requires c κs = search needs
 
+fitted-requires : tie.Need-fitted-requires
+fitted-requires c κs = search needs
+
 same-length : tie.Need-same-length
 same-length c = search needs
 
 returns-2 : tie.Need-returns-2
-returns-2 c = let p = c .before .before .before .put-operation .ensures in
+returns-2 c =
+    let p = c .before .before .before .put-operation .ensures in
     let e = sym (c .before .before .before .before .before .before .in-range .ensures) ∙ not-false _ (c .before .before .before .before .before .if1 .left) in
-    (too-short _ _ e (sym (p .0) ∙ c .if2 .taken), p .1 ∙ out-after _ _ e)
-
-same-length-2 : tie.Need-same-length-2
-same-length-2 c = search needs
-
-returns-3 : tie.Need-returns-3
-returns-3 c = let p = c .before .before .before .put-operation .ensures in
-    let e = sym (c .before .before .before .before .before .before .in-range .ensures) ∙ not-false _ (c .before .before .before .before .before .if1 .left) in
-    (ap Length (p .0) ∙ done _ _ e (λ z. c .if2 .left (p .0 ∙ z)), p .1 ∙ out-after _ _ e)
+    (c .fitted .ensures ∙ offset-fitted _ _ (operation-some _) (p .0) ∙ written-fitted _ _ e, p .1 ∙ out-after _ _ e)
 
 pub write-operation-spec : {M : Type 1} → statement M
 write-operation-spec =
@@ -39,7 +34,6 @@ write-operation-spec =
     in-range-requires
     returns
     put-operation-requires
+    fitted-requires
     same-length
-    returns-2
-    same-length-2
-    returns-3)
+    returns-2)

@@ -1,92 +1,89 @@
--- `decimal::read` meets its contract. The loop's invariant: every byte before i is a digit, so what is left decides on the layout, and
--- the value is that of the digits before i, capped.
+-- `decimal::read` meets its contract. The loop's invariant: the value is that of the digits before i, and at most the limit; more
+-- digits make no smaller number.
 use mathlib.Core.Path.{_≡_, refl, sym, ap, _∙_}
 use mathlib.Core.List.{List}
-use mathlib.Core.Bool.{true, false, cond}
-use Prim.Native.Nat.{ℕ, _+_, _-_, _*_, _<_, _≤_, min, zero-le}
-use native.Mathlib.Nat.{zero-min}
+use mathlib.Core.Bool.{true, false}
+use Prim.Native.Nat.{ℕ, _+_, _-_, _*_, _<_, _≤_, zero-le}
 use native.Mathlib.Numerals.{add-one}
 use native.Mathlib.Omega.{arith}
-use lib.ListN.{length, take, drop, getD, drop-of-length-le}
-use lib.Seq.{drop-cons, take-suc, take-all}
+use lib.Dec.{ltb}
+use lib.ListN.{length, take, getD}
+use lib.Seq.{take-suc, take-all}
 use borrow.Author.Needs.{needs}
-use borrow.Author.Tests.{lt-ltb, le-ltb, not-true, not-false}
-use Rattle.decimal.specs.declared.Field.the-variants.{Number, Malformed}
-use Rattle.decimal.specs.Numeral.{isDigit, allDigits, leadingZero, isNumeral, valueOf}
+use borrow.Author.Tests.{le-leb, lt-leb, ltb-true, ltb-false, not-true, not-false}
+use Rattle.decimal.specs.declared.Field.the-variants.{Number, Above, Malformed}
+use Rattle.decimal.specs.Numeral.{isNumeral, valueOf}
 use Rattle.decimal.specs.Answers.{fieldOf}
-use Rattle.decimal.proofs.Laws.{value-snoc, digit-range}
+use Rattle.decimal.proofs.Laws.{value-snoc, value-front, numeral-bytes}
 use Rattle.decimal.proofs.read.Statement.{statement}
 use Rattle.decimal.proofs.read.Tie as tie
 
--- a cap on the way changes nothing
-recap : (a b cap : ℕ) → min (min a cap * 10 + b) cap ≡ min (a * 10 + b) cap
-recap a b cap = omega arith
+-- the three answers
+module _ (s : List ℕ) (limit : ℕ) where
+  malformed : isNumeral s ≡ false → fieldOf s limit ≡ Malformed
+  unfolding fieldOf
+  malformed e = rw e
 
--- a byte passed, or not
-module _ (s : List ℕ) (i : ℕ) (h : i < length s) where
-  pass : isDigit (getD s i 0) ≡ true → allDigits (drop (i + 1) s) ≡ allDigits (drop i s)
-  pass d = rw (add-one, drop-cons s i 0, d)
+  above : isNumeral s ≡ true → limit < valueOf s → fieldOf s limit ≡ Above
+  unfolding fieldOf
+  above e h = rw (e, lt-leb (valueOf s) limit h)
 
-  stop : isDigit (getD s i 0) ≡ false → allDigits (drop i s) ≡ false
-  stop d = rw (drop-cons s i 0, d)
+  number : isNumeral s ≡ true → valueOf s ≤ limit → fieldOf s limit ≡ Number (valueOf s)
+  unfolding fieldOf
+  number e h = rw (e, le-leb (valueOf s) limit h)
 
-  grown : (v cap : ℕ) → v ≡ min (valueOf (take i s)) cap
-      → min (v * 10 + (getD s i 0 - 48)) cap ≡ min (valueOf (take (i + 1) s)) cap
+-- one digit more
+module _ (s : List ℕ) (value digit i : ℕ) (h : i < length s) (v : value ≡ valueOf (take i s)) (d : digit ≡ getD s i 0 - 48) where
+  grown : value * 10 + digit ≡ valueOf (take (i + 1) s)
   unfolding valueOf
-  grown v cap e =
-      rw (e, add-one, take-suc s i 0, value-snoc 0 (take i s) (getD s i 0)) (recap (valueOf (take i s)) (getD s i 0 - 48) cap)
+  grown = rw (v, d, add-one i, take-suc s i 0 h) (sym (value-snoc 0 (take i s) (getD s i 0)))
 
--- the answer, once the bytes alone are left to decide
-by-bytes : (s : List ℕ) (cap : ℕ) → 1 ≤ length s → leadingZero s ≡ false
-    → fieldOf s cap ≡ cond (allDigits s) (Number (min (valueOf s) cap)) Malformed
-unfolding fieldOf isNumeral
-by-bytes s cap h e = rw (lt-ltb 0 (length s) h, e)
-
-empty : (s : List ℕ) (cap : ℕ) → length s ≤ 0 → fieldOf s cap ≡ Malformed
-unfolding fieldOf isNumeral
-empty s cap h = rw (le-ltb 0 (length s) h)
-
-zeroed : (s : List ℕ) (cap : ℕ) → 1 ≤ length s → leadingZero s ≡ true → fieldOf s cap ≡ Malformed
-unfolding fieldOf isNumeral
-zeroed s cap h e = rw (lt-ltb 0 (length s) h, e)
+  too-large : (limit : ℕ) → isNumeral s ≡ true → ltb limit (value * 10 + digit) ≡ true → fieldOf s limit ≡ Above
+  too-large limit e t =
+      above s limit e (omega (arith, ltb-true limit (value * 10 + digit) t, grown, value-front s (i + 1)))
 
 abbrev Inv-loop : tie.InvT-loop
-Inv-loop s cap value₀ i₀ value i =
-    (i ≤ length s) × (1 ≤ length s) × (leadingZero s ≡ false) × (allDigits (drop i s) ≡ allDigits s)
-    × (value ≡ min (valueOf (take i s)) cap)
+Inv-loop s limit value₀ i₀ value i =
+    (i ≤ length s) × (isNumeral s ≡ true) × (value ≡ valueOf (take i s)) × (value ≤ limit)
 
 abbrev μ-loop : tie.MeasureT-loop
-μ-loop s cap value₀ i₀ value i = length s - i
+μ-loop s limit value₀ i₀ value i = length s - i
+
+is-numeral-requires : tie.Need-is-numeral-requires Inv-loop μ-loop
+is-numeral-requires c κs = search needs
 
 returns : tie.Need-returns Inv-loop μ-loop
-returns c = sym (empty _ _ (omega arith))
-
-has-leading-zero-requires : tie.Need-has-leading-zero-requires Inv-loop μ-loop
-has-leading-zero-requires c κs = search needs
-
-returns-2 : tie.Need-returns-2 Inv-loop μ-loop
-returns-2 c = sym (zeroed _ _ (omega arith) (sym (c .before .has-leading-zero .ensures) ∙ c .if2 .taken))
+returns c = sym (malformed _ _ (sym (c .before .is-numeral .ensures) ∙ not-true _ (c .if1 .taken)))
 
 loop-holds : tie.Need-loop-holds Inv-loop μ-loop
 unfolding valueOf
-loop-holds c =
-    (zero-le, omega arith, sym (c .before .has-leading-zero .ensures) ∙ c .if2 .left, refl, sym (zero-min _))
+loop-holds c = (zero-le, sym (c .before .is-numeral .ensures) ∙ not-false _ (c .if1 .left), refl, zero-le)
 
-shared-slice-read-byte : tie.Need-shared-slice-read-byte Inv-loop μ-loop
-shared-slice-read-byte c = omega arith
+shared-slice-read-digit-value : tie.Need-shared-slice-read-digit-value Inv-loop μ-loop
+shared-slice-read-digit-value c = omega arith
 
-is-digit-requires : tie.Need-is-digit-requires Inv-loop μ-loop
-is-digit-requires c κs = search needs
+digit-value-requires : tie.Need-digit-value-requires Inv-loop μ-loop
+digit-value-requires c κs = let l = c .before .before .loop in numeral-bytes _ (l .i) (l .inv .1) (omega arith) .0
 
-returns-3 : tie.Need-returns-3 Inv-loop μ-loop
-returns-3 c =
-    let l = c .before .before .before .before .loop in
-    let other = sym (c .before .is-digit .ensures) ∙ not-true _ (c .if3 .taken) in
-    let bad = sym (l .inv .3) ∙ stop _ (l .i) (omega arith) other in
-    sym (by-bytes _ _ (l .inv .1) (l .inv .2) ∙ rw bad)
+exceeds-requires : tie.Need-exceeds-requires Inv-loop μ-loop
+exceeds-requires c κs = search needs
 
-extended-requires : tie.Need-extended-requires Inv-loop μ-loop
-extended-requires c κs = digit-range _ (sym (c .before .is-digit .ensures) ∙ not-false _ (c .if3 .left)) .0
+returns-2 : tie.Need-returns-2 Inv-loop μ-loop
+returns-2 c =
+    let l = c .before .before .before .before .before .loop in
+    let digit = c .before .before .digit-value in
+    sym (too-large _ (l .value) (digit .result) (l .i) (omega arith) (l .inv .2) (digit .ensures) _ (l .inv .1) (sym (c .before .exceeds .ensures) ∙ c .if2 .taken))
+
+-- the value goes on only where it stays within the limit
+kept : (c : tie.Else2 Inv-loop μ-loop)
+    → c .before .before .before .before .before .loop .value * 10 + c .before .before .digit-value .result ≤ c .before .before .before .before .before .before .before .before .before .args .limit
+kept c = ltb-false _ _ (sym (c .before .exceeds .ensures) ∙ c .if2 .left)
+
+mul-value : tie.Need-mul-value Inv-loop μ-loop
+mul-value c = omega (arith, kept c)
+
+add-value : tie.Need-add-value Inv-loop μ-loop
+add-value c = omega (arith, kept c)
 
 add-i : tie.Need-add-i Inv-loop μ-loop
 add-i c = omega arith
@@ -97,21 +94,16 @@ loop-less c = omega arith
 loop-again : tie.Need-loop-again Inv-loop μ-loop
 loop-again c =
     let l = c .before .before .before .before .before .loop in
-    let digit = sym (c .before .before .is-digit .ensures) ∙ not-false _ (c .before .if3 .left) in (
-      omega arith,
-      l .inv .1,
-      l .inv .2,
-      pass _ (l .i) (omega arith) digit ∙ l .inv .3,
-      c .extended .ensures ∙ grown _ (l .i) (omega arith) _ _ (l .inv .4),
-    )
+    let digit = c .before .before .digit-value in
+    (omega arith, l .inv .1, grown _ (l .value) (digit .result) (l .i) (omega arith) (l .inv .2) (digit .ensures), kept c)
 
-returns-4 : tie.Need-returns-4 Inv-loop μ-loop
-returns-4 c =
+returns-3 : tie.Need-returns-3 Inv-loop μ-loop
+returns-3 c =
     let l = c .before .loop in
-    let a = c .before .before .before .before .before .before .args in
-    let all : allDigits (a .s .now) ≡ true = sym (l .inv .3) ∙ ap allDigits (drop-of-length-le (a .s .now) {i = l .i} (omega arith)) in
+    let a = c .before .before .before .before .before .args in
     let whole : take (l .i) (a .s .now) ≡ a .s .now = take-all (l .i) (a .s .now) (omega arith) in
-    sym (by-bytes _ _ (l .inv .1) (l .inv .2) ∙ rw (all, l .inv .4, whole))
+    let all : l .value ≡ valueOf (a .s .now) = l .inv .2 ∙ ap valueOf whole in
+    ap Number all ∙ sym (number (a .s .now) (a .limit) (l .inv .1) (omega (arith, l .inv .3)))
 
 pub read-spec : {M : Type 1} → statement M
 read-spec =
@@ -119,15 +111,16 @@ read-spec =
     (tie.spec
     Inv-loop
     μ-loop
+    is-numeral-requires
     returns
-    has-leading-zero-requires
-    returns-2
     loop-holds
-    shared-slice-read-byte
-    is-digit-requires
-    returns-3
-    extended-requires
+    shared-slice-read-digit-value
+    digit-value-requires
+    exceeds-requires
+    returns-2
+    mul-value
+    add-value
     add-i
     loop-less
     loop-again
-    returns-4)
+    returns-3)

@@ -2,7 +2,7 @@
 use mathlib.Core.Path.{sym}
 use borrow.Author.Needs.{needs}
 use lib.Seq.{length-take-le}
-use Rattle.report.proofs.Sizes.{written-within}
+use Rattle.codec.proofs.Answers.{fitted-within}
 use Rattle.hall.proofs.print_report.Statement.{statement}
 use Rattle.hall.proofs.print_report.Tie as tie
 
@@ -12,17 +12,26 @@ slice-aggregate-report-line c = search needs
 report-line-requires : tie.Need-report-line-requires
 report-line-requires c κs = search needs
 
+enum-known-written : tie.Need-enum-known-written
+enum-known-written c = search needs
+
 array-share-prefix-line : tie.Need-array-share-prefix-line
-array-share-prefix-line c = let p = c .before .report-line .ensures in written-within _ _ (p .0) (p .1)
+array-share-prefix-line c = let p = c .before .before .before .before .report-line .ensures in fitted-within _ _ (p .0) (c .before .written .given .1) (p .1)
 
 slice-aggregate-write-all : tie.Need-slice-aggregate-write-all
-slice-aggregate-write-all c = let p = c .before .before .report-line .ensures in sym (length-take-le _ _ (written-within _ _ (p .0) (p .1)))
+slice-aggregate-write-all c = let p = c .before .before .before .before .before .report-line .ensures in sym (length-take-le _ _ (fitted-within _ _ (p .0) (c .before .before .written .given .1) (p .1)))
 
 write-all-requires : tie.Need-write-all-requires
 write-all-requires c κs = search needs
 
+enum-told : tie.Need-enum-told
+enum-told c = search needs
+
 returns : tie.Need-returns
 returns c = search needs
+
+returns-2 : tie.Need-returns-2
+returns-2 c = search needs
 
 pub print-report-spec : {M : Type 1} → statement M
 print-report-spec =
@@ -30,7 +39,10 @@ print-report-spec =
     (tie.spec
     slice-aggregate-report-line
     report-line-requires
+    enum-known-written
     array-share-prefix-line
     slice-aggregate-write-all
     write-all-requires
-    returns)
+    enum-told
+    returns
+    returns-2)

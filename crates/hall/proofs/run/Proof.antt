@@ -4,7 +4,7 @@ use Prim.Native.Nat.{_+_, _≤_, _<_}
 use native.Mathlib.Omega.{arith}
 use borrow.Author.Needs.{needs}
 use lib.ListN.{length}
-use Rattle.report.proofs.Printing.{rest-shorter}
+use Rattle.lines.proofs.Lines.{rest-shorter}
 use Rattle.hall.proofs.run.Statement.{statement}
 use Rattle.hall.proofs.run.Tie as tie
 

@@ -1,10 +1,12 @@
 -- `report::put_report` meets its contract: the part of the array that is lent is the head of the line.
-use mathlib.Core.Path.{refl, sym}
+use mathlib.Core.Path.{refl, sym, _∙_}
 use mathlib.Core.List.{_∷_, _++_}
 use borrow.Author.Needs.{needs}
 use lib.Seq.{length-take-le}
 use Rattle.decimal.specs.Numeral.{digits}
-use Rattle.codec.specs.Lines.{tab}
+use Rattle.lines.specs.Fields.{tab}
+use Rattle.lines.proofs.Writing.{line-some}
+use Rattle.codec.proofs.Answers.{offset-fitted}
 use Rattle.report.proofs.Heads.{Front, head-put}
 use Rattle.report.proofs.put_report.Statement.{statement}
 use Rattle.report.proofs.put_report.Tie as tie
@@ -41,20 +43,26 @@ head c =
 array-share-prefix-head : tie.Need-array-share-prefix-head
 array-share-prefix-head c = head (c .before) .fits
 
-slice-aggregate-put-line : tie.Need-slice-aggregate-put-line
-slice-aggregate-put-line c = sym (length-take-le _ _ (head (c .before .before) .fits))
+slice-aggregate-put-2 : tie.Need-slice-aggregate-put-2
+slice-aggregate-put-2 c = sym (length-take-le _ _ (head (c .before .before) .fits))
 
-slice-aggregate-put-line-2 : tie.Need-slice-aggregate-put-line-2
-slice-aggregate-put-line-2 c = search needs
+slice-aggregate-put-3 : tie.Need-slice-aggregate-put-3
+slice-aggregate-put-3 c = search needs
 
-put-line-requires : tie.Need-put-line-requires
-put-line-requires c κs = search needs
+put-requires-2 : tie.Need-put-requires-2
+put-requires-2 c κs = search needs
+
+fitted-requires : tie.Need-fitted-requires
+fitted-requires c κs = search needs
 
 same-length : tie.Need-same-length
 same-length c = search needs
 
 returns : tie.Need-returns
-returns c = rw (← head (c .before .before .before .before .before .before .before) .bytes) (c .before .before .put-line .ensures)
+returns c =
+    let p = c .before .before .before .put2 .ensures in
+    rw (← head (c .before .before .before .before .before .before .before .before) .bytes)
+    (c .fitted .ensures ∙ offset-fitted _ _ (line-some _ _) (p .0), p .1)
 
 pub put-report-spec : {M : Type 1} → statement M
 put-report-spec =
@@ -67,8 +75,9 @@ put-report-spec =
     slice-aggregate-put-all
     put-all-requires
     array-share-prefix-head
-    slice-aggregate-put-line
-    slice-aggregate-put-line-2
-    put-line-requires
+    slice-aggregate-put-2
+    slice-aggregate-put-3
+    put-requires-2
+    fitted-requires
     same-length
     returns)

@@ -1,11 +1,13 @@
 -- `report::put_text` meets its contract: the part of the array that is lent holds the numbers of the line.
-use mathlib.Core.Path.{sym}
+use mathlib.Core.Path.{sym, _∙_}
 use Prim.Native.Nat.{_+_, _≤_}
 use native.Mathlib.Omega.{arith}
 use borrow.Author.Needs.{needs}
 use lib.ListN.{take}
 use lib.Seq.{length-take-le}
 use Rattle.report.specs.Lines.{textNumbers, textLine}
+use Rattle.lines.proofs.Writing.{line-some}
+use Rattle.codec.proofs.Answers.{offset-fitted}
 use Rattle.report.proofs.Heads.{Front}
 use Rattle.report.proofs.Listings.{listing-few, listing-front}
 use Rattle.report.proofs.put_text.Statement.{statement}
@@ -30,24 +32,30 @@ numbers c = listing-front _ (start c .good .0 .1 .0 .1) (start c .args .n) _ (c 
 add-size : tie.Need-add-size
 add-size c = omega (arith, few (c .before .before))
 
-slice-aggregate-put-line : tie.Need-slice-aggregate-put-line
-slice-aggregate-put-line c = search needs
+slice-aggregate-put : tie.Need-slice-aggregate-put
+slice-aggregate-put c = search needs
 
 array-share-prefix-values : tie.Need-array-share-prefix-values
 array-share-prefix-values c = numbers (c .before .before .before) .fits
 
-slice-aggregate-put-line-2 : tie.Need-slice-aggregate-put-line-2
-slice-aggregate-put-line-2 c = sym (length-take-le _ _ (numbers (c .before .before .before .before) .fits))
+slice-aggregate-put-2 : tie.Need-slice-aggregate-put-2
+slice-aggregate-put-2 c = sym (length-take-le _ _ (numbers (c .before .before .before .before) .fits))
 
-put-line-requires : tie.Need-put-line-requires
-put-line-requires c κs = search needs
+put-requires : tie.Need-put-requires
+put-requires c κs = search needs
+
+fitted-requires : tie.Need-fitted-requires
+fitted-requires c κs = search needs
 
 same-length : tie.Need-same-length
 same-length c = search needs
 
 returns : tie.Need-returns
 unfolding textLine
-returns c = rw (← numbers (c .before .before .before .before .before .before .before .before) .bytes) (c .before .before .put-line .ensures)
+returns c =
+    let p = c .before .before .before .put .ensures in
+    rw (← numbers (c .before .before .before .before .before .before .before .before .before) .bytes)
+    (c .fitted .ensures ∙ offset-fitted _ _ (line-some _ _) (p .0), p .1)
 
 pub put-text-spec : {M : Type 1} → statement M
 put-text-spec =
@@ -56,9 +64,10 @@ put-text-spec =
     used-requires
     list-requires
     add-size
-    slice-aggregate-put-line
+    slice-aggregate-put
     array-share-prefix-values
-    slice-aggregate-put-line-2
-    put-line-requires
+    slice-aggregate-put-2
+    put-requires
+    fitted-requires
     same-length
     returns)

@@ -1,7 +1,6 @@
 -- `saved::refuse` meets its contract: an empty replica stands beside the refusal.
 use Rattle.saved.specs.declared.LoadAnswer.the-variants.{Refused}
-use Rattle.saved.specs.Calls.{noReplica}
-use Rattle.saved.specs.Reading.{refusal}
+use Rattle.saved.specs.Calls.{noReplica, refusal}
 use borrow.Author.Needs.{needs}
 use Rattle.saved.proofs.refuse.Statement.{statement}
 use Rattle.saved.proofs.refuse.Tie as tie

@@ -1,0 +1,11 @@
+pub mod Bytes
+pub mod Fields
+pub mod Values
+pub mod Reading
+pub mod Heads
+pub mod Verdicts
+pub mod Spelling
+pub mod Lines
+pub mod Writing
+pub mod Sizes
+pub mod Sequences

@@ -1,0 +1,60 @@
+-- `lines::find` meets its contract. The loop's invariant: from i on the byte is as far as from the offset on.
+use mathlib.Core.Path.{_≡_, refl, sym, _∙_}
+use mathlib.Core.List.{List}
+use Prim.Native.Nat.{ℕ, _+_, _-_, _<_, _≤_}
+use native.Mathlib.Nat.{add-zero}
+use native.Mathlib.Numerals.{add-one}
+use native.Mathlib.Omega.{arith}
+use lib.ListN.{length, drop, getD, drop-of-length-le}
+use lib.Seq.{drop-cons}
+use borrow.Author.Tests.{eq-eqb, ne-eqb}
+use Rattle.lines.specs.Lines.{before}
+use Rattle.lines.proofs.find.Statement.{statement}
+use Rattle.lines.proofs.find.Tie as tie
+
+abbrev distance : List ℕ → ℕ → ℕ → ℕ
+distance s b i = i + length (before b (drop i s))
+
+module _ (s : List ℕ) (b i : ℕ) where
+  here : i < length s → getD s i 0 ≡ b → distance s b i ≡ i
+  here h e = rw (drop-cons s i 0 h, eq-eqb (getD s i 0) b e) (add-zero i)
+
+  further : i < length s → (getD s i 0 ≡ b → ⊥) → distance s b (i + 1) ≡ distance s b i
+  further h e = rw (drop-cons s i 0 h, ne-eqb (getD s i 0) b e, add-one i) (omega arith)
+
+  end : length s ≤ i → distance s b i ≡ i
+  end h = rw (drop-of-length-le s h) (add-zero i)
+
+abbrev Inv-loop : tie.InvT-loop
+Inv-loop s from byte i₀ i = distance s byte i ≡ distance s byte from
+
+abbrev μ-loop : tie.MeasureT-loop
+μ-loop s from byte i₀ i = length s - i
+
+loop-holds : tie.Need-loop-holds Inv-loop μ-loop
+loop-holds c = refl
+
+shared-slice-read-if1 : tie.Need-shared-slice-read-if1 Inv-loop μ-loop
+shared-slice-read-if1 c = omega arith
+
+returns : tie.Need-returns Inv-loop μ-loop
+returns c =
+    let l = c .before .before .before .loop in sym (here _ _ (l .i) (omega arith) (c .if1 .taken)) ∙ l .inv
+
+add-i : tie.Need-add-i Inv-loop μ-loop
+add-i c = omega arith
+
+loop-less : tie.Need-loop-less Inv-loop μ-loop
+loop-less c = omega arith
+
+loop-again : tie.Need-loop-again Inv-loop μ-loop
+loop-again c =
+    let l = c .before .before .before .loop in further _ _ (l .i) (omega arith) (c .if1 .left) ∙ l .inv
+
+returns-2 : tie.Need-returns-2 Inv-loop μ-loop
+returns-2 c = let l = c .before .loop in sym (end _ _ (l .i) (omega arith)) ∙ l .inv
+
+pub find-spec : {M : Type 1} → statement M
+find-spec =
+    tie.close
+    (tie.spec Inv-loop μ-loop loop-holds shared-slice-read-if1 returns add-i loop-less loop-again returns-2)

@@ -1,0 +1,75 @@
+-- `saved::writing::put_characters` meets its contract, by the invariant of the loop over the lines of elements.
+use mathlib.Core.Path.{ap, _∙_}
+use mathlib.Core.List.{List}
+use Prim.Native.Nat.{ℕ, _-_, _≤_}
+use native.Mathlib.Omega.{arith}
+use lib.ListN.{length}
+use borrow.Author.Needs.{needs}
+use Rattle.output.specs.Output.{placed, past}
+use Rattle.output.proofs.Laws.{length-placed}
+use Rattle.lines.specs.Fields.{lineOf}
+use Rattle.lines.proofs.Sequences.{Putting, putting-begun, putting-more, putting-end}
+use Rattle.saved.specs.Format.{characterHead, characterLine, pendingLine}
+use Rattle.saved.proofs.writing.put_characters.Statement.{statement}
+use Rattle.saved.proofs.writing.put_characters.Tie as tie
+
+abbrev Inv-loop : tie.InvT-loop
+Inv-loop n out₀ at cs head end₀ i₀ out end i = Putting characterLine cs n out₀ at out end i × (n ≤ 1024)
+
+abbrev μ-loop : tie.MeasureT-loop
+μ-loop n out₀ at cs head end₀ i₀ out end i = n - i
+
+loop-holds : tie.Need-loop-holds Inv-loop μ-loop
+loop-holds c = ?
+
+mul-c : tie.Need-mul-c Inv-loop μ-loop
+mul-c c = omega arith
+
+array-copy-out-c : tie.Need-array-copy-out-c Inv-loop μ-loop
+array-copy-out-c c = omega arith
+
+character-numbers-requires : tie.Need-character-numbers-requires Inv-loop μ-loop
+character-numbers-requires c κs = search needs
+
+slice-aggregate-put : tie.Need-slice-aggregate-put Inv-loop μ-loop
+slice-aggregate-put c = search needs
+
+slice-aggregate-put-2 : tie.Need-slice-aggregate-put-2 Inv-loop μ-loop
+slice-aggregate-put-2 c = search needs
+
+put-requires : tie.Need-put-requires Inv-loop μ-loop
+put-requires c κs = search needs
+
+add-i : tie.Need-add-i Inv-loop μ-loop
+add-i c = omega arith
+
+loop-less : tie.Need-loop-less Inv-loop μ-loop
+loop-less c = omega arith
+
+loop-again : tie.Need-loop-again Inv-loop μ-loop
+loop-again c = ?
+
+same-length : tie.Need-same-length Inv-loop μ-loop
+same-length c = ?
+
+returns : tie.Need-returns Inv-loop μ-loop
+returns c = ?
+
+pub put-characters-spec : {M : Type 1} → statement M
+put-characters-spec =
+    tie.close
+    (tie.spec
+    Inv-loop
+    μ-loop
+    loop-holds
+    mul-c
+    array-copy-out-c
+    character-numbers-requires
+    slice-aggregate-put
+    slice-aggregate-put-2
+    put-requires
+    add-i
+    loop-less
+    loop-again
+    same-length
+    returns)

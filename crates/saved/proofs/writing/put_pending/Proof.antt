@@ -1,0 +1,63 @@
+-- `saved::writing::put_pending` meets its contract, by the invariant of the loop over the lines of elements.
+use mathlib.Core.Path.{ap, _∙_}
+use mathlib.Core.List.{List}
+use Prim.Native.Nat.{ℕ, _-_, _≤_}
+use native.Mathlib.Omega.{arith}
+use lib.ListN.{length}
+use borrow.Author.Needs.{needs}
+use Rattle.output.specs.Output.{placed, past}
+use Rattle.output.proofs.Laws.{length-placed}
+use Rattle.lines.specs.Fields.{lineOf}
+use Rattle.lines.proofs.Sequences.{Putting, putting-begun, putting-more, putting-end}
+use Rattle.saved.specs.Format.{characterHead, characterLine, pendingLine}
+use Rattle.saved.proofs.writing.put_pending.Statement.{statement}
+use Rattle.saved.proofs.writing.put_pending.Tie as tie
+
+abbrev Inv-loop : tie.InvT-loop
+Inv-loop n out₀ at ps end₀ i₀ out end i = Putting pendingLine ps n out₀ at out end i × (n ≤ 512)
+
+abbrev μ-loop : tie.MeasureT-loop
+μ-loop n out₀ at ps end₀ i₀ out end i = n - i
+
+loop-holds : tie.Need-loop-holds Inv-loop μ-loop
+loop-holds c = ?
+
+mul-p : tie.Need-mul-p Inv-loop μ-loop
+mul-p c = omega arith
+
+array-copy-out-p : tie.Need-array-copy-out-p Inv-loop μ-loop
+array-copy-out-p c = omega arith
+
+put-operation-requires : tie.Need-put-operation-requires Inv-loop μ-loop
+put-operation-requires c κs = search needs
+
+add-i : tie.Need-add-i Inv-loop μ-loop
+add-i c = omega arith
+
+loop-less : tie.Need-loop-less Inv-loop μ-loop
+loop-less c = omega arith
+
+loop-again : tie.Need-loop-again Inv-loop μ-loop
+loop-again c = ?
+
+same-length : tie.Need-same-length Inv-loop μ-loop
+same-length c = ?
+
+returns : tie.Need-returns Inv-loop μ-loop
+returns c = ?
+
+pub put-pending-spec : {M : Type 1} → statement M
+put-pending-spec =
+    tie.close
+    (tie.spec
+    Inv-loop
+    μ-loop
+    loop-holds
+    mul-p
+    array-copy-out-p
+    put-operation-requires
+    add-i
+    loop-less
+    loop-again
+    same-length
+    returns)
