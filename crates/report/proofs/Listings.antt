@@ -8,6 +8,7 @@ use native.Mathlib.Omega.{arith}
 use lib.ListN.{length, take, getD, set, replicate, length-append, length-take}
 use lib.Seq.{take-suc}
 use Rattle.woot.specs.declared.Character.{Character}
+use Rattle.woot.specs.Operations.{isVisible}
 use Rattle.lists.specs.Lists.{keep}
 use Rattle.lists.specs.Padding.{pad}
 use Rattle.lists.proofs.Padding.{pad-length, pad-take, pad-push, take-lesser}
@@ -30,17 +31,17 @@ keep-snoc p (y ∷ xs) x = go (p y) (keep-snoc p xs x)
 points-snoc : (cs : List Character) (c : Character) → codePoints (cs ++ c ∷ []) ≡ codePoints cs ++ codePoints (c ∷ [])
 unfolding codePoints
 points-snoc cs c =
-    let shown : Character → Bool = λ d. d .visible in
+    let shown : Character → Bool = isVisible in
     rw (keep-snoc shown cs c) (map-append (λ (d : Character). d .«code_point») (keep shown cs) (keep shown (c ∷ [])))
 
 -- a hidden character is not listed
-points-one : (c : Character) (b : Bool) → c .visible ≡ b → codePoints (c ∷ []) ≡ cond b (c .«code_point» ∷ []) []
+points-one : (c : Character) (b : Bool) → isVisible c ≡ b → codePoints (c ∷ []) ≡ cond b (c .«code_point» ∷ []) []
 unfolding codePoints
 points-one c true e = ap (λ (b : Bool). map (λ (d : Character). d .«code_point») (cond b (c ∷ []) [])) e
 points-one c false e = ap (λ (b : Bool). map (λ (d : Character). d .«code_point») (cond b (c ∷ []) [])) e
 
 module _ (cs : List Character) (i : ℕ) (d : Character) (h : i < length cs) where
-  points-more : (b : Bool) → getD cs i d .visible ≡ b → codePoints (take (i + 1) cs) ≡ codePoints (take i cs) ++ cond b (getD cs i d .«code_point» ∷ []) []
+  points-more : (b : Bool) → isVisible (getD cs i d) ≡ b → codePoints (take (i + 1) cs) ≡ codePoints (take i cs) ++ cond b (getD cs i d .«code_point» ∷ []) []
   points-more b e =
       rw (add-one i, take-suc cs i d h)
       (points-snoc (take i cs) (getD cs i d) ∙ ap (λ (ns : List ℕ). codePoints (take i cs) ++ ns) (points-one (getD cs i d) b e))
@@ -56,7 +57,7 @@ unfolding codePoints pad
 gathered-none cs = record { counted = refl; few = omega arith; held = refl }
 
 module _ (cs : List Character) (values : List ℕ) (k i : ℕ) (g : Gathered cs values k i) where
-  pub gathered-visible : (d : Character) → i < length cs → i < 1024 → getD cs i d .visible ≡ true
+  pub gathered-visible : (d : Character) → i < length cs → i < 1024 → isVisible (getD cs i d) ≡ true
       → Gathered cs (set values (k + 1) (getD cs i d .«code_point»)) (k + 1) (i + 1)
   gathered-visible d h low e =
       let points = codePoints (take i cs) in
@@ -68,7 +69,7 @@ module _ (cs : List Character) (values : List ℕ) (k i : ℕ) (g : Gathered cs 
         held = rw (g .held, slot, more) (pad-push 1025 0 (0 ∷ points) (getD cs i d .«code_point») (omega (arith, g .few, g .counted)));
       }
 
-  pub gathered-hidden : (d : Character) → i < length cs → getD cs i d .visible ≡ false → Gathered cs values k (i + 1)
+  pub gathered-hidden : (d : Character) → i < length cs → isVisible (getD cs i d) ≡ false → Gathered cs values k (i + 1)
   gathered-hidden d h e =
       let same = points-more cs i d h false e ∙ append-nil (codePoints (take i cs)) in
       record { counted = rw same (g .counted); few = omega (arith, g .few); held = rw same (g .held) }

@@ -12,7 +12,7 @@ use Rattle.woot.specs.declared.Refusal.the-variants.{Layout, Range, Form, Posit
 use Rattle.woot.specs.declared.Answer.the-variants.{Done, Deferred, Duplicate, Refused}
 use Rattle.woot.specs.Answers.{Reply, reply, number}
 use Rattle.lists.specs.Lists.{every}
-use Rattle.woot.specs.Operations.{origin}
+use Rattle.woot.specs.Operations.{isVisible, origin}
 use Rattle.woot.specs.Ranges.{characterInRange}
 use Rattle.woot.specs.State.{meaning, counted}
 use Rattle.woot.specs.Form.{wellFormed, replicaWellFormed}
@@ -83,21 +83,21 @@ point-few c e = width-by-power (c .«code_point») 7 (omega arith) .1 (omega (ar
 pub points-le : (cs : List Character) → length (codePoints cs) ≤ length cs
 unfolding codePoints
 points-le [] = omega arith
-points-le (x ∷ cs) = go (x .visible) refl (points-le cs)
+points-le (x ∷ cs) = go (isVisible x) refl (points-le cs)
   where
-    go : (b : Bool) → x .visible ≡ b → length (codePoints cs) ≤ length cs → length (codePoints (x ∷ cs)) ≤ length (x ∷ cs)
+    go : (b : Bool) → isVisible x ≡ b → length (codePoints cs) ≤ length cs → length (codePoints (x ∷ cs)) ≤ length (x ∷ cs)
     go true e rest = rw e (omega arith)
     go false e rest = rw e (omega arith)
 
 points-fit : (cs : List Character) → every characterInRange cs ≡ true → length (columns (codePoints cs)) ≤ 8 * length cs
 unfolding codePoints
 points-fit [] e = omega arith
-points-fit (c ∷ cs) e = go (c .visible) refl (points-fit cs (and-right (characterInRange c) (every characterInRange cs) e))
+points-fit (c ∷ cs) e = go (isVisible c) refl (points-fit cs (and-right (characterInRange c) (every characterInRange cs) e))
   where
     few : length (digits (c .«code_point»)) ≤ 7
     few = point-few c (and-left (characterInRange c) (every characterInRange cs) e)
 
-    go : (b : Bool) → c .visible ≡ b → length (columns (codePoints cs)) ≤ 8 * length cs → length (columns (codePoints (c ∷ cs))) ≤ 8 * length (c ∷ cs)
+    go : (b : Bool) → isVisible c ≡ b → length (columns (codePoints cs)) ≤ 8 * length cs → length (columns (codePoints (c ∷ cs))) ≤ 8 * length (c ∷ cs)
     go true v rest = rw v (omega (arith, few, column-length (c .«code_point») (codePoints cs)))
     go false v rest = rw v (omega arith)
 

@@ -4,6 +4,7 @@ use mathlib.Core.List.{List, [], _∷_, _++_, map}
 use lib.ListN.{length}
 use Rattle.woot.specs.declared.Answer.{Answer}
 use Rattle.woot.specs.declared.Character.{Character}
+use Rattle.woot.specs.Operations.{isVisible}
 use Rattle.lists.specs.Lists.{keep}
 use Rattle.woot.specs.State.{characterSlots}
 use Rattle.lists.specs.Padding.{pad}
@@ -33,7 +34,7 @@ textHead = 84 ∷ []
 
 -- the code points of the visible characters, in order
 unfoldable pub codePoints : List Character → List ℕ
-codePoints cs = map (λ c. c .«code_point») (keep (λ c. c .visible) cs)
+codePoints cs = map (λ c. c .«code_point») (keep isVisible cs)
 
 -- "the count of shown rows and their code points"
 unfoldable pub textNumbers : List Character → List ℕ

@@ -13,31 +13,10 @@ ghost use lib.ListN.{length, take};
 ghost use Rattle.output.specs.Output.{placed};
 ghost use Rattle.decimal.specs.Numeral.{digits};
 ghost use Rattle.lines.specs.Fields.{tab, lineOf};
-ghost use Rattle.woot.specs.Answers.{number};
 ghost use Rattle.woot.specs.State.{meaning};
 ghost use Rattle.codec.specs.Calls.{fitted};
 ghost use Rattle.report.specs.Calls.{answered};
 ghost use Rattle.report.specs.Lines.{reportLine, textLine, listing};
-
-// The number that document 01 gives a refusal.
-fn refusal_number(r: Refusal) -> u64
-    ensures { λ x. ⌜ x ≡ number r ⌝ }
-{
-    match r {
-        Refusal::Layout => 1,
-        Refusal::Range => 2,
-        Refusal::Form => 3,
-        Refusal::Position => 4,
-        Refusal::Clock => 5,
-        Refusal::Taken => 6,
-        Refusal::Conflict => 7,
-        Refusal::Crossed => 8,
-        Refusal::Unplaceable => 9,
-        Refusal::SenderFull => 10,
-        Refusal::DocumentFull => 11,
-        Refusal::Output => 12,
-    }
-}
 
 // Writes a line of a number, a word and three numbers at the front of the slice, all of it or nothing.
 fn put_report(number: u64, word: &[u8], values: [u64; 3], out: &mut [u8]) -> Written
@@ -75,7 +54,7 @@ pub fn report_line(number: u64, answer: Answer, out: &mut [u8]) -> Written
         }
         Answer::Refused(r) => {
             let word = [b'r', b'e', b'f', b'u', b's', b'e', b'd'];
-            put_report(number, &word, [0, 0, refusal_number(r)], out)
+            put_report(number, &word, [0, 0, r.number()], out)
         }
     }
 }
@@ -104,7 +83,7 @@ fn list(cs: [Character; 1024], n: usize) -> Listing
     let mut i = 0;
     while i < n {
         let c = cs[i];
-        if c.visible {
+        if c.is_visible() {
             count += 1;
             values[count] = code_point(c);
         }
@@ -114,23 +93,13 @@ fn list(cs: [Character; 1024], n: usize) -> Listing
     Listing { values, count }
 }
 
-// How many of the characters' slots are in use: a count above them is taken as all.
-fn used(n: usize) -> usize
-    ensures { λ r. ⌜ r ≡ min 1024 n ⌝ }
-{
-    if n < 1024 {
-        return n;
-    }
-    1024
-}
-
 // Writes the line of the visible ones of the first n characters at the front of the slice, all of it or nothing.
 fn put_text(cs: [Character; 1024], n: usize, out: &mut [u8]) -> Written
     ensures { λ r. ⌜ r ≡ fitted (textLine (take n cs)) (now (out .entry)) ⌝ }
     ensures { λ r. ⌜ now (out .exit) ≡ placed (now (out .entry)) 0 (textLine (take n cs)) ⌝ }
 {
     let head = [b'T'];
-    let l = list(cs, used(n));
+    let l = list(cs, index::lesser(1024, n));
     let values = l.values;
     let size = l.count + 1;
     codec::fitted(lines::put(&head, &values[..size], out, 0))

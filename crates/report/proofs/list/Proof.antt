@@ -1,5 +1,5 @@
 -- `report::list` meets its contract, by the invariant of `proofs/Listings.antt`.
-use mathlib.Core.Path.{_≡_}
+use mathlib.Core.Path.{_≡_, sym, _∙_}
 use mathlib.Core.Logic.{⊎-elim}
 use Prim.Native.Nat.{_-_, _≤_}
 use native.Mathlib.Omega.{arith}
@@ -24,6 +24,9 @@ mul-c c = omega arith
 array-copy-out-c : tie.Need-array-copy-out-c Inv-loop μ-loop
 array-copy-out-c c = omega arith
 
+is-visible-requires : tie.Need-is-visible-requires Inv-loop μ-loop
+is-visible-requires c κs = search needs
+
 add-count : tie.Need-add-count Inv-loop μ-loop
 add-count c = omega arith
 
@@ -44,9 +47,10 @@ loop-less c = omega arith
 
 loop-again : tie.Need-loop-again Inv-loop μ-loop
 loop-again c =
-    let a = c .before .before .before .before .args in
-    let l = c .before .before .before .loop in
-    (omega arith, l .inv .1, ⊎-elim (λ w. rw (w .2, w .3, w .1 .ensures) (gathered-visible (a .t1) _ _ _ (l .inv .2) _ (omega arith) (omega arith) (w .0 .taken))) (λ w. rw (w .1, w .2) (gathered-hidden (a .t1) _ _ _ (l .inv .2) _ (omega arith) (w .0 .left))) (c .if1 .came))
+    let a = c .before .before .before .before .before .args in
+    let l = c .before .before .before .before .loop in
+    let asked = sym (c .before .is-visible .ensures) in
+    (omega arith, l .inv .1, ⊎-elim (λ w. rw (w .2, w .3, w .1 .ensures) (gathered-visible (a .t1) _ _ _ (l .inv .2) _ (omega arith) (omega arith) (asked ∙ w .0 .taken))) (λ w. rw (w .1, w .2) (gathered-hidden (a .t1) _ _ _ (l .inv .2) _ (omega arith) (asked ∙ w .0 .left))) (c .if1 .came))
 
 array-write-values-2 : tie.Need-array-write-values-2 Inv-loop μ-loop
 array-write-values-2 c = omega arith
@@ -65,6 +69,7 @@ list-spec =
     loop-holds
     mul-c
     array-copy-out-c
+    is-visible-requires
     add-count
     code-point-requires
     mul-values

@@ -13,8 +13,8 @@ use Rattle.report.proofs.Listings.{listing-few, listing-front}
 use Rattle.report.proofs.put_text.Statement.{statement}
 use Rattle.report.proofs.put_text.Tie as tie
 
-used-requires : tie.Need-used-requires
-used-requires c κs = search needs
+lesser-requires : tie.Need-lesser-requires
+lesser-requires c κs = search needs
 
 list-requires : tie.Need-list-requires
 list-requires c κs = search needs
@@ -23,11 +23,11 @@ abbrev start : tie.After-list → tie.Start
 start c = c .before .before .before
 
 few : (c : tie.After-list) → c .list .result .count ≤ 1024
-few c = listing-few _ (start c .good .0 .1 .0 .1) (start c .args .n) _ (c .before .used .ensures) _ (c .list .ensures)
+few c = listing-few _ (start c .good .0 .1 .0 .1) (start c .args .n) _ (c .before .lesser .ensures) _ (c .list .ensures)
 
 -- the numbers are in the array
 numbers : (c : tie.After-list) → Front (textNumbers (take (start c .args .n) (start c .args .cs))) (c .list .result .values) (c .list .result .count + 1)
-numbers c = listing-front _ (start c .good .0 .1 .0 .1) (start c .args .n) _ (c .before .used .ensures) _ (c .list .ensures)
+numbers c = listing-front _ (start c .good .0 .1 .0 .1) (start c .args .n) _ (c .before .lesser .ensures) _ (c .list .ensures)
 
 add-size : tie.Need-add-size
 add-size c = omega (arith, few (c .before .before))
@@ -61,7 +61,7 @@ pub put-text-spec : {M : Type 1} → statement M
 put-text-spec =
     tie.close
     (tie.spec
-    used-requires
+    lesser-requires
     list-requires
     add-size
     slice-aggregate-put

@@ -38,8 +38,8 @@ enum-known-answer-2 c = search needs
 slice-aggregate-put-report-4 : tie.Need-slice-aggregate-put-report-4
 slice-aggregate-put-report-4 c = search needs
 
-refusal-number-requires : tie.Need-refusal-number-requires
-refusal-number-requires c κs = search needs
+number-requires : tie.Need-number-requires
+number-requires c κs = search needs
 
 put-report-requires-4 : tie.Need-put-report-requires-4
 put-report-requires-4 c κs = search needs
@@ -70,7 +70,7 @@ same-length-4 c = search needs
 
 returns-4 : tie.Need-returns-4
 unfolding reportLine replyLine spelled reply
-returns-4 c = rw (c .before .before .before .before .before .before .before .answer2 .given .1, ← c .before .before .before .before .refusal-number .ensures) (c .before .before .put-report4 .ensures)
+returns-4 c = rw (c .before .before .before .before .before .before .before .answer2 .given .1, ← c .before .before .before .before .number .ensures) (c .before .before .put-report4 .ensures)
 
 pub report-line-spec : {M : Type 1} → statement M
 report-line-spec =
@@ -87,7 +87,7 @@ report-line-spec =
     put-report-requires-3
     enum-known-answer-2
     slice-aggregate-put-report-4
-    refusal-number-requires
+    number-requires
     put-report-requires-4
     same-length
     returns
