@@ -179,7 +179,7 @@ module _ (s : State) (h : wellFormed s ≡ true) where
 
 -- no bytes lack the layout, whatever else is handed
 no-bytes : savedLaidOut [] ≡ false
-unfolding savedLaidOut closed headLine isSite hasLayout isLetter
+unfolding savedLaidOut closed headLine isSite hasLayout
 no-bytes = refl
 
 pub nothing-step : (c : Call) → Steps (initial 0) (asBytes []) c

@@ -7,7 +7,7 @@ use mathlib.Core.List.{List}
 use lib.Dec.{ltb}
 use lib.ListN.{length, take}
 use lib.Seq.{take-append-seam}
-use borrow.Author.Tests.{ltb-true, ltb-false}
+use borrow.Author.Tests.{ltb-false}
 use Rattle.output.specs.Output.{placed}
 use Rattle.output.proofs.Laws.{placed-room}
 use Rattle.woot.specs.declared.Refusal.{Refusal}
@@ -15,9 +15,10 @@ use Rattle.woot.specs.declared.Written.the-variants.{Length, Refused}
 use Rattle.woot.specs.State.{State, stored}
 use Rattle.woot.specs.Form.{wellFormed}
 use Rattle.replica.proofs.Runs.{Within, meaning-stored, form-stored}
+use Rattle.codec.specs.Calls.{fitted}
 use Rattle.saved.specs.Format.{savedBytes}
 use Rattle.saved.specs.Calls.{bytesOf, saved, outAfter}
-use Rattle.saved.proofs.Saving.{unformed, too-short, done}
+use Rattle.saved.proofs.Saving.{unformed, formed}
 
 -- what saving comes to
 pub data Saving (s : State) (out : List ℕ) : Type 0 where
@@ -30,15 +31,15 @@ front : (out bytes : List ℕ) → length bytes ≤ length out → take (length 
 front out bytes h = ap (take (length bytes)) (placed-room out 0 bytes (omega arith)) ∙ take-append-seam bytes _
 
 pub saving : (s : State) → Within s → (out : List ℕ) → Saving s out
-unfolding bytesOf
+unfolding bytesOf fitted
 saving s w out = go (wellFormed s) refl (ltb (length out) (length (bytesOf (stored s)))) refl
   where
     go : (f : Bool) → wellFormed s ≡ f → (b : Bool) → ltb (length out) (length (bytesOf (stored s))) ≡ b → Saving s out
     go false e b h = refuses (sym (unformed (stored s) out (form-stored s w ∙ e) .0))
-    go true e true h = refuses (sym (too-short (stored s) out (form-stored s w ∙ e) (ltb-true _ _ h) .0))
+    go true e true h = refuses (sym (formed (stored s) out (form-stored s w ∙ e) .0) ∙ rw h)
     go true e false h =
         let bytes : List ℕ = bytesOf (stored s) in
         let room : length bytes ≤ length out = ltb-false _ _ h in
-        let d = done (stored s) out (form-stored s w ∙ e) room (refl, refl) in
-        fits e (sym (d .0))
+        let d = formed (stored s) out (form-stored s w ∙ e) in
+        fits e (sym (d .0) ∙ rw h)
         (ap (take (length bytes)) (sym (d .1)) ∙ front out bytes room ∙ ap savedBytes (meaning-stored s))

@@ -1,5 +1,6 @@
 // What the calls do once nothing that was handed is refused: the new replica saved, a line or the text written.
 use crate::results;
+use lines::Room;
 use woot::Answer;
 use woot::Generated;
 use woot::Operation;
@@ -78,11 +79,11 @@ fn line_fits(o: Operation, line: &[u8]) -> Written
     if !ranges::in_range(o) {
         return Written::Refused(Refusal::Range);
     }
-    let length = codec::line_length(o);
-    if line.len() < length {
-        return Written::Refused(Refusal::Output);
+    let room = codec::measure(o, line.len(), 0);
+    match room {
+        Room::Until(length) => Written::Length(length),
+        Room::Short => Written::Refused(Refusal::Output),
     }
-    Written::Length(length)
 }
 
 // Saves the replica and writes the line, or neither.

@@ -12,7 +12,7 @@ enum-known-room : tie.Need-enum-known-room
 enum-known-room c = search needs
 
 put-all-requires : tie.Need-put-all-requires
-put-all-requires c κs = ?
+put-all-requires c κs = put-fits _ (c .before .before .before .before .before .before .args .out .now) (c .before .before .before .before .measure .ensures) (c .before .before .room .given .1)
 
 enum-told : tie.Need-enum-told
 enum-told c = search needs
@@ -21,10 +21,10 @@ same-length : tie.Need-same-length
 same-length c = search needs
 
 returns : tie.Need-returns
-returns c = ?
+returns c = (put-done _ _ (c .before .before .before .before .before .before .before .measure .ensures) (c .before .before .before .before .before .room .given .1), c .before .before .put-all .ensures)
 
 returns-2 : tie.Need-returns-2
-returns-2 c = ?
+returns-2 c = put-short _ _ (c .before .before .measure .ensures) (c .enum-told .given .1)
 
 pub put-spec : {M : Type 1} → statement M
 put-spec =

@@ -1,16 +1,27 @@
 -- `saved::writing::measure` goes through the parts one after another.
-use mathlib.Core.Path.{ap, _∙_}
+use mathlib.Core.Path.{_≡_, refl, ap, _∙_}
 use mathlib.Core.List.{List}
 use Prim.Native.Nat.{ℕ}
 use native.Mathlib.Omega.{arith}
+use lib.ListN.{length, length-map}
 use borrow.Author.Needs.{needs}
-use Rattle.output.specs.Output.{placed, past}
+use Rattle.woot.specs.State.{characterSlots, pendingSlots}
 use Rattle.lines.specs.Fields.{lineOf}
 use Rattle.lines.specs.Answers.{roomFor}
 use Rattle.saved.specs.Format.{siteHead, siteLine}
-use Rattle.saved.proofs.Saving.{site-short, second-fits, characters-short, third-fits, all-measured, characters-room, pending-room, all-put}
+use Rattle.saved.proofs.Saving.{site-short, second-fits, characters-short, third-fits, all-measured}
 use Rattle.saved.proofs.writing.measure.Statement.{statement}
 use Rattle.saved.proofs.writing.measure.Tie as tie
+
+full : (c : tie.Start) → (length (c .args .replica .document .characters) ≡ characterSlots) × (length (c .args .replica .document .pending) ≡ pendingSlots)
+full c =
+    let g = c .good .0 .1 .1 .1 .0 .1 .1 in
+    (simp length-map at (g .0 .1 .0 .1), simp length-map at (g .1 .1 .0 .1 .0 .1))
+
+site-measured : (c : tie.After-measure) → c .measure .result ≡ roomFor (c .before .before .before .before .before .before .before .before .args .size) 0 (siteLine (c .before .before .before .before .before .before .before .before .args .replica .site))
+unfolding siteLine
+site-measured c =
+    c .measure .ensures ∙ ap (λ (ns : List ℕ). roomFor (c .before .before .before .before .before .before .before .before .args .size) 0 (lineOf siteHead ns)) (c .before .before .before .site-numbers .ensures)
 
 site-numbers-requires : tie.Need-site-numbers-requires
 site-numbers-requires c κs = search needs
@@ -31,13 +42,17 @@ enum-told : tie.Need-enum-told
 enum-told c = search needs
 
 returns : tie.Need-returns
-returns c = ?
+returns c =
+    let f = full (c .before .before .before .before .before .before .before .before .before .before) in
+    site-short (c .before .before .before .before .before .before .before .before .before .before .args .replica) (f .0) (f .1) refl refl _ (site-measured (c .before .before)) (c .enum-told .given .1)
 
 lesser-requires : tie.Need-lesser-requires
 lesser-requires c κs = search needs
 
 measure-characters-requires : tie.Need-measure-characters-requires
-measure-characters-requires c κs = ?
+measure-characters-requires c κs =
+    let f = full (c .before .before .before .before .before .before .before .before .before .before .before .before) in
+    (omega (arith, c .lesser .ensures), second-fits (c .before .before .before .before .before .before .before .before .before .before .before .before .args .replica) (f .0) (f .1) refl refl _ (site-measured (c .before .before .before .before)) (c .before .before .first .given .1))
 
 enum-known-characters : tie.Need-enum-known-characters
 enum-known-characters c = search needs
@@ -46,16 +61,23 @@ enum-told-2 : tie.Need-enum-told-2
 enum-told-2 c = search needs
 
 returns-2 : tie.Need-returns-2
-returns-2 c = ?
+returns-2 c =
+    let f = full (c .before .before .before .before .before .before .before .before .before .before .before .before .before .before .before) in
+    characters-short (c .before .before .before .before .before .before .before .before .before .before .before .before .before .before .before .args .replica) (f .0) (f .1) (c .before .before .before .lesser .ensures) refl _ (site-measured (c .before .before .before .before .before .before .before)) (c .before .before .before .before .before .first .given .1) (c .before .before .measure-characters .ensures) (c .enum-told2 .given .1)
 
 lesser-requires-2 : tie.Need-lesser-requires-2
 lesser-requires-2 c κs = search needs
 
 measure-pending-requires : tie.Need-measure-pending-requires
-measure-pending-requires c κs = ?
+measure-pending-requires c κs =
+    let f = full (c .before .before .before .before .before .before .before .before .before .before .before .before .before .before .before .before .before) in
+    (omega (arith, c .lesser2 .ensures), third-fits (c .before .before .before .before .before .before .before .before .before .before .before .before .before .before .before .before .before .args .replica) (f .0) (f .1) (c .before .before .before .before .before .lesser .ensures) refl _ (site-measured (c .before .before .before .before .before .before .before .before .before)) (c .before .before .before .before .before .before .before .first .given .1) (c .before .before .before .before .measure-characters .ensures) (c .before .before .characters .given .1))
 
 returns-3 : tie.Need-returns-3
-returns-3 c = ?
+returns-3 c =
+    let f = full (c .before .before .before .before .before .before .before .before .before .before .before .before .before .before .before .before .before .before) in
+    c .measure-pending .ensures
+    ∙ all-measured (c .before .before .before .before .before .before .before .before .before .before .before .before .before .before .before .before .before .before .args .replica) (f .0) (f .1) (c .before .before .before .before .before .before .lesser .ensures) (c .before .lesser2 .ensures) _ (site-measured (c .before .before .before .before .before .before .before .before .before .before)) (c .before .before .before .before .before .before .before .before .first .given .1) (c .before .before .before .before .before .measure-characters .ensures) (c .before .before .before .characters .given .1)
 
 pub measure-spec : {M : Type 1} → statement M
 measure-spec =

@@ -1,7 +1,6 @@
 -- `saved::writing::put_characters` meets its contract, by the invariant of the loop over the lines of elements.
 use mathlib.Core.Path.{ap, _∙_}
-use mathlib.Core.List.{List}
-use Prim.Native.Nat.{ℕ, _-_, _≤_}
+use Prim.Native.Nat.{_-_, _≤_}
 use native.Mathlib.Omega.{arith}
 use lib.ListN.{length}
 use borrow.Author.Needs.{needs}
@@ -9,7 +8,7 @@ use Rattle.output.specs.Output.{placed, past}
 use Rattle.output.proofs.Laws.{length-placed}
 use Rattle.lines.specs.Fields.{lineOf}
 use Rattle.lines.proofs.Sequences.{Putting, putting-begun, putting-more, putting-end}
-use Rattle.saved.specs.Format.{characterHead, characterLine, pendingLine}
+use Rattle.saved.specs.Format.{characterHead, characterLine}
 use Rattle.saved.proofs.writing.put_characters.Statement.{statement}
 use Rattle.saved.proofs.writing.put_characters.Tie as tie
 
@@ -20,7 +19,10 @@ abbrev μ-loop : tie.MeasureT-loop
 μ-loop n out₀ at cs head end₀ i₀ out end i = n - i
 
 loop-holds : tie.Need-loop-holds Inv-loop μ-loop
-loop-holds c = ?
+loop-holds c =
+    let a = c .before .args in
+    let p = c .before .pre in
+    (putting-begun characterLine (a .t1) (a .n) (a .out .now) (a .at) (omega (arith, p .0, c .before .good .0 .1 .0 .1)) (p .1), p .0)
 
 mul-c : tie.Need-mul-c Inv-loop μ-loop
 mul-c c = omega arith
@@ -47,13 +49,21 @@ loop-less : tie.Need-loop-less Inv-loop μ-loop
 loop-less c = omega arith
 
 loop-again : tie.Need-loop-again Inv-loop μ-loop
-loop-again c = ?
-
-same-length : tie.Need-same-length Inv-loop μ-loop
-same-length c = ?
+unfolding characterLine
+loop-again c =
+    let a = c .before .before .before .before .before .before .before .before .before .before .before .args in
+    let l = c .before .before .before .before .before .before .before .before .before .loop .inv in
+    let p = c .before .before .put .ensures in
+    let e = ap (lineOf characterHead) (c .before .before .before .before .before .before .character-numbers .ensures) in
+    (putting-more characterLine (a .t1) (a .n) (a .out .now) (a .at) (l .0) _ (omega arith) (p .0 ∙ ap (past _ _) e, p .1 ∙ ap (placed _ _) e), l .1)
 
 returns : tie.Need-returns Inv-loop μ-loop
-returns c = ?
+returns c =
+    let a = c .before .before .before .args in
+    putting-end characterLine (a .t1) (a .n) (a .out .now) (a .at) (c .before .loop .inv .0) (c .loop-test .left)
+
+same-length : tie.Need-same-length Inv-loop μ-loop
+same-length c = ap length (returns c .1) ∙ length-placed _ _ _
 
 pub put-characters-spec : {M : Type 1} → statement M
 put-characters-spec =

@@ -1,15 +1,12 @@
 -- `saved::writing::put_pending` meets its contract, by the invariant of the loop over the lines of elements.
 use mathlib.Core.Path.{ap, _∙_}
-use mathlib.Core.List.{List}
-use Prim.Native.Nat.{ℕ, _-_, _≤_}
+use Prim.Native.Nat.{_-_, _≤_}
 use native.Mathlib.Omega.{arith}
 use lib.ListN.{length}
 use borrow.Author.Needs.{needs}
-use Rattle.output.specs.Output.{placed, past}
 use Rattle.output.proofs.Laws.{length-placed}
-use Rattle.lines.specs.Fields.{lineOf}
 use Rattle.lines.proofs.Sequences.{Putting, putting-begun, putting-more, putting-end}
-use Rattle.saved.specs.Format.{characterHead, characterLine, pendingLine}
+use Rattle.saved.specs.Format.{pendingLine}
 use Rattle.saved.proofs.writing.put_pending.Statement.{statement}
 use Rattle.saved.proofs.writing.put_pending.Tie as tie
 
@@ -20,7 +17,10 @@ abbrev μ-loop : tie.MeasureT-loop
 μ-loop n out₀ at ps end₀ i₀ out end i = n - i
 
 loop-holds : tie.Need-loop-holds Inv-loop μ-loop
-loop-holds c = ?
+loop-holds c =
+    let a = c .before .args in
+    let p = c .before .pre in
+    (putting-begun pendingLine (a .t1) (a .n) (a .out .now) (a .at) (omega (arith, p .0, c .before .good .0 .1 .0 .1)) (p .1), p .0)
 
 mul-p : tie.Need-mul-p Inv-loop μ-loop
 mul-p c = omega arith
@@ -38,13 +38,18 @@ loop-less : tie.Need-loop-less Inv-loop μ-loop
 loop-less c = omega arith
 
 loop-again : tie.Need-loop-again Inv-loop μ-loop
-loop-again c = ?
-
-same-length : tie.Need-same-length Inv-loop μ-loop
-same-length c = ?
+loop-again c =
+    let a = c .before .before .before .before .before .before .before .before .args in
+    let l = c .before .before .before .before .before .before .loop .inv in
+    (putting-more pendingLine (a .t1) (a .n) (a .out .now) (a .at) (l .0) _ (omega arith) (c .before .before .put-operation .ensures), l .1)
 
 returns : tie.Need-returns Inv-loop μ-loop
-returns c = ?
+returns c =
+    let a = c .before .before .before .args in
+    putting-end pendingLine (a .t1) (a .n) (a .out .now) (a .at) (c .before .loop .inv .0) (c .loop-test .left)
+
+same-length : tie.Need-same-length Inv-loop μ-loop
+same-length c = ap length (returns c .1) ∙ length-placed _ _ _
 
 pub put-pending-spec : {M : Type 1} → statement M
 put-pending-spec =
