@@ -30,9 +30,9 @@ use Rattle.integration.proofs.Placements.{says}
 
 -- a document at work, with nothing carried out yet, is fit for an insert at a place within it
 pub started-fit : (cs : List Character) (ps : List Operation) (k : ℕ) {w : Work} → w ≡ workOf cs ps 0 0 → k ≤ length cs → length cs < 1024
-    → Tidy w × (k ≤ w .document .length) × (w .document .length < 1024) × (w .integrated + 1 < 2 ^ 64)
+    → Tidy w × ((k ≤ w .document .length) × ((w .document .length < 1024) × (w .integrated + 1 < 2 ^ 64)))
 unfolding workOf documentOf
-started-fit cs ps k e h l = rw e (work-tidy cs ps 0 0, h, l, omega arith)
+started-fit cs ps k e h l = rw e (work-tidy cs ps 0 0, (h, (l, omega arith)))
 
 pub started-carried : (cs : List Character) (ps : List Operation) (k : ℕ) (c : Character) {w v : Work} → w ≡ workOf cs ps 0 0
     → v ≡ workOf (insertAt k c (charactersIn (w .document))) (pendingIn (w .document)) (w .integrated + 1) (w .discarded)

@@ -25,8 +25,7 @@ use Rattle.convergence.proofs.Draining.{sound-carry}
 use Rattle.index.specs.declared.Found.the-variants.{At, Nothing}
 use Rattle.delivery.specs.declared.Work.{Work}
 use Rattle.storage.specs.Edit.{removed}
-use Rattle.index.specs.Keys.{firstIndex}
-use Rattle.delivery.specs.Work.{charactersIn, pendingIn, workOf, Workable, Due, carried, stepped, finished}
+use Rattle.delivery.specs.Work.{charactersIn, pendingIn, workOf, Workable, Due, carried, stepped, finished, takenOut, dueIn, takenFrom, carriedIn, steppedIn, finishedIn}
 use Rattle.pending.proofs.Earliest.{takes}
 use Rattle.delivery.proofs.Works.{pending-at, parts, work-characters, work-pending, work-length, work-waiting, work-integrated, work-discarded, work-tidy, carried-discarded, carried-integrated}
 
@@ -42,16 +41,16 @@ one-insert {o = delete d} e = omega arith
 
 -- ---- the operation that is due
 
-module _ {w : Work} (k : Workable w) (j : ℕ) (at : firstIndex (executable (charactersIn (w .document))) (pendingIn (w .document)) ≡ At j) where
+module _ {w : Work} (k : Workable w) (j : ℕ) (at : dueIn w ≡ At j) where
   -- as the rules take it out
   due-taken : (d : Operation) → (j < length (pendingIn (w .document)))
-      × (earliest (executable (charactersIn (w .document))) (pendingIn (w .document)) ≡ some (record { operation = getD (pendingIn (w .document)) j d; others = removed j (pendingIn (w .document)) }))
+      × (takenFrom w ≡ some (record { operation = getD (pendingIn (w .document)) j d; others = removed j (pendingIn (w .document)) }))
   due-taken = takes (executable (charactersIn (w .document))) (pendingIn (w .document)) (At j) at
 
   pub due-within : (j < w .document .waiting) × (w .document .waiting ≤ 512)
   due-within = (omega (arith, due-taken (blankPending .operation) .0, parts (k .tidy) .waiting-is), workable-bounded k .1)
 
-  module _ (r : Work) (e : r ≡ workOf (charactersIn (w .document)) (removed j (pendingIn (w .document))) (w .integrated) (w .discarded)) (z : Pending) where
+  module _ (r : Work) (e : r ≡ takenOut w j) (z : Pending) where
     -- it can be carried out once it is out
     pub due-carried : Due r (getD (w .document .pending) j z .operation)
     due-carried =
@@ -66,16 +65,12 @@ module _ {w : Work} (k : Workable w) (j : ℕ) (at : firstIndex (executable (cha
           discarded-fits = rw (work-discarded) (omega (arith, due-within .0, k .discarded-fits));
         })
 
-    pub due-stepped : carried (charactersIn (r .document)) (pendingIn (r .document)) (r .integrated) (r .discarded) (getD (w .document .pending) j z .operation)
-        ≡ stepped (charactersIn (w .document)) (pendingIn (w .document)) (w .integrated) (w .discarded) (earliest (executable (charactersIn (w .document))) (pendingIn (w .document)))
+    pub due-stepped : carriedIn r (getD (w .document .pending) j z .operation)
+        ≡ steppedIn w
     unfolding stepped
     due-stepped = rw (← pending-at (w .document) j z (due-within .0), e, due-taken (z .operation) .1, work-characters, work-pending, work-integrated, work-discarded)
 
 -- ---- draining on
-
--- what draining leaves of a document at work
-abbrev pub ends : Work → Work
-ends w = finished (charactersIn (w .document)) (pendingIn (w .document)) (w .integrated) (w .discarded)
 
 one-more : (n k : ℕ) → n + 1 + k ≡ n + suc k
 one-more n k = omega arith
@@ -96,10 +91,10 @@ module _ (cs : List Character) (ps : List Operation) (n m : ℕ) where
 
 -- nothing is due, or nothing is pending
 module _ {w : Work} (k : Workable w) where
-  pub done-unready : firstIndex (executable (charactersIn (w .document))) (pendingIn (w .document)) ≡ Nothing → w ≡ ends w
+  pub done-unready : dueIn w ≡ Nothing → w ≡ finishedIn w
   done-unready e = k .tidy ∙ sym (finished-none _ _ _ _ (takes _ _ Nothing e))
 
-  pub done-empty : w .document .waiting ≤ 0 → w ≡ ends w
+  pub done-empty : w .document .waiting ≤ 0 → w ≡ finishedIn w
   unfolding earliest
   done-empty h = let z : w .document .waiting ≡ 0 = omega arith in k .tidy ∙ sym (finished-none _ _ _ _ (rw z))
 
@@ -107,15 +102,15 @@ module _ {w : Work} (k : Workable w) where
 pub record Nearer (w r : Work) : Type 0 where
   pub workable : Workable r
   pub fewer : r .document .waiting < w .document .waiting
-  pub same : ends r ≡ ends w
+  pub same : finishedIn r ≡ finishedIn w
 
-module _ {w : Work} (k : Workable w) (t : Taken) (is : earliest (executable (charactersIn (w .document))) (pendingIn (w .document)) ≡ some t) where
+module _ {w : Work} (k : Workable w) (t : Taken) (is : takenFrom w ≡ some t) where
   found : Found (executable (charactersIn (w .document))) (pendingIn (w .document)) t
   found = earliest-found _ _ t is
 
   -- sound lists with one operation less, and at most one more counted
   nearer-to : (cs : List Character) (n m : ℕ) → Sound cs (t .others) → n ≤ w .integrated + 1 → m ≤ w .discarded + 1
-      → finished cs (t .others) n m ≡ ends w → Nearer w (workOf cs (t .others) n m)
+      → finished cs (t .others) n m ≡ finishedIn w → Nearer w (workOf cs (t .others) n m)
   nearer-to cs n m s a b e =
       let less : w .document .waiting ≡ suc (length (t .others)) = parts (k .tidy) .waiting-is ∙ extract-length (found .extracted) in
       record {
@@ -152,8 +147,8 @@ module _ {w : Work} (k : Workable w) (t : Taken) (is : earliest (executable (cha
           (omega arith) (omega arith) (finished-integrated cs _ _ _ t is e))
 
 -- the step that is due
-pub step-nearer : {w : Work} → Workable w → (j : ℕ) → firstIndex (executable (charactersIn (w .document))) (pendingIn (w .document)) ≡ At j → (r : Work)
-    → r ≡ stepped (charactersIn (w .document)) (pendingIn (w .document)) (w .integrated) (w .discarded) (earliest (executable (charactersIn (w .document))) (pendingIn (w .document)))
+pub step-nearer : {w : Work} → Workable w → (j : ℕ) → dueIn w ≡ At j → (r : Work)
+    → r ≡ steppedIn w
     → Nearer w r
 unfolding stepped
 step-nearer {w} k j at r e =

@@ -15,8 +15,11 @@ use Rattle.woot.specs.Operations.{inserts, character}
 use Rattle.woot.specs.Ranges.{characterInRange}
 use Rattle.woot.specs.State.{documentOf, meaning, counted}
 use Rattle.woot.specs.Placing.{insertAt, integrateInsert}
-use Rattle.woot.specs.Pending.{executable, crossed, unplaceable, integrate, Taken, Drained, drain}
+use Rattle.woot.specs.Pending.{executable, crossed, unplaceable, integrate, Taken, earliest, Drained, drain}
 use Rattle.convergence.specs.Invariants.{Sound}
+use Rattle.index.specs.declared.Found.{Found}
+use Rattle.index.specs.Keys.{firstIndex}
+use Rattle.storage.specs.Edit.{removed}
 use Rattle.delivery.specs.declared.Work.{Work}
 use Rattle.woot.specs.declared.Replica.{Replica}
 use Rattle.woot.specs.Limits.{capacity}
@@ -67,6 +70,38 @@ unfoldable pub finished : List Character → List Operation → ℕ → ℕ → 
 finished cs ps n m =
     let d : Drained = drain cs ps in
     workOf (d .characters) (d .pending) (n + length (d .integrated)) (m + length (d .discarded))
+
+-- ---- the same on a document at work
+
+-- with these characters, and one operation more integrated
+abbrev pub integratedIn : Work → List Character → Work
+integratedIn w cs = workOf cs (pendingIn (w .document)) (w .integrated + 1) (w .discarded)
+
+-- with one operation more discarded
+abbrev pub discardedIn : Work → Work
+discardedIn w = workOf (charactersIn (w .document)) (pendingIn (w .document)) (w .integrated) (w .discarded + 1)
+
+-- without the pending operation at the index
+abbrev pub takenOut : Work → ℕ → Work
+takenOut w j = workOf (charactersIn (w .document)) (removed j (pendingIn (w .document))) (w .integrated) (w .discarded)
+
+-- the index of the earliest pending operation that is executable, and what the rules take out
+abbrev pub dueIn : Work → Found
+dueIn w = firstIndex (executable (charactersIn (w .document))) (pendingIn (w .document))
+
+abbrev pub takenFrom : Work → Option Taken
+takenFrom w = earliest (executable (charactersIn (w .document))) (pendingIn (w .document))
+
+abbrev pub carriedIn : Work → Operation → Work
+carriedIn w o = carried (charactersIn (w .document)) (pendingIn (w .document)) (w .integrated) (w .discarded) o
+
+abbrev pub steppedIn : Work → Work
+steppedIn w = stepped (charactersIn (w .document)) (pendingIn (w .document)) (w .integrated) (w .discarded) (takenFrom w)
+
+abbrev pub finishedIn : Work → Work
+finishedIn w = finished (charactersIn (w .document)) (pendingIn (w .document)) (w .integrated) (w .discarded)
+
+-- ---- the insert that is carried out first
 
 -- an insert that goes in after the first k characters, and leaves the lists sound
 pub record Placed (r : Replica) (i : Insert) (k : ℕ) : Type 0 where

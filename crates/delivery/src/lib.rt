@@ -15,11 +15,10 @@ ghost use Prim.Native.Nat.{_+_, _≤_, _<_, _^_};
 ghost use Rattle.woot.specs.declared.Operation.the-variants.{Insert as ofInsert};
 ghost use Rattle.woot.specs.Operations.{character};
 ghost use Rattle.woot.specs.Placing.{insertAt, integrateDelete, integrateInsert};
-ghost use Rattle.woot.specs.Pending.{executable, earliest};
 ghost use Rattle.index.specs.declared.Found.the-variants.{At};
-ghost use Rattle.storage.specs.Edit.{removed};
-ghost use Rattle.index.specs.Keys.{firstIndex};
-ghost use Rattle.delivery.specs.Work.{charactersIn, pendingIn, workOf, Tidy, Workable, Due, carried, stepped, finished, Placed};
+ghost use Rattle.delivery.specs.Work.{charactersIn, workOf, Tidy, Workable, Due, finished, Placed};
+ghost use Rattle.delivery.specs.Work.{integratedIn, discardedIn, takenOut, dueIn};
+ghost use Rattle.delivery.specs.Work.{carriedIn, steppedIn, finishedIn};
 ghost use mathlib.Core.Bool.{true};
 ghost use Rattle.woot.specs.State.{meaning, counted};
 
@@ -48,8 +47,11 @@ fn character(insert: Insert) -> Character
 
 // Carries out an insert: its character goes in after the first k.
 fn carry_insert(work: Work, insert: Insert, k: usize) -> Work
-    requires { ⌜ Tidy work × (k ≤ work .document .length) × (work .document .length < 1024) × (work .integrated + 1 < 2 ^ 64) ⌝ }
-    ensures { λ r. ⌜ r ≡ workOf (insertAt k (character insert) (charactersIn (work .document))) (pendingIn (work .document)) (work .integrated + 1) (work .discarded) ⌝ }
+    requires { ⌜ Tidy work ⌝ }
+    requires { ⌜ k ≤ work .document .length ⌝ }
+    requires { ⌜ work .document .length < 1024 ⌝ }
+    requires { ⌜ work .integrated + 1 < 2 ^ 64 ⌝ }
+    ensures { λ r. ⌜ r ≡ integratedIn work (insertAt k (character insert) (charactersIn (work .document))) ⌝ }
 {
     let d = work.document;
     let cs = d.characters;
@@ -68,8 +70,10 @@ fn carry_insert(work: Work, insert: Insert, k: usize) -> Work
 
 // Carries out a delete: the target is hidden.
 fn carry_delete(work: Work, delete: Delete) -> Work
-    requires { ⌜ Tidy work × (work .document .length ≤ 1024) × (work .integrated + 1 < 2 ^ 64) ⌝ }
-    ensures { λ r. ⌜ r ≡ workOf (integrateDelete (charactersIn (work .document)) delete) (pendingIn (work .document)) (work .integrated + 1) (work .discarded) ⌝ }
+    requires { ⌜ Tidy work ⌝ }
+    requires { ⌜ work .document .length ≤ 1024 ⌝ }
+    requires { ⌜ work .integrated + 1 < 2 ^ 64 ⌝ }
+    ensures { λ r. ⌜ r ≡ integratedIn work (integrateDelete (charactersIn (work .document)) delete) ⌝ }
 {
     let d = work.document;
     let cs = d.characters;
@@ -84,8 +88,9 @@ fn carry_delete(work: Work, delete: Delete) -> Work
 
 // One operation more discarded.
 fn discard(work: Work) -> Work
-    requires { ⌜ Tidy work × (work .discarded + 1 < 2 ^ 64) ⌝ }
-    ensures { λ r. ⌜ r ≡ workOf (charactersIn (work .document)) (pendingIn (work .document)) (work .integrated) (work .discarded + 1) ⌝ }
+    requires { ⌜ Tidy work ⌝ }
+    requires { ⌜ work .discarded + 1 < 2 ^ 64 ⌝ }
+    ensures { λ r. ⌜ r ≡ discardedIn work ⌝ }
 {
     Work {
         discarded: work.discarded + 1,
@@ -96,7 +101,7 @@ fn discard(work: Work) -> Work
 // Carries out an insert where the index has a place for it, or discards it.
 fn place_insert(work: Work, insert: Insert) -> Work
     requires { ⌜ Due work (ofInsert insert) ⌝ }
-    ensures { λ r. ⌜ r ≡ carried (charactersIn (work .document)) (pendingIn (work .document)) (work .integrated) (work .discarded) (ofInsert insert) ⌝ }
+    ensures { λ r. ⌜ r ≡ carriedIn work (ofInsert insert) ⌝ }
 {
     let d = work.document;
     let cs = d.characters;
@@ -112,7 +117,7 @@ fn place_insert(work: Work, insert: Insert) -> Work
 // Carries out an operation that is executable, or discards it.
 fn carry(work: Work, operation: Operation) -> Work
     requires { ⌜ Due work operation ⌝ }
-    ensures { λ r. ⌜ r ≡ carried (charactersIn (work .document)) (pendingIn (work .document)) (work .integrated) (work .discarded) operation ⌝ }
+    ensures { λ r. ⌜ r ≡ carriedIn work operation ⌝ }
 {
     match operation {
         Operation::Insert(i) => place_insert(work, i),
@@ -122,8 +127,10 @@ fn carry(work: Work, operation: Operation) -> Work
 
 // Takes out the pending operation at the index.
 fn take_out(work: Work, j: usize) -> Work
-    requires { ⌜ Tidy work × (j < work .document .waiting) × (work .document .waiting ≤ 512) ⌝ }
-    ensures { λ r. ⌜ r ≡ workOf (charactersIn (work .document)) (removed j (pendingIn (work .document))) (work .integrated) (work .discarded) ⌝ }
+    requires { ⌜ Tidy work ⌝ }
+    requires { ⌜ j < work .document .waiting ⌝ }
+    requires { ⌜ work .document .waiting ≤ 512 ⌝ }
+    ensures { λ r. ⌜ r ≡ takenOut work j ⌝ }
 {
     let d = work.document;
     let ps = d.pending;
@@ -139,7 +146,7 @@ fn take_out(work: Work, j: usize) -> Work
 // The index of the earliest pending operation that is executable.
 fn due(work: Work) -> Found
     requires { ⌜ Workable work ⌝ }
-    ensures { λ r. ⌜ r ≡ firstIndex (executable (charactersIn (work .document))) (pendingIn (work .document)) ⌝ }
+    ensures { λ r. ⌜ r ≡ dueIn work ⌝ }
 {
     let d = work.document;
     let cs = d.characters;
@@ -156,8 +163,9 @@ fn due(work: Work) -> Found
 
 // Takes out the pending operation that is due, and carries it out or discards it.
 fn step(work: Work, j: usize) -> Work
-    requires { ⌜ Workable work × (firstIndex (executable (charactersIn (work .document))) (pendingIn (work .document)) ≡ At j) ⌝ }
-    ensures { λ r. ⌜ r ≡ stepped (charactersIn (work .document)) (pendingIn (work .document)) (work .integrated) (work .discarded) (earliest (executable (charactersIn (work .document))) (pendingIn (work .document))) ⌝ }
+    requires { ⌜ Workable work ⌝ }
+    requires { ⌜ dueIn work ≡ At j ⌝ }
+    ensures { λ r. ⌜ r ≡ steppedIn work ⌝ }
 {
     let d = work.document;
     let ps = d.pending;
@@ -169,7 +177,7 @@ fn step(work: Work, j: usize) -> Work
 // Carries out or discards pending operations, the earliest that is executable first, until none is.
 fn drain(mut work: Work) -> Work
     requires { ⌜ Workable work ⌝ }
-    ensures { λ r. ⌜ r ≡ finished (charactersIn (work .document)) (pendingIn (work .document)) (work .integrated) (work .discarded) ⌝ }
+    ensures { λ r. ⌜ r ≡ finishedIn work ⌝ }
 {
     while 0 < work.document.waiting {
         match due(work) {
@@ -207,11 +215,12 @@ fn started(replica: Replica) -> Work
     }
 }
 
-// The document with an insert carried out at its place, and with all that it released. A step of the calls and not a call:
-// they have checked the replica and found the place.
+// The document with an insert carried out at its place, and with all that it released. A step of the calls and not a
+// call: they have checked the replica and found the place.
 pub fn integrate_and_drain(replica: Replica, insert: Insert, k: usize) -> Work
     requires { ⌜ Placed replica insert k ⌝ }
-    ensures { λ r. ⌜ r ≡ finished (integrateInsert (meaning replica .characters) insert) (meaning replica .pending) 1 0 ⌝ }
+    ensures { λ r. ⌜ r
+        ≡ finished (integrateInsert (meaning replica .characters) insert) (meaning replica .pending) 1 0 ⌝ }
 {
     drain(carry_insert(started(replica), insert, k))
 }

@@ -1,5 +1,5 @@
-// Inserting and deleting here, on a replica that is well formed. (Document 01: typing and erasing.) The public functions are
-// steps of the calls and not calls: the calls have checked the range and the form.
+// Inserting and deleting here, on a replica that is well formed. (Document 01: typing and erasing.) The public
+// functions are steps of the calls and not calls: the calls have checked the range and the form.
 use index::Index;
 use integration::Placement;
 use pending::holder;
@@ -65,7 +65,8 @@ fn generated_insert(replica: Replica, point: usize, code_point: u32) -> Insert
 
 // Whether an identifier belongs to a character or a pending insert.
 fn is_taken(replica: Replica, index: Index, queue: Queue, id: Identifier) -> bool
-    requires { ⌜ Examined replica index queue × (characterId id ≡ true) ⌝ }
+    requires { ⌜ Examined replica index queue ⌝ }
+    requires { ⌜ characterId id ≡ true ⌝ }
     ensures { λ r. ⌜ r ≡ any (λ j. same id (j .id)) (known (meaning replica)) ⌝ }
 {
     let d = replica.document;
@@ -78,7 +79,9 @@ fn is_taken(replica: Replica, index: Index, queue: Queue, id: Identifier) -> boo
 
 // Carries out an insert that goes in after the first k characters, and advances the clock.
 fn send(replica: Replica, queue: Queue, insert: Insert, k: usize) -> Generated
-    requires { ⌜ Sendable replica insert × (queue ≡ queueOf (meaning replica .pending)) × (placementOf (meaning replica .characters) insert ≡ Below k) ⌝ }
+    requires { ⌜ Sendable replica insert ⌝ }
+    requires { ⌜ queue ≡ queueOf (meaning replica .pending) ⌝ }
+    requires { ⌜ placementOf (meaning replica .characters) insert ≡ Below k ⌝ }
     ensures { λ r. ⌜ r ≡ sentInsert replica insert ⌝ }
 {
     let d = replica.document;
@@ -106,7 +109,8 @@ fn send(replica: Replica, queue: Queue, insert: Insert, k: usize) -> Generated
 
 // Carries out an insert that was made here, where it has a place. Its neighbours are held and in order.
 fn send_placed(replica: Replica, index: Index, queue: Queue, insert: Insert) -> Generated
-    requires { ⌜ Examined replica index queue × Sendable replica insert ⌝ }
+    requires { ⌜ Examined replica index queue ⌝ }
+    requires { ⌜ Sendable replica insert ⌝ }
     ensures { λ r. ⌜ r ≡ sentInsert replica insert ⌝ }
 {
     let d = replica.document;
@@ -126,7 +130,8 @@ pub fn insert_visible(
     point: usize,
     code_point: u32,
 ) -> Generated
-    requires { ⌜ Examined replica index queue × (codePoint «code_point» ≡ true) ⌝ }
+    requires { ⌜ Examined replica index queue ⌝ }
+    requires { ⌜ codePoint «code_point» ≡ true ⌝ }
     ensures { λ r. ⌜ r ≡ inserted replica point «code_point» ⌝ }
 {
     let d = replica.document;

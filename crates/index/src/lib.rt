@@ -1,5 +1,5 @@
-// Identifiers as numbers, and where a character stands. A call makes the index of its characters once, and lends the numbers
-// to every search that it makes.
+// Identifiers as numbers, and where a character stands. A call makes the index of its characters once, and lends the
+// numbers to every search that it makes.
 use woot::Character;
 use woot::Identifier;
 ghost use mathlib.Core.Path.{_≡_};
@@ -33,7 +33,8 @@ pub struct Index {
 
 // An identifier as one number. Numbers are ordered as their identifiers are, and the marks are 0 and 1.
 pub fn key(id: Identifier) -> u32
-    ensures { λ r. ⌜ (r ≡ key id) × Small id ⌝ }
+    ensures { λ r. ⌜ r ≡ key id ⌝ }
+    ensures { λ _. ⌜ Small id ⌝ }
 {
     id.site as u32 * 65536 + id.clock as u32
 }
@@ -52,8 +53,8 @@ pub fn find(keys: &[u32], key: u32) -> Found
     Found::Nothing
 }
 
-// The place of the character with the given key: 0 for the begin mark, one past the last for the end mark, further where
-// there is none.
+// The place of the character with the given key: 0 for the begin mark, one past the last for the end mark, further
+// where there is none.
 pub fn place_of(ids: &[u32], key: u32) -> usize
     ensures { λ r. ⌜ r ≡ placeIn (now (ids .entry)) key ⌝ }
 {
@@ -92,7 +93,8 @@ pub fn lesser(a: usize, b: usize) -> usize
 
 // Packs the first n characters, all of them where n is above the slots.
 pub fn keys_of(characters: [Character; 1024], n: usize) -> CharacterKeys
-    ensures { λ r. ⌜ (r ≡ keysOf (take n characters)) × AllSmall (take n characters) ⌝ }
+    ensures { λ r. ⌜ r ≡ keysOf (take n characters) ⌝ }
+    ensures { λ _. ⌜ AllSmall (take n characters) ⌝ }
 {
     let end = lesser(1024, n);
     let mut ids = [0u32; 1024];

@@ -1,4 +1,4 @@
--- A walk over locatedKeys: it passes over what is not strictly between the ends, so it may begin at the upper end and need not
+-- A walk over located keys: it passes over what is not strictly between the ends, so it may begin at the upper end and need not
 -- go past the lower.
 use Prim.Native.Nat.{ℕ, zero, suc, _+_, _-_, _≤_, _<_, min}
 use native.Mathlib.Nat.{add-zero, add-suc, suc-add}

@@ -15,7 +15,7 @@ pub record LocatedKey : Type 0 where
   pub above : ℕ
   pub below : ℕ
 
--- the locatedKeys, the first at place p, as many as each of the lists has
+-- the located keys, the first at place p, as many as each of the lists has
 unfoldable pub locatedKeys : ℕ → List ℕ → List ℕ → List ℕ → List LocatedKey
 locatedKeys p [] above below = []
 locatedKeys p (x ∷ ids) [] below = []

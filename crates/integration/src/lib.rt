@@ -42,7 +42,8 @@ fn outside(above: u16, below: u16, interval: Interval) -> bool
 // One pass over the candidates: the interval between the last that the key passes and the one that it stops at.
 fn pass(ids: &[u32], above: &[u16], below: &[u16], key: u32, interval: Interval) -> Interval
     requires { ⌜ interval .upper < interval .lower ⌝ }
-    ensures { λ r. ⌜ r ≡ passIn (locatedKeys 1 (now (ids .entry)) (now (above .entry)) (now (below .entry))) key interval ⌝ }
+    ensures { λ r. ⌜ r
+        ≡ passIn (locatedKeys 1 (now (ids .entry)) (now (above .entry)) (now (below .entry))) key interval ⌝ }
 {
     let shortest = index::lesser(ids.len(), index::lesser(above.len(), below.len()));
     let end = index::lesser(shortest, interval.lower - 1);
@@ -64,8 +65,9 @@ fn pass(ids: &[u32], above: &[u16], below: &[u16], key: u32, interval: Interval)
     }
 }
 
-// The place just above which the key goes in, between the upper and the lower place. `above` and `below` have the places
-// of the previous and the next of each of `ids`. Each pass narrows the interval, until nothing is between, or no candidate.
+// The place just above which the key goes in, between the upper and the lower place. `above` and `below` have the
+// places of the previous and the next of each of `ids`. Each pass narrows the interval, until nothing is between, or no
+// candidate.
 fn position(
     ids: &[u32],
     above: &[u16],
@@ -74,7 +76,8 @@ fn position(
     upper: usize,
     lower: usize,
 ) -> Found
-    ensures { λ r. ⌜ r ≡ asFound (positionIn (now (ids .entry)) (now (above .entry)) (now (below .entry)) key upper lower) ⌝ }
+    ensures { λ r. ⌜ r
+        ≡ asFound (positionIn (now (ids .entry)) (now (above .entry)) (now (below .entry)) key upper lower) ⌝ }
 {
     let mut v = Interval { upper, lower };
     while 1 < width(v) {
@@ -99,7 +102,9 @@ pub enum Placement {
 // Finds the place of an insert among the characters with these keys, whose neighbours have these places.
 fn place_among(ids: &[u32], above: &[u16], below: &[u16], insert: Insert) -> Placement
     requires { ⌜ length (now ids) ≤ 1024 ⌝ }
-    ensures { λ r. ⌜ ((cs : List Character) → now (ids .entry) ≡ keys cs → now (above .entry) ≡ previousPlaces cs → now (below .entry) ≡ nextPlaces cs → AllSmall cs → r ≡ placementOf cs insert) ⌝ }
+    ensures { λ r. ⌜ ((cs : List Character)
+        → now (ids .entry) ≡ keys cs → now (above .entry) ≡ previousPlaces cs → now (below .entry) ≡ nextPlaces cs
+        → AllSmall cs → r ≡ placementOf cs insert) ⌝ }
 {
     let previous = insert.previous;
     let next = insert.next;
@@ -121,11 +126,12 @@ fn place_among(ids: &[u32], above: &[u16], below: &[u16], insert: Insert) -> Pla
     }
 }
 
-// Finds the place of an insert among n characters, by their index. A step of the calls and not a call: they have an index
-// of the characters in use.
+// Finds the place of an insert among n characters, by their index. A step of the calls and not a call: they have an
+// index of the characters in use.
 pub fn find_place(index: Index, n: usize, insert: Insert) -> Placement
     requires { ⌜ n ≤ 1024 ⌝ }
-    ensures { λ r. ⌜ ((cs : List Character) → index ≡ indexOf cs → length cs ≡ n → AllSmall cs → r ≡ placementOf cs insert) ⌝ }
+    ensures { λ r. ⌜ ((cs : List Character)
+        → index ≡ indexOf cs → length cs ≡ n → AllSmall cs → r ≡ placementOf cs insert) ⌝ }
 {
     let ids = index.ids;
     let above = index.above;

@@ -7,7 +7,7 @@ use Rattle.pending.specs.declared.queue.Queue.{Queue}
 use Rattle.pending.proofs.queue.Queue as queue
 use Rattle.pending.proofs.Queues.{FullQueue}
 
--- the queueOf operations have their slots
+-- the packed operations have their slots
 pub full-queue : {q : Queue} {vs : List Val} → Is queue.the-row q vs → FullQueue q
 full-queue g =
     record {

@@ -1,4 +1,4 @@
--- The pending operations in their slots, queueOf: the numbers of the first so many fill the arrays from the
+-- The pending operations in their slots, packed: the numbers of the first so many fill the arrays from the
 -- front.
 use mathlib.Core.Path.{_≡_, sym, ap, _∙_}
 use mathlib.Core.List.{List, [], map, map-map}

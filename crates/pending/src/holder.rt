@@ -64,7 +64,9 @@ pub fn character_of(index: Index, n: usize, id: Identifier) -> Found
 
 // Whether an equal delete is among the first w pending operations.
 pub fn is_pending(queue: Queue, w: usize, delete: Delete) -> bool
-    ensures { λ r. ⌜ r ≡ hasDelete (key (delete .target)) (delete .sender) (take w (queue .own)) (take w (queue .first)) (take w (queue .senders)) ⌝ }
+    ensures { λ r. ⌜ r
+        ≡ hasDelete (key (delete .target)) (delete .sender)
+        (take w (queue .own)) (take w (queue .first)) (take w (queue .senders)) ⌝ }
 {
     let target = delete.target;
     let own = queue.own;

@@ -1,4 +1,5 @@
-// The pending operations queueOf into numbers: a call packs them once, and lends the numbers to every search that it makes.
+// The pending operations packed into numbers: a call packs them once, and lends the numbers to every search that it
+// makes.
 use woot::Operation;
 use woot::Pending;
 ghost use mathlib.Core.Path.{_≡_};
@@ -9,8 +10,8 @@ ghost use Rattle.lists.specs.Lists.{keep};
 ghost use Rattle.storage.specs.Edit.{operations};
 ghost use Rattle.pending.specs.Queue.{entryOf, queueOf, hasDelete};
 
-// A pending operation as numbers: of an insert its own key, its previous's and its next's, of a delete 0, its target's key
-// and 0; and the sender.
+// A pending operation as numbers: of an insert its own key, its previous's and its next's, of a delete 0, its target's
+// key and 0; and the sender.
 pub struct Entry {
     pub own: u32,
     pub first: u32,

@@ -1,5 +1,5 @@
-// Receiving an operation that is in range, on a replica that is well formed. The public functions are steps of the calls and
-// not calls: the calls have checked the range and the form.
+// Receiving an operation that is in range, on a replica that is well formed. The public functions are steps of the
+// calls and not calls: the calls have checked the range and the form.
 use index::Found;
 use index::Index;
 use integration::Placement;
@@ -58,7 +58,8 @@ fn sender(operation: Operation) -> u8
 
 // Whether an operation is an insert, and the document is full.
 fn is_full(replica: Replica, queue: Queue, operation: Operation) -> bool
-    requires { ⌜ (replicaWellFormed replica ≡ true) × (queue ≡ queueOf (meaning replica .pending)) ⌝ }
+    requires { ⌜ replicaWellFormed replica ≡ true ⌝ }
+    requires { ⌜ queue ≡ queueOf (meaning replica .pending) ⌝ }
     ensures { λ r. ⌜ r ≡ documentFull (meaning replica) operation ⌝ }
 {
     let d = replica.document;
@@ -70,7 +71,8 @@ fn is_full(replica: Replica, queue: Queue, operation: Operation) -> bool
 
 // Puts an operation that lacks something at the end of the pending ones.
 fn defer(replica: Replica, queue: Queue, operation: Operation) -> Receipt
-    requires { ⌜ New replica queue operation × (executable (meaning replica .characters) operation ≡ false) ⌝ }
+    requires { ⌜ New replica queue operation ⌝ }
+    requires { ⌜ executable (meaning replica .characters) operation ≡ false ⌝ }
     ensures { λ r. ⌜ r ≡ received replica operation ⌝ }
 {
     let d = replica.document;
@@ -88,7 +90,8 @@ fn defer(replica: Replica, queue: Queue, operation: Operation) -> Receipt
 
 // Carries out an insert that goes in after the first k characters.
 fn integrate(replica: Replica, queue: Queue, insert: Insert, k: usize) -> Receipt
-    requires { ⌜ New replica queue (ofInsert insert) × (placementOf (meaning replica .characters) insert ≡ Below k) ⌝ }
+    requires { ⌜ New replica queue (ofInsert insert) ⌝ }
+    requires { ⌜ placementOf (meaning replica .characters) insert ≡ Below k ⌝ }
     ensures { λ r. ⌜ r ≡ received replica (ofInsert insert) ⌝ }
 {
     if is_full(replica, queue, Operation::Insert(insert)) {
@@ -108,7 +111,8 @@ fn integrate(replica: Replica, queue: Queue, insert: Insert, k: usize) -> Receip
 
 // Receives an insert that is new.
 fn receive_new(replica: Replica, index: Index, queue: Queue, insert: Insert) -> Receipt
-    requires { ⌜ Examined replica index queue × New replica queue (ofInsert insert) ⌝ }
+    requires { ⌜ Examined replica index queue ⌝ }
+    requires { ⌜ New replica queue (ofInsert insert) ⌝ }
     ensures { λ r. ⌜ r ≡ received replica (ofInsert insert) ⌝ }
 {
     let d = replica.document;
@@ -122,7 +126,8 @@ fn receive_new(replica: Replica, index: Index, queue: Queue, insert: Insert) -> 
 
 // What a received insert is to a replica that is well formed.
 fn seen_by(replica: Replica, index: Index, queue: Queue, insert: Insert) -> Seen
-    requires { ⌜ Examined replica index queue × (insertInRange insert ≡ true) ⌝ }
+    requires { ⌜ Examined replica index queue ⌝ }
+    requires { ⌜ insertInRange insert ≡ true ⌝ }
     ensures { λ r. ⌜ r ≡ seenOf (meaning replica) insert ⌝ }
 {
     let d = replica.document;
@@ -143,7 +148,8 @@ fn seen_by(replica: Replica, index: Index, queue: Queue, insert: Insert) -> Seen
 
 // Receives an insert.
 pub fn receive_insert(replica: Replica, index: Index, queue: Queue, insert: Insert) -> Receipt
-    requires { ⌜ Examined replica index queue × (insertInRange insert ≡ true) ⌝ }
+    requires { ⌜ Examined replica index queue ⌝ }
+    requires { ⌜ insertInRange insert ≡ true ⌝ }
     ensures { λ r. ⌜ r ≡ received replica (ofInsert insert) ⌝ }
 {
     match seen_by(replica, index, queue, insert) {
@@ -167,7 +173,8 @@ fn receive_absent(replica: Replica, queue: Queue, delete: Delete) -> Receipt
 
 // Receives a delete.
 pub fn receive_delete(replica: Replica, index: Index, queue: Queue, delete: Delete) -> Receipt
-    requires { ⌜ Examined replica index queue × (deleteInRange delete ≡ true) ⌝ }
+    requires { ⌜ Examined replica index queue ⌝ }
+    requires { ⌜ deleteInRange delete ≡ true ⌝ }
     ensures { λ r. ⌜ r ≡ received replica (ofDelete delete) ⌝ }
 {
     let d = replica.document;

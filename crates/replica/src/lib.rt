@@ -54,7 +54,8 @@ pub fn insert(replica: Replica, point: usize, code_point: u32) -> Generated
     generation::insert_visible(replica, index, queue, point, code_point)
 }
 
-// Deletes the visible character at the index, counted from 1, and answers the operation to be sent. (Document 01: erasing.)
+// Deletes the visible character at the index, counted from 1, and answers the operation to be sent. (Document 01:
+// erasing.)
 pub fn delete(replica: Replica, index: usize) -> Generated
     ensures { λ r. ⌜ r ≡ deleted replica index ⌝ }
 {
@@ -66,7 +67,8 @@ pub fn delete(replica: Replica, index: usize) -> Generated
 
 // The visible text of a replica as UTF-8 into the slice: its length, or refusal 3 or 12, and then no byte is changed.
 pub fn visible_text(replica: Replica, out: &mut [u8]) -> Written
-    ensures { λ r. ⌜ (r ≡ textWritten replica (now (out .entry))) × (now (out .exit) ≡ textOut replica (now (out .entry))) ⌝ }
+    ensures { λ r. ⌜ r ≡ textWritten replica (now (out .entry)) ⌝ }
+    ensures { λ _. ⌜ now (out .exit) ≡ textOut replica (now (out .entry)) ⌝ }
 {
     if !well_formed(replica) {
         return Written::Refused(Refusal::Form);

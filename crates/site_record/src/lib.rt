@@ -34,8 +34,8 @@ fn insert_with(site: Site, document: Document, point: usize, code_point: u32) ->
     }
 }
 
-// Inserts a code point at an insertion point, 0 above the first visible character. On success the lent record's clock is
-// one higher, on a refusal all is as it was. (Document 01: typing at a gap.)
+// Inserts a code point at an insertion point, 0 above the first visible character. On success the lent record's clock
+// is one higher, on a refusal all is as it was. (Document 01: typing at a gap.)
 pub fn insert_on(site: &mut Site, document: Document, point: usize, code_point: u32) -> Returned
     ensures { λ x. ⌜ (x ≡ returned (now (site .entry)) document point «code_point»)
         × (now (site .exit) ≡ siteAfter (now (site .entry)) (x .answer)) ⌝ }

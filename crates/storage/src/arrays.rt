@@ -1,5 +1,5 @@
-// The arrays of a document, built anew from filler, so that what is not in use is filler again. A count above the slots is
-// taken as all of them.
+// The arrays of a document, built anew from filler, so that what is not in use is filler again. A count above the slots
+// is taken as all of them.
 use woot::Character;
 use woot::Delete;
 use woot::Identifier;
@@ -38,7 +38,8 @@ fn copied(
     from: usize,
     count: usize,
 ) -> [Character; 1024]
-    requires { ⌜ (at + count ≤ 1024) × (from + count ≤ 1024) ⌝ }
+    requires { ⌜ at + count ≤ 1024 ⌝ }
+    requires { ⌜ from + count ≤ 1024 ⌝ }
     ensures { λ r. ⌜ r ≡ copiedInto out at characters from count ⌝ }
 {
     let mut i = 0;
@@ -138,7 +139,8 @@ fn copied_pending(
     from: usize,
     count: usize,
 ) -> [Pending; 512]
-    requires { ⌜ (at + count ≤ 512) × (from + count ≤ 512) ⌝ }
+    requires { ⌜ at + count ≤ 512 ⌝ }
+    requires { ⌜ from + count ≤ 512 ⌝ }
     ensures { λ r. ⌜ r ≡ copiedInto out at pending from count ⌝ }
 {
     let mut i = 0;

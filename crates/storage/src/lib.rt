@@ -15,7 +15,8 @@ ghost use Rattle.woot.specs.Calls.{withCharacters, withPending};
 // The replica with the target of a delete hidden. A step of the calls and not a call: they have checked the counts.
 pub fn hidden(replica: Replica, delete: Delete) -> Replica
     requires { ⌜ counted replica ≡ true ⌝ }
-    ensures { λ r. ⌜ r ≡ stored (withCharacters (meaning replica) (integrateDelete (meaning replica .characters) delete)) ⌝ }
+    ensures { λ r. ⌜ r
+        ≡ stored (withCharacters (meaning replica) (integrateDelete (meaning replica .characters) delete)) ⌝ }
 {
     let site = replica.site;
     let d = replica.document;
@@ -32,10 +33,11 @@ pub fn hidden(replica: Replica, delete: Delete) -> Replica
     Replica { site, document }
 }
 
-// The replica with one operation more at the end of the pending ones. A step of the calls and not a call: they have checked
-// the counts, and that there is a slot.
+// The replica with one operation more at the end of the pending ones. A step of the calls and not a call: they have
+// checked the counts, and that there is a slot.
 pub fn deferred(replica: Replica, operation: Operation) -> Replica
-    requires { ⌜ (counted replica ≡ true) × (replica .document .waiting < 512) ⌝ }
+    requires { ⌜ counted replica ≡ true ⌝ }
+    requires { ⌜ replica .document .waiting < 512 ⌝ }
     ensures { λ r. ⌜ r ≡ stored (withPending (meaning replica) operation) ⌝ }
 {
     let site = replica.site;

@@ -97,7 +97,8 @@ fn text_length(characters: [Character; 1024], n: usize) -> usize
 
 // Puts the bytes that a character adds to the text into the slice at the offset, and answers the offset just past them.
 fn put(character: Character, out: &mut [u8], at: usize) -> usize
-    ensures { λ r. ⌜ (r ≡ past (now (out .entry)) at (spelt character)) × (now (out .exit) ≡ placed (now (out .entry)) at (spelt character)) ⌝ }
+    ensures { λ r. ⌜ r ≡ past (now (out .entry)) at (spelt character) ⌝ }
+    ensures { λ _. ⌜ now (out .exit) ≡ placed (now (out .entry)) at (spelt character) ⌝ }
 {
     if !character.is_visible() {
         return at;
@@ -107,8 +108,9 @@ fn put(character: Character, out: &mut [u8], at: usize) -> usize
 
 // Puts the text of the first n characters, for which there is room, at the front of the slice.
 fn put_text(characters: [Character; 1024], n: usize, out: &mut [u8])
-    requires { ⌜ (n ≤ 1024) × (length (text (take n characters)) ≤ length (now out)) ⌝ }
-    ensures { λ r. ⌜ now (out .exit) ≡ placed (now (out .entry)) 0 (text (take n characters)) ⌝ }
+    requires { ⌜ n ≤ 1024 ⌝ }
+    requires { ⌜ length (text (take n characters)) ≤ length (now out) ⌝ }
+    ensures { λ _. ⌜ now (out .exit) ≡ placed (now (out .entry)) 0 (text (take n characters)) ⌝ }
 {
     let mut at = 0;
     let mut i = 0;
@@ -121,7 +123,8 @@ fn put_text(characters: [Character; 1024], n: usize, out: &mut [u8])
 
 // Writes the text of the first n characters, or refuses where the slice is too short, and leaves it as it was then.
 pub fn write_text(characters: [Character; 1024], n: usize, out: &mut [u8]) -> Written
-    ensures { λ r. ⌜ (r ≡ writtenAs [] (text (take n characters)) (now (out .entry))) × (now (out .exit) ≡ outputAfter [] (text (take n characters)) (now (out .entry))) ⌝ }
+    ensures { λ r. ⌜ r ≡ writtenAs [] (text (take n characters)) (now (out .entry)) ⌝ }
+    ensures { λ _. ⌜ now (out .exit) ≡ outputAfter [] (text (take n characters)) (now (out .entry)) ⌝ }
 {
     let end = index::lesser(n, 1024);
     let bytes = text_length(characters, end);

@@ -46,7 +46,7 @@ module _ (r : Replica) where
       go true = refl
       go false = refl
 
-  -- the tests of what is queueOf, in the slots in use
+  -- the tests of what is packed, in the slots in use
   abbrev pub indexFormed : Index → Bool
   indexFormed x =
       charactersFormed (take (r .document .length) (x .ids)) (take (r .document .length) (x .above)) (take (r .document .length) (x .below))

@@ -1,4 +1,4 @@
--- The conditions on queueOf numbers are those of the rules, for characters and operations in range: keys are then found as
+-- The conditions on packed numbers are those of the rules, for characters and operations in range: keys are then found as
 -- their identifiers are. A list is distinct where each element is not among those before it.
 use Prim.Native.Nat.{ℕ, suc, _+_, _<_}
 use native.Mathlib.Numerals.{add-one}

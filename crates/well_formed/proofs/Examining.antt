@@ -1,4 +1,4 @@
--- A replica in form with what was queueOf of it: what the numbers say is what the rules say of its meaning.
+-- A replica in form with what was packed of it: what the numbers say is what the rules say of its meaning.
 use Prim.Native.Nat.{ℕ, _<_, _+_}
 use native.Mathlib.Omega.{arith}
 use mathlib.Core.Path.{_≡_, sym, ap, subst, _∙_}
@@ -97,7 +97,7 @@ module _ (r : Replica) (k : Checked) (e : k ≡ checked r) where
       let g : k ≡ formedWith (meaning r) = e ∙ checked-true r f in
       record { form = f; index = ap (λ (c : Checked). c .index) g; queue = ap (λ (c : Checked). c .queue) g }
 
--- ---- with all that was queueOf
+-- ---- with all that was packed
 
 module _ (r : Replica) (x : Index) (q : Queue) (full : FullDocument (r .document)) (e : Examined r x q) where
   -- ---- who has an identifier

@@ -9,7 +9,7 @@ use Rattle.pending.specs.declared.queue.Queue.{Queue}
 use Rattle.index.specs.Index.{indexOf}
 use Rattle.pending.specs.Queue.{queueOf}
 
--- a replica in form, with what was queueOf of it
+-- a replica in form, with what was packed of it
 pub record Examined (r : Replica) (x : Index) (q : Queue) : Type 0 where
   pub form : replicaWellFormed r ≡ true
   pub index : x ≡ indexOf (meaning r .characters)

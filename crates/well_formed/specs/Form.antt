@@ -1,4 +1,4 @@
--- The conditions of form on queueOf numbers.
+-- The conditions of form on packed numbers.
 use Prim.Native.Nat.{ℕ, zero, suc, _+_}
 use mathlib.Core.Bool.{Bool, true, false, _&&_, _||_, not, cond}
 use mathlib.Core.List.{List, []}
@@ -92,7 +92,7 @@ rangesKept r = counted r && allInRange (meaning r)
 unfoldable pub formedWith : State → Checked
 formedWith s = record { formed = true; index = indexOf (s .characters); queue = queueOf (s .pending) }
 
--- what it answers of any other, with nothing queueOf
+-- what it answers of any other, with nothing packed
 unfoldable pub unformed : Checked
 unformed = record { formed = false; index = indexOf []; queue = queueOf [] }
 

@@ -1,5 +1,5 @@
-// The check of a replica's form. The ranges are checked first, on the arrays; then every number is small and no character
-// has a mark's identifier, and the other conditions are checked on what is queueOf.
+// The check of a replica's form. The ranges are checked first, on the arrays; then every number is small and no
+// character has a mark's identifier, and the other conditions are checked on what is packed.
 use index::Found;
 use index::Index;
 use pending::queue;
@@ -14,7 +14,9 @@ ghost use lib.ListN.{length, take};
 ghost use Rattle.lists.specs.Lists.{every};
 ghost use Rattle.woot.specs.Ranges.{characterInRange, inRange};
 ghost use Rattle.storage.specs.Edit.{operations};
-ghost use Rattle.well_formed.specs.Form.{sharesIn, keysDistinct, unheldKey, keysNew, freshAt, noneRepeated, placesOrdered, noneReady, charactersFormed, pendingFormed, rangesKept, unformed, checked};
+ghost use Rattle.well_formed.specs.Form.{sharesIn, keysDistinct, unheldKey, keysNew, freshAt, noneRepeated};
+ghost use Rattle.well_formed.specs.Form.{placesOrdered, noneReady, charactersFormed, pendingFormed};
+ghost use Rattle.well_formed.specs.Form.{rangesKept, unformed, checked};
 
 // Whether refusal 2 would let the first n characters pass.
 fn characters_in_range(characters: [Character; 1024], n: usize) -> bool
@@ -107,7 +109,9 @@ fn keys_new(ids: &[u32], own: &[u32]) -> bool
 
 // Whether an operation is an insert, or a delete that is not pending before it.
 fn fresh_at<'a>(own: &'a [u32], first: &'a [u32], senders: &'a [u8], j: usize) -> bool
-    requires { ⌜ (j < length (now own)) × (length (now first) ≡ length (now own)) × (length (now senders) ≡ length (now own)) ⌝ }
+    requires { ⌜ j < length (now own) ⌝ }
+    requires { ⌜ length (now first) ≡ length (now own) ⌝ }
+    requires { ⌜ length (now senders) ≡ length (now own) ⌝ }
     ensures { λ r. ⌜ r ≡ freshAt (now (own .entry)) (now (first .entry)) (now (senders .entry)) j ⌝ }
 {
     if own[j] != 0 {
@@ -118,7 +122,8 @@ fn fresh_at<'a>(own: &'a [u32], first: &'a [u32], senders: &'a [u8], j: usize) -
 
 // Whether no delete is pending twice from one sender.
 fn none_repeated<'a>(own: &'a [u32], first: &'a [u32], senders: &'a [u8]) -> bool
-    requires { ⌜ (length (now first) ≡ length (now own)) × (length (now senders) ≡ length (now own)) ⌝ }
+    requires { ⌜ length (now first) ≡ length (now own) ⌝ }
+    requires { ⌜ length (now senders) ≡ length (now own) ⌝ }
     ensures { λ r. ⌜ r ≡ noneRepeated (now (own .entry)) (now (first .entry)) (now (senders .entry)) ⌝ }
 {
     let mut j = 0;
@@ -188,8 +193,12 @@ fn pending_formed<'a>(
     second: &'a [u32],
     senders: &'a [u8],
 ) -> bool
-    requires { ⌜ (length (now first) ≡ length (now own)) × (length (now second) ≡ length (now own)) × (length (now senders) ≡ length (now own)) ⌝ }
-    ensures { λ r. ⌜ r ≡ pendingFormed (now (ids .entry)) (now (own .entry)) (now (first .entry)) (now (second .entry)) (now (senders .entry)) ⌝ }
+    requires { ⌜ length (now first) ≡ length (now own) ⌝ }
+    requires { ⌜ length (now second) ≡ length (now own) ⌝ }
+    requires { ⌜ length (now senders) ≡ length (now own) ⌝ }
+    ensures { λ r. ⌜ r
+        ≡ pendingFormed (now (ids .entry)) (now (own .entry)) (now (first .entry)) (now (second .entry))
+        (now (senders .entry)) ⌝ }
 {
     if !shares_kept(senders) {
         return false;
@@ -208,8 +217,11 @@ fn pending_formed<'a>(
 
 // The same of the first w pending operations, with the first n characters.
 fn queue_formed(ids: [u32; 1024], n: usize, queue: Queue, w: usize) -> bool
-    requires { ⌜ (n ≤ 1024) × (w ≤ 512) ⌝ }
-    ensures { λ r. ⌜ r ≡ pendingFormed (take n ids) (take w (queue .own)) (take w (queue .first)) (take w (queue .second)) (take w (queue .senders)) ⌝ }
+    requires { ⌜ n ≤ 1024 ⌝ }
+    requires { ⌜ w ≤ 512 ⌝ }
+    ensures { λ r. ⌜ r
+        ≡ pendingFormed (take n ids) (take w (queue .own)) (take w (queue .first)) (take w (queue .second))
+        (take w (queue .senders)) ⌝ }
 {
     let own = queue.own;
     let first = queue.first;
@@ -249,7 +261,7 @@ fn in_ranges(replica: Replica) -> bool
     pending_in_range(ps, w)
 }
 
-// What the check finds: whether the replica is well formed, and what was queueOf of it to find that out.
+// What the check finds: whether the replica is well formed, and what was packed of it to find that out.
 pub struct Checked {
     pub formed: bool,
     pub index: Index,

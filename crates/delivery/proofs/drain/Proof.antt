@@ -1,15 +1,15 @@
--- `delivery::drain` meets its contract. The loop's invariant: the lists are sound, and draining them ends as draining the
+-- `delivery::drain` meets its contract. The loop's invariant: the lists are sound, and draining them finishedIn as draining the
 -- first ones does.
 use native.Mathlib.Omega.{arith}
 use mathlib.Core.Path.{_≡_, refl, sym, _∙_}
 use borrow.Author.Needs.{needs}
-use Rattle.delivery.specs.Work.{Workable}
-use Rattle.delivery.proofs.Stepping.{ends, done-unready, done-empty, Nearer, step-nearer}
+use Rattle.delivery.specs.Work.{Workable, finishedIn}
+use Rattle.delivery.proofs.Stepping.{done-unready, done-empty, Nearer, step-nearer}
 use Rattle.delivery.proofs.drain.Statement.{statement}
 use Rattle.delivery.proofs.drain.Tie as tie
 
 abbrev Inv-loop : tie.InvT-loop
-Inv-loop w₀ w = Workable w × (ends w ≡ ends w₀)
+Inv-loop w₀ w = Workable w × (finishedIn w ≡ finishedIn w₀)
 
 abbrev μ-loop : tie.MeasureT-loop
 μ-loop w₀ w = w .document .waiting

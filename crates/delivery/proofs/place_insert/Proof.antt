@@ -61,7 +61,7 @@ carry-insert-requires : tie.Need-carry-insert-requires
 carry-insert-requires c κs =
     let d = c .before .before .before .before .before .before .before .pre in
     let s = on (c .before .before .before) _ (c .before .k .given .1) .says-so in
-    (d .tidy, omega (arith, s .4, parts (d .tidy) .length-is), omega (arith, d .room), d .integrated-fits)
+    (d .tidy, (omega (arith, s .4, parts (d .tidy) .length-is), (omega (arith, d .room), d .integrated-fits)))
 
 returns : tie.Need-returns
 returns c = rw (c .discard .ensures) (sym (on (c .before .before .before) Missing (c .before .enum-told .given .1) .becomes))

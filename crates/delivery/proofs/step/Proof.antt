@@ -12,7 +12,7 @@ array-copy-out-p : tie.Need-array-copy-out-p
 array-copy-out-p c = let h = due-within (c .before .before .pre .0) _ (c .before .before .pre .1) in omega arith
 
 take-out-requires : tie.Need-take-out-requires
-take-out-requires c κs = let h = due-within (c .before .before .before .pre .0) _ (c .before .before .before .pre .1) in (c .before .before .before .pre .0 .tidy, h .0, h .1)
+take-out-requires c κs = let h = due-within (c .before .before .before .pre .0) _ (c .before .before .before .pre .1) in (c .before .before .before .pre .0 .tidy, h)
 
 carry-requires : tie.Need-carry-requires
 carry-requires c κs =

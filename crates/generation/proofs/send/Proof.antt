@@ -16,7 +16,7 @@ use Rattle.generation.proofs.send.Tie as tie
 tested : (c : tie.After-document-full) → c .document-full .result ≡ leb capacity (length (known (meaning (c .before .before .args .replica))))
 tested c =
     let s = c .before .before in
-    c .document-full .ensures ∙ room-counted _ (s .pre .0 .form) (full-replica (s .good .0)) _ (s .pre .1)
+    c .document-full .ensures ∙ room-counted _ (s .pre .0 .form) (full-replica (s .good .0)) _ (s .pre .1 .0)
 
 document-full-requires : tie.Need-document-full-requires
 document-full-requires c κs = search needs
@@ -27,12 +27,12 @@ refused-requires c κs = search needs
 returns : tie.Need-returns
 returns c =
     let p = c .before .before .before .before .pre in
-    c .refused .ensures ∙ sym (send-full _ _ (p .0) _ (p .2) (sym (tested (c .before .before)) ∙ c .before .if1 .taken))
+    c .refused .ensures ∙ sym (send-full _ _ (p .0) _ (p .1 .1) (sym (tested (c .before .before)) ∙ c .before .if1 .taken))
 
 integrate-and-drain-requires : tie.Need-integrate-and-drain-requires
 integrate-and-drain-requires c κs =
     let p = c .before .before .before .before .pre in
-    send-placed _ _ (p .0) _ (p .2) (sym (tested (c .before .before)) ∙ c .before .if1 .left)
+    send-placed _ _ (p .0) _ (p .1 .1) (sym (tested (c .before .before)) ∙ c .before .if1 .left)
 
 add-t13 : tie.Need-add-t13
 add-t13 c = search needs
@@ -40,7 +40,7 @@ add-t13 c = search needs
 returns-2 : tie.Need-returns-2
 returns-2 c =
     let p = c .before .before .before .before .before .before .before .pre in
-    send-done _ _ (p .0) _ (p .2) (sym (tested (c .before .before .before .before .before)) ∙ c .before .before .before .before .if1 .left) _ (c .before .before .integrate-and-drain .ensures)
+    send-done _ _ (p .0) _ (p .1 .1) (sym (tested (c .before .before .before .before .before)) ∙ c .before .before .before .before .if1 .left) _ (c .before .before .integrate-and-drain .ensures)
 
 pub send-spec : {M : Type 1} → statement M
 send-spec =

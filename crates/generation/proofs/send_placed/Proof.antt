@@ -42,7 +42,7 @@ enum-known-k : tie.Need-enum-known-k
 enum-known-k c = search needs
 
 send-requires : tie.Need-send-requires
-send-requires c κs = let p = c .before .before .before .before .before .pre in (p .1, p .0 .queue, sym (found (c .before .before .before)) ∙ c .before .k .given .1)
+send-requires c κs = let p = c .before .before .before .before .before .pre in (p .1, (p .0 .queue, sym (found (c .before .before .before)) ∙ c .before .k .given .1))
 
 returns : tie.Need-returns
 returns c = absurd (never-missing _ _ (c .before .before .before .before .before .pre .1) (sym (found (c .before .before .before)) ∙ c .before .enum-told .given .1))

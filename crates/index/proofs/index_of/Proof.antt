@@ -1,4 +1,4 @@
--- `index::index_of` meets its contract: what is keysOf, and the places of the keysOf neighbours.
+-- `index::index_of` meets its contract: what is packed, and the places of the packed neighbours.
 use Prim.Native.Nat.{ℕ, _≤_}
 use native.Mathlib.Omega.{arith}
 use mathlib.Core.Path.{_≡_, ap, _∙_}
@@ -19,7 +19,7 @@ use Rattle.index.proofs.Indexes.{index-path}
 use Rattle.index.proofs.index_of.Statement.{statement}
 use Rattle.index.proofs.index_of.Tie as tie
 
--- what is keysOf, and the slots in use
+-- what is packed, and the slots in use
 record Lent (p : CharacterKeys) (cs : List Character) (n : ℕ) : Type 0 where
   whole : p ≡ keysOf cs
   count : length cs ≡ n

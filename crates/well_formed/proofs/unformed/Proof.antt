@@ -1,4 +1,4 @@
--- `well_formed::unformed`: arrays of zeros are what is queueOf of nothing.
+-- `well_formed::unformed`: arrays of zeros are what is packed of nothing.
 use mathlib.Core.Path.{refl}
 use Rattle.lists.specs.Padding.{pad}
 use Rattle.index.specs.Index.{indexOf}
