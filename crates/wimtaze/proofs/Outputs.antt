@@ -1,73 +1,174 @@
 -- What a call leaves is told of its whole effect at once, so that an equation of effects carries it over. Each law here
 -- says which effect it is once the tests on the way are known.
-use mathlib.Core.Path.{_≡_, sym, subst}
-use mathlib.Core.Bool.{true, false}
-use mathlib.Core.List.{List, []}
+use mathlib.Core.Path.{_≡_, refl, sym, ap, _∙_, subst}
+use mathlib.Core.Bool.{Bool, true, false, _||_, not, cond}
+use mathlib.Core.List.{List, [], _∷_}
 use mathlib.Core.Option.{Option, none, some}
-use Prim.Native.Nat.{ℕ}
+use Prim.Native.Nat.{ℕ, _+_, _≤_, _<_}
+use native.Mathlib.Omega.{arith}
+use borrow.Author.Tests.{leb-true, leb-false, ltb-true, lt-ltb, le-ltb}
+use lib.Dec.{leb, ltb}
+use lib.ListN.{length}
+use Rattle.output.specs.Output.{hasRoom, placed}
+use Rattle.output.proofs.Laws.{placed-short}
 use Rattle.woot.specs.declared.Operation.{Operation}
 use Rattle.woot.specs.declared.Replica.{Replica}
 use Rattle.woot.specs.declared.Refusal.{Refusal}
+use Rattle.woot.specs.declared.Refusal.the-variants.{Form, Output}
 use Rattle.woot.specs.declared.Answer.{Answer}
-use Rattle.woot.specs.declared.Answer.the-variants.{Done}
+use Rattle.woot.specs.declared.Answer.the-variants.{Done, Refused}
 use Rattle.woot.specs.declared.Sent.the-variants.{Done as sentDone, Refused as sentRefused}
 use Rattle.woot.specs.declared.Receipt.{Receipt}
 use Rattle.woot.specs.declared.Generated.{Generated}
+use Rattle.woot.specs.declared.Written.{Written}
 use Rattle.woot.specs.declared.Written.the-variants.{Length, Refused as writtenRefused}
-use Rattle.codec.specs.Calls.{written, outAfter as lineAfter}
-use Rattle.saved.specs.Calls.{saved, outAfter}
+use Rattle.woot.specs.Answers.{changes, _⇒_, first, decided}
+use Rattle.woot.specs.Writing.{writingChecks, writtenAs, outputAfter}
+use Rattle.lines.specs.declared.Room.{Room}
+use Rattle.lines.specs.declared.Room.the-variants.{Until, Short}
+use Rattle.lines.specs.Answers.{roomFor}
+use Rattle.codec.specs.Operations.{operationLine}
+use Rattle.codec.specs.Calls.{fitted}
+use Rattle.woot.specs.Form.{replicaWellFormed}
+use Rattle.replica.specs.Texts.{textOf, textChecks, textWritten, textOut}
+use Rattle.saved.specs.Calls.{bytesOf}
 use Rattle.wimtaze.specs.Results.{result, silent}
-use Rattle.wimtaze.specs.Effects.{Effect, Leaves, turned, unless, saving, changes, receiving, afterBoth, isLength, both, sendingBoth, sending, generating}
+use Rattle.wimtaze.specs.Effects.{Effect, Leaves, quiet, turned, writing, writingBoth}
+use Rattle.wimtaze.specs.Steps.{afterWriting, receiptLeft, sentLeft, generatedLeft, textLeft}
 
 pub carried : {e f : Effect} {r : ℕ} {out line : List ℕ} → e ≡ f → Leaves f r out line → Leaves e r out line
 carried {r = r} {out = out} {line = line} p h = subst (λ (x : Effect). Leaves x r out line) (sym p) h
 
-module _ (out line : List ℕ) {o : Option Refusal} (e : Effect) where
-  -- a refusal that holds turns the call away
-  pub turned-away : {q : Refusal} → o ≡ some q → unless out line o e ≡ turned out line q
-  unfolding unless
-  turned-away h = rw h
+-- a refusal that holds turns the call away
+pub turned-away : (out line : List ℕ) {o : Option Refusal} (e : Effect) {q : Refusal} → o ≡ some q → decided (turned out line) o e ≡ turned out line q
+unfolding decided
+turned-away out line e h = rw h
 
-  -- where none does, it goes on
-  pub goes-on : o ≡ none → unless out line o e ≡ e
-  unfolding unless
-  goes-on h = rw h
+-- ---- one output
+
+module _ (a : Answer) (bytes out : List ℕ) where
+  -- what a writer with no condition of its own does
+  pub writing-written : writing a bytes out ≡ record { result = afterWriting a (writtenAs [] bytes out); output = outputAfter [] bytes out; line = [] }
+  unfolding writing decided turned quiet writtenAs outputAfter writingChecks afterWriting
+  writing-written = go (ltb (length out) (length bytes))
+    where
+      go : (b : Bool)
+          → decided (turned out []) (first ((b ⇒ Output) ∷ [])) (record { result = result a (length bytes) 0; output = placed out 0 bytes; line = [] })
+          ≡ record { result = afterWriting a (decided (λ w. w) (first ((b ⇒ writtenRefused Output) ∷ [])) (Length (length bytes))); output = decided (λ w. out) (first ((b ⇒ writtenRefused Output) ∷ [])) (placed out 0 bytes); line = [] }
+      go true = refl
+      go false = refl
+
+  -- so of bytes that were put, or had no room
+  pub writing-fitted : writing a bytes out ≡ record { result = afterWriting a (fitted bytes out); output = placed out 0 bytes; line = [] }
+  unfolding writing decided fitted turned quiet afterWriting
+  writing-fitted = go (ltb (length out) (length bytes)) refl
+    where
+      go : (b : Bool) → ltb (length out) (length bytes) ≡ b
+          → decided (turned out []) (first ((b ⇒ Output) ∷ [])) (record { result = result a (length bytes) 0; output = placed out 0 bytes; line = [] })
+          ≡ record { result = afterWriting a (cond b (writtenRefused Output) (Length (length bytes))); output = placed out 0 bytes; line = [] }
+      go true e =
+          let kept : placed out 0 bytes ≡ out = placed-short out 0 bytes (omega (arith, ltb-true (length out) (length bytes) e)) in
+          λ i. record { result = silent (Refused Output); output = sym kept i; line = [] }
+      go false e = refl
+
+-- the text of a replica, by what its writer answers
+pub text-written : (r : Replica) (out : List ℕ) → textLeft r out ≡ record { result = afterWriting (Done 0 0) (textWritten r out); output = textOut r out; line = [] }
+unfolding textLeft textWritten textOut textChecks writtenAs outputAfter writingChecks decided turned quiet afterWriting writing
+text-written r out = go (replicaWellFormed r) (ltb (length out) (length (textOf r)))
+  where
+    go : (f b : Bool)
+        → decided (turned out []) (first ((not f ⇒ Form) ∷ [])) (decided (turned out []) (first ((b ⇒ Output) ∷ [])) (record { result = result (Done 0 0) (length (textOf r)) 0; output = placed out 0 (textOf r); line = [] }))
+        ≡ record {
+          result = afterWriting (Done 0 0) (decided (λ w. w) (first ((not f ⇒ writtenRefused Form) ∷ (b ⇒ writtenRefused Output) ∷ [])) (Length (length (textOf r))));
+          output = decided (λ w. out) (first ((not f ⇒ writtenRefused Form) ∷ (b ⇒ writtenRefused Output) ∷ [])) (placed out 0 (textOf r));
+          line = [];
+        }
+    go true true = refl
+    go true false = refl
+    go false b = refl
 
 -- ---- receiving
 
 module _ (x y : Receipt) (e : x ≡ y) (out : List ℕ) where
-  pub unchanged : changes (x .answer) ≡ false →
-      receiving y out ≡ record { result = silent (x .answer); output = out; line = [] }
-  unfolding receiving
+  pub unchanged : changes (x .answer) ≡ false → receiptLeft y out ≡ quiet out [] (x .answer)
+  unfolding receiptLeft
   unchanged h = rw (← e, h)
 
-  pub changed : changes (x .answer) ≡ true → receiving y out ≡ saving (x .answer) (x .replica) out
-  unfolding receiving
+  pub changed : changes (x .answer) ≡ true → receiptLeft y out ≡ writing (x .answer) (bytesOf (x .replica)) out
+  unfolding receiptLeft
   changed h = rw (← e, h)
 
 -- ---- sending
 
-module _ (a : Answer) (r : Replica) (o : Operation) (out line : List ℕ) where
-  pub line-refused : {q : Refusal} → written o line ≡ writtenRefused q → sendingBoth a r o out line ≡ turned out line q
-  unfolding sendingBoth afterBoth both isLength turned
-  line-refused h = rw h
+until-short : {n : ℕ} → Until n ≡ Short → ⊥
+until-short e = let z : _≡_ {A = ℕ} 0 1 = cc in omega arith
 
-  module _ {m : ℕ} (h : written o line ≡ Length m) where
-    pub save-refused : {q : Refusal} → saved r out ≡ writtenRefused q → sendingBoth a r o out line ≡ turned out line q
-    unfolding sendingBoth afterBoth both isLength turned
-    save-refused k = rw (h, k)
+length-refused : {n : ℕ} {q : Refusal} → Length n ≡ writtenRefused q → ⊥
+length-refused e = let z : _≡_ {A = ℕ} 0 1 = cc in omega arith
 
-    pub both-written : {n : ℕ} → saved r out ≡ Length n →
-        sendingBoth a r o out line ≡ record { result = result a n m; output = outAfter r out; line = lineAfter o line }
-    unfolding sendingBoth afterBoth both isLength
-    both-written k = rw (h, k)
+module _ (a : Answer) (bytes sent out line : List ℕ) where
+  -- the two tests on the outputs
+  abbrev decidedBoth : Bool → Bool → Effect
+  decidedBoth b c =
+      decided (turned out line) (first ((b || c ⇒ Output) ∷ []))
+      (record { result = result a (length bytes) (length sent); output = placed out 0 bytes; line = placed line 0 sent })
+
+  pub line-short : roomFor (length line) 0 sent ≡ Short → writingBoth a bytes sent out line ≡ turned out line Output
+  unfolding writingBoth decided roomFor hasRoom
+  line-short h = go (leb (0 + length sent) (length line)) refl h
+    where
+      over : (b : Bool) → decidedBoth b true ≡ turned out line Output
+      over true = refl
+      over false = refl
+
+      go : (b : Bool) → leb (0 + length sent) (length line) ≡ b → cond b (Until (0 + length sent)) Short ≡ Short → writingBoth a bytes sent out line ≡ turned out line Output
+      go true e k = absurd (until-short k)
+      go false e k =
+          let low : length line < length sent = omega (arith, leb-false (0 + length sent) (length line) e) in
+          rw (lt-ltb (length line) (length sent) low) (over (ltb (length out) (length bytes)))
+
+  module _ {m : ℕ} (h : roomFor (length line) 0 sent ≡ Until m) where
+    -- the line has room, and is so long
+    line-room : (ltb (length line) (length sent) ≡ false) × (m ≡ length sent)
+    unfolding roomFor hasRoom
+    line-room = go (leb (0 + length sent) (length line)) refl h
+      where
+        go : (b : Bool) → leb (0 + length sent) (length line) ≡ b → cond b (Until (0 + length sent)) Short ≡ Until m → (ltb (length line) (length sent) ≡ false) × (m ≡ length sent)
+        go true e k =
+            let low : length sent ≤ length line = omega (arith, leb-true (0 + length sent) (length line) e) in
+            let long : 0 + length sent ≡ m = cc in
+            (le-ltb (length line) (length sent) low, omega arith)
+        go false e k = absurd (until-short (sym k))
+
+    pub save-refused : {q : Refusal} → fitted bytes out ≡ writtenRefused q → (writingBoth a bytes sent out line ≡ turned out line q) × (placed out 0 bytes ≡ out)
+    unfolding writingBoth decided fitted
+    save-refused {q} k = go (ltb (length out) (length bytes)) refl k
+      where
+        go : (b : Bool) → ltb (length out) (length bytes) ≡ b → cond b (writtenRefused Output) (Length (length bytes)) ≡ writtenRefused q
+            → (writingBoth a bytes sent out line ≡ turned out line q) × (placed out 0 bytes ≡ out)
+        go true e l =
+            let o : Output ≡ q = cc in
+            (rw e (ap (turned out line) o), placed-short out 0 bytes (omega (arith, ltb-true (length out) (length bytes) e)))
+        go false e l = absurd (length-refused l)
+
+    pub both-written : {n : ℕ} → fitted bytes out ≡ Length n
+        → writingBoth a bytes sent out line ≡ record { result = result a n m; output = placed out 0 bytes; line = placed line 0 sent }
+    unfolding writingBoth decided fitted
+    both-written {n} k = go (ltb (length out) (length bytes)) refl k
+      where
+        go : (b : Bool) → ltb (length out) (length bytes) ≡ b → cond b (writtenRefused Output) (Length (length bytes)) ≡ Length n
+            → writingBoth a bytes sent out line ≡ record { result = result a n m; output = placed out 0 bytes; line = placed line 0 sent }
+        go true e l = absurd (length-refused (sym l))
+        go false e l =
+            let o : length bytes ≡ n = cc in
+            rw (e, line-room .0, o, line-room .1)
 
 module _ (g : Generated) (out line : List ℕ) where
-  pub not-sent : {q : Refusal} → g .answer ≡ sentRefused q → generating g out line ≡ turned out line q
-  unfolding generating sending
+  pub not-sent : {q : Refusal} → g .answer ≡ sentRefused q → generatedLeft g out line ≡ turned out line q
+  unfolding generatedLeft sentLeft
   not-sent h = rw h
 
-  pub sent : {o : Operation} {n m : ℕ} → g .answer ≡ sentDone o n m →
-      generating g out line ≡ sendingBoth (Done n m) (g .replica) o out line
-  unfolding generating sending
-  sent h = rw h
+  pub sent-both : {o : Operation} {n m : ℕ} → g .answer ≡ sentDone o n m →
+      generatedLeft g out line ≡ writingBoth (Done n m) (bytesOf (g .replica)) (operationLine o) out line
+  unfolding generatedLeft sentLeft
+  sent-both h = rw h

@@ -1,15 +1,16 @@
--- The refusal that comes first where both a saved replica and what else was handed have one.
+-- The refusal that comes first where both a saved replica and what else was handed have one. This only serves the proofs
+-- of the code: readers answer refusals 1 and 2 alone.
 use mathlib.Core.Bool.{cond}
-use lib.Dec.{ltb}
+use lib.Dec.{eqb}
 use Rattle.woot.specs.declared.Refusal.{Refusal}
 use Rattle.woot.specs.Answers.{number}
 use Rattle.saved.specs.declared.LoadAnswer.{LoadAnswer}
 use Rattle.saved.specs.declared.LoadAnswer.the-variants.{Done, Refused}
 
--- "the lowest is reported"
-unfoldable pub lower : Refusal → Refusal → Refusal
-lower p q = cond (ltb (number p) (number q)) p q
+-- refusal 1 comes before any other
+unfoldable pub layoutFirst : Refusal → Refusal → Refusal
+layoutFirst p q = cond (eqb (number p) 1) p q
 
-unfoldable pub lowestOf : LoadAnswer → Refusal → Refusal
-lowestOf Done q = q
-lowestOf (Refused p) q = lower p q
+unfoldable pub firstOf : LoadAnswer → Refusal → Refusal
+firstOf Done q = q
+firstOf (Refused p) q = layoutFirst p q

@@ -7,8 +7,8 @@ use lib.ListN.{length}
 use Rattle.woot.specs.State.{State}
 use Rattle.woot.specs.Form.{wellFormed}
 use Rattle.woot.specs.Text.{text}
-use Rattle.wimtaze.specs.Results.{Result, wordNumber, joined, packed}
-use Rattle.wimtaze.specs.Calls.{beginning, receivingLine, inserting, deleting, showingText}
+use Rattle.wimtaze.specs.Results.{Result, wordNumber, inBits, numberOf}
+use Rattle.wimtaze.specs.Calls.{beginning, receivingLine, typing, erasing, showingText}
 
 -- ---- sizes: the header's WIMTAZE_SHEET_MAX, WIMTAZE_INSERT_MAX, WIMTAZE_ERASE_MAX and WIMTAZE_TEXT_MAX
 
@@ -48,30 +48,30 @@ ResultsFit =
     ((number : ℕ) (out : List ℕ) → Fits savedMost 0 (beginning number out .result))
     × ((bytes line out : List ℕ) → Fits savedMost 0 (receivingLine bytes line out .result))
     × ((bytes : List ℕ) (point n : ℕ) (out line : List ℕ) →
-    Fits savedMost insertMost (inserting bytes point n out line .result))
+    Fits savedMost insertMost (typing bytes point n out line .result))
     × ((bytes : List ℕ) (index : ℕ) (out line : List ℕ) →
-    Fits savedMost deleteMost (deleting bytes index out line .result))
+    Fits savedMost deleteMost (erasing bytes index out line .result))
     × ((bytes out : List ℕ) → Fits textMost 0 (showingText bytes out .result))
 
 -- each part is read back from its bits, whatever the parts are
 abbrev pub PartsReadBack : Type 0
 PartsReadBack =
     (w q n m a b : ℕ) →
-    (joined w q n m a b % 4 ≡ w % 4) × (joined w q n m a b / 4 % 64 ≡ q % 64)
-    × (joined w q n m a b / 256 % 4096 ≡ n % 4096)
-    × (joined w q n m a b / 2 ^ 20 % 4096 ≡ m % 4096)
-    × (joined w q n m a b / 2 ^ 32 % 65536 ≡ a % 65536)
-    × (joined w q n m a b / 2 ^ 48 ≡ b % 65536)
+    (inBits w q n m a b % 4 ≡ w % 4) × (inBits w q n m a b / 4 % 64 ≡ q % 64)
+    × (inBits w q n m a b / 256 % 4096 ≡ n % 4096)
+    × (inBits w q n m a b / 2 ^ 20 % 4096 ≡ m % 4096)
+    × (inBits w q n m a b / 2 ^ 32 % 65536 ≡ a % 65536)
+    × (inBits w q n m a b / 2 ^ 48 ≡ b % 65536)
 
 -- of a result that fits no part is cut: each is read back as it is
 abbrev pub ReturnedReadsBack : Type 0
 ReturnedReadsBack =
     (m k : ℕ) (x : Result) → m < 65536 → k < 65536 → Fits m k x →
-    (packed x % 4 ≡ wordNumber (x .reply .word)) × (packed x / 4 % 64 ≡ x .reply .refusal)
-    × (packed x / 256 % 4096 ≡ x .reply .integrated)
-    × (packed x / 2 ^ 20 % 4096 ≡ x .reply .discarded)
-    × (packed x / 2 ^ 32 % 65536 ≡ x .written)
-    × (packed x / 2 ^ 48 ≡ x .line)
+    (numberOf x % 4 ≡ wordNumber (x .reply .word)) × (numberOf x / 4 % 64 ≡ x .reply .refusal)
+    × (numberOf x / 256 % 4096 ≡ x .reply .integrated)
+    × (numberOf x / 2 ^ 20 % 4096 ≡ x .reply .discarded)
+    × (numberOf x / 2 ^ 32 % 65536 ≡ x .written)
+    × (numberOf x / 2 ^ 48 ≡ x .line)
 
 -- ---- outputs of the header's sizes
 
@@ -85,7 +85,7 @@ BuffersSuffice =
     ((number : ℕ) (out : List ℕ) → savedMost ≤ length out → HasRoom (beginning number out .result))
     × ((bytes line out : List ℕ) → savedMost ≤ length out → HasRoom (receivingLine bytes line out .result))
     × ((bytes : List ℕ) (point n : ℕ) (out line : List ℕ) → savedMost ≤ length out → insertMost ≤ length line →
-    HasRoom (inserting bytes point n out line .result))
+    HasRoom (typing bytes point n out line .result))
     × ((bytes : List ℕ) (index : ℕ) (out line : List ℕ) → savedMost ≤ length out → deleteMost ≤ length line →
-    HasRoom (deleting bytes index out line .result))
+    HasRoom (erasing bytes index out line .result))
     × ((bytes out : List ℕ) → textMost ≤ length out → HasRoom (showingText bytes out .result))

@@ -1,4 +1,5 @@
-// What the calls do once nothing that was handed is refused: the new replica saved, a line or the text written.
+// What the calls do once nothing that was handed is refused for its layout or range: the rule, and then the bytes of what
+// it leaves.
 use crate::results;
 use lines::Room;
 use woot::Answer;
@@ -10,45 +11,47 @@ use woot::Sent;
 use woot::Written;
 ghost use mathlib.Core.Path.{_≡_};
 ghost use mathlib.Core.List.{[]};
+ghost use Rattle.woot.specs.Answers.{changes};
+ghost use Rattle.codec.specs.Operations.{operationLine};
 ghost use Rattle.storage.specs.Replicas.{received};
-ghost use Rattle.codec.specs.Calls.{written};
-ghost use Rattle.wimtaze.specs.Results.{packed};
-ghost use Rattle.wimtaze.specs.Effects.{Leaves, afterWriting, saving, changes, receiving, sendingBoth, generating};
-ghost use Rattle.wimtaze.specs.Calls.{showing};
+ghost use Rattle.saved.specs.Calls.{bytesOf};
+ghost use Rattle.wimtaze.specs.Results.{numberOf};
+ghost use Rattle.wimtaze.specs.Effects.{Leaves, writing, writingBoth};
+ghost use Rattle.wimtaze.specs.Steps.{afterWriting, receiptLeft, generatedLeft, textLeft};
 
 // What is returned once writing was tried.
-fn after_writing(a: Answer, w: Written) -> u64
-    ensures { λ r. ⌜ r ≡ packed (afterWriting a w) ⌝ }
+fn after_writing(answer: Answer, written: Written) -> u64
+    ensures { λ r. ⌜ r ≡ numberOf (afterWriting answer written) ⌝ }
 {
-    match w {
-        Written::Length(n) => results::returned(a, n, 0),
-        Written::Refused(q) => results::refused(q),
+    match written {
+        Written::Length(n) => results::returned(answer, n, 0),
+        Written::Refused(refusal) => results::refused(refusal),
     }
 }
 
 // Saves the replica, and answers so.
-pub(crate) fn save(a: Answer, r: Replica, out: &mut [u8]) -> u64
-    ensures { λ x. ⌜ Leaves (saving a r (now (out .entry))) x (now (out .exit)) [] ⌝ }
+pub(crate) fn save(answer: Answer, replica: Replica, out: &mut [u8]) -> u64
+    ensures { λ r. ⌜ Leaves (writing answer (bytesOf replica) (now (out .entry))) r (now (out .exit)) [] ⌝ }
 {
-    after_writing(a, saved::save(r, out))
+    after_writing(answer, saved::put(replica, out))
 }
 
 // Writes the visible text.
-pub(crate) fn show(r: Replica, out: &mut [u8]) -> u64
-    ensures { λ x. ⌜ Leaves (showing r (now (out .entry))) x (now (out .exit)) [] ⌝ }
+pub(crate) fn show(replica: Replica, out: &mut [u8]) -> u64
+    ensures { λ r. ⌜ Leaves (textLeft replica (now (out .entry))) r (now (out .exit)) [] ⌝ }
 {
     let none = Answer::Done {
         integrated: 0,
         discarded: 0,
     };
-    after_writing(none, replica::visible_text(r, out))
+    after_writing(none, replica::visible_text(replica, out))
 }
 
 // Whether the answer is one that changes the replica.
-fn is_change(a: Answer) -> bool
-    ensures { λ r. ⌜ r ≡ changes a ⌝ }
+fn is_change(answer: Answer) -> bool
+    ensures { λ r. ⌜ r ≡ changes answer ⌝ }
 {
-    match a {
+    match answer {
         Answer::Done {
             integrated: _,
             discarded: _,
@@ -60,10 +63,10 @@ fn is_change(a: Answer) -> bool
 }
 
 // Receives the operation, and saves the replica if that changed it.
-pub(crate) fn receive(r: Replica, o: Operation, out: &mut [u8]) -> u64
-    ensures { λ x. ⌜ Leaves (receiving (received r o) (now (out .entry))) x (now (out .exit)) [] ⌝ }
+pub(crate) fn receive(replica: Replica, operation: Operation, out: &mut [u8]) -> u64
+    ensures { λ r. ⌜ Leaves (receiptLeft (received replica operation) (now (out .entry))) r (now (out .exit)) [] ⌝ }
 {
-    let receipt = replica::receive(r, o);
+    let receipt = replica::receive(replica, operation);
     let answer = receipt.answer;
     if !is_change(answer) {
         return results::returned(answer, 0, 0);
@@ -72,34 +75,27 @@ pub(crate) fn receive(r: Replica, o: Operation, out: &mut [u8]) -> u64
     save(answer, after, out)
 }
 
-// What writing the line of the operation into the slice will answer.
-fn line_fits(o: Operation, line: &[u8]) -> Written
-    ensures { λ r. ⌜ r ≡ written o (now (line .entry)) ⌝ }
+// Saves the replica and writes the line, or neither: the line is measured before anything is written.
+fn save_both(
+    answer: Answer,
+    replica: Replica,
+    operation: Operation,
+    out: &mut [u8],
+    line: &mut [u8],
+) -> u64
+    ensures { λ r. ⌜ Leaves (writingBoth answer (bytesOf replica) (operationLine operation) (now (out .entry)) (now (line .entry)))
+        r (now (out .exit)) (now (line .exit)) ⌝ }
 {
-    if !ranges::in_range(o) {
-        return Written::Refused(Refusal::Range);
-    }
-    let room = codec::measure(o, line.len(), 0);
-    match room {
-        Room::Until(length) => Written::Length(length),
-        Room::Short => Written::Refused(Refusal::Output),
-    }
-}
-
-// Saves the replica and writes the line, or neither.
-fn save_both(a: Answer, r: Replica, o: Operation, out: &mut [u8], line: &mut [u8]) -> u64
-    ensures { λ x. ⌜ Leaves (sendingBoth a r o (now (out .entry)) (now (line .entry))) x (now (out .exit)) (now (line .exit)) ⌝ }
-{
-    let fits = line_fits(o, &line[..]);
-    match fits {
-        Written::Refused(q) => results::refused(q),
-        Written::Length(m) => {
-            let kept = saved::save(r, out);
-            match kept {
-                Written::Refused(q) => results::refused(q),
+    let space = codec::measure(operation, line.len(), 0);
+    match space {
+        Room::Short => results::refused(Refusal::Output),
+        Room::Until(length) => {
+            let written = saved::put(replica, out);
+            match written {
+                Written::Refused(refusal) => results::refused(refusal),
                 Written::Length(n) => {
-                    codec::write_operation(o, line);
-                    results::returned(a, n, m)
+                    codec::put_operation(operation, line, 0);
+                    results::returned(answer, n, length)
                 }
             }
         }
@@ -107,12 +103,13 @@ fn save_both(a: Answer, r: Replica, o: Operation, out: &mut [u8], line: &mut [u8
 }
 
 // Saves the new replica and writes the line of the operation to be sent, or answers the refusal.
-pub(crate) fn send(g: Generated, out: &mut [u8], line: &mut [u8]) -> u64
-    ensures { λ x. ⌜ Leaves (generating g (now (out .entry)) (now (line .entry))) x (now (out .exit)) (now (line .exit)) ⌝ }
+pub(crate) fn send(generated: Generated, out: &mut [u8], line: &mut [u8]) -> u64
+    ensures { λ r. ⌜ Leaves (generatedLeft generated (now (out .entry)) (now (line .entry)))
+        r (now (out .exit)) (now (line .exit)) ⌝ }
 {
-    let answer = g.answer;
+    let answer = generated.answer;
     match answer {
-        Sent::Refused(q) => results::refused(q),
+        Sent::Refused(refusal) => results::refused(refusal),
         Sent::Done {
             operation,
             integrated,
@@ -122,7 +119,7 @@ pub(crate) fn send(g: Generated, out: &mut [u8], line: &mut [u8]) -> u64
                 integrated,
                 discarded,
             };
-            let after = g.replica;
+            let after = generated.replica;
             save_both(done, after, operation, out, line)
         }
     }

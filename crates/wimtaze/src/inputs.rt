@@ -1,12 +1,11 @@
 // What a call was handed beside a saved replica, and which refusal over all of it comes first.
-use crate::results;
 use codec::Read;
 use saved::LoadAnswer;
 use woot::Refusal;
 ghost use mathlib.Core.Path.{_≡_};
 ghost use Rattle.codec.specs.Calls.{readAs, saidBy};
 ghost use Rattle.wimtaze.specs.Calls.{oneLine};
-ghost use Rattle.wimtaze.specs.Inputs.{lower, lowestOf};
+ghost use Rattle.wimtaze.specs.Inputs.{layoutFirst, firstOf};
 
 // Reads one line, after which no byte may follow.
 pub(crate) fn read_one(line: &[u8]) -> Read
@@ -19,24 +18,22 @@ pub(crate) fn read_one(line: &[u8]) -> Read
     codec::read_operation(line)
 }
 
-// The one of two refusals that has the lower number.
-fn lower_of(p: Refusal, q: Refusal) -> Refusal
-    ensures { λ r. ⌜ r ≡ lower p q ⌝ }
+// Of two refusals of what was handed, 1 comes first.
+fn layout_first(one: Refusal, other: Refusal) -> Refusal
+    ensures { λ r. ⌜ r ≡ layoutFirst one other ⌝ }
 {
-    let m = results::number_of(p);
-    let n = results::number_of(q);
-    if m < n {
-        return p;
+    if one.number() == 1 {
+        return one;
     }
-    q
+    other
 }
 
-// The refusal of a saved replica or of what else was handed, by the lower number.
-pub(crate) fn lowest(a: LoadAnswer, q: Refusal) -> Refusal
-    ensures { λ r. ⌜ r ≡ lowestOf a q ⌝ }
+// The refusal of a saved replica or of what else was handed.
+pub(crate) fn first_of(answer: LoadAnswer, other: Refusal) -> Refusal
+    ensures { λ r. ⌜ r ≡ firstOf answer other ⌝ }
 {
-    match a {
-        LoadAnswer::Done => q,
-        LoadAnswer::Refused(p) => lower_of(p, q),
+    match answer {
+        LoadAnswer::Done => other,
+        LoadAnswer::Refused(one) => layout_first(one, other),
     }
 }

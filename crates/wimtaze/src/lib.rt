@@ -11,7 +11,7 @@ use woot::Refusal;
 use woot::Replica;
 ghost use mathlib.Core.List.{[]};
 ghost use Rattle.wimtaze.specs.Effects.{Leaves};
-ghost use Rattle.wimtaze.specs.Calls.{beginning, receivingLine, inserting, deleting, showingText};
+ghost use Rattle.wimtaze.specs.Calls.{beginning, receivingLine, typing, erasing, showingText};
 
 // Writes the empty replica of a site.
 #[no_mangle]
@@ -36,7 +36,7 @@ pub extern "C" fn wimtaze_empty(number: u64, out: &mut [u8]) -> u64
 pub extern "C" fn wimtaze_text(bytes: &[u8], out: &mut [u8]) -> u64
     ensures { λ r. ⌜ Leaves (showingText (now (bytes .entry)) (now (out .entry))) r (now (out .exit)) [] ⌝ }
 {
-    let loaded = saved::load(bytes);
+    let loaded = saved::read(bytes);
     let answer = loaded.answer;
     match answer {
         LoadAnswer::Refused(q) => results::refused(q),
@@ -52,11 +52,11 @@ pub extern "C" fn wimtaze_text(bytes: &[u8], out: &mut [u8]) -> u64
 pub extern "C" fn wimtaze_receive(bytes: &[u8], line: &[u8], out: &mut [u8]) -> u64
     ensures { λ r. ⌜ Leaves (receivingLine (now (bytes .entry)) (now (line .entry)) (now (out .entry))) r (now (out .exit)) [] ⌝ }
 {
-    let loaded = saved::load(bytes);
+    let loaded = saved::read(bytes);
     let answer = loaded.answer;
-    let read = inputs::read_one(line);
-    match read {
-        Read::Refused(q) => results::refused(inputs::lowest(answer, q)),
+    let said = inputs::read_one(line);
+    match said {
+        Read::Refused(q) => results::refused(inputs::first_of(answer, q)),
         Read::Operation(o) => match answer {
             LoadAnswer::Refused(q) => results::refused(q),
             LoadAnswer::Done => {
@@ -75,9 +75,9 @@ pub extern "C" fn wimtaze_erase(
     out: &mut [u8],
     line_out: &mut [u8],
 ) -> u64
-    ensures { λ r. ⌜ Leaves (deleting (now (bytes .entry)) index (now (out .entry)) (now («line_out» .entry))) r (now (out .exit)) (now («line_out» .exit)) ⌝ }
+    ensures { λ r. ⌜ Leaves (erasing (now (bytes .entry)) index (now (out .entry)) (now («line_out» .entry))) r (now (out .exit)) (now («line_out» .exit)) ⌝ }
 {
-    let loaded = saved::load(bytes);
+    let loaded = saved::read(bytes);
     let answer = loaded.answer;
     match answer {
         LoadAnswer::Refused(q) => results::refused(q),
@@ -97,12 +97,12 @@ pub extern "C" fn wimtaze_type(
     out: &mut [u8],
     line_out: &mut [u8],
 ) -> u64
-    ensures { λ r. ⌜ Leaves (inserting (now (bytes .entry)) point «code_point» (now (out .entry)) (now («line_out» .entry))) r (now (out .exit)) (now («line_out» .exit)) ⌝ }
+    ensures { λ r. ⌜ Leaves (typing (now (bytes .entry)) point «code_point» (now (out .entry)) (now («line_out» .entry))) r (now (out .exit)) (now («line_out» .exit)) ⌝ }
 {
-    let loaded = saved::load(bytes);
+    let loaded = saved::read(bytes);
     let answer = loaded.answer;
     if !ranges::code_point(code_point) {
-        return results::refused(inputs::lowest(answer, Refusal::Range));
+        return results::refused(inputs::first_of(answer, Refusal::Range));
     }
     match answer {
         LoadAnswer::Refused(q) => results::refused(q),

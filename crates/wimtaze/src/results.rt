@@ -2,29 +2,8 @@
 use woot::Answer;
 use woot::Refusal;
 ghost use mathlib.Core.Path.{_≡_};
-ghost use Rattle.woot.specs.Answers.{number};
 ghost use Rattle.woot.specs.declared.Answer.the-variants.{Refused};
-ghost use Rattle.wimtaze.specs.Results.{joined, result, packed, silent};
-
-// The refusal's number.
-pub(crate) fn number_of(q: Refusal) -> u64
-    ensures { λ r. ⌜ r ≡ number q ⌝ }
-{
-    match q {
-        Refusal::Layout => 1,
-        Refusal::Range => 2,
-        Refusal::Form => 3,
-        Refusal::Position => 4,
-        Refusal::Clock => 5,
-        Refusal::Taken => 6,
-        Refusal::Conflict => 7,
-        Refusal::Crossed => 8,
-        Refusal::Unplaceable => 9,
-        Refusal::SenderFull => 10,
-        Refusal::DocumentFull => 11,
-        Refusal::Output => 12,
-    }
-}
+ghost use Rattle.wimtaze.specs.Results.{inBits, result, numberOf, silent};
 
 // The parts in their bits.
 fn join(
@@ -35,7 +14,7 @@ fn join(
     written: usize,
     line: usize,
 ) -> u64
-    ensures { λ r. ⌜ r ≡ joined word refusal integrated discarded written line ⌝ }
+    ensures { λ r. ⌜ r ≡ inBits word refusal integrated discarded written line ⌝ }
 {
     let low = word % 4 + refusal % 64 * 4;
     let counts = (integrated as u64) % 4096 * 256 + (discarded as u64) % 4096 * 1048576;
@@ -44,23 +23,23 @@ fn join(
 }
 
 // What a call returns that answers so and has written so many bytes.
-pub(crate) fn returned(a: Answer, written: usize, line: usize) -> u64
-    ensures { λ r. ⌜ r ≡ packed (result a written line) ⌝ }
+pub(crate) fn returned(answer: Answer, written: usize, line: usize) -> u64
+    ensures { λ r. ⌜ r ≡ numberOf (result answer written line) ⌝ }
 {
-    match a {
+    match answer {
         Answer::Done {
             integrated,
             discarded,
         } => join(0, 0, integrated, discarded, written, line),
         Answer::Deferred => join(1, 0, 0, 0, written, line),
         Answer::Duplicate => join(2, 0, 0, 0, written, line),
-        Answer::Refused(q) => join(3, number_of(q), 0, 0, written, line),
+        Answer::Refused(q) => join(3, q.number(), 0, 0, written, line),
     }
 }
 
 // A refusal, with nothing written.
-pub(crate) fn refused(q: Refusal) -> u64
-    ensures { λ r. ⌜ r ≡ packed (silent (Refused q)) ⌝ }
+pub(crate) fn refused(refusal: Refusal) -> u64
+    ensures { λ r. ⌜ r ≡ numberOf (silent (Refused refusal)) ⌝ }
 {
-    returned(Answer::Refused(q), 0, 0)
+    returned(Answer::Refused(refusal), 0, 0)
 }

@@ -1,11 +1,15 @@
 -- `wimtaze::wimtaze_empty` meets its contract: the number decides first.
-use mathlib.Core.Path.{refl}
+use mathlib.Core.Path.{refl, ap, _∙_}
 use Prim.Native.Nat.{ℕ}
 use borrow.Author.Tests.{le-leb, lt-leb}
 use native.Mathlib.Omega.{arith}
 use Rattle.woot.specs.Ranges.{within, siteNumber}
-use Rattle.wimtaze.specs.Effects.{turned, unless}
+use Rattle.woot.specs.Answers.{decided}
+use Rattle.wimtaze.specs.Effects.{quiet, turned}
+use Rattle.woot.specs.State.{initial}
+use Rattle.saved.specs.Calls.{bytesOf}
 use Rattle.wimtaze.specs.Calls.{beginning}
+use Rattle.wimtaze.proofs.Bridging.{stored-bytes}
 use borrow.Author.Needs.{needs}
 use Rattle.wimtaze.proofs.wimtaze_empty.Statement.{statement}
 use Rattle.wimtaze.proofs.wimtaze_empty.Tie as tie
@@ -14,7 +18,7 @@ refused-requires : tie.Need-refused-requires
 refused-requires c κs = search needs
 
 returns : tie.Need-returns
-unfolding beginning siteNumber within unless turned
+unfolding beginning siteNumber within decided turned quiet
 returns c =
     let n : ℕ = c .before .before .before .args .number in
     rw (lt-leb 1 n (omega arith)) (c .refused .ensures, refl, refl)
@@ -23,7 +27,7 @@ refused-requires-2 : tie.Need-refused-requires-2
 refused-requires-2 c κs = search needs
 
 returns-2 : tie.Need-returns-2
-unfolding beginning siteNumber within unless turned
+unfolding beginning siteNumber within decided turned quiet
 returns-2 c =
     let n : ℕ = c .before .before .before .before .args .number in
     rw (le-leb 1 n (omega arith), lt-leb n 16 (omega arith)) (c .refused2 .ensures, refl, refl)
@@ -41,10 +45,11 @@ same-length : tie.Need-same-length
 same-length c = search needs
 
 returns-3 : tie.Need-returns-3
-unfolding beginning siteNumber within unless
+unfolding beginning siteNumber within decided
 returns-3 c =
     let n : ℕ = c .before .before .before .before .before .before .before .before .args .number in
-    rw (le-leb 1 n (omega arith), le-leb n 16 (omega arith), ← c .before .before .before .before .empty .ensures) (c .before .before .save .ensures)
+    let bytes = ap bytesOf (c .before .before .before .before .empty .ensures) ∙ stored-bytes (initial n) in
+    rw (le-leb 1 n (omega arith), le-leb n 16 (omega arith), ← bytes) (c .before .before .save .ensures)
 
 pub wimtaze-empty-spec : {M : Type 1} → statement M
 wimtaze-empty-spec =

@@ -3,16 +3,18 @@ use mathlib.Core.Path.{refl, sym, ap, _∙_}
 use Rattle.woot.specs.declared.Replica.{Replica}
 use Rattle.woot.specs.declared.Generated.{Generated}
 use Rattle.storage.specs.Replicas.{deleted}
-use Rattle.wimtaze.specs.Effects.{turned, generating}
-use Rattle.wimtaze.specs.Calls.{deleting}
+use Rattle.wimtaze.specs.Effects.{quiet, turned}
+use Rattle.wimtaze.specs.Steps.{generatedLeft}
+use Rattle.wimtaze.specs.Calls.{erasing}
 use Rattle.wimtaze.proofs.Refusals.{refused-alone, passed}
-use Rattle.wimtaze.proofs.Outputs.{carried, turned-away, goes-on}
+use Rattle.wimtaze.proofs.Outputs.{carried, turned-away}
+use Rattle.wimtaze.proofs.Bridging.{goes-on, erase-bridge}
 use borrow.Author.Needs.{needs}
 use Rattle.wimtaze.proofs.wimtaze_erase.Statement.{statement}
 use Rattle.wimtaze.proofs.wimtaze_erase.Tie as tie
 
-load-requires : tie.Need-load-requires
-load-requires c κs = search needs
+read-requires : tie.Need-read-requires
+read-requires c κs = search needs
 
 enum-known-answer : tie.Need-enum-known-answer
 enum-known-answer c = search needs
@@ -30,9 +32,9 @@ send-requires : tie.Need-send-requires
 send-requires c κs = search needs
 
 returns : tie.Need-returns
-unfolding deleting turned
+unfolding erasing turned quiet
 returns c =
-    carried (turned-away _ _ _ (refused-alone _ _ (c .before .before .before .before .load .ensures) _ (c .before .before .answer .given .1))) (c .refused .ensures, refl, refl)
+    carried (turned-away _ _ _ (refused-alone _ _ (c .before .before .before .before .read .ensures) _ (c .before .before .answer .given .1))) (c .refused .ensures, refl, refl)
 
 same-length : tie.Need-same-length
 same-length c = search needs
@@ -41,18 +43,18 @@ same-length-2 : tie.Need-same-length-2
 same-length-2 c = search needs
 
 returns-2 : tie.Need-returns-2
-unfolding deleting
+unfolding erasing
 returns-2 c =
     let a = c .before .before .before .before .before .before .before .before .before .before .before .before .before .before .before .args in
-    let p = passed _ _ (c .before .before .before .before .before .before .before .before .before .before .before .load .ensures) (c .before .before .before .before .before .before .before .before .before .enum-told .given .1) in
+    let p = passed _ _ (c .before .before .before .before .before .before .before .before .before .before .before .read .ensures) (c .before .before .before .before .before .before .before .before .before .enum-told .given .1) in
     let g = c .before .before .before .before .before .before .before .delete .ensures ∙ ap (λ (r : Replica). deleted r (a .index)) (p .1) in
-    carried (goes-on _ _ _ (p .0) ∙ ap (λ (x : Generated). generating x (a .out .now) (a .line-out .now)) (sym g)) (c .before .before .before .before .send .ensures)
+    carried (goes-on _ _ _ (p .0) ∙ erase-bridge _ _ _ _ ∙ ap (λ (x : Generated). generatedLeft x (a .out .now) (a .line-out .now)) (sym g)) (c .before .before .before .before .send .ensures)
 
 pub wimtaze-erase-spec : {M : Type 1} → statement M
 wimtaze-erase-spec =
     tie.close
     (tie.spec
-    load-requires
+    read-requires
     enum-known-answer
     refused-requires
     enum-told

@@ -1,38 +1,41 @@
--- `wimtaze::wimtaze_type` meets its contract: a code point out of range counts with what the reader refuses, by the lower number.
+-- `wimtaze::wimtaze_type` meets its contract: a code point out of range counts with what the reader refuses, refusal 1 first.
 use mathlib.Core.Path.{refl, sym, ap, _∙_}
-use mathlib.Core.Bool.{true}
+use mathlib.Core.Bool.{Bool, true}
 use mathlib.Core.Option.{some}
 use borrow.Author.Tests.{not-true, not-false}
 use Rattle.woot.specs.declared.Replica.{Replica}
 use Rattle.woot.specs.declared.Generated.{Generated}
+use Rattle.woot.specs.Answers.{first}
 use Rattle.storage.specs.Replicas.{inserted}
-use Rattle.wimtaze.specs.Effects.{turned, generating}
-use Rattle.wimtaze.specs.Calls.{inserting, inputRefusal}
+use Rattle.wimtaze.specs.Effects.{quiet, turned}
+use Rattle.wimtaze.specs.Steps.{generatedLeft}
+use Rattle.wimtaze.specs.Calls.{inputChecks, typing}
 use Rattle.wimtaze.proofs.Refusals.{refused-alone, passed, refused-range}
-use Rattle.wimtaze.proofs.Outputs.{carried, turned-away, goes-on}
+use Rattle.wimtaze.proofs.Outputs.{carried, turned-away}
+use Rattle.wimtaze.proofs.Bridging.{goes-on, type-bridge}
 use borrow.Author.Needs.{needs}
 use Rattle.wimtaze.proofs.wimtaze_type.Statement.{statement}
 use Rattle.wimtaze.proofs.wimtaze_type.Tie as tie
 
-load-requires : tie.Need-load-requires
-load-requires c κs = search needs
+read-requires : tie.Need-read-requires
+read-requires c κs = search needs
 
 code-point-requires : tie.Need-code-point-requires
 code-point-requires c κs = search needs
 
-lowest-requires : tie.Need-lowest-requires
-lowest-requires c κs = search needs
+first-of-requires : tie.Need-first-of-requires
+first-of-requires c κs = search needs
 
 refused-requires : tie.Need-refused-requires
 refused-requires c κs = search needs
 
 returns : tie.Need-returns
-unfolding inserting turned
+unfolding typing turned quiet
 returns c =
     let s = c .before .before .before .before .before .before .before .before .args .bytes .now in
     let out-of-range = sym (c .before .before .before .code-point .ensures) ∙ not-true _ (c .before .before .if1 .taken) in
-    let first = ap (inputRefusal s true) out-of-range ∙ refused-range _ _ (c .before .before .before .before .load .ensures) ∙ ap some (sym (c .before .lowest .ensures)) in
-    carried (turned-away _ _ _ first) (c .refused .ensures, refl, refl)
+    let told = ap (λ (b : Bool). first (inputChecks s true b)) out-of-range ∙ refused-range _ _ (c .before .before .before .before .read .ensures) ∙ ap some (sym (c .before .first-of .ensures)) in
+    carried (turned-away _ _ _ told) (c .refused .ensures, refl, refl)
 
 enum-known-answer : tie.Need-enum-known-answer
 enum-known-answer c = search needs
@@ -50,12 +53,12 @@ send-requires : tie.Need-send-requires
 send-requires c κs = search needs
 
 returns-2 : tie.Need-returns-2
-unfolding inserting turned
+unfolding typing turned quiet
 returns-2 c =
     let s = c .before .before .before .before .before .before .before .before .before .before .args .bytes .now in
     let in-range = sym (c .before .before .before .before .before .code-point .ensures) ∙ not-false _ (c .before .before .before .before .if1 .left) in
-    let first = ap (inputRefusal s true) in-range ∙ refused-alone _ _ (c .before .before .before .before .before .before .load .ensures) _ (c .before .before .answer .given .1) in
-    carried (turned-away _ _ _ first) (c .refused2 .ensures, refl, refl)
+    let told = ap (λ (b : Bool). first (inputChecks s true b)) in-range ∙ refused-alone _ _ (c .before .before .before .before .before .before .read .ensures) _ (c .before .before .answer .given .1) in
+    carried (turned-away _ _ _ told) (c .refused2 .ensures, refl, refl)
 
 same-length : tie.Need-same-length
 same-length c = search needs
@@ -64,23 +67,23 @@ same-length-2 : tie.Need-same-length-2
 same-length-2 c = search needs
 
 returns-3 : tie.Need-returns-3
-unfolding inserting
+unfolding typing
 returns-3 c =
     let a = c .before .before .before .before .before .before .before .before .before .before .before .before .before .before .before .before .before .args in
     let in-range = sym (c .before .before .before .before .before .before .before .before .before .before .before .before .code-point .ensures) ∙ not-false _ (c .before .before .before .before .before .before .before .before .before .before .before .if1 .left) in
-    let p = passed _ _ (c .before .before .before .before .before .before .before .before .before .before .before .before .before .load .ensures) (c .before .before .before .before .before .before .before .before .before .enum-told .given .1) in
+    let p = passed _ _ (c .before .before .before .before .before .before .before .before .before .before .before .before .before .read .ensures) (c .before .before .before .before .before .before .before .before .before .enum-told .given .1) in
     let g = c .before .before .before .before .before .before .before .insert .ensures ∙ ap (λ (r : Replica). inserted r (a .point) (a .code-point)) (p .1) in
     carried
-    (goes-on _ _ _ (ap (inputRefusal (a .bytes .now) true) in-range ∙ p .0) ∙ ap (λ (x : Generated). generating x (a .out .now) (a .line-out .now)) (sym g))
+    (goes-on _ _ _ (ap (λ (b : Bool). first (inputChecks (a .bytes .now) true b)) in-range ∙ p .0) ∙ type-bridge _ _ _ _ _ in-range ∙ ap (λ (x : Generated). generatedLeft x (a .out .now) (a .line-out .now)) (sym g))
     (c .before .before .before .before .send .ensures)
 
 pub wimtaze-type-spec : {M : Type 1} → statement M
 wimtaze-type-spec =
     tie.close
     (tie.spec
-    load-requires
+    read-requires
     code-point-requires
-    lowest-requires
+    first-of-requires
     refused-requires
     returns
     enum-known-answer

@@ -1,30 +1,30 @@
 -- `wimtaze::effects::after_writing` meets its contract, variant by variant.
-use Rattle.wimtaze.specs.Effects.{afterWriting}
+use Rattle.wimtaze.specs.Steps.{afterWriting}
 use borrow.Author.Needs.{needs}
 use Rattle.wimtaze.proofs.effects.after_writing.Statement.{statement}
 use Rattle.wimtaze.proofs.effects.after_writing.Tie as tie
 
-enum-known-w : tie.Need-enum-known-w
-enum-known-w c = search needs
+enum-known-written : tie.Need-enum-known-written
+enum-known-written c = search needs
 
 returned-requires : tie.Need-returned-requires
 returned-requires c κs = search needs
 
-enum-known-w-2 : tie.Need-enum-known-w-2
-enum-known-w-2 c = search needs
+enum-known-written-2 : tie.Need-enum-known-written-2
+enum-known-written-2 c = search needs
 
 refused-requires : tie.Need-refused-requires
 refused-requires c κs = search needs
 
 returns : tie.Need-returns
 unfolding afterWriting
-returns c = rw (c .before .before .w .given .1) (c .returned .ensures)
+returns c = rw (c .before .before .written .given .1) (c .returned .ensures)
 
 returns-2 : tie.Need-returns-2
 unfolding afterWriting
-returns-2 c = rw (c .before .before .w2 .given .1) (c .refused .ensures)
+returns-2 c = rw (c .before .before .written2 .given .1) (c .refused .ensures)
 
 pub after-writing-spec : {M : Type 1} → statement M
 after-writing-spec =
     tie.close
-    (tie.spec enum-known-w returned-requires enum-known-w-2 refused-requires returns returns-2)
+    (tie.spec enum-known-written returned-requires enum-known-written-2 refused-requires returns returns-2)

@@ -1,5 +1,5 @@
 -- `wimtaze::effects::is_change` meets its contract, variant by variant.
-use Rattle.wimtaze.specs.Effects.{changes}
+use Rattle.woot.specs.Answers.{changes}
 use borrow.Author.Needs.{needs}
 use Rattle.wimtaze.proofs.effects.is_change.Statement.{statement}
 use Rattle.wimtaze.proofs.effects.is_change.Tie as tie

@@ -2,6 +2,7 @@
 use mathlib.Core.Path.{refl, sym, _∙_}
 use borrow.Author.Tests.{not-true, not-false}
 use Rattle.wimtaze.specs.Results.{silent}
+use Rattle.wimtaze.specs.Effects.{quiet}
 use Rattle.wimtaze.proofs.Outputs.{carried, unchanged, changed}
 use borrow.Author.Needs.{needs}
 use Rattle.wimtaze.proofs.effects.receive.Statement.{statement}
@@ -17,7 +18,7 @@ returned-requires : tie.Need-returned-requires
 returned-requires c κs = search needs
 
 returns : tie.Need-returns
-unfolding silent
+unfolding silent quiet
 returns c =
     carried
     (unchanged _ _ (c .before .before .before .receive .ensures) _ (sym (c .before .before .is-change .ensures) ∙ not-true _ (c .before .if1 .taken)))

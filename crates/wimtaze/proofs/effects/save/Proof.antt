@@ -1,14 +1,15 @@
 -- `wimtaze::effects::save` meets its contract: what is answered goes by what was written.
 use mathlib.Core.Path.{refl, ap, _∙_}
 use Rattle.woot.specs.declared.Written.{Written}
-use Rattle.wimtaze.specs.Results.{packed}
-use Rattle.wimtaze.specs.Effects.{afterWriting, saving}
+use Rattle.wimtaze.specs.Results.{numberOf}
+use Rattle.wimtaze.specs.Steps.{afterWriting}
+use Rattle.wimtaze.proofs.Outputs.{carried, writing-fitted}
 use borrow.Author.Needs.{needs}
 use Rattle.wimtaze.proofs.effects.save.Statement.{statement}
 use Rattle.wimtaze.proofs.effects.save.Tie as tie
 
-save-requires : tie.Need-save-requires
-save-requires c κs = search needs
+put-requires : tie.Need-put-requires
+put-requires c κs = search needs
 
 after-writing-requires : tie.Need-after-writing-requires
 after-writing-requires c κs = search needs
@@ -17,11 +18,10 @@ same-length : tie.Need-same-length
 same-length c = search needs
 
 returns : tie.Need-returns
-unfolding saving
 returns c =
-    let s = c .before .before .before .save .ensures in
-    let a = c .before .before .before .before .before .before .args .a in
-    (c .after-writing .ensures ∙ ap (λ (w : Written). packed (afterWriting a w)) (s .0), s .1, refl)
+    let s = c .before .before .before .put .ensures in
+    let a = c .before .before .before .before .before .before .args .answer in
+    carried (writing-fitted _ _ _) (c .after-writing .ensures ∙ ap (λ (w : Written). numberOf (afterWriting a w)) (s .0), s .1, refl)
 
 pub save-spec : {M : Type 1} → statement M
-save-spec = tie.close (tie.spec save-requires after-writing-requires same-length returns)
+save-spec = tie.close (tie.spec put-requires after-writing-requires same-length returns)

@@ -1,49 +1,56 @@
--- `wimtaze::effects::save_both` meets its contract: the line is tried first, without writing it.
+-- `wimtaze::effects::save_both` meets its contract: the line is measured first, without writing it.
 use mathlib.Core.Path.{refl, sym, _∙_}
-use Rattle.saved.proofs.Refusals.{save-refuses}
-use Rattle.wimtaze.specs.Effects.{turned}
-use Rattle.wimtaze.proofs.Outputs.{carried, line-refused, save-refused, both-written}
+use Rattle.wimtaze.specs.Effects.{quiet, turned}
+use Rattle.wimtaze.proofs.Outputs.{carried, line-short, save-refused, both-written}
 use borrow.Author.Needs.{needs}
 use Rattle.wimtaze.proofs.effects.save_both.Statement.{statement}
 use Rattle.wimtaze.proofs.effects.save_both.Tie as tie
 
-line-fits-requires : tie.Need-line-fits-requires
-line-fits-requires c κs = search needs
+measure-requires : tie.Need-measure-requires
+measure-requires c κs = search needs
 
-enum-known-fits : tie.Need-enum-known-fits
-enum-known-fits c = search needs
+enum-told : tie.Need-enum-told
+enum-told c = search needs
 
 refused-requires : tie.Need-refused-requires
 refused-requires c κs = search needs
 
-enum-known-fits-2 : tie.Need-enum-known-fits-2
-enum-known-fits-2 c = search needs
+enum-known-space : tie.Need-enum-known-space
+enum-known-space c = search needs
 
-save-requires : tie.Need-save-requires
-save-requires c κs = search needs
+put-requires : tie.Need-put-requires
+put-requires c κs = search needs
 
-enum-known-kept : tie.Need-enum-known-kept
-enum-known-kept c = search needs
+enum-known-written : tie.Need-enum-known-written
+enum-known-written c = search needs
 
 refused-requires-2 : tie.Need-refused-requires-2
 refused-requires-2 c κs = search needs
 
-enum-known-kept-2 : tie.Need-enum-known-kept-2
-enum-known-kept-2 c = search needs
+enum-known-written-2 : tie.Need-enum-known-written-2
+enum-known-written-2 c = search needs
 
-write-operation-requires : tie.Need-write-operation-requires
-write-operation-requires c κs = search needs
+put-operation-requires : tie.Need-put-operation-requires
+put-operation-requires c κs = search needs
 
 returned-requires : tie.Need-returned-requires
 returned-requires c κs = search needs
 
+returns : tie.Need-returns
+unfolding turned quiet
+returns c =
+    carried (line-short _ _ _ _ _ (sym (c .before .before .before .measure .ensures) ∙ c .before .enum-told .given .1)) (c .refused .ensures, refl, refl)
+
 same-length : tie.Need-same-length
 same-length c = search needs
 
-returns : tie.Need-returns
-unfolding turned
-returns c =
-    carried (line-refused _ _ _ _ _ (sym (c .before .before .before .before .line-fits .ensures) ∙ c .before .before .fits2 .given .1)) (c .refused .ensures, refl, refl)
+returns-2 : tie.Need-returns-2
+unfolding turned quiet
+returns-2 c =
+    let s = c .before .before .before .before .before .before .put .ensures in
+    let known = sym (c .before .before .before .before .before .before .before .before .before .before .before .measure .ensures) ∙ c .before .before .before .before .before .before .before .before .before .space .given .1 in
+    let w = save-refused _ _ _ _ _ known (sym (s .0) ∙ c .before .before .written .given .1) in
+    carried (w .0) (c .refused2 .ensures, s .1 ∙ w .1, refl)
 
 same-length-2 : tie.Need-same-length-2
 same-length-2 c = search needs
@@ -51,47 +58,30 @@ same-length-2 c = search needs
 same-length-3 : tie.Need-same-length-3
 same-length-3 c = search needs
 
-returns-2 : tie.Need-returns-2
-unfolding turned
-returns-2 c =
-    let s = c .before .before .before .before .before .before .save .ensures in
-    let refused = sym (s .0) ∙ c .before .before .kept .given .1 in
-    carried
-    (save-refused _ _ _ _ _ (sym (c .before .before .before .before .before .before .before .before .before .before .before .line-fits .ensures) ∙ c .before .before .before .before .before .before .before .before .before .fits3 .given .1) refused)
-    (c .refused2 .ensures, s .1 ∙ save-refuses _ _ _ .1 refused, refl)
-
-same-length-4 : tie.Need-same-length-4
-same-length-4 c = search needs
-
-same-length-5 : tie.Need-same-length-5
-same-length-5 c = search needs
-
 returns-3 : tie.Need-returns-3
 returns-3 c =
-    let s = c .before .before .before .before .before .before .before .before .before .before .save .ensures in
-    carried
-    (both-written _ _ _ _ _ (sym (c .before .before .before .before .before .before .before .before .before .before .before .before .before .before .before .line-fits .ensures) ∙ c .before .before .before .before .before .before .before .before .before .before .before .before .before .fits3 .given .1) (sym (s .0) ∙ c .before .before .before .before .before .before .kept2 .given .1))
-    (c .returned .ensures, s .1, c .before .before .before .write-operation .ensures .1)
+    let s = c .before .before .before .before .before .before .before .before .before .before .put .ensures in
+    let known = sym (c .before .before .before .before .before .before .before .before .before .before .before .before .before .before .before .measure .ensures) ∙ c .before .before .before .before .before .before .before .before .before .before .before .before .before .space .given .1 in
+    carried (both-written _ _ _ _ _ known (sym (s .0) ∙ c .before .before .before .before .before .before .written2 .given .1))
+    (c .returned .ensures, s .1, c .before .before .before .put-operation .ensures .1)
 
 pub save-both-spec : {M : Type 1} → statement M
 save-both-spec =
     tie.close
     (tie.spec
-    line-fits-requires
-    enum-known-fits
+    measure-requires
+    enum-told
     refused-requires
-    enum-known-fits-2
-    save-requires
-    enum-known-kept
+    enum-known-space
+    put-requires
+    enum-known-written
     refused-requires-2
-    enum-known-kept-2
-    write-operation-requires
+    enum-known-written-2
+    put-operation-requires
     returned-requires
-    same-length
     returns
+    same-length
+    returns-2
     same-length-2
     same-length-3
-    returns-2
-    same-length-4
-    same-length-5
     returns-3)

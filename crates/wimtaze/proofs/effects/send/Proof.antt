@@ -1,7 +1,7 @@
 -- `wimtaze::effects::send` meets its contract, variant by variant.
 use mathlib.Core.Path.{refl}
-use Rattle.wimtaze.specs.Effects.{turned}
-use Rattle.wimtaze.proofs.Outputs.{carried, not-sent, sent}
+use Rattle.wimtaze.specs.Effects.{quiet, turned}
+use Rattle.wimtaze.proofs.Outputs.{carried, not-sent, sent-both}
 use borrow.Author.Needs.{needs}
 use Rattle.wimtaze.proofs.effects.send.Statement.{statement}
 use Rattle.wimtaze.proofs.effects.send.Tie as tie
@@ -19,7 +19,7 @@ save-both-requires : tie.Need-save-both-requires
 save-both-requires c κs = search needs
 
 returns : tie.Need-returns
-unfolding turned
+unfolding turned quiet
 returns c = carried (not-sent _ _ _ (c .before .before .answer .given .1)) (c .refused .ensures, refl, refl)
 
 same-length : tie.Need-same-length
@@ -29,7 +29,7 @@ same-length-2 : tie.Need-same-length-2
 same-length-2 c = search needs
 
 returns-2 : tie.Need-returns-2
-returns-2 c = carried (sent _ _ _ (c .before .before .before .before .before .before .before .before .before .answer2 .given .1)) (c .before .before .before .before .save-both .ensures)
+returns-2 c = carried (sent-both _ _ _ (c .before .before .before .before .before .before .before .before .before .answer2 .given .1)) (c .before .before .before .before .save-both .ensures)
 
 pub send-spec : {M : Type 1} → statement M
 send-spec =

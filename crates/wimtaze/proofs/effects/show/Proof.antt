@@ -1,8 +1,9 @@
 -- `wimtaze::effects::show` meets its contract: what is answered goes by what was written.
 use mathlib.Core.Path.{refl, ap, _∙_}
-use Rattle.wimtaze.specs.Results.{packed}
-use Rattle.wimtaze.specs.Effects.{afterWriting}
-use Rattle.wimtaze.specs.Calls.{showing}
+use Rattle.woot.specs.declared.Written.{Written}
+use Rattle.wimtaze.specs.Results.{numberOf}
+use Rattle.wimtaze.specs.Steps.{afterWriting}
+use Rattle.wimtaze.proofs.Outputs.{carried, text-written}
 use borrow.Author.Needs.{needs}
 use Rattle.wimtaze.proofs.effects.show.Statement.{statement}
 use Rattle.wimtaze.proofs.effects.show.Tie as tie
@@ -17,10 +18,9 @@ same-length : tie.Need-same-length
 same-length c = search needs
 
 returns : tie.Need-returns
-unfolding showing
 returns c =
     let t = c .before .before .before .visible-text .ensures in
-    (c .after-writing .ensures ∙ ap (λ w. packed (afterWriting _ w)) (t .0), t .1, refl)
+    carried (text-written _ _) (c .after-writing .ensures ∙ ap (λ (w : Written). numberOf (afterWriting _ w)) (t .0), t .1, refl)
 
 pub show-spec : {M : Type 1} → statement M
 show-spec = tie.close (tie.spec visible-text-requires after-writing-requires same-length returns)

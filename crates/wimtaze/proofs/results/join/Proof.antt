@@ -1,6 +1,6 @@
 -- `wimtaze::results::join` meets its contract: each part stays within its bits, so that no sum wraps.
 use native.Mathlib.Omega.{arith}
-use Rattle.wimtaze.specs.Results.{joined}
+use Rattle.wimtaze.specs.Results.{inBits}
 use borrow.Author.Needs.{needs}
 use Rattle.wimtaze.proofs.results.join.Statement.{statement}
 use Rattle.wimtaze.proofs.results.join.Tie as tie
@@ -36,7 +36,7 @@ add-result-2 : tie.Need-add-result-2
 add-result-2 c = search needs
 
 returns : tie.Need-returns
-unfolding joined
+unfolding inBits
 returns c = omega arith
 
 pub join-spec : {M : Type 1} → statement M

@@ -1,0 +1,145 @@
+-- The rule on the state that the bytes say is the call on the replica that was read: where the state is in form the
+-- replica is that state as it is stored, and where it is not, refusal 3 is all that either answers.
+use Prim.Native.Nat.{ℕ}
+use mathlib.Core.Path.{_≡_, refl, sym, ap, _∙_}
+use mathlib.Core.Bool.{Bool, true, false, not, cond}
+use mathlib.Core.List.{List, [], _∷_}
+use mathlib.Core.Option.{Option, none, some}
+use Rattle.woot.specs.declared.Operation.{Operation}
+use Rattle.woot.specs.declared.Replica.{Replica}
+use Rattle.woot.specs.declared.Refusal.{Refusal}
+use Rattle.woot.specs.declared.Refusal.the-variants.{Form}
+use Rattle.woot.specs.declared.Answer.{Answer}
+use Rattle.woot.specs.declared.Answer.the-variants.{Done, Deferred, Duplicate, Refused}
+use Rattle.woot.specs.declared.Sent.{Sent}
+use Rattle.woot.specs.declared.Sent.the-variants.{Done as sentDone, Refused as sentRefused}
+use Rattle.woot.specs.declared.Receipt.{Receipt}
+use Rattle.woot.specs.declared.Generated.{Generated}
+use Rattle.woot.specs.Ranges.{codePoint, inRange}
+use Rattle.woot.specs.State.{State, meaning, stored}
+use Rattle.woot.specs.Form.{wellFormed, replicaWellFormed}
+use Rattle.woot.specs.Answers.{changes, _⇒_, first, decided}
+use Rattle.woot.specs.Calls.{Outcome, unchanged, receiveChecks, receiveWhen, receive, insertChecks, localInsertWhen, localInsert, deleteChecks, localDeleteWhen, localDelete}
+use Rattle.woot.specs.Text.{text}
+use Rattle.storage.specs.Replicas.{afterAnswer, afterSent, receipt, generated, received, inserted, deleted}
+use Rattle.replica.specs.Texts.{textOf}
+use Rattle.replica.proofs.Runs.{meaning-stored}
+use Rattle.codec.specs.Operations.{operationLine}
+use Rattle.saved.specs.Format.{savedBytes}
+use Rattle.saved.specs.Calls.{bytesOf, held}
+use Rattle.saved.proofs.Held.{held-form}
+use Rattle.wimtaze.specs.Effects.{Effect, quiet, turned, writing, writingBoth, afterReceiving, sending, afterSending}
+use Rattle.wimtaze.specs.Steps.{receiptLeft, sentLeft, generatedLeft, textLeft}
+
+-- the form first, and then the rest
+abbrev pub formed-first : State → List ℕ → List ℕ → Effect → Effect
+formed-first s out line e = decided (turned out line) (first ((not (wellFormed s) ⇒ Form) ∷ [])) e
+
+-- the refusals over what was handed, by what is left of them
+pub goes-on : (out line : List ℕ) {o p : Option Refusal} (e : Effect) → o ≡ p → decided (turned out line) o e ≡ decided (turned out line) p e
+goes-on out line e h = ap (λ (x : Option Refusal). decided (turned out line) x e) h
+
+-- the bytes of a state as it is stored
+pub stored-bytes : (s : State) → bytesOf (stored s) ≡ savedBytes s
+unfolding bytesOf
+stored-bytes s = ap savedBytes (meaning-stored s)
+
+-- ---- what a rule leaves, saved
+
+receipt-saved : (r : Replica) (w : Outcome Answer) (out : List ℕ) → receiptLeft (receipt r w) out ≡ afterReceiving w out
+unfolding receiptLeft receipt afterReceiving changes afterAnswer
+receipt-saved r w out = go (w .answer)
+  where
+    go : (a : Answer)
+        → cond (changes a) (writing a (bytesOf (afterAnswer r (w .state) a)) out) (quiet out [] a)
+        ≡ cond (changes a) (writing a (savedBytes (w .state)) out) (quiet out [] a)
+    go (Done n m) = ap (λ (bytes : List ℕ). writing (Done n m) bytes out) (stored-bytes (w .state))
+    go Deferred = ap (λ (bytes : List ℕ). writing Deferred bytes out) (stored-bytes (w .state))
+    go Duplicate = refl
+    go (Refused q) = refl
+
+sent-saved : (r : Replica) (w : Outcome Sent) (out line : List ℕ) → generatedLeft (generated r w) out line ≡ afterSending w out line
+unfolding generatedLeft generated afterSending sentLeft sending afterSent
+sent-saved r w out line = go (w .answer)
+  where
+    go : (a : Sent) → sentLeft a (afterSent r (w .state) a) out line ≡ sending (w .state) a out line
+    go (sentDone o n m) = ap (λ (bytes : List ℕ). writingBoth (Done n m) bytes (operationLine o) out line) (stored-bytes (w .state))
+    go (sentRefused q) = refl
+
+-- ---- the form
+
+module _ (s : State) (out line : List ℕ) (e : Effect) where
+  formed-on : wellFormed s ≡ true → formed-first s out line e ≡ e
+  unfolding decided
+  formed-on h = rw h
+
+  formed-off : wellFormed s ≡ false → formed-first s out line e ≡ turned out line Form
+  unfolding decided
+  formed-off h = rw h
+
+module _ (s : State) (h : wellFormed s ≡ true) where
+  received-held : (o : Operation) → received (held s) o ≡ receipt (held s) (receive s o)
+  unfolding received receive
+  received-held o = rw (held-form s .0, held-form s .1 h .1)
+
+  inserted-held : (g n : ℕ) → inserted (held s) g n ≡ generated (held s) (localInsert s g n)
+  unfolding inserted localInsert
+  inserted-held g n = rw (held-form s .0, held-form s .1 h .1)
+
+  deleted-held : (p : ℕ) → deleted (held s) p ≡ generated (held s) (localDelete s p)
+  unfolding deleted localDelete
+  deleted-held p = rw (held-form s .0, held-form s .1 h .1)
+
+-- a replica out of form is refused with 3
+module _ (r : Replica) (f : replicaWellFormed r ≡ false) where
+  received-off : (o : Operation) → inRange o ≡ true → received r o ≡ record { answer = Refused Form; replica = r }
+  unfolding received receipt receiveWhen receiveChecks decided unchanged afterAnswer
+  received-off o ranged = rw (ranged, f)
+
+  inserted-off : (g n : ℕ) → codePoint n ≡ true → inserted r g n ≡ record { answer = sentRefused Form; replica = r }
+  unfolding inserted generated localInsertWhen insertChecks decided unchanged afterSent
+  inserted-off g n ranged = rw (ranged, f)
+
+  deleted-off : (p : ℕ) → deleted r p ≡ record { answer = sentRefused Form; replica = r }
+  unfolding deleted generated localDeleteWhen deleteChecks decided unchanged afterSent
+  deleted-off p = rw f
+
+unformed : (r : Replica) (out : List ℕ) → replicaWellFormed r ≡ false → textLeft r out ≡ turned out [] Form
+unfolding textLeft decided
+unformed r out f = rw f
+
+-- ---- the calls
+
+module _ (s : State) (out : List ℕ) where
+  pub receive-bridge : (o : Operation) → inRange o ≡ true → formed-first s out [] (afterReceiving (receive s o) out) ≡ receiptLeft (received (held s) o) out
+  unfolding receiptLeft turned changes
+  receive-bridge o ranged = go (wellFormed s) refl
+    where
+      go : (b : Bool) → wellFormed s ≡ b → formed-first s out [] (afterReceiving (receive s o) out) ≡ receiptLeft (received (held s) o) out
+      go true e = formed-on s out [] _ e ∙ sym (receipt-saved (held s) (receive s o) out) ∙ ap (λ (x : Receipt). receiptLeft x out) (sym (received-held s e o))
+      go false e = formed-off s out [] _ e ∙ ap (λ (x : Receipt). receiptLeft x out) (sym (received-off (held s) (held-form s .0 ∙ e) o ranged))
+
+  pub text-bridge : formed-first s out [] (writing (Done 0 0) (text (s .characters)) out) ≡ textLeft (held s) out
+  unfolding textLeft textOf
+  text-bridge = go (wellFormed s) refl
+    where
+      go : (b : Bool) → wellFormed s ≡ b → formed-first s out [] (writing (Done 0 0) (text (s .characters)) out) ≡ textLeft (held s) out
+      go true e = rw (held-form s .0, held-form s .1 e .1)
+      go false e = formed-off s out [] _ e ∙ sym (unformed (held s) out (held-form s .0 ∙ e))
+
+  module _ (line : List ℕ) where
+    pub type-bridge : (g n : ℕ) → codePoint n ≡ true → formed-first s out line (afterSending (localInsert s g n) out line) ≡ generatedLeft (inserted (held s) g n) out line
+    unfolding generatedLeft sentLeft
+    type-bridge g n ranged = go (wellFormed s) refl
+      where
+        go : (b : Bool) → wellFormed s ≡ b → formed-first s out line (afterSending (localInsert s g n) out line) ≡ generatedLeft (inserted (held s) g n) out line
+        go true e = formed-on s out line _ e ∙ sym (sent-saved (held s) (localInsert s g n) out line) ∙ ap (λ (x : Generated). generatedLeft x out line) (sym (inserted-held s e g n))
+        go false e = formed-off s out line _ e ∙ ap (λ (x : Generated). generatedLeft x out line) (sym (inserted-off (held s) (held-form s .0 ∙ e) g n ranged))
+
+    pub erase-bridge : (p : ℕ) → formed-first s out line (afterSending (localDelete s p) out line) ≡ generatedLeft (deleted (held s) p) out line
+    unfolding generatedLeft sentLeft
+    erase-bridge p = go (wellFormed s) refl
+      where
+        go : (b : Bool) → wellFormed s ≡ b → formed-first s out line (afterSending (localDelete s p) out line) ≡ generatedLeft (deleted (held s) p) out line
+        go true e = formed-on s out line _ e ∙ sym (sent-saved (held s) (localDelete s p) out line) ∙ ap (λ (x : Generated). generatedLeft x out line) (sym (deleted-held s e p))
+        go false e = formed-off s out line _ e ∙ ap (λ (x : Generated). generatedLeft x out line) (sym (deleted-off (held s) (held-form s .0 ∙ e) p))
