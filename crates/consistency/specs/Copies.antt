@@ -7,7 +7,6 @@ use lib.ListN.{take}
 use Rattle.woot.specs.declared.Operation.{Operation}
 use Rattle.woot.specs.declared.Character.{Character}
 use Rattle.woot.specs.declared.Replica.{Replica}
-use Rattle.woot.specs.declared.Answer.{Answer}
 use Rattle.woot.specs.declared.Written.{Written}
 use Rattle.woot.specs.declared.Written.the-variants.{Length, Refused as writtenRefused}
 use Rattle.woot.specs.State.{State, initial, meaning, stored}
@@ -15,8 +14,7 @@ use Rattle.woot.specs.Answers.{Word, done, waits, known, refused, reply, answer
 use Rattle.woot.specs.Calls.{integrated}
 use Rattle.woot.specs.Text.{text}
 use Rattle.woot.specs.Histories.{inserting, deleting, receiving, outcome, Call as RuleCall}
-use Rattle.storage.specs.Replicas.{received, inserted, deleted}
-use Rattle.replica.specs.Theorems.{called}
+use Rattle.replica.specs.Theorems.{called, answerTo}
 use Rattle.site_record.specs.declared.Returned.{Returned}
 use Rattle.site_record.specs.Lent.{together, returned, siteAfter}
 use Rattle.codec.specs.Calls.{saidBy}
@@ -25,32 +23,46 @@ use Rattle.saved.specs.declared.LoadAnswer.{LoadAnswer}
 use Rattle.saved.specs.declared.LoadAnswer.the-variants.{Done as loadDone, Refused as loadRefused}
 use Rattle.saved.specs.Format.{savedState}
 use Rattle.saved.specs.Calls.{loaded, saved, outAfter}
-use Rattle.wimtaze.specs.Results.{packed}
+use Rattle.wimtaze.specs.Results.{numberOf}
 use Rattle.wimtaze.specs.Effects.{Effect}
-use Rattle.wimtaze.specs.Calls.{beginning, receivingLine, inserting as typing, deleting as erasing}
+use Rattle.wimtaze.specs.Calls.{beginning, receivingLine, typing, erasing}
 
 -- a replica in memory, or the bytes of a saved one
 pub data Copy : Type 0 where
   inMemory : Replica → Copy
   asBytes : List ℕ → Copy
 
--- the kinds of call, with any arguments, and with whatever the lent slices hold before the call
-pub data Call : Type 0 where
+-- the calls on a replica in memory, with any arguments, and with whatever the lent slices hold before the call
+pub data MemoryCall : Type 0 where
   -- `replica::insert`, `replica::delete`, `replica::receive`
-  onReplica : RuleCall → Call
+  onReplica : RuleCall → MemoryCall
   -- `site_record::insert_on`: an insertion point and a code point
-  onRecord : ℕ → ℕ → Call
+  onRecord : ℕ → ℕ → MemoryCall
   -- `report::answer_line`: the first line of these bytes is read and received
-  onLine : List ℕ → Call
-  -- `saved::save` into a lent slice, and `saved::load`
-  save : List ℕ → Call
-  load : Call
+  onLine : List ℕ → MemoryCall
+  -- `saved::save` into a lent slice
+  save : List ℕ → MemoryCall
+
+-- the calls on saved bytes
+pub data BytesCall : Type 0 where
+  -- `saved::load`
+  load : BytesCall
   -- `wimtaze_receive`: a line; the output
-  receiveLine : List ℕ → List ℕ → Call
+  receiveLine : List ℕ → List ℕ → BytesCall
   -- `wimtaze_type`: a gap, a code point; both outputs
-  type : ℕ → ℕ → List ℕ → List ℕ → Call
+  type : ℕ → ℕ → List ℕ → List ℕ → BytesCall
   -- `wimtaze_erase`: a place; both outputs
-  erase : ℕ → List ℕ → List ℕ → Call
+  erase : ℕ → List ℕ → List ℕ → BytesCall
+
+-- every kind of call
+pub data Call : Type 0 where
+  memoryCall : MemoryCall → Call
+  bytesCall : BytesCall → Call
+
+-- what a call comes to: the copy that the next call gets, and the operations that this one carried out
+pub record Stepped : Type 0 where
+  pub copy : Copy
+  pub carried : List Operation
 
 -- ---- what a call leaves
 
@@ -70,10 +82,11 @@ writtenRead r = r / 2 ^ 32 % 65536
 
 -- the word that a call on bytes replies with
 unfoldable pub wordOf : Effect → Word
-wordOf e = wordRead (packed (e .result))
+wordOf e = wordRead (numberOf (e .result))
 
-unfoldable pub afterEffect : List ℕ → Effect → Copy
-afterEffect bytes e = asBytes (bytesAfter (wordOf e) bytes (take (writtenRead (packed (e .result))) (e .output)))
+-- the bytes that a C program keeps
+unfoldable pub keptBytes : List ℕ → Effect → Copy
+keptBytes bytes e = asBytes (bytesAfter (wordOf e) bytes (take (writtenRead (numberOf (e .result))) (e .output)))
 
 -- inserting on the lent record: the record as it is left, and the document that came back
 unfoldable pub afterRecord : Replica → Returned → Replica
@@ -88,34 +101,6 @@ unfoldable pub afterLoading : List ℕ → Replica → LoadAnswer → Copy
 afterLoading bytes r loadDone = inMemory r
 afterLoading bytes r (loadRefused q) = asBytes bytes
 
--- a replica in memory after a call; one that takes saved bytes is not made on it
-unfoldable pub afterInMemory : Replica → Call → Copy
-afterInMemory r (onReplica c) = inMemory (called r c)
-afterInMemory r (onRecord g n) = inMemory (afterRecord r (returned (r .site) (r .document) g n))
-afterInMemory r (onLine s) = inMemory (answered r s .replica)
-afterInMemory r (save out) = afterSaving r (outAfter r out) (saved r out)
-afterInMemory r load = inMemory r
-afterInMemory r (receiveLine line out) = inMemory r
-afterInMemory r (type g n out line) = inMemory r
-afterInMemory r (erase p out line) = inMemory r
-
--- a saved one; one that takes a replica in memory is not made on it
-unfoldable pub afterAsBytes : List ℕ → Call → Copy
-afterAsBytes b (onReplica c) = asBytes b
-afterAsBytes b (onRecord g n) = asBytes b
-afterAsBytes b (onLine s) = asBytes b
-afterAsBytes b (save out) = asBytes b
-afterAsBytes b load = afterLoading b (loaded b .replica) (loaded b .answer)
-afterAsBytes b (receiveLine line out) = afterEffect b (receivingLine b line out)
-afterAsBytes b (type g n out line) = afterEffect b (typing b g n out line)
-afterAsBytes b (erase p out line) = afterEffect b (erasing b p out line)
-
-unfoldable pub after : Copy → Call → Copy
-after (inMemory r) c = afterInMemory r c
-after (asBytes b) c = afterAsBytes b c
-
--- ---- what a call carries out
-
 -- what a copy says
 unfoldable pub stateOf : Copy → State
 stateOf (inMemory r) = meaning r
@@ -128,50 +113,54 @@ whenDone waits s c = []
 whenDone known s c = []
 whenDone refused s c = []
 
--- what `replica::insert`, `replica::delete` and `replica::receive` answer
-unfoldable pub answerTo : Replica → RuleCall → Answer
-answerTo r (inserting g n) = answerOf (inserted r g n .answer)
-answerTo r (deleting p) = answerOf (deleted r p .answer)
-answerTo r (receiving o) = received r o .answer
+-- ---- one step
 
-unfoldable pub carriedInMemory : Replica → Call → List Operation
-carriedInMemory r (onReplica c) = whenDone (reply (answerTo r c) .word) (meaning r) c
-carriedInMemory r (onRecord g n) =
-    whenDone (reply (answerOf (returned (r .site) (r .document) g n .answer)) .word) (meaning r) (inserting g n)
-carriedInMemory r (onLine s) = whenDone (reply (answered r s .answer) .word) (meaning r) (receiving (saidBy s))
-carriedInMemory r (save out) = []
-carriedInMemory r load = []
-carriedInMemory r (receiveLine line out) = []
-carriedInMemory r (type g n out line) = []
-carriedInMemory r (erase p out line) = []
+-- on a replica in memory
+unfoldable pub onMemory : Replica → MemoryCall → Stepped
+onMemory r (onReplica c) =
+    record { copy = inMemory (called r c); carried = whenDone (reply (answerTo r c) .word) (meaning r) c }
+onMemory r (onRecord g n) =
+    let x : Returned = returned (r .site) (r .document) g n in
+    record {
+      copy = inMemory (afterRecord r x);
+      carried = whenDone (reply (answerOf (x .answer)) .word) (meaning r) (inserting g n);
+    }
+onMemory r (onLine s) =
+    record {
+      copy = inMemory (answered r s .replica);
+      carried = whenDone (reply (answered r s .answer) .word) (meaning r) (receiving (saidBy s));
+    }
+onMemory r (save out) = record { copy = afterSaving r (outAfter r out) (saved r out); carried = [] }
 
-unfoldable pub carriedAsBytes : List ℕ → Call → List Operation
-carriedAsBytes b (onReplica c) = []
-carriedAsBytes b (onRecord g n) = []
-carriedAsBytes b (onLine s) = []
-carriedAsBytes b (save out) = []
-carriedAsBytes b load = []
-carriedAsBytes b (receiveLine line out) =
-    whenDone (wordOf (receivingLine b line out)) (savedState b) (receiving (saidBy line))
-carriedAsBytes b (type g n out line) =
-    whenDone (wordOf (typing b g n out line)) (savedState b) (inserting g n)
-carriedAsBytes b (erase p out line) = whenDone (wordOf (erasing b p out line)) (savedState b) (deleting p)
+-- a C call on bytes, which makes the call of the rules on what they say
+unfoldable pub byEffect : List ℕ → Effect → RuleCall → Stepped
+byEffect b e c = record { copy = keptBytes b e; carried = whenDone (wordOf e) (savedState b) c }
 
-unfoldable pub carried : Copy → Call → List Operation
-carried (inMemory r) c = carriedInMemory r c
-carried (asBytes b) c = carriedAsBytes b c
+-- on saved bytes
+unfoldable pub onBytes : List ℕ → BytesCall → Stepped
+onBytes b load = record { copy = afterLoading b (loaded b .replica) (loaded b .answer); carried = [] }
+onBytes b (receiveLine line out) = byEffect b (receivingLine b line out) (receiving (saidBy line))
+onBytes b (type g n out line) = byEffect b (typing b g n out line) (inserting g n)
+onBytes b (erase p out line) = byEffect b (erasing b p out line) (deleting p)
+
+-- a call that takes the other kind of copy is not made on it
+unfoldable pub stepOn : Copy → Call → Stepped
+stepOn (inMemory r) (memoryCall c) = onMemory r c
+stepOn (inMemory r) (bytesCall c) = record { copy = inMemory r; carried = [] }
+stepOn (asBytes b) (memoryCall c) = record { copy = asBytes b; carried = [] }
+stepOn (asBytes b) (bytesCall c) = onBytes b c
 
 -- ---- lists of calls
 
 -- "every call gets the sheet, record included, as the call before returned or left it"
 abbrev pub ran : Copy → List Call → Copy
 ran p [] = p
-ran p (c ∷ cs) = ran (after p c) cs
+ran p (c ∷ cs) = ran (stepOn p c .copy) cs
 
 -- the operations carried out over the calls, in order
 abbrev pub carriedBy : Copy → List Call → List Operation
 carriedBy p [] = []
-carriedBy p (c ∷ cs) = carried p c ++ carriedBy (after p c) cs
+carriedBy p (c ∷ cs) = stepOn p c .carried ++ carriedBy (stepOn p c .copy) cs
 
 -- an empty copy of any number: `Replica::empty`, or what `wimtaze_empty` writes into a lent slice, no bytes if it
 -- refuses
@@ -181,7 +170,7 @@ pub data Empty : Type 0 where
 
 unfoldable pub begun : Empty → Copy
 begun (emptyReplica n) = inMemory (stored (initial n))
-begun (emptyBytes n out) = afterEffect [] (beginning n out)
+begun (emptyBytes n out) = keptBytes [] (beginning n out)
 
 -- the characters of a copy, and the bytes of its visible text
 unfoldable pub charactersOf : Copy → List Character

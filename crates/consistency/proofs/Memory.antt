@@ -12,21 +12,20 @@ use Rattle.woot.specs.declared.Sent.{Sent}
 use Rattle.woot.specs.declared.Sent.the-variants.{Done as sentDone, Refused as sentRefused}
 use Rattle.woot.specs.Ranges.{inRange}
 use Rattle.woot.specs.State.{State, stored}
-use Rattle.woot.specs.Answers.{reply, answerOf}
+use Rattle.woot.specs.Answers.{reply, changes, answerOf}
 use Rattle.woot.specs.Calls.{receive, localInsert, localDelete}
 use Rattle.woot.specs.Histories.{inserting, deleting, receiving, outcome, Call as RuleCall}
 use Rattle.storage.specs.Replicas.{afterAnswer, afterSent, receipt, generated, received, inserted, deleted}
-use Rattle.replica.specs.Theorems.{called}
+use Rattle.replica.specs.Theorems.{called, answerTo}
 use Rattle.replica.proofs.Runs.{Within, formed-within, meaning-stored, form-stored}
 use Rattle.site_record.specs.Lent.{returned}
 use Rattle.site_record.proofs.Sites.{lent-follows}
 use Rattle.codec.specs.Calls.{laidOut, saidBy, readOperation}
 use Rattle.codec.proofs.Judging.{read-layout, read-range, read-operation}
 use Rattle.report.specs.Calls.{answeredAs, answered}
-use Rattle.wimtaze.specs.Effects.{changes}
-use Rattle.copies.specs.Copies.{Call, onReplica, onRecord, onLine, save, load, receiveLine, type, erase, inMemory, afterRecord, afterSaving, afterInMemory, after, whenDone, answerTo, carriedInMemory, carried}
-use Rattle.copies.proofs.Holding.{memory, bytes, Step, left, made, Steps, carries, changed-formed}
-use Rattle.copies.proofs.Saving.{Saving, fits, refuses, saving}
+use Rattle.consistency.specs.Copies.{MemoryCall, onReplica, onRecord, onLine, save, memoryCall, inMemory, afterRecord, afterSaving, whenDone, onMemory, stepOn}
+use Rattle.consistency.proofs.Holding.{memory, bytes, Step, left, made, Steps, carries, changed-formed}
+use Rattle.consistency.proofs.Saving.{Saving, fits, refuses, saving}
 
 -- ---- the calls on what stores a state
 
@@ -80,43 +79,38 @@ module _ (s : State) (w : Within s) where
   answered-step c Duplicate e = left (memory s w) refl
   answered-step c (Refused q) e = left (memory s w) refl
 
-  replica-step : (c : RuleCall) → Steps s (inMemory (stored s)) (onReplica c)
-  unfolding after afterInMemory carried carriedInMemory
+  replica-step : (c : RuleCall) → Steps s (inMemory (stored s)) (memoryCall (onReplica c))
+  unfolding stepOn onMemory
   replica-step c =
       let d = called-stored c in
       rw (d .0, d .1, meaning-stored s) (answered-step c (outcome s c .answer) refl)
 
   -- the lent record and the document together are what the call returns
-  record-step : (g n : ℕ) → Steps s (inMemory (stored s)) (onRecord g n)
-  unfolding after afterInMemory carried carriedInMemory afterRecord returned answerTo
+  record-step : (g n : ℕ) → Steps s (inMemory (stored s)) (memoryCall (onRecord g n))
+  unfolding stepOn onMemory afterRecord returned answerTo
   record-step g n =
       rw (lent-follows (stored s .site) (stored s .document) g n, returned) (replica-step (inserting g n))
 
   -- a line that is not read is refused
-  line-step : (l : List ℕ) → Steps s (inMemory (stored s)) (onLine l)
-  unfolding after afterInMemory carried carriedInMemory answered answeredAs readOperation whenDone reply called answerTo
+  line-step : (l : List ℕ) → Steps s (inMemory (stored s)) (memoryCall (onLine l))
+  unfolding stepOn onMemory answered answeredAs readOperation whenDone reply called answerTo
   line-step l = go (laidOut l) refl (inRange (saidBy l)) refl
     where
-      go : (a : Bool) → laidOut l ≡ a → (b : Bool) → inRange (saidBy l) ≡ b → Steps s (inMemory (stored s)) (onLine l)
+      go : (a : Bool) → laidOut l ≡ a → (b : Bool) → inRange (saidBy l) ≡ b → Steps s (inMemory (stored s)) (memoryCall (onLine l))
       go false e b f = rw (e, read-layout (saidBy l)) (left (memory s w) refl)
       go true e false f = rw (e, read-range (saidBy l) f) (left (memory s w) refl)
       go true e true f = rw (e, read-operation (saidBy l) f) (replica-step (receiving (saidBy l)))
 
-  save-step : (out : List ℕ) → Steps s (inMemory (stored s)) (save out)
-  unfolding after afterInMemory carried carriedInMemory afterSaving
+  save-step : (out : List ℕ) → Steps s (inMemory (stored s)) (memoryCall (save out))
+  unfolding stepOn onMemory afterSaving
   save-step out = go (saving s w out)
     where
-      go : Saving s out → Steps s (inMemory (stored s)) (save out)
+      go : Saving s out → Steps s (inMemory (stored s)) (memoryCall (save out))
       go (fits f e t) = rw (e, t) (left (bytes s f) refl)
       go (refuses e) = rw e (left (memory s w) refl)
 
-  pub memory-step : (c : Call) → Steps s (inMemory (stored s)) c
-  unfolding after afterInMemory carried carriedInMemory
+  pub memory-step : (c : MemoryCall) → Steps s (inMemory (stored s)) (memoryCall c)
   memory-step (onReplica c) = replica-step c
   memory-step (onRecord g n) = record-step g n
   memory-step (onLine l) = line-step l
   memory-step (save out) = save-step out
-  memory-step load = left (memory s w) refl
-  memory-step (receiveLine line out) = left (memory s w) refl
-  memory-step (type g n out line) = left (memory s w) refl
-  memory-step (erase p out line) = left (memory s w) refl

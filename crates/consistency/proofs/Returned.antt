@@ -4,14 +4,14 @@ use mathlib.Core.Path.{_≡_}
 use mathlib.Core.List.{List}
 use lib.ListN.{take}
 use Rattle.woot.specs.Answers.{Word, done, waits, known, refused}
-use Rattle.wimtaze.specs.Results.{wordNumber, packed}
+use Rattle.wimtaze.specs.Results.{wordNumber, numberOf}
 use Rattle.wimtaze.specs.Effects.{Effect}
 use Rattle.wimtaze.specs.Theorems.{Fits}
 use Rattle.wimtaze.proofs.Parts.{returned-reads-back}
-use Rattle.copies.specs.Copies.{Copy, asBytes, bytesAfter, wordRead, writtenRead, wordOf, afterEffect}
+use Rattle.consistency.specs.Copies.{Copy, asBytes, bytesAfter, wordRead, writtenRead, wordOf, keptBytes}
 
 word-read : (r : ℕ) (w : Word) → r % 4 ≡ wordNumber w → wordRead r ≡ w
-unfolding wordRead wordNumber
+unfolding wordRead
 word-read r done e = rw e
 word-read r waits e = rw e
 word-read r known e = rw e
@@ -24,10 +24,10 @@ kept bytes e = asBytes (bytesAfter (e .result .reply .word) bytes (take (e .resu
 module _ {m k : ℕ} (e : Effect) (f : Fits m k (e .result)) (hm : m < 65536) (hk : k < 65536) where
   pub word-returned : wordOf e ≡ e .result .reply .word
   unfolding wordOf
-  word-returned = word-read (packed (e .result)) (e .result .reply .word) (returned-reads-back m k (e .result) hm hk f .0)
+  word-returned = word-read (numberOf (e .result)) (e .result .reply .word) (returned-reads-back m k (e .result) hm hk f .0)
 
   -- what a C program keeps
   pub effect-returned : (bytes : List ℕ) →
-      afterEffect bytes e ≡ kept bytes e
-  unfolding afterEffect writtenRead
+      keptBytes bytes e ≡ kept bytes e
+  unfolding keptBytes writtenRead
   effect-returned bytes = rw (word-returned, returned-reads-back m k (e .result) hm hk f .4)

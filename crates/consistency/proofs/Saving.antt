@@ -11,6 +11,7 @@ use borrow.Author.Tests.{ltb-false}
 use Rattle.output.specs.Output.{placed}
 use Rattle.output.proofs.Laws.{placed-room}
 use Rattle.woot.specs.declared.Refusal.{Refusal}
+use Rattle.woot.specs.declared.Refusal.the-variants.{Output}
 use Rattle.woot.specs.declared.Written.the-variants.{Length, Refused}
 use Rattle.woot.specs.State.{State, stored}
 use Rattle.woot.specs.Form.{wellFormed}
@@ -27,7 +28,7 @@ pub data Saving (s : State) (out : List ℕ) : Type 0 where
   refuses : {q : Refusal} → saved (stored s) out ≡ Refused q → Saving s out
 
 -- the front of a slice is what was put there
-front : (out bytes : List ℕ) → length bytes ≤ length out → take (length bytes) (placed out 0 bytes) ≡ bytes
+pub front : (out bytes : List ℕ) → length bytes ≤ length out → take (length bytes) (placed out 0 bytes) ≡ bytes
 front out bytes h = ap (take (length bytes)) (placed-room out 0 bytes (omega arith)) ∙ take-append-seam bytes _
 
 pub saving : (s : State) → Within s → (out : List ℕ) → Saving s out
@@ -36,10 +37,10 @@ saving s w out = go (wellFormed s) refl (ltb (length out) (length (bytesOf (stor
   where
     go : (f : Bool) → wellFormed s ≡ f → (b : Bool) → ltb (length out) (length (bytesOf (stored s))) ≡ b → Saving s out
     go false e b h = refuses (sym (unformed (stored s) out (form-stored s w ∙ e) .0))
-    go true e true h = refuses (sym (formed (stored s) out (form-stored s w ∙ e) .0) ∙ rw h)
+    go true e true h = refuses {q = Output} (sym (formed (stored s) out (form-stored s w ∙ e) .0) ∙ rw h)
     go true e false h =
         let bytes : List ℕ = bytesOf (stored s) in
         let room : length bytes ≤ length out = ltb-false _ _ h in
         let d = formed (stored s) out (form-stored s w ∙ e) in
-        fits e (sym (d .0) ∙ rw h)
+        fits {n = length bytes} e (sym (d .0) ∙ rw h)
         (ap (take (length bytes)) (sym (d .1)) ∙ front out bytes room ∙ ap savedBytes (meaning-stored s))

@@ -1,17 +1,15 @@
 -- Demand 3 over every kind of call that there is, in any mixture: proved in proofs/ under its name in small letters.
-use Prim.Native.Nat.{ℕ}
 use mathlib.Core.Path.{_≡_}
 use mathlib.Core.List.{List}
-use Rattle.woot.specs.State.{initial}
-use Rattle.woot.specs.Histories.{run, historyOf, SameInserted, SameDeleted, Call as RuleCall}
-use Rattle.copies.specs.Copies.{Call, Empty, begun, ran, carriedBy, stateOf, charactersOf, textOf}
+use Rattle.woot.specs.Histories.{Begun, startOf, run, historyOf, SameInserted, SameDeleted, Call as RuleCall}
+use Rattle.consistency.specs.Copies.{Call, Empty, begun, ran, carriedBy, stateOf, charactersOf, textOf}
 
 -- a copy begun empty says at every moment what the rules leave after some calls, which carried out the same operations
 abbrev pub CopiesFollow : Type 0
 CopiesFollow =
     (a : Empty) (cs : List Call) →
-    (n : ℕ) × (rs : List RuleCall) × (stateOf (ran (begun a) cs) ≡ run (initial n) rs)
-    × (carriedBy (begun a) cs ≡ historyOf n rs)
+    (b : Begun) × (rs : List RuleCall) × (stateOf (ran (begun a) cs) ≡ run (startOf b) rs)
+    × (carriedBy (begun a) cs ≡ historyOf b rs)
 
 -- demand 3: the same inserts carried out and the same characters deleted give equal characters and equal visible bytes
 abbrev pub CopiesConverge : Type 0

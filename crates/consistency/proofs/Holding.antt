@@ -10,7 +10,7 @@ use Rattle.woot.specs.declared.Answer.{Answer}
 use Rattle.woot.specs.declared.Answer.the-variants.{Done, Deferred, Duplicate, Refused}
 use Rattle.woot.specs.State.{State, initial, stored}
 use Rattle.woot.specs.Form.{wellFormed}
-use Rattle.woot.specs.Answers.{reply}
+use Rattle.woot.specs.Answers.{changes, reply}
 use Rattle.woot.specs.Calls.{Outcome, unchanged, integrated}
 use Rattle.woot.specs.Histories.{outcome, Call as RuleCall}
 use Rattle.convergence.proofs.Forms.{reformed}
@@ -20,8 +20,7 @@ use Rattle.lines.specs.Fields.{valuesOf}
 use Rattle.replica.proofs.Runs.{Within, meaning-stored}
 use Rattle.saved.specs.Format.{siteOf, siteSaid, headLine, characterLines, operationLines, savedState, savedBytes}
 use Rattle.saved.proofs.Trips.{saved-says}
-use Rattle.wimtaze.specs.Effects.{changes}
-use Rattle.copies.specs.Copies.{Copy, inMemory, asBytes, Call, after, stateOf, whenDone, carried}
+use Rattle.consistency.specs.Copies.{Copy, inMemory, asBytes, Call, stateOf, whenDone, stepOn}
 
 -- the copy holds the state: in memory, saved, or as no bytes, where `wimtaze_empty` refused to begin one
 pub data Holds : State → Copy → Type 0 where
@@ -36,7 +35,7 @@ pub data Step (s : State) (p : Copy) (os : List Operation) : Type 0 where
 
 -- a call on a copy that holds s
 abbrev pub Steps : State → Copy → Call → Type 0
-Steps s p c = Step s (after p c) (carried p c)
+Steps s p c = Step s (stepOn p c .copy) (stepOn p c .carried)
 
 pub says : {s : State} {p : Copy} → Holds s p → stateOf p ≡ s
 unfolding stateOf initial savedState siteSaid siteOf valuesOf headLine characterLines operationLines

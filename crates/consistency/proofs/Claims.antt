@@ -5,32 +5,40 @@ use native.Mathlib.Omega.{arith}
 use mathlib.Core.Path.{_≡_, refl, sym, ap, ap₂, _∙_}
 use mathlib.Core.Bool.{Bool, true, false}
 use mathlib.Core.List.{List, [], _∷_, _++_}
+use borrow.Author.Tests.{ltb-false}
+use lib.Dec.{ltb}
+use lib.ListN.{length}
 use Rattle.woot.specs.Ranges.{siteNumber}
 use Rattle.woot.specs.State.{State, initial}
-use Rattle.woot.specs.Answers.{reply}
+use Rattle.woot.specs.Answers.{reply, decided}
 use Rattle.woot.specs.Text.{text}
-use Rattle.woot.specs.Histories.{outcome, run, integratedBy, Call as RuleCall}
+use Rattle.woot.specs.Histories.{empty, outcome, run, integratedBy, Call as RuleCall}
+use Rattle.convergence.proofs.Forms.{empty-formed}
 use Rattle.convergence.proofs.Convergence.{convergence}
+use Rattle.saved.specs.Format.{savedBytes}
 use Rattle.replica.proofs.Runs.{initial-within}
 use Rattle.wimtaze.specs.Results.{result, silent}
-use Rattle.wimtaze.specs.Effects.{turned, unless, afterWriting, saving as savingEffect}
+use Rattle.wimtaze.specs.Effects.{quiet, turned, writing}
 use Rattle.wimtaze.specs.Calls.{beginning}
 use Rattle.wimtaze.proofs.Fitting.{results-fit}
-use Rattle.copies.specs.Copies.{Copy, Call, bytesAfter, after, carried, ran, carriedBy, Empty, emptyReplica, emptyBytes, begun, charactersOf, textOf}
-use Rattle.copies.specs.Theorems.{CopiesFollow, CopiesConverge}
-use Rattle.copies.proofs.Holding.{Holds, memory, bytes, nothing, left, made, Steps, says}
-use Rattle.copies.proofs.Returned.{kept, effect-returned}
-use Rattle.copies.proofs.Saving.{Saving, fits, refuses, saving}
-use Rattle.copies.proofs.Memory.{memory-step}
-use Rattle.copies.proofs.Bytes.{bytes-step, nothing-step}
+use Rattle.consistency.specs.Copies.{Copy, Call, memoryCall, bytesCall, bytesAfter, stepOn, ran, carriedBy, Empty, emptyReplica, emptyBytes, begun, charactersOf, textOf}
+use Rattle.consistency.specs.Theorems.{CopiesFollow, CopiesConverge}
+use Rattle.consistency.proofs.Holding.{Holds, memory, bytes, nothing, left, made, Steps, says}
+use Rattle.consistency.proofs.Returned.{kept, effect-returned}
+use Rattle.consistency.proofs.Saving.{front}
+use Rattle.consistency.proofs.Memory.{memory-step}
+use Rattle.consistency.proofs.Bytes.{bytes-step, nothing-step}
 
 -- ---- lists of calls
 
 step : {s : State} {p : Copy} → Holds s p → (c : Call) → Steps s p c
-unfolding after carried
-step (memory s w) c = memory-step s w c
-step (bytes s h) c = bytes-step s h c
-step nothing c = nothing-step c
+unfolding stepOn
+step (memory s w) (memoryCall c) = memory-step s w c
+step (memory s w) (bytesCall c) = left (memory s w) refl
+step (bytes s h) (memoryCall c) = left (bytes s h) refl
+step (bytes s h) (bytesCall c) = bytes-step s h c
+step nothing (memoryCall c) = left nothing refl
+step nothing (bytesCall c) = nothing-step c
 
 -- calls of the rules that lead to what the copy holds and carry out what was carried out on it
 record Made (s : State) (p : Copy) (cs : List Call) : Type 0 where
@@ -39,7 +47,7 @@ record Made (s : State) (p : Copy) (cs : List Call) : Type 0 where
   carries : carriedBy p cs ≡ integratedBy s calls
 
 gathered : {s : State} {p : Copy} (c : Call) (cs : List Call) → Steps s p c →
-    ((t : State) → Holds t (after p c) → Made t (after p c) cs) → Made s p (c ∷ cs)
+    ((t : State) → Holds t (stepOn p c .copy) → Made t (stepOn p c .copy) cs) → Made s p (c ∷ cs)
 gathered {s} {p} c cs (left h e) others =
     let m = others s h in
     record { calls = m .calls; holds = m .holds; carries = ap₂ _++_ e (m .carries) }
@@ -55,13 +63,15 @@ follow h (c ∷ cs) = gathered c cs (step h c) (λ t k. follow k cs)
 
 -- no bytes where beginning a copy is refused
 kept-begun : (n : ℕ) (out : List ℕ) → (k : ℕ) × Holds (initial k) (kept [] (beginning n out))
-unfolding beginning unless turned savingEffect afterWriting silent result bytesAfter reply
-kept-begun n out = go (siteNumber n) refl (saving (initial n) (initial-within n) out)
+unfolding beginning decided turned quiet writing silent result bytesAfter reply
+kept-begun n out = go (siteNumber n) refl (ltb (length out) (length (savedBytes (initial n)))) refl
   where
-    go : (b : Bool) → siteNumber n ≡ b → Saving (initial n) out → (k : ℕ) × Holds (initial k) (kept [] (beginning n out))
-    go false e w = rw e (0, nothing)
-    go true e (fits h p t) = rw (e, p, t) (n, bytes (initial n) h)
-    go true e (refuses p) = rw (e, p) (0, nothing)
+    go : (b : Bool) → siteNumber n ≡ b → (d : Bool) → ltb (length out) (length (savedBytes (initial n))) ≡ d → (k : ℕ) × Holds (initial k) (kept [] (beginning n out))
+    go false e d k = rw e (0, nothing)
+    go true e true k = rw (e, k) (0, nothing)
+    go true e false k =
+        let whole = front out (savedBytes (initial n)) (ltb-false (length out) (length (savedBytes (initial n))) k) in
+        rw (e, k, whole) (n, bytes (initial n) (empty-formed n ∙ e))
 
 bytes-begun : (n : ℕ) (out : List ℕ) → (k : ℕ) × Holds (initial k) (begun (emptyBytes n out))
 unfolding begun
@@ -76,7 +86,7 @@ pub copies-follow : CopiesFollow
 copies-follow a cs =
     let b = holds-begun a in
     let m = follow (b .1) cs in
-    (b .0, m .calls, says (m .holds), m .carries)
+    (empty (b .0), m .calls, says (m .holds), m .carries)
 
 pub copies-converge : CopiesConverge
 unfolding charactersOf textOf
