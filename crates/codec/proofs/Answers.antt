@@ -8,7 +8,7 @@ use lib.Dec.{leb, ltb, eqb}
 use lib.ListN.{length}
 use borrow.Author.Tests.{lt-ltb, le-ltb, ltb-false, leb-true, leb-false, ne-eqb}
 use Rattle.output.specs.Output.{hasRoom, placed, past}
-use Rattle.output.proofs.Laws.{length-placed}
+use Rattle.output.proofs.Laws.{placed-short, length-placed}
 use Rattle.woot.specs.declared.Operation.{Operation}
 use Rattle.woot.specs.declared.Operation.the-variants.{Insert as insert, Delete as delete}
 use Rattle.woot.specs.declared.Refusal.the-variants.{Range, Output}
@@ -16,9 +16,12 @@ use Rattle.woot.specs.declared.Written.{Written}
 use Rattle.woot.specs.declared.Written.the-variants.{Length, Refused as writtenRefused}
 use Rattle.woot.specs.Answers.{_⇒_, first}
 use Rattle.woot.specs.Ranges.{inRange}
+use Rattle.lines.specs.declared.Room.{Room}
+use Rattle.lines.specs.declared.Room.the-variants.{Until, Short}
 use Rattle.lines.specs.Lines.{ended, firstLine}
 use Rattle.lines.specs.Fields.{fields}
-use Rattle.lines.proofs.Writing.{line-some}
+use Rattle.lines.specs.Answers.{roomFor}
+use Rattle.lines.proofs.Writing.{line-some, until-tells, short-tells}
 use Rattle.codec.specs.Operations.{insertHead, deleteHead, insertNumbers, deleteNumbers, operationOf, operationLine}
 use Rattle.codec.specs.Calls.{decided, lineLaidOut, laidOut, readAs, saidBy, readLine, readOperation, fitted, writeChecks, written, outAfter}
 use Rattle.codec.proofs.Judging.{read-layout}
@@ -53,6 +56,23 @@ offset-fitted bytes out some {end} e = rw e (go (leb (0 + length bytes) (length 
         let fits : 0 + length bytes ≤ length out = leb-true (0 + length bytes) (length out) p in
         rw (ne-eqb (0 + length bytes) 0 (λ z. omega arith), le-ltb (length out) (length bytes) (omega arith)) (ap Length (omega arith))
     go false p = rw (lt-ltb (length out) (length bytes) (omega (arith, leb-false (0 + length bytes) (length out) p)))
+
+-- bytes that are measured: what has no room is refused, and leaves the slice as it was
+module _ (bytes out : List ℕ) {x : Room} (e : x ≡ roomFor (length out) 0 bytes) where
+  pub room-short : x ≡ Short → (writtenRefused Output ≡ fitted bytes out) × (out ≡ placed out 0 bytes)
+  unfolding fitted
+  room-short q =
+      let low = short-tells (length out) 0 bytes e q in
+      (rw (lt-ltb (length out) (length bytes) (omega arith)), sym (placed-short out 0 bytes low))
+
+  pub room-fits : {n : ℕ} → x ≡ Until n → length bytes ≤ length out
+  room-fits q = omega (arith, until-tells (length out) 0 bytes e q .1)
+
+  pub room-fitted : {n : ℕ} → x ≡ Until n → Length n ≡ fitted bytes out
+  unfolding fitted
+  room-fitted q =
+      let t = until-tells (length out) 0 bytes e q in
+      rw (le-ltb (length out) (length bytes) (omega (arith, t .1))) (ap Length (omega (arith, t .0)))
 
 -- a length that is answered is within the slice
 pub fitted-within : (bytes out : List ℕ) {w : Written} → w ≡ fitted bytes out → {n : ℕ} → w ≡ Length n

@@ -1,15 +1,14 @@
 -- A replica's bytes one part after another, as far as its arrays hold them: the site's line, the lines of the characters,
 -- those of the pending operations.
-use mathlib.Core.Path.{_≡_, refl, sym, ap, ap₂, _∙_}
+use mathlib.Core.Path.{_≡_, refl, sym, ap, _∙_}
 use mathlib.Core.List.{List, [], _∷_, _++_, map}
 use mathlib.Core.Bool.{Bool, true, false, cond}
-use Prim.Native.Nat.{ℕ, _+_, _≤_, _<_, min}
+use Prim.Native.Nat.{ℕ, _+_, _≤_, min}
 use native.Mathlib.Omega.{arith}
 use lib.Dec.{ltb}
 use lib.ListN.{length, take, length-append}
-use borrow.Author.Tests.{lt-ltb, le-ltb}
 use Rattle.output.specs.Output.{placed, past}
-use Rattle.output.proofs.Laws.{length-placed, placed-short}
+use Rattle.output.proofs.Laws.{length-placed}
 use Rattle.woot.specs.declared.Pending.{Pending}
 use Rattle.woot.specs.declared.Replica.{Replica}
 use Rattle.woot.specs.declared.Refusal.the-variants.{Form, Output}
@@ -22,7 +21,7 @@ use Rattle.lines.specs.declared.Room.{Room}
 use Rattle.lines.specs.declared.Room.the-variants.{Until, Short}
 use Rattle.lines.specs.Lines.{concatenated}
 use Rattle.lines.specs.Answers.{roomFor}
-use Rattle.lines.proofs.Writing.{until-tells, short-tells, Run, run-none, run-on}
+use Rattle.lines.proofs.Writing.{until-tells, Run, run-none, run-on}
 use Rattle.lines.proofs.Sequences.{room-on, room-short}
 use Rattle.codec.specs.Operations.{operationLine}
 use Rattle.codec.specs.Calls.{decided, fitted}
@@ -126,22 +125,6 @@ module _ (r : Replica) (full : length (r .document .characters) ≡ characterSlo
             third .bytes ∙ ap (placed out 0) (sym bytes-are)
 
 -- ---- the answers
-
-module _ (r : Replica) (out : List ℕ) {x : Room} (e : x ≡ roomFor (length out) 0 (bytesOf r)) where
-  pub put-short : x ≡ Short → (Refused Output ≡ fitted (bytesOf r) out) × (out ≡ placed out 0 (bytesOf r))
-  unfolding fitted
-  put-short q =
-      let low = short-tells (length out) 0 (bytesOf r) e q in
-      (rw (lt-ltb (length out) (length (bytesOf r)) (omega arith)), sym (placed-short out 0 (bytesOf r) low))
-
-  pub put-fits : {n : ℕ} → x ≡ Until n → length (bytesOf r) ≤ length out
-  put-fits q = omega (arith, until-tells (length out) 0 (bytesOf r) e q .1)
-
-  pub put-done : {n : ℕ} → x ≡ Until n → Length n ≡ fitted (bytesOf r) out
-  unfolding fitted
-  put-done q =
-      let t = until-tells (length out) 0 (bytesOf r) e q in
-      rw (le-ltb (length out) (length (bytesOf r)) (omega (arith, t .1))) (ap Length (omega (arith, t .0)))
 
 module _ (r : Replica) (out : List ℕ) where
   pub unformed : replicaWellFormed r ≡ false → (Refused Form ≡ saved r out) × (out ≡ outAfter r out)

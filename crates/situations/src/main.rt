@@ -3,16 +3,16 @@
 mod calls;
 mod encoding;
 mod limits;
-mod lines;
 mod print;
+mod trips;
 
 fn main() {
     limits::sender_full();
     let full = limits::document_full();
-    lines::save_twice(full);
+    trips::save_twice(full);
     limits::last_clock();
     limits::drained();
-    lines::largest();
+    trips::largest();
     encoding::examples();
     encoding::boundaries();
 }

@@ -1,6 +1,6 @@
 -- `lines::put` meets its contract, by the invariant of `proofs/Writing.antt`.
 use mathlib.Core.Path.{sym, ap, _∙_}
-use Prim.Native.Nat.{_+_, _-_, _≤_}
+use Prim.Native.Nat.{_+_, _-_, _<_, _≤_}
 use native.Mathlib.Omega.{arith}
 use lib.ListN.{length}
 use borrow.Author.Needs.{needs}
@@ -26,7 +26,7 @@ returns : tie.Need-returns Inv-loop μ-loop
 returns c =
     let a = c .before .before .before .before .before .before .args in
     let line = lineOf (a .head .now) (a .numbers .now) in
-    let low = short-tells _ (a .at) line (c .before .before .measure .ensures) (c .enum-told .given .1) in
+    let low : length (a .out .now) < a .at + length line = omega (arith, short-tells _ _ line (c .before .before .measure .ensures) (c .enum-told .given .1)) in
     (sym (past-short (a .out .now) (a .at) line low), sym (placed-short (a .out .now) (a .at) line low))
 
 enum-told-2 : tie.Need-enum-told-2 Inv-loop μ-loop
@@ -38,7 +38,7 @@ fits : (c : tie.After-enum-told2 Inv-loop μ-loop)
 fits c =
     let a = c .before .before .before .before .before .before .args in
     let line = lineOf (a .head .now) (a .numbers .now) in
-    omega (arith, until-tells _ (a .at) line (c .before .before .measure .ensures) (c .enum-told2 .given .1) .1, line-length (a .head .now) (a .numbers .now))
+    omega (arith, until-tells _ _ line (c .before .before .measure .ensures) (c .enum-told2 .given .1) .1, line-length (a .head .now) (a .numbers .now))
 
 put-all-requires : tie.Need-put-all-requires Inv-loop μ-loop
 put-all-requires c κs = search needs

@@ -33,7 +33,7 @@ abbrev μ-loop : tie.MeasureT-loop
 μ-loop a b i₀ i = length a - i
 
 returns : tie.Need-returns Inv-loop μ-loop
-returns c = let a = c .before .args in sym (unequal (a .a .now) (a .b .now) (λ e. c .if1 .taken e))
+returns c = let a = c .before .args in sym (unequal (a .a .now) (a .b .now) (λ e. omega arith))
 
 loop-holds : tie.Need-loop-holds Inv-loop μ-loop
 loop-holds c = (zero-le, omega arith, refl)

@@ -1,7 +1,6 @@
 -- `saved::put` meets its contract: where the lines end within the slice they are put, and else nothing is.
-use mathlib.Core.Path.{_∙_}
 use borrow.Author.Needs.{needs}
-use Rattle.saved.proofs.Saving.{put-short, put-fits, put-done}
+use Rattle.codec.proofs.Answers.{room-short, room-fits, room-fitted}
 use Rattle.saved.proofs.put.Statement.{statement}
 use Rattle.saved.proofs.put.Tie as tie
 
@@ -12,7 +11,7 @@ enum-known-room : tie.Need-enum-known-room
 enum-known-room c = search needs
 
 put-all-requires : tie.Need-put-all-requires
-put-all-requires c κs = put-fits _ (c .before .before .before .before .before .before .args .out .now) (c .before .before .before .before .measure .ensures) (c .before .before .room .given .1)
+put-all-requires c κs = room-fits _ (c .before .before .before .before .before .before .args .out .now) (c .before .before .before .before .measure .ensures) (c .before .before .room .given .1)
 
 enum-told : tie.Need-enum-told
 enum-told c = search needs
@@ -21,10 +20,10 @@ same-length : tie.Need-same-length
 same-length c = search needs
 
 returns : tie.Need-returns
-returns c = (put-done _ _ (c .before .before .before .before .before .before .before .measure .ensures) (c .before .before .before .before .before .room .given .1), c .before .before .put-all .ensures)
+returns c = (room-fitted _ _ (c .before .before .before .before .before .before .before .measure .ensures) (c .before .before .before .before .before .room .given .1), c .before .before .put-all .ensures)
 
 returns-2 : tie.Need-returns-2
-returns-2 c = put-short _ _ (c .before .before .measure .ensures) (c .enum-told .given .1)
+returns-2 c = room-short _ _ (c .before .before .measure .ensures) (c .enum-told .given .1)
 
 pub put-spec : {M : Type 1} → statement M
 put-spec =
