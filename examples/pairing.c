@@ -1,81 +1,119 @@
 /*
- * Two laptops of a playing hall keep one note together. Each types without waiting for the other; then the edits cross
- * on the network, out of order and twice. Both laptops end with the same note.
+ * Two laptops of a playing hall keep one note together, over a network that loses every third packet, delivers every
+ * fifth twice, and the last one first. Each types without waiting for the other; one is switched off and on again in
+ * between. Both end with the same note.
+ *
+ *     pairing [DIRECTORY]     keeps the two sheets there, and goes on from them when it is run again
+ *
+ * What a laptop must see to is in laptop.h. `turn` is one round of a program's loop; in yours, send_packet and
+ * next_packet are the network, and type, correct and show are the screen.
  */
-#include <wimtaze.h>
+#include "laptop.h"
 
-#include <stdio.h>
-#include <stdlib.h>
-#include <string.h>
+enum { LAPTOPS = 2, PACKETS = 4096 };
 
-/* A laptop's sheet, as it would lie in a file. */
-struct laptop {
-    uint8_t sheet[WIMTAZE_SHEET_MAX];
+/* ---- the network */
+
+struct packet {
+    unsigned from, to;
+    int acknowledges; /* whether it is an acknowledgement of the line or the line */
+    uint8_t line[WIMTAZE_LINE_MAX];
     size_t length;
 };
 
-/* The lines that one laptop has for the other. */
-struct outbox {
-    uint8_t line[64][WIMTAZE_LINE_MAX];
-    size_t length[64];
-    size_t count;
-};
+static struct packet on_the_way[PACKETS];
+static size_t on_the_way_count;
 
-static uint8_t after[WIMTAZE_SHEET_MAX];
-
-/* Takes the new sheet, if the call wrote one. */
-static enum wimtaze_words keep(struct laptop *laptop, uint64_t reply)
+static void send_packet(const struct packet *packet)
 {
-    enum wimtaze_words word = wimtaze_word(reply);
-    if (word == WIMTAZE_REFUSED) {
-        fprintf(stderr, "refused: %d\n", (int)wimtaze_refusal(reply));
-        exit(EXIT_FAILURE);
+    static unsigned sent;
+    unsigned copies = ++sent % 3 == 0 ? 0 : sent % 5 == 0 ? 2 : 1;
+    for (; copies > 0 && on_the_way_count < PACKETS; copies--)
+        on_the_way[on_the_way_count++] = *packet;
+}
+
+/* The last packet on the way to a laptop, if there is one. */
+static int next_packet(unsigned to, struct packet *packet)
+{
+    for (size_t k = on_the_way_count; k > 0; k--) {
+        if (on_the_way[k - 1].to != to)
+            continue;
+        *packet = on_the_way[k - 1];
+        memmove(&on_the_way[k - 1], &on_the_way[k], (on_the_way_count-- - k) * sizeof *on_the_way);
+        return 1;
     }
-    if (word != WIMTAZE_KNOWN) {
-        laptop->length = wimtaze_written(reply);
-        memcpy(laptop->sheet, after, laptop->length);
+    return 0;
+}
+
+/* ---- one round of a laptop's loop */
+
+static unsigned answers[4], put_off;
+
+/* Takes in what has come, and keeps the acknowledgements that are due for it. */
+static size_t take_in(struct laptop *laptop, struct packet *due)
+{
+    size_t count = 0;
+    struct packet packet;
+    while (count < PACKETS && next_packet(laptop->number, &packet)) {
+        if (packet.acknowledges) {
+            laptop_acknowledged(laptop, packet.from, packet.line, packet.length);
+            continue;
+        }
+        uint64_t reply = laptop_receive(laptop, packet.line, packet.length);
+        answers[wimtaze_word(reply)]++;
+        put_off += wimtaze_refusal(reply) == WIMTAZE_REFUSAL_SENDER_FULL;
+        if (wimtaze_word(reply) != WIMTAZE_REFUSED) {
+            packet.to = packet.from;
+            packet.from = laptop->number;
+            packet.acknowledges = 1;
+            due[count++] = packet;
+        }
     }
-    return word;
+    return count;
 }
 
-static void start(struct laptop *laptop, unsigned number)
+/* Sends each line of the outbox to the laptops that have not acknowledged it. */
+static void send_outbox(const struct laptop *laptop)
 {
-    keep(laptop, wimtaze_empty(number, after, sizeof after));
-}
-
-static void type(struct laptop *laptop, uint64_t gap, const char *text, struct outbox *outbox)
-{
-    for (; *text != '\0'; text++, gap++, outbox->count++) {
-        uint64_t reply = wimtaze_type(laptop->sheet, laptop->length, gap, (uint8_t)*text, after, sizeof after,
-                                      outbox->line[outbox->count], WIMTAZE_LINE_MAX);
-        keep(laptop, reply);
-        outbox->length[outbox->count] = wimtaze_line_written(reply);
+    for (size_t k = 0; k < laptop->outbox_count; k++) {
+        const struct letter *letter = &laptop->outbox[k];
+        struct packet packet = {.from = laptop->number, .length = letter->length};
+        memcpy(packet.line, letter->line, letter->length);
+        for (packet.to = 1; packet.to <= laptop->count; packet.to++)
+            if (letter->missing >> packet.to & 1)
+                send_packet(&packet);
     }
 }
 
-static void erase(struct laptop *laptop, uint64_t place, struct outbox *outbox)
+static void turn(struct laptop *laptop)
 {
-    uint64_t reply = wimtaze_erase(laptop->sheet, laptop->length, place, after, sizeof after,
-                                   outbox->line[outbox->count], WIMTAZE_LINE_MAX);
-    keep(laptop, reply);
-    outbox->length[outbox->count++] = wimtaze_line_written(reply);
+    static struct packet due[PACKETS];
+    size_t count = take_in(laptop, due);
+    laptop_save(laptop);
+    for (size_t k = 0; k < count; k++)
+        send_packet(&due[k]);
+    send_outbox(laptop);
 }
 
-static enum wimtaze_words receive(struct laptop *laptop, const struct outbox *outbox, size_t k)
+/* ---- what a person does */
+
+/* Types a text at a gap, all of it or, where there is no room for it, nothing. */
+static void type(struct laptop *laptop, uint64_t gap, const char *text)
 {
-    return keep(laptop, wimtaze_receive(laptop->sheet, laptop->length, outbox->line[k], outbox->length[k], after,
-                                        sizeof after));
+    if (laptop_room(laptop) < strlen(text)) {
+        printf("laptop %u has no room for: %s\n", laptop->number, text);
+        return;
+    }
+    for (; *text != '\0'; text++, gap++)
+        if (laptop_type(laptop, gap, (uint8_t)*text) != WIMTAZE_REFUSAL_NONE)
+            return;
 }
 
-/* The last line comes first, and then each comes once more. */
-static void deliver(struct laptop *laptop, const struct outbox *outbox)
+/* Puts another character in the place of one. */
+static void correct(struct laptop *laptop, uint64_t place, char character)
 {
-    unsigned count[4] = {0};
-    for (size_t k = outbox->count; k > 0; k--)
-        count[receive(laptop, outbox, k - 1)]++;
-    for (size_t k = 0; k < outbox->count; k++)
-        count[receive(laptop, outbox, k)]++;
-    printf("%u done, %u had to wait, %u known\n", count[WIMTAZE_DONE], count[WIMTAZE_WAITS], count[WIMTAZE_KNOWN]);
+    if (laptop_type(laptop, place, (uint8_t)character) == WIMTAZE_REFUSAL_NONE)
+        laptop_erase(laptop, place);
 }
 
 static size_t show(const struct laptop *laptop, uint8_t *text)
@@ -85,25 +123,34 @@ static size_t show(const struct laptop *laptop, uint8_t *text)
     return length;
 }
 
-int main(void)
+int main(int argc, char **argv)
 {
+    const char *directory = argc > 1 ? argv[1] : ".";
     static struct laptop desk, hall;
-    static struct outbox from_desk, from_hall;
     static uint8_t desk_text[WIMTAZE_TEXT_MAX], hall_text[WIMTAZE_TEXT_MAX];
 
-    start(&desk, 1);
-    start(&hall, 2);
+    laptop_open(&desk, directory, 1, LAPTOPS);
+    laptop_open(&hall, directory, 2, LAPTOPS);
 
-    type(&desk, 0, "Board 4: 1-0. ", &from_desk);
-    type(&hall, 0, "Bye: Novak.", &from_hall);
-    erase(&desk, 7, &from_desk);
-    type(&desk, 6, "7", &from_desk);
+    type(&desk, 0, "Board 4: 1-0. Board 9 was adjourned. ");
+    type(&hall, 0, "Bye: Novak. ");
+    correct(&desk, 7, '7');
+    turn(&desk);
+    laptop_close(&desk);
+    laptop_open(&desk, directory, 1, LAPTOPS);
 
-    deliver(&hall, &from_desk);
-    deliver(&desk, &from_hall);
+    unsigned turns = 0;
+    for (; desk.outbox_count + hall.outbox_count > 0 && turns < 1000; turns++) {
+        turn(&hall);
+        turn(&desk);
+    }
+    printf("%u turns: %u lines done, %u had to wait, %u known, %u refused with 10 and tried again\n", turns,
+           answers[WIMTAZE_DONE], answers[WIMTAZE_WAITS], answers[WIMTAZE_KNOWN], put_off);
 
     size_t length = show(&desk, desk_text);
     int equal = show(&hall, hall_text) == length && memcmp(desk_text, hall_text, length) == 0;
     puts(equal ? "equal" : "different");
+    laptop_close(&desk);
+    laptop_close(&hall);
     return equal ? EXIT_SUCCESS : EXIT_FAILURE;
 }

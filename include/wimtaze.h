@@ -16,13 +16,84 @@
  *     if (wimtaze_word(reply) == WIMTAZE_DONE) {
  *         length = wimtaze_written(reply);
  *         memcpy(sheet, after, length);
- *         send_to_the_others(line, wimtaze_line_written(reply));
+ *         save_to_the_disk(sheet, length);
+ *         send_until_acknowledged(line, wimtaze_line_written(reply));
  *     }
  *
  * On the other laptops, give each line that comes to wimtaze_receive. If its word is WIMTAZE_DONE or WIMTAZE_WAITS,
- * keep the new sheet as above. If it is WIMTAZE_KNOWN the edit is there already: keep the sheet you have. If it is
- * WIMTAZE_REFUSED, wimtaze_refusal says why, and the sheet you have stands. A saved sheet can be kept in a
- * file as it is. Link with -lwimtaze.
+ * keep and save the new sheet as above. If it is WIMTAZE_KNOWN the edit is there already: keep the sheet you have. If
+ * it is WIMTAZE_REFUSED, wimtaze_refusal says why, and the sheet you have stands. Link with -lwimtaze.
+ *
+ *
+ * What your program must do
+ *
+ * The library sees to it that the same edits give the same text. That every edit reaches every laptop is your program's
+ * work. These rules are enough for it; without any one of them laptops can end with different texts for good.
+ *
+ *  1. One number for each laptop, 1 to 16, for the life of the sheet, and one running program on its file. A laptop
+ *     whose sheet is lost or old never goes on under its number: it begins an empty sheet under one that nobody has
+ *     had, and the others send it everything.
+ *  2. Save before you send. The new sheet is on the disk (a new file, synced, renamed over the old one) before its line
+ *     is sent, and before the line that it came from is acknowledged. A laptop that crashed goes on from its file.
+ *  3. Keep each line that you made until every other laptop has acknowledged it. Until then send it again from time to
+ *     time, the oldest first. After a crash, make the lines again from the saved sheet: see the layouts. If a laptop is
+ *     gone for good, the others send each other everything.
+ *  4. Acknowledge a line only when wimtaze_receive answered done, waits or known: then the sheet has it.
+ *  5. A line refused with 10 comes in later. Do not acknowledge it. Hand the same line over again after something was
+ *     carried out: keep it until then, or drop it and wait until its sender sends it again.
+ *  6. Share out the room. A sheet holds 1,024 characters in its life, erased ones counted. If the laptops type more
+ *     between them, each ends with its own 1,024. So agree beforehand how many each may type, 1,024 in all (64 each for
+ *     sixteen laptops), and type no more. How many a laptop has typed is the clock in its saved sheet; how many its
+ *     sheet can still take is wimtaze_room. When the room is used up, begin a new sheet on every laptop.
+ *  7. Let lines come unchanged, and only from laptops that you trust: they carry no checksum and no signature.
+ *
+ * What to do after a refusal:
+ *
+ *   1, 2  Receiving: the line was damaged on the way, or is no line of this library; drop it, and its sender, who gets
+ *         no acknowledgement, sends it again. If wimtaze_counts refuses the sheet too, the file is damaged: rule 1.
+ *         Typing, and 2: what was given is no code point.
+ *   3     The file is damaged: rule 1.
+ *   4     Typing, erasing: the text is shorter than you thought. It may change with every line that comes.
+ *   5     Typing: this laptop has typed 65,535 characters. Rule 6 was broken.
+ *   6, 7  Two laptops have one number, or one went on from an old sheet: rule 1 or 2 was broken. 6 tells it to that
+ *         laptop, when it types, and 7 to the others, when its line comes; they never acknowledge it. The copies differ
+ *         for good: tell a person, and begin a new sheet on every laptop.
+ *   8     Receiving: never between laptops that keep the rules. Otherwise as 7.
+ *   9     Receiving, typing: never on a sheet that began empty. Otherwise as 7.
+ *   10    Receiving: rule 5. Nothing is wrong; the sender, who gets no acknowledgement, sends the line again.
+ *   11    Typing: the sheet is full, and erasing makes no room. Receiving: rule 6 was broken, and the copies differ for
+ *         good. Begin a new sheet on every laptop.
+ *   12    The output is too short. With the sizes below it never is.
+ *
+ * If wimtaze_thrown is not 0, an edit that waited has met 8 or 9. The file laptop.h, which is installed with the
+ * examples, keeps all these rules and can be copied; playing_hall.c there runs sixteen such laptops over a bad network.
+ *
+ *
+ * The layouts
+ *
+ * Lines and saved sheets are text, to be sent and kept in files as they are. Fields are parted by one tab, each line
+ * ends in one line feed, and numbers are decimal digits without sign or leading zero. Here a space stands for the tab.
+ *
+ *     I laptop clock codepoint prevlaptop prevclock nextlaptop nextclock          the line of a typed character
+ *     D sender laptop clock                                                       the line of an erased character
+ *
+ * A saved sheet has, in this order:
+ *
+ *     S laptop clock                                                              whose it is, how many it has typed
+ *     C laptop clock codepoint shown prevlaptop prevclock nextlaptop nextclock    each character, from the top
+ *     I and D lines                                                               the edits that wait, earliest first
+ *
+ * A character's laptop and clock are its identifier: the laptop that typed it, and how many that laptop had typed then,
+ * this one counted. Prev and next are the identifiers of the two that it was typed between; 0 0 is the beginning of the
+ * text and 0 1 its end. Shown is 1, or 0 once the character is erased. Laptops are 1 to 16, clocks 1 to 65,535 (after S
+ * from 0), and code points 0 to 1,114,111 without 55,296 to 57,343.
+ *
+ * The lines can be made again from a sheet. A C line without its shown and with I for C is the line of that character.
+ * Where shown is 0, D with your own number and the character's laptop and clock is a line that erases it. So a laptop
+ * can send everything that it holds, whoever typed it. What the other has already is known to it.
+ *
+ *
+ * The calls
  *
  * Inputs. A length is in bytes. Any bytes and any numbers may be passed: what is not a sheet or a line is refused.
  * Inputs are only read, and are not needed after the call.
@@ -49,6 +120,16 @@
 extern "C" {
 #endif
 
+/* The version of this header and of the library that it came with. */
+#define WIMTAZE_VERSION "0.2.0"
+#define WIMTAZE_VERSION_MAJOR 0
+#define WIMTAZE_VERSION_MINOR 2
+#define WIMTAZE_VERSION_PATCH 0
+
+/* The limits of a sheet. */
+#define WIMTAZE_LAPTOP_MAX 16      /* the highest number of a laptop */
+#define WIMTAZE_CHARACTER_MAX 1024 /* characters in its life, erased and waiting ones counted */
+
 /* The most bytes that a call writes. */
 #define WIMTAZE_SHEET_MAX 47115 /* a saved sheet */
 #define WIMTAZE_INSERT_MAX 37   /* the line of a typed character */
@@ -56,7 +137,11 @@ extern "C" {
 #define WIMTAZE_LINE_MAX 37     /* either line */
 #define WIMTAZE_TEXT_MAX 4096   /* the text */
 
-/* A stack of this many bytes is enough for every call (less than 450 KiB was measured on x86-64). */
+/*
+ * The most bytes of stack that a call takes (less than 450 KiB was measured on x86-64). They must be free when the call
+ * is made: a thread needs them besides its own frames and besides its thread-local data, which many C libraries keep on
+ * the thread's stack.
+ */
 #define WIMTAZE_STACK 524288
 
 /* What a call answers. */
@@ -79,7 +164,7 @@ enum wimtaze_refusals {
     WIMTAZE_REFUSAL_CONFLICT = 7,       /* the insert's identifier stands for another insert on the sheet */
     WIMTAZE_REFUSAL_CROSSED = 8,        /* the insert's two neighbours stand in the other order on the sheet */
     WIMTAZE_REFUSAL_UNPLACEABLE = 9,    /* the sheet gives the insert no place between its neighbours */
-    WIMTAZE_REFUSAL_SENDER_FULL = 10,   /* the edit would wait, and its sender has 32 waiting: send it again later */
+    WIMTAZE_REFUSAL_SENDER_FULL = 10,   /* the edit would wait, and its sender has 32 waiting: try it again later */
     WIMTAZE_REFUSAL_DOCUMENT_FULL = 11, /* the sheet has its 1,024 characters, erased and waiting ones counted */
     WIMTAZE_REFUSAL_OUTPUT = 12         /* an output is too short for its result */
 };
@@ -120,9 +205,17 @@ uint64_t wimtaze_erase(const uint8_t *sheet, size_t sheet_length, uint64_t place
 uint64_t wimtaze_text(const uint8_t *sheet, size_t sheet_length, uint8_t *text_out, size_t text_out_length);
 
 /*
+ * Counts what is on the sheet, and how many characters it can still take: ask before you type. Nothing is written.
+ * Refusals: 1, 2, 3.
+ */
+uint64_t wimtaze_counts(const uint8_t *sheet, size_t sheet_length);
+
+/*
  * Every call returns one number, from the lowest bit up: the word (2 bits), the refusal (6), the counts carried and
- * thrown (12 each), and the lengths of what was written to the first output and to line_out (16 each). Each part has
- * room for its largest value, so none is ever cut. The functions below take the number apart.
+ * thrown (12 each), and the lengths of what was written to the first output and to line_out (16 each). wimtaze_counts
+ * has, in place of these four, the shown characters, the waiting edits, all characters and the room. Each part has room
+ * for its largest value, so none is ever cut; what has no meaning for an answer is 0. The functions below take the
+ * number apart.
  */
 
 /* The answer. */
@@ -159,6 +252,33 @@ static inline size_t wimtaze_written(uint64_t reply)
 static inline size_t wimtaze_line_written(uint64_t reply)
 {
     return (size_t)(reply >> 48 & 65535);
+}
+
+/* Of wimtaze_counts: how many characters the sheet shows. It is the last gap to type at and the last place to erase. */
+static inline unsigned wimtaze_shown_count(uint64_t counts)
+{
+    return (unsigned)(counts >> 8 & 4095);
+}
+
+/* Of wimtaze_counts: how many edits wait on the sheet for one that has not come, typed and erased characters alike. */
+static inline unsigned wimtaze_waiting_count(uint64_t counts)
+{
+    return (unsigned)(counts >> 20 & 4095);
+}
+
+/* Of wimtaze_counts: how many characters the sheet holds, erased ones counted and waiting ones not. */
+static inline unsigned wimtaze_character_count(uint64_t counts)
+{
+    return (unsigned)(counts >> 32 & 65535);
+}
+
+/*
+ * Of wimtaze_counts: how many characters the sheet can still take: 1,024 less those that it holds and those that wait.
+ * What others have typed and has not come yet is not taken off: see rule 6. All four are 0 if the sheet is refused.
+ */
+static inline unsigned wimtaze_room(uint64_t counts)
+{
+    return (unsigned)(counts >> 48 & 65535);
 }
 
 #ifdef __cplusplus

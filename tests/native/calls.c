@@ -193,6 +193,16 @@ static uint64_t text(void)
     return text_in(ROOM);
 }
 
+static uint64_t counts(void)
+{
+    static uint8_t was[ROOM];
+    memcpy(was, sheet, sheet_length);
+    uint64_t reply = wimtaze_counts(sheet, sheet_length);
+    CHECK(memcmp(was, sheet, sheet_length) == 0);
+    refusals_seen |= 1u << wimtaze_refusal(reply);
+    return reply;
+}
+
 /* ---- replies */
 
 static int done(uint64_t reply, unsigned carried, unsigned thrown)
@@ -214,6 +224,15 @@ static int known(uint64_t reply)
 static int refused(uint64_t reply, enum wimtaze_refusals refusal)
 {
     return reply == ((uint64_t)refusal << 2 | WIMTAZE_REFUSED);
+}
+
+/* Whether wimtaze_counts tells these four, and nothing else. */
+static int counted(unsigned shown, unsigned waiting, unsigned characters, unsigned room)
+{
+    uint64_t reply = counts();
+    return wimtaze_word(reply) == WIMTAZE_DONE && wimtaze_refusal(reply) == WIMTAZE_REFUSAL_NONE &&
+           wimtaze_shown_count(reply) == shown && wimtaze_waiting_count(reply) == waiting &&
+           wimtaze_character_count(reply) == characters && wimtaze_room(reply) == room;
 }
 
 /* ---- the situations marked P */
@@ -468,6 +487,7 @@ static void layout(void)
         CHECK(refused(type(0, 'x'), WIMTAZE_REFUSAL_LAYOUT));
         CHECK(refused(erase(1), WIMTAZE_REFUSAL_LAYOUT));
         CHECK(refused(text(), WIMTAZE_REFUSAL_LAYOUT));
+        CHECK(refused(counts(), WIMTAZE_REFUSAL_LAYOUT));
     }
     /* A line that ends where the given length does, although a line feed stands in memory behind it. */
     load("S 1 0\n");
@@ -497,6 +517,7 @@ static void ranges(void)
         CHECK(refused(type(0, 'x'), WIMTAZE_REFUSAL_RANGE));
         CHECK(refused(erase(1), WIMTAZE_REFUSAL_RANGE));
         CHECK(refused(text(), WIMTAZE_REFUSAL_RANGE));
+        CHECK(refused(counts(), WIMTAZE_REFUSAL_RANGE));
     }
     for (size_t k = 0; k < sizeof code_points / sizeof *code_points; k++) {
         load("S 1 0\n");
@@ -518,6 +539,7 @@ static void form(void)
         CHECK(refused(type(0, 'x'), WIMTAZE_REFUSAL_FORM));
         CHECK(refused(erase(1), WIMTAZE_REFUSAL_FORM));
         CHECK(refused(text(), WIMTAZE_REFUSAL_FORM));
+        CHECK(refused(counts(), WIMTAZE_REFUSAL_FORM));
     }
     load("S 1 0\nD 1 2 1\nD 3 2 1\n");
     CHECK(done(text(), 0, 0));
@@ -554,15 +576,84 @@ static void order(void)
     CHECK(refused(receive("D 1 1 1\n"), WIMTAZE_REFUSAL_FORM));
     CHECK(refused(type(9, 55296), WIMTAZE_REFUSAL_RANGE));
     CHECK(refused(type_in(9, 'x', 0, 0), WIMTAZE_REFUSAL_FORM));
+    CHECK(refused(counts(), WIMTAZE_REFUSAL_FORM));
     append("D 1 0 1\n");
     CHECK(refused(receive("D 1 1\n"), WIMTAZE_REFUSAL_LAYOUT));
     CHECK(refused(text_in(0), WIMTAZE_REFUSAL_RANGE));
+    CHECK(refused(counts(), WIMTAZE_REFUSAL_RANGE));
     append("C 1 1 65 1 0 0 0 1\n");
     CHECK(refused(receive("D 1 1 0\n"), WIMTAZE_REFUSAL_LAYOUT));
+    CHECK(refused(counts(), WIMTAZE_REFUSAL_LAYOUT));
     CHECK(refused(type(9, 55296), WIMTAZE_REFUSAL_LAYOUT));
     load("S 1 65535\n");
     CHECK(refused(type_in(0, 'x', 0, 0), WIMTAZE_REFUSAL_CLOCK));
     CHECK(refused(empty(0, 0), WIMTAZE_REFUSAL_RANGE));
+}
+
+/* ---- counts */
+
+/* The room is what typing finds: 11 exactly where it is 0. */
+static void rooms(void)
+{
+    char line[64];
+    load_rows(1023);
+    CHECK(counted(1023, 0, 1023, 1));
+    CHECK(done(type(1023, 'x'), 1, 0));
+    CHECK(counted(1024, 0, 1024, 0));
+    CHECK(refused(type(1024, 'y'), WIMTAZE_REFUSAL_DOCUMENT_FULL));
+    CHECK(done(erase(5), 1, 0));
+    CHECK(counted(1023, 0, 1024, 0));
+    load_rows(1025);
+    CHECK(refused(counts(), WIMTAZE_REFUSAL_FORM));
+    load_rows(992);
+    for (int k = 1; k <= 32; k++) {
+        CHECK(counted(992, (unsigned)k - 1, 992, 33 - (unsigned)k));
+        sprintf(line, "I 2 %d 98 3 1 0 1\n", k);
+        append(line);
+    }
+    CHECK(counted(992, 32, 992, 0));
+    append("I 3 2 98 3 1 0 1\n");
+    CHECK(refused(counts(), WIMTAZE_REFUSAL_FORM));
+}
+
+/* What waits is counted whoever sent it; only inserts take room. */
+static void waiting(void)
+{
+    char line[64];
+    load("S 4 0\n");
+    CHECK(counts() == (uint64_t)1024 << 48);
+    for (int sender = 1; sender <= 16; sender++)
+        for (int k = 1; k <= 32; k++) {
+            sprintf(line, k % 2 ? "D %d 9 %d\n" : "I %d %d 98 9 9 0 1\n", sender, 100 + k);
+            append(line);
+        }
+    CHECK(counted(0, 512, 0, 768));
+    append("D 4 9 9\n");
+    CHECK(refused(counts(), WIMTAZE_REFUSAL_FORM));
+}
+
+static void counting(void)
+{
+    empty(16, ROOM);
+    CHECK(counted(0, 0, 0, 1024));
+    CHECK(done(type(0, 'a'), 1, 0));
+    CHECK(done(type(1, 'b'), 1, 0));
+    CHECK(counted(2, 0, 2, 1022));
+    CHECK(done(erase(1), 1, 0));
+    CHECK(counted(1, 0, 2, 1022));
+    CHECK(waits(receive("I 2 1 99 3 1 0 1\n")));
+    CHECK(counted(1, 1, 2, 1021));
+    CHECK(waits(receive("D 2 3 1\n")));
+    CHECK(counted(1, 2, 2, 1021));
+    CHECK(known(receive("D 2 3 1\n")));
+    CHECK(refused(receive("D 2 3 0\n"), WIMTAZE_REFUSAL_RANGE));
+    CHECK(counted(1, 2, 2, 1021));
+    CHECK(done(receive("I 3 1 99 0 0 0 1\n"), 3, 0));
+    CHECK(counted(2, 0, 4, 1020));
+    CHECK(waits(receive("I 5 1 99 6 1 6 1\n")));
+    CHECK(counted(2, 1, 4, 1019));
+    CHECK(done(receive("I 6 1 99 0 0 0 1\n"), 1, 1));
+    CHECK(counted(3, 0, 5, 1019));
 }
 
 /* ---- outputs */
@@ -634,6 +725,13 @@ static void longest(void)
     CHECK(done(erase_in(1024, WIMTAZE_SHEET_MAX, WIMTAZE_LINE_MAX), 1, 0));
 }
 
+static void version(void)
+{
+    char parts[32];
+    sprintf(parts, "%d.%d.%d", WIMTAZE_VERSION_MAJOR, WIMTAZE_VERSION_MINOR, WIMTAZE_VERSION_PATCH);
+    CHECK(strcmp(parts, WIMTAZE_VERSION) == 0);
+}
+
 static void every_refusal(void)
 {
     for (unsigned n = 1; n <= 12; n++)
@@ -667,9 +765,13 @@ static const struct {
     {"form", form},
     {"positions and taken identifiers", positions},
     {"the lowest ground is told", order},
+    {"counts after each call", counting},
+    {"counts and room at the limit", rooms},
+    {"counts of 512 waiting edits", waiting},
     {"known with an output of length 0", known_needs_no_output},
     {"short outputs are left untouched", short_outputs},
     {"the longest lines and text", longest},
+    {"the version and its parts", version},
     {"each refusal was met", every_refusal},
 };
 

@@ -1,19 +1,24 @@
 //! The C calls of the static library against the plain reference, call by call: random histories of up to sixteen
 //! laptops with lines lost, repeated and reordered, made-up sheets, damaged lines and sheets, outputs of every length.
 //! A call passes if the returned number and every byte of its inputs and outputs, and of the guards around them, are
-//! what the reference says. The seeds are fixed, so a run can be repeated.
+//! what the reference says.
+//!
+//! Without arguments the seeds are fixed and every reply must be met. With SECONDS and SEED it goes on for so long from
+//! that seed, and stops at the first seed where there is a difference; the same seed finds it again at once.
 
 mod library;
 #[allow(dead_code)]
 mod reference;
 
-use library::{wimtaze_empty, wimtaze_erase, wimtaze_receive, wimtaze_text, wimtaze_type};
+use library::{wimtaze_counts, wimtaze_empty, wimtaze_erase, wimtaze_receive, wimtaze_text, wimtaze_type};
 use reference::{Outcome, Reply};
 use std::collections::BTreeMap;
+use std::time::{Duration, Instant};
 
 const SMALL_CALLS: u64 = 220_000;
 const LARGE_SHEETS: u64 = 200;
 const GUARD: usize = 16;
+const BETWEEN_LINES: Duration = Duration::from_secs(5);
 
 // ---- chance
 
@@ -55,6 +60,7 @@ enum Call<'a> {
     Type(&'a [u8], u64, u32),
     Erase(&'a [u8], u64),
     Text(&'a [u8]),
+    Counts(&'a [u8]),
 }
 
 impl Call<'_> {
@@ -65,6 +71,7 @@ impl Call<'_> {
             Call::Type(..) => "type",
             Call::Erase(..) => "erase",
             Call::Text(..) => "text",
+            Call::Counts(..) => "counts",
         }
     }
 
@@ -73,7 +80,7 @@ impl Call<'_> {
         match self {
             Call::Empty(_) => (&[], &[]),
             Call::Receive(sheet, line) => (sheet, line),
-            Call::Type(sheet, ..) | Call::Erase(sheet, _) | Call::Text(sheet) => (sheet, &[]),
+            Call::Type(sheet, ..) | Call::Erase(sheet, _) | Call::Text(sheet) | Call::Counts(sheet) => (sheet, &[]),
         }
     }
 
@@ -84,6 +91,7 @@ impl Call<'_> {
             Call::Type(sheet, gap, code) => reference::type_call(sheet, gap, code),
             Call::Erase(sheet, place) => reference::erase_call(sheet, place),
             Call::Text(sheet) => reference::text_call(sheet),
+            Call::Counts(sheet) => reference::counts_call(sheet),
         }
     }
 
@@ -98,6 +106,7 @@ impl Call<'_> {
                 Call::Type(_, gap, code) => wimtaze_type(s, s_len, gap, code, f, f_len, o, o_len),
                 Call::Erase(_, place) => wimtaze_erase(s, s_len, place, f, f_len, o, o_len),
                 Call::Text(_) => wimtaze_text(s, s_len, f, f_len),
+                Call::Counts(_) => wimtaze_counts(s, s_len),
             }
         }
     }
@@ -323,12 +332,20 @@ struct Tester {
     calls: u64,
     failed: u64,
     met: BTreeMap<(&'static str, String), u64>,
+    start: Instant,
+    told: Duration,
 }
 
-fn told(n: u64) -> String {
-    let (word, refusal, carried, thrown) = (n & 3, n >> 2 & 63, n >> 8 & 4095, n >> 20 & 4095);
-    let word = ["done", "waits", "known", "refused"][word as usize];
-    format!("{word} {refusal}, carried {carried}, thrown {thrown}, lengths {} {}", n >> 32 & 65535, n >> 48)
+/// The parts of the number that a call returned.
+fn told(call: &Call, n: u64) -> String {
+    let names = match call {
+        Call::Counts(_) => ["shown", "waiting", "characters", "room"],
+        _ => ["carried", "thrown", "written", "line"],
+    };
+    let parts = [n >> 8 & 4095, n >> 20 & 4095, n >> 32 & 65535, n >> 48];
+    let word = ["done", "waits", "known", "refused"][(n & 3) as usize];
+    let all: String = names.iter().zip(parts).map(|(name, part)| format!(", {name} {part}")).collect();
+    format!("{word} {}{all}", n >> 2 & 63)
 }
 
 impl Tester {
@@ -396,8 +413,8 @@ impl Tester {
     fn explain(&self, call: &Call, number: u64, outcome: &Outcome, used: &[Lent; 4], wanted: &[Lent; 4]) {
         let (sheet, line) = call.inputs();
         println!("seed {}, call {}: {}", self.seed, self.calls, call.name());
-        println!("  library   {}", told(number));
-        println!("  reference {}", told(outcome.number()));
+        println!("  library   {}", told(call, number));
+        println!("  reference {}", told(call, outcome.number()));
         for (name, (a, b)) in ["sheet", "line", "first output", "line output"].iter().zip(used.iter().zip(wanted)) {
             if let Some(k) = (0..a.0.len()).find(|k| a.0[*k] != b.0[*k]) {
                 let (at, room) = (k as isize - GUARD as isize, a.0.len() - 2 * GUARD);
@@ -409,7 +426,7 @@ impl Tester {
             Call::Type(_, gap, code) => println!("  gap {gap}, code point {code}"),
             Call::Erase(_, place) => println!("  place {place}"),
             Call::Receive(..) => println!("  line {:?}", String::from_utf8_lossy(line)),
-            Call::Text(_) => {}
+            Call::Text(_) | Call::Counts(_) => {}
         }
         let shortened: String = String::from_utf8_lossy(sheet).chars().take(2000).collect();
         println!("  sheet {shortened:?}");
@@ -440,15 +457,19 @@ impl Tester {
 
     /// Any call on the sheet.
     fn anything(&mut self, sheet: &[u8], line: &[u8]) -> Written {
-        match self.random.below(10) {
+        match self.random.below(11) {
             0..=4 => self.call(&Call::Receive(sheet, line)),
             5..=7 => self.type_somewhere(sheet),
             8 => self.erase_somewhere(sheet),
-            _ => {
-                self.call(&Call::Text(sheet));
-                None
-            }
+            _ => self.look(sheet),
         }
+    }
+
+    /// A call that changes nothing.
+    fn look(&mut self, sheet: &[u8]) -> Written {
+        let call = if self.random.one_in(2) { Call::Text(sheet) } else { Call::Counts(sheet) };
+        self.call(&call);
+        None
     }
 
     fn begin(&mut self, number: u64) -> Vec<u8> {
@@ -521,7 +542,7 @@ impl Tester {
         written
     }
 
-    /// A damaged or made-up line, a damaged sheet that nobody keeps, the text, or a new sheet.
+    /// A damaged or made-up line, a damaged sheet that nobody keeps, the text or the counts, or a new sheet.
     fn mishap(&mut self, n: usize, sheet: &[u8], sent: &[Vec<u8>]) -> Written {
         let of = Universe { laptops: 16, clocks: 4 };
         let line = if sent.is_empty() { self.random.line(of) } else { sent[self.random.below(sent.len())].clone() };
@@ -548,10 +569,7 @@ impl Tester {
                 self.call(&Call::Empty(number));
                 None
             }
-            _ => {
-                self.call(&Call::Text(sheet));
-                None
-            }
+            _ => self.look(sheet),
         }
     }
 
@@ -636,45 +654,101 @@ impl Tester {
 }
 
 /// Every reply that each call can give, and waiting operations carried and thrown out.
-const TO_MEET: [(&str, &str); 5] = [
+const TO_MEET: [(&str, &str); 6] = [
     ("empty", "done 2 12"),
     ("receive", "done waits known releasing throwing 1 2 3 7 8 9 10 11 12"),
     ("type", "done releasing throwing 1 2 3 4 5 6 9 11 12"),
     ("erase", "done 1 2 3 4 12"),
     ("text", "done 1 2 3 12"),
+    ("counts", "done 1 2 3"),
 ];
 
-fn main() {
-    let mut tester = Tester { random: Random(0), seed: 0, calls: 0, failed: 0, met: BTreeMap::new() };
-    for seed in 0.. {
-        if seed >= LARGE_SHEETS && tester.calls >= SMALL_CALLS {
-            break;
-        }
-        tester.seed = seed;
-        tester.random = Random(seed);
-        match seed {
-            n if n < LARGE_SHEETS => tester.large(n % 2 == 0),
-            n if n % 8 == 0 => tester.crowded(),
-            n if n % 8 < 3 => tester.history(),
-            n if n % 8 < 6 => tester.made_up(),
-            _ => tester.awaited(),
+impl Tester {
+    fn new() -> Tester {
+        let (met, start, told) = (BTreeMap::new(), Instant::now(), Duration::ZERO);
+        Tester { random: Random(0), seed: 0, calls: 0, failed: 0, met, start, told }
+    }
+
+    /// Says now and then how far it is.
+    fn tell(&mut self) {
+        let elapsed = self.start.elapsed();
+        if elapsed >= self.told + BETWEEN_LINES {
+            self.told = elapsed;
+            let (seconds, calls, failed, seed) = (elapsed.as_secs(), self.calls, self.failed, self.seed);
+            println!("{seconds} s: {calls} calls, {failed} with a difference; at seed {seed}");
         }
     }
-    let (mut passed, mut failed) = (tester.calls - tester.failed, tester.failed);
-    for (call, replies) in TO_MEET {
-        let mut line = format!("{call}:");
-        for reply in replies.split(' ') {
-            let count = tester.met.get(&(call, reply.to_string())).copied().unwrap_or(0);
-            line += &format!(" {reply} ({count})");
-            if count == 0 {
-                println!("{call} never answered {reply}");
-                failed += 1;
-            } else {
-                passed += 1;
+
+    /// What a seed stands for, a large sheet or one of the others.
+    fn run(&mut self, seed: u64, large: bool) {
+        self.seed = seed;
+        self.random = Random(seed);
+        match seed % 8 {
+            k if large => self.large(k % 2 == 0),
+            0 => self.crowded(),
+            1 | 2 => self.history(),
+            3..=5 => self.made_up(),
+            _ => self.awaited(),
+        }
+    }
+
+    /// Passed and failed: each call, and each reply that had to be met.
+    fn fixed_seeds() -> (u64, u64) {
+        let mut tester = Tester::new();
+        for seed in 0.. {
+            if seed >= LARGE_SHEETS && tester.calls >= SMALL_CALLS {
+                break;
+            }
+            tester.run(seed, seed < LARGE_SHEETS);
+            tester.tell();
+        }
+        let (mut passed, mut failed) = (tester.calls - tester.failed, tester.failed);
+        for (call, replies) in TO_MEET {
+            let mut line = format!("{call}:");
+            for reply in replies.split(' ') {
+                let count = tester.met.get(&(call, reply.to_string())).copied().unwrap_or(0);
+                line += &format!(" {reply} ({count})");
+                if count == 0 {
+                    println!("{call} never answered {reply}");
+                    failed += 1;
+                } else {
+                    passed += 1;
+                }
+            }
+            println!("{line}");
+        }
+        (passed, failed)
+    }
+
+    /// Passed and failed calls, from a seed on until the time is over or a seed shows a difference. One seed in
+    /// sixty-one is a large sheet, which takes as long as dozens of small ones.
+    fn soak(time: Duration, first: u64) -> (u64, u64) {
+        let mut tester = Tester::new();
+        println!("from seed {first} for {} s", time.as_secs());
+        for seed in first..=u64::MAX {
+            tester.run(seed, seed % 61 == 0);
+            tester.tell();
+            if tester.failed > 0 {
+                println!("a difference at seed {seed}: 'make soak SECONDS=0 SEED={seed}' finds it again");
+            }
+            if tester.failed > 0 || tester.start.elapsed() >= time {
+                break;
             }
         }
-        println!("{line}");
+        (tester.calls - tester.failed, tester.failed)
     }
+}
+
+fn main() {
+    let given: Vec<Option<u64>> = std::env::args().skip(1).map(|word| word.parse().ok()).collect();
+    let (passed, failed) = match given[..] {
+        [] => Tester::fixed_seeds(),
+        [Some(seconds), Some(seed)] => Tester::soak(Duration::from_secs(seconds), seed),
+        _ => {
+            eprintln!("usage: differential [SECONDS SEED], two whole numbers");
+            std::process::exit(2);
+        }
+    };
     println!("{passed} passed, {failed} failed");
     std::process::exit(i32::from(failed > 0));
 }

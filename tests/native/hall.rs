@@ -1,6 +1,7 @@
 //! The hall program on the plain reading of document 01, for comparison with the one that is built from the library:
 //! reads standard input and prints what that one must print.
 
+#[allow(dead_code)]
 mod reference;
 
 use reference::{read_operation, Reply, Sheet};

@@ -30,4 +30,5 @@ extern "C" {
         line_out_length: usize,
     ) -> u64;
     pub fn wimtaze_text(sheet: *const u8, sheet_length: usize, text_out: *mut u8, text_out_length: usize) -> u64;
+    pub fn wimtaze_counts(sheet: *const u8, sheet_length: usize) -> u64;
 }

@@ -495,30 +495,45 @@ pub fn sheet_bytes(s: &Sheet) -> Vec<u8> {
 
 // ---- the C calls
 
-/// What a C call comes to with outputs of any length: the reply, and the bytes for its first output and for the line's.
+/// How much is on a sheet: the rows that are shown, all that wait, all rows, and how many inserts it can still take.
+#[derive(Clone, Copy, PartialEq, Eq, Debug)]
+pub struct Counts {
+    pub shown: usize,
+    pub waiting: usize,
+    pub rows: usize,
+    pub room: usize,
+}
+
+/// What a C call comes to with outputs of any length: the reply, the bytes for its first output and for the line's, and
+/// the counts of the call that counts.
 #[derive(Clone, PartialEq, Eq, Debug)]
 pub struct Outcome {
     pub reply: Reply,
     pub first: Vec<u8>,
     pub line: Vec<u8>,
+    pub counts: Option<Counts>,
 }
 
 impl Outcome {
+    fn silent(reply: Reply) -> Outcome {
+        Outcome { reply, first: Vec::new(), line: Vec::new(), counts: None }
+    }
+
     fn refused(n: u8) -> Outcome {
-        Outcome { reply: Reply::Refused(n), first: Vec::new(), line: Vec::new() }
+        Outcome::silent(Reply::Refused(n))
     }
 
     fn done(first: Vec<u8>) -> Outcome {
-        Outcome { reply: Reply::Done { carried: 0, thrown: 0 }, first, line: Vec::new() }
+        Outcome { first, ..Outcome::silent(Reply::Done { carried: 0, thrown: 0 }) }
     }
 
     /// The reply to a call on a sheet, with the sheet and the line to send unless nothing is written.
     fn of(reply: Reply, sheet: &Sheet, sent: Option<Operation>) -> Outcome {
         match reply {
-            Reply::Refused(_) | Reply::Known => Outcome { reply, first: Vec::new(), line: Vec::new() },
+            Reply::Refused(_) | Reply::Known => Outcome::silent(reply),
             _ => {
                 let line = sent.map_or(Vec::new(), |o| operation_line(&o));
-                Outcome { reply, first: sheet_bytes(sheet), line }
+                Outcome { first: sheet_bytes(sheet), line, ..Outcome::silent(reply) }
             }
         }
     }
@@ -531,8 +546,12 @@ impl Outcome {
         self
     }
 
-    /// The number that the call returns: word, refusal, carried, thrown and the two lengths, from the lowest bits up.
+    /// The number that the call returns: word, refusal, carried, thrown and the two lengths, from the lowest bits up,
+    /// or the four counts in place of the last four.
     pub fn number(&self) -> u64 {
+        if let Some(c) = self.counts {
+            return (c.shown as u64) << 8 | (c.waiting as u64) << 20 | (c.rows as u64) << 32 | (c.room as u64) << 48;
+        }
         let (word, refusal, carried, thrown) = match self.reply {
             Reply::Done { carried, thrown } => (0, 0, carried as u64, thrown as u64),
             Reply::Waits => (1, 0, 0, 0),
@@ -602,6 +621,19 @@ pub fn erase_call(sheet: &[u8], place: u64) -> Outcome {
 pub fn text_call(sheet: &[u8]) -> Outcome {
     match read_sheet(sheet).and_then(|s| s.text()) {
         Ok(text) => Outcome::done(text),
+        Err(n) => Outcome::refused(n),
+    }
+}
+
+pub fn counts_call(sheet: &[u8]) -> Outcome {
+    let counted = |s: Sheet| Counts {
+        shown: s.shown().len(),
+        waiting: s.waiting.len(),
+        rows: s.rows.len(),
+        room: MOST_ROWS - s.inserts(),
+    };
+    match read_sheet(sheet) {
+        Ok(s) => Outcome { counts: Some(counted(s)), ..Outcome::done(Vec::new()) },
         Err(n) => Outcome::refused(n),
     }
 }

@@ -1,7 +1,7 @@
 /*
- * Every call of the library in a thread with the stack that the header asks for, on an empty sheet, on a full one and on
- * one where a line releases the edits that wait for it. The page below such a stack is guarded, so a call that needs
- * more ends the program.
+ * How much stack the calls take: every call of the library in a thread whose stack was painted before, on an empty
+ * sheet, on a full one and on one where a line releases the edits that wait for it. It must not be more than the header
+ * says, below the frame that the calls are made from.
  */
 #include "wimtaze.h"
 
@@ -9,12 +9,18 @@
 #include <stdio.h>
 #include <string.h>
 
+enum { PAINT = 0xa5, PAGE = 4096, PAINTED = 4 * WIMTAZE_STACK };
+
 static uint8_t sheet[WIMTAZE_SHEET_MAX], after[WIMTAZE_SHEET_MAX], line[WIMTAZE_LINE_MAX], text[WIMTAZE_TEXT_MAX];
 static size_t length;
 static int failures;
 
+static uint8_t space[PAGE + PAINTED];
+static uint8_t *stack, *top;
+
 /* Keeps the new sheet if there is one, and counts an answer that was not expected. */
-static void keep(uint64_t reply, unsigned word) {
+static void keep(uint64_t reply, unsigned word)
+{
     if (wimtaze_word(reply) != word) {
         failures++;
         return;
@@ -25,14 +31,18 @@ static void keep(uint64_t reply, unsigned word) {
     }
 }
 
-static void receive(unsigned clock, unsigned previous, unsigned word) {
+static void receive(unsigned clock, unsigned previous, unsigned word)
+{
     char edit[64];
     int n = sprintf(edit, "I\t2\t%u\t66\t%d\t%u\t0\t1\n", clock, previous == 0 ? 0 : 2, previous);
     keep(wimtaze_receive(sheet, length, (const uint8_t *)edit, (size_t)n, after, sizeof after), word);
 }
 
-static void *calls(void *unused) {
+static void *calls(void *unused)
+{
+    uint8_t here;
     unsigned k;
+    top = &here;
     keep(wimtaze_empty(1, after, sizeof after), WIMTAZE_DONE);
     for (k = 2; k <= 33; k++)
         receive(k, k - 1, WIMTAZE_WAITS);
@@ -42,18 +52,28 @@ static void *calls(void *unused) {
     keep(wimtaze_type(sheet, length, 0, 'x', after, sizeof after, line, sizeof line), WIMTAZE_REFUSED);
     if (wimtaze_word(wimtaze_text(sheet, length, text, sizeof text)) != WIMTAZE_DONE)
         failures++;
+    if (wimtaze_character_count(wimtaze_counts(sheet, length)) != 1024)
+        failures++;
     keep(wimtaze_erase(sheet, length, 512, after, sizeof after, line, sizeof line), WIMTAZE_DONE);
     return unused;
 }
 
-int main(void) {
+int main(void)
+{
     pthread_attr_t attributes;
     pthread_t thread;
-    if (pthread_attr_init(&attributes) != 0 || pthread_attr_setstacksize(&attributes, WIMTAZE_STACK) != 0 ||
+    size_t untouched = 0, used;
+    stack = space + PAGE - (uintptr_t)space % PAGE;
+    memset(stack, PAINT, PAINTED);
+    if (pthread_attr_init(&attributes) != 0 || pthread_attr_setstack(&attributes, stack, PAINTED) != 0 ||
         pthread_create(&thread, &attributes, calls, NULL) != 0 || pthread_join(thread, NULL) != 0) {
         puts("no thread");
         return 1;
     }
-    printf("%d answers were not expected\n", failures);
-    return failures != 0;
+    while (stack[untouched] == PAINT)
+        untouched++;
+    used = (size_t)(top - stack) - untouched;
+    printf("%d answers were not expected; the calls take %u bytes of stack, of %u\n", failures, (unsigned)used,
+           (unsigned)WIMTAZE_STACK);
+    return failures != 0 || used > WIMTAZE_STACK;
 }
