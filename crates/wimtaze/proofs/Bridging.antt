@@ -25,11 +25,13 @@ use Rattle.storage.specs.Replicas.{afterAnswer, afterSent, receipt, generated, 
 use Rattle.replica.specs.Texts.{textOf}
 use Rattle.replica.proofs.Runs.{meaning-stored}
 use Rattle.codec.specs.Operations.{operationLine}
-use Rattle.saved.specs.Format.{savedBytes}
+use Rattle.saved.specs.Format.{savedState, savedBytes}
 use Rattle.saved.specs.Calls.{bytesOf, held}
 use Rattle.saved.proofs.Held.{held-form}
 use Rattle.wimtaze.specs.Effects.{Effect, quiet, turned, writing, writingBoth, afterReceiving, sending, afterSending}
-use Rattle.wimtaze.specs.Steps.{receiptLeft, sentLeft, generatedLeft, textLeft}
+use Rattle.wimtaze.specs.Results.{Result, silent}
+use Rattle.wimtaze.specs.Calls.{inputChecks, countsOf, counting}
+use Rattle.wimtaze.specs.Steps.{receiptLeft, sentLeft, generatedLeft, textLeft, countsLeft}
 
 -- the form first, and then the rest
 abbrev pub formed-first : State → List ℕ → List ℕ → Effect → Effect
@@ -143,3 +145,27 @@ module _ (s : State) (out : List ℕ) where
         go : (b : Bool) → wellFormed s ≡ b → formed-first s out line (afterSending (localDelete s p) out line) ≡ generatedLeft (deleted (held s) p) out line
         go true e = formed-on s out line _ e ∙ sym (sent-saved (held s) (localDelete s p) out line) ∙ ap (λ (x : Generated). generatedLeft x out line) (sym (deleted-held s e p))
         go false e = formed-off s out line _ e ∙ ap (λ (x : Generated). generatedLeft x out line) (sym (deleted-off (held s) (held-form s .0 ∙ e) p))
+
+-- ---- the counts, which write nothing
+
+counts-bridge : (s : State) → decided (λ q. silent (Refused q)) (first ((not (wellFormed s) ⇒ Form) ∷ [])) (countsOf s) ≡ countsLeft (held s)
+unfolding countsLeft decided
+counts-bridge s = go (wellFormed s) refl
+  where
+    go : (b : Bool) → wellFormed s ≡ b
+        → decided (λ q. silent (Refused q)) (first ((not (wellFormed s) ⇒ Form) ∷ [])) (countsOf s) ≡ countsLeft (held s)
+    go true e = rw (held-form s .0, held-form s .1 e .1)
+    go false e = rw (held-form s .0, e)
+
+module _ (bytes : List ℕ) where
+  pub counts-refused : {q : Refusal} → first (inputChecks bytes true true) ≡ some q → counting bytes ≡ silent (Refused q)
+  unfolding counting decided
+  counts-refused h = rw h
+
+  pub counts-passed : {r : Replica} → first (inputChecks bytes true true) ≡ first ((not (wellFormed (savedState bytes)) ⇒ Form) ∷ [])
+      → r ≡ held (savedState bytes) → counting bytes ≡ countsLeft r
+  unfolding counting
+  counts-passed h e =
+      ap (λ (o : Option Refusal). decided (λ q. silent (Refused q)) o (countsOf (savedState bytes))) h
+      ∙ counts-bridge (savedState bytes)
+      ∙ ap countsLeft (sym e)

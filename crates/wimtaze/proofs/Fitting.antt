@@ -7,7 +7,7 @@ use mathlib.Core.Bool.{Bool, true, false, _||_, not, cond}
 use mathlib.Core.Option.{Option, none, some}
 use mathlib.Core.List.{List, [], _∷_}
 use lib.Dec.{ltb, eqb}
-use lib.ListN.{length}
+use lib.ListN.{length, length-map}
 use borrow.Author.Tests.{eqb-false, ltb-true, not-false}
 use Rattle.output.specs.Output.{placed}
 use Rattle.woot.specs.declared.Operation.{Operation}
@@ -21,10 +21,15 @@ use Rattle.woot.specs.Ranges.{siteNumber, codePoint, inRange}
 use Rattle.woot.specs.State.{State, initial}
 use Rattle.woot.specs.Form.{wellFormed}
 use Rattle.woot.specs.Answers.{number, reply, changes, Check, _⇒_, first, NoneHolds, decided}
-use Rattle.woot.specs.Calls.{Outcome, receive, localInsert, localDelete}
+use Rattle.woot.specs.declared.Character.{Character}
+use Rattle.woot.specs.Operations.{isVisible}
+use Rattle.woot.specs.Calls.{Outcome, receive, visibles, localInsert, localDelete}
 use Rattle.woot.specs.Histories.{Call, inserting, deleting, receiving, outcome}
 use Rattle.woot.specs.Text.{text}
-use Rattle.convergence.proofs.Forms.{empty-formed}
+use Rattle.lists.specs.Lists.{keep}
+use Rattle.lists.proofs.Members.{keep-length}
+use Rattle.convergence.proofs.Forms.{empty-formed, known-length}
+use Rattle.convergence.proofs.Shares.{pending-fit}
 use Rattle.convergence.proofs.Kept.{form-kept}
 use Rattle.convergence.proofs.Steps.{All, first-none, first-some}
 use Rattle.codec.specs.Operations.{operationLine}
@@ -33,9 +38,10 @@ use Rattle.saved.specs.Format.{savedState, savedBytes}
 use Rattle.saved.proofs.Sizes.{saved-length}
 use Rattle.wimtaze.specs.Results.{Result, result, silent}
 use Rattle.wimtaze.specs.Effects.{Effect, quiet, turned, writing, writingBoth, afterReceiving, sending, afterSending}
-use Rattle.wimtaze.specs.Calls.{inputChecks, oneLine, beginning, receivingLine, typing, erasing, showingText}
-use Rattle.wimtaze.specs.Theorems.{savedMost, insertMost, deleteMost, textMost, Fits, ResultsFit, HasRoom, BuffersSuffice}
+use Rattle.wimtaze.specs.Calls.{inputChecks, oneLine, beginning, receivingLine, typing, erasing, showingText, countsOf, counting}
+use Rattle.wimtaze.specs.Theorems.{savedMost, insertMost, deleteMost, textMost, Fits, ResultsFit, CountsWithin, CountsFit, HasRoom, BuffersSuffice}
 use Rattle.wimtaze.proofs.Sizes.{text-length}
+use Rattle.wimtaze.proofs.Counting.{known-few}
 use Rattle.wimtaze.proofs.Counts.{Other, Fine, Sends, receive-fine, insert-sends, delete-sends}
 
 -- ---- what is returned
@@ -197,3 +203,37 @@ buffers-suffice = (
   λ bytes index out line h g. delete-good bytes index out line .1 (h, g),
   λ bytes out. show-good bytes out .1,
 )
+
+-- ---- the counts
+
+visibles-few : (cs : List Character) → length (visibles cs) ≤ length cs
+unfolding visibles
+visibles-few cs = omega (arith, length-map (keep isVisible cs) (λ c. c .id), keep-length isVisible cs)
+
+counts-within : (s : State) → wellFormed s ≡ true → CountsWithin (countsOf s)
+unfolding countsOf result reply
+counts-within s h =
+    record {
+      refusal-fits = omega arith;
+      visible-fits = visibles-few (s .characters);
+      pending-fits = pending-fit s h;
+      full-fits = omega (arith, known-length s, known-few s h);
+    }
+
+refused-within : (q : Refusal) → CountsWithin (silent (Refused q))
+unfolding silent result reply
+refused-within q =
+    record {
+      refusal-fits = number-few q;
+      visible-fits = omega arith;
+      pending-fits = omega arith;
+      full-fits = omega arith;
+    }
+
+pub counts-fit : CountsFit
+unfolding counting inputChecks decided
+counts-fit bytes = go (first (inputChecks bytes true true)) refl
+  where
+    go : (o : Option Refusal) → first (inputChecks bytes true true) ≡ o → CountsWithin (decided (λ q. silent (Refused q)) o (countsOf (savedState bytes)))
+    go none h = counts-within (savedState bytes) (not-false (wellFormed (savedState bytes)) (first-none (inputChecks bytes true true) h .1 .1 .0))
+    go (some q) h = refused-within q

@@ -1,5 +1,5 @@
 -- The promises about what the calls return, each proved in proofs/ under its name in small letters.
-use Prim.Native.Nat.{ℕ, _%_, _/_, _^_, _≤_, _<_}
+use Prim.Native.Nat.{ℕ, _+_, _%_, _/_, _^_, _≤_, _<_}
 use mathlib.Core.Path.{_≡_}
 use mathlib.Core.Bool.{true}
 use mathlib.Core.List.{List}
@@ -8,7 +8,7 @@ use Rattle.woot.specs.State.{State}
 use Rattle.woot.specs.Form.{wellFormed}
 use Rattle.woot.specs.Text.{text}
 use Rattle.wimtaze.specs.Results.{Result, wordNumber, inBits, numberOf}
-use Rattle.wimtaze.specs.Calls.{beginning, receivingLine, typing, erasing, showingText}
+use Rattle.wimtaze.specs.Calls.{beginning, receivingLine, typing, erasing, showingText, counting}
 
 -- ---- sizes: the header's WIMTAZE_SHEET_MAX, WIMTAZE_INSERT_MAX, WIMTAZE_ERASE_MAX and WIMTAZE_TEXT_MAX
 
@@ -63,15 +63,33 @@ PartsReadBack =
     × (inBits w q n m a b / 2 ^ 32 % 65536 ≡ a % 65536)
     × (inBits w q n m a b / 2 ^ 48 ≡ b % 65536)
 
--- of a result that fits no part is cut: each is read back as it is
-abbrev pub ReturnedReadsBack : Type 0
-ReturnedReadsBack =
-    (m k : ℕ) (x : Result) → m < 65536 → k < 65536 → Fits m k x →
+-- no part of a result is cut: each is read back as it is
+abbrev pub ReadsBack : Result → Type 0
+ReadsBack x =
     (numberOf x % 4 ≡ wordNumber (x .reply .word)) × (numberOf x / 4 % 64 ≡ x .reply .refusal)
     × (numberOf x / 256 % 4096 ≡ x .reply .integrated)
     × (numberOf x / 2 ^ 20 % 4096 ≡ x .reply .discarded)
     × (numberOf x / 2 ^ 32 % 65536 ≡ x .written)
     × (numberOf x / 2 ^ 48 ≡ x .line)
+
+-- of a result that fits
+abbrev pub ReturnedReadsBack : Type 0
+ReturnedReadsBack = (m k : ℕ) (x : Result) → m < 65536 → k < 65536 → Fits m k x → ReadsBack x
+
+-- the bounds of the counts: the visible characters are as many as all of them at most, and those as the capacity
+pub record CountsWithin (x : Result) : Type 0 where
+  pub refusal-fits : x .reply .refusal ≤ 12
+  pub visible-fits : x .reply .integrated ≤ x .written
+  pub pending-fits : x .reply .discarded ≤ 512
+  pub full-fits : x .written + x .line ≤ 1024
+
+-- the counts are within them, on any bytes
+abbrev pub CountsFit : Type 0
+CountsFit = (bytes : List ℕ) → CountsWithin (counting bytes)
+
+-- and none is cut
+abbrev pub CountsReadBack : Type 0
+CountsReadBack = (bytes : List ℕ) → ReadsBack (counting bytes)
 
 -- ---- outputs of the header's sizes
 

@@ -9,9 +9,11 @@ use saved::LoadAnswer;
 use woot::Answer;
 use woot::Refusal;
 use woot::Replica;
+ghost use mathlib.Core.Path.{_≡_};
 ghost use mathlib.Core.List.{[]};
+ghost use Rattle.wimtaze.specs.Results.{numberOf};
 ghost use Rattle.wimtaze.specs.Effects.{Leaves};
-ghost use Rattle.wimtaze.specs.Calls.{beginning, receivingLine, typing, erasing, showingText};
+ghost use Rattle.wimtaze.specs.Calls.{beginning, receivingLine, typing, erasing, showingText, counting};
 
 // Writes the empty replica of a site.
 #[no_mangle]
@@ -43,6 +45,23 @@ pub extern "C" fn wimtaze_text(bytes: &[u8], out: &mut [u8]) -> u64
         LoadAnswer::Done => {
             let replica = loaded.replica;
             effects::show(replica, out)
+        }
+    }
+}
+
+// Counts the visible characters, the pending operations and all the characters of a saved replica, and how many more it
+// has room for.
+#[no_mangle]
+pub extern "C" fn wimtaze_counts(bytes: &[u8]) -> u64
+    ensures { λ r. ⌜ r ≡ numberOf (counting (now (bytes .entry))) ⌝ }
+{
+    let loaded = saved::read(bytes);
+    let answer = loaded.answer;
+    match answer {
+        LoadAnswer::Refused(q) => results::refused(q),
+        LoadAnswer::Done => {
+            let replica = loaded.replica;
+            effects::count(replica)
         }
     }
 }

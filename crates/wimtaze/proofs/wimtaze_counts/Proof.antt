@@ -1,0 +1,37 @@
+-- `wimtaze::wimtaze_counts` meets its contract: what the reader refuses is refused, and what it reads is counted.
+use mathlib.Core.Path.{sym, ap, _∙_}
+use Rattle.wimtaze.specs.Results.{numberOf}
+use Rattle.wimtaze.proofs.Refusals.{refused-alone, passed}
+use Rattle.wimtaze.proofs.Bridging.{counts-refused, counts-passed}
+use borrow.Author.Needs.{needs}
+use Rattle.wimtaze.proofs.wimtaze_counts.Statement.{statement}
+use Rattle.wimtaze.proofs.wimtaze_counts.Tie as tie
+
+read-requires : tie.Need-read-requires
+read-requires c κs = search needs
+
+enum-known-answer : tie.Need-enum-known-answer
+enum-known-answer c = search needs
+
+refused-requires : tie.Need-refused-requires
+refused-requires c κs = search needs
+
+enum-told : tie.Need-enum-told
+enum-told c = search needs
+
+count-requires : tie.Need-count-requires
+count-requires c κs = search needs
+
+returns : tie.Need-returns
+returns c =
+    c .refused .ensures
+    ∙ ap numberOf (sym (counts-refused _ (refused-alone _ _ (c .before .before .before .before .read .ensures) _ (c .before .before .answer .given .1))))
+
+returns-2 : tie.Need-returns-2
+returns-2 c =
+    let p = passed _ _ (c .before .before .before .before .read .ensures) (c .before .before .enum-told .given .1) in
+    c .count .ensures ∙ ap numberOf (sym (counts-passed _ (p .0) (p .1)))
+
+pub wimtaze-counts-spec : {M : Type 1} → statement M
+wimtaze-counts-spec =
+    tie.close (tie.spec read-requires enum-known-answer refused-requires enum-told count-requires returns returns-2)
