@@ -11,7 +11,7 @@ use Rattle.woot.specs.declared.Answer.the-variants.{Done, Deferred, Duplicate, 
 use Rattle.woot.specs.State.{State, initial, stored}
 use Rattle.woot.specs.Form.{wellFormed}
 use Rattle.woot.specs.Answers.{changes, reply}
-use Rattle.woot.specs.Calls.{Outcome, unchanged, integrated}
+use Rattle.woot.specs.Calls.{Outcome, unchanged, allIntegrated}
 use Rattle.woot.specs.Histories.{outcome, Call as RuleCall}
 use Rattle.convergence.proofs.Forms.{reformed}
 use Rattle.convergence.proofs.Steps.{turned, adds, removes, defers, step, Step as RuleStep}
@@ -31,7 +31,7 @@ pub data Holds : State → Copy → Type 0 where
 -- what a call on a copy that holds s leaves, and the operations that it carried out
 pub data Step (s : State) (p : Copy) (os : List Operation) : Type 0 where
   left : Holds s p → os ≡ [] → Step s p os
-  made : (c : RuleCall) → Holds (outcome s c .state) p → os ≡ integrated (outcome s c) → Step s p os
+  made : (c : RuleCall) → Holds (outcome s c .state) p → os ≡ allIntegrated (outcome s c) → Step s p os
 
 -- a call on a copy that holds s
 abbrev pub Steps : State → Copy → Call → Type 0
@@ -46,14 +46,14 @@ says nothing = refl
 -- ---- what an answer tells of the call
 
 -- an operation that waits is not carried out, and the counts say so
-waits-carries : (s : State) (c : RuleCall) → outcome s c .answer ≡ Deferred → integrated (outcome s c) ≡ []
+waits-carries : (s : State) (c : RuleCall) → outcome s c .answer ≡ Deferred → allIntegrated (outcome s c) ≡ []
 unfolding reply
 waits-carries s c e =
-    let counted : 0 ≡ length (integrated (outcome s c)) = sym (ap (λ a. reply a .integrated) e) ∙ counts-true s c .0 in
-    drop-of-length-le (integrated (outcome s c)) {i = 0} (omega arith)
+    let counted : 0 ≡ length (allIntegrated (outcome s c)) = sym (ap (λ a. reply a .integrated) e) ∙ counts-true s c .0 in
+    drop-of-length-le (allIntegrated (outcome s c)) {i = 0} (omega arith)
 
 pub carries : (s : State) (c : RuleCall) (a : Answer) → outcome s c .answer ≡ a → changes a ≡ true →
-    whenDone (reply a .word) s c ≡ integrated (outcome s c)
+    whenDone (reply a .word) s c ≡ allIntegrated (outcome s c)
 unfolding changes whenDone reply
 carries s c (Done n m) e h = refl
 carries s c Deferred e h = sym (waits-carries s c e)

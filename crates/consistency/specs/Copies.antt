@@ -11,7 +11,7 @@ use Rattle.woot.specs.declared.Written.{Written}
 use Rattle.woot.specs.declared.Written.the-variants.{Length, Refused as writtenRefused}
 use Rattle.woot.specs.State.{State, initial, meaning, stored}
 use Rattle.woot.specs.Answers.{Word, done, waits, known, refused, reply, answerOf}
-use Rattle.woot.specs.Calls.{integrated}
+use Rattle.woot.specs.Calls.{allIntegrated}
 use Rattle.woot.specs.Text.{text}
 use Rattle.woot.specs.Histories.{inserting, deleting, receiving, outcome, Call as RuleCall}
 use Rattle.replica.specs.Theorems.{called, answerTo}
@@ -108,7 +108,7 @@ stateOf (asBytes b) = savedState b
 
 -- the operations that the call of the rules carries out, its own and those it drains, where the reply was done
 unfoldable pub whenDone : Word → State → RuleCall → List Operation
-whenDone done s c = integrated (outcome s c)
+whenDone done s c = allIntegrated (outcome s c)
 whenDone waits s c = []
 whenDone known s c = []
 whenDone refused s c = []

@@ -9,40 +9,40 @@ use mathlib.Core.List.{List, [], _∷_}
 use lib.ListN.{length}
 use Rattle.woot.specs.declared.Operation.{Operation}
 use Rattle.woot.specs.declared.Character.{Character}
-use Rattle.woot.specs.Pending.{executable, crossed, unplaceable, integrate, Taken, earliest, Drained, andIntegrated, andDiscarded, drained, drainSteps, drain}
+use Rattle.woot.specs.Pending.{executable, crossed, unplaceable, integrate, Extracted, earliest, Drained, andIntegrated, andDiscarded, drained, drainSteps, drain}
 use Rattle.convergence.specs.Theorems.{drainNext, DrainingRecurs}
 use Rattle.lists.specs.Lists.{any}
 use Rattle.lists.proofs.Tests.{or-false-left, or-false-right, or-false}
 use Rattle.convergence.proofs.Extract.{Extract, front, past, extract-length}
 
 -- what the earliest is: it passes the test and was taken out of the list
-pub record Found (p : Operation → Bool) (ps : List Operation) (t : Taken) : Type 0 where
+pub record Found (p : Operation → Bool) (ps : List Operation) (t : Extracted) : Type 0 where
   pub passed : p (t .operation) ≡ true
   pub extracted : Extract (t .operation) (t .others) ps
 
-some-eq : {x y : Taken} → some x ≡ some y → x ≡ y
+some-eq : {x y : Extracted} → some x ≡ some y → x ≡ y
 some-eq e = cc
 
-no-some : {x : Taken} {B : Type 0} → none ≡ some x → B
+no-some : {x : Extracted} {B : Type 0} → none ≡ some x → B
 no-some e = absurd (let z : _≡_ {A = ℕ} 0 1 = cc in omega arith)
 
-pub earliest-found : (p : Operation → Bool) (ps : List Operation) (t : Taken) → earliest p ps ≡ some t → Found p ps t
+pub earliest-found : (p : Operation → Bool) (ps : List Operation) (t : Extracted) → earliest p ps ≡ some t → Found p ps t
 unfolding earliest
 earliest-found p [] t h = no-some h
 earliest-found p (o ∷ ps) t h = go (p o) refl (earliest p ps) refl (earliest-found p ps)
   where
-    go : (b : Bool) → p o ≡ b → (m : Option Taken) → earliest p ps ≡ m → ((u : Taken) → earliest p ps ≡ some u → Found p ps u) → Found p (o ∷ ps) t
-    go true e m f rest = subst (λ (u : Taken). Found p (o ∷ ps) u) (some-eq (rw e at h)) (record { passed = e; extracted = front })
+    go : (b : Bool) → p o ≡ b → (m : Option Extracted) → earliest p ps ≡ m → ((u : Extracted) → earliest p ps ≡ some u → Found p ps u) → Found p (o ∷ ps) t
+    go true e m f rest = subst (λ (u : Extracted). Found p (o ∷ ps) u) (some-eq (rw e at h)) (record { passed = e; extracted = front })
     go false e none f rest = no-some (rw (e, f) at h)
     go false e (some u) f rest =
-        subst (λ (u : Taken). Found p (o ∷ ps) u) (some-eq (rw (e, f) at h)) (record { passed = rest u f .passed; extracted = past (rest u f .extracted) })
+        subst (λ (u : Extracted). Found p (o ∷ ps) u) (some-eq (rw (e, f) at h)) (record { passed = rest u f .passed; extracted = past (rest u f .extracted) })
 
 pub earliest-none : (p : Operation → Bool) (ps : List Operation) → earliest p ps ≡ none → any p ps ≡ false
 unfolding earliest
 earliest-none p [] h = refl
 earliest-none p (o ∷ ps) h = go (p o) refl (earliest p ps) refl (earliest-none p ps)
   where
-    go : (b : Bool) → p o ≡ b → (m : Option Taken) → earliest p ps ≡ m → (earliest p ps ≡ none → any p ps ≡ false) → any p (o ∷ ps) ≡ false
+    go : (b : Bool) → p o ≡ b → (m : Option Extracted) → earliest p ps ≡ m → (earliest p ps ≡ none → any p ps ≡ false) → any p (o ∷ ps) ≡ false
     go true e m f rest = no-some (sym (rw e at h))
     go false e none f rest = or-false e (rest f)
     go false e (some u) f rest = no-some (sym (rw (e, f) at h))
@@ -50,8 +50,8 @@ earliest-none p (o ∷ ps) h = go (p o) refl (earliest p ps) refl (earliest-none
 -- one run of draining, step by step
 pub data Draining : List Character → List Operation → Drained → Type 0 where
   stop : {cs : List Character} {ps : List Operation} → any (executable cs) ps ≡ false → Draining cs ps (drained cs ps)
-  discard : {cs : List Character} {ps : List Operation} {d : Drained} (t : Taken) → Found (executable cs) ps t → Draining cs (t .others) d → Draining cs ps (andDiscarded (t .operation) d)
-  carry : {cs : List Character} {ps : List Operation} {d : Drained} (t : Taken) → Found (executable cs) ps t → crossed cs (t .operation) ≡ false → unplaceable cs (t .operation) ≡ false → Draining (integrate cs (t .operation)) (t .others) d → Draining cs ps (andIntegrated (t .operation) d)
+  discard : {cs : List Character} {ps : List Operation} {d : Drained} (t : Extracted) → Found (executable cs) ps t → Draining cs (t .others) d → Draining cs ps (andDiscarded (t .operation) d)
+  carry : {cs : List Character} {ps : List Operation} {d : Drained} (t : Extracted) → Found (executable cs) ps t → crossed cs (t .operation) ≡ false → unplaceable cs (t .operation) ≡ false → Draining (integrate cs (t .operation)) (t .others) d → Draining cs ps (andIntegrated (t .operation) d)
 
 draining-steps : (n : ℕ) (cs : List Character) (ps : List Operation) → length ps ≤ n → Draining cs ps (drainSteps n cs ps)
 unfolding drainSteps
@@ -59,11 +59,11 @@ draining-steps zero cs [] h = stop refl
 draining-steps zero cs (o ∷ ps) h = absurd (omega arith)
 draining-steps (suc n) cs ps h = go (earliest (executable cs) ps) refl (draining-steps n)
   where
-    on : (t : Taken) → Found (executable cs) ps t → ((cs : List Character) (ps : List Operation) → length ps ≤ n → Draining cs ps (drainSteps n cs ps)) → (b : Bool) → crossed cs (t .operation) || unplaceable cs (t .operation) ≡ b → Draining cs ps (cond b (andDiscarded (t .operation) (drainSteps n cs (t .others))) (andIntegrated (t .operation) (drainSteps n (integrate cs (t .operation)) (t .others))))
+    on : (t : Extracted) → Found (executable cs) ps t → ((cs : List Character) (ps : List Operation) → length ps ≤ n → Draining cs ps (drainSteps n cs ps)) → (b : Bool) → crossed cs (t .operation) || unplaceable cs (t .operation) ≡ b → Draining cs ps (cond b (andDiscarded (t .operation) (drainSteps n cs (t .others))) (andIntegrated (t .operation) (drainSteps n (integrate cs (t .operation)) (t .others))))
     on t f rest true e = discard t f (rest cs (t .others) (omega (arith, extract-length (f .extracted))))
     on t f rest false e = carry t f (or-false-left (crossed cs (t .operation)) (unplaceable cs (t .operation)) e) (or-false-right (crossed cs (t .operation)) (unplaceable cs (t .operation)) e) (rest (integrate cs (t .operation)) (t .others) (omega (arith, extract-length (f .extracted))))
 
-    go : (m : Option Taken) → earliest (executable cs) ps ≡ m → ((cs : List Character) (ps : List Operation) → length ps ≤ n → Draining cs ps (drainSteps n cs ps)) → Draining cs ps (drainSteps (suc n) cs ps)
+    go : (m : Option Extracted) → earliest (executable cs) ps ≡ m → ((cs : List Character) (ps : List Operation) → length ps ≤ n → Draining cs ps (drainSteps n cs ps)) → Draining cs ps (drainSteps (suc n) cs ps)
     go none e rest = rw (e, drainSteps) (stop (earliest-none (executable cs) ps e))
     go (some t) e rest = rw (e, drainSteps) (on t (earliest-found (executable cs) ps t e) rest (crossed cs (t .operation) || unplaceable cs (t .operation)) refl)
 
@@ -76,7 +76,7 @@ unfolding drain drainSteps earliest drained
 draining-recurs cs [] = refl
 draining-recurs cs (o ∷ ps) = go (earliest (executable cs) (o ∷ ps)) refl
   where
-    go : (m : Option Taken) → earliest (executable cs) (o ∷ ps) ≡ m → drain cs (o ∷ ps) ≡ drainNext cs (o ∷ ps) m
+    go : (m : Option Extracted) → earliest (executable cs) (o ∷ ps) ≡ m → drain cs (o ∷ ps) ≡ drainNext cs (o ∷ ps) m
     go none e = rw (e, drainSteps)
     go (some t) e =
         let n : length (t .others) ≡ length ps = omega (arith, extract-length (earliest-found (executable cs) (o ∷ ps) t e .extracted)) in

@@ -14,7 +14,7 @@ use Rattle.woot.specs.Ranges.{within, siteNumber, siteInRange, characterInRange
 use Rattle.woot.specs.State.{State, initial}
 use Rattle.woot.specs.Placing.{identifiers}
 use Rattle.woot.specs.Pending.{executable, pendingFrom}
-use Rattle.woot.specs.Form.{known, allInRange, sharesKept, capacityKept, identifiersDistinct, deletesDistinct, neighboursOrdered, noneExecutable, wellFormed}
+use Rattle.woot.specs.Form.{presentInserts, allInRange, sharesKept, capacityKept, identifiersDistinct, deletesDistinct, neighboursOrdered, noneExecutable, wellFormed}
 use Rattle.convergence.specs.Invariants.{pendingIds, Sound}
 use Rattle.convergence.specs.Theorems.{EmptyFormed}
 use Rattle.lists.specs.Lists.{any, every, distinct}
@@ -25,8 +25,8 @@ pub record Formed (s : State) : Type 0 where
   pub sound : Sound (s .characters) (s .pending)
   pub unready : any (executable (s .characters)) (s .pending) ≡ false
 
-pub known-length : (s : State) → length (known s) ≡ length (s .characters) + length (inserts (s .pending))
-unfolding known
+pub known-length : (s : State) → length (presentInserts s) ≡ length (s .characters) + length (inserts (s .pending))
+unfolding presentInserts
 known-length s = length-append (map origin (s .characters)) (inserts (s .pending)) ∙ ap (λ (n : ℕ). n + length (inserts (s .pending))) (length-map (s .characters) origin)
 
 map-append : {A B : Type 0} (f : A → B) (xs ys : List A) → map f (xs ++ ys) ≡ map f xs ++ map f ys
@@ -38,8 +38,8 @@ unfolding origin
 origin-ids [] = refl
 origin-ids (c ∷ cs) = ap (λ zs. c .id ∷ zs) (origin-ids cs)
 
-pub known-ids : (s : State) → map (λ i. i .id) (known s) ≡ identifiers (s .characters) ++ pendingIds (s .pending)
-unfolding known
+pub known-ids : (s : State) → map (λ i. i .id) (presentInserts s) ≡ identifiers (s .characters) ++ pendingIds (s .pending)
+unfolding presentInserts
 known-ids s = map-append (λ i. i .id) (map origin (s .characters)) (inserts (s .pending)) ∙ ap (λ zs. zs ++ pendingIds (s .pending)) (origin-ids (s .characters))
 
 pub formed : (s : State) → wellFormed s ≡ true → Formed s
@@ -50,7 +50,7 @@ formed s h =
     (neighboursOrdered s) (noneExecutable s) h
     in
     let q = three (siteInRange (s .site)) (every characterInRange (s .characters)) (every inRange (s .pending)) (p .0) in
-    let held : length (known s) ≤ capacity = leb-true (length (known s)) capacity (p .2) in
+    let held : length (presentInserts s) ≤ capacity = leb-true (length (presentInserts s)) capacity (p .2) in
     record {
       site = q .0;
       sound =
@@ -69,11 +69,11 @@ formed s h =
 pub reformed : (s : State) → Formed s → wellFormed s ≡ true
 unfolding wellFormed allInRange sharesKept capacityKept identifiersDistinct deletesDistinct neighboursOrdered noneExecutable
 reformed s f =
-    let held : length (known s) ≤ capacity = omega (arith, known-length s, f .sound .room) in
-    rw (f .site, f .sound .ranges, f .sound .pending-ranges, f .sound .shares, le-leb (length (known s)) capacity held, known-ids s, f .sound .apart, f .sound .deletes-apart, f .sound .ordered-all, f .unready)
+    let held : length (presentInserts s) ≤ capacity = omega (arith, known-length s, f .sound .room) in
+    rw (f .site, f .sound .ranges, f .sound .pending-ranges, f .sound .shares, le-leb (length (presentInserts s)) capacity held, known-ids s, f .sound .apart, f .sound .deletes-apart, f .sound .ordered-all, f .unready)
 
 pub empty-formed : EmptyFormed
-unfolding wellFormed allInRange sharesKept capacityKept identifiersDistinct deletesDistinct neighboursOrdered noneExecutable initial siteInRange within known pendingFrom
+unfolding wellFormed allInRange sharesKept capacityKept identifiersDistinct deletesDistinct neighboursOrdered noneExecutable initial siteInRange within presentInserts pendingFrom
 empty-formed n = go (siteNumber n) refl
   where
     go : (b : Bool) → siteNumber n ≡ b → wellFormed (initial n) ≡ siteNumber n

@@ -15,7 +15,7 @@ use Rattle.woot.specs.declared.Answer.the-variants.{Deferred, Duplicate, Refuse
 use Rattle.woot.specs.Ranges.{inRange}
 use Rattle.woot.specs.State.{State, initial}
 use Rattle.woot.specs.Pending.{executable, crossed, unplaceable, integrate, Drained, andIntegrated, andDiscarded, drained}
-use Rattle.woot.specs.Calls.{Outcome, unchanged, integrated, withCharacters, withPending, insertCarried, carryOut, defer}
+use Rattle.woot.specs.Calls.{Outcome, unchanged, allIntegrated, withCharacters, withPending, insertCarried, carryOut, defer}
 use Rattle.woot.specs.Histories.{Call, Begun, empty, startOf, beforehand, outcome, run, integratedBy, drainedBy, discardedBy, isDeferred, deferredBy, historyOf, charactersAfter}
 use Rattle.convergence.specs.Theorems.{HeldAreInserted, HeldCount, HiddenAreDeleted, WaitsBalance}
 use Rattle.lists.proofs.Members.{every-member}
@@ -43,8 +43,8 @@ faithful-drained os (carry {d = d} t w uncrossed placeable r) s f =
     subst (λ qs. Faithful (d .characters) qs) (append-assoc os (t .operation ∷ []) (d .integrated))
     (faithful-drained (os ++ t .operation ∷ []) r (sound-carry (t .operation) (w .extracted) s (w .passed) uncrossed placeable) (faithful-carry (t .operation) (w .extracted) s (w .passed) uncrossed placeable f))
 
-faithful-step : (s : State) (os : List Operation) {r : Outcome Answer} → Step s r → Faithful (s .characters) os → Faithful (r .state .characters) (os ++ integrated r)
-unfolding unchanged carryOut defer withCharacters withPending integrated executable
+faithful-step : (s : State) (os : List Operation) {r : Outcome Answer} → Step s r → Faithful (s .characters) os → Faithful (r .state .characters) (os ++ allIntegrated r)
+unfolding unchanged carryOut defer withCharacters withPending allIntegrated executable
 faithful-step s os (turned a w) f = subst (λ qs. Faithful (s .characters) qs) (sym (append-nil os)) f
 faithful-step s os (adds t i a) f =
     subst (λ qs. Faithful (insertCarried s i .characters) qs) (append-assoc os (insert i ∷ []) (insertCarried s i .integrated))
@@ -56,8 +56,8 @@ faithful-step s os (defers o a) f = subst (λ qs. Faithful (s .characters) qs) (
 faithful-run : (s : State) (os : List Operation) (cs : List Call) → Faithful (s .characters) os → Faithful (run s cs .characters) (os ++ integratedBy s cs)
 faithful-run s os [] f = subst (λ qs. Faithful (s .characters) qs) (sym (append-nil os)) f
 faithful-run s os (c ∷ cs) f =
-    subst (λ qs. Faithful (run s (c ∷ cs) .characters) qs) (append-assoc os (integrated (outcome s c)) (integratedBy (outcome s c .state) cs))
-    (faithful-run (outcome s c .state) (os ++ integrated (outcome s c)) cs (faithful-step s os (step s c) f))
+    subst (λ qs. Faithful (run s (c ∷ cs) .characters) qs) (append-assoc os (allIntegrated (outcome s c)) (integratedBy (outcome s c .state) cs))
+    (faithful-run (outcome s c .state) (os ++ allIntegrated (outcome s c)) cs (faithful-step s os (step s c) f))
 
 -- a beginning is faithful to what was carried out to make it
 begun-faithful : (b : Begun) → Faithful (startOf b .characters) (beforehand b)

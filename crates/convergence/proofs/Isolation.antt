@@ -21,7 +21,7 @@ use Rattle.woot.specs.Identifiers.{same}
 use Rattle.woot.specs.Operations.{sender, origin, inserts, sameInsert, sameDelete, sameOperation}
 use Rattle.woot.specs.State.{State}
 use Rattle.woot.specs.Pending.{executable, crossed, unplaceable, sentBy, pendingFrom}
-use Rattle.woot.specs.Form.{known, wellFormed}
+use Rattle.woot.specs.Form.{presentInserts, wellFormed}
 use Rattle.woot.specs.Answers.{Check, first, NoneHolds, decided, Reported, here, later, number}
 use Rattle.woot.specs.Calls.{unchanged, duplicate, conflicting, senderFull, documentFull, receiveChecks, carryOut, defer, accept, receiveWhen, receive}
 use Rattle.convergence.specs.Theorems.{Isolation}
@@ -90,7 +90,7 @@ same-duplicate s t (insert i) level own = rw (level, own)
 same-duplicate s t (delete d) level own = rw (level, own)
 
 same-conflicting : (s t : State) (o : Operation) → s .characters ≡ t .characters → sentBy (sender o) (s .pending) ≡ sentBy (sender o) (t .pending) → conflicting s o ≡ conflicting t o
-unfolding conflicting known sender
+unfolding conflicting presentInserts sender
 same-conflicting s t (insert i) level own =
     any-append p (map origin (s .characters)) (inserts (s .pending))
     ∙ ap (λ cs. any p (map origin cs) || any p (inserts (s .pending))) level

@@ -14,7 +14,7 @@ use Rattle.woot.specs.State.{State}
 use Rattle.woot.specs.Placing.{integrateInsert, integrateDelete}
 use Rattle.woot.specs.Pending.{executable, drain}
 use Rattle.woot.specs.Answers.{reply}
-use Rattle.woot.specs.Calls.{Outcome, unchanged, integrated, withCharacters, withPending, insertCarried, carryOut, defer}
+use Rattle.woot.specs.Calls.{Outcome, unchanged, allIntegrated, withCharacters, withPending, insertCarried, carryOut, defer}
 use Rattle.woot.specs.Histories.{outcome}
 use Rattle.convergence.specs.Theorems.{FormKept, NothingReady, CountsTrue, CountsBounded}
 use Rattle.lists.specs.Lists.{any}
@@ -69,8 +69,8 @@ nothing-ready s c h o m = any-none (executable (outcome s c .state .characters))
 
 -- ---- counts
 
-step-counts : (s : State) {r : Outcome Answer} → Step s r → (reply (r .answer) .integrated ≡ length (integrated r)) × (reply (r .answer) .discarded ≡ length (r .discarded))
-unfolding unchanged carryOut defer integrated reply
+step-counts : (s : State) {r : Outcome Answer} → Step s r → (reply (r .answer) .integrated ≡ length (allIntegrated r)) × (reply (r .answer) .discarded ≡ length (r .discarded))
+unfolding unchanged carryOut defer allIntegrated reply
 step-counts s (turned Duplicate w) = (refl, refl)
 step-counts s (turned (Refused r) w) = (refl, refl)
 step-counts s (adds t i a) = (refl, refl)
@@ -80,8 +80,8 @@ step-counts s (defers o a) = (refl, refl)
 pub counts-true : CountsTrue
 counts-true s c = step-counts s (step s c)
 
-step-bounded : (s : State) {r : Outcome Answer} → Step s r → (length (integrated r) ≤ 513) × (length (r .discarded) ≤ 512)
-unfolding unchanged carryOut defer integrated
+step-bounded : (s : State) {r : Outcome Answer} → Step s r → (length (allIntegrated r) ≤ 513) × (length (r .discarded) ≤ 512)
+unfolding unchanged carryOut defer allIntegrated
 step-bounded s (turned a w) = (omega arith, omega arith)
 step-bounded s (adds t i a) =
     let fit = pending-bound (a .formed .sound) in

@@ -16,7 +16,7 @@ use Rattle.woot.specs.Operations.{sender}
 use Rattle.woot.specs.Ranges.{within, siteNumber, characterId, deleteInRange, inRange}
 use Rattle.woot.specs.State.{pendingSlots}
 use Rattle.woot.specs.Pending.{sentBy, pendingFrom}
-use Rattle.woot.specs.Form.{numbers}
+use Rattle.woot.specs.Form.{countdown}
 use Rattle.convergence.specs.Theorems.{PendingFit}
 use Rattle.lists.specs.Lists.{every}
 use Rattle.lists.proofs.Tests.{either, and-left, and-right}
@@ -62,7 +62,7 @@ total-bound [] ps h = omega arith
 total-bound (n ∷ ns) ps h =
     omega (arith, leb-true (pendingFrom n ps) share (and-left (leb (pendingFrom n ps) share) (every (λ n. leb (pendingFrom n ps) share) ns) h), total-bound ns ps (and-right (leb (pendingFrom n ps) share) (every (λ n. leb (pendingFrom n ps) share) ns) h))
 
-numbered : (n k : ℕ) → 1 ≤ k → k ≤ n → List·Memᴰ k (numbers n)
+numbered : (n k : ℕ) → 1 ≤ k → k ≤ n → List·Memᴰ k (countdown n)
 numbered zero k h l = absurd (omega arith)
 numbered (suc n) k h l = ⊎-elim (λ e. List·Memᴰ·head (eqb-true k (suc n) e)) (λ e. List·Memᴰ·tail (numbered n k h (omega (arith, eqb-false k (suc n) e)))) (either (eqb k (suc n)))
 
@@ -74,7 +74,7 @@ sender-number (delete d) h = and-left (siteNumber (d .sender)) (characterId (d .
 pub pending-bound : {cs : List Character} {ps : List Operation} → Sound cs ps → length ps ≤ pendingSlots
 unfolding siteNumber
 pending-bound {cs} {ps} s =
-    omega (arith, total-length (numbers lastSite) ps (λ o m. let h = sender-number o (every-member inRange (s .pending-ranges) m) in numbered lastSite (sender o) (within-low 1 lastSite (sender o) h) (within-high 1 lastSite (sender o) h)), total-bound (numbers lastSite) ps (s .shares))
+    omega (arith, total-length (countdown lastSite) ps (λ o m. let h = sender-number o (every-member inRange (s .pending-ranges) m) in numbered lastSite (sender o) (within-low 1 lastSite (sender o) h) (within-high 1 lastSite (sender o) h)), total-bound (countdown lastSite) ps (s .shares))
 
 pub pending-fit : PendingFit
 pending-fit s h = pending-bound (formed s h .sound)

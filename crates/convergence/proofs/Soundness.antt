@@ -21,7 +21,7 @@ use Rattle.woot.specs.Operations.{sender, character, inserts, deletes, sameDele
 use Rattle.woot.specs.Ranges.{characterId, insertInRange, characterInRange, inRange}
 use Rattle.woot.specs.Placing.{above, held, identifiers, insertAt, integrateInsert, integrateDelete}
 use Rattle.woot.specs.Pending.{executable, crossed, unplaceable, pendingFrom}
-use Rattle.woot.specs.Form.{numbers, ordered}
+use Rattle.woot.specs.Form.{countdown, ordered}
 use Rattle.convergence.specs.Agreement.{Standing}
 use Rattle.lists.specs.Lists.{any, every, keep, distinct}
 use Rattle.lists.proofs.Tests.{either, and-left, and-right, and-intro, or-right, or-false, or-false-left, or-false-right, not-intro}
@@ -89,7 +89,7 @@ sound-out {cs} {o = insert i} {os} {ps} e s =
       ranges = s .ranges;
       ordered-all = s .ordered-all;
       pending-ranges = every-extract inRange e (s .pending-ranges);
-      shares = fewer-shares e (numbers lastSite) (s .shares);
+      shares = fewer-shares e (countdown lastSite) (s .shares);
       room = omega (arith, extract-length (inserts-extract e), s .room);
       apart = distinct-extract same same-sym (ids-extract cs e) (s .apart) .1;
       deletes-apart = subst (λ ds. distinct sameDelete ds ≡ true) (deletes-same e) (s .deletes-apart);
@@ -99,7 +99,7 @@ sound-out {cs} {o = delete d} {os} {ps} e s =
       ranges = s .ranges;
       ordered-all = s .ordered-all;
       pending-ranges = every-extract inRange e (s .pending-ranges);
-      shares = fewer-shares e (numbers lastSite) (s .shares);
+      shares = fewer-shares e (countdown lastSite) (s .shares);
       room = omega (arith, ap length (inserts-same e), s .room);
       apart = subst (λ (js : List Insert). distinct same (identifiers cs ++ map (λ j. j .id) js) ≡ true) (inserts-same e) (s .apart);
       deletes-apart = distinct-extract sameDelete sameDelete-sym (deletes-extract e) (s .deletes-apart) .1;
@@ -221,7 +221,7 @@ sound-defer {cs} {ps} (insert i) s r space u =
       ranges = s .ranges;
       ordered-all = s .ordered-all;
       pending-ranges = extract-every inRange e r (s .pending-ranges);
-      shares = more-shares (insert i) ps space (numbers lastSite) (s .shares);
+      shares = more-shares (insert i) ps space (countdown lastSite) (s .shares);
       room = omega (arith, extract-length (inserts-extract e));
       apart = extract-distinct same same-sym (ids-extract cs e) (u .0) (s .apart);
       deletes-apart = subst (λ ds. distinct sameDelete ds ≡ true) (sym (deletes-same e)) (s .deletes-apart);
@@ -232,7 +232,7 @@ sound-defer {cs} {ps} (delete d) s r space u =
       ranges = s .ranges;
       ordered-all = s .ordered-all;
       pending-ranges = extract-every inRange e r (s .pending-ranges);
-      shares = more-shares (delete d) ps space (numbers lastSite) (s .shares);
+      shares = more-shares (delete d) ps space (countdown lastSite) (s .shares);
       room = omega (arith, ap length (inserts-same e));
       apart = subst (λ (js : List Insert). distinct same (identifiers cs ++ map (λ j. j .id) js) ≡ true) (sym (inserts-same e)) (s .apart);
       deletes-apart = extract-distinct sameDelete sameDelete-sym (deletes-extract e) u (s .deletes-apart);

@@ -29,9 +29,9 @@ use Rattle.woot.specs.Ranges.{siteNumber, codePoint, characterId, previousId, n
 use Rattle.woot.specs.State.{State}
 use Rattle.woot.specs.Placing.{identifiers, held}
 use Rattle.woot.specs.Pending.{executable, crossed, unplaceable, pendingFrom, Drained}
-use Rattle.woot.specs.Form.{known, wellFormed}
+use Rattle.woot.specs.Form.{presentInserts, wellFormed}
 use Rattle.woot.specs.Answers.{Check, first, NoneHolds, decided, answerOf}
-use Rattle.woot.specs.Calls.{Outcome, unchanged, afterDrain, insertCarried, duplicate, conflicting, senderFull, documentFull, receiveChecks, carryOut, defer, accept, receiveWhen, receive, visibles, nextIdentifier, generatedInsert, beyondVisible, taken, insertChecks, advanced, sendInsert, localInsertWhen, localInsert, notVisible, deleteChecks, generatedDelete, sendDelete, localDeleteWhen, localDelete}
+use Rattle.woot.specs.Calls.{Outcome, unchanged, afterDrain, insertCarried, duplicate, conflicting, senderFull, documentFull, receiveChecks, carryOut, defer, accept, receiveWhen, receive, visibles, nextIdentifier, generatedInsert, beyondVisible, identifierTaken, insertChecks, advanced, sendInsert, localInsertWhen, localInsert, notVisible, deleteChecks, generatedDelete, sendDelete, localDeleteWhen, localDelete}
 use Rattle.woot.specs.Histories.{Call, inserting, deleting, receiving, withAnswer, outcome}
 use Rattle.lists.specs.Lists.{any}
 use Rattle.lists.proofs.Tests.{clash, and-left, and-intro, and-false, or-left, or-right, or-false-left, or-false-right, not-intro, fails}
@@ -134,11 +134,11 @@ any-deletes d (delete e ∷ ps) = ap (λ b. sameDelete d e || b) (any-deletes d 
 
 -- an insert that is neither known nor in conflict has an identifier that is not used
 pub fresh-insert : (s : State) (i : Insert) → duplicate s (insert i) ≡ false → conflicting s (insert i) ≡ false → any (same (i .id)) (identifiers (s .characters) ++ pendingIds (s .pending)) ≡ false
-unfolding duplicate conflicting known sameOperation
+unfolding duplicate conflicting presentInserts sameOperation
 fresh-insert s i new sole =
     subst (λ (xs : List Identifier). any (same (i .id)) xs ≡ false) (known-ids s)
-    (none-any (same (i .id)) (map (λ j. j .id) (known s)) (λ x m.
-    let w = member-map (λ j. j .id) (known s) m in
+    (none-any (same (i .id)) (map (λ j. j .id) (presentInserts s)) (λ x m.
+    let w = member-map (λ j. j .id) (presentInserts s) m in
     ap (same (i .id)) (w .2) ∙ fails (same (i .id) (w .0 .id)) (λ e. absurd (twice (w .0) (w .1) e))))
   where
     present : any (λ c. sameInsert i (origin c)) (s .characters) ≡ false
@@ -147,19 +147,19 @@ fresh-insert s i new sole =
     deferred : any (sameOperation (insert i)) (s .pending) ≡ false
     deferred = or-false-right (any (λ c. sameInsert i (origin c)) (s .characters)) (any (sameOperation (insert i)) (s .pending)) new
 
-    unequal : (j : Insert) → List·Memᴰ j (known s) → sameInsert i j ≡ false
+    unequal : (j : Insert) → List·Memᴰ j (presentInserts s) → sameInsert i j ≡ false
     unequal j m =
         ⊎-elim (λ k. let w = member-map origin (s .characters) k in ap (sameInsert i) (w .2) ∙ any-none (λ c. sameInsert i (origin c)) present (w .1)) (λ k. any-none (sameOperation (insert i)) deferred (inserts-member (s .pending) k))
         (List·Memᴰ·append-cases (map origin (s .characters)) m)
 
-    twice : (j : Insert) → List·Memᴰ j (known s) → same (i .id) (j .id) ≡ true → ⊥
+    twice : (j : Insert) → List·Memᴰ j (presentInserts s) → same (i .id) (j .id) ≡ true → ⊥
     twice j m e = clash (not-false (sameInsert i j) (and-false (same (i .id) (j .id)) (not (sameInsert i j)) (any-none (λ j. same (i .id) (j .id) && not (sameInsert i j)) sole m) e)) (unequal j m)
 
 -- ---- receiving
 
 pub space-insert : (s : State) (i : Insert) → documentFull s (insert i) ≡ false → length (s .characters) + length (inserts (s .pending)) < capacity
 unfolding documentFull
-space-insert s i h = omega (arith, leb-false capacity (length (known s)) h, known-length s)
+space-insert s i h = omega (arith, leb-false capacity (length (presentInserts s)) h, known-length s)
 
 pub unused : (s : State) (o : Operation) → duplicate s o ≡ false → conflicting s o ≡ false → documentFull s o ≡ false → Unused (s .characters) (s .pending) o
 unfolding duplicate
@@ -246,8 +246,8 @@ next-character s form early =
     and-intro (and-left (siteNumber (s .site .number)) (Ranges.within 0 lastClock (s .site .clock)) (form .site)) (to-within 1 lastClock (s .site .clock + 1) (omega arith) (omega arith))
 
 -- it is in range, and has what it needs
-pub generated-made : (s : State) (g n : ℕ) → Formed s → codePoint n ≡ true → beyondVisible s g ≡ false → leb lastClock (s .site .clock) ≡ false → taken s ≡ false → Made s (generatedInsert s g n)
-unfolding generatedInsert taken beyondVisible executable crossed previousId nextId
+pub generated-made : (s : State) (g n : ℕ) → Formed s → codePoint n ≡ true → beyondVisible s g ≡ false → leb lastClock (s .site .clock) ≡ false → identifierTaken s ≡ false → Made s (generatedInsert s g n)
+unfolding generatedInsert identifierTaken beyondVisible executable crossed previousId nextId
 generated-made s g n form coded within-visible early free =
     record {
       ranged = to-range (generatedInsert s g n) ranges;
@@ -263,7 +263,7 @@ generated-made s g n form coded within-visible early free =
     visible = ltb-false (length (visibles (s .characters))) g within-visible
 
     fresh : any (same (nextIdentifier (s .site))) (identifiers (s .characters) ++ pendingIds (s .pending)) ≡ false
-    fresh = subst (λ (xs : List Identifier). any (same (nextIdentifier (s .site))) xs ≡ false) (known-ids s) (any-map (same (nextIdentifier (s .site))) (λ j. j .id) (known s) ∙ free)
+    fresh = subst (λ (xs : List Identifier). any (same (nextIdentifier (s .site))) xs ≡ false) (known-ids s) (any-map (same (nextIdentifier (s .site))) (λ j. j .id) (presentInserts s) ∙ free)
 
     unused-here : any (same (nextIdentifier (s .site))) (identifiers (s .characters)) ≡ false
     unused-here = any-left (same (nextIdentifier (s .site))) (identifiers (s .characters)) (pendingIds (s .pending)) fresh

@@ -1,5 +1,4 @@
--- What lists and inserts are like between the steps of a call: it serves the proofs of the code, and no contract of a call
--- cites it.
+-- For the proofs of the code alone: what lists and inserts are like between the steps of a call.
 use Prim.Native.Nat.{_+_, _≤_}
 use mathlib.Core.Path.{_≡_}
 use mathlib.Core.Bool.{true, false}
@@ -16,7 +15,7 @@ use Rattle.woot.specs.Ranges.{characterInRange, inRange, insertInRange}
 use Rattle.woot.specs.State.{State}
 use Rattle.woot.specs.Placing.{identifiers}
 use Rattle.woot.specs.Pending.{executable, pendingFrom, crossed}
-use Rattle.woot.specs.Form.{numbers, ordered}
+use Rattle.woot.specs.Form.{countdown, ordered}
 use Rattle.lists.specs.Lists.{any, every, distinct}
 use Rattle.woot.specs.declared.Insert.{Insert}
 use Rattle.woot.specs.declared.Operation.the-variants.{Insert as insert}
@@ -30,7 +29,7 @@ pub record Sound (cs : List Character) (ps : List Operation) : Type 0 where
   pub ranges : every characterInRange cs ≡ true
   pub ordered-all : every (ordered cs) cs ≡ true
   pub pending-ranges : every inRange ps ≡ true
-  pub shares : every (λ n. leb (pendingFrom n ps) share) (numbers lastSite) ≡ true
+  pub shares : every (λ n. leb (pendingFrom n ps) share) (countdown lastSite) ≡ true
   pub room : length cs + length (inserts ps) ≤ capacity
   pub apart : distinct same (identifiers cs ++ pendingIds ps) ≡ true
   pub deletes-apart : distinct sameDelete (deletes ps) ≡ true

@@ -21,10 +21,10 @@ use Rattle.woot.specs.Operations.{sender, origin, isVisible, inserts}
 use Rattle.woot.specs.Ranges.{siteNumber}
 use Rattle.woot.specs.State.{State, initial, pendingSlots}
 use Rattle.woot.specs.Placing.{identifiers, above, Interval, adjacent, candidates, narrowed, position}
-use Rattle.woot.specs.Pending.{executable, crossed, unplaceable, integrate, sentBy, Taken, earliest, Drained, andIntegrated, andDiscarded, drained, drain}
+use Rattle.woot.specs.Pending.{executable, crossed, unplaceable, integrate, sentBy, Extracted, earliest, Drained, andIntegrated, andDiscarded, drained, drain}
 use Rattle.woot.specs.Form.{wellFormed}
 use Rattle.woot.specs.Answers.{number, done, waits, reply, answerOf, Check, NoneHolds, Reported}
-use Rattle.woot.specs.Calls.{unchanged, integrated, receiveChecks, receiveWhen, receive, insertChecks, localInsertWhen, deleteChecks, localDeleteWhen}
+use Rattle.woot.specs.Calls.{unchanged, allIntegrated, receiveChecks, receiveWhen, receive, insertChecks, localInsertWhen, deleteChecks, localDeleteWhen}
 use Rattle.woot.specs.Writing.{writingChecks, writtenAs, outputAfter, writtenNumber}
 use Rattle.woot.specs.Text.{text}
 use Rattle.woot.specs.Histories.{Call, Begun, startOf, outcome, run, drainedBy, discardedBy, deferredBy, InsertedIn, DeletedIn, charactersAfter, historyOf, SameInserted, SameDeleted}
@@ -41,7 +41,7 @@ PlacingRecurs =
     (elim (candidates cs v) [ [] ↦ none | l ∷ ls ↦ position cs x (narrowed x v (l ∷ ls)) ])
 
 -- the earliest that has all it needs is carried out or thrown out, and the rest is drained
-abbrev pub drainNext : List Character → List Operation → Option Taken → Drained
+abbrev pub drainNext : List Character → List Operation → Option Extracted → Drained
 drainNext cs ps none = drained cs ps
 drainNext cs ps (some t) =
     cond (crossed cs (t .operation) || unplaceable cs (t .operation))
@@ -174,13 +174,13 @@ NothingReady =
 abbrev pub CountsTrue : Type 0
 CountsTrue =
     (s : State) (c : Call) →
-    (reply (outcome s c .answer) .integrated ≡ length (integrated (outcome s c)))
+    (reply (outcome s c .answer) .integrated ≡ length (allIntegrated (outcome s c)))
     × (reply (outcome s c .answer) .discarded ≡ length (outcome s c .discarded))
 
 -- carried is at most 513, thrown at most 512
 abbrev pub CountsBounded : Type 0
 CountsBounded =
-    (s : State) (c : Call) → (length (integrated (outcome s c)) ≤ 513) × (length (outcome s c .discarded) ≤ 512)
+    (s : State) (c : Call) → (length (allIntegrated (outcome s c)) ≤ 513) × (length (outcome s c .discarded) ≤ 512)
 
 -- ---- isolation
 

@@ -14,7 +14,7 @@ use Rattle.woot.specs.declared.Character.{Character}
 use Rattle.woot.specs.declared.Pending.{Pending}
 use Rattle.woot.specs.Operations.{inserts}
 use Rattle.woot.specs.State.{blankPending}
-use Rattle.woot.specs.Pending.{executable, crossed, unplaceable, integrate, Taken, earliest, andIntegrated, andDiscarded, drained}
+use Rattle.woot.specs.Pending.{executable, crossed, unplaceable, integrate, Extracted, earliest, andIntegrated, andDiscarded, drained}
 use Rattle.lists.proofs.Tests.{or-false-left, or-false-right}
 use Rattle.convergence.proofs.Extract.{Extract, extract-length}
 use Rattle.convergence.specs.Invariants.{Sound}
@@ -80,7 +80,7 @@ module _ (cs : List Character) (ps : List Operation) (n m : ℕ) where
   unfolding finished drained
   finished-none e = rw (draining-recurs cs ps, e, add-zero n, add-zero m)
 
-  module _ (t : Taken) (is : earliest (executable cs) ps ≡ some t) where
+  module _ (t : Extracted) (is : earliest (executable cs) ps ≡ some t) where
     finished-discarded : crossed cs (t .operation) || unplaceable cs (t .operation) ≡ true → finished cs (t .others) n (m + 1) ≡ finished cs ps n m
     unfolding finished andDiscarded
     finished-discarded e = rw (draining-recurs cs ps, is, e, one-more)
@@ -104,7 +104,7 @@ pub record Nearer (w r : Work) : Type 0 where
   pub fewer : r .document .waiting < w .document .waiting
   pub same : finishedIn r ≡ finishedIn w
 
-module _ {w : Work} (k : Workable w) (t : Taken) (is : takenFrom w ≡ some t) where
+module _ {w : Work} (k : Workable w) (t : Extracted) (is : takenFrom w ≡ some t) where
   found : Found (executable (charactersIn (w .document))) (pendingIn (w .document)) t
   found = earliest-found _ _ t is
 

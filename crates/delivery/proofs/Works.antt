@@ -14,7 +14,7 @@ use Rattle.woot.specs.declared.Operation.the-variants.{Insert as insert, Delete
 use Rattle.woot.specs.declared.Character.{Character}
 use Rattle.woot.specs.declared.Pending.{Pending}
 use Rattle.woot.specs.declared.Document.{Document}
-use Rattle.woot.specs.State.{characterSlots, pendingSlots, waiting, blankCharacter, blankPending, documentOf}
+use Rattle.woot.specs.State.{characterSlots, pendingSlots, slotOf, blankCharacter, blankPending, documentOf}
 use Rattle.woot.specs.Operations.{character}
 use Rattle.woot.specs.Placing.{insertAt, integrateDelete}
 use Rattle.woot.specs.Pending.{executable, crossed, unplaceable, integrate}
@@ -69,7 +69,7 @@ module _ (cs : List Character) (ps : List Operation) (n m : ℕ) where
 
   pub work-pending : pendingIn (workOf cs ps n m .document) ≡ ps
   unfolding workOf documentOf
-  work-pending = rw (pad-take pendingSlots blankPending (map waiting ps) (length ps) (length-map ps waiting)) (operations-wait ps)
+  work-pending = rw (pad-take pendingSlots blankPending (map slotOf ps) (length ps) (length-map ps slotOf)) (operations-wait ps)
 
   pub work-length : workOf cs ps n m .document .length ≡ length cs
   unfolding workOf documentOf

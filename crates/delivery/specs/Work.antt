@@ -1,5 +1,5 @@
--- A document at work in a call: operations carried out on it one by one, and what draining leaves. It serves the proofs
--- of the code, and no contract of a call cites it.
+-- For the proofs of the code alone: a document at work in a call, on which operations are carried out one by one, and
+-- what draining leaves.
 use Prim.Native.Nat.{ℕ, _+_, _^_, _≤_, _<_}
 use mathlib.Core.Path.{_≡_}
 use mathlib.Core.Bool.{true, _||_, cond}
@@ -15,7 +15,7 @@ use Rattle.woot.specs.Operations.{inserts, character}
 use Rattle.woot.specs.Ranges.{characterInRange}
 use Rattle.woot.specs.State.{documentOf, meaning, counted}
 use Rattle.woot.specs.Placing.{insertAt, integrateInsert}
-use Rattle.woot.specs.Pending.{executable, crossed, unplaceable, integrate, Taken, earliest, Drained, drain}
+use Rattle.woot.specs.Pending.{executable, crossed, unplaceable, integrate, Extracted, earliest, Drained, drain}
 use Rattle.convergence.specs.Invariants.{Sound}
 use Rattle.index.specs.declared.Found.{Found}
 use Rattle.index.specs.Keys.{firstIndex}
@@ -61,7 +61,7 @@ carried cs ps n m o =
     cond (crossed cs o || unplaceable cs o) (workOf cs ps n (m + 1)) (workOf (integrate cs o) ps (n + 1) m)
 
 -- one step of draining: the operation that was taken out is carried out or discarded
-unfoldable pub stepped : List Character → List Operation → ℕ → ℕ → Option Taken → Work
+unfoldable pub stepped : List Character → List Operation → ℕ → ℕ → Option Extracted → Work
 stepped cs ps n m none = workOf cs ps n m
 stepped cs ps n m (some t) = carried cs (t .others) n m (t .operation)
 
@@ -89,7 +89,7 @@ takenOut w j = workOf (charactersIn (w .document)) (removed j (pendingIn (w .doc
 abbrev pub dueIn : Work → Found
 dueIn w = firstIndex (executable (charactersIn (w .document))) (pendingIn (w .document))
 
-abbrev pub takenFrom : Work → Option Taken
+abbrev pub takenFrom : Work → Option Extracted
 takenFrom w = earliest (executable (charactersIn (w .document))) (pendingIn (w .document))
 
 abbrev pub carriedIn : Work → Operation → Work

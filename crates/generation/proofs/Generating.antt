@@ -18,7 +18,7 @@ use Rattle.woot.specs.Identifiers.{begin}
 use Rattle.woot.specs.State.{meaning, stored}
 use Rattle.woot.specs.Placing.{integrateInsert, integrateDelete}
 use Rattle.woot.specs.Pending.{unplaceable}
-use Rattle.woot.specs.Form.{known, replicaWellFormed}
+use Rattle.woot.specs.Form.{presentInserts, replicaWellFormed}
 use Rattle.woot.specs.Calls.{visibles, withCharacters, afterDrain, insertCarried, documentFull, advanced, beyondVisible, notVisible, generatedDelete}
 use Rattle.lists.proofs.Tests.{clash}
 use Rattle.convergence.proofs.Steps.{space-insert}
@@ -60,11 +60,11 @@ module _ (r : Replica) (i : Insert) (a : Sendable r i) where
     placeable : unplaceable (meaning r .characters) (insert i) ≡ false
     placeable = says (meaning r .characters) i (Below k) p .2
 
-    pub send-full : leb capacity (length (known (meaning r))) ≡ true → sentInsert r i ≡ record { answer = sentRefused DocumentFull; replica = r }
+    pub send-full : leb capacity (length (presentInserts (meaning r))) ≡ true → sentInsert r i ≡ record { answer = sentRefused DocumentFull; replica = r }
     unfolding documentFull
     send-full e = sent-full r i placeable e
 
-    module _ (space : leb capacity (length (known (meaning r))) ≡ false) where
+    module _ (space : leb capacity (length (presentInserts (meaning r))) ≡ false) where
       pub send-placed : Placed r i k
       unfolding documentFull
       send-placed =

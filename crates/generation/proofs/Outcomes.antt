@@ -19,7 +19,7 @@ use Rattle.woot.specs.Placing.{integrateDelete}
 use Rattle.woot.specs.Pending.{unplaceable}
 use Rattle.woot.specs.Form.{replicaWellFormed}
 use Rattle.woot.specs.Answers.{decided}
-use Rattle.woot.specs.Calls.{unchanged, withCharacters, afterDrain, insertCarried, documentFull, generatedInsert, beyondVisible, taken, insertChecks, advanced, carryOut, sendInsert, localInsertWhen, notVisible, deleteChecks, generatedDelete, sendDelete, localDeleteWhen}
+use Rattle.woot.specs.Calls.{unchanged, withCharacters, afterDrain, insertCarried, documentFull, generatedInsert, beyondVisible, identifierTaken, insertChecks, advanced, carryOut, sendInsert, localInsertWhen, notVisible, deleteChecks, generatedDelete, sendDelete, localDeleteWhen}
 use Rattle.generation.specs.Sending.{sendChecks, sentInsert}
 use Rattle.storage.specs.Replicas.{afterSent, generated, inserted, deleted}
 
@@ -50,11 +50,11 @@ module _ (r : Replica) (g n : ℕ) where
         insert-late e = rw (ranged, form, visible, e)
 
         module _ (early : leb lastClock (meaning r .site .clock) ≡ false) where
-          pub insert-taken : taken (meaning r) ≡ true → inserted r g n ≡ insert-refused Taken
+          pub insert-taken : identifierTaken (meaning r) ≡ true → inserted r g n ≡ insert-refused Taken
           unfolding inserted generated afterSent localInsertWhen insertChecks decided unchanged
           insert-taken e = rw (ranged, form, visible, early, e)
 
-          module _ (free : taken (meaning r) ≡ false) where
+          module _ (free : identifierTaken (meaning r) ≡ false) where
             pub insert-sent : inserted r g n ≡ sentInsert r (generatedInsert (meaning r) g n)
             unfolding inserted localInsertWhen insertChecks sentInsert sendChecks
             insert-sent = rw (ranged, form, visible, early, free)

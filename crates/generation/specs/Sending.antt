@@ -1,5 +1,5 @@
--- Inserting here once the insert is made: the conditions that are left, and what is sent. It serves the proofs of the
--- code, and no contract of a call cites it.
+-- For the proofs of the code alone: inserting here once the insert is made, the conditions that are left and what is
+-- sent.
 use mathlib.Core.List.{List, [], _∷_}
 use Rattle.woot.specs.declared.Insert.{Insert}
 use Rattle.woot.specs.declared.Operation.the-variants.{Insert as insert}

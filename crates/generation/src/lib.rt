@@ -24,7 +24,7 @@ ghost use Rattle.woot.specs.Identifiers.{same};
 ghost use Rattle.lists.specs.Lists.{any};
 ghost use Rattle.woot.specs.Ranges.{codePoint, characterId};
 ghost use Rattle.woot.specs.State.{meaning};
-ghost use Rattle.woot.specs.Form.{known, replicaWellFormed};
+ghost use Rattle.woot.specs.Form.{presentInserts, replicaWellFormed};
 ghost use Rattle.woot.specs.Calls.{generatedInsert};
 ghost use Rattle.integration.specs.declared.Placement.the-variants.{Below};
 ghost use Rattle.storage.specs.Replicas.{inserted, deleted};
@@ -67,7 +67,7 @@ fn generated_insert(replica: Replica, point: usize, code_point: u32) -> Insert
 fn is_taken(replica: Replica, index: Index, queue: Queue, id: Identifier) -> bool
     requires { ⌜ Examined replica index queue ⌝ }
     requires { ⌜ characterId id ≡ true ⌝ }
-    ensures { λ r. ⌜ r ≡ any (λ j. same id (j .id)) (known (meaning replica)) ⌝ }
+    ensures { λ r. ⌜ r ≡ any (λ j. same id (j .id)) (presentInserts (meaning replica)) ⌝ }
 {
     let d = replica.document;
     match holder::holder_of(index, d.length, queue, d.waiting, id) {

@@ -8,25 +8,38 @@ const STDIN: i32 = 0;
 
 const STDOUT: i32 = 1;
 
-// Prints the report on a line of the input.
-fn print_report(number: u64, answer: Answer) {
+const STDERR: i32 = 2;
+
+// Prints bytes, and answers whether that went well. Where it did not, a message says so, and the caller is to stop:
+// what comes after lost bytes would mislead.
+fn print(bytes: &[u8]) -> bool {
+    if io::write_all(STDOUT, bytes) {
+        return true;
+    }
+    io::write_all(STDERR, b"hall: cannot write to standard output\n");
+    false
+}
+
+// Prints the report on a line of the input, and answers whether that went well.
+fn print_report(number: u64, answer: Answer) -> bool {
     let mut line = [0u8; 70];
     let written = report::report_line(number, answer, &mut line);
     if let Written::Length(n) = written {
-        io::write_all(STDOUT, &line[..n]);
+        return print(&line[..n]);
     }
+    true
 }
 
 // Prints the visible characters.
-fn print_text(r: Replica) {
+fn print_text(replica: Replica) {
     let mut line = [0u8; 8199];
-    let written = report::text_line(r, &mut line);
+    let written = report::text_line(replica, &mut line);
     if let Written::Length(n) = written {
-        io::write_all(STDOUT, &line[..n]);
+        print(&line[..n]);
     }
 }
 
-// Answers the lines of the input one after another.
+// Answers the lines of the input one after another, as long as the answers can be printed.
 fn run(input: &[u8]) {
     let mut replica = Replica::empty(16);
     let mut lines = input;
@@ -34,7 +47,9 @@ fn run(input: &[u8]) {
     while 0 < lines.len() {
         let receipt = report::answer_line(replica, lines);
         let answer = receipt.answer;
-        print_report(number, answer);
+        if !print_report(number, answer) {
+            return;
+        }
         replica = receipt.replica;
         let after = codec::rest(lines);
         lines = after;

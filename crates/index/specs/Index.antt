@@ -1,4 +1,5 @@
--- What is looked up in place of the characters: their keys, and where their neighbours stand.
+-- For the proofs of the code alone: what is looked up in place of the characters, their keys and where their neighbours
+-- stand.
 use mathlib.Core.List.{List}
 use Rattle.woot.specs.declared.Character.{Character}
 use Rattle.woot.specs.State.{characterSlots}

@@ -1,4 +1,4 @@
--- Identifiers as numbers, and where they stand.
+-- For the proofs of the code alone: identifiers as numbers, what a search among them finds, and where they stand.
 use Prim.Native.Nat.{ℕ, suc, _+_, _*_, _<_}
 use mathlib.Core.Bool.{Bool, cond}
 use mathlib.Core.List.{List, [], _∷_, _++_, map, List·Memᴰ}

@@ -1,4 +1,4 @@
--- The arrays of numbers that a call packs from its characters.
+-- For the proofs of the code alone: the arrays of numbers that a call packs from its characters.
 use Prim.Native.Nat.{ℕ}
 use mathlib.Core.List.{List, map}
 use lib.ListN.{take}

@@ -1,4 +1,5 @@
--- Placing on keys and places: what the rules' `narrowed` and `position` do, with no place sought on the way.
+-- For the proofs of the code alone: placing on keys and places, which is what the rules' `narrowed` and `position` do,
+-- with no place sought on the way.
 use Prim.Native.Nat.{ℕ, zero, suc, _-_}
 use mathlib.Core.Bool.{Bool, _&&_, cond}
 use mathlib.Core.List.{List, [], _∷_}

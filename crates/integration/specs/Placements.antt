@@ -1,4 +1,4 @@
--- Where an insert goes. It serves the proofs of the code, and no contract of a call cites it.
+-- For the proofs of the code alone: where an insert goes.
 use Prim.Native.Nat.{ℕ}
 use mathlib.Core.Bool.{cond}
 use mathlib.Core.Option.{Option, none, some}

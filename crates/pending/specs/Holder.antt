@@ -1,4 +1,5 @@
--- What a call looks up: who has an identifier, and what a received insert is beside another with its identifier.
+-- For the proofs of the code alone: who has an identifier, and what a received insert is beside another with its
+-- identifier.
 use Prim.Native.Nat.{ℕ}
 use mathlib.Core.Bool.{cond}
 use mathlib.Core.List.{List}

@@ -1,4 +1,4 @@
--- The pending operations as numbers, and what the searches in them find.
+-- For the proofs of the code alone: the pending operations as numbers, and whether a delete is among them.
 use Prim.Native.Nat.{ℕ}
 use mathlib.Core.Bool.{Bool, false, _&&_, _||_}
 use mathlib.Core.List.{List, [], _∷_, map}

@@ -1,4 +1,4 @@
--- Which pending operation has all it needs, on keys.
+-- For the proofs of the code alone: which pending operation has all it needs, on keys.
 use Prim.Native.Nat.{ℕ, suc}
 use mathlib.Core.Bool.{Bool, _&&_, cond}
 use mathlib.Core.List.{List, [], _∷_}

@@ -12,7 +12,7 @@ use Rattle.woot.specs.Identifiers.{same}
 use Rattle.lists.specs.Lists.{any, distinct}
 use Rattle.woot.specs.Operations.{origin, inserts, sameInsert, sameOperation}
 use Rattle.woot.specs.State.{State}
-use Rattle.woot.specs.Form.{known}
+use Rattle.woot.specs.Form.{presentInserts}
 use Rattle.woot.specs.Calls.{duplicate, conflicting}
 use Rattle.lists.proofs.Tests.{either, and-left, and-right, or-false-left, or-false-right}
 use Rattle.lists.proofs.Members.{any-none, any-append}
@@ -69,23 +69,23 @@ any-each p q f [] = refl
 any-each p q f (x ∷ xs) = rw (f x, any-each p q f xs)
 
 module _ (s : State) (i : Insert) where
-  known-duplicate : duplicate s (insert i) ≡ any (λ j. same (i .id) (j .id) && sameInsert i j) (known s)
-  unfolding duplicate known
+  known-duplicate : duplicate s (insert i) ≡ any (λ j. same (i .id) (j .id) && sameInsert i j) (presentInserts s)
+  unfolding duplicate presentInserts
   known-duplicate =
       sym (any-append (sameInsert i) (map origin (s .characters)) (inserts (s .pending))
       ∙ rw (any-map (sameInsert i) origin (s .characters), any-inserts i (s .pending)))
-      ∙ any-each (sameInsert i) (λ j. same (i .id) (j .id) && sameInsert i j) (named-same i) (known s)
+      ∙ any-each (sameInsert i) (λ j. same (i .id) (j .id) && sameInsert i j) (named-same i) (presentInserts s)
 
   -- one of them has the identifier
-  pub seen-held : Formed s → (j : Insert) → List·Memᴰ j (known s) → i .id ≡ j .id → seenOf s i ≡ comparedTo i j
+  pub seen-held : Formed s → (j : Insert) → List·Memᴰ j (presentInserts s) → i .id ≡ j .id → seenOf s i ≡ comparedTo i j
   unfolding seenOf comparedTo conflicting
   seen-held f j m e =
-      let apart : distinct same (map (λ (k : Insert). k .id) (known s)) ≡ true = subst (λ (xs : List Identifier). distinct same xs ≡ true) (sym (known-ids s)) (f .sound .apart) in
-      rw (known-duplicate, one-named (λ k. k .id) (sameInsert i) (i .id) (known s) apart m e, one-named (λ k. k .id) (λ k. not (sameInsert i k)) (i .id) (known s) apart m e)
+      let apart : distinct same (map (λ (k : Insert). k .id) (presentInserts s)) ≡ true = subst (λ (xs : List Identifier). distinct same xs ≡ true) (sym (known-ids s)) (f .sound .apart) in
+      rw (known-duplicate, one-named (λ k. k .id) (sameInsert i) (i .id) (presentInserts s) apart m e, one-named (λ k. k .id) (λ k. not (sameInsert i k)) (i .id) (presentInserts s) apart m e)
       (⊎-elim (λ h. rw h) (λ h. rw h) (either (sameInsert i j)))
 
   -- none of them has it
-  pub seen-new : any (λ j. same (i .id) (j .id)) (known s) ≡ false → seenOf s i ≡ New
+  pub seen-new : any (λ j. same (i .id) (j .id)) (presentInserts s) ≡ false → seenOf s i ≡ New
   unfolding seenOf conflicting
   seen-new h =
-      rw (known-duplicate, none-named (λ k. k .id) (sameInsert i) (i .id) (known s) h, none-named (λ k. k .id) (λ k. not (sameInsert i k)) (i .id) (known s) h)
+      rw (known-duplicate, none-named (λ k. k .id) (sameInsert i) (i .id) (presentInserts s) h, none-named (λ k. k .id) (λ k. not (sameInsert i k)) (i .id) (presentInserts s) h)

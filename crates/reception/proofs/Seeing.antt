@@ -11,7 +11,7 @@ use Rattle.woot.specs.declared.Replica.{Replica}
 use Rattle.woot.specs.Operations.{origin, inserts}
 use Rattle.woot.specs.Ranges.{characterId, insertInRange}
 use Rattle.woot.specs.State.{meaning}
-use Rattle.woot.specs.Form.{known}
+use Rattle.woot.specs.Form.{presentInserts}
 use Rattle.convergence.proofs.Ranges.{in-range}
 use Rattle.index.specs.declared.Index.{Index}
 use Rattle.pending.specs.declared.queue.Queue.{Queue}
@@ -29,13 +29,13 @@ module _ (r : Replica) (x : Index) (q : Queue) (full : FullDocument (r .document
   id-ranged = in-range i ranged .id
 
   pub seen-character : (k : ℕ) → Has r x q full e (i .id) id-ranged (ofCharacter k) → (d : Character) → comparedTo i (origin (getD (r .document .characters) k d)) ≡ seenOf (meaning r) i
-  unfolding known origin
+  unfolding presentInserts origin
   seen-character k h d =
       let m = Memᴰ·append-left (inserts (meaning r .pending)) (Memᴰ·map origin (character-member r x q full e (i .id) id-ranged k h d)) in
       sym (seen-held (meaning r) i (form r (e .form)) (origin (getD (r .document .characters) k d)) m (character-named r x q full e (i .id) id-ranged k h d))
 
   pub seen-pending : (j : ℕ) → Has r x q full e (i .id) id-ranged (ofPending j) → (d : Pending) → comparedWith i (getD (r .document .pending) j d .operation) ≡ seenOf (meaning r) i
-  unfolding known comparedWith
+  unfolding presentInserts comparedWith
   seen-pending j h d =
       let read = pending-read r (e .form) full j d (pending-within r x q full e (i .id) id-ranged j h) in
       let m = Memᴰ·append-right (map origin (meaning r .characters)) (h .1 .member) in

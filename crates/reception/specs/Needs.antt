@@ -1,5 +1,5 @@
--- What the steps of receiving need of a replica that was checked, and what a received insert is to it. It serves the
--- proofs of the code, and no contract of a call cites it.
+-- For the proofs of the code alone: what the steps of receiving need of a replica that was checked, and what a received
+-- insert is to it.
 use mathlib.Core.Path.{_≡_}
 use mathlib.Core.Bool.{true, false, cond}
 use Rattle.woot.specs.declared.Insert.{Insert}

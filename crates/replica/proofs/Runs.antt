@@ -17,7 +17,7 @@ use Rattle.woot.specs.declared.Answer.{Answer}
 use Rattle.woot.specs.declared.Answer.the-variants.{Done, Deferred, Duplicate, Refused}
 use Rattle.woot.specs.declared.Sent.{Sent}
 use Rattle.woot.specs.declared.Sent.the-variants.{Done as sentDone, Refused as sentRefused}
-use Rattle.woot.specs.State.{State, initial, characterSlots, pendingSlots, waiting, blankCharacter, blankPending, meaning, documentOf, stored, counted}
+use Rattle.woot.specs.State.{State, initial, characterSlots, pendingSlots, slotOf, blankCharacter, blankPending, meaning, documentOf, stored, counted}
 use Rattle.lists.specs.Padding.{pad}
 use Rattle.woot.specs.Form.{wellFormed, replicaWellFormed}
 use Rattle.woot.specs.Answers.{answerOf}
@@ -44,8 +44,8 @@ formed-within s h =
     let f = formed s h in
     record { characters-fit = omega (arith, f .sound .room); pending-fit = pending-bound (f .sound) }
 
-operations-back : (os : List Operation) → map (λ p. p .operation) (map waiting os) ≡ os
-unfolding waiting
+operations-back : (os : List Operation) → map (λ p. p .operation) (map slotOf os) ≡ os
+unfolding slotOf
 operations-back [] = refl
 operations-back (o ∷ os) = ap (λ ps. o ∷ ps) (operations-back os)
 
@@ -58,10 +58,10 @@ pad-front m z xs = take-append-seam xs _
 pub meaning-stored : (s : State) → meaning (stored s) ≡ s
 unfolding meaning stored documentOf
 meaning-stored s =
-    let n : length (s .pending) ≡ length (map waiting (s .pending)) = sym (length-map (s .pending) waiting) in
-    let queue : map (λ p. p .operation) (take (length (s .pending)) (pad pendingSlots blankPending (map waiting (s .pending)))) ≡ s .pending =
-    ap (λ k. map (λ p. p .operation) (take k (pad pendingSlots blankPending (map waiting (s .pending))))) n
-    ∙ ap (map (λ p. p .operation)) (pad-front pendingSlots blankPending (map waiting (s .pending)))
+    let n : length (s .pending) ≡ length (map slotOf (s .pending)) = sym (length-map (s .pending) slotOf) in
+    let queue : map (λ p. p .operation) (take (length (s .pending)) (pad pendingSlots blankPending (map slotOf (s .pending)))) ≡ s .pending =
+    ap (λ k. map (λ p. p .operation) (take k (pad pendingSlots blankPending (map slotOf (s .pending))))) n
+    ∙ ap (map (λ p. p .operation)) (pad-front pendingSlots blankPending (map slotOf (s .pending)))
     ∙ operations-back (s .pending)
     in
     λ i. record { site = s .site; characters = pad-front characterSlots blankCharacter (s .characters) i; pending = queue i }

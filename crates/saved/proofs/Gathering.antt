@@ -11,7 +11,7 @@ use lib.Seq.{take-all, take-nil, take-append-le, append-snoc}
 use Rattle.woot.specs.declared.Character.{Character}
 use Rattle.woot.specs.declared.Pending.{Pending}
 use Rattle.lists.specs.Lists.{every}
-use Rattle.woot.specs.State.{characterSlots, pendingSlots, blankCharacter, blankPending, waiting}
+use Rattle.woot.specs.State.{characterSlots, pendingSlots, blankCharacter, blankPending, slotOf}
 use Rattle.lists.specs.Padding.{pad}
 use Rattle.lists.proofs.Tests.{either}
 use Rattle.lists.proofs.Members.{every-append}
@@ -220,7 +220,7 @@ module _ {s : List ℕ} {items : List Pending} {count : ℕ} {good : Bool} {left
       is-operation = sym read-operation ∙ e
 
       pub operations-more : {items′ : List Pending} {good′ : Bool} {left′ : List ℕ}
-          → ((count < pendingSlots) × (items′ ≡ set items count (waiting (w .operation)))) ⊎ ((pendingSlots ≤ count) × (items′ ≡ items))
+          → ((count < pendingSlots) × (items′ ≡ set items count (slotOf (w .operation)))) ⊎ ((pendingSlots ≤ count) × (items′ ≡ items))
           → good′ ≡ good && w .judged .«in_range» → left′ ≡ rest left → OperationLoop s items′ (count + 1) good′ left′
       operations-more came q t = record {
         done = l .done ++ getD (lines left) 0 [] ∷ [];

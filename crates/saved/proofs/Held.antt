@@ -7,7 +7,7 @@ use lib.Dec.{leb}
 use lib.ListN.{length, length-map}
 use lib.Seq.{take-all}
 use borrow.Author.Tests.{leb-true, leb-false}
-use Rattle.woot.specs.State.{State, characterSlots, pendingSlots, waiting, meaning, documentOf, stored, counted}
+use Rattle.woot.specs.State.{State, characterSlots, pendingSlots, slotOf, meaning, documentOf, stored, counted}
 use Rattle.woot.specs.Form.{wellFormed, replicaWellFormed}
 use Rattle.lists.proofs.Tests.{fails, and-left, and-right}
 use Rattle.replica.proofs.Runs.{Within, formed-within, form-stored, meaning-stored}
@@ -18,7 +18,7 @@ module _ (s : State) where
   held-stored : Within s → held s ≡ stored s
   unfolding held stored documentOf
   held-stored w =
-      rw (take-all characterSlots (s .characters) (w .characters-fit), take-all pendingSlots (map waiting (s .pending)) (omega (arith, length-map (s .pending) waiting, w .pending-fit)))
+      rw (take-all characterSlots (s .characters) (w .characters-fit), take-all pendingSlots (map slotOf (s .pending)) (omega (arith, length-map (s .pending) slotOf, w .pending-fit)))
 
   not-counted : (Within s → ⊥) → replicaWellFormed (held s) ≡ false
   unfolding replicaWellFormed counted held

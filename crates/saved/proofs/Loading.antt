@@ -15,7 +15,7 @@ use Rattle.woot.specs.declared.Refusal.{Refusal}
 use Rattle.woot.specs.declared.Refusal.the-variants.{Layout, Range, Form}
 use Rattle.lists.specs.Lists.{every}
 use Rattle.woot.specs.Ranges.{siteInRange, characterInRange, inRange}
-use Rattle.woot.specs.State.{State, characterSlots, pendingSlots, waiting, blankCharacter, blankPending, documentOf, stored, counted}
+use Rattle.woot.specs.State.{State, characterSlots, pendingSlots, slotOf, blankCharacter, blankPending, documentOf, stored, counted}
 use Rattle.lists.specs.Padding.{pad}
 use Rattle.woot.specs.Form.{allInRange, wellFormed, replicaWellFormed}
 use Rattle.lists.proofs.Tests.{clash, fails, and-left, and-right, and-intro}
@@ -213,9 +213,9 @@ module _ (s : List ℕ) (first : SiteLine) (f : first ≡ siteRead (getD (lines 
               all-say lineCharacter characterSaid (λ x. x) characterPasses character-says (characterLines s) (sym (ap (λ x. x .«in_range») read-characters) ∙ e₂)
               ∙ map-same (map characterSaid (characterLines s))
 
-          operations-said : map linePending (operationLines s) ≡ map waiting (map operationSaid (operationLines s))
+          operations-said : map linePending (operationLines s) ≡ map slotOf (map operationSaid (operationLines s))
           operations-said =
-              all-say linePending operationSaid waiting operationPasses (λ x e. ap waiting (operation-says x e)) (operationLines s) (sym (ap (λ x. x .«in_range») read-operations) ∙ e₃)
+              all-say linePending operationSaid slotOf operationPasses (λ x e. ap slotOf (operation-says x e)) (operationLines s) (sym (ap (λ x. x .«in_range») read-operations) ∙ e₃)
 
           -- so what is read is what the bytes say
           pub all-read : _≡_ {A = Loaded} (record { answer = Done; replica = replicaOf (first .site) cs ps }) (savedRead s)
@@ -239,7 +239,7 @@ module _ (s : List ℕ) (first : SiteLine) (f : first ≡ siteRead (getD (lines 
               count : cs .count ≡ length (map characterSaid (characterLines s))
               count = ap (λ x. x .count) read-characters ∙ sym (length-map (characterLines s) characterSaid)
 
-              pending : ps .items ≡ pad pendingSlots blankPending (take pendingSlots (map waiting (map operationSaid (operationLines s))))
+              pending : ps .items ≡ pad pendingSlots blankPending (take pendingSlots (map slotOf (map operationSaid (operationLines s))))
               pending = ap (λ x. x .items) read-operations ∙ rw operations-said
 
               fewer : ps .count ≡ length (map operationSaid (operationLines s))

@@ -12,7 +12,7 @@ use Rattle.woot.specs.declared.Refusal.{Refusal}
 use Rattle.woot.specs.declared.Refusal.the-variants.{Layout, Range, Form, Output}
 use Rattle.woot.specs.declared.Written.{Written}
 use Rattle.woot.specs.declared.Written.the-variants.{Length, Refused as writtenRefused}
-use Rattle.woot.specs.State.{State, characterSlots, pendingSlots, waiting, blankCharacter, blankPending, initial, meaning, stored}
+use Rattle.woot.specs.State.{State, characterSlots, pendingSlots, slotOf, blankCharacter, blankPending, initial, meaning, stored}
 use Rattle.lists.specs.Padding.{pad}
 use Rattle.woot.specs.Form.{wellFormed, replicaWellFormed}
 use Rattle.woot.specs.Answers.{Check, _⇒_, first, number}
@@ -54,7 +54,7 @@ held s =
       document = record {
         characters = pad characterSlots blankCharacter (take characterSlots (s .characters));
         length = length (s .characters);
-        pending = pad pendingSlots blankPending (take pendingSlots (map waiting (s .pending)));
+        pending = pad pendingSlots blankPending (take pendingSlots (map slotOf (s .pending)));
         waiting = length (s .pending);
       };
     }

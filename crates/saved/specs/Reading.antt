@@ -11,7 +11,7 @@ use Rattle.woot.specs.declared.Pending.{Pending}
 use Rattle.woot.specs.declared.Replica.{Replica}
 use Rattle.lists.specs.Lists.{every}
 use Rattle.woot.specs.Ranges.{siteInRange, characterInRange, inRange}
-use Rattle.woot.specs.State.{characterSlots, pendingSlots, waiting, blankCharacter, blankPending}
+use Rattle.woot.specs.State.{characterSlots, pendingSlots, slotOf, blankCharacter, blankPending}
 use Rattle.lists.specs.Padding.{pad}
 use Rattle.saved.specs.declared.reading.Judged.{Judged}
 use Rattle.saved.specs.declared.reading.SiteLine.{SiteLine}
@@ -72,7 +72,7 @@ charactersRead ls =
     }
 
 abbrev pub linePending : List ℕ → Pending
-linePending line = waiting (operationRead line .operation)
+linePending line = slotOf (operationRead line .operation)
 
 abbrev pub operationPasses : List ℕ → Bool
 operationPasses line = operationRead line .judged .«in_range»

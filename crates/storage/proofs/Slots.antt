@@ -4,27 +4,27 @@ use mathlib.Core.List.{List, [], _∷_, _++_, map, map-append}
 use Prim.Native.Nat.{ℕ, zero, suc, _+_}
 use Rattle.woot.specs.declared.Operation.{Operation}
 use Rattle.woot.specs.declared.Pending.{Pending}
-use Rattle.woot.specs.State.{waiting}
+use Rattle.woot.specs.State.{slotOf}
 use Rattle.storage.specs.Edit.{removed, operations}
 
 -- what a change of the slots is to the operations that are stored
-pub waiting-operations : (ps : List Pending) → map waiting (operations ps) ≡ ps
-unfolding waiting
+pub waiting-operations : (ps : List Pending) → map slotOf (operations ps) ≡ ps
+unfolding slotOf
 waiting-operations [] = refl
 waiting-operations (p ∷ ps) = ap (λ (qs : List Pending). p ∷ qs) (waiting-operations ps)
 
-pub waiting-pushed : (ps : List Pending) (o : Operation) → map waiting (operations ps ++ o ∷ []) ≡ ps ++ waiting o ∷ []
+pub waiting-pushed : (ps : List Pending) (o : Operation) → map slotOf (operations ps ++ o ∷ []) ≡ ps ++ slotOf o ∷ []
 waiting-pushed ps o =
-    map-append waiting (operations ps) (o ∷ []) ∙ ap (λ (qs : List Pending). qs ++ waiting o ∷ []) (waiting-operations ps)
+    map-append slotOf (operations ps) (o ∷ []) ∙ ap (λ (qs : List Pending). qs ++ slotOf o ∷ []) (waiting-operations ps)
 
-pub waiting-removed : (ps : List Pending) (j : ℕ) → map waiting (removed j (operations ps)) ≡ removed j ps
-unfolding removed waiting
+pub waiting-removed : (ps : List Pending) (j : ℕ) → map slotOf (removed j (operations ps)) ≡ removed j ps
+unfolding removed slotOf
 waiting-removed [] zero = refl
 waiting-removed [] (suc j) = refl
 waiting-removed (p ∷ ps) zero = waiting-operations ps
 waiting-removed (p ∷ ps) (suc j) = ap (λ (qs : List Pending). p ∷ qs) (waiting-removed ps j)
 
-pub operations-wait : (os : List Operation) → operations (map waiting os) ≡ os
-unfolding waiting
+pub operations-wait : (os : List Operation) → operations (map slotOf os) ≡ os
+unfolding slotOf
 operations-wait [] = refl
 operations-wait (o ∷ os) = ap (λ qs. o ∷ qs) (operations-wait os)

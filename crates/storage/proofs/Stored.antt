@@ -15,7 +15,7 @@ use Rattle.woot.specs.declared.Character.{Character}
 use Rattle.woot.specs.declared.Pending.{Pending}
 use Rattle.woot.specs.declared.Document.{Document}
 use Rattle.woot.specs.declared.Replica.{Replica}
-use Rattle.woot.specs.State.{characterSlots, pendingSlots, waiting, blankCharacter, blankPending, meaning, documentOf, stored, counted}
+use Rattle.woot.specs.State.{characterSlots, pendingSlots, slotOf, blankCharacter, blankPending, meaning, documentOf, stored, counted}
 use Rattle.lists.specs.Padding.{pad}
 use Rattle.woot.specs.Placing.{integrateDelete}
 use Rattle.woot.specs.Form.{wellFormed, replicaWellFormed}
@@ -48,7 +48,7 @@ form-meant r h = and-right (counted r) (wellFormed (meaning r)) h
 pub record Parts (d : Document) (cs : List Character) (ps : List Operation) : Type 0 where
   pub characters : d .characters ≡ pad characterSlots blankCharacter cs
   pub length-is : d .length ≡ length cs
-  pub pending : d .pending ≡ pad pendingSlots blankPending (map waiting ps)
+  pub pending : d .pending ≡ pad pendingSlots blankPending (map slotOf ps)
   pub waiting-is : d .waiting ≡ length ps
 
 pub document-path : {d : Document} {cs : List Character} {ps : List Operation} → Parts d cs ps → d ≡ documentOf cs ps
@@ -72,7 +72,7 @@ module _ (r : Replica) (full : FullDocument (r .document)) (few : Counts r) wher
       ∙ length-take-le (r .document .waiting) (r .document .pending) (omega (arith, full .pending, few .pending))
 
   -- the lists as they are
-  kept-pending : (ps : List Pending) → ps ≡ pad 512 blankPending (take (r .document .waiting) (r .document .pending)) → ps ≡ pad pendingSlots blankPending (map waiting (meaning r .pending))
+  kept-pending : (ps : List Pending) → ps ≡ pad 512 blankPending (take (r .document .waiting) (r .document .pending)) → ps ≡ pad pendingSlots blankPending (map slotOf (meaning r .pending))
   unfolding meaning
   kept-pending ps q = q ∙ ap (pad pendingSlots blankPending) (sym (waiting-operations (take (r .document .waiting) (r .document .pending))))
 
@@ -101,7 +101,7 @@ module _ (r : Replica) (full : FullDocument (r .document)) (few : Counts r) wher
   -- with one operation more pending
   pub deferred-parts : (o : Operation) (cs : List Character) (ps : List Pending)
       → cs ≡ pad 1024 blankCharacter (take (r .document .length) (r .document .characters))
-      → ps ≡ pad 512 blankPending (take (r .document .waiting) (r .document .pending) ++ waiting o ∷ [])
+      → ps ≡ pad 512 blankPending (take (r .document .waiting) (r .document .pending) ++ slotOf o ∷ [])
       → Parts (record { characters = cs; length = r .document .length; pending = ps; waiting = r .document .waiting + 1 }) (meaning r .characters) (meaning r .pending ++ o ∷ [])
   unfolding meaning
   deferred-parts o cs ps p q =

@@ -1,4 +1,4 @@
--- What the arrays of a document hold after a change.
+-- For the proofs of the code alone: what the arrays of a document hold after a change.
 use Prim.Native.Nat.{ℕ, suc, _+_}
 use mathlib.Core.List.{List, _++_, map}
 use lib.ListN.{take, drop}

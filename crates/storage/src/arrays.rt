@@ -11,7 +11,7 @@ ghost use mathlib.Core.List.{_++_, _∷_, []};
 ghost use Prim.Native.Nat.{_+_, _≤_, min};
 ghost use lib.ListN.{take};
 ghost use Rattle.woot.specs.Operations.{deletedBy};
-ghost use Rattle.woot.specs.State.{waiting, blankCharacter, blankPending};
+ghost use Rattle.woot.specs.State.{slotOf, blankCharacter, blankPending};
 ghost use Rattle.lists.specs.Padding.{pad};
 ghost use Rattle.woot.specs.Placing.{insertAt, integrateDelete};
 ghost use Rattle.storage.specs.Edit.{copiedInto, removed};
@@ -161,7 +161,7 @@ pub fn kept_pending(pending: [Pending; 512], n: usize) -> [Pending; 512]
 
 // The array with the operation put behind the first n. Where they fill every slot, the last of them is dropped.
 pub fn pushed(pending: [Pending; 512], n: usize, operation: Operation) -> [Pending; 512]
-    ensures { λ r. ⌜ r ≡ pad 512 blankPending (take (min n 511) pending ++ waiting operation ∷ []) ⌝ }
+    ensures { λ r. ⌜ r ≡ pad 512 blankPending (take (min n 511) pending ++ slotOf operation ∷ []) ⌝ }
 {
     let size = index::lesser(n, 511);
     let mut out = kept_pending(pending, size);

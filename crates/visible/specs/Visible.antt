@@ -1,4 +1,4 @@
--- The bytes that a character adds to the text. It serves the proofs of the code.
+-- For the proofs of the code alone: the bytes that a character adds to the text.
 use Prim.Native.Nat.{ℕ}
 use mathlib.Core.Bool.{cond}
 use mathlib.Core.List.{List, []}

@@ -22,7 +22,7 @@ use Rattle.woot.specs.Placing.{identifiers, sequence, placeOf, held, above}
 use Rattle.woot.specs.Ranges.{siteInRange, characterId, characterInRange, inRange}
 use Rattle.woot.specs.State.{State, blankCharacter, blankPending}
 use Rattle.woot.specs.Pending.{executable}
-use Rattle.woot.specs.Form.{numbers, wellFormed, allInRange, sharesKept, capacityKept, identifiersDistinct, deletesDistinct, ordered, neighboursOrdered, noneExecutable}
+use Rattle.woot.specs.Form.{countdown, wellFormed, allInRange, sharesKept, capacityKept, identifiersDistinct, deletesDistinct, ordered, neighboursOrdered, noneExecutable}
 use Rattle.lists.proofs.Tests.{agree, three, and-left, and-right, and-intro, not-intro}
 use Rattle.lists.proofs.Members.{any-append, every-member}
 use Rattle.convergence.proofs.Identifiers.{same-sym}
@@ -264,7 +264,7 @@ module _ (s : State) (ranges : allInRange s ≡ true) where
 
   shares : sharesKept s ≡ sharesIn (map sender (s .pending))
   unfolding sharesKept sharesIn
-  shares = sym (λ i. every (λ n. leb (count-senders n (s .pending) i) share) (numbers lastSite))
+  shares = sym (λ i. every (λ n. leb (count-senders n (s .pending) i) share) (countdown lastSite))
 
   room : capacityKept s ≡ roomKept (keys (s .characters)) (map ownKey (s .pending))
   unfolding capacityKept roomKept

@@ -17,7 +17,7 @@ use Rattle.woot.specs.Operations.{sender, origin, inserts}
 use Rattle.woot.specs.Ranges.{characterId, characterInRange}
 use Rattle.woot.specs.State.{blankCharacter, meaning}
 use Rattle.woot.specs.Placing.{identifiers}
-use Rattle.woot.specs.Form.{known, replicaWellFormed}
+use Rattle.woot.specs.Form.{presentInserts, replicaWellFormed}
 use Rattle.lists.proofs.Members.{member-any, any-append, every-member}
 use Rattle.convergence.proofs.Identifiers.{eq-same}
 use Rattle.lists.proofs.Tests.{or-false}
@@ -118,19 +118,19 @@ module _ (r : Replica) (x : Index) (q : Queue) (full : FullDocument (r .document
         (rw (ids-used r (e .form) full x (e .index)) at (sym p ∙ f))
 
     -- no insert that the state knows has it
-    pub nobody : Has Nobody → any (λ j. same id (j .id)) (known (meaning r)) ≡ false
+    pub nobody : Has Nobody → any (λ j. same id (j .id)) (presentInserts (meaning r)) ≡ false
     nobody h =
-        sym (any-map (same id) (λ j. j .id) (known (meaning r)))
+        sym (any-map (same id) (λ j. j .id) (presentInserts (meaning r)))
         ∙ rw (known-ids (meaning r)) (any-append (same id) (identifiers (meaning r .characters)) _ ∙ or-false (h .0) (any-map (same id) (λ j. j .id) (inserts (meaning r .pending)) ∙ h .1))
 
     -- one of them has it
-    pub character-takes : (k : ℕ) → Has (ofCharacter k) → any (λ j. same id (j .id)) (known (meaning r)) ≡ true
-    unfolding known origin
+    pub character-takes : (k : ℕ) → Has (ofCharacter k) → any (λ j. same id (j .id)) (presentInserts (meaning r)) ≡ true
+    unfolding presentInserts origin
     character-takes k h =
         member-any (λ (j : Insert). same id (j .id)) (Memᴰ·append-left (inserts (meaning r .pending)) (Memᴰ·map origin (h .member blankCharacter))) (eq-same (h .is blankCharacter))
 
-    pub pending-takes : (j : ℕ) → Has (ofPending j) → any (λ j. same id (j .id)) (known (meaning r)) ≡ true
-    unfolding known
+    pub pending-takes : (j : ℕ) → Has (ofPending j) → any (λ j. same id (j .id)) (presentInserts (meaning r)) ≡ true
+    unfolding presentInserts
     pending-takes j h = member-any (λ (j : Insert). same id (j .id)) (Memᴰ·append-right (map origin (meaning r .characters)) (h .1 .member)) (eq-same (h .1 .is))
 
     -- where its holder is
@@ -157,8 +157,8 @@ module _ (r : Replica) (f : replicaWellFormed r ≡ true) (full : FullDocument (
   pub share-counted : (n : ℕ) → leb share (length (keep (λ s. eqb s n) (take (r .document .waiting) (q .senders)))) ≡ leb share (pendingFrom n (meaning r .pending))
   share-counted n = rw (senders-used r f full q e, count-senders n (meaning r .pending))
 
-  pub room-counted : leb capacity (r .document .length + length (keep (λ k. not (eqb k 0)) (take (r .document .waiting) (q .own)))) ≡ leb capacity (length (known (meaning r)))
+  pub room-counted : leb capacity (r .document .length + length (keep (λ k. not (eqb k 0)) (take (r .document .waiting) (q .own)))) ≡ leb capacity (length (presentInserts (meaning r)))
   room-counted =
       let waiting : length (keep (λ k. not (eqb k 0)) (take (r .document .waiting) (q .own))) ≡ length (inserts (meaning r .pending)) = rw (own-used r f full q e) (count-own (meaning r .pending) (keyed r f)) in
-      let all : r .document .length + length (keep (λ k. not (eqb k 0)) (take (r .document .waiting) (q .own))) ≡ length (known (meaning r)) = omega (arith, character-count r full (few r f), known-length (meaning r)) in
+      let all : r .document .length + length (keep (λ k. not (eqb k 0)) (take (r .document .waiting) (q .own))) ≡ length (presentInserts (meaning r)) = omega (arith, character-count r full (few r f), known-length (meaning r)) in
       ap (leb capacity) all

@@ -10,7 +10,7 @@ use mathlib.Core.Logic.{⊎-elim}
 use lib.ListN.{length, take, getD}
 use lib.Seq.{take-suc, take-length}
 use Rattle.lists.specs.Lists.{every}
-use Rattle.woot.specs.Form.{numbers}
+use Rattle.woot.specs.Form.{countdown}
 use Rattle.lists.proofs.Tests.{and-intro, side}
 use Rattle.lists.proofs.Members.{every-append}
 use Rattle.well_formed.specs.Form.{throughout}
@@ -88,12 +88,12 @@ every-map f p (x ∷ xs) = ap (λ (b : Bool). p (f x) && b) (every-map f p xs)
 
 -- a loop that counts up to n and tests each number
 module _ (p : ℕ → Bool) where
-  pub numbers-more : (k : ℕ) → every p (numbers k) ≡ true → p (k + 1) ≡ true → every p (numbers (k + 1)) ≡ true
+  pub numbers-more : (k : ℕ) → every p (countdown k) ≡ true → p (k + 1) ≡ true → every p (countdown (k + 1)) ≡ true
   numbers-more k h e = let f : p (suc k) ≡ true = rw add-one at e in rw (add-one k) (and-intro f h)
 
-  pub numbers-fail : (n k : ℕ) → k < n → p (k + 1) ≡ false → every p (numbers n) ≡ false
+  pub numbers-fail : (n k : ℕ) → k < n → p (k + 1) ≡ false → every p (countdown n) ≡ false
   numbers-fail zero k h e = absurd (not-suc-le-zero h)
   numbers-fail (suc n) k h e = ⊎-elim last (λ l. rw (numbers-fail n k l e) (and-false (p (suc n)))) (side n k)
     where
-      last : n ≤ k → every p (numbers (suc n)) ≡ false
+      last : n ≤ k → every p (countdown (suc n)) ≡ false
       last l = let same : k + 1 ≡ suc n = omega arith in let f : p (suc n) ≡ false = rw same at e in rw f

@@ -1,4 +1,4 @@
--- What the check tells the steps of a call. It serves the proofs of the code, and no contract of a call cites it.
+-- For the proofs of the code alone: what the check tells the steps of a call.
 use mathlib.Core.Path.{_≡_}
 use mathlib.Core.Bool.{true}
 use Rattle.woot.specs.declared.Replica.{Replica}

@@ -1,4 +1,4 @@
--- The conditions of form on packed numbers.
+-- For the proofs of the code alone: the conditions of form on packed numbers.
 use Prim.Native.Nat.{ℕ, zero, suc, _+_}
 use mathlib.Core.Bool.{Bool, true, false, _&&_, _||_, not, cond}
 use mathlib.Core.List.{List, []}
@@ -8,7 +8,7 @@ use Rattle.woot.specs.declared.Replica.{Replica}
 use Rattle.woot.specs.Limits.{lastSite, capacity, share}
 use Rattle.lists.specs.Lists.{every, keep}
 use Rattle.woot.specs.State.{State, meaning, counted}
-use Rattle.woot.specs.Form.{numbers, allInRange, replicaWellFormed}
+use Rattle.woot.specs.Form.{countdown, allInRange, replicaWellFormed}
 use Rattle.index.specs.declared.Found.{Found}
 use Rattle.index.specs.declared.Found.the-variants.{At, Nothing}
 use Rattle.well_formed.specs.declared.Checked.{Checked}
@@ -26,7 +26,7 @@ abbrev pub senderWithin : List ℕ → ℕ → Bool
 senderWithin senders n = leb (length (keep (λ s. eqb s n) senders)) share
 
 unfoldable pub sharesIn : List ℕ → Bool
-sharesIn senders = every (senderWithin senders) (numbers lastSite)
+sharesIn senders = every (senderWithin senders) (countdown lastSite)
 
 -- there is room for the characters and the pending inserts
 unfoldable pub roomKept : List ℕ → List ℕ → Bool

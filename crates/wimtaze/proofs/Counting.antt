@@ -12,7 +12,7 @@ use Rattle.woot.specs.declared.Answer.the-variants.{Done, Refused}
 use Rattle.woot.specs.Limits.{capacity}
 use Rattle.woot.specs.Operations.{inserts}
 use Rattle.woot.specs.State.{State, meaning}
-use Rattle.woot.specs.Form.{known, wellFormed, replicaWellFormed}
+use Rattle.woot.specs.Form.{presentInserts, wellFormed, replicaWellFormed}
 use Rattle.woot.specs.Answers.{decided}
 use Rattle.woot.specs.Calls.{visibles}
 use Rattle.convergence.proofs.Forms.{formed, known-length}
@@ -26,7 +26,7 @@ use Rattle.wimtaze.specs.Results.{result, silent}
 use Rattle.wimtaze.specs.Calls.{countsOf}
 use Rattle.wimtaze.specs.Steps.{countsLeft}
 
-pub known-few : (s : State) → wellFormed s ≡ true → length (known s) ≤ capacity
+pub known-few : (s : State) → wellFormed s ≡ true → length (presentInserts s) ≤ capacity
 known-few s h = omega (arith, known-length s, formed s h .sound .room)
 
 module _ (r : Replica) where
@@ -42,7 +42,7 @@ module _ (r : Replica) where
     -- the characters and the inserts among the numbers are all that it knows
     module _ (q : Queue) (e : q ≡ queueOf (meaning r .pending)) {k : ℕ}
         (counted : k ≡ length (keep (λ k. not (eqb k 0)) (take (r .document .waiting) (q .own)))) where
-      pub held-known : r .document .length + k ≡ length (known (meaning r))
+      pub held-known : r .document .length + k ≡ length (presentInserts (meaning r))
       held-known =
           let waiting : k ≡ length (inserts (meaning r .pending)) = rw (counted, own-used r f full q e) (count-own (meaning r .pending) (keyed r f)) in
           omega (arith, character-count r full (few r f), known-length (meaning r))

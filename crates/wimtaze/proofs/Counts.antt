@@ -26,7 +26,7 @@ use Rattle.woot.specs.State.{State}
 use Rattle.woot.specs.Form.{wellFormed}
 use Rattle.woot.specs.Pending.{executable}
 use Rattle.woot.specs.Answers.{number, Check, first, NoneHolds, decided}
-use Rattle.woot.specs.Calls.{Outcome, unchanged, insertCarried, receiveChecks, carryOut, defer, accept, receiveWhen, receive, visibles, generatedInsert, beyondVisible, taken, insertChecks, advanced, sendInsert, localInsertWhen, localInsert, notVisible, generatedDelete, deleteChecks, sendDelete, localDeleteWhen, localDelete}
+use Rattle.woot.specs.Calls.{Outcome, unchanged, insertCarried, receiveChecks, carryOut, defer, accept, receiveWhen, receive, visibles, generatedInsert, beyondVisible, identifierTaken, insertChecks, advanced, sendInsert, localInsertWhen, localInsert, notVisible, generatedDelete, deleteChecks, sendDelete, localDeleteWhen, localDelete}
 use Rattle.lists.specs.Lists.{keep}
 use Rattle.woot.specs.Operations.{isVisible}
 use Rattle.lists.proofs.Members.{keep-member}

@@ -11,7 +11,7 @@ use Rattle.woot.specs.declared.Answer.the-variants.{Done, Refused}
 use Rattle.woot.specs.Limits.{capacity}
 use Rattle.woot.specs.Ranges.{siteNumber, codePoint, inRange}
 use Rattle.woot.specs.State.{State, initial}
-use Rattle.woot.specs.Form.{known, wellFormed}
+use Rattle.woot.specs.Form.{presentInserts, wellFormed}
 use Rattle.woot.specs.Answers.{Check, _⇒_, first, decided}
 use Rattle.woot.specs.Calls.{receive, visibles, localInsert, localDelete}
 use Rattle.woot.specs.Text.{text}
@@ -67,7 +67,7 @@ showingText bytes out =
 unfoldable pub countsOf : State → Result
 countsOf s =
     result (Done (length (visibles (s .characters))) (length (s .pending))) (length (s .characters))
-    (capacity - length (known s))
+    (capacity - length (presentInserts s))
 
 -- `wimtaze_counts`
 unfoldable pub counting : List ℕ → Result

@@ -1,5 +1,5 @@
--- The refusal that comes first where both a saved replica and what else was handed have one. This only serves the proofs
--- of the code: readers answer refusals 1 and 2 alone.
+-- For the proofs of the code alone, whose readers answer refusals 1 and 2: which refusal comes first where both a saved
+-- replica and what else was handed have one.
 use mathlib.Core.Bool.{cond}
 use lib.Dec.{eqb}
 use Rattle.woot.specs.declared.Refusal.{Refusal}

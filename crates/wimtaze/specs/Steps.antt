@@ -1,4 +1,4 @@
--- What the steps of a call leave, of replicas in memory. This only serves the proofs of the code.
+-- For the proofs of the code alone: what the steps of a call leave, of replicas in memory.
 use Prim.Native.Nat.{ℕ}
 use mathlib.Core.Bool.{not, cond}
 use mathlib.Core.List.{List, [], _∷_}

@@ -11,9 +11,9 @@ use Rattle.woot.specs.Ranges.{within, siteNumber, codePoint, characterId
 use Rattle.woot.specs.State.{initial}
 use Rattle.woot.specs.Placing.{sequence, indexOf, placeOf, held, above, adjacent, candidate, candidates, narrowed, search, position, between, insertAt, integrateInsert, integrateDelete}
 use Rattle.woot.specs.Pending.{executable, crossed, unplaceable, integrate, pendingFrom, earliest, andIntegrated, andDiscarded, drained, drainSteps, drain}
-use Rattle.woot.specs.Form.{known, allInRange, sharesKept, capacityKept, identifiersDistinct, deletesDistinct, ordered, neighboursOrdered, noneExecutable, wellFormed}
+use Rattle.woot.specs.Form.{presentInserts, allInRange, sharesKept, capacityKept, identifiersDistinct, deletesDistinct, ordered, neighboursOrdered, noneExecutable, wellFormed}
 use Rattle.woot.specs.Answers.{number, reply, answerOf, decided}
-use Rattle.woot.specs.Calls.{unchanged, integrated, withCharacters, withPending, afterDrain, insertCarried, duplicate, conflicting, senderFull, documentFull, receiveChecks, carryOut, defer, accept, receiveWhen, receive, visibles, nextIdentifier, generatedInsert, beyondVisible, taken, insertChecks, advanced, sendInsert, localInsertWhen, localInsert, notVisible, deleteChecks, generatedDelete, sendDelete, localDeleteWhen, localDelete}
+use Rattle.woot.specs.Calls.{unchanged, allIntegrated, withCharacters, withPending, afterDrain, insertCarried, duplicate, conflicting, senderFull, documentFull, receiveChecks, carryOut, defer, accept, receiveWhen, receive, visibles, nextIdentifier, generatedInsert, beyondVisible, identifierTaken, insertChecks, advanced, sendInsert, localInsertWhen, localInsert, notVisible, deleteChecks, generatedDelete, sendDelete, localDeleteWhen, localDelete}
 use Rattle.woot.specs.Histories.{outcome}
 use Rattle.woot.specs.declared.Identifier.{Identifier}
 use Rattle.woot.specs.declared.Character.{Character}
@@ -46,13 +46,13 @@ settled-same s k = whole-same (s .characters) _ ∙ whole-same (s .pending) _
 -- k at what is carried out, state by state
 carriedIn : {B : Type 0} → State → List Call → (List Operation → B) → B
 carriedIn s [] k = k []
-carriedIn s (c ∷ cs) k = let r = outcome s c in settled (r .state) (λ t. carriedIn t cs (λ os. k (integrated r ++ os)))
+carriedIn s (c ∷ cs) k = let r = outcome s c in settled (r .state) (λ t. carriedIn t cs (λ os. k (allIntegrated r ++ os)))
 
 carried-same : {B : Type 0} (s : State) (cs : List Call) (k : List Operation → B) → carriedIn s cs k ≡ k (integratedBy s cs)
 unfolding carriedIn
 carried-same s [] k = refl
 carried-same s (c ∷ cs) k =
-    settled-same (outcome s c .state) _ ∙ carried-same (outcome s c .state) cs (λ os. k (integrated (outcome s c) ++ os))
+    settled-same (outcome s c .state) _ ∙ carried-same (outcome s c .state) cs (λ os. k (allIntegrated (outcome s c) ++ os))
 
 -- k at the replies and the identifiers, state by state
 stepped : {B : Type 0} → State → List Call → (List Reply → List Identifier → B) → B
@@ -84,7 +84,7 @@ all-computed [] = refl
 all-computed (t ∷ ts) = ap₂ (λ a bs. a ∷ bs) (sym (computed-same (t .given))) (all-computed ts)
 
 both : SituationsHold × CasesTell
-unfolding table carriedIn slipCases answerCases whole settled stepped computed leadingZeros significantBits encodedLength continuation oneByte twoBytes threeBytes fourBytes encode same below sender character origin isVisible hidden deletedBy sameInsert sameDelete sameOperation within siteNumber codePoint characterId previousId nextId siteInRange insertInRange deleteInRange inRange characterInRange initial sequence indexOf placeOf held above adjacent candidate candidates narrowed search position between insertAt integrateInsert integrateDelete executable crossed unplaceable integrate pendingFrom earliest andIntegrated andDiscarded drained drainSteps drain known allInRange sharesKept capacityKept identifiersDistinct deletesDistinct ordered neighboursOrdered noneExecutable wellFormed reply answerOf unchanged decided integrated withCharacters withPending afterDrain insertCarried duplicate conflicting senderFull documentFull receiveChecks carryOut defer accept receiveWhen receive visibles nextIdentifier generatedInsert beyondVisible taken insertChecks advanced sendInsert localInsertWhen localInsert notVisible deleteChecks generatedDelete sendDelete localDeleteWhen localDelete outcome
+unfolding table carriedIn slipCases answerCases whole settled stepped computed leadingZeros significantBits encodedLength continuation oneByte twoBytes threeBytes fourBytes encode same below sender character origin isVisible hidden deletedBy sameInsert sameDelete sameOperation within siteNumber codePoint characterId previousId nextId siteInRange insertInRange deleteInRange inRange characterInRange initial sequence indexOf placeOf held above adjacent candidate candidates narrowed search position between insertAt integrateInsert integrateDelete executable crossed unplaceable integrate pendingFrom earliest andIntegrated andDiscarded drained drainSteps drain presentInserts allInRange sharesKept capacityKept identifiersDistinct deletesDistinct ordered neighboursOrdered noneExecutable wellFormed reply answerOf unchanged decided allIntegrated withCharacters withPending afterDrain insertCarried duplicate conflicting senderFull documentFull receiveChecks carryOut defer accept receiveWhen receive visibles nextIdentifier generatedInsert beyondVisible identifierTaken insertChecks advanced sendInsert localInsertWhen localInsert notVisible deleteChecks generatedDelete sendDelete localDeleteWhen localDelete outcome
 both = (all-computed table ∙ refl, (all-computed slipCases ∙ refl, all-computed answerCases ∙ refl))
 
 pub situations-hold : SituationsHold

@@ -25,7 +25,7 @@ use Rattle.woot.specs.Ranges.{codePoint, inRange}
 use Rattle.woot.specs.State.{State}
 use Rattle.woot.specs.Placing.{identifiers, integrateInsert, integrateDelete}
 use Rattle.woot.specs.Pending.{executable, crossed, unplaceable, pendingFrom, drain, Drained}
-use Rattle.woot.specs.Form.{known, wellFormed}
+use Rattle.woot.specs.Form.{presentInserts, wellFormed}
 use Rattle.woot.specs.Answers.{Check, _⇒_, first, decided}
 use Rattle.lists.specs.Lists.{any, keep}
 
@@ -43,8 +43,8 @@ unfoldable pub unchanged : {A : Type 0} → State → A → Outcome A
 unchanged s a = record { answer = a; state = s; own = []; drained = []; discarded = [] }
 
 -- "every operation carried out by the call including its own"
-unfoldable pub integrated : {A : Type 0} → Outcome A → List Operation
-integrated r = r .own ++ r .drained
+unfoldable pub allIntegrated : {A : Type 0} → Outcome A → List Operation
+allIntegrated r = r .own ++ r .drained
 
 -- a state with other characters
 unfoldable pub withCharacters : State → List Character → State
@@ -72,7 +72,7 @@ duplicate s (delete d) =
 
 -- condition 7: "a received insert's identifier belongs to a row or waiting insert with other fields"
 unfoldable pub conflicting : State → Operation → Bool
-conflicting s (insert i) = any (λ j. same (i .id) (j .id) && not (sameInsert i j)) (known s)
+conflicting s (insert i) = any (λ j. same (i .id) (j .id) && not (sameInsert i j)) (presentInserts s)
 conflicting s (delete d) = false
 
 -- condition 10: "the operation must wait and its sender has 32 waiting already"
@@ -81,7 +81,7 @@ senderFull s o = not (executable (s .characters) o) && leb share (pendingFrom (s
 
 -- condition 11: "it is an insert, typed or received, and rows plus waiting inserts are 1,024"
 unfoldable pub documentFull : State → Operation → Bool
-documentFull s (insert i) = leb capacity (length (known s))
+documentFull s (insert i) = leb capacity (length (presentInserts s))
 documentFull s (delete d) = false
 
 -- in checking order; `formed` says whether the replica is in form
@@ -156,15 +156,15 @@ unfoldable pub beyondVisible : State → ℕ → Bool
 beyondVisible s g = ltb (length (visibles (s .characters))) g
 
 -- condition 6: "the identifier about to be typed belongs to a row or a waiting insert"
-unfoldable pub taken : State → Bool
-taken s = any (λ i. same (nextIdentifier (s .site)) (i .id)) (known s)
+unfoldable pub identifierTaken : State → Bool
+identifierTaken s = any (λ i. same (nextIdentifier (s .site)) (i .id)) (presentInserts s)
 
 unfoldable pub insertChecks : Bool → State → ℕ → ℕ → List (Check Sent)
 insertChecks formed s g n =
     (not (codePoint n) ⇒ sentRefused Range) ∷ (not formed ⇒ sentRefused Form)
     ∷ (beyondVisible s g ⇒ sentRefused Position)
     ∷ (leb lastClock (s .site .clock) ⇒ sentRefused Clock)
-    ∷ (taken s ⇒ sentRefused Taken)
+    ∷ (identifierTaken s ⇒ sentRefused Taken)
     ∷ (unplaceable (s .characters) (insert (generatedInsert s g n)) ⇒ sentRefused Unplaceable)
     ∷ (documentFull s (insert (generatedInsert s g n)) ⇒ sentRefused DocumentFull)
     ∷ []

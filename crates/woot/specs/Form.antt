@@ -17,13 +17,13 @@ use Rattle.woot.specs.Pending.{executable, pendingFrom}
 use Rattle.lists.specs.Lists.{any, every, distinct}
 
 -- the inserts of the characters and the pending inserts
-unfoldable pub known : State → List Insert
-known s = map origin (s .characters) ++ inserts (s .pending)
+unfoldable pub presentInserts : State → List Insert
+presentInserts s = map origin (s .characters) ++ inserts (s .pending)
 
 -- the numbers 1 to n, highest first
-abbrev pub numbers : ℕ → List ℕ
-numbers zero = []
-numbers (suc n) = suc n ∷ numbers n
+abbrev pub countdown : ℕ → List ℕ
+countdown zero = []
+countdown (suc n) = suc n ∷ countdown n
 
 -- "every number, mark and neighbour is one that refusal 2 would let pass"
 unfoldable pub allInRange : State → Bool
@@ -31,15 +31,15 @@ allInRange s = siteInRange (s .site) && every characterInRange (s .characters) &
 
 -- "at most 32 operations waiting for each sender"
 unfoldable pub sharesKept : State → Bool
-sharesKept s = every (λ n. leb (pendingFrom n (s .pending)) share) (numbers lastSite)
+sharesKept s = every (λ n. leb (pendingFrom n (s .pending)) share) (countdown lastSite)
 
 -- "at most 1,024 rows"; "rows and waiting inserts together at most 1,024"
 unfoldable pub capacityKept : State → Bool
-capacityKept s = leb (length (known s)) capacity
+capacityKept s = leb (length (presentInserts s)) capacity
 
 -- "no identifier occurs twice among rows and waiting inserts"
 unfoldable pub identifiersDistinct : State → Bool
-identifiersDistinct s = distinct same (map (λ i. i .id) (known s))
+identifiersDistinct s = distinct same (map (λ i. i .id) (presentInserts s))
 
 -- "no two waiting erases have the same sender and identifier"
 unfoldable pub deletesDistinct : State → Bool

@@ -13,7 +13,7 @@ use Rattle.woot.specs.declared.Answer.{Answer}
 use Rattle.woot.specs.declared.Answer.the-variants.{Done, Deferred, Duplicate, Refused}
 use Rattle.woot.specs.State.{State, initial}
 use Rattle.woot.specs.Answers.{answerOf}
-use Rattle.woot.specs.Calls.{Outcome, integrated, receive, localInsert, localDelete}
+use Rattle.woot.specs.Calls.{Outcome, allIntegrated, receive, localInsert, localDelete}
 
 -- the kinds of call, with any arguments: typing at a gap, erasing at a place, receiving
 pub data Call : Type 0 where
@@ -39,7 +39,7 @@ run s (c ∷ cs) = run (outcome s c .state) cs
 -- the operations carried out over the calls, in order
 abbrev pub integratedBy : State → List Call → List Operation
 integratedBy s [] = []
-integratedBy s (c ∷ cs) = integrated (outcome s c) ++ integratedBy (outcome s c .state) cs
+integratedBy s (c ∷ cs) = allIntegrated (outcome s c) ++ integratedBy (outcome s c .state) cs
 
 -- those of them that were carried out from the pending operations
 abbrev pub drainedBy : State → List Call → List Operation

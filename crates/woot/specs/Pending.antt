@@ -42,16 +42,16 @@ unfoldable pub pendingFrom : ℕ → List Operation → ℕ
 pendingFrom n ps = length (sentBy n ps)
 
 -- an operation, and the list that it was taken out of without it
-pub record Taken : Type 0 where
+pub record Extracted : Type 0 where
   pub operation : Operation
   pub others : List Operation
 
-abbrev pub behind : Operation → Option Taken → Option Taken
+abbrev pub behind : Operation → Option Extracted → Option Extracted
 behind o none = none
 behind o (some t) = some (record { operation = t .operation; others = o ∷ t .others })
 
 -- the earliest that passes the test, taken out
-unfoldable pub earliest : (Operation → Bool) → List Operation → Option Taken
+unfoldable pub earliest : (Operation → Bool) → List Operation → Option Extracted
 earliest p [] = none
 earliest p (o ∷ ps) = cond (p o) (some (record { operation = o; others = ps })) (behind o (earliest p ps))
 

@@ -31,8 +31,8 @@ characterSlots = 1024
 abbrev pub pendingSlots : ℕ
 pendingSlots = 512
 
-unfoldable pub waiting : Operation → Pending
-waiting o = record { operation = o }
+unfoldable pub slotOf : Operation → Pending
+slotOf o = record { operation = o }
 
 -- what stands in a slot that is not in use
 unfoldable pub blankCharacter : Character
@@ -56,7 +56,7 @@ documentOf cs ps =
     record {
       characters = pad characterSlots blankCharacter cs;
       length = length cs;
-      pending = pad pendingSlots blankPending (map waiting ps);
+      pending = pad pendingSlots blankPending (map slotOf ps);
       waiting = length ps;
     }
 

@@ -5,7 +5,7 @@ use borrow.Author.Tests.{le-leb, lt-leb}
 use lib.Dec.{leb}
 use Rattle.woot.specs.Limits.{lastClock}
 use Rattle.woot.specs.State.{meaning}
-use Rattle.woot.specs.Calls.{generatedInsert, beyondVisible, taken}
+use Rattle.woot.specs.Calls.{generatedInsert, beyondVisible, identifierTaken}
 use Rattle.convergence.proofs.Steps.{next-character, generated-made}
 use Rattle.well_formed.proofs.Examining.{form}
 use Rattle.generation.proofs.Outcomes.{insert-beyond, insert-late, insert-taken, insert-sent}
@@ -21,8 +21,8 @@ early : (c : tie.Else2) → leb lastClock (meaning (c .before .before .before .b
 unfolding meaning
 early c = lt-leb _ _ (c .if2 .left)
 
-free : (c : tie.After-is-taken) → c .is-taken .result ≡ taken (meaning (c .before .before .before .before .before .before .before .before .before .before .args .replica))
-unfolding taken generatedInsert
+free : (c : tie.After-is-taken) → c .is-taken .result ≡ identifierTaken (meaning (c .before .before .before .before .before .before .before .before .before .before .args .replica))
+unfolding identifierTaken generatedInsert
 free c = rw (c .before .before .generated-insert .ensures) at (c .is-taken .ensures)
 
 count-requires : tie.Need-count-requires

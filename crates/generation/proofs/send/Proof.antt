@@ -4,7 +4,7 @@ use lib.Dec.{leb}
 use lib.ListN.{length}
 use Rattle.woot.specs.Limits.{capacity}
 use Rattle.woot.specs.State.{meaning}
-use Rattle.woot.specs.Form.{known}
+use Rattle.woot.specs.Form.{presentInserts}
 use Rattle.storage.proofs.Fullness.{full-replica}
 use Rattle.well_formed.proofs.Examining.{room-counted}
 use Rattle.generation.proofs.Generating.{send-full, send-placed, send-done}
@@ -13,7 +13,7 @@ use Rattle.generation.proofs.send.Statement.{statement}
 use Rattle.generation.proofs.send.Tie as tie
 
 -- whether the document is full
-tested : (c : tie.After-document-full) → c .document-full .result ≡ leb capacity (length (known (meaning (c .before .before .args .replica))))
+tested : (c : tie.After-document-full) → c .document-full .result ≡ leb capacity (length (presentInserts (meaning (c .before .before .args .replica))))
 tested c =
     let s = c .before .before in
     c .document-full .ensures ∙ room-counted _ (s .pre .0 .form) (full-replica (s .good .0)) _ (s .pre .1 .0)

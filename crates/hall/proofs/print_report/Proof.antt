@@ -18,17 +18,17 @@ enum-known-written c = search needs
 array-share-prefix-line : tie.Need-array-share-prefix-line
 array-share-prefix-line c = let p = c .before .before .before .before .report-line .ensures in fitted-within _ _ (p .0) (c .before .written .given .1) (p .1)
 
-slice-aggregate-write-all : tie.Need-slice-aggregate-write-all
-slice-aggregate-write-all c = let p = c .before .before .before .before .before .report-line .ensures in sym (length-take-le _ _ (fitted-within _ _ (p .0) (c .before .before .written .given .1) (p .1)))
+slice-aggregate-print : tie.Need-slice-aggregate-print
+slice-aggregate-print c = let p = c .before .before .before .before .before .report-line .ensures in sym (length-take-le _ _ (fitted-within _ _ (p .0) (c .before .before .written .given .1) (p .1)))
 
-write-all-requires : tie.Need-write-all-requires
-write-all-requires c κs = search needs
-
-enum-told : tie.Need-enum-told
-enum-told c = search needs
+print-requires : tie.Need-print-requires
+print-requires c κs = search needs
 
 returns : tie.Need-returns
 returns c = search needs
+
+enum-told : tie.Need-enum-told
+enum-told c = search needs
 
 returns-2 : tie.Need-returns-2
 returns-2 c = search needs
@@ -41,8 +41,8 @@ print-report-spec =
     report-line-requires
     enum-known-written
     array-share-prefix-line
-    slice-aggregate-write-all
-    write-all-requires
-    enum-told
+    slice-aggregate-print
+    print-requires
     returns
+    enum-told
     returns-2)

@@ -18,11 +18,11 @@ enum-known-written c = search needs
 array-share-prefix-line : tie.Need-array-share-prefix-line
 array-share-prefix-line c = let p = c .before .before .before .before .text-line .ensures in fitted-within _ _ (p .0) (c .before .written .given .1) (p .1)
 
-slice-aggregate-write-all : tie.Need-slice-aggregate-write-all
-slice-aggregate-write-all c = let p = c .before .before .before .before .before .text-line .ensures in sym (length-take-le _ _ (fitted-within _ _ (p .0) (c .before .before .written .given .1) (p .1)))
+slice-aggregate-print : tie.Need-slice-aggregate-print
+slice-aggregate-print c = let p = c .before .before .before .before .before .text-line .ensures in sym (length-take-le _ _ (fitted-within _ _ (p .0) (c .before .before .written .given .1) (p .1)))
 
-write-all-requires : tie.Need-write-all-requires
-write-all-requires c κs = search needs
+print-requires : tie.Need-print-requires
+print-requires c κs = search needs
 
 enum-told : tie.Need-enum-told
 enum-told c = search needs
@@ -41,8 +41,8 @@ print-text-spec =
     text-line-requires
     enum-known-written
     array-share-prefix-line
-    slice-aggregate-write-all
-    write-all-requires
+    slice-aggregate-print
+    print-requires
     enum-told
     returns
     returns-2)

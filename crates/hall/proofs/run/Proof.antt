@@ -26,13 +26,16 @@ answer-line-requires c κs = search needs
 print-report-requires : tie.Need-print-report-requires Inv-loop μ-loop
 print-report-requires c κs = search needs
 
+returns : tie.Need-returns Inv-loop μ-loop
+returns c = search needs
+
 rest-requires : tie.Need-rest-requires Inv-loop μ-loop
 rest-requires c κs = search needs
 
-shorter : (c : tie.After-rest Inv-loop μ-loop) → length (c .rest .result .now) < length (c .before .before .before .before .before .loop .lines .now)
+shorter : (c : tie.After-rest Inv-loop μ-loop) → length (c .rest .result .now) < length (c .before .before .before .before .before .before .loop .lines .now)
 shorter c =
-    let s = c .before .before .before .before .before .loop .lines .now in
-    omega (arith, ap length (c .rest .ensures), rest-shorter s (c .before .before .before .before .loop-test .taken))
+    let s = c .before .before .before .before .before .before .loop .lines .now in
+    omega (arith, ap length (c .rest .ensures), rest-shorter s (c .before .before .before .before .before .loop-test .taken))
 
 add-number : tie.Need-add-number Inv-loop μ-loop
 add-number c = omega (arith, shorter c)
@@ -41,13 +44,13 @@ loop-less : tie.Need-loop-less Inv-loop μ-loop
 loop-less c = shorter c
 
 loop-again : tie.Need-loop-again Inv-loop μ-loop
-loop-again c = omega (arith, shorter c, c .before .before .before .before .before .loop .inv)
+loop-again c = omega (arith, shorter c, c .before .before .before .before .before .before .loop .inv)
 
 print-text-requires : tie.Need-print-text-requires Inv-loop μ-loop
 print-text-requires c κs = search needs
 
-returns : tie.Need-returns Inv-loop μ-loop
-returns c = search needs
+returns-2 : tie.Need-returns-2 Inv-loop μ-loop
+returns-2 c = search needs
 
 pub run-spec : {M : Type 1} → statement M
 run-spec =
@@ -59,9 +62,10 @@ run-spec =
     loop-holds
     answer-line-requires
     print-report-requires
+    returns
     rest-requires
     add-number
     loop-less
     loop-again
     print-text-requires
-    returns)
+    returns-2)

@@ -7,14 +7,14 @@ use mathlib.Core.Path.{_≡_, refl, sym}
 use mathlib.Core.Bool.{true}
 use borrow.Author.Needs.{needs}
 use Rattle.lists.specs.Lists.{every}
-use Rattle.woot.specs.Form.{numbers}
+use Rattle.woot.specs.Form.{countdown}
 use Rattle.well_formed.specs.Form.{senderWithin, sharesIn}
 use Rattle.well_formed.proofs.Throughout.{numbers-more, numbers-fail}
 use Rattle.well_formed.proofs.shares_kept.Statement.{statement}
 use Rattle.well_formed.proofs.shares_kept.Tie as tie
 
 abbrev Inv-loop : tie.InvT-loop
-Inv-loop senders site₀ site = (site ≤ 16) × (every (senderWithin senders) (numbers site) ≡ true)
+Inv-loop senders site₀ site = (site ≤ 16) × (every (senderWithin senders) (countdown site) ≡ true)
 
 abbrev μ-loop : tie.MeasureT-loop
 μ-loop senders site₀ site = 16 - site

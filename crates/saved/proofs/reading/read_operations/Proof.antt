@@ -6,7 +6,7 @@ use native.Mathlib.Omega.{arith}
 use lib.ListN.{length, getD}
 use borrow.Author.Needs.{needs}
 use borrow.Author.Tests.{not-true, not-false}
-use Rattle.woot.specs.State.{initial, waiting, documentOf, stored}
+use Rattle.woot.specs.State.{initial, slotOf, documentOf, stored}
 use Rattle.lines.specs.Lines.{lines}
 use Rattle.saved.specs.Reading.{operationRead}
 use Rattle.lines.proofs.Lines.{rest-shorter}
@@ -67,7 +67,7 @@ loop-less c =
     omega (arith, rest-shorter (l .left .now) (c .before .before .before .before .before .before .before .loop-test .taken), ap length (c .rest .ensures))
 
 loop-again : tie.Need-loop-again Inv-loop μ-loop
-unfolding waiting
+unfolding slotOf
 loop-again c =
     operations-more (c .before .before .before .before .before .before .before .before .loop .inv) (c .before .before .before .before .before .before .before .loop-test .taken) _ (line-read (c .before .before .before .before .before)) (not-false _ (c .before .before .before .if1 .left))
     (⊎-elim (λ w. inl (w .0 .taken, w .1)) (λ w. inr (w .0 .left, w .1)) (c .before .before .if2 .came))

@@ -2,7 +2,7 @@
 use Prim.Native.Nat.{min}
 use native.Mathlib.Omega.{arith}
 use borrow.Author.Needs.{needs}
-use Rattle.woot.specs.State.{waiting, blankPending}
+use Rattle.woot.specs.State.{slotOf, blankPending}
 use Rattle.storage.proofs.Padding.{pad-after}
 use Rattle.storage.proofs.arrays.pushed.Statement.{statement}
 use Rattle.storage.proofs.arrays.pushed.Tie as tie
@@ -20,7 +20,7 @@ array-set-from-out : tie.Need-array-set-from-out
 array-set-from-out c = search needs
 
 returns : tie.Need-returns
-unfolding waiting
+unfolding slotOf
 returns c =
     let a = c .before .before .args in
     rw (c .kept-pending .ensures, c .before .lesser .ensures)

@@ -24,7 +24,7 @@ add-held : tie.Need-add-held
 add-held c = omega (arith, within c)
 
 sub-room : tie.Need-sub-room
-sub-room c = within c
+sub-room c = omega (arith, within c)
 
 count-requires : tie.Need-count-requires
 count-requires c κs = search needs
