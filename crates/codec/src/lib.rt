@@ -15,7 +15,8 @@ ghost use Rattle.output.specs.Output.{placed, past};
 ghost use Rattle.lines.specs.Lines.{rest};
 ghost use Rattle.lines.specs.Fields.{fields, valuesOf, atMost};
 ghost use Rattle.lines.specs.Answers.{byVerdict, roomFor};
-ghost use Rattle.codec.specs.Operations.{insertNumbers, insertLimits, insertOf, isInsert, deleteNumbers, deleteLimits, deleteOf, isDelete, operationLine};
+ghost use Rattle.codec.specs.Operations.{insertNumbers, insertLimits, insertOf, isInsert};
+ghost use Rattle.codec.specs.Operations.{deleteNumbers, deleteLimits, deleteOf, isDelete, operationLine};
 ghost use Rattle.codec.specs.Calls.{readAs, readLine, readOperation, written, outAfter};
 
 // The head words of the lines.
@@ -63,7 +64,8 @@ fn delete_of(values: [u64; 9]) -> Delete
 
 // What a line is read as by the verdict on its numbers and the operation that they say.
 fn judged(verdict: Verdict, operation: Operation) -> Read
-    ensures { λ r. ⌜ r ≡ byVerdict verdict (Read.Refused Refusal.Layout) (Read.Refused Refusal.Range) (readAs true operation) ⌝ }
+    ensures { λ r. ⌜ r
+        ≡ byVerdict verdict (Read.Refused Refusal.Layout) (Read.Refused Refusal.Range) (readAs true operation) ⌝ }
 {
     match verdict {
         Verdict::Malformed => Read::Refused(Refusal::Layout),
@@ -79,7 +81,9 @@ fn judged(verdict: Verdict, operation: Operation) -> Read
 
 // Reads a line as an insert's.
 fn read_insert(line: &[u8]) -> Read
-    ensures { λ r. ⌜ r ≡ readAs (isInsert (fields (now (line .entry)))) (Operation.Insert (insertOf (valuesOf (fields (now (line .entry)))))) ⌝ }
+    ensures { λ r. ⌜ r
+        ≡ readAs (isInsert (fields (now (line .entry))))
+        (Operation.Insert (insertOf (valuesOf (fields (now (line .entry)))))) ⌝ }
 {
     let head = [INSERT];
     let limits = [16u64, 65535, 1114111, 16, 65535, 16, 65535];
@@ -91,7 +95,9 @@ fn read_insert(line: &[u8]) -> Read
 
 // Reads a line as a delete's.
 fn read_delete(line: &[u8]) -> Read
-    ensures { λ r. ⌜ r ≡ readAs (isDelete (fields (now (line .entry)))) (Operation.Delete (deleteOf (valuesOf (fields (now (line .entry)))))) ⌝ }
+    ensures { λ r. ⌜ r
+        ≡ readAs (isDelete (fields (now (line .entry))))
+        (Operation.Delete (deleteOf (valuesOf (fields (now (line .entry)))))) ⌝ }
 {
     let head = [DELETE];
     let limits = [16u64, 16, 65535];
@@ -168,7 +174,8 @@ pub fn measure(o: Operation, size: usize, at: usize) -> Room
     }
 }
 
-// Puts the line of an operation into the slice at the offset, all of it or nothing, and answers the offset just past it.
+// Puts the line of an operation into the slice at the offset, all of it or nothing, and answers the offset just past
+// it.
 pub fn put_operation(o: Operation, out: &mut [u8], at: usize) -> usize
     ensures { λ r. ⌜ r ≡ past (now (out .entry)) at (operationLine o) ⌝ }
     ensures { λ r. ⌜ now (out .exit) ≡ placed (now (out .entry)) at (operationLine o) ⌝ }
@@ -187,8 +194,8 @@ pub fn put_operation(o: Operation, out: &mut [u8], at: usize) -> usize
     }
 }
 
-// What a writer answers that put bytes at the front of a slice, by the offset just past them: where there was no room for
-// them, that did not move.
+// What a writer answers that put bytes at the front of a slice, by the offset just past them: where there was no room
+// for them, that did not move.
 pub fn fitted(past: usize) -> Written
     ensures { λ r. ⌜ r ≡ cond (eqb past 0) (Written.Refused Refusal.Output) (Written.Length past) ⌝ }
 {

@@ -136,7 +136,8 @@ pub fn width(n: u64) -> usize
 
 // Puts the digits of a number into the slice at the offset, all of them or none, and answers the offset just past them.
 pub fn write(n: u64, out: &mut [u8], at: usize) -> usize
-    ensures { λ r. ⌜ (r ≡ past (now (out .entry)) at (digits n)) × (now (out .exit) ≡ placed (now (out .entry)) at (digits n)) ⌝ }
+    ensures { λ r. ⌜ (r ≡ past (now (out .entry)) at (digits n))
+        × (now (out .exit) ≡ placed (now (out .entry)) at (digits n)) ⌝ }
 {
     let a = align(n);
     let bytes = a.bytes;

@@ -1,5 +1,5 @@
-// Lines of numbers: a head word, then numerals, each after a tab, and a line feed at the end. One reader, one measure and
-// one writer serve every such line, whatever its head word and its numbers.
+// Lines of numbers: a head word, then numerals, each after a tab, and a line feed at the end. One reader, one measure
+// and one writer serve every such line, whatever its head word and its numbers.
 use decimal::Field;
 ghost use mathlib.Core.Path.{_≡_};
 ghost use mathlib.Core.Bool.{cond};
@@ -144,7 +144,8 @@ fn read_numbers(line: &[u8], from: usize, limits: &[u64]) -> Numbers
 // Reads a line, without its line feed, that is the head word and one number for each limit. Limits past the ninth are
 // left out.
 pub fn read(line: &[u8], head: &[u8], limits: &[u64]) -> Numbers
-    ensures { λ r. ⌜ r ≡ numbersOf (now (head .entry)) (take slots (now (limits .entry))) (fields (now (line .entry))) ⌝ }
+    ensures { λ r. ⌜ r
+        ≡ numbersOf (now (head .entry)) (take slots (now (limits .entry))) (fields (now (line .entry))) ⌝ }
 {
     let end = find(line, 0, TAB);
     if !same_bytes(&line[..end], head) {
@@ -183,7 +184,8 @@ pub fn measure(head: &[u8], numbers: &[u64], size: usize, at: usize) -> Room
 // Puts a line into the slice at the offset, all of it or nothing, and answers the offset just past it.
 pub fn put(head: &[u8], numbers: &[u64], out: &mut [u8], at: usize) -> usize
     ensures { λ r. ⌜ r ≡ past (now (out .entry)) at (lineOf (now (head .entry)) (now (numbers .entry))) ⌝ }
-    ensures { λ r. ⌜ now (out .exit) ≡ placed (now (out .entry)) at (lineOf (now (head .entry)) (now (numbers .entry))) ⌝ }
+    ensures { λ r. ⌜ now (out .exit)
+        ≡ placed (now (out .entry)) at (lineOf (now (head .entry)) (now (numbers .entry))) ⌝ }
 {
     let space = measure(head, numbers, out.len(), at);
     if let Room::Short = space {

@@ -18,7 +18,8 @@ pub fn has_room(size: usize, at: usize, count: usize) -> bool
 
 // Puts the bytes into the slice at the offset, all of them or none, and answers the offset just past them.
 pub fn put_all(out: &mut [u8], at: usize, bytes: &[u8]) -> usize
-    ensures { λ r. ⌜ (r ≡ past (now (out .entry)) at (now (bytes .entry))) × (now (out .exit) ≡ placed (now (out .entry)) at (now (bytes .entry))) ⌝ }
+    ensures { λ r. ⌜ (r ≡ past (now (out .entry)) at (now (bytes .entry)))
+        × (now (out .exit) ≡ placed (now (out .entry)) at (now (bytes .entry))) ⌝ }
 {
     if !has_room(out.len(), at, bytes.len()) {
         return at;
@@ -33,7 +34,8 @@ pub fn put_all(out: &mut [u8], at: usize, bytes: &[u8]) -> usize
 
 // Puts one byte into the slice at the offset, if there is room, and answers the offset just past it.
 pub fn put(out: &mut [u8], at: usize, byte: u8) -> usize
-    ensures { λ r. ⌜ (r ≡ past (now (out .entry)) at (byte ∷ [])) × (now (out .exit) ≡ placed (now (out .entry)) at (byte ∷ [])) ⌝ }
+    ensures { λ r. ⌜ (r ≡ past (now (out .entry)) at (byte ∷ []))
+        × (now (out .exit) ≡ placed (now (out .entry)) at (byte ∷ [])) ⌝ }
 {
     if at < out.len() {
         out[at] = byte;

@@ -10,7 +10,8 @@ ghost use mathlib.Core.Path.{_≡_};
 ghost use mathlib.Core.Bool.{_||_};
 ghost use Rattle.woot.specs.Limits.{lastClock};
 ghost use Rattle.woot.specs.Identifiers.{same};
-ghost use Rattle.woot.specs.Ranges.{within, siteNumber, codePoint, characterId, previousId, nextId, siteInRange, insertInRange, deleteInRange, inRange, characterInRange};
+ghost use Rattle.woot.specs.Ranges.{within, siteNumber, codePoint, characterId, previousId};
+ghost use Rattle.woot.specs.Ranges.{nextId, siteInRange, insertInRange, deleteInRange, inRange, characterInRange};
 
 // Whether a number is one of a site.
 pub fn site_number(n: u8) -> bool

@@ -22,7 +22,8 @@ ghost use Rattle.report.specs.Lines.{reportLine, textLine, listing};
 fn put_report(number: u64, word: &[u8], values: [u64; 3], out: &mut [u8]) -> Written
     requires { ⌜ length (now word) ≤ 7 ⌝ }
     ensures { λ r. ⌜ r ≡ fitted (lineOf (digits number ++ tab ∷ now (word .entry)) values) (now (out .entry)) ⌝ }
-    ensures { λ r. ⌜ now (out .exit) ≡ placed (now (out .entry)) 0 (lineOf (digits number ++ tab ∷ now (word .entry)) values) ⌝ }
+    ensures { λ r. ⌜ now (out .exit)
+        ≡ placed (now (out .entry)) 0 (lineOf (digits number ++ tab ∷ now (word .entry)) values) ⌝ }
 {
     let mut head = [0u8; 28];
     let mut end = decimal::write(number, &mut head, 0);
@@ -105,7 +106,8 @@ fn put_text(cs: [Character; 1024], n: usize, out: &mut [u8]) -> Written
     codec::fitted(lines::put(&head, &values[..size], out, 0))
 }
 
-// Writes the line of a replica's visible characters at the front of the slice. A slice that is too short keeps every byte.
+// Writes the line of a replica's visible characters at the front of the slice. A slice that is too short keeps every
+// byte.
 pub fn text_line(r: Replica, out: &mut [u8]) -> Written
     ensures { λ x. ⌜ x ≡ fitted (textLine (meaning r .characters)) (now (out .entry)) ⌝ }
     ensures { λ x. ⌜ now (out .exit) ≡ placed (now (out .entry)) 0 (textLine (meaning r .characters)) ⌝ }

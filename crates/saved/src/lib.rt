@@ -59,8 +59,8 @@ fn assemble(site: Site, characters: Characters, operations: Operations) -> Repli
     Replica { site, document }
 }
 
-// Reads a saved replica whose form is not checked: its counts may be above its arrays. A fault of the layout comes first,
-// wherever it is, and then a number out of range.
+// Reads a saved replica whose form is not checked: its counts may be above its arrays. A fault of the layout comes
+// first, wherever it is, and then a number out of range.
 pub fn read(bytes: &[u8]) -> Loaded
     ensures { λ r. ⌜ r ≡ savedRead (now (bytes .entry)) ⌝ }
 {
@@ -108,8 +108,8 @@ pub fn load(bytes: &[u8]) -> Loaded
     found
 }
 
-// Writes a replica, in form or not, at the front of the slice; of counts above its arrays, what these hold. A refused call
-// leaves every byte as it was.
+// Writes a replica, in form or not, at the front of the slice; of counts above its arrays, what these hold. A refused
+// call leaves every byte as it was.
 pub fn put(replica: Replica, out: &mut [u8]) -> Written
     ensures { λ r. ⌜ r ≡ fitted (bytesOf replica) (now (out .entry)) ⌝ }
     ensures { λ r. ⌜ now (out .exit) ≡ placed (now (out .entry)) 0 (bytesOf replica) ⌝ }

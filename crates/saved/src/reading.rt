@@ -1,5 +1,5 @@
-// Reading the lines of a saved replica: a line of each kind, and lines of a kind that follow each other. A line that is out
-// of range, or has no slot left, does not end the reading: a fault of the layout after it comes first.
+// Reading the lines of a saved replica: a line of each kind, and lines of a kind that follow each other. A line that is
+// out of range, or has no slot left, does not end the reading: a fault of the layout after it comes first.
 use crate::CHARACTER;
 use crate::SITE;
 use codec::Read;
@@ -20,7 +20,8 @@ ghost use lib.ListN.{length, drop, getD};
 ghost use Rattle.lines.specs.Lines.{lines, closed, leading};
 ghost use Rattle.lines.specs.Fields.{atMost};
 ghost use Rattle.saved.specs.Format.{siteLimits, siteOf, characterLimits, characterOf, isCharacter};
-ghost use Rattle.saved.specs.Reading.{judgedAs, siteRead, characterRead, noOperation, operationRead, charactersRead, noOperations, operationsRead};
+ghost use Rattle.saved.specs.Reading.{judgedAs, siteRead, characterRead, noOperation};
+ghost use Rattle.saved.specs.Reading.{operationRead, charactersRead, noOperations, operationsRead};
 
 // Whether a line has the layout of its kind, and whether what it says is in range too.
 pub(crate) struct Judged {

@@ -75,7 +75,8 @@ pub fn encode(code_point: u32) -> Encoded
 // Puts the bytes of the code point into the slice at the offset, all of them or none, and answers the offset just past
 // them.
 pub fn write(code_point: u32, out: &mut [u8], at: usize) -> usize
-    ensures { λ r. ⌜ (r ≡ past (now (out .entry)) at (encode «code_point»)) × (now (out .exit) ≡ placed (now (out .entry)) at (encode «code_point»)) ⌝ }
+    ensures { λ r. ⌜ (r ≡ past (now (out .entry)) at (encode «code_point»))
+        × (now (out .exit) ≡ placed (now (out .entry)) at (encode «code_point»)) ⌝ }
 {
     let e = encode(code_point);
     let bytes = e.bytes;

@@ -1,5 +1,5 @@
-// What the calls do once nothing that was handed is refused for its layout or range: the rule, and then the bytes of what
-// it leaves.
+// What the calls do once nothing that was handed is refused for its layout or range: the rule, and then the bytes of
+// what it leaves.
 use crate::results;
 use lines::Room;
 use pending::queue;
@@ -135,7 +135,8 @@ fn save_both(
     out: &mut [u8],
     line: &mut [u8],
 ) -> u64
-    ensures { λ r. ⌜ Leaves (writingBoth answer (bytesOf replica) (operationLine operation) (now (out .entry)) (now (line .entry)))
+    ensures { λ r. ⌜ Leaves (writingBoth answer (bytesOf replica) (operationLine operation)
+        (now (out .entry)) (now (line .entry)))
         r (now (out .exit)) (now (line .exit)) ⌝ }
 {
     let space = codec::measure(operation, line.len(), 0);

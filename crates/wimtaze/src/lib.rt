@@ -69,7 +69,8 @@ pub extern "C" fn wimtaze_counts(bytes: &[u8]) -> u64
 // Receives the operation of a line, and writes the new saved replica.
 #[no_mangle]
 pub extern "C" fn wimtaze_receive(bytes: &[u8], line: &[u8], out: &mut [u8]) -> u64
-    ensures { λ r. ⌜ Leaves (receivingLine (now (bytes .entry)) (now (line .entry)) (now (out .entry))) r (now (out .exit)) [] ⌝ }
+    ensures { λ r. ⌜ Leaves (receivingLine (now (bytes .entry)) (now (line .entry)) (now (out .entry)))
+        r (now (out .exit)) [] ⌝ }
 {
     let loaded = saved::read(bytes);
     let answer = loaded.answer;
@@ -94,7 +95,8 @@ pub extern "C" fn wimtaze_erase(
     out: &mut [u8],
     line_out: &mut [u8],
 ) -> u64
-    ensures { λ r. ⌜ Leaves (erasing (now (bytes .entry)) index (now (out .entry)) (now («line_out» .entry))) r (now (out .exit)) (now («line_out» .exit)) ⌝ }
+    ensures { λ r. ⌜ Leaves (erasing (now (bytes .entry)) index (now (out .entry)) (now («line_out» .entry)))
+        r (now (out .exit)) (now («line_out» .exit)) ⌝ }
 {
     let loaded = saved::read(bytes);
     let answer = loaded.answer;
@@ -116,7 +118,9 @@ pub extern "C" fn wimtaze_type(
     out: &mut [u8],
     line_out: &mut [u8],
 ) -> u64
-    ensures { λ r. ⌜ Leaves (typing (now (bytes .entry)) point «code_point» (now (out .entry)) (now («line_out» .entry))) r (now (out .exit)) (now («line_out» .exit)) ⌝ }
+    ensures { λ r. ⌜ Leaves (typing (now (bytes .entry)) point «code_point»
+        (now (out .entry)) (now («line_out» .entry)))
+        r (now (out .exit)) (now («line_out» .exit)) ⌝ }
 {
     let loaded = saved::read(bytes);
     let answer = loaded.answer;
