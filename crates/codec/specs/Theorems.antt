@@ -48,17 +48,25 @@ longestInsert =
 abbrev pub longestDelete : Operation
 longestDelete = delete (record { sender = 16; target = record { site = 16; clock = 65535 } })
 
--- "at most 37 bytes", "at most 14 bytes"
+-- "at most 37 bytes"
+abbrev pub insertMost : ℕ
+insertMost = 37
+
+-- "at most 14 bytes"
+abbrev pub deleteMost : ℕ
+deleteMost = 14
+
+-- no line of an operation in range is longer
 abbrev pub LineLengths : Type 0
 LineLengths =
-    ((i : Insert) → inRange (insert i) ≡ true → length (operationLine (insert i)) ≤ 37)
-    × ((d : Delete) → inRange (delete d) ≡ true → length (operationLine (delete d)) ≤ 14)
+    ((i : Insert) → inRange (insert i) ≡ true → length (operationLine (insert i)) ≤ insertMost)
+    × ((d : Delete) → inRange (delete d) ≡ true → length (operationLine (delete d)) ≤ deleteMost)
 
 -- and some have that many: `I 16 65535 1114111 16 65534 16 65533` and `D 16 16 65535`
 abbrev pub LongestLines : Type 0
 LongestLines =
-    ((inRange longestInsert ≡ true) × (length (operationLine longestInsert) ≡ 37))
-    × ((inRange longestDelete ≡ true) × (length (operationLine longestDelete) ≡ 14))
+    ((inRange longestInsert ≡ true) × (length (operationLine longestInsert) ≡ insertMost))
+    × ((inRange longestDelete ≡ true) × (length (operationLine longestDelete) ≡ deleteMost))
 
 -- each byte is a byte, and the last alone is a line feed
 abbrev pub LineBytes : Type 0

@@ -8,3 +8,4 @@ pub mod Sizes
 pub mod Held
 pub mod Loading
 pub mod Saving
+pub mod Examples

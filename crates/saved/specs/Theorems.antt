@@ -3,11 +3,13 @@ use Prim.Native.Nat.{ℕ, _≤_}
 use mathlib.Core.Path.{_≡_}
 use mathlib.Core.Logic.{_↔_}
 use mathlib.Core.Bool.{true, false}
-use mathlib.Core.List.{List}
+use mathlib.Core.List.{List, [], _∷_}
 use lib.ListN.{length}
+use Rattle.woot.specs.declared.Operation.the-variants.{Insert as insert, Delete as delete}
 use Rattle.woot.specs.declared.Replica.{Replica}
 use Rattle.woot.specs.declared.Refusal.{Refusal}
 use Rattle.woot.specs.declared.Written.the-variants.{Refused as writtenRefused}
+use Rattle.woot.specs.Identifiers.{begin, end}
 use Rattle.woot.specs.State.{State, meaning, stored}
 use Rattle.woot.specs.Form.{wellFormed, replicaWellFormed}
 use Rattle.woot.specs.Answers.{Reported}
@@ -41,11 +43,54 @@ HeldForm =
     (replicaWellFormed (held s) ≡ wellFormed s)
     × (wellFormed s ≡ true → (held s ≡ stored s) × (meaning (held s) ≡ s))
 
+-- ---- the layout, on lines of every kind: the round trips would hold of any order of fields
+
+-- laptop 3 at clock 7; 2/1 shown and 1/4 hidden behind it; an insert of 5/2 and an erase by 6 wait
+abbrev pub exampleState : State
+exampleState =
+    record {
+      site = record { number = 3; clock = 7 };
+      characters =
+          record { id = record { site = 2; clock = 1 }; «code_point» = 66; visible = true; previous = begin; next = end }
+          ∷ record {
+            id = record { site = 1; clock = 4 };
+            «code_point» = 65;
+            visible = false;
+            previous = record { site = 2; clock = 1 };
+            next = end;
+          }
+          ∷ [];
+      pending =
+          insert (record {
+            id = record { site = 5; clock = 2 };
+            «code_point» = 8364;
+            previous = record { site = 4; clock = 1 };
+            next = end;
+          })
+          ∷ delete (record { sender = 6; target = record { site = 4; clock = 9 } })
+          ∷ [];
+    }
+
+-- `S 3 7`, `C 2 1 66 1 0 0 0 1`, `C 1 4 65 0 2 1 0 1`, `I 5 2 8364 4 1 0 1`, `D 6 4 9`, with tabs for the spaces
+abbrev pub exampleBytes : List ℕ
+exampleBytes =
+    83 ∷ 9 ∷ 51 ∷ 9 ∷ 55 ∷ 10
+    ∷ 67 ∷ 9 ∷ 50 ∷ 9 ∷ 49 ∷ 9 ∷ 54 ∷ 54 ∷ 9 ∷ 49 ∷ 9 ∷ 48 ∷ 9 ∷ 48 ∷ 9 ∷ 48 ∷ 9 ∷ 49 ∷ 10
+    ∷ 67 ∷ 9 ∷ 49 ∷ 9 ∷ 52 ∷ 9 ∷ 54 ∷ 53 ∷ 9 ∷ 48 ∷ 9 ∷ 50 ∷ 9 ∷ 49 ∷ 9 ∷ 48 ∷ 9 ∷ 49 ∷ 10
+    ∷ 73 ∷ 9 ∷ 53 ∷ 9 ∷ 50 ∷ 9 ∷ 56 ∷ 51 ∷ 54 ∷ 52 ∷ 9 ∷ 52 ∷ 9 ∷ 49 ∷ 9 ∷ 48 ∷ 9 ∷ 49 ∷ 10
+    ∷ 68 ∷ 9 ∷ 54 ∷ 9 ∷ 52 ∷ 9 ∷ 57 ∷ 10 ∷ []
+
+abbrev pub SavedExample : Type 0
+SavedExample = savedBytes exampleState ≡ exampleBytes
+
 -- ---- sizes
 
 -- "at most 47,115 bytes"
+abbrev pub savedMost : ℕ
+savedMost = 47115
+
 abbrev pub SavedLength : Type 0
-SavedLength = (s : State) → wellFormed s ≡ true → length (savedBytes s) ≤ 47115
+SavedLength = (s : State) → wellFormed s ≡ true → length (savedBytes s) ≤ savedMost
 
 -- ---- refusals: any bytes, any replica, any slice
 
