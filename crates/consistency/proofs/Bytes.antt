@@ -39,7 +39,7 @@ use Rattle.wimtaze.proofs.Fitting.{results-fit}
 use Rattle.consistency.specs.Copies.{BytesCall, load, receiveLine, type, erase, bytesCall, asBytes, bytesAfter, wordRead, writtenRead, wordOf, keptBytes, afterLoading, whenDone, byEffect, onBytes, stepOn}
 use Rattle.consistency.proofs.Holding.{Holds, memory, bytes, nothing, Step, left, made, Steps, carries, changed-formed}
 use Rattle.consistency.proofs.Returned.{kept, word-returned, effect-returned}
-use Rattle.consistency.proofs.Saving.{front}
+use Rattle.wimtaze.proofs.Kept.{front}
 
 -- the effect e on the bytes b, as a step by the call c of the rules
 Follows : State → List ℕ → RuleCall → Effect → Type 0

@@ -25,7 +25,7 @@ use Rattle.consistency.specs.Copies.{Copy, Call, memoryCall, bytesCall, 
 use Rattle.consistency.specs.Theorems.{CopiesFollow, CopiesConverge}
 use Rattle.consistency.proofs.Holding.{Holds, memory, bytes, nothing, left, made, Steps, says}
 use Rattle.consistency.proofs.Returned.{kept, effect-returned}
-use Rattle.consistency.proofs.Saving.{front}
+use Rattle.wimtaze.proofs.Kept.{front}
 use Rattle.consistency.proofs.Memory.{memory-step}
 use Rattle.consistency.proofs.Bytes.{bytes-step, nothing-step}
 

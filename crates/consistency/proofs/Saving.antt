@@ -8,8 +8,6 @@ use lib.Dec.{ltb}
 use lib.ListN.{length, take}
 use lib.Seq.{take-append-seam}
 use borrow.Author.Tests.{ltb-false}
-use Rattle.output.specs.Output.{placed}
-use Rattle.output.proofs.Laws.{placed-room}
 use Rattle.woot.specs.declared.Refusal.{Refusal}
 use Rattle.woot.specs.declared.Refusal.the-variants.{Output}
 use Rattle.woot.specs.declared.Written.the-variants.{Length, Refused}
@@ -20,16 +18,13 @@ use Rattle.codec.specs.Calls.{fitted}
 use Rattle.saved.specs.Format.{savedBytes}
 use Rattle.saved.specs.Calls.{bytesOf, saved, outAfter}
 use Rattle.saved.proofs.Saving.{unformed, formed}
+use Rattle.wimtaze.proofs.Kept.{front}
 
 -- what saving comes to
 pub data Saving (s : State) (out : List ℕ) : Type 0 where
   fits : {n : ℕ} → wellFormed s ≡ true → saved (stored s) out ≡ Length n →
       take n (outAfter (stored s) out) ≡ savedBytes s → Saving s out
   refuses : {q : Refusal} → saved (stored s) out ≡ Refused q → Saving s out
-
--- the front of a slice is what was put there
-pub front : (out bytes : List ℕ) → length bytes ≤ length out → take (length bytes) (placed out 0 bytes) ≡ bytes
-front out bytes h = ap (take (length bytes)) (placed-room out 0 bytes (omega arith)) ∙ take-append-seam bytes _
 
 pub saving : (s : State) → Within s → (out : List ℕ) → Saving s out
 unfolding bytesOf fitted

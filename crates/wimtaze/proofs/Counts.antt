@@ -40,7 +40,7 @@ use Rattle.convergence.proofs.Steps.{All, first-none, first-some, generated-mad
 use Rattle.convergence.proofs.Kept.{after-insert}
 use Rattle.codec.specs.Operations.{operationLine}
 use Rattle.codec.proofs.Sizes.{line-lengths}
-use Rattle.wimtaze.specs.Theorems.{insertMost, deleteMost}
+use Rattle.codec.specs.Theorems.{insertMost, deleteMost}
 
 -- the refusal is not the one of a short output
 abbrev pub Other : Refusal → Type 0

@@ -3,26 +3,20 @@ use Prim.Native.Nat.{ℕ, _+_, _%_, _/_, _^_, _≤_, _<_}
 use mathlib.Core.Path.{_≡_}
 use mathlib.Core.Bool.{true}
 use mathlib.Core.List.{List}
-use lib.ListN.{length}
+use lib.ListN.{length, take}
+use Rattle.woot.specs.Answers.{known, refused}
+use Rattle.saved.specs.declared.LoadAnswer.the-variants.{Done as loadDone}
+use Rattle.saved.specs.Calls.{loaded}
+use Rattle.wimtaze.specs.Effects.{Effect}
 use Rattle.woot.specs.State.{State}
 use Rattle.woot.specs.Form.{wellFormed}
 use Rattle.woot.specs.Text.{text}
+use Rattle.codec.specs.Theorems.{insertMost, deleteMost}
+use Rattle.saved.specs.Theorems.{savedMost}
 use Rattle.wimtaze.specs.Results.{Result, wordNumber, inBits, numberOf}
 use Rattle.wimtaze.specs.Calls.{beginning, receivingLine, typing, erasing, showingText, counting}
 
 -- ---- sizes: the header's WIMTAZE_SHEET_MAX, WIMTAZE_INSERT_MAX, WIMTAZE_ERASE_MAX and WIMTAZE_TEXT_MAX
-
--- a saved replica has at most this many bytes
-abbrev pub savedMost : ℕ
-savedMost = 47115
-
--- an insert's line
-abbrev pub insertMost : ℕ
-insertMost = 37
-
--- a delete's line
-abbrev pub deleteMost : ℕ
-deleteMost = 14
 
 -- a text: 1,024 characters of 4 bytes each
 abbrev pub textMost : ℕ
@@ -90,6 +84,22 @@ CountsFit = (bytes : List ℕ) → CountsWithin (counting bytes)
 -- and none is cut
 abbrev pub CountsReadBack : Type 0
 CountsReadBack = (bytes : List ℕ) → ReadsBack (counting bytes)
+
+-- ---- the form is kept
+
+-- the bytes that were written, where the word is done or waits, are a saved replica in form: they are loaded
+abbrev pub Loads : Effect → Type 0
+Loads e =
+    (e .result .reply .word ≡ known → ⊥) → (e .result .reply .word ≡ refused → ⊥) →
+    loaded (take (e .result .written) (e .output)) .answer ≡ loadDone
+
+-- "every call keeps the form", of the bytes that a call writes, whatever was handed
+abbrev pub WrittenLoads : Type 0
+WrittenLoads =
+    ((number : ℕ) (out : List ℕ) → Loads (beginning number out))
+    × ((bytes line out : List ℕ) → Loads (receivingLine bytes line out))
+    × ((bytes : List ℕ) (point n : ℕ) (out line : List ℕ) → Loads (typing bytes point n out line))
+    × ((bytes : List ℕ) (index : ℕ) (out line : List ℕ) → Loads (erasing bytes index out line))
 
 -- ---- outputs of the header's sizes
 

@@ -1,0 +1,134 @@
+-- What a call writes is the bytes of a state that the rules left in form, so it is read back; where nothing is written the
+-- word is known or refused.
+use Prim.Native.Nat.{ℕ, _≤_}
+use native.Mathlib.Omega.{arith}
+use mathlib.Core.Path.{_≡_, refl, ap, _∙_}
+use mathlib.Core.Bool.{Bool, true, false, _||_, not, cond}
+use mathlib.Core.Option.{Option, none, some}
+use mathlib.Core.List.{List, [], _∷_}
+use borrow.Author.Tests.{ltb-false, not-false}
+use lib.Dec.{ltb}
+use lib.ListN.{length, take}
+use lib.Seq.{take-append-seam}
+use Rattle.output.specs.Output.{placed}
+use Rattle.output.proofs.Laws.{placed-room}
+use Rattle.woot.specs.declared.Operation.{Operation}
+use Rattle.woot.specs.declared.Refusal.{Refusal}
+use Rattle.woot.specs.declared.Refusal.the-variants.{Range, Output}
+use Rattle.woot.specs.declared.Answer.{Answer}
+use Rattle.woot.specs.declared.Answer.the-variants.{Done, Deferred, Duplicate, Refused}
+use Rattle.woot.specs.declared.Sent.{Sent}
+use Rattle.woot.specs.declared.Sent.the-variants.{Done as sentDone, Refused as sentRefused}
+use Rattle.woot.specs.Ranges.{siteNumber, codePoint, inRange}
+use Rattle.woot.specs.State.{State, initial}
+use Rattle.woot.specs.Form.{wellFormed}
+use Rattle.woot.specs.Answers.{reply, changes, Check, _⇒_, first, NoneHolds, decided}
+use Rattle.woot.specs.Calls.{receive, localInsert, localDelete}
+use Rattle.woot.specs.Histories.{inserting, deleting, receiving, outcome}
+use Rattle.convergence.proofs.Forms.{empty-formed}
+use Rattle.convergence.proofs.Kept.{form-kept}
+use Rattle.convergence.proofs.Steps.{first-none}
+use Rattle.codec.specs.Operations.{operationLine}
+use Rattle.codec.specs.Calls.{saidBy}
+use Rattle.saved.specs.declared.LoadAnswer.the-variants.{Done as loadDone}
+use Rattle.saved.specs.Format.{savedState, savedBytes}
+use Rattle.saved.specs.Calls.{loaded}
+use Rattle.saved.proofs.Trips.{saved-reads-back}
+use Rattle.wimtaze.specs.Results.{result, silent}
+use Rattle.wimtaze.specs.Effects.{Effect, quiet, turned, writing, writingBoth, afterReceiving, sending, afterSending}
+use Rattle.wimtaze.specs.Calls.{inputChecks, oneLine, beginning, receivingLine, typing, erasing}
+use Rattle.wimtaze.specs.Theorems.{Loads, WrittenLoads}
+
+turned-loads : (out line : List ℕ) (q : Refusal) → Loads (turned out line q)
+unfolding turned quiet silent result reply
+turned-loads out line q known refused = absurd (refused refl)
+
+handed-loads : (out line : List ℕ) (cs : List (Check Refusal)) (e : Effect) → (NoneHolds cs → Loads e) → Loads (decided (turned out line) (first cs) e)
+unfolding decided
+handed-loads out line cs e loads = go (first cs) refl
+  where
+    go : (o : Option Refusal) → first cs ≡ o → Loads (decided (turned out line) o e)
+    go none h = loads (first-none cs h)
+    go (some q) h = turned-loads out line q
+
+-- the front of a slice is what was put there
+pub front : (out bytes : List ℕ) → length bytes ≤ length out → take (length bytes) (placed out 0 bytes) ≡ bytes
+front out bytes h = ap (take (length bytes)) (placed-room out 0 bytes (omega arith)) ∙ take-append-seam bytes _
+
+module _ (s : State) (h : wellFormed s ≡ true) where
+  front-loads : (out : List ℕ) → ltb (length out) (length (savedBytes s)) ≡ false
+      → loaded (take (length (savedBytes s)) (placed out 0 (savedBytes s))) .answer ≡ loadDone
+  front-loads out e =
+      rw (front out (savedBytes s) (ltb-false (length out) (length (savedBytes s)) e)) (saved-reads-back s h .0)
+
+  writing-loads : (a : Answer) (out : List ℕ) → Loads (writing a (savedBytes s) out)
+  unfolding writing decided result
+  writing-loads a out = go (ltb (length out) (length (savedBytes s))) refl
+    where
+      go : (b : Bool) → ltb (length out) (length (savedBytes s)) ≡ b
+          → Loads (decided (turned out []) (first ((b ⇒ Output) ∷ [])) (record { result = result a (length (savedBytes s)) 0; output = placed out 0 (savedBytes s); line = [] }))
+      go true e = turned-loads out [] Output
+      go false e = λ known refused. front-loads out e
+
+  both-loads : (a : Answer) (sent out line : List ℕ) → Loads (writingBoth a (savedBytes s) sent out line)
+  unfolding writingBoth decided result
+  both-loads a sent out line = go (ltb (length out) (length (savedBytes s))) (ltb (length line) (length sent)) refl
+    where
+      go : (b c : Bool) → ltb (length out) (length (savedBytes s)) ≡ b
+          → Loads (decided (turned out line) (first ((b || c ⇒ Output) ∷ [])) (record { result = result a (length (savedBytes s)) (length sent); output = placed out 0 (savedBytes s); line = placed line 0 sent }))
+      go true c e = turned-loads out line Output
+      go false true e = turned-loads out line Output
+      go false false e = λ known refused. front-loads out e
+
+-- ---- on a state in form
+
+received-loads : (t : State) (a : Answer) (out : List ℕ) → wellFormed t ≡ true → Loads (cond (changes a) (writing a (savedBytes t) out) (quiet out [] a))
+unfolding changes quiet silent result reply
+received-loads t (Done n m) out h = writing-loads t h (Done n m) out
+received-loads t Deferred out h = writing-loads t h Deferred out
+received-loads t Duplicate out h = λ known refused. absurd (known refl)
+received-loads t (Refused q) out h = λ known refused. absurd (refused refl)
+
+sent-loads : (t : State) (a : Sent) (out line : List ℕ) → wellFormed t ≡ true → Loads (sending t a out line)
+unfolding sending
+sent-loads t (sentDone o n m) out line h = both-loads t h (Done n m) (operationLine o) out line
+sent-loads t (sentRefused q) out line h = turned-loads out line q
+
+-- ---- the calls
+
+module _ (bytes : List ℕ) where
+  abbrev said : State
+  said = savedState bytes
+
+  input-loads : (laid ranged : Bool) (out line : List ℕ) (e : Effect) → (wellFormed said ≡ true → Loads e)
+      → Loads (decided (turned out line) (first (inputChecks bytes laid ranged)) e)
+  unfolding inputChecks
+  input-loads laid ranged out line e loads =
+      handed-loads out line (inputChecks bytes laid ranged) e (λ w. loads (not-false (wellFormed said) (w .1 .1 .0)))
+
+  receive-loads : (line out : List ℕ) → Loads (receivingLine bytes line out)
+  unfolding receivingLine afterReceiving outcome
+  receive-loads line out =
+      input-loads (oneLine line) (inRange (saidBy line)) out [] _
+      (λ h. received-loads (receive said (saidBy line) .state) (receive said (saidBy line) .answer) out (form-kept said (receiving (saidBy line)) h))
+
+  type-loads : (point n : ℕ) (out line : List ℕ) → Loads (typing bytes point n out line)
+  unfolding typing afterSending outcome
+  type-loads point n out line =
+      input-loads true (codePoint n) out line _
+      (λ h. sent-loads (localInsert said point n .state) (localInsert said point n .answer) out line (form-kept said (inserting point n) h))
+
+  erase-loads : (index : ℕ) (out line : List ℕ) → Loads (erasing bytes index out line)
+  unfolding erasing afterSending outcome
+  erase-loads index out line =
+      input-loads true true out line _
+      (λ h. sent-loads (localDelete said index .state) (localDelete said index .answer) out line (form-kept said (deleting index) h))
+
+begin-loads : (number : ℕ) (out : List ℕ) → Loads (beginning number out)
+unfolding beginning
+begin-loads number out =
+    handed-loads out [] ((not (siteNumber number) ⇒ Range) ∷ []) _
+    (λ w. writing-loads (initial number) (empty-formed number ∙ not-false (siteNumber number) (w .0)) (Done 0 0) out)
+
+pub written-loads : WrittenLoads
+written-loads = (begin-loads, receive-loads, type-loads, erase-loads)
