@@ -3,7 +3,7 @@ use Prim.Native.Nat.{ℕ, zero, suc, _+_}
 use mathlib.Core.Bool.{cond}
 use mathlib.Core.List.{List, _++_}
 use lib.Dec.{eqb}
-use lib.ListN.{length}
+use lib.ListN.{length, take}
 use Rattle.woot.specs.declared.Replica.{Replica}
 use Rattle.woot.specs.declared.Receipt.{Receipt}
 use Rattle.woot.specs.declared.Answer.the-variants.{Refused}
@@ -33,6 +33,14 @@ printedFrom (suc most) n r s =
     (textLine (meaning r .characters))
     (reportLine n (a .answer) ++ printedFrom most (n + 1) (a .replica) (rest s))
 
+-- the bytes of the input that count
+abbrev pub inputMost : ℕ
+inputMost = 65536
+
 -- the whole output on the whole input: "it begins with an empty sheet of laptop 16"
 unfoldable pub printed : List ℕ → List ℕ
 printed s = printedFrom (length s) 1 (stored (initial 16)) s
+
+-- "reads the first 65,536 bytes of standard input, takes them as the whole input": all that the program prints
+unfoldable pub hallOutput : List ℕ → List ℕ
+hallOutput input = printed (take inputMost input)
