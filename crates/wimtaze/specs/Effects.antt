@@ -33,7 +33,7 @@ Leaves e r out line = (r ≡ numberOf (e .result)) × (out ≡ e .output) × (li
 unfoldable pub quiet : List ℕ → List ℕ → Answer → Effect
 quiet out line a = record { result = silent a; output = out; line = line }
 
--- "every output byte [is] as before"
+-- "sheet, clock and every output byte are as before"
 unfoldable pub turned : List ℕ → List ℕ → Refusal → Effect
 turned out line q = quiet out line (Refused q)
 
