@@ -122,7 +122,8 @@ fn send_placed(replica: Replica, index: Index, queue: Queue, insert: Insert) -> 
     }
 }
 
-// Inserts a code point at an insertion point among the visible characters.
+// Inserts a code point at an insertion point among the visible characters. A step of the calls and not a call: they
+// have checked the replica and the code point.
 pub fn insert_visible(
     replica: Replica,
     index: Index,
@@ -152,7 +153,8 @@ pub fn insert_visible(
     send_placed(replica, index, queue, i)
 }
 
-// Deletes the visible character at the index, counted from 1.
+// Deletes the visible character at the index, counted from 1. A step of the calls and not a call: they have checked the
+// replica.
 pub fn delete_visible(replica: Replica, index: usize) -> Generated
     requires { ⌜ replicaWellFormed replica ≡ true ⌝ }
     ensures { λ r. ⌜ r ≡ deleted replica index ⌝ }

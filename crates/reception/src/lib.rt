@@ -146,7 +146,7 @@ fn seen_by(replica: Replica, index: Index, queue: Queue, insert: Insert) -> Seen
     }
 }
 
-// Receives an insert.
+// Receives an insert. A step of the calls and not a call: they have checked the replica and the ranges.
 pub fn receive_insert(replica: Replica, index: Index, queue: Queue, insert: Insert) -> Receipt
     requires { ⌜ Examined replica index queue ⌝ }
     requires { ⌜ insertInRange insert ≡ true ⌝ }
@@ -171,7 +171,7 @@ fn receive_absent(replica: Replica, queue: Queue, delete: Delete) -> Receipt
     defer(replica, queue, Operation::Delete(delete))
 }
 
-// Receives a delete.
+// Receives a delete. A step of the calls and not a call: they have checked the replica and the ranges.
 pub fn receive_delete(replica: Replica, index: Index, queue: Queue, delete: Delete) -> Receipt
     requires { ⌜ Examined replica index queue ⌝ }
     requires { ⌜ deleteInRange delete ≡ true ⌝ }
