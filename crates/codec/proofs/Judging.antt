@@ -8,6 +8,7 @@ use lib.ListN.{replicate}
 use Rattle.woot.specs.declared.Operation.{Operation}
 use Rattle.woot.specs.declared.Operation.the-variants.{Insert as insert, Delete as delete}
 use Rattle.woot.specs.declared.Refusal.the-variants.{Layout, Range}
+use Rattle.woot.specs.Answers.{decided}
 use Rattle.woot.specs.Ranges.{inRange}
 use Rattle.lists.proofs.Tests.{fails, clash}
 use Rattle.convergence.proofs.Identifiers.{identifier-path}
@@ -19,7 +20,7 @@ use Rattle.lines.proofs.Verdicts.{verdict-says}
 use Rattle.codec.specs.declared.Read.{Read}
 use Rattle.codec.specs.declared.Read.the-variants.{Operation as readsAs, Refused as readRefused}
 use Rattle.codec.specs.Operations.{identifierAt, insertOf, deleteOf}
-use Rattle.codec.specs.Calls.{decided, readChecks, readAs}
+use Rattle.codec.specs.Calls.{readChecks, readAs}
 
 -- ---- the answers, by their conditions
 

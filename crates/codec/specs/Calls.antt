@@ -2,27 +2,19 @@
 -- conditions in checking order; where none holds, what is done stands below them.
 use Prim.Native.Nat.{ℕ}
 use mathlib.Core.List.{List, [], _∷_}
-use mathlib.Core.Bool.{Bool, _&&_, _||_, not, cond}
-use mathlib.Core.Option.{Option, none, some}
-use lib.Dec.{ltb}
-use lib.ListN.{length}
-use Rattle.output.specs.Output.{placed}
+use mathlib.Core.Bool.{Bool, _&&_, _||_, not}
 use Rattle.woot.specs.declared.Operation.{Operation}
-use Rattle.woot.specs.declared.Refusal.the-variants.{Layout, Range, Output}
-use Rattle.woot.specs.Answers.{Check, _⇒_, first, number}
+use Rattle.woot.specs.declared.Refusal.the-variants.{Layout, Range}
+use Rattle.woot.specs.Answers.{Check, _⇒_, first, decided, number}
+use Rattle.woot.specs.Writing.{writtenAs, outputAfter}
 use Rattle.woot.specs.Ranges.{inRange}
 use Rattle.codec.specs.declared.Read.{Read}
 use Rattle.codec.specs.declared.Read.the-variants.{Operation as readsAs, Refused as readRefused}
 use Rattle.woot.specs.declared.Written.{Written}
-use Rattle.woot.specs.declared.Written.the-variants.{Length, Refused as writtenRefused}
+use Rattle.woot.specs.declared.Written.the-variants.{Refused as writtenRefused}
 use Rattle.lines.specs.Lines.{ended, firstLine}
 use Rattle.lines.specs.Fields.{fields}
 use Rattle.codec.specs.Operations.{isInsert, isDelete, operationOf, operationLine}
-
--- the answer at the first condition that holds; where none does, the other
-unfoldable pub decided : {A : Type 0} → Option A → A → A
-decided none a = a
-decided (some b) a = b
 
 -- ---- reading
 
@@ -39,7 +31,7 @@ unfoldable pub readChecks : Bool → Operation → List (Check Read)
 readChecks laid o = (not laid ⇒ readRefused Layout) ∷ (not (inRange o) ⇒ readRefused Range) ∷ []
 
 unfoldable pub readAs : Bool → Operation → Read
-readAs laid o = decided (first (readChecks laid o)) (readsAs o)
+readAs laid o = decided (λ a. a) (first (readChecks laid o)) (readsAs o)
 
 -- what a line without its line feed is read as
 unfoldable pub readLine : List ℕ → Read
@@ -60,24 +52,14 @@ readNumber (readRefused r) = number r
 
 -- ---- writing
 
--- condition 12 alone: the number of bytes that are put at the front of a slice, or that it is too short for them
-unfoldable pub fitted : List ℕ → List ℕ → Written
-fitted bytes out = cond (ltb (length out) (length bytes)) (writtenRefused Output) (Length (length bytes))
-
--- conditions 2 and 12
-unfoldable pub writeChecks : Operation → List ℕ → List (Check Written)
-writeChecks o out =
-    (not (inRange o) ⇒ writtenRefused Range) ∷ (ltb (length out) (length (operationLine o)) ⇒ writtenRefused Output) ∷ []
+-- condition 2; 12 comes after it
+unfoldable pub writeChecks : Operation → List (Check Written)
+writeChecks o = (not (inRange o) ⇒ writtenRefused Range) ∷ []
 
 -- the length of the line, or a refusal
 unfoldable pub written : Operation → List ℕ → Written
-written o out = decided (first (writeChecks o out)) (Length (length (operationLine o)))
+written o out = writtenAs (writeChecks o) (operationLine o) out
 
--- the lent slice afterwards: the line at its front, or every byte as it was
-unfoldable pub outAfter : Operation → List ℕ → List ℕ
-outAfter o out = cond (inRange o) (placed out 0 (operationLine o)) out
-
--- the refusal's number, or 0
-unfoldable pub writtenNumber : Written → ℕ
-writtenNumber (Length n) = 0
-writtenNumber (writtenRefused r) = number r
+-- every byte of the slice afterwards
+unfoldable pub writtenOut : Operation → List ℕ → List ℕ
+writtenOut o out = outputAfter (writeChecks o) (operationLine o) out

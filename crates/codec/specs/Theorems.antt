@@ -12,11 +12,12 @@ use Rattle.woot.specs.declared.Operation.the-variants.{Insert as insert, Delete
 use Rattle.woot.specs.declared.Refusal.{Refusal}
 use Rattle.woot.specs.Answers.{Reported}
 use Rattle.woot.specs.Ranges.{inRange}
+use Rattle.woot.specs.Writing.{writingChecks, writtenNumber}
 use Rattle.codec.specs.declared.Read.the-variants.{Operation as readsAs, Refused as readRefused}
 use Rattle.woot.specs.declared.Written.the-variants.{Length, Refused as writtenRefused}
 use Rattle.lines.specs.Lines.{lineFeed, rest}
 use Rattle.codec.specs.Operations.{operationLine}
-use Rattle.codec.specs.Calls.{laidOut, saidBy, readChecks, readAs, readOperation, readNumber, writeChecks, written, outAfter, writtenNumber}
+use Rattle.codec.specs.Calls.{laidOut, saidBy, readChecks, readAs, readOperation, readNumber, writeChecks, written, writtenOut}
 
 -- ---- round trips
 
@@ -79,7 +80,8 @@ LineBytes =
 -- the reader answers refusal r exactly when its condition holds and none before it
 abbrev pub ReadRefuses : Type 0
 ReadRefuses =
-    (s : List ℕ) (r : Refusal) → (readOperation s ≡ readRefused r) ↔ Reported (readRefused r) (readChecks (laidOut s) (saidBy s))
+    (s : List ℕ) (r : Refusal) →
+    (readOperation s ≡ readRefused r) ↔ Reported (readRefused r) (readChecks (laidOut s) (saidBy s))
 
 -- by number: 1 where the layout lacks, 2 where it does not and the operation is out of range, else the operation
 abbrev pub ReadNumbers : Type 0
@@ -93,8 +95,9 @@ ReadNumbers =
 abbrev pub WriteRefuses : Type 0
 WriteRefuses =
     (o : Operation) (out : List ℕ) (r : Refusal) →
-    ((written o out ≡ writtenRefused r) ↔ Reported (writtenRefused r) (writeChecks o out))
-    × (written o out ≡ writtenRefused r → outAfter o out ≡ out)
+    ((written o out ≡ writtenRefused r)
+    ↔ Reported (writtenRefused r) (writingChecks (writeChecks o) (operationLine o) out))
+    × (written o out ≡ writtenRefused r → writtenOut o out ≡ out)
 
 -- by number: 2 where the operation is out of range, 12 where it is not and the slice is shorter than the line, else the
 -- line's length
@@ -103,4 +106,5 @@ WriteNumbers =
     (o : Operation) (out : List ℕ) →
     ((writtenNumber (written o out) ≡ 2) ↔ (inRange o ≡ false))
     × ((writtenNumber (written o out) ≡ 12) ↔ ((inRange o ≡ true) × (length out < length (operationLine o))))
-    × ((written o out ≡ Length (length (operationLine o))) ↔ ((inRange o ≡ true) × (length (operationLine o) ≤ length out)))
+    × ((written o out ≡ Length (length (operationLine o)))
+    ↔ ((inRange o ≡ true) × (length (operationLine o) ≤ length out)))

@@ -17,7 +17,7 @@ ghost use Rattle.lines.specs.Fields.{fields, valuesOf, atMost};
 ghost use Rattle.lines.specs.Answers.{byVerdict, roomFor};
 ghost use Rattle.codec.specs.Operations.{insertNumbers, insertLimits, insertOf, isInsert};
 ghost use Rattle.codec.specs.Operations.{deleteNumbers, deleteLimits, deleteOf, isDelete, operationLine};
-ghost use Rattle.codec.specs.Calls.{readAs, readLine, readOperation, written, outAfter};
+ghost use Rattle.codec.specs.Calls.{readAs, readLine, readOperation, written, writtenOut};
 
 // The head words of the lines.
 const INSERT: u8 = 73;
@@ -208,7 +208,7 @@ pub fn fitted(past: usize) -> Written
 // Writes the line of an operation at the front of the slice. A refused call leaves every byte as it was.
 pub fn write_operation(o: Operation, out: &mut [u8]) -> Written
     ensures { λ r. ⌜ r ≡ written o (now (out .entry)) ⌝ }
-    ensures { λ r. ⌜ now (out .exit) ≡ outAfter o (now (out .entry)) ⌝ }
+    ensures { λ r. ⌜ now (out .exit) ≡ writtenOut o (now (out .entry)) ⌝ }
 {
     if !ranges::in_range(o) {
         return Written::Refused(Refusal::Range);

@@ -1,8 +1,8 @@
 -- A call on saved bytes: what they say is read back, and the effect is a refusal, known, or the bytes of the state that
 -- the rules leave.
-use Prim.Native.Nat.{ℕ, _≤_, _<_}
+use Prim.Native.Nat.{ℕ, _<_}
 use native.Mathlib.Omega.{arith}
-use mathlib.Core.Path.{_≡_, refl, ap, _∙_}
+use mathlib.Core.Path.{_≡_, refl, ap}
 use mathlib.Core.Bool.{Bool, true, false, _||_, cond, false≢true}
 use mathlib.Core.List.{List, [], _∷_}
 use mathlib.Core.Option.{Option, none, some}
@@ -29,7 +29,7 @@ use Rattle.lines.specs.Fields.{hasLayout}
 use Rattle.codec.specs.Operations.{operationLine}
 use Rattle.codec.specs.Calls.{saidBy}
 use Rattle.saved.specs.Format.{isSite, headLine, savedLaidOut, savedState, savedBytes}
-use Rattle.saved.specs.Calls.{loadChecks, loadedAs, loaded}
+use Rattle.saved.specs.Calls.{loadChecks, unread, loaded}
 use Rattle.saved.proofs.Trips.{saved-says, saved-reads-back}
 use Rattle.wimtaze.specs.Results.{result, silent, inBits, numberOf}
 use Rattle.wimtaze.specs.Effects.{Effect, quiet, turned, writing, writingBoth, afterReceiving, sending, afterSending}
@@ -163,7 +163,7 @@ unfolding savedLaidOut closed headLine isSite hasLayout
 no-bytes = refl
 
 pub nothing-step : (c : BytesCall) → Steps (initial 0) (asBytes []) (bytesCall c)
-unfolding stepOn onBytes byEffect afterLoading loaded loadChecks loadedAs receivingLine typing erasing inputChecks decided
+unfolding stepOn onBytes byEffect afterLoading loaded loadChecks unread receivingLine typing erasing inputChecks decided
     turned quiet silent result keptBytes wordOf wordRead writtenRead numberOf inBits bytesAfter reply whenDone
 nothing-step load = rw no-bytes (left nothing refl)
 nothing-step (receiveLine line out) = rw no-bytes (left nothing refl)

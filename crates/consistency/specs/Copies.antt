@@ -22,7 +22,7 @@ use Rattle.report.specs.Calls.{answered}
 use Rattle.saved.specs.declared.LoadAnswer.{LoadAnswer}
 use Rattle.saved.specs.declared.LoadAnswer.the-variants.{Done as loadDone, Refused as loadRefused}
 use Rattle.saved.specs.Format.{savedState}
-use Rattle.saved.specs.Calls.{loaded, saved, outAfter}
+use Rattle.saved.specs.Calls.{loaded, saved, savedOut}
 use Rattle.wimtaze.specs.Results.{numberOf}
 use Rattle.wimtaze.specs.Effects.{Effect}
 use Rattle.wimtaze.specs.Calls.{beginning, receivingLine, typing, erasing}
@@ -130,7 +130,7 @@ onMemory r (onLine s) =
       copy = inMemory (answered r s .replica);
       carried = whenDone (reply (answered r s .answer) .word) (meaning r) (receiving (saidBy s));
     }
-onMemory r (save out) = record { copy = afterSaving r (outAfter r out) (saved r out); carried = [] }
+onMemory r (save out) = record { copy = afterSaving r (savedOut r out) (saved r out); carried = [] }
 
 -- a C call on bytes, which makes the call of the rules on what they say
 unfoldable pub byEffect : List ℕ → Effect → RuleCall → Stepped

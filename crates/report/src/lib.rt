@@ -7,23 +7,22 @@ use woot::Refusal;
 use woot::Replica;
 use woot::Written;
 ghost use mathlib.Core.Path.{_≡_};
-ghost use mathlib.Core.List.{_++_, _∷_};
-ghost use Prim.Native.Nat.{_≤_, min};
+ghost use mathlib.Core.List.{[], _++_, _∷_};
+ghost use Prim.Native.Nat.{_≤_};
 ghost use lib.ListN.{length, take};
-ghost use Rattle.output.specs.Output.{placed};
 ghost use Rattle.decimal.specs.Numeral.{digits};
 ghost use Rattle.lines.specs.Fields.{tab, lineOf};
 ghost use Rattle.woot.specs.State.{meaning};
-ghost use Rattle.codec.specs.Calls.{fitted};
+ghost use Rattle.woot.specs.Writing.{writtenAs, outputAfter};
 ghost use Rattle.report.specs.Calls.{answered};
 ghost use Rattle.report.specs.Lines.{reportLine, textLine, listing};
 
 // Writes a line of a number, a word and three numbers at the front of the slice, all of it or nothing.
 fn put_report(number: u64, word: &[u8], values: [u64; 3], out: &mut [u8]) -> Written
     requires { ⌜ length (now word) ≤ 7 ⌝ }
-    ensures { λ r. ⌜ r ≡ fitted (lineOf (digits number ++ tab ∷ now (word .entry)) values) (now (out .entry)) ⌝ }
+    ensures { λ r. ⌜ r ≡ writtenAs [] (lineOf (digits number ++ tab ∷ now (word .entry)) values) (now (out .entry)) ⌝ }
     ensures { λ r. ⌜ now (out .exit)
-        ≡ placed (now (out .entry)) 0 (lineOf (digits number ++ tab ∷ now (word .entry)) values) ⌝ }
+        ≡ outputAfter [] (lineOf (digits number ++ tab ∷ now (word .entry)) values) (now (out .entry)) ⌝ }
 {
     let mut head = [0u8; 28];
     let mut end = decimal::write(number, &mut head, 0);
@@ -34,8 +33,8 @@ fn put_report(number: u64, word: &[u8], values: [u64; 3], out: &mut [u8]) -> Wri
 
 // Writes the line on one line of input at the front of the slice. A slice that is too short keeps every byte.
 pub fn report_line(number: u64, answer: Answer, out: &mut [u8]) -> Written
-    ensures { λ r. ⌜ r ≡ fitted (reportLine number answer) (now (out .entry)) ⌝ }
-    ensures { λ r. ⌜ now (out .exit) ≡ placed (now (out .entry)) 0 (reportLine number answer) ⌝ }
+    ensures { λ r. ⌜ r ≡ writtenAs [] (reportLine number answer) (now (out .entry)) ⌝ }
+    ensures { λ r. ⌜ now (out .exit) ≡ outputAfter [] (reportLine number answer) (now (out .entry)) ⌝ }
 {
     match answer {
         Answer::Done {
@@ -96,8 +95,8 @@ fn list(cs: [Character; 1024], n: usize) -> Listing
 
 // Writes the line of the visible ones of the first n characters at the front of the slice, all of it or nothing.
 fn put_text(cs: [Character; 1024], n: usize, out: &mut [u8]) -> Written
-    ensures { λ r. ⌜ r ≡ fitted (textLine (take n cs)) (now (out .entry)) ⌝ }
-    ensures { λ r. ⌜ now (out .exit) ≡ placed (now (out .entry)) 0 (textLine (take n cs)) ⌝ }
+    ensures { λ r. ⌜ r ≡ writtenAs [] (textLine (take n cs)) (now (out .entry)) ⌝ }
+    ensures { λ r. ⌜ now (out .exit) ≡ outputAfter [] (textLine (take n cs)) (now (out .entry)) ⌝ }
 {
     let head = [b'T'];
     let l = list(cs, index::lesser(1024, n));
@@ -109,8 +108,8 @@ fn put_text(cs: [Character; 1024], n: usize, out: &mut [u8]) -> Written
 // Writes the line of a replica's visible characters at the front of the slice. A slice that is too short keeps every
 // byte.
 pub fn text_line(r: Replica, out: &mut [u8]) -> Written
-    ensures { λ x. ⌜ x ≡ fitted (textLine (meaning r .characters)) (now (out .entry)) ⌝ }
-    ensures { λ x. ⌜ now (out .exit) ≡ placed (now (out .entry)) 0 (textLine (meaning r .characters)) ⌝ }
+    ensures { λ x. ⌜ x ≡ writtenAs [] (textLine (meaning r .characters)) (now (out .entry)) ⌝ }
+    ensures { λ x. ⌜ now (out .exit) ≡ outputAfter [] (textLine (meaning r .characters)) (now (out .entry)) ⌝ }
 {
     let d = r.document;
     let cs = d.characters;

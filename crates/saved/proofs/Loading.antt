@@ -5,20 +5,16 @@ use mathlib.Core.List.{List, [], _∷_, map}
 use mathlib.Core.Bool.{Bool, true, false, _&&_}
 use Prim.Native.Nat.{ℕ, _≤_}
 use native.Mathlib.Omega.{arith}
-use lib.Dec.{leb}
 use lib.ListN.{length, take, drop, getD, length-map, length-append}
-use lib.Seq.{take-all}
-use borrow.Author.Tests.{leb-true, leb-false}
-use Rattle.woot.specs.declared.Site.{Site}
-use Rattle.woot.specs.declared.Replica.{Replica}
 use Rattle.woot.specs.declared.Refusal.{Refusal}
 use Rattle.woot.specs.declared.Refusal.the-variants.{Layout, Range, Form}
 use Rattle.lists.specs.Lists.{every}
 use Rattle.woot.specs.Ranges.{siteInRange, characterInRange, inRange}
-use Rattle.woot.specs.State.{State, characterSlots, pendingSlots, slotOf, blankCharacter, blankPending, documentOf, stored, counted}
+use Rattle.woot.specs.State.{characterSlots, pendingSlots, slotOf, blankCharacter, blankPending}
 use Rattle.lists.specs.Padding.{pad}
 use Rattle.woot.specs.Form.{allInRange, wellFormed, replicaWellFormed}
-use Rattle.lists.proofs.Tests.{clash, fails, and-left, and-right, and-intro}
+use Rattle.woot.specs.Answers.{decided}
+use Rattle.lists.proofs.Tests.{and-left, and-right, and-intro}
 use Rattle.lines.specs.Lines.{rest, lines, closed, leading, trailing}
 use Rattle.saved.specs.declared.LoadAnswer.the-variants.{Done, Refused}
 use Rattle.saved.specs.declared.Loaded.{Loaded}
@@ -26,8 +22,7 @@ use Rattle.saved.specs.declared.reading.SiteLine.{SiteLine}
 use Rattle.saved.specs.declared.reading.Characters.{Characters}
 use Rattle.saved.specs.declared.reading.Operations.{Operations}
 use Rattle.saved.specs.Format.{isSite, siteSaid, isCharacter, characterSaid, visibleInRange, isOperation, operationSaid, headLine, characterLines, operationLines, savedLaidOut, savedState, savedInRange}
-use Rattle.codec.specs.Calls.{decided}
-use Rattle.saved.specs.Calls.{refusal, held, readingChecks, savedRead, loaded}
+use Rattle.saved.specs.Calls.{unread, held, readingChecks, savedRead, loaded}
 use Rattle.saved.specs.Reading.{siteRead, lineCharacter, characterPasses, charactersRead, linePending, operationPasses, noOperations, operationsRead, replicaOf}
 use Rattle.saved.proofs.Judging.{site-laid, site-passes, site-says, character-passes, character-says, operation-passes, operation-says}
 use Rattle.lines.proofs.Lines.{apart, trailing-drop, lines-rest, closed-rest}
@@ -100,12 +95,12 @@ sorted false b c d = refl
 
 -- what is read, by its conditions
 module _ (s : List ℕ) where
-  read-lacks : savedLaidOut s ≡ false → savedRead s ≡ refusal Layout
+  read-lacks : savedLaidOut s ≡ false → savedRead s ≡ unread (Refused Layout)
   unfolding savedRead readingChecks decided
   read-lacks e = rw e
 
   module _ (l : savedLaidOut s ≡ true) where
-    read-out : savedInRange s ≡ false → savedRead s ≡ refusal Range
+    read-out : savedInRange s ≡ false → savedRead s ≡ unread (Refused Range)
     unfolding savedRead readingChecks decided
     read-out e = rw (l, e)
 
@@ -119,7 +114,7 @@ module _ (s : List ℕ) (first : SiteLine) (f : first ≡ siteRead (getD (lines 
   is-site = ap (λ x. x .judged .«laid_out») f ∙ site-laid (headLine s)
 
   -- the first line is no site's
-  pub no-first : first .judged .«laid_out» ≡ false → refusal Layout ≡ savedRead s
+  pub no-first : first .judged .«laid_out» ≡ false → unread (Refused Layout) ≡ savedRead s
   unfolding savedLaidOut
   no-first e = sym (read-lacks s (rw (sym is-site ∙ e) (none (closed s))))
     where
@@ -159,7 +154,7 @@ module _ (s : List ℕ) (first : SiteLine) (f : first ≡ siteRead (getD (lines 
           ∙ sym (ap (λ x. x .«laid_out») o ∙ operations-laid later ∙ ap₂ (λ (x : Bool) (ls : List (List ℕ)). x && every isOperation ls) ends-so operations-are)
 
       -- a later line lacks the layout
-      pub no-later : ps .«laid_out» ≡ false → refusal Layout ≡ savedRead s
+      pub no-later : ps .«laid_out» ≡ false → unread (Refused Layout) ≡ savedRead s
       no-later e = sym (read-lacks s (laid-so ∙ e))
 
       module _ (m : ps .«laid_out» ≡ true) where
@@ -200,7 +195,7 @@ module _ (s : List ℕ) (first : SiteLine) (f : first ≡ siteRead (getD (lines 
             operations = sym (ap (λ x. x .«in_range») read-operations ∙ operations-pass (operationLines s) operations-good)
 
         -- something is out of range
-        pub out-of-range : first .judged .«in_range» && cs .«in_range» && ps .«in_range» ≡ false → refusal Range ≡ savedRead s
+        pub out-of-range : first .judged .«in_range» && cs .«in_range» && ps .«in_range» ≡ false → unread (Refused Range) ≡ savedRead s
         out-of-range e = sym (read-out s laid (range-so ∙ e))
 
         module _ (e₁ : first .judged .«in_range» ≡ true) (e₂ : cs .«in_range» ≡ true) (e₃ : ps .«in_range» ≡ true) where
@@ -266,7 +261,7 @@ module _ (s : List ℕ) (x : Loaded) (e : x ≡ savedRead s) where
   -- else its form decides
   module _ (h : x .answer ≡ Done) where
     both : (savedLaidOut s ≡ true) × (savedInRange s ≡ true)
-    unfolding refusal
+    unfolding unread
     both = go (savedLaidOut s) (savedInRange s) refl refl
       where
         go : (a b : Bool) → savedLaidOut s ≡ a → savedInRange s ≡ b → (savedLaidOut s ≡ true) × (savedInRange s ≡ true)
@@ -280,7 +275,7 @@ module _ (s : List ℕ) (x : Loaded) (e : x ≡ savedRead s) where
     form-is : replicaWellFormed (x .replica) ≡ wellFormed (savedState s)
     form-is = ap (λ y. replicaWellFormed (y .replica)) is-held ∙ held-form (savedState s) .0
 
-    pub load-unformed : replicaWellFormed (x .replica) ≡ false → refusal Form ≡ loaded s
+    pub load-unformed : replicaWellFormed (x .replica) ≡ false → unread (Refused Form) ≡ loaded s
     load-unformed p = sym (load-form s (both .0) (both .1) (sym form-is ∙ p))
 
     pub load-formed : replicaWellFormed (x .replica) ≡ true → x ≡ loaded s

@@ -6,71 +6,61 @@ use mathlib.Core.Bool.{Bool, true, false}
 use mathlib.Core.Option.{Option, none, some}
 use Prim.Native.Nat.{ℕ}
 use native.Mathlib.Omega.{arith}
-use lib.Dec.{ltb}
-use lib.ListN.{length}
-use borrow.Author.Tests.{ltb-true}
-use Rattle.output.specs.Output.{placed}
-use Rattle.output.proofs.Laws.{placed-short}
-use Rattle.woot.specs.declared.Replica.{Replica}
 use Rattle.woot.specs.declared.Refusal.{Refusal}
 use Rattle.woot.specs.declared.Refusal.the-variants.{Layout, Range, Form}
-use Rattle.woot.specs.declared.Written.the-variants.{Length, Refused as writtenRefused}
-use Rattle.woot.specs.State.{State, stored}
-use Rattle.woot.specs.Form.{wellFormed, replicaWellFormed}
-use Rattle.woot.specs.Answers.{first, number}
+use Rattle.woot.specs.State.{stored}
+use Rattle.woot.specs.Form.{wellFormed}
+use Rattle.woot.specs.Answers.{first, decided}
 use Rattle.lists.proofs.Tests.{clash}
-use Rattle.codec.specs.Calls.{decided}
-use Rattle.codec.proofs.Refusals.{decided-exactly}
+use Rattle.convergence.proofs.Refusals.{decided-exactly}
+use Rattle.convergence.proofs.Writing.{writing-refuses}
 use Rattle.saved.specs.declared.LoadAnswer.{LoadAnswer}
 use Rattle.saved.specs.declared.LoadAnswer.the-variants.{Done, Refused}
 use Rattle.saved.specs.declared.Loaded.{Loaded}
 use Rattle.saved.specs.Format.{savedLaidOut, savedState, savedInRange}
-use Rattle.saved.specs.Calls.{loadChecks, noReplica, refusal, loadedAs, loaded, loadNumber, bytesOf, saveChecks, saved, outAfter}
+use Rattle.saved.specs.Calls.{loadChecks, noReplica, unread, loaded, loadNumber, bytesOf, saveChecks, saved, savedOut}
 use Rattle.saved.specs.Theorems.{LoadRefuses, LoadNumbers, SaveRefuses}
 
 -- ---- reading
 
 module _ (s : List ℕ) where
-  pub load-layout : savedLaidOut s ≡ false → loaded s ≡ refusal Layout
-  unfolding loaded loadChecks loadedAs refusal
+  pub load-layout : savedLaidOut s ≡ false → loaded s ≡ unread (Refused Layout)
+  unfolding loaded loadChecks decided
   load-layout e = rw e
 
   module _ (l : savedLaidOut s ≡ true) where
-    pub load-range : savedInRange s ≡ false → loaded s ≡ refusal Range
-    unfolding loaded loadChecks loadedAs refusal
+    pub load-range : savedInRange s ≡ false → loaded s ≡ unread (Refused Range)
+    unfolding loaded loadChecks decided
     load-range e = rw (l, e)
 
     module _ (i : savedInRange s ≡ true) where
-      pub load-form : wellFormed (savedState s) ≡ false → loaded s ≡ refusal Form
-      unfolding loaded loadChecks loadedAs refusal
+      pub load-form : wellFormed (savedState s) ≡ false → loaded s ≡ unread (Refused Form)
+      unfolding loaded loadChecks decided
       load-form e = rw (l, i, e)
 
       pub load-done : wellFormed (savedState s) ≡ true → _≡_ {A = Loaded} (loaded s) (record { answer = Done; replica = stored (savedState s) })
-      unfolding loaded loadChecks loadedAs refusal
+      unfolding loaded loadChecks decided
       load-done e = rw (l, i, e)
-
-answer-decided : (m : Option LoadAnswer) (s : State) → loadedAs m s .answer ≡ decided m Done
-unfolding loadedAs decided
-answer-decided none s = refl
-answer-decided (some a) s = refl
 
 never-done : (r : Refusal) → Done ≡ Refused r → ⊥
 never-done r e = let z : _≡_ {A = ℕ} 0 1 = cc in omega arith
 
-refused-none : (m : Option LoadAnswer) (s : State) (r : Refusal) → loadedAs m s .answer ≡ Refused r → loadedAs m s .replica ≡ noReplica
-unfolding loadedAs
-refused-none none s r e = absurd (never-done r e)
-refused-none (some a) s r e = refl
+-- with a refusal stands the replica named for it
+refused-none : (m : Option LoadAnswer) (x : Loaded) (r : Refusal) → x .answer ≡ Done → decided unread m x .answer ≡ Refused r → decided unread m x .replica ≡ noReplica
+unfolding decided unread
+refused-none none x r d e = absurd (never-done r (sym d ∙ e))
+refused-none (some a) x r d e = refl
 
 pub load-refuses : LoadRefuses
-unfolding loaded
-load-refuses s r = (
-  rw (answer-decided (first (loadChecks s)) (savedState s)) (decided-exactly (loadChecks s) Done (Refused r) (never-done r)),
-  refused-none (first (loadChecks s)) (savedState s) r,
-)
+unfolding loaded unread
+load-refuses s r =
+    let x : Loaded = record { answer = Done; replica = stored (savedState s) } in (
+      decided-exactly unread (λ y. y .answer) (λ a. refl) (loadChecks s) x (Refused r) (never-done r),
+      refused-none (first (loadChecks s)) x r refl,
+    )
 
 pub load-numbers : LoadNumbers
-unfolding loadNumber refusal
+unfolding loadNumber unread
 load-numbers s = go (savedLaidOut s) (savedInRange s) (wellFormed (savedState s)) refl refl refl
   where
     go : (a b d : Bool) → savedLaidOut s ≡ a → savedInRange s ≡ b → wellFormed (savedState s) ≡ d
@@ -113,22 +103,6 @@ load-numbers s = go (savedLaidOut s) (savedInRange s) (wellFormed (savedState s)
 
 -- ---- writing
 
-written-never : (n : ℕ) (r : Refusal) → Length n ≡ writtenRefused r → ⊥
-written-never n r e = let z : _≡_ {A = ℕ} 0 1 = cc in omega arith
-
--- a refused call has no room for the bytes, or the replica is not in form
-refused-unchanged : (r : Replica) (out : List ℕ) (q : Refusal) → saved r out ≡ writtenRefused q → outAfter r out ≡ out
-unfolding saved saveChecks decided outAfter
-refused-unchanged r out q e = go (replicaWellFormed r) (ltb (length out) (length (bytesOf r))) refl refl
-  where
-    go : (a b : Bool) → replicaWellFormed r ≡ a → ltb (length out) (length (bytesOf r)) ≡ b → outAfter r out ≡ out
-    go false b p t = rw p
-    go true true p t = rw p (placed-short out 0 (bytesOf r) (omega (arith, ltb-true (length out) (length (bytesOf r)) t)))
-    go true false p t = absurd (written-never (length (bytesOf r)) q (rw (p, t) at e))
-
 pub save-refuses : SaveRefuses
-unfolding saved
-save-refuses r out q = (
-  decided-exactly (saveChecks r out) (Length (length (bytesOf r))) (writtenRefused q) (written-never (length (bytesOf r)) q),
-  refused-unchanged r out q,
-)
+unfolding saved savedOut
+save-refuses r out q = let w = writing-refuses (saveChecks r) (bytesOf r) out q in (w .0, w .2)

@@ -2,21 +2,21 @@
 -- those of the pending operations.
 use mathlib.Core.Path.{_≡_, refl, sym, ap, _∙_}
 use mathlib.Core.List.{List, [], _∷_, _++_, map}
-use mathlib.Core.Bool.{Bool, true, false, cond}
+use mathlib.Core.Bool.{true, false}
 use Prim.Native.Nat.{ℕ, _+_, _≤_, min}
 use native.Mathlib.Omega.{arith}
-use lib.Dec.{ltb}
 use lib.ListN.{length, take, length-append}
 use Rattle.output.specs.Output.{placed, past}
 use Rattle.output.proofs.Laws.{length-placed}
 use Rattle.woot.specs.declared.Pending.{Pending}
 use Rattle.woot.specs.declared.Replica.{Replica}
-use Rattle.woot.specs.declared.Refusal.the-variants.{Form, Output}
-use Rattle.woot.specs.declared.Written.the-variants.{Length, Refused}
-use Rattle.woot.specs.Answers.{_⇒_, first}
+use Rattle.woot.specs.declared.Refusal.the-variants.{Form}
+use Rattle.woot.specs.declared.Written.the-variants.{Refused}
 use Rattle.woot.specs.State.{characterSlots, pendingSlots, meaning}
 use Rattle.woot.specs.Form.{replicaWellFormed}
+use Rattle.woot.specs.Writing.{writtenAs, outputAfter}
 use Rattle.lists.proofs.Padding.{take-lesser}
+use Rattle.convergence.proofs.Writing.{own-first, own-none}
 use Rattle.lines.specs.declared.Room.{Room}
 use Rattle.lines.specs.declared.Room.the-variants.{Until, Short}
 use Rattle.lines.specs.Lines.{concatenated}
@@ -24,9 +24,8 @@ use Rattle.lines.specs.Answers.{roomFor}
 use Rattle.lines.proofs.Writing.{until-tells, Run, run-none, run-on}
 use Rattle.lines.proofs.Sequences.{room-on, room-short}
 use Rattle.codec.specs.Operations.{operationLine}
-use Rattle.codec.specs.Calls.{decided, fitted}
 use Rattle.saved.specs.Format.{siteLine, characterLine, pendingLine, savedBytes}
-use Rattle.saved.specs.Calls.{bytesOf, saveChecks, saved, outAfter}
+use Rattle.saved.specs.Calls.{bytesOf, saveChecks, saved, savedOut}
 
 pending-lines : (ps : List Pending) → concatenated operationLine (map (λ p. p .operation) ps) ≡ concatenated pendingLine ps
 pending-lines [] = refl
@@ -127,15 +126,14 @@ module _ (r : Replica) (full : length (r .document .characters) ≡ characterSlo
 -- ---- the answers
 
 module _ (r : Replica) (out : List ℕ) where
-  pub unformed : replicaWellFormed r ≡ false → (Refused Form ≡ saved r out) × (out ≡ outAfter r out)
-  unfolding saved saveChecks decided outAfter
-  unformed e = (rw e, rw e)
+  pub unformed : replicaWellFormed r ≡ false → (Refused Form ≡ saved r out) × (out ≡ savedOut r out)
+  unfolding saved savedOut saveChecks
+  unformed e =
+      let w = own-first (saveChecks r) (Refused Form) (bytesOf r) out (rw e refl) in
+      (sym (w .0), sym (w .1))
 
   -- a replica in form goes by the room alone
-  pub formed : replicaWellFormed r ≡ true → (fitted (bytesOf r) out ≡ saved r out) × (placed out 0 (bytesOf r) ≡ outAfter r out)
-  unfolding saved saveChecks decided outAfter fitted
-  formed e = (rw e (go (ltb (length out) (length (bytesOf r)))), rw e)
-    where
-      go : (b : Bool) → cond b (Refused Output) (Length (length (bytesOf r))) ≡ decided (first ((b ⇒ Refused Output) ∷ [])) (Length (length (bytesOf r)))
-      go true = refl
-      go false = refl
+  pub formed : replicaWellFormed r ≡ true
+      → (writtenAs [] (bytesOf r) out ≡ saved r out) × (outputAfter [] (bytesOf r) out ≡ savedOut r out)
+  unfolding saved savedOut saveChecks
+  formed e = own-none (saveChecks r) (bytesOf r) out (rw e refl)

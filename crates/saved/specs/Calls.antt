@@ -2,21 +2,17 @@
 -- checking order; where none holds, what is done stands below them.
 use Prim.Native.Nat.{ℕ}
 use mathlib.Core.List.{List, [], _∷_, map}
-use mathlib.Core.Bool.{not, cond}
-use mathlib.Core.Option.{Option, none, some}
-use lib.Dec.{ltb}
+use mathlib.Core.Bool.{not}
 use lib.ListN.{length, take}
-use Rattle.output.specs.Output.{placed}
 use Rattle.woot.specs.declared.Replica.{Replica}
-use Rattle.woot.specs.declared.Refusal.{Refusal}
-use Rattle.woot.specs.declared.Refusal.the-variants.{Layout, Range, Form, Output}
+use Rattle.woot.specs.declared.Refusal.the-variants.{Layout, Range, Form}
 use Rattle.woot.specs.declared.Written.{Written}
-use Rattle.woot.specs.declared.Written.the-variants.{Length, Refused as writtenRefused}
+use Rattle.woot.specs.declared.Written.the-variants.{Refused as writtenRefused}
 use Rattle.woot.specs.State.{State, characterSlots, pendingSlots, slotOf, blankCharacter, blankPending, initial, meaning, stored}
 use Rattle.lists.specs.Padding.{pad}
 use Rattle.woot.specs.Form.{wellFormed, replicaWellFormed}
-use Rattle.woot.specs.Answers.{Check, _⇒_, first, number}
-use Rattle.codec.specs.Calls.{decided}
+use Rattle.woot.specs.Answers.{Check, _⇒_, first, decided, number}
+use Rattle.woot.specs.Writing.{writtenAs, outputAfter}
 use Rattle.saved.specs.declared.LoadAnswer.{LoadAnswer}
 use Rattle.saved.specs.declared.LoadAnswer.the-variants.{Done, Refused}
 use Rattle.saved.specs.declared.Loaded.{Loaded}
@@ -35,16 +31,13 @@ loadChecks s =
 unfoldable pub noReplica : Replica
 noReplica = stored (initial 0)
 
-unfoldable pub refusal : Refusal → Loaded
-refusal r = record { answer = Refused r; replica = noReplica }
+-- what reading returns where it hands no replica over
+unfoldable pub unread : LoadAnswer → Loaded
+unread a = record { answer = a; replica = noReplica }
 
 -- the first condition that holds decides; where none does, the replica that the bytes say
-unfoldable pub loadedAs : Option LoadAnswer → State → Loaded
-loadedAs none s = record { answer = Done; replica = stored s }
-loadedAs (some a) s = record { answer = a; replica = noReplica }
-
 unfoldable pub loaded : List ℕ → Loaded
-loaded s = loadedAs (first (loadChecks s)) (savedState s)
+loaded s = decided unread (first (loadChecks s)) (record { answer = Done; replica = stored (savedState s) })
 
 -- a state as the arrays hold it, as far as they have slots, with the state's own counts
 unfoldable pub held : State → Replica
@@ -60,12 +53,12 @@ held s =
     }
 
 -- conditions 1 and 2 alone
-unfoldable pub readingChecks : List ℕ → List (Check Loaded)
-readingChecks s = (not (savedLaidOut s) ⇒ refusal Layout) ∷ (not (savedInRange s) ⇒ refusal Range) ∷ []
+unfoldable pub readingChecks : List ℕ → List (Check LoadAnswer)
+readingChecks s = (not (savedLaidOut s) ⇒ Refused Layout) ∷ (not (savedInRange s) ⇒ Refused Range) ∷ []
 
 -- what the bytes say, its form not checked
 unfoldable pub savedRead : List ℕ → Loaded
-savedRead s = decided (first (readingChecks s)) (record { answer = Done; replica = held (savedState s) })
+savedRead s = decided unread (first (readingChecks s)) (record { answer = Done; replica = held (savedState s) })
 
 -- the refusal's number, or 0
 unfoldable pub loadNumber : LoadAnswer → ℕ
@@ -78,15 +71,14 @@ loadNumber (Refused r) = number r
 unfoldable pub bytesOf : Replica → List ℕ
 bytesOf r = savedBytes (meaning r)
 
--- conditions 3 and 12
-unfoldable pub saveChecks : Replica → List ℕ → List (Check Written)
-saveChecks r out =
-    (not (replicaWellFormed r) ⇒ writtenRefused Form) ∷ (ltb (length out) (length (bytesOf r)) ⇒ writtenRefused Output) ∷ []
+-- condition 3; 12 comes after it
+unfoldable pub saveChecks : Replica → List (Check Written)
+saveChecks r = (not (replicaWellFormed r) ⇒ writtenRefused Form) ∷ []
 
 -- the number of bytes, or a refusal
 unfoldable pub saved : Replica → List ℕ → Written
-saved r out = decided (first (saveChecks r out)) (Length (length (bytesOf r)))
+saved r out = writtenAs (saveChecks r) (bytesOf r) out
 
--- the lent slice afterwards: the bytes at its front, or every byte as it was
-unfoldable pub outAfter : Replica → List ℕ → List ℕ
-outAfter r out = cond (replicaWellFormed r) (placed out 0 (bytesOf r)) out
+-- every byte of the slice afterwards
+unfoldable pub savedOut : Replica → List ℕ → List ℕ
+savedOut r out = outputAfter (saveChecks r) (bytesOf r) out

@@ -13,10 +13,10 @@ use Rattle.woot.specs.Identifiers.{begin, end}
 use Rattle.woot.specs.State.{State, meaning, stored}
 use Rattle.woot.specs.Form.{wellFormed, replicaWellFormed}
 use Rattle.woot.specs.Answers.{Reported}
+use Rattle.woot.specs.Writing.{writingChecks}
 use Rattle.saved.specs.declared.LoadAnswer.the-variants.{Done, Refused}
-use Rattle.saved.specs.declared.Loaded.{Loaded}
 use Rattle.saved.specs.Format.{savedLaidOut, savedState, savedInRange, savedBytes}
-use Rattle.saved.specs.Calls.{loadChecks, noReplica, held, loaded, loadNumber, saveChecks, saved, outAfter}
+use Rattle.saved.specs.Calls.{loadChecks, noReplica, held, loaded, loadNumber, bytesOf, saveChecks, saved, savedOut}
 
 -- ---- round trips
 
@@ -117,5 +117,5 @@ LoadNumbers =
 abbrev pub SaveRefuses : Type 0
 SaveRefuses =
     (r : Replica) (out : List ℕ) (q : Refusal) →
-    ((saved r out ≡ writtenRefused q) ↔ Reported (writtenRefused q) (saveChecks r out))
-    × (saved r out ≡ writtenRefused q → outAfter r out ≡ out)
+    ((saved r out ≡ writtenRefused q) ↔ Reported (writtenRefused q) (writingChecks (saveChecks r) (bytesOf r) out))
+    × (saved r out ≡ writtenRefused q → savedOut r out ≡ out)

@@ -11,9 +11,9 @@ use woot::Replica;
 use woot::Site;
 use woot::Written;
 ghost use mathlib.Core.Path.{_≡_};
-ghost use Rattle.output.specs.Output.{placed};
-ghost use Rattle.codec.specs.Calls.{fitted};
-ghost use Rattle.saved.specs.Calls.{refusal, savedRead, loaded, bytesOf, saved, outAfter};
+ghost use mathlib.Core.List.{[]};
+ghost use Rattle.woot.specs.Writing.{writtenAs, outputAfter};
+ghost use Rattle.saved.specs.Calls.{unread, savedRead, loaded, bytesOf, saved, savedOut};
 ghost use Rattle.saved.specs.Reading.{replicaOf};
 
 // The head words of the lines of a site and of a character.
@@ -35,7 +35,7 @@ pub struct Loaded {
 
 // A refusal, and what stands beside it.
 fn refuse(reason: Refusal) -> Loaded
-    ensures { λ r. ⌜ r ≡ refusal reason ⌝ }
+    ensures { λ r. ⌜ r ≡ unread (LoadAnswer.Refused reason) ⌝ }
 {
     let replica = Replica::empty(0);
     Loaded {
@@ -111,8 +111,8 @@ pub fn load(bytes: &[u8]) -> Loaded
 // Writes a replica, in form or not, at the front of the slice; of counts above its arrays, what these hold. A refused
 // call leaves every byte as it was.
 pub fn put(replica: Replica, out: &mut [u8]) -> Written
-    ensures { λ r. ⌜ r ≡ fitted (bytesOf replica) (now (out .entry)) ⌝ }
-    ensures { λ r. ⌜ now (out .exit) ≡ placed (now (out .entry)) 0 (bytesOf replica) ⌝ }
+    ensures { λ r. ⌜ r ≡ writtenAs [] (bytesOf replica) (now (out .entry)) ⌝ }
+    ensures { λ r. ⌜ now (out .exit) ≡ outputAfter [] (bytesOf replica) (now (out .entry)) ⌝ }
 {
     let room = writing::measure(replica, out.len());
     match room {
@@ -127,7 +127,7 @@ pub fn put(replica: Replica, out: &mut [u8]) -> Written
 // Writes a saved replica at the front of the slice. A refused call leaves every byte as it was.
 pub fn save(replica: Replica, out: &mut [u8]) -> Written
     ensures { λ r. ⌜ r ≡ saved replica (now (out .entry)) ⌝ }
-    ensures { λ r. ⌜ now (out .exit) ≡ outAfter replica (now (out .entry)) ⌝ }
+    ensures { λ r. ⌜ now (out .exit) ≡ savedOut replica (now (out .entry)) ⌝ }
 {
     if !replica::well_formed(replica) {
         return Written::Refused(Refusal::Form);

@@ -3,36 +3,35 @@
 use mathlib.Core.Path.{_≡_, refl, sym, ap, _∙_, subst}
 use mathlib.Core.Bool.{Bool, true, false, _||_, not, cond}
 use mathlib.Core.List.{List, [], _∷_}
-use mathlib.Core.Option.{Option, none, some}
+use mathlib.Core.Option.{Option, some}
+use mathlib.Core.Logic.{_⊎_, inl, inr}
 use Prim.Native.Nat.{ℕ, _+_, _≤_, _<_}
 use native.Mathlib.Omega.{arith}
-use borrow.Author.Tests.{leb-true, leb-false, ltb-true, lt-ltb, le-ltb}
+use borrow.Author.Tests.{leb-true, leb-false, lt-ltb, le-ltb}
 use lib.Dec.{leb, ltb}
 use lib.ListN.{length}
 use Rattle.output.specs.Output.{hasRoom, placed}
-use Rattle.output.proofs.Laws.{placed-short}
 use Rattle.woot.specs.declared.Operation.{Operation}
 use Rattle.woot.specs.declared.Replica.{Replica}
 use Rattle.woot.specs.declared.Refusal.{Refusal}
 use Rattle.woot.specs.declared.Refusal.the-variants.{Form, Output}
 use Rattle.woot.specs.declared.Answer.{Answer}
-use Rattle.woot.specs.declared.Answer.the-variants.{Done, Refused}
+use Rattle.woot.specs.declared.Answer.the-variants.{Done}
 use Rattle.woot.specs.declared.Sent.the-variants.{Done as sentDone, Refused as sentRefused}
 use Rattle.woot.specs.declared.Receipt.{Receipt}
 use Rattle.woot.specs.declared.Generated.{Generated}
-use Rattle.woot.specs.declared.Written.{Written}
 use Rattle.woot.specs.declared.Written.the-variants.{Length, Refused as writtenRefused}
 use Rattle.woot.specs.Answers.{changes, _⇒_, first, decided}
 use Rattle.woot.specs.Writing.{writingChecks, writtenAs, outputAfter}
-use Rattle.lines.specs.declared.Room.{Room}
+use Rattle.lists.proofs.Tests.{side}
+use Rattle.convergence.proofs.Writing.{too-short, has-room}
 use Rattle.lines.specs.declared.Room.the-variants.{Until, Short}
 use Rattle.lines.specs.Answers.{roomFor}
 use Rattle.codec.specs.Operations.{operationLine}
-use Rattle.codec.specs.Calls.{fitted}
 use Rattle.woot.specs.Form.{replicaWellFormed}
 use Rattle.replica.specs.Texts.{textOf, textChecks, textWritten, textOut}
 use Rattle.saved.specs.Calls.{bytesOf}
-use Rattle.wimtaze.specs.Results.{result, silent}
+use Rattle.wimtaze.specs.Results.{result}
 use Rattle.wimtaze.specs.Effects.{Effect, Leaves, quiet, turned, writing, writingBoth}
 use Rattle.wimtaze.specs.Steps.{afterWriting, receiptLeft, sentLeft, generatedLeft, textLeft}
 
@@ -57,19 +56,6 @@ module _ (a : Answer) (bytes out : List ℕ) where
           ≡ record { result = afterWriting a (decided (λ w. w) (first ((b ⇒ writtenRefused Output) ∷ [])) (Length (length bytes))); output = decided (λ w. out) (first ((b ⇒ writtenRefused Output) ∷ [])) (placed out 0 bytes); line = [] }
       go true = refl
       go false = refl
-
-  -- so of bytes that were put, or had no room
-  pub writing-fitted : writing a bytes out ≡ record { result = afterWriting a (fitted bytes out); output = placed out 0 bytes; line = [] }
-  unfolding writing decided fitted turned quiet afterWriting
-  writing-fitted = go (ltb (length out) (length bytes)) refl
-    where
-      go : (b : Bool) → ltb (length out) (length bytes) ≡ b
-          → decided (turned out []) (first ((b ⇒ Output) ∷ [])) (record { result = result a (length bytes) 0; output = placed out 0 bytes; line = [] })
-          ≡ record { result = afterWriting a (cond b (writtenRefused Output) (Length (length bytes))); output = placed out 0 bytes; line = [] }
-      go true e =
-          let kept : placed out 0 bytes ≡ out = placed-short out 0 bytes (omega (arith, ltb-true (length out) (length bytes) e)) in
-          λ i. record { result = silent (Refused Output); output = sym kept i; line = [] }
-      go false e = refl
 
 -- the text of a replica, by what its writer answers
 pub text-written : (r : Replica) (out : List ℕ) → textLeft r out ≡ record { result = afterWriting (Done 0 0) (textWritten r out); output = textOut r out; line = [] }
@@ -140,28 +126,30 @@ module _ (a : Answer) (bytes sent out line : List ℕ) where
             (le-ltb (length line) (length sent) low, omega arith)
         go false e k = absurd (until-short (sym k))
 
-    pub save-refused : {q : Refusal} → fitted bytes out ≡ writtenRefused q → (writingBoth a bytes sent out line ≡ turned out line q) × (placed out 0 bytes ≡ out)
-    unfolding writingBoth decided fitted
-    save-refused {q} k = go (ltb (length out) (length bytes)) refl k
+    pub save-refused : {q : Refusal} → writtenAs [] bytes out ≡ writtenRefused q → (writingBoth a bytes sent out line ≡ turned out line q) × (outputAfter [] bytes out ≡ out)
+    unfolding writingBoth decided
+    save-refused {q} k = go (side (length bytes) (length out))
       where
-        go : (b : Bool) → ltb (length out) (length bytes) ≡ b → cond b (writtenRefused Output) (Length (length bytes)) ≡ writtenRefused q
-            → (writingBoth a bytes sent out line ≡ turned out line q) × (placed out 0 bytes ≡ out)
-        go true e l =
+        go : (length bytes ≤ length out) ⊎ (length out < length bytes) → (writingBoth a bytes sent out line ≡ turned out line q) × (outputAfter [] bytes out ≡ out)
+        go (inl room) = absurd (length-refused (sym (has-room [] bytes out refl room .0) ∙ k))
+        go (inr low) =
+            let w = too-short [] bytes out refl low in
+            let same : writtenRefused Output ≡ writtenRefused q = sym (w .0) ∙ k in
             let o : Output ≡ q = cc in
-            (rw e (ap (turned out line) o), placed-short out 0 bytes (omega (arith, ltb-true (length out) (length bytes) e)))
-        go false e l = absurd (length-refused l)
+            (rw (lt-ltb (length out) (length bytes) low) (ap (turned out line) o), w .1)
 
-    pub both-written : {n : ℕ} → fitted bytes out ≡ Length n
-        → writingBoth a bytes sent out line ≡ record { result = result a n m; output = placed out 0 bytes; line = placed line 0 sent }
-    unfolding writingBoth decided fitted
-    both-written {n} k = go (ltb (length out) (length bytes)) refl k
+    pub both-written : {n : ℕ} → writtenAs [] bytes out ≡ Length n
+        → writingBoth a bytes sent out line ≡ record { result = result a n m; output = outputAfter [] bytes out; line = placed line 0 sent }
+    unfolding writingBoth decided
+    both-written {n} k = go (side (length bytes) (length out))
       where
-        go : (b : Bool) → ltb (length out) (length bytes) ≡ b → cond b (writtenRefused Output) (Length (length bytes)) ≡ Length n
-            → writingBoth a bytes sent out line ≡ record { result = result a n m; output = placed out 0 bytes; line = placed line 0 sent }
-        go true e l = absurd (length-refused (sym l))
-        go false e l =
+        go : (length bytes ≤ length out) ⊎ (length out < length bytes) → writingBoth a bytes sent out line ≡ record { result = result a n m; output = outputAfter [] bytes out; line = placed line 0 sent }
+        go (inl room) =
+            let w = has-room [] bytes out refl room in
+            let same : Length (length bytes) ≡ Length n = sym (w .0) ∙ k in
             let o : length bytes ≡ n = cc in
-            rw (e, line-room .0, o, line-room .1)
+            rw (le-ltb (length out) (length bytes) room, line-room .0, ← o, line-room .1, w .1)
+        go (inr low) = absurd (length-refused (sym k ∙ too-short [] bytes out refl low .0))
 
 module _ (g : Generated) (out line : List ℕ) where
   pub not-sent : {q : Refusal} → g .answer ≡ sentRefused q → generatedLeft g out line ≡ turned out line q

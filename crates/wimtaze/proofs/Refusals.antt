@@ -9,20 +9,19 @@ use borrow.Author.Tests.{eq-eqb, ne-eqb}
 use Rattle.woot.specs.declared.Operation.{Operation}
 use Rattle.woot.specs.declared.Refusal.{Refusal}
 use Rattle.woot.specs.declared.Refusal.the-variants.{Layout, Range, Form}
-use Rattle.woot.specs.Answers.{_⇒_, first}
+use Rattle.woot.specs.Answers.{_⇒_, first, decided}
 use Rattle.woot.specs.Ranges.{inRange}
 use Rattle.woot.specs.Form.{wellFormed}
 use Rattle.woot.specs.State.{State}
 use Rattle.codec.specs.declared.Read.{Read}
 use Rattle.codec.specs.declared.Read.the-variants.{Operation as readsAs, Refused as readRefused}
 use Rattle.lines.specs.Lines.{rest}
-use Rattle.codec.specs.Calls.{decided as readDecided, readChecks, readAs, readOperation, saidBy}
+use Rattle.codec.specs.Calls.{readChecks, readAs, readOperation, saidBy}
 use Rattle.storage.specs.Replicas.{received}
-use Rattle.saved.specs.declared.LoadAnswer.{LoadAnswer}
 use Rattle.saved.specs.declared.LoadAnswer.the-variants.{Done, Refused}
 use Rattle.saved.specs.declared.Loaded.{Loaded}
 use Rattle.saved.specs.Format.{savedLaidOut, savedInRange, savedState}
-use Rattle.saved.specs.Calls.{refusal, held, readingChecks, savedRead}
+use Rattle.saved.specs.Calls.{unread, held, readingChecks, savedRead}
 use Rattle.wimtaze.specs.Calls.{inputChecks, oneLine}
 use Rattle.wimtaze.specs.Inputs.{layoutFirst, firstOf}
 
@@ -31,47 +30,47 @@ use Rattle.wimtaze.specs.Inputs.{layoutFirst, firstOf}
 -- what reading a saved replica answers, and the three refusals over all that was handed
 abbrev answering : Bool → Bool → State → Loaded
 answering a b s =
-    readDecided (first ((not a ⇒ refusal Layout) ∷ (not b ⇒ refusal Range) ∷ [])) (record { answer = Done; replica = held s })
+    decided unread (first ((not a ⇒ Refused Layout) ∷ (not b ⇒ Refused Range) ∷ [])) (record { answer = Done; replica = held s })
 
 abbrev refusing : Bool → Bool → Bool → Option Refusal
 refusing a b c = first ((not a ⇒ Layout) ∷ (not b ⇒ Range) ∷ (not c ⇒ Form) ∷ [])
 
 alone : (a b c : Bool) (s : State) (q : Refusal) → answering a b s .answer ≡ Refused q → refusing (a && true) (b && true) c ≡ some q
-unfolding readDecided refusal
+unfolding decided unread
 alone true true c s q h = cc
 alone true false c s q h = cc
 alone false b c s q h = cc
 
 done : (a b : Bool) (s : State) → answering a b s .answer ≡ Done → (a ≡ true) × (b ≡ true) × (answering a b s .replica ≡ held s)
-unfolding readDecided refusal
+unfolding decided unread
 done true true s h = (refl, refl, refl)
 done true false s h = (refl, cc, cc)
 done false b s h = (cc, cc, cc)
 
 ranged : (a b c : Bool) (s : State) → refusing (a && true) (b && false) c ≡ some (firstOf (answering a b s .answer) Range)
-unfolding readDecided refusal firstOf layoutFirst
+unfolding decided unread firstOf layoutFirst
 ranged true true c s = refl
 ranged true false c s = refl
 ranged false b c s = refl
 
 laid-out : (a b c d : Bool) (s : State) → refusing (a && false) (b && d) c ≡ some (firstOf (answering a b s .answer) Layout)
-unfolding readDecided refusal firstOf layoutFirst
+unfolding decided unread firstOf layoutFirst
 laid-out true true c d s = refl
 laid-out true false c d s = refl
 laid-out false b c d s = refl
 
 abbrev reading : Bool → Bool → Operation → Read
-reading laid r o = readDecided (first ((not laid ⇒ readRefused Layout) ∷ (not r ⇒ readRefused Range) ∷ [])) (readsAs o)
+reading laid r o = decided (λ a. a) (first ((not laid ⇒ readRefused Layout) ∷ (not r ⇒ readRefused Range) ∷ [])) (readsAs o)
 
 line : (a b c laid r : Bool) (s : State) (o : Operation) (q : Refusal) → reading laid r o ≡ readRefused q →
     refusing (a && laid) (b && r) c ≡ some (firstOf (answering a b s .answer) q)
-unfolding readDecided
+unfolding decided
 line a b c true true s o q h = cc
 line a b c true false s o q h = let e : Range ≡ q = cc in rw (← e) (ranged a b c s)
 line a b c false r s o q h = let e : Layout ≡ q = cc in rw (← e) (laid-out a b c r s)
 
 read : (laid r : Bool) (o p : Operation) → reading laid r o ≡ readsAs p → (laid ≡ true) × (r ≡ true) × (p ≡ o)
-unfolding readDecided
+unfolding decided
 read true true o p h = (refl, refl, cc)
 read true false o p h = (refl, cc, cc)
 read false r o p h = (cc, cc, cc)
@@ -81,7 +80,7 @@ read false r o p h = (cc, cc, cc)
 module _ (s : List ℕ) where
   -- bytes that follow are a fault of the layout
   pub followed : (length (rest s) ≡ 0 → ⊥) → readAs (oneLine s) (saidBy s) ≡ readRefused Layout
-  unfolding readAs readChecks readDecided oneLine
+  unfolding readAs readChecks decided oneLine
   followed h = rw (ne-eqb _ _ h)
 
   -- where none do, the line is as it is read

@@ -2,7 +2,7 @@
 use mathlib.Core.Path.{sym, _∙_}
 use borrow.Author.Needs.{needs}
 use borrow.Author.Tests.{not-true, not-false}
-use Rattle.codec.proofs.Answers.{operation-some, offset-fitted, not-in-range, out-after, written-fitted}
+use Rattle.codec.proofs.Answers.{operation-some, put-after, offset-fitted, not-in-range, in-its-range}
 use Rattle.codec.proofs.write_operation.Statement.{statement}
 use Rattle.codec.proofs.write_operation.Tie as tie
 
@@ -24,8 +24,8 @@ same-length c = search needs
 returns-2 : tie.Need-returns-2
 returns-2 c =
     let p = c .before .before .before .put-operation .ensures in
-    let e = sym (c .before .before .before .before .before .before .in-range .ensures) ∙ not-false _ (c .before .before .before .before .before .if1 .left) in
-    (c .fitted .ensures ∙ offset-fitted _ _ (operation-some _) (p .0) ∙ written-fitted _ _ e, p .1 ∙ out-after _ _ e)
+    let e = in-its-range _ _ (sym (c .before .before .before .before .before .before .in-range .ensures) ∙ not-false _ (c .before .before .before .before .before .if1 .left)) in
+    (c .fitted .ensures ∙ offset-fitted _ _ (operation-some _) (p .0) ∙ e .0, put-after _ _ (p .1) ∙ e .1)
 
 pub write-operation-spec : {M : Type 1} → statement M
 write-operation-spec =

@@ -6,7 +6,7 @@ use lib.Seq.{length-take-le}
 use Rattle.decimal.specs.Numeral.{digits}
 use Rattle.lines.specs.Fields.{tab}
 use Rattle.lines.proofs.Writing.{line-some}
-use Rattle.codec.proofs.Answers.{offset-fitted}
+use Rattle.codec.proofs.Answers.{put-after, offset-fitted}
 use Rattle.report.proofs.Heads.{Front, head-put}
 use Rattle.report.proofs.put_report.Statement.{statement}
 use Rattle.report.proofs.put_report.Tie as tie
@@ -62,7 +62,7 @@ returns : tie.Need-returns
 returns c =
     let p = c .before .before .before .put2 .ensures in
     rw (← head (c .before .before .before .before .before .before .before .before) .bytes)
-    (c .fitted .ensures ∙ offset-fitted _ _ (line-some _ _) (p .0), p .1)
+    (c .fitted .ensures ∙ offset-fitted _ _ (line-some _ _) (p .0), put-after _ _ (p .1))
 
 pub put-report-spec : {M : Type 1} → statement M
 put-report-spec =

@@ -7,7 +7,7 @@ use lib.ListN.{take}
 use lib.Seq.{length-take-le}
 use Rattle.report.specs.Lines.{textNumbers, textLine}
 use Rattle.lines.proofs.Writing.{line-some}
-use Rattle.codec.proofs.Answers.{offset-fitted}
+use Rattle.codec.proofs.Answers.{put-after, offset-fitted}
 use Rattle.report.proofs.Heads.{Front}
 use Rattle.report.proofs.Listings.{listing-few, listing-front}
 use Rattle.report.proofs.put_text.Statement.{statement}
@@ -55,7 +55,7 @@ unfolding textLine
 returns c =
     let p = c .before .before .before .put .ensures in
     rw (← numbers (c .before .before .before .before .before .before .before .before .before) .bytes)
-    (c .fitted .ensures ∙ offset-fitted _ _ (line-some _ _) (p .0), p .1)
+    (c .fitted .ensures ∙ offset-fitted _ _ (line-some _ _) (p .0), put-after _ _ (p .1))
 
 pub put-text-spec : {M : Type 1} → statement M
 put-text-spec =

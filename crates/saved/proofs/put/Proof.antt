@@ -1,6 +1,6 @@
 -- `saved::put` meets its contract: where the lines end within the slice they are put, and else nothing is.
 use borrow.Author.Needs.{needs}
-use Rattle.codec.proofs.Answers.{room-short, room-fits, room-fitted}
+use Rattle.codec.proofs.Answers.{put-after, room-short, room-fits, room-fitted}
 use Rattle.saved.proofs.put.Statement.{statement}
 use Rattle.saved.proofs.put.Tie as tie
 
@@ -20,7 +20,7 @@ same-length : tie.Need-same-length
 same-length c = search needs
 
 returns : tie.Need-returns
-returns c = (room-fitted _ _ (c .before .before .before .before .before .before .before .measure .ensures) (c .before .before .before .before .before .room .given .1), c .before .before .put-all .ensures)
+returns c = (room-fitted _ _ (c .before .before .before .before .before .before .before .measure .ensures) (c .before .before .before .before .before .room .given .1), put-after _ _ (c .before .before .put-all .ensures))
 
 returns-2 : tie.Need-returns-2
 returns-2 c = room-short _ _ (c .before .before .measure .ensures) (c .enum-told .given .1)

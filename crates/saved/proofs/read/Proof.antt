@@ -6,9 +6,9 @@ use lib.ListN.{getD}
 use borrow.Author.Tests.{not-true, not-false}
 use Rattle.woot.specs.declared.Refusal.the-variants.{Layout, Range}
 use Rattle.lines.specs.Lines.{lines}
-use Rattle.saved.specs.declared.LoadAnswer.the-variants.{Done}
+use Rattle.saved.specs.declared.LoadAnswer.the-variants.{Done, Refused}
 use Rattle.saved.specs.declared.Loaded.{Loaded}
-use Rattle.saved.specs.Calls.{refusal, savedRead}
+use Rattle.saved.specs.Calls.{unread, savedRead}
 use Rattle.saved.specs.Reading.{siteRead, replicaOf}
 use Rattle.saved.proofs.Loading.{no-first, skip-fits, no-later, out-of-range, all-read}
 use borrow.Author.Needs.{needs}
@@ -33,23 +33,23 @@ first-read c = c .read-site .ensures ∙ ap siteRead (c .before .head .ensures)
 
 -- what is known once every line is read
 module _ (c : tie.After-read-operations) where
-  lacks : c .read-operations .result .«laid_out» ≡ false → refusal Layout ≡ savedRead (c .before .before .before .before .before .before .before .before .before .args .bytes .now)
+  lacks : c .read-operations .result .«laid_out» ≡ false → unread (Refused Layout) ≡ savedRead (c .before .before .before .before .before .before .before .before .before .args .bytes .now)
   lacks e =
       no-later _ _ (first-read (c .before .before .before .before .before .before)) (not-false _ (c .before .before .before .before .if1 .left)) (c .before .before .before .rest .ensures) _ (c .before .before .read-characters .ensures) _ (c .before .skip .ensures) _ (c .read-operations .ensures) e
 
   module _ (l : c .read-operations .result .«laid_out» ≡ true) where
     out : c .before .before .before .before .before .before .read-site .result .judged .«in_range» && c .before .before .read-characters .result .«in_range» && c .read-operations .result .«in_range» ≡ false
-        → refusal Range ≡ savedRead (c .before .before .before .before .before .before .before .before .before .args .bytes .now)
+        → unread (Refused Range) ≡ savedRead (c .before .before .before .before .before .before .before .before .before .args .bytes .now)
     out e =
         out-of-range _ _ (first-read (c .before .before .before .before .before .before)) (not-false _ (c .before .before .before .before .if1 .left)) (c .before .before .before .rest .ensures) _ (c .before .before .read-characters .ensures) _ (c .before .skip .ensures) _ (c .read-operations .ensures) l e
 
-    out-site : c .before .before .before .before .before .before .read-site .result .judged .«in_range» ≡ false → refusal Range ≡ savedRead (c .before .before .before .before .before .before .before .before .before .args .bytes .now)
+    out-site : c .before .before .before .before .before .before .read-site .result .judged .«in_range» ≡ false → unread (Refused Range) ≡ savedRead (c .before .before .before .before .before .before .before .before .before .args .bytes .now)
     out-site e = out (fails-first (c .before .before .before .before .before .before .read-site .result .judged .«in_range») (c .before .before .read-characters .result .«in_range») (c .read-operations .result .«in_range») e)
 
-    out-characters : c .before .before .read-characters .result .«in_range» ≡ false → refusal Range ≡ savedRead (c .before .before .before .before .before .before .before .before .before .args .bytes .now)
+    out-characters : c .before .before .read-characters .result .«in_range» ≡ false → unread (Refused Range) ≡ savedRead (c .before .before .before .before .before .before .before .before .before .args .bytes .now)
     out-characters e = out (fails-second (c .before .before .before .before .before .before .read-site .result .judged .«in_range») (c .before .before .read-characters .result .«in_range») (c .read-operations .result .«in_range») e)
 
-    out-operations : c .read-operations .result .«in_range» ≡ false → refusal Range ≡ savedRead (c .before .before .before .before .before .before .before .before .before .args .bytes .now)
+    out-operations : c .read-operations .result .«in_range» ≡ false → unread (Refused Range) ≡ savedRead (c .before .before .before .before .before .before .before .before .before .args .bytes .now)
     out-operations e = out (fails-third (c .before .before .before .before .before .before .read-site .result .judged .«in_range») (c .before .before .read-characters .result .«in_range») (c .read-operations .result .«in_range») e)
 
     inside : c .before .before .before .before .before .before .read-site .result .judged .«in_range» ≡ true → c .before .before .read-characters .result .«in_range» ≡ true → c .read-operations .result .«in_range» ≡ true

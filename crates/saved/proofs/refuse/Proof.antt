@@ -1,6 +1,6 @@
 -- `saved::refuse` meets its contract: an empty replica stands beside the refusal.
 use Rattle.saved.specs.declared.LoadAnswer.the-variants.{Refused}
-use Rattle.saved.specs.Calls.{noReplica, refusal}
+use Rattle.saved.specs.Calls.{noReplica, unread}
 use borrow.Author.Needs.{needs}
 use Rattle.saved.proofs.refuse.Statement.{statement}
 use Rattle.saved.proofs.refuse.Tie as tie
@@ -9,7 +9,7 @@ empty-requires : tie.Need-empty-requires
 empty-requires c κs = search needs
 
 returns : tie.Need-returns
-unfolding refusal noReplica
+unfolding unread noReplica
 returns c = λ j. record { answer = Refused (c .before .args .reason); replica = c .empty .ensures j }
 
 pub refuse-spec : {M : Type 1} → statement M

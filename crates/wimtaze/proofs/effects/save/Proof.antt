@@ -3,7 +3,7 @@ use mathlib.Core.Path.{refl, ap, _∙_}
 use Rattle.woot.specs.declared.Written.{Written}
 use Rattle.wimtaze.specs.Results.{numberOf}
 use Rattle.wimtaze.specs.Steps.{afterWriting}
-use Rattle.wimtaze.proofs.Outputs.{carried, writing-fitted}
+use Rattle.wimtaze.proofs.Outputs.{carried, writing-written}
 use borrow.Author.Needs.{needs}
 use Rattle.wimtaze.proofs.effects.save.Statement.{statement}
 use Rattle.wimtaze.proofs.effects.save.Tie as tie
@@ -21,7 +21,7 @@ returns : tie.Need-returns
 returns c =
     let s = c .before .before .before .put .ensures in
     let a = c .before .before .before .before .before .before .args .answer in
-    carried (writing-fitted _ _ _) (c .after-writing .ensures ∙ ap (λ (w : Written). numberOf (afterWriting a w)) (s .0), s .1, refl)
+    carried (writing-written _ _ _) (c .after-writing .ensures ∙ ap (λ (w : Written). numberOf (afterWriting a w)) (s .0), s .1, refl)
 
 pub save-spec : {M : Type 1} → statement M
 save-spec = tie.close (tie.spec put-requires after-writing-requires same-length returns)
