@@ -3,6 +3,7 @@
 use Prim.Native.Nat.{ℕ}
 use mathlib.Core.List.{List, [], _∷_}
 use mathlib.Core.Bool.{Bool, _&&_, _||_, not}
+use mathlib.Core.Option.{Option, none, some}
 use Rattle.woot.specs.declared.Operation.{Operation}
 use Rattle.woot.specs.declared.Refusal.the-variants.{Layout, Range}
 use Rattle.woot.specs.Answers.{Check, _⇒_, first, decided, number}
@@ -49,6 +50,11 @@ readOperation s = readAs (laidOut s) (saidBy s)
 unfoldable pub readNumber : Read → ℕ
 readNumber (readsAs o) = 0
 readNumber (readRefused r) = number r
+
+-- the operation, none with a refusal
+unfoldable pub readValue : Read → Option Operation
+readValue (readsAs o) = some o
+readValue (readRefused r) = none
 
 -- ---- writing
 

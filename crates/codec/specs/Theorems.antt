@@ -4,6 +4,7 @@ use mathlib.Core.Path.{_≡_}
 use mathlib.Core.Logic.{_↔_}
 use mathlib.Core.Bool.{true, false}
 use mathlib.Core.List.{List, _++_}
+use mathlib.Core.Option.{some}
 use lib.ListN.{length, getD}
 use Rattle.woot.specs.declared.Insert.{Insert}
 use Rattle.woot.specs.declared.Delete.{Delete}
@@ -12,12 +13,12 @@ use Rattle.woot.specs.declared.Operation.the-variants.{Insert as insert, Delete
 use Rattle.woot.specs.declared.Refusal.{Refusal}
 use Rattle.woot.specs.Answers.{Reported}
 use Rattle.woot.specs.Ranges.{inRange}
-use Rattle.woot.specs.Writing.{writingChecks, writtenNumber}
+use Rattle.woot.specs.Writing.{writingChecks, writtenNumber, writtenLength}
 use Rattle.codec.specs.declared.Read.the-variants.{Operation as readsAs, Refused as readRefused}
-use Rattle.woot.specs.declared.Written.the-variants.{Length, Refused as writtenRefused}
+use Rattle.woot.specs.declared.Written.the-variants.{Refused as writtenRefused}
 use Rattle.lines.specs.Lines.{lineFeed, rest}
 use Rattle.codec.specs.Operations.{operationLine}
-use Rattle.codec.specs.Calls.{laidOut, saidBy, readChecks, readAs, readOperation, readNumber, writeChecks, written, writtenOut}
+use Rattle.codec.specs.Calls.{laidOut, saidBy, readChecks, readAs, readOperation, readNumber, readValue, writeChecks, written, writtenOut}
 
 -- ---- round trips
 
@@ -83,13 +84,16 @@ ReadRefuses =
     (s : List ℕ) (r : Refusal) →
     (readOperation s ≡ readRefused r) ↔ Reported (readRefused r) (readChecks (laidOut s) (saidBy s))
 
--- by number: 1 where the layout lacks, 2 where it does not and the operation is out of range, else the operation
+-- by number: 1 where the layout lacks, 2 where it does not and the operation is out of range, else 0 and the
+-- operation that the line says
 abbrev pub ReadNumbers : Type 0
 ReadNumbers =
     (s : List ℕ) →
     ((readNumber (readOperation s) ≡ 1) ↔ (laidOut s ≡ false))
     × ((readNumber (readOperation s) ≡ 2) ↔ ((laidOut s ≡ true) × (inRange (saidBy s) ≡ false)))
-    × ((readOperation s ≡ readsAs (saidBy s)) ↔ ((laidOut s ≡ true) × (inRange (saidBy s) ≡ true)))
+    × ((readNumber (readOperation s) ≡ 0) ↔ ((laidOut s ≡ true) × (inRange (saidBy s) ≡ true)))
+    × ((o : Operation) →
+    (readValue (readOperation s) ≡ some o) ↔ ((laidOut s ≡ true) × (inRange (saidBy s) ≡ true) × (saidBy s ≡ o)))
 
 -- the writer answers refusal r exactly when its condition holds and none before it, and changes no byte then
 abbrev pub WriteRefuses : Type 0
@@ -99,12 +103,13 @@ WriteRefuses =
     ↔ Reported (writtenRefused r) (writingChecks (writeChecks o) (operationLine o) out))
     × (written o out ≡ writtenRefused r → writtenOut o out ≡ out)
 
--- by number: 2 where the operation is out of range, 12 where it is not and the slice is shorter than the line, else the
--- line's length
+-- by number: 2 where the operation is out of range, 12 where it is not and the slice is shorter than the line, else 0
+-- and the line's length
 abbrev pub WriteNumbers : Type 0
 WriteNumbers =
     (o : Operation) (out : List ℕ) →
     ((writtenNumber (written o out) ≡ 2) ↔ (inRange o ≡ false))
     × ((writtenNumber (written o out) ≡ 12) ↔ ((inRange o ≡ true) × (length out < length (operationLine o))))
-    × ((written o out ≡ Length (length (operationLine o)))
+    × ((writtenNumber (written o out) ≡ 0) ↔ ((inRange o ≡ true) × (length (operationLine o) ≤ length out)))
+    × ((writtenLength (written o out) ≡ length (operationLine o))
     ↔ ((inRange o ≡ true) × (length (operationLine o) ≤ length out)))

@@ -1,25 +1,31 @@
 -- A refusal is answered exactly when its condition is the first to hold; where none holds, the replica that the bytes say.
 use mathlib.Core.Path.{_≡_, refl, sym, ap, _∙_}
-use mathlib.Core.List.{List}
+use mathlib.Core.List.{List, _++_}
 use mathlib.Core.Logic.{_↔_}
 use mathlib.Core.Bool.{Bool, true, false}
 use mathlib.Core.Option.{Option, none, some}
-use Prim.Native.Nat.{ℕ}
+use Prim.Native.Nat.{ℕ, _≤_}
 use native.Mathlib.Omega.{arith}
+use lib.ListN.{length, length-append}
+use Rattle.woot.specs.declared.Replica.{Replica}
 use Rattle.woot.specs.declared.Refusal.{Refusal}
 use Rattle.woot.specs.declared.Refusal.the-variants.{Layout, Range, Form}
-use Rattle.woot.specs.State.{stored}
-use Rattle.woot.specs.Form.{wellFormed}
+use Rattle.woot.specs.State.{meaning, stored}
+use Rattle.woot.specs.Form.{wellFormed, replicaWellFormed}
 use Rattle.woot.specs.Answers.{first, decided}
 use Rattle.lists.proofs.Tests.{clash}
 use Rattle.convergence.proofs.Refusals.{decided-exactly}
 use Rattle.convergence.proofs.Writing.{writing-refuses}
+use Rattle.lines.specs.Lines.{concatenated}
+use Rattle.lines.proofs.Writing.{line-some}
+use Rattle.codec.specs.Operations.{operationLine}
+use Rattle.codec.proofs.Refusals.{none-some, by-test}
 use Rattle.saved.specs.declared.LoadAnswer.{LoadAnswer}
 use Rattle.saved.specs.declared.LoadAnswer.the-variants.{Done, Refused}
 use Rattle.saved.specs.declared.Loaded.{Loaded}
-use Rattle.saved.specs.Format.{savedLaidOut, savedState, savedInRange}
-use Rattle.saved.specs.Calls.{loadChecks, noReplica, unread, loaded, loadNumber, bytesOf, saveChecks, saved, savedOut}
-use Rattle.saved.specs.Theorems.{LoadRefuses, LoadNumbers, SaveRefuses}
+use Rattle.saved.specs.Format.{siteHead, siteNumbers, siteLine, characterLine, savedLaidOut, savedState, savedInRange, savedBytes}
+use Rattle.saved.specs.Calls.{loadChecks, noReplica, unread, loaded, loadNumber, handedOver, loadValue, bytesOf, saveChecks, saved, savedOut}
+use Rattle.saved.specs.Theorems.{LoadRefuses, LoadNumbers, SaveRefuses, SaveNumbers}
 
 -- ---- reading
 
@@ -60,45 +66,51 @@ load-refuses s r =
     )
 
 pub load-numbers : LoadNumbers
-unfolding loadNumber unread
+unfolding loadNumber loadValue handedOver unread
 load-numbers s = go (savedLaidOut s) (savedInRange s) (wellFormed (savedState s)) refl refl refl
   where
     go : (a b d : Bool) → savedLaidOut s ≡ a → savedInRange s ≡ b → wellFormed (savedState s) ≡ d
         → ((loadNumber (loaded s .answer) ≡ 1) ↔ (savedLaidOut s ≡ false))
         × ((loadNumber (loaded s .answer) ≡ 2) ↔ ((savedLaidOut s ≡ true) × (savedInRange s ≡ false)))
         × ((loadNumber (loaded s .answer) ≡ 3) ↔ ((savedLaidOut s ≡ true) × (savedInRange s ≡ true) × (wellFormed (savedState s) ≡ false)))
-        × ((loaded s .answer ≡ Done) ↔ ((savedLaidOut s ≡ true) × (savedInRange s ≡ true) × (wellFormed (savedState s) ≡ true)))
+        × ((loadNumber (loaded s .answer) ≡ 0) ↔ ((savedLaidOut s ≡ true) × (savedInRange s ≡ true) × (wellFormed (savedState s) ≡ true)))
+        × ((x : Replica) → (loadValue (loaded s) ≡ some x) ↔ ((savedLaidOut s ≡ true) × (savedInRange s ≡ true) × (wellFormed (savedState s) ≡ true) × (stored (savedState s) ≡ x)))
     go false b d p q r =
-        let ans : loaded s .answer ≡ Refused Layout = ap (λ w. w .answer) (load-layout s p) in
-        let num : loadNumber (loaded s .answer) ≡ 1 = ap loadNumber ans in (
+        let a = load-layout s p in
+        let num : loadNumber (loaded s .answer) ≡ 1 = ap (λ y. loadNumber (y .answer)) a in (
           (λ e. p, λ e. num),
           (λ e. absurd (omega arith), λ w. clash (w .0) p),
           (λ e. absurd (omega arith), λ w. clash (w .0) p),
-          (λ e. absurd (never-done Layout (sym e ∙ ans)), λ w. clash (w .0) p),
+          (λ e. absurd (omega arith), λ w. clash (w .0) p),
+          λ x. (λ e. absurd (none-some (sym (ap loadValue a) ∙ e)), λ w. clash (w .0) p),
         )
     go true false d p q r =
-        let ans : loaded s .answer ≡ Refused Range = ap (λ w. w .answer) (load-range s p q) in
-        let num : loadNumber (loaded s .answer) ≡ 2 = ap loadNumber ans in (
+        let a = load-range s p q in
+        let num : loadNumber (loaded s .answer) ≡ 2 = ap (λ y. loadNumber (y .answer)) a in (
           (λ e. absurd (omega arith), λ e. clash p e),
           (λ e. (p, q), λ w. num),
           (λ e. absurd (omega arith), λ w. clash (w .1) q),
-          (λ e. absurd (never-done Range (sym e ∙ ans)), λ w. clash (w .1) q),
+          (λ e. absurd (omega arith), λ w. clash (w .1) q),
+          λ x. (λ e. absurd (none-some (sym (ap loadValue a) ∙ e)), λ w. clash (w .1) q),
         )
     go true true false p q r =
-        let ans : loaded s .answer ≡ Refused Form = ap (λ w. w .answer) (load-form s p q r) in
-        let num : loadNumber (loaded s .answer) ≡ 3 = ap loadNumber ans in (
+        let a = load-form s p q r in
+        let num : loadNumber (loaded s .answer) ≡ 3 = ap (λ y. loadNumber (y .answer)) a in (
           (λ e. absurd (omega arith), λ e. clash p e),
           (λ e. absurd (omega arith), λ w. clash q (w .1)),
           (λ e. (p, q, r), λ w. num),
-          (λ e. absurd (never-done Form (sym e ∙ ans)), λ w. clash (w .2) r),
+          (λ e. absurd (omega arith), λ w. clash (w .2) r),
+          λ x. (λ e. absurd (none-some (sym (ap loadValue a) ∙ e)), λ w. clash (w .2) r),
         )
     go true true true p q r =
-        let ans : loaded s .answer ≡ Done = ap (λ w. w .answer) (load-done s p q r) in
-        let num : loadNumber (loaded s .answer) ≡ 0 = ap loadNumber ans in (
+        let a = load-done s p q r in
+        let num : loadNumber (loaded s .answer) ≡ 0 = ap (λ y. loadNumber (y .answer)) a in
+        let value : loadValue (loaded s) ≡ some (stored (savedState s)) = ap loadValue a in (
           (λ e. absurd (omega arith), λ e. clash p e),
           (λ e. absurd (omega arith), λ w. clash q (w .1)),
           (λ e. absurd (omega arith), λ w. clash r (w .2)),
-          (λ e. (p, q, r), λ w. ans),
+          (λ e. (p, q, r), λ w. num),
+          λ x. (λ e. (p, q, r, let k : some (stored (savedState s)) ≡ some x = sym value ∙ e in cc), λ w. value ∙ ap some (w .3)),
         )
 
 -- ---- writing
@@ -106,3 +118,15 @@ load-numbers s = go (savedLaidOut s) (savedInRange s) (wellFormed (savedState s)
 pub save-refuses : SaveRefuses
 unfolding saved savedOut
 save-refuses r out q = let w = writing-refuses (saveChecks r) (bytesOf r) out q in (w .0, w .2)
+
+saved-some : (r : Replica) → 1 ≤ length (bytesOf r)
+unfolding bytesOf savedBytes siteLine
+saved-some r =
+    let first = siteLine (meaning r .site) in
+    let rows = concatenated characterLine (meaning r .characters) in
+    let waiting = concatenated operationLine (meaning r .pending) in
+    omega (arith, length-append (first ++ rows) waiting, length-append first rows, line-some siteHead (siteNumbers (meaning r .site)))
+
+pub save-numbers : SaveNumbers
+unfolding saved saveChecks
+save-numbers r out = by-test Form (λ e. omega arith) (bytesOf r) out (saved-some r) (replicaWellFormed r)

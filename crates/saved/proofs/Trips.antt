@@ -5,8 +5,6 @@ use mathlib.Core.List.{List, [], _∷_, _++_, map, append-nil, append-assoc}
 use mathlib.Core.Bool.{Bool, true, false, _&&_}
 use Prim.Native.Nat.{ℕ}
 use lib.ListN.{drop}
-use Rattle.woot.specs.declared.Character.{Character}
-use Rattle.woot.specs.declared.Operation.{Operation}
 use Rattle.lists.specs.Lists.{every}
 use Rattle.woot.specs.State.{State, meaning, stored}
 use Rattle.woot.specs.Form.{allInRange, wellFormed}
@@ -17,7 +15,7 @@ use Rattle.codec.specs.Operations.{operationLine}
 use Rattle.replica.proofs.Runs.{meaning-stored}
 use Rattle.saved.specs.declared.LoadAnswer.the-variants.{Done}
 use Rattle.saved.specs.Format.{siteLine, isSite, characterLine, isCharacter, characterSaid, visibleInRange, isOperation, operationSaid, headLine, characterLines, operationLines, savedLaidOut, savedState, savedInRange, savedBytes}
-use Rattle.saved.specs.Calls.{loaded}
+use Rattle.saved.specs.Calls.{loaded, loadNumber}
 use Rattle.saved.specs.Theorems.{SavedReadsBack, LoadedWritesBack, LoadedFormed}
 use Rattle.lines.proofs.Lines.{whole, rejoined, apart, concatenated-append, head-first}
 use Rattle.saved.proofs.Spelling.{bareSite, bareCharacter, bareOperation, site-lines, site-closed, character-lines, character-closed, operation-lines, operation-closed, site-laid, site-back, character-laid, character-back, character-fits, operation-laid, operation-back, operation-other, site-again, character-again, operation-again}
@@ -220,7 +218,8 @@ module _ (s : List ℕ) (l : savedLaidOut s ≡ true) where
 -- what was read says the state and is in form
 module _ (s : List ℕ) (e : loaded s .answer ≡ Done) where
   was-read : (savedLaidOut s ≡ true) × (savedInRange s ≡ true) × (wellFormed (savedState s) ≡ true)
-  was-read = load-numbers s .3 .0 e
+  unfolding loadNumber
+  was-read = load-numbers s .3 .0 (ap loadNumber e)
 
   read-means : meaning (loaded s .replica) ≡ savedState s
   read-means =

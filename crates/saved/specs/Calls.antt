@@ -3,6 +3,7 @@
 use Prim.Native.Nat.{ℕ}
 use mathlib.Core.List.{List, [], _∷_, map}
 use mathlib.Core.Bool.{not}
+use mathlib.Core.Option.{Option, none, some}
 use lib.ListN.{length, take}
 use Rattle.woot.specs.declared.Replica.{Replica}
 use Rattle.woot.specs.declared.Refusal.the-variants.{Layout, Range, Form}
@@ -64,6 +65,14 @@ savedRead s = decided unread (first (readingChecks s)) (record { answer = Done; 
 unfoldable pub loadNumber : LoadAnswer → ℕ
 loadNumber Done = 0
 loadNumber (Refused r) = number r
+
+-- the replica that is handed over: none with a refusal, whatever stands beside it
+unfoldable pub handedOver : LoadAnswer → Replica → Option Replica
+handedOver Done r = some r
+handedOver (Refused q) r = none
+
+unfoldable pub loadValue : Loaded → Option Replica
+loadValue x = handedOver (x .answer) (x .replica)
 
 -- ---- writing
 

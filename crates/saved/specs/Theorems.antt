@@ -1,9 +1,10 @@
 -- The promises about saved replicas, each proved in proofs/ under its name in small letters.
-use Prim.Native.Nat.{ℕ, _≤_}
+use Prim.Native.Nat.{ℕ, _≤_, _<_}
 use mathlib.Core.Path.{_≡_}
 use mathlib.Core.Logic.{_↔_}
 use mathlib.Core.Bool.{true, false}
 use mathlib.Core.List.{List, [], _∷_}
+use mathlib.Core.Option.{some}
 use lib.ListN.{length}
 use Rattle.woot.specs.declared.Operation.the-variants.{Insert as insert, Delete as delete}
 use Rattle.woot.specs.declared.Replica.{Replica}
@@ -13,10 +14,10 @@ use Rattle.woot.specs.Identifiers.{begin, end}
 use Rattle.woot.specs.State.{State, meaning, stored}
 use Rattle.woot.specs.Form.{wellFormed, replicaWellFormed}
 use Rattle.woot.specs.Answers.{Reported}
-use Rattle.woot.specs.Writing.{writingChecks}
+use Rattle.woot.specs.Writing.{writingChecks, writtenNumber, writtenLength}
 use Rattle.saved.specs.declared.LoadAnswer.the-variants.{Done, Refused}
 use Rattle.saved.specs.Format.{savedLaidOut, savedState, savedInRange, savedBytes}
-use Rattle.saved.specs.Calls.{loadChecks, noReplica, held, loaded, loadNumber, bytesOf, saveChecks, saved, savedOut}
+use Rattle.saved.specs.Calls.{loadChecks, noReplica, held, loaded, loadNumber, loadValue, bytesOf, saveChecks, saved, savedOut}
 
 -- ---- round trips
 
@@ -35,8 +36,8 @@ LoadedWritesBack =
 abbrev pub LoadedFormed : Type 0
 LoadedFormed = (bytes : List ℕ) → loaded bytes .answer ≡ Done → wellFormed (meaning (loaded bytes .replica)) ≡ true
 
--- what is read before the form is checked: the replica is in form exactly when the state that the bytes say is, and then
--- it is that state as it is stored, and means it
+-- what is read before the form is checked: the replica is in form exactly when the state that the bytes say is, and
+-- then it is that state as it is stored, and means it
 abbrev pub HeldForm : Type 0
 HeldForm =
     (s : State) →
@@ -101,8 +102,8 @@ LoadRefuses =
     ((loaded bytes .answer ≡ Refused r) ↔ Reported (Refused r) (loadChecks bytes))
     × (loaded bytes .answer ≡ Refused r → loaded bytes .replica ≡ noReplica)
 
--- by number: 1 where the layout lacks, 2 where it does not and something is out of range, 3 where neither is and the state
--- is not in form, else what the bytes say
+-- by number: 1 where the layout lacks, 2 where it does not and something is out of range, 3 where neither is and the
+-- state is not in form, else 0 and the replica that stores what the bytes say
 abbrev pub LoadNumbers : Type 0
 LoadNumbers =
     (bytes : List ℕ) →
@@ -110,8 +111,12 @@ LoadNumbers =
     × ((loadNumber (loaded bytes .answer) ≡ 2) ↔ ((savedLaidOut bytes ≡ true) × (savedInRange bytes ≡ false)))
     × ((loadNumber (loaded bytes .answer) ≡ 3)
     ↔ ((savedLaidOut bytes ≡ true) × (savedInRange bytes ≡ true) × (wellFormed (savedState bytes) ≡ false)))
-    × ((loaded bytes .answer ≡ Done)
+    × ((loadNumber (loaded bytes .answer) ≡ 0)
     ↔ ((savedLaidOut bytes ≡ true) × (savedInRange bytes ≡ true) × (wellFormed (savedState bytes) ≡ true)))
+    × ((r : Replica) →
+    (loadValue (loaded bytes) ≡ some r)
+    ↔ ((savedLaidOut bytes ≡ true) × (savedInRange bytes ≡ true) × (wellFormed (savedState bytes) ≡ true)
+    × (stored (savedState bytes) ≡ r)))
 
 -- the writer answers refusal r exactly when its condition holds and none before it, and changes no byte then
 abbrev pub SaveRefuses : Type 0
@@ -119,3 +124,14 @@ SaveRefuses =
     (r : Replica) (out : List ℕ) (q : Refusal) →
     ((saved r out ≡ writtenRefused q) ↔ Reported (writtenRefused q) (writingChecks (saveChecks r) (bytesOf r) out))
     × (saved r out ≡ writtenRefused q → savedOut r out ≡ out)
+
+-- by number: 3 where the replica is not in form, 12 where it is and the slice is shorter than the bytes, else 0 and how
+-- many bytes there are
+abbrev pub SaveNumbers : Type 0
+SaveNumbers =
+    (r : Replica) (out : List ℕ) →
+    ((writtenNumber (saved r out) ≡ 3) ↔ (replicaWellFormed r ≡ false))
+    × ((writtenNumber (saved r out) ≡ 12) ↔ ((replicaWellFormed r ≡ true) × (length out < length (bytesOf r))))
+    × ((writtenNumber (saved r out) ≡ 0) ↔ ((replicaWellFormed r ≡ true) × (length (bytesOf r) ≤ length out)))
+    × ((writtenLength (saved r out) ≡ length (bytesOf r))
+    ↔ ((replicaWellFormed r ≡ true) × (length (bytesOf r) ≤ length out)))
