@@ -21,8 +21,8 @@ struct Outcome {
 
 // Everything but the store: the record by value.
 fn insert_with(site: Site, document: Document, point: usize, code_point: u32) -> Outcome
-    ensures { λ x. ⌜ (x .returned ≡ returned site document point «code_point»)
-        × (withClock site (x .clock) ≡ siteAfter site (x .returned .answer)) ⌝ }
+    ensures { λ r. ⌜ r .returned ≡ returned site document point «code_point» ⌝ }
+    ensures { λ r. ⌜ withClock site (r .clock) ≡ siteAfter site (r .returned .answer) ⌝ }
 {
     let generated = replica::insert(Replica { site, document }, point, code_point);
     let answer = generated.answer;
@@ -37,8 +37,8 @@ fn insert_with(site: Site, document: Document, point: usize, code_point: u32) ->
 // Inserts a code point at an insertion point, 0 above the first visible character. On success the lent record's clock
 // is one higher, on a refusal all is as it was. (Document 01: typing at a gap.)
 pub fn insert_on(site: &mut Site, document: Document, point: usize, code_point: u32) -> Returned
-    ensures { λ x. ⌜ (x ≡ returned (now (site .entry)) document point «code_point»)
-        × (now (site .exit) ≡ siteAfter (now (site .entry)) (x .answer)) ⌝ }
+    ensures { λ r. ⌜ r ≡ returned (now (site .entry)) document point «code_point» ⌝ }
+    ensures { λ r. ⌜ now (site .exit) ≡ siteAfter (now (site .entry)) (r .answer) ⌝ }
 {
     let outcome = insert_with(*site, document, point, code_point);
     site.clock = outcome.clock;
