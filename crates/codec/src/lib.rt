@@ -121,54 +121,58 @@ pub fn read_line(line: &[u8]) -> Read
 }
 
 // Reads the first line of the bytes as an operation. What follows the line feed is left to `rest`.
-pub fn read_operation(s: &[u8]) -> Read
-    ensures { λ r. ⌜ r ≡ readOperation (now (s .entry)) ⌝ }
+pub fn read_operation(bytes: &[u8]) -> Read
+    ensures { λ r. ⌜ r ≡ readOperation (now (bytes .entry)) ⌝ }
 {
-    read_line(lines::first_line(s))
+    read_line(lines::first_line(bytes))
 }
 
 // The bytes after the first line feed, of a refused line too; with no line feed, the empty end of the bytes.
-pub fn rest(s: &[u8]) -> &[u8]
-    ensures { λ r. ⌜ now r ≡ rest (now (s .entry)) ⌝ }
+pub fn rest(bytes: &[u8]) -> &[u8]
+    ensures { λ r. ⌜ now r ≡ rest (now (bytes .entry)) ⌝ }
 {
-    lines::rest(s)
+    lines::rest(bytes)
 }
 
 // The numbers of an insert's line.
-fn insert_numbers(i: Insert) -> [u64; 7]
-    ensures { λ r. ⌜ r ≡ insertNumbers i ⌝ }
+fn insert_numbers(insert: Insert) -> [u64; 7]
+    ensures { λ r. ⌜ r ≡ insertNumbers insert ⌝ }
 {
     [
-        i.id.site as u64,
-        i.id.clock as u64,
-        i.code_point as u64,
-        i.previous.site as u64,
-        i.previous.clock as u64,
-        i.next.site as u64,
-        i.next.clock as u64,
+        insert.id.site as u64,
+        insert.id.clock as u64,
+        insert.code_point as u64,
+        insert.previous.site as u64,
+        insert.previous.clock as u64,
+        insert.next.site as u64,
+        insert.next.clock as u64,
     ]
 }
 
 // The numbers of a delete's line.
-fn delete_numbers(d: Delete) -> [u64; 3]
-    ensures { λ r. ⌜ r ≡ deleteNumbers d ⌝ }
+fn delete_numbers(delete: Delete) -> [u64; 3]
+    ensures { λ r. ⌜ r ≡ deleteNumbers delete ⌝ }
 {
-    [d.sender as u64, d.target.site as u64, d.target.clock as u64]
+    [
+        delete.sender as u64,
+        delete.target.site as u64,
+        delete.target.clock as u64,
+    ]
 }
 
 // Where the line of an operation, in range or not, ends that begins at the offset in a slice of the given size.
-pub fn measure(o: Operation, size: usize, at: usize) -> Room
-    ensures { λ r. ⌜ r ≡ roomFor size at (operationLine o) ⌝ }
+pub fn measure(operation: Operation, size: usize, at: usize) -> Room
+    ensures { λ r. ⌜ r ≡ roomFor size at (operationLine operation) ⌝ }
 {
-    match o {
-        Operation::Insert(i) => {
+    match operation {
+        Operation::Insert(insert) => {
             let head = [INSERT];
-            let numbers = insert_numbers(i);
+            let numbers = insert_numbers(insert);
             lines::measure(&head, &numbers, size, at)
         }
-        Operation::Delete(d) => {
+        Operation::Delete(delete) => {
             let head = [DELETE];
-            let numbers = delete_numbers(d);
+            let numbers = delete_numbers(delete);
             lines::measure(&head, &numbers, size, at)
         }
     }
@@ -176,19 +180,19 @@ pub fn measure(o: Operation, size: usize, at: usize) -> Room
 
 // Puts the line of an operation into the slice at the offset, all of it or nothing, and answers the offset just past
 // it.
-pub fn put_operation(o: Operation, out: &mut [u8], at: usize) -> usize
-    ensures { λ r. ⌜ r ≡ past (now (out .entry)) at (operationLine o) ⌝ }
-    ensures { λ r. ⌜ now (out .exit) ≡ placed (now (out .entry)) at (operationLine o) ⌝ }
+pub fn put_operation(operation: Operation, out: &mut [u8], at: usize) -> usize
+    ensures { λ r. ⌜ r ≡ past (now (out .entry)) at (operationLine operation) ⌝ }
+    ensures { λ r. ⌜ now (out .exit) ≡ placed (now (out .entry)) at (operationLine operation) ⌝ }
 {
-    match o {
-        Operation::Insert(i) => {
+    match operation {
+        Operation::Insert(insert) => {
             let head = [INSERT];
-            let numbers = insert_numbers(i);
+            let numbers = insert_numbers(insert);
             lines::put(&head, &numbers, out, at)
         }
-        Operation::Delete(d) => {
+        Operation::Delete(delete) => {
             let head = [DELETE];
-            let numbers = delete_numbers(d);
+            let numbers = delete_numbers(delete);
             lines::put(&head, &numbers, out, at)
         }
     }
@@ -206,12 +210,12 @@ pub fn fitted(past: usize) -> Written
 }
 
 // Writes the line of an operation at the front of the slice. A refused call leaves every byte as it was.
-pub fn write_operation(o: Operation, out: &mut [u8]) -> Written
-    ensures { λ r. ⌜ r ≡ written o (now (out .entry)) ⌝ }
-    ensures { λ r. ⌜ now (out .exit) ≡ writtenOut o (now (out .entry)) ⌝ }
+pub fn write_operation(operation: Operation, out: &mut [u8]) -> Written
+    ensures { λ r. ⌜ r ≡ written operation (now (out .entry)) ⌝ }
+    ensures { λ r. ⌜ now (out .exit) ≡ writtenOut operation (now (out .entry)) ⌝ }
 {
-    if !ranges::in_range(o) {
+    if !ranges::in_range(operation) {
         return Written::Refused(Refusal::Range);
     }
-    fitted(put_operation(o, out, 0))
+    fitted(put_operation(operation, out, 0))
 }

@@ -52,9 +52,9 @@ pub fn report_line(number: u64, answer: Answer, out: &mut [u8]) -> Written
             let word = [b'k', b'n', b'o', b'w', b'n'];
             put_report(number, &word, [0, 0, 0], out)
         }
-        Answer::Refused(r) => {
+        Answer::Refused(refusal) => {
             let word = [b'r', b'e', b'f', b'u', b's', b'e', b'd'];
-            put_report(number, &word, [0, 0, r.number()], out)
+            put_report(number, &word, [0, 0, refusal.number()], out)
         }
     }
 }
@@ -67,25 +67,25 @@ struct Listing {
 }
 
 // The code point of a character as a number of a line.
-fn code_point(c: Character) -> u64
-    ensures { λ r. ⌜ r ≡ c .«code_point» ⌝ }
+fn code_point(character: Character) -> u64
+    ensures { λ r. ⌜ r ≡ character .«code_point» ⌝ }
 {
-    c.code_point as u64
+    character.code_point as u64
 }
 
 // Lists the visible ones of the first n characters.
-fn list(cs: [Character; 1024], n: usize) -> Listing
+fn list(characters: [Character; 1024], n: usize) -> Listing
     requires { ⌜ n ≤ 1024 ⌝ }
-    ensures { λ r. ⌜ r ≡ listing (take n cs) ⌝ }
+    ensures { λ r. ⌜ r ≡ listing (take n characters) ⌝ }
 {
     let mut values = [0u64; 1025];
     let mut count = 0;
     let mut i = 0;
     while i < n {
-        let c = cs[i];
-        if c.is_visible() {
+        let character = characters[i];
+        if character.is_visible() {
             count += 1;
-            values[count] = code_point(c);
+            values[count] = code_point(character);
         }
         i += 1;
     }
@@ -94,38 +94,38 @@ fn list(cs: [Character; 1024], n: usize) -> Listing
 }
 
 // Writes the line of the visible ones of the first n characters at the front of the slice, all of it or nothing.
-fn put_text(cs: [Character; 1024], n: usize, out: &mut [u8]) -> Written
-    ensures { λ r. ⌜ r ≡ writtenAs [] (textLine (take n cs)) (now (out .entry)) ⌝ }
-    ensures { λ r. ⌜ now (out .exit) ≡ outputAfter [] (textLine (take n cs)) (now (out .entry)) ⌝ }
+fn put_text(characters: [Character; 1024], n: usize, out: &mut [u8]) -> Written
+    ensures { λ r. ⌜ r ≡ writtenAs [] (textLine (take n characters)) (now (out .entry)) ⌝ }
+    ensures { λ r. ⌜ now (out .exit) ≡ outputAfter [] (textLine (take n characters)) (now (out .entry)) ⌝ }
 {
     let head = [b'T'];
-    let l = list(cs, index::lesser(1024, n));
-    let values = l.values;
-    let size = l.count + 1;
+    let listed = list(characters, index::lesser(1024, n));
+    let values = listed.values;
+    let size = listed.count + 1;
     codec::fitted(lines::put(&head, &values[..size], out, 0))
 }
 
 // Writes the line of a replica's visible characters at the front of the slice. A slice that is too short keeps every
 // byte.
-pub fn text_line(r: Replica, out: &mut [u8]) -> Written
-    ensures { λ x. ⌜ x ≡ writtenAs [] (textLine (meaning r .characters)) (now (out .entry)) ⌝ }
-    ensures { λ x. ⌜ now (out .exit) ≡ outputAfter [] (textLine (meaning r .characters)) (now (out .entry)) ⌝ }
+pub fn text_line(replica: Replica, out: &mut [u8]) -> Written
+    ensures { λ x. ⌜ x ≡ writtenAs [] (textLine (meaning replica .characters)) (now (out .entry)) ⌝ }
+    ensures { λ x. ⌜ now (out .exit) ≡ outputAfter [] (textLine (meaning replica .characters)) (now (out .entry)) ⌝ }
 {
-    let d = r.document;
-    let cs = d.characters;
-    put_text(cs, d.length, out)
+    let document = replica.document;
+    let characters = document.characters;
+    put_text(characters, document.length, out)
 }
 
 // Answers the first line of the bytes: receives the operation that it says, or refuses it and returns the replica as it
 // was.
-pub fn answer_line(r: Replica, s: &[u8]) -> Receipt
-    ensures { λ x. ⌜ x ≡ answered r (now (s .entry)) ⌝ }
+pub fn answer_line(replica: Replica, bytes: &[u8]) -> Receipt
+    ensures { λ x. ⌜ x ≡ answered replica (now (bytes .entry)) ⌝ }
 {
-    match codec::read_operation(s) {
-        codec::Read::Operation(o) => replica::receive(r, o),
-        codec::Read::Refused(q) => Receipt {
-            answer: Answer::Refused(q),
-            replica: r,
+    match codec::read_operation(bytes) {
+        codec::Read::Operation(operation) => replica::receive(replica, operation),
+        codec::Read::Refused(refusal) => Receipt {
+            answer: Answer::Refused(refusal),
+            replica,
         },
     }
 }

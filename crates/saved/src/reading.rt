@@ -186,22 +186,22 @@ fn both(a: bool, b: bool) -> bool
 }
 
 // The first line without its line feed, or nothing.
-pub(crate) fn head(s: &[u8]) -> &[u8]
-    ensures { λ r. ⌜ now r ≡ getD (lines (now (s .entry))) 0 [] ⌝ }
+pub(crate) fn head(bytes: &[u8]) -> &[u8]
+    ensures { λ r. ⌜ now r ≡ getD (lines (now (bytes .entry))) 0 [] ⌝ }
 {
-    lines::first_line(s)
+    lines::first_line(bytes)
 }
 
 // Reads the lines of characters at the front of the bytes.
-pub(crate) fn read_characters(s: &[u8]) -> Characters
-    ensures { λ r. ⌜ r ≡ charactersRead (leading isCharacter (lines (now (s .entry)))) ⌝ }
+pub(crate) fn read_characters(bytes: &[u8]) -> Characters
+    ensures { λ r. ⌜ r ≡ charactersRead (leading isCharacter (lines (now (bytes .entry)))) ⌝ }
 {
     let blank = Replica::empty(0);
     let document = blank.document;
     let mut items = document.characters;
     let mut count = 0;
     let mut in_range = true;
-    let mut left = s;
+    let mut left = bytes;
     loop {
         let line = read_character(head(left));
         if !line.judged.laid_out {
@@ -223,11 +223,12 @@ pub(crate) fn read_characters(s: &[u8]) -> Characters
 }
 
 // The bytes after the first n lines.
-pub(crate) fn skip(s: &[u8], n: usize) -> &[u8]
-    requires { ⌜ n ≤ length (lines (now s)) ⌝ }
-    ensures { λ r. ⌜ (lines (now r) ≡ drop n (lines (now (s .entry)))) × (closed (now r) ≡ closed (now (s .entry))) ⌝ }
+pub(crate) fn skip(bytes: &[u8], n: usize) -> &[u8]
+    requires { ⌜ n ≤ length (lines (now bytes)) ⌝ }
+    ensures { λ r. ⌜ lines (now r) ≡ drop n (lines (now (bytes .entry))) ⌝ }
+    ensures { λ r. ⌜ closed (now r) ≡ closed (now (bytes .entry)) ⌝ }
 {
-    let mut left = s;
+    let mut left = bytes;
     let mut i = 0;
     while i < n {
         let next = lines::rest(left);
@@ -253,15 +254,15 @@ fn no_operations() -> Operations
 }
 
 // Reads all lines as pending operations.
-pub(crate) fn read_operations(s: &[u8]) -> Operations
-    ensures { λ r. ⌜ r ≡ operationsRead (now (s .entry)) ⌝ }
+pub(crate) fn read_operations(bytes: &[u8]) -> Operations
+    ensures { λ r. ⌜ r ≡ operationsRead (now (bytes .entry)) ⌝ }
 {
     let blank = Replica::empty(0);
     let document = blank.document;
     let mut items = document.pending;
     let mut count = 0;
     let mut in_range = true;
-    let mut left = s;
+    let mut left = bytes;
     while 0 < left.len() {
         let line = read_operation(head(left));
         if !line.judged.laid_out {

@@ -33,33 +33,33 @@ fn visible_number(visible: bool) -> u64
 }
 
 // The numbers of a character's line.
-fn character_numbers(c: Character) -> [u64; 8]
-    ensures { λ r. ⌜ r ≡ characterNumbers c ⌝ }
+fn character_numbers(character: Character) -> [u64; 8]
+    ensures { λ r. ⌜ r ≡ characterNumbers character ⌝ }
 {
     [
-        c.id.site as u64,
-        c.id.clock as u64,
-        c.code_point as u64,
-        visible_number(c.visible),
-        c.previous.site as u64,
-        c.previous.clock as u64,
-        c.next.site as u64,
-        c.next.clock as u64,
+        character.id.site as u64,
+        character.id.clock as u64,
+        character.code_point as u64,
+        visible_number(character.visible),
+        character.previous.site as u64,
+        character.previous.clock as u64,
+        character.next.site as u64,
+        character.next.clock as u64,
     ]
 }
 
 // Where the lines of the first n characters end that begin at the offset in a slice of the given size.
-fn measure_characters(cs: [Character; 1024], n: usize, size: usize, at: usize) -> Room
+fn measure_characters(characters: [Character; 1024], n: usize, size: usize, at: usize) -> Room
     requires { ⌜ n ≤ 1024 ⌝ }
     requires { ⌜ at ≤ size ⌝ }
-    ensures { λ r. ⌜ r ≡ roomFor size at (concatenated characterLine (take n cs)) ⌝ }
+    ensures { λ r. ⌜ r ≡ roomFor size at (concatenated characterLine (take n characters)) ⌝ }
 {
     let head = [CHARACTER];
     let mut end = at;
     let mut i = 0;
     while i < n {
-        let c = cs[i];
-        let numbers = character_numbers(c);
+        let character = characters[i];
+        let numbers = character_numbers(character);
         let room = lines::measure(&head, &numbers, size, end);
         let Room::Until(next) = room else {
             return Room::Short;
@@ -71,17 +71,17 @@ fn measure_characters(cs: [Character; 1024], n: usize, size: usize, at: usize) -
 }
 
 // The same for the lines of the first n pending operations.
-fn measure_pending(ps: [Pending; 512], n: usize, size: usize, at: usize) -> Room
+fn measure_pending(pending: [Pending; 512], n: usize, size: usize, at: usize) -> Room
     requires { ⌜ n ≤ 512 ⌝ }
     requires { ⌜ at ≤ size ⌝ }
-    ensures { λ r. ⌜ r ≡ roomFor size at (concatenated pendingLine (take n ps)) ⌝ }
+    ensures { λ r. ⌜ r ≡ roomFor size at (concatenated pendingLine (take n pending)) ⌝ }
 {
     let mut end = at;
     let mut i = 0;
     while i < n {
-        let p = ps[i];
-        let o = p.operation;
-        let room = codec::measure(o, size, end);
+        let slot = pending[i];
+        let operation = slot.operation;
+        let room = codec::measure(operation, size, end);
         let Room::Until(next) = room else {
             return Room::Short;
         };
@@ -96,35 +96,40 @@ pub(crate) fn measure(replica: Replica, size: usize) -> Room
     ensures { λ r. ⌜ r ≡ roomFor size 0 (bytesOf replica) ⌝ }
 {
     let site = replica.site;
-    let d = replica.document;
-    let cs = d.characters;
-    let ps = d.pending;
+    let document = replica.document;
+    let characters = document.characters;
+    let pending = document.pending;
     let head = [SITE];
     let numbers = site_numbers(site);
     let first = lines::measure(&head, &numbers, size, 0);
     let Room::Until(second) = first else {
         return Room::Short;
     };
-    let characters = measure_characters(cs, index::lesser(1024, d.length), size, second);
-    let Room::Until(third) = characters else {
+    let middle = measure_characters(
+        characters,
+        index::lesser(1024, document.length),
+        size,
+        second,
+    );
+    let Room::Until(third) = middle else {
         return Room::Short;
     };
-    measure_pending(ps, index::lesser(512, d.waiting), size, third)
+    measure_pending(pending, index::lesser(512, document.waiting), size, third)
 }
 
 // Puts the lines of the first n characters at the offset, where there is room.
-fn put_characters(cs: [Character; 1024], n: usize, out: &mut [u8], at: usize) -> usize
+fn put_characters(characters: [Character; 1024], n: usize, out: &mut [u8], at: usize) -> usize
     requires { ⌜ n ≤ 1024 ⌝ }
-    requires { ⌜ at + length (concatenated characterLine (take n cs)) ≤ length (now out) ⌝ }
-    ensures { λ r. ⌜ r ≡ past (now (out .entry)) at (concatenated characterLine (take n cs)) ⌝ }
-    ensures { λ r. ⌜ now (out .exit) ≡ placed (now (out .entry)) at (concatenated characterLine (take n cs)) ⌝ }
+    requires { ⌜ at + length (concatenated characterLine (take n characters)) ≤ length (now out) ⌝ }
+    ensures { λ r. ⌜ r ≡ past (now (out .entry)) at (concatenated characterLine (take n characters)) ⌝ }
+    ensures { λ r. ⌜ now (out .exit) ≡ placed (now (out .entry)) at (concatenated characterLine (take n characters)) ⌝ }
 {
     let head = [CHARACTER];
     let mut end = at;
     let mut i = 0;
     while i < n {
-        let c = cs[i];
-        let numbers = character_numbers(c);
+        let character = characters[i];
+        let numbers = character_numbers(character);
         end = lines::put(&head, &numbers, out, end);
         i += 1;
     }
@@ -132,18 +137,18 @@ fn put_characters(cs: [Character; 1024], n: usize, out: &mut [u8], at: usize) ->
 }
 
 // Puts the lines of the first n pending operations at the offset, where there is room.
-fn put_pending(ps: [Pending; 512], n: usize, out: &mut [u8], at: usize) -> usize
+fn put_pending(pending: [Pending; 512], n: usize, out: &mut [u8], at: usize) -> usize
     requires { ⌜ n ≤ 512 ⌝ }
-    requires { ⌜ at + length (concatenated pendingLine (take n ps)) ≤ length (now out) ⌝ }
-    ensures { λ r. ⌜ r ≡ past (now (out .entry)) at (concatenated pendingLine (take n ps)) ⌝ }
-    ensures { λ r. ⌜ now (out .exit) ≡ placed (now (out .entry)) at (concatenated pendingLine (take n ps)) ⌝ }
+    requires { ⌜ at + length (concatenated pendingLine (take n pending)) ≤ length (now out) ⌝ }
+    ensures { λ r. ⌜ r ≡ past (now (out .entry)) at (concatenated pendingLine (take n pending)) ⌝ }
+    ensures { λ r. ⌜ now (out .exit) ≡ placed (now (out .entry)) at (concatenated pendingLine (take n pending)) ⌝ }
 {
     let mut end = at;
     let mut i = 0;
     while i < n {
-        let p = ps[i];
-        let o = p.operation;
-        end = codec::put_operation(o, out, end);
+        let slot = pending[i];
+        let operation = slot.operation;
+        end = codec::put_operation(operation, out, end);
         i += 1;
     }
     end
@@ -155,12 +160,12 @@ pub(crate) fn put_all(replica: Replica, out: &mut [u8])
     ensures { λ r. ⌜ now (out .exit) ≡ placed (now (out .entry)) 0 (bytesOf replica) ⌝ }
 {
     let site = replica.site;
-    let d = replica.document;
-    let cs = d.characters;
-    let ps = d.pending;
+    let document = replica.document;
+    let characters = document.characters;
+    let pending = document.pending;
     let head = [SITE];
     let numbers = site_numbers(site);
     let first = lines::put(&head, &numbers, out, 0);
-    let second = put_characters(cs, index::lesser(1024, d.length), out, first);
-    put_pending(ps, index::lesser(512, d.waiting), out, second);
+    let second = put_characters(characters, index::lesser(1024, document.length), out, first);
+    put_pending(pending, index::lesser(512, document.waiting), out, second);
 }

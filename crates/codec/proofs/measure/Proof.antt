@@ -8,8 +8,8 @@ use Rattle.codec.specs.Operations.{insertHead, deleteHead, operationLine
 use Rattle.codec.proofs.measure.Statement.{statement}
 use Rattle.codec.proofs.measure.Tie as tie
 
-enum-known-o : tie.Need-enum-known-o
-enum-known-o c = search needs
+enum-known-operation : tie.Need-enum-known-operation
+enum-known-operation c = search needs
 
 insert-numbers-requires : tie.Need-insert-numbers-requires
 insert-numbers-requires c κs = search needs
@@ -23,8 +23,8 @@ slice-aggregate-measure-2 c = search needs
 measure-requires : tie.Need-measure-requires
 measure-requires c κs = search needs
 
-enum-known-o-2 : tie.Need-enum-known-o-2
-enum-known-o-2 c = search needs
+enum-known-operation-2 : tie.Need-enum-known-operation-2
+enum-known-operation-2 c = search needs
 
 delete-numbers-requires : tie.Need-delete-numbers-requires
 delete-numbers-requires c κs = search needs
@@ -41,25 +41,25 @@ measure-requires-2 c κs = search needs
 returns : tie.Need-returns
 unfolding operationLine
 returns c =
-    let e = ap (lineOf insertHead) (c .before .before .before .insert-numbers .ensures) ∙ sym (ap operationLine (c .before .before .before .before .before .o .given .1)) in
+    let e = ap (lineOf insertHead) (c .before .before .before .insert-numbers .ensures) ∙ sym (ap operationLine (c .before .before .before .before .before .operation .given .1)) in
     c .measure .ensures ∙ ap (roomFor _ _) e
 
 returns-2 : tie.Need-returns-2
 unfolding operationLine
 returns-2 c =
-    let e = ap (lineOf deleteHead) (c .before .before .before .delete-numbers .ensures) ∙ sym (ap operationLine (c .before .before .before .before .before .o2 .given .1)) in
+    let e = ap (lineOf deleteHead) (c .before .before .before .delete-numbers .ensures) ∙ sym (ap operationLine (c .before .before .before .before .before .operation2 .given .1)) in
     c .measure2 .ensures ∙ ap (roomFor _ _) e
 
 pub measure-spec : {M : Type 1} → statement M
 measure-spec =
     tie.close
     (tie.spec
-    enum-known-o
+    enum-known-operation
     insert-numbers-requires
     slice-aggregate-measure
     slice-aggregate-measure-2
     measure-requires
-    enum-known-o-2
+    enum-known-operation-2
     delete-numbers-requires
     slice-aggregate-measure-3
     slice-aggregate-measure-4

@@ -8,8 +8,8 @@ use Rattle.codec.specs.Operations.{insertHead, deleteHead, operationLine
 use Rattle.codec.proofs.put_operation.Statement.{statement}
 use Rattle.codec.proofs.put_operation.Tie as tie
 
-enum-known-o : tie.Need-enum-known-o
-enum-known-o c = search needs
+enum-known-operation : tie.Need-enum-known-operation
+enum-known-operation c = search needs
 
 insert-numbers-requires : tie.Need-insert-numbers-requires
 insert-numbers-requires c κs = search needs
@@ -23,8 +23,8 @@ slice-aggregate-put-2 c = search needs
 put-requires : tie.Need-put-requires
 put-requires c κs = search needs
 
-enum-known-o-2 : tie.Need-enum-known-o-2
-enum-known-o-2 c = search needs
+enum-known-operation-2 : tie.Need-enum-known-operation-2
+enum-known-operation-2 c = search needs
 
 delete-numbers-requires : tie.Need-delete-numbers-requires
 delete-numbers-requires c κs = search needs
@@ -45,7 +45,7 @@ returns : tie.Need-returns
 unfolding operationLine
 returns c =
     let p = c .before .before .put .ensures in
-    let e = ap (lineOf insertHead) (c .before .before .before .before .before .before .insert-numbers .ensures) ∙ sym (ap operationLine (c .before .before .before .before .before .before .before .before .o .given .1)) in
+    let e = ap (lineOf insertHead) (c .before .before .before .before .before .before .insert-numbers .ensures) ∙ sym (ap operationLine (c .before .before .before .before .before .before .before .before .operation .given .1)) in
     (p .0 ∙ ap (past _ _) e, p .1 ∙ ap (placed _ _) e)
 
 same-length-2 : tie.Need-same-length-2
@@ -55,19 +55,19 @@ returns-2 : tie.Need-returns-2
 unfolding operationLine
 returns-2 c =
     let p = c .before .before .put2 .ensures in
-    let e = ap (lineOf deleteHead) (c .before .before .before .before .before .before .delete-numbers .ensures) ∙ sym (ap operationLine (c .before .before .before .before .before .before .before .before .o2 .given .1)) in
+    let e = ap (lineOf deleteHead) (c .before .before .before .before .before .before .delete-numbers .ensures) ∙ sym (ap operationLine (c .before .before .before .before .before .before .before .before .operation2 .given .1)) in
     (p .0 ∙ ap (past _ _) e, p .1 ∙ ap (placed _ _) e)
 
 pub put-operation-spec : {M : Type 1} → statement M
 put-operation-spec =
     tie.close
     (tie.spec
-    enum-known-o
+    enum-known-operation
     insert-numbers-requires
     slice-aggregate-put
     slice-aggregate-put-2
     put-requires
-    enum-known-o-2
+    enum-known-operation-2
     delete-numbers-requires
     slice-aggregate-put-3
     slice-aggregate-put-4

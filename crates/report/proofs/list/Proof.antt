@@ -18,11 +18,11 @@ abbrev μ-loop : tie.MeasureT-loop
 loop-holds : tie.Need-loop-holds Inv-loop μ-loop
 loop-holds c = (omega arith, c .good .0 .1 .0 .1, gathered-none _)
 
-mul-c : tie.Need-mul-c Inv-loop μ-loop
-mul-c c = omega arith
+mul-character : tie.Need-mul-character Inv-loop μ-loop
+mul-character c = omega arith
 
-array-copy-out-c : tie.Need-array-copy-out-c Inv-loop μ-loop
-array-copy-out-c c = omega arith
+array-copy-out-character : tie.Need-array-copy-out-character Inv-loop μ-loop
+array-copy-out-character c = omega arith
 
 is-visible-requires : tie.Need-is-visible-requires Inv-loop μ-loop
 is-visible-requires c κs = search needs
@@ -67,8 +67,8 @@ list-spec =
     Inv-loop
     μ-loop
     loop-holds
-    mul-c
-    array-copy-out-c
+    mul-character
+    array-copy-out-character
     is-visible-requires
     add-count
     code-point-requires

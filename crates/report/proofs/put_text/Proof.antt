@@ -26,7 +26,7 @@ few : (c : tie.After-list) → c .list .result .count ≤ 1024
 few c = listing-few _ (start c .good .0 .1 .0 .1) (start c .args .n) _ (c .before .lesser .ensures) _ (c .list .ensures)
 
 -- the numbers are in the array
-numbers : (c : tie.After-list) → Front (textNumbers (take (start c .args .n) (start c .args .cs))) (c .list .result .values) (c .list .result .count + 1)
+numbers : (c : tie.After-list) → Front (textNumbers (take (start c .args .n) (start c .args .characters))) (c .list .result .values) (c .list .result .count + 1)
 numbers c = listing-front _ (start c .good .0 .1 .0 .1) (start c .args .n) _ (c .before .lesser .ensures) _ (c .list .ensures)
 
 add-size : tie.Need-add-size

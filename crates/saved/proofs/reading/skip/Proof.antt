@@ -34,8 +34,8 @@ loop-again c =
     let r = c .rest .ensures in (
       omega arith,
       l .inv .1,
-      ap lines r ∙ skip-lines (c .before .before .before .before .args .s .now) (l .left .now) (l .i) (l .inv .2),
-      ap closed r ∙ skip-closed (c .before .before .before .before .args .s .now) (l .left .now) (l .i) (l .inv .2) (omega arith) ∙ l .inv .3,
+      ap lines r ∙ skip-lines (c .before .before .before .before .args .bytes .now) (l .left .now) (l .i) (l .inv .2),
+      ap closed r ∙ skip-closed (c .before .before .before .before .args .bytes .now) (l .left .now) (l .i) (l .inv .2) (omega arith) ∙ l .inv .3,
     )
 
 returns : tie.Need-returns Inv-loop μ-loop

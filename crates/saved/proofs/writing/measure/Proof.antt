@@ -54,8 +54,8 @@ measure-characters-requires c κs =
     let f = full (c .before .before .before .before .before .before .before .before .before .before .before .before) in
     (omega (arith, c .lesser .ensures), second-fits (c .before .before .before .before .before .before .before .before .before .before .before .before .args .replica) (f .0) (f .1) refl refl _ (site-measured (c .before .before .before .before)) (c .before .before .first .given .1))
 
-enum-known-characters : tie.Need-enum-known-characters
-enum-known-characters c = search needs
+enum-known-middle : tie.Need-enum-known-middle
+enum-known-middle c = search needs
 
 enum-told-2 : tie.Need-enum-told-2
 enum-told-2 c = search needs
@@ -71,13 +71,13 @@ lesser-requires-2 c κs = search needs
 measure-pending-requires : tie.Need-measure-pending-requires
 measure-pending-requires c κs =
     let f = full (c .before .before .before .before .before .before .before .before .before .before .before .before .before .before .before .before .before) in
-    (omega (arith, c .lesser2 .ensures), third-fits (c .before .before .before .before .before .before .before .before .before .before .before .before .before .before .before .before .before .args .replica) (f .0) (f .1) (c .before .before .before .before .before .lesser .ensures) refl _ (site-measured (c .before .before .before .before .before .before .before .before .before)) (c .before .before .before .before .before .before .before .first .given .1) (c .before .before .before .before .measure-characters .ensures) (c .before .before .characters .given .1))
+    (omega (arith, c .lesser2 .ensures), third-fits (c .before .before .before .before .before .before .before .before .before .before .before .before .before .before .before .before .before .args .replica) (f .0) (f .1) (c .before .before .before .before .before .lesser .ensures) refl _ (site-measured (c .before .before .before .before .before .before .before .before .before)) (c .before .before .before .before .before .before .before .first .given .1) (c .before .before .before .before .measure-characters .ensures) (c .before .before .middle .given .1))
 
 returns-3 : tie.Need-returns-3
 returns-3 c =
     let f = full (c .before .before .before .before .before .before .before .before .before .before .before .before .before .before .before .before .before .before) in
     c .measure-pending .ensures
-    ∙ all-measured (c .before .before .before .before .before .before .before .before .before .before .before .before .before .before .before .before .before .before .args .replica) (f .0) (f .1) (c .before .before .before .before .before .before .lesser .ensures) (c .before .lesser2 .ensures) _ (site-measured (c .before .before .before .before .before .before .before .before .before .before)) (c .before .before .before .before .before .before .before .before .first .given .1) (c .before .before .before .before .before .measure-characters .ensures) (c .before .before .before .characters .given .1)
+    ∙ all-measured (c .before .before .before .before .before .before .before .before .before .before .before .before .before .before .before .before .before .before .args .replica) (f .0) (f .1) (c .before .before .before .before .before .before .lesser .ensures) (c .before .lesser2 .ensures) _ (site-measured (c .before .before .before .before .before .before .before .before .before .before)) (c .before .before .before .before .before .before .before .before .first .given .1) (c .before .before .before .before .before .measure-characters .ensures) (c .before .before .before .middle .given .1)
 
 pub measure-spec : {M : Type 1} → statement M
 measure-spec =
@@ -92,7 +92,7 @@ measure-spec =
     returns
     lesser-requires
     measure-characters-requires
-    enum-known-characters
+    enum-known-middle
     enum-told-2
     returns-2
     lesser-requires-2

@@ -21,11 +21,11 @@ abbrev μ-loop : tie.MeasureT-loop
 loop-holds : tie.Need-loop-holds Inv-loop μ-loop
 loop-holds c = let p = c .pre in (measuring-begun characterLine (c .args .t1) (c .args .n) (c .args .size) (c .args .at) (omega (arith, p .0, c .good .0 .1 .0 .1)) (p .1), p .0)
 
-mul-c : tie.Need-mul-c Inv-loop μ-loop
-mul-c c = omega arith
+mul-character : tie.Need-mul-character Inv-loop μ-loop
+mul-character c = omega arith
 
-array-copy-out-c : tie.Need-array-copy-out-c Inv-loop μ-loop
-array-copy-out-c c = omega arith
+array-copy-out-character : tie.Need-array-copy-out-character Inv-loop μ-loop
+array-copy-out-character c = omega arith
 
 character-numbers-requires : tie.Need-character-numbers-requires Inv-loop μ-loop
 character-numbers-requires c κs = search needs
@@ -76,8 +76,8 @@ measure-characters-spec =
     Inv-loop
     μ-loop
     loop-holds
-    mul-c
-    array-copy-out-c
+    mul-character
+    array-copy-out-character
     character-numbers-requires
     slice-aggregate-measure
     slice-aggregate-measure-2

@@ -17,11 +17,11 @@ abbrev μ-loop : tie.MeasureT-loop
 loop-holds : tie.Need-loop-holds Inv-loop μ-loop
 loop-holds c = let p = c .pre in (measuring-begun pendingLine (c .args .t1) (c .args .n) (c .args .size) (c .args .at) (omega (arith, p .0, c .good .0 .1 .0 .1)) (p .1), p .0)
 
-mul-p : tie.Need-mul-p Inv-loop μ-loop
-mul-p c = omega arith
+mul-slot : tie.Need-mul-slot Inv-loop μ-loop
+mul-slot c = omega arith
 
-array-copy-out-p : tie.Need-array-copy-out-p Inv-loop μ-loop
-array-copy-out-p c = omega arith
+array-copy-out-slot : tie.Need-array-copy-out-slot Inv-loop μ-loop
+array-copy-out-slot c = omega arith
 
 measure-requires : tie.Need-measure-requires Inv-loop μ-loop
 measure-requires c κs = search needs
@@ -61,8 +61,8 @@ measure-pending-spec =
     Inv-loop
     μ-loop
     loop-holds
-    mul-p
-    array-copy-out-p
+    mul-slot
+    array-copy-out-slot
     measure-requires
     enum-known-room
     enum-told

@@ -24,11 +24,11 @@ loop-holds c =
     let p = c .before .pre in
     (putting-begun characterLine (a .t1) (a .n) (a .out .now) (a .at) (omega (arith, p .0, c .before .good .0 .1 .0 .1)) (p .1), p .0)
 
-mul-c : tie.Need-mul-c Inv-loop μ-loop
-mul-c c = omega arith
+mul-character : tie.Need-mul-character Inv-loop μ-loop
+mul-character c = omega arith
 
-array-copy-out-c : tie.Need-array-copy-out-c Inv-loop μ-loop
-array-copy-out-c c = omega arith
+array-copy-out-character : tie.Need-array-copy-out-character Inv-loop μ-loop
+array-copy-out-character c = omega arith
 
 character-numbers-requires : tie.Need-character-numbers-requires Inv-loop μ-loop
 character-numbers-requires c κs = search needs
@@ -72,8 +72,8 @@ put-characters-spec =
     Inv-loop
     μ-loop
     loop-holds
-    mul-c
-    array-copy-out-c
+    mul-character
+    array-copy-out-character
     character-numbers-requires
     slice-aggregate-put
     slice-aggregate-put-2

@@ -22,11 +22,11 @@ loop-holds c =
     let p = c .before .pre in
     (putting-begun pendingLine (a .t1) (a .n) (a .out .now) (a .at) (omega (arith, p .0, c .before .good .0 .1 .0 .1)) (p .1), p .0)
 
-mul-p : tie.Need-mul-p Inv-loop μ-loop
-mul-p c = omega arith
+mul-slot : tie.Need-mul-slot Inv-loop μ-loop
+mul-slot c = omega arith
 
-array-copy-out-p : tie.Need-array-copy-out-p Inv-loop μ-loop
-array-copy-out-p c = omega arith
+array-copy-out-slot : tie.Need-array-copy-out-slot Inv-loop μ-loop
+array-copy-out-slot c = omega arith
 
 put-operation-requires : tie.Need-put-operation-requires Inv-loop μ-loop
 put-operation-requires c κs = search needs
@@ -58,8 +58,8 @@ put-pending-spec =
     Inv-loop
     μ-loop
     loop-holds
-    mul-p
-    array-copy-out-p
+    mul-slot
+    array-copy-out-slot
     put-operation-requires
     add-i
     loop-less
