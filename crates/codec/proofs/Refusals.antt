@@ -3,7 +3,7 @@ use mathlib.Core.Path.{_≡_, refl, sym, ap, _∙_}
 use mathlib.Core.List.{List, [], _∷_}
 use mathlib.Core.Logic.{_↔_, _⊎_, inl, inr}
 use mathlib.Core.Bool.{Bool, true, false, not, true≢false, false≢true}
-use mathlib.Core.Option.{none, some}
+use mathlib.Core.Option.{some}
 use Prim.Native.Nat.{ℕ, _≤_, _<_}
 use native.Mathlib.Omega.{arith}
 use lib.ListN.{length}
@@ -15,7 +15,7 @@ use Rattle.woot.specs.declared.Written.the-variants.{Length, Refused as written
 use Rattle.woot.specs.Answers.{_⇒_, number}
 use Rattle.woot.specs.Ranges.{inRange}
 use Rattle.woot.specs.Writing.{writtenAs, writtenNumber, writtenLength}
-use Rattle.lists.proofs.Tests.{side}
+use Rattle.lists.proofs.Tests.{some-eq, no-some, side}
 use Rattle.convergence.proofs.Refusals.{decided-exactly}
 use Rattle.convergence.proofs.Replies.{positive}
 use Rattle.convergence.proofs.Writing.{writing-refuses, own-first, too-short, has-room}
@@ -36,9 +36,6 @@ unfolding readOperation readAs
 read-refuses s r =
     decided-exactly (λ a. a) (λ a. a) (λ a. refl) (readChecks (laidOut s) (saidBy s)) (readsAs (saidBy s)) (readRefused r) (read-never (saidBy s) r)
 
-pub none-some : {A : Type 0} {x : A} → none ≡ some x → ⊥
-none-some e = let z : _≡_ {A = ℕ} 0 1 = cc in omega arith
-
 -- by the two tests
 numbers-by : (o : Operation) (laid ranged : Bool) → inRange o ≡ ranged
     → ((readNumber (readAs laid o) ≡ 1) ↔ (laid ≡ false))
@@ -52,7 +49,7 @@ numbers-by o false ranged h =
       (λ e. refl, λ e. n),
       (λ e. absurd (omega arith), λ w. absurd (false≢true (w .0))),
       (λ e. absurd (omega arith), λ w. absurd (false≢true (w .0))),
-      λ p. (λ e. absurd (none-some (sym (ap readValue a) ∙ e)), λ w. absurd (false≢true (w .0))),
+      λ p. (λ e. no-some (sym (ap readValue a) ∙ e), λ w. absurd (false≢true (w .0))),
     )
 numbers-by o true false h =
     let a : readAs true o ≡ readRefused Range = read-range o h in
@@ -60,7 +57,7 @@ numbers-by o true false h =
       (λ e. absurd (omega arith), λ e. absurd (true≢false e)),
       (λ e. (refl, refl), λ w. n),
       (λ e. absurd (omega arith), λ w. absurd (false≢true (w .1))),
-      λ p. (λ e. absurd (none-some (sym (ap readValue a) ∙ e)), λ w. absurd (false≢true (w .1))),
+      λ p. (λ e. no-some (sym (ap readValue a) ∙ e), λ w. absurd (false≢true (w .1))),
     )
 numbers-by o true true h =
     let a : readAs true o ≡ readsAs o = read-operation o h in
@@ -68,7 +65,7 @@ numbers-by o true true h =
       (λ e. absurd (omega arith), λ e. absurd (true≢false e)),
       (λ e. absurd (omega arith), λ w. absurd (true≢false (w .1))),
       (λ e. (refl, refl), λ w. n),
-      λ p. (λ e. (refl, refl, let q : some o ≡ some p = sym (ap readValue a) ∙ e in cc), λ w. ap readValue a ∙ ap some (w .2)),
+      λ p. (λ e. (refl, refl, some-eq (sym (ap readValue a) ∙ e)), λ w. ap readValue a ∙ ap some (w .2)),
     )
 
 pub read-numbers : ReadNumbers

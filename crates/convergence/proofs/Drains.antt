@@ -12,19 +12,13 @@ use Rattle.woot.specs.declared.Character.{Character}
 use Rattle.woot.specs.Pending.{executable, crossed, unplaceable, integrate, Extracted, earliest, Drained, andIntegrated, andDiscarded, drained, drainSteps, drain}
 use Rattle.convergence.specs.Theorems.{drainNext, DrainingRecurs}
 use Rattle.lists.specs.Lists.{any}
-use Rattle.lists.proofs.Tests.{or-false-left, or-false-right, or-false}
+use Rattle.lists.proofs.Tests.{some-eq, no-some, or-false-left, or-false-right, or-false}
 use Rattle.convergence.proofs.Extract.{Extract, front, past, extract-length}
 
 -- what the earliest is: it passes the test and was taken out of the list
 pub record Found (p : Operation → Bool) (ps : List Operation) (t : Extracted) : Type 0 where
   pub passed : p (t .operation) ≡ true
   pub extracted : Extract (t .operation) (t .others) ps
-
-some-eq : {x y : Extracted} → some x ≡ some y → x ≡ y
-some-eq e = cc
-
-no-some : {x : Extracted} {B : Type 0} → none ≡ some x → B
-no-some e = absurd (let z : _≡_ {A = ℕ} 0 1 = cc in omega arith)
 
 pub earliest-found : (p : Operation → Bool) (ps : List Operation) (t : Extracted) → earliest p ps ≡ some t → Found p ps t
 unfolding earliest

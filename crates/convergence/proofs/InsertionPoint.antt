@@ -2,7 +2,7 @@
 -- sequence, so that each stands above the next.
 use Prim.Native.Nat.{ℕ, zero, suc, _+_, _≤_, _<_}
 use native.Mathlib.Omega.{arith}
-use mathlib.Core.Path.{_≡_, refl, ap, sym, _∙_, subst}
+use mathlib.Core.Path.{_≡_, refl, sym, _∙_, subst}
 use mathlib.Core.Bool.{Bool, true, false, not, cond}
 use mathlib.Core.Logic.{_⊎_, inl, inr}
 use mathlib.Core.List.{List, [], _∷_, _++_, List·Memᴰ, List·Memᴰ·head, List·Memᴰ·tail, List·Memᴰ·append-cases, List·Memᴰ·eq-of-singleton}
@@ -18,7 +18,7 @@ use Rattle.woot.specs.Calls.{visibles}
 use Rattle.convergence.specs.Agreement.{Standing}
 use Rattle.lists.specs.Lists.{any, keep, distinct}
 use Rattle.lists.proofs.Tests.{and-left, and-right, and-intro, not-intro}
-use Rattle.lists.proofs.Members.{any-none, none-any}
+use Rattle.lists.proofs.Members.{get-member, any-none, none-any}
 use Rattle.convergence.proofs.Identifiers.{same-refl, ne-same, same-sym}
 use Rattle.convergence.proofs.Places.{index-here, index-later, held-end, held-member, place-above}
 use Rattle.convergence.proofs.Ranges.{no-mark, in-range}
@@ -52,11 +52,6 @@ part-visible (c ∷ cs) = go (isVisible c) (part-visible cs)
     go : (b : Bool) → Part (identifiers (keep isVisible cs)) (identifiers cs) → Part (identifiers (cond b (c ∷ keep isVisible cs) (keep isVisible cs))) (c .id ∷ identifiers cs)
     go true p = keeps p
     go false p = skip p
-
-pub get-member : {A : Type 0} (xs : List A) (k : ℕ) (d : A) → k < length xs → List·Memᴰ (getD xs k d) xs
-get-member [] k d h = absurd (omega arith)
-get-member (x ∷ xs) zero d h = List·Memᴰ·head refl
-get-member (x ∷ xs) (suc k) d h = List·Memᴰ·tail (get-member xs k d (omega arith))
 
 -- a member of the rest of a list of distinct identifiers is another than the first
 other : (z : Identifier) {x : Identifier} {zs : List Identifier} → distinct same (z ∷ zs) ≡ true → List·Memᴰ x zs → same x z ≡ false

@@ -20,15 +20,10 @@ use Rattle.woot.specs.Form.{wellFormed}
 use Rattle.woot.specs.Answers.{Check, first, decided, Reported, here, later, number, answerOf}
 use Rattle.woot.specs.Calls.{Outcome, unchanged, carryOut, defer, accept, receiveChecks, receiveWhen, receive, insertChecks, generatedInsert, sendInsert, localInsertWhen, localInsert, deleteChecks, generatedDelete, sendDelete, localDeleteWhen, localDelete}
 use Rattle.woot.specs.Histories.{inserting, deleting, receiving, withAnswer, outcome}
+use Rattle.lists.proofs.Tests.{some-eq, no-some}
 use Rattle.convergence.specs.Theorems.{ReceiveRefuses, ReceiveKnows, InsertRefuses, DeleteRefuses, RefusedUnchanged, KnownUnchanged}
 
 module _ {A : Type 0} where
-  some-eq : {x y : A} → some x ≡ some y → x ≡ y
-  some-eq e = cc
-
-  no-some : {x : A} {B : Type 0} → none ≡ some x → B
-  no-some e = absurd (let z : _≡_ {A = ℕ} 0 1 = cc in omega arith)
-
   pub first-reported : (cs : List (Check A)) (a : A) → first cs ≡ some a → Reported a cs
   first-reported [] a h = no-some h
   first-reported (c ∷ cs) a h = go (c .holds) refl (first-reported cs a)

@@ -1,6 +1,6 @@
 -- What is answered tells which conditions hold: a word or a number stands for one way through the checks, since no check
 -- answers done or waits, and what is done where none holds answers nothing else.
-use Prim.Native.Nat.{ℕ}
+use Prim.Native.Nat.{ℕ, _≤_}
 use native.Mathlib.Omega.{arith}
 use mathlib.Core.Path.{_≡_, refl, ap, sym, _∙_, subst}
 use mathlib.Core.Bool.{Bool, true, false, cond, false≢true, true≢false}
@@ -62,6 +62,21 @@ positive Unplaceable e = omega arith
 positive SenderFull e = omega arith
 positive DocumentFull e = omega arith
 positive Output e = omega arith
+
+-- the highest
+pub number-few : (q : Refusal) → number q ≤ 12
+number-few Layout = omega arith
+number-few Range = omega arith
+number-few Form = omega arith
+number-few Position = omega arith
+number-few Clock = omega arith
+number-few Taken = omega arith
+number-few Conflict = omega arith
+number-few Crossed = omega arith
+number-few Unplaceable = omega arith
+number-few SenderFull = omega arith
+number-few DocumentFull = omega arith
+number-few Output = omega arith
 
 -- an answer with the number of a refusal is that refusal
 pub answer-number : (a : Answer) (r : Refusal) → (reply a .refusal ≡ number r) ↔ (a ≡ Refused r)

@@ -3,26 +3,26 @@
 use Prim.Native.Nat.{ℕ, _≤_, _<_}
 use native.Mathlib.Omega.{arith}
 use mathlib.Core.Path.{_≡_, refl, ap, sym, _∙_}
-use mathlib.Core.Bool.{Bool, true, false, cond}
-use mathlib.Core.Option.{Option, none, some}
+use mathlib.Core.Bool.{Bool, true, false}
+use mathlib.Core.Option.{none, some}
 use mathlib.Core.Logic.{_↔_}
 use mathlib.Core.List.{List, [], _∷_, _++_}
 use borrow.Author.Tests.{lt-ltb, le-ltb}
 use lib.Dec.{ltb}
 use lib.ListN.{length}
 use Rattle.output.specs.Output.{placed}
-use Rattle.output.proofs.Laws.{placed-short}
 use Rattle.woot.specs.declared.Refusal.{Refusal}
 use Rattle.woot.specs.declared.Refusal.the-variants.{Output}
 use Rattle.woot.specs.declared.Written.{Written}
 use Rattle.woot.specs.declared.Written.the-variants.{Length, Refused}
-use Rattle.woot.specs.Answers.{number, Check, _⇒_, first, NoneHolds, decided, Reported}
+use Rattle.woot.specs.Answers.{number, Check, _⇒_, first, decided}
 use Rattle.woot.specs.Writing.{writingChecks, writtenAs, outputAfter, writtenNumber}
+use Rattle.lists.proofs.Tests.{no-some}
 use Rattle.convergence.specs.Theorems.{WritingRefuses, WritingWrites}
 use Rattle.convergence.proofs.Refusals.{reported-first, decided-exactly}
 use Rattle.convergence.proofs.Replies.{numbers-differ, positive, none-first}
 
-length-refused : {n : ℕ} {r : Refusal} → Length n ≡ Refused r → ⊥
+pub length-refused : {n : ℕ} {r : Refusal} → Length n ≡ Refused r → ⊥
 length-refused e = let z : _≡_ {A = ℕ} 0 1 = cc in omega arith
 
 written-number : (w : Written) (r : Refusal) → (writtenNumber w ≡ number r) ↔ (w ≡ Refused r)
@@ -51,11 +51,8 @@ writing-writes own bytes out w = rw (none-first (writingChecks own bytes out) w)
 -- ---- the laws that a writer is proved by
 
 module _ {A : Type 0} where
-  none-some : {a : A} {B : Type 0} → none ≡ some a → B
-  none-some e = absurd (let z : _≡_ {A = ℕ} 0 1 = cc in omega arith)
-
   first-own : (own later : List (Check A)) (a : A) → first own ≡ some a → first (own ++ later) ≡ some a
-  first-own [] later a h = none-some h
+  first-own [] later a h = no-some h
   first-own (c ∷ own) later a h = go (c .holds) refl (first-own own later a)
     where
       go : (b : Bool) → c .holds ≡ b → (first own ≡ some a → first (own ++ later) ≡ some a) → first (c ∷ own ++ later) ≡ some a
@@ -67,7 +64,7 @@ module _ {A : Type 0} where
   first-later (c ∷ own) later h = go (c .holds) refl (first-later own later)
     where
       go : (b : Bool) → c .holds ≡ b → (first own ≡ none → first (own ++ later) ≡ first later) → first (c ∷ own ++ later) ≡ first later
-      go true e f = none-some (sym (rw e at h))
+      go true e f = no-some (sym (rw e at h))
       go false e f = rw e (f (rw e at h))
 
 -- a condition of its own that holds

@@ -25,9 +25,10 @@ use Rattle.convergence.proofs.Draining.{sound-carry}
 use Rattle.index.specs.declared.Found.the-variants.{At, Nothing}
 use Rattle.delivery.specs.declared.Work.{Work}
 use Rattle.storage.specs.Edit.{removed}
+use Rattle.storage.proofs.Slots.{operation-at}
 use Rattle.delivery.specs.Work.{charactersIn, pendingIn, workOf, Workable, Due, carried, stepped, finished, takenOut, dueIn, takenFrom, carriedIn, steppedIn, finishedIn}
 use Rattle.pending.proofs.Earliest.{takes}
-use Rattle.delivery.proofs.Works.{pending-at, parts, work-characters, work-pending, work-length, work-waiting, work-integrated, work-discarded, work-tidy, carried-discarded, carried-integrated}
+use Rattle.delivery.proofs.Works.{parts, work-characters, work-pending, work-length, work-waiting, work-integrated, work-discarded, work-tidy, carried-discarded, carried-integrated}
 
 pub workable-bounded : {w : Work} → Workable w → (w .document .length ≤ 1024) × (w .document .waiting ≤ 512)
 workable-bounded k =
@@ -55,7 +56,7 @@ module _ {w : Work} (k : Workable w) (j : ℕ) (at : dueIn w ≡ At j) where
     pub due-carried : Due r (getD (w .document .pending) j z .operation)
     due-carried =
         let f = earliest-found _ _ _ (due-taken (z .operation) .1) in
-        rw (← pending-at (w .document) j z (due-within .0), e)
+        rw (← operation-at (w .document .waiting) (w .document .pending) j z (due-within .0), e)
         (record {
           tidy = work-tidy _ _ _ _;
           ready = rw (work-characters) (f .passed);
@@ -68,7 +69,7 @@ module _ {w : Work} (k : Workable w) (j : ℕ) (at : dueIn w ≡ At j) where
     pub due-stepped : carriedIn r (getD (w .document .pending) j z .operation)
         ≡ steppedIn w
     unfolding stepped
-    due-stepped = rw (← pending-at (w .document) j z (due-within .0), e, due-taken (z .operation) .1, work-characters, work-pending, work-integrated, work-discarded)
+    due-stepped = rw (← operation-at (w .document .waiting) (w .document .pending) j z (due-within .0), e, due-taken (z .operation) .1, work-characters, work-pending, work-integrated, work-discarded)
 
 -- ---- draining on
 

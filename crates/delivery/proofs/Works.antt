@@ -5,15 +5,12 @@ use native.Mathlib.Omega.{arith}
 use mathlib.Core.Path.{_≡_, refl, ap, sym, _∙_}
 use mathlib.Core.Bool.{true, false, _||_}
 use mathlib.Core.List.{List, [], _∷_, map}
-use lib.ListN.{length, take, getD, length-map, List·getD-map}
-use lib.Seq.{getD-take}
+use lib.ListN.{length, length-map}
 use Rattle.woot.specs.declared.Insert.{Insert}
 use Rattle.woot.specs.declared.Delete.{Delete}
 use Rattle.woot.specs.declared.Operation.{Operation}
 use Rattle.woot.specs.declared.Operation.the-variants.{Insert as insert, Delete as delete}
 use Rattle.woot.specs.declared.Character.{Character}
-use Rattle.woot.specs.declared.Pending.{Pending}
-use Rattle.woot.specs.declared.Document.{Document}
 use Rattle.woot.specs.State.{characterSlots, pendingSlots, slotOf, blankCharacter, blankPending, documentOf}
 use Rattle.woot.specs.Operations.{character}
 use Rattle.woot.specs.Placing.{insertAt, integrateDelete}
@@ -39,13 +36,6 @@ unfolding removed
 length-removed j [] h = absurd (omega arith)
 length-removed zero (x ∷ xs) h = omega arith
 length-removed (suc j) (x ∷ xs) h = omega (arith, length-removed j xs (omega arith))
-
--- ---- the slots of pending operations
-
--- what is pending at an index
-pub pending-at : (d : Document) (j : ℕ) (z : Pending) → j < d .waiting → getD (pendingIn d) j (z .operation) ≡ getD (d .pending) j z .operation
-pending-at d j z h =
-    List·getD-map (λ (p : Pending). p .operation) (take (d .waiting) (d .pending)) j z ∙ ap (λ (p : Pending). p .operation) (getD-take (d .waiting) (d .pending) j z h)
 
 -- ---- the parts of a tidy document
 pub parts : {w : Work} → Tidy w → Parts (w .document) (charactersIn (w .document)) (pendingIn (w .document))

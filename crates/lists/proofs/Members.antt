@@ -5,9 +5,14 @@ use mathlib.Core.List.{List, [], _∷_, _++_, map, List·Memᴰ, List·Memᴰ·h
 use mathlib.Core.Logic.{⊎-elim}
 use Rattle.lists.specs.Lists.{any, every, keep}
 use Rattle.lists.proofs.Tests.{and-left, and-right, and-intro, or-cases, or-left, or-right, or-false-left, or-false-right, or-false}
-use Prim.Native.Nat.{suc, _≤_}
+use Prim.Native.Nat.{ℕ, zero, suc, _≤_, _<_}
 use native.Mathlib.Omega.{arith}
-use lib.ListN.{length}
+use lib.ListN.{length, getD}
+
+pub get-member : {A : Type 0} (xs : List A) (k : ℕ) (d : A) → k < length xs → List·Memᴰ (getD xs k d) xs
+get-member [] k d h = absurd (omega arith)
+get-member (x ∷ xs) zero d h = List·Memᴰ·head refl
+get-member (x ∷ xs) (suc k) d h = List·Memᴰ·tail (get-member xs k d (omega arith))
 
 or-assoc : (a b c : Bool) → (a || (b || c)) ≡ ((a || b) || c)
 or-assoc true b c = refl

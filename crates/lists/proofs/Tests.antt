@@ -3,6 +3,8 @@ use Prim.Native.Nat.{ℕ, _≤_, _<_}
 use mathlib.Core.Path.{_≡_, refl, sym}
 use mathlib.Core.Bool.{Bool, true, false, _&&_, _||_, not, false≢true, true≢false}
 use mathlib.Core.Logic.{_⊎_, inl, inr, ⊎-elim}
+use mathlib.Core.Option.{none, some}
+use native.Mathlib.Omega.{arith}
 use lib.Dec.{leb}
 use borrow.Author.Tests.{leb-true, leb-false}
 
@@ -10,6 +12,14 @@ use borrow.Author.Tests.{leb-true, leb-false}
 pub either : (b : Bool) → (b ≡ true) ⊎ (b ≡ false)
 either true = inl refl
 either false = inr refl
+
+-- an option that is there is no other, and not none
+module _ {A : Type 0} where
+  pub some-eq : {x y : A} → some x ≡ some y → x ≡ y
+  some-eq e = cc
+
+  pub no-some : {x : A} {B : Type 0} → none ≡ some x → B
+  no-some e = absurd (let z : _≡_ {A = ℕ} 0 1 = cc in omega arith)
 
 -- two numbers stand one way or the other
 pub side : (a b : ℕ) → (a ≤ b) ⊎ (b < a)

@@ -21,8 +21,9 @@ use Rattle.pending.specs.Holder.{comparedTo, comparedWith}
 use Rattle.reception.specs.Needs.{seenOf}
 use Rattle.well_formed.specs.Examined.{Examined}
 use Rattle.storage.proofs.Fullness.{FullDocument}
+use Rattle.storage.proofs.Slots.{operation-at}
 use Rattle.reception.proofs.Named.{seen-held, seen-new}
-use Rattle.well_formed.proofs.Examining.{form, pending-read, Has, nobody, pending-within, character-member, character-named}
+use Rattle.well_formed.proofs.Examining.{form, Has, nobody, pending-within, character-member, character-named}
 
 module _ (r : Replica) (x : Index) (q : Queue) (full : FullDocument (r .document)) (e : Examined r x q) (i : Insert) (ranged : insertInRange i ≡ true) where
   abbrev id-ranged : characterId (i .id) ≡ true
@@ -35,9 +36,9 @@ module _ (r : Replica) (x : Index) (q : Queue) (full : FullDocument (r .document
       sym (seen-held (meaning r) i (form r (e .form)) (origin (getD (r .document .characters) k d)) m (character-named r x q full e (i .id) id-ranged k h d))
 
   pub seen-pending : (j : ℕ) → Has r x q full e (i .id) id-ranged (ofPending j) → (d : Pending) → comparedWith i (getD (r .document .pending) j d .operation) ≡ seenOf (meaning r) i
-  unfolding presentInserts comparedWith
+  unfolding presentInserts comparedWith meaning
   seen-pending j h d =
-      let read = pending-read r (e .form) full j d (pending-within r x q full e (i .id) id-ranged j h) in
+      let read = operation-at (r .document .waiting) (r .document .pending) j d (pending-within r x q full e (i .id) id-ranged j h) in
       let m = Memᴰ·append-right (map origin (meaning r .characters)) (h .1 .member) in
       rw (← read, h .1 .at (d .operation)) (sym (seen-held (meaning r) i (form r (e .form)) (h .1 .here) m (h .1 .is)))
 

@@ -1,5 +1,5 @@
 -- How long the lines are: a number takes a tab and its digits, and what it may be at most says how many those are.
-use mathlib.Core.Path.{_≡_, refl, ap, _∙_}
+use mathlib.Core.Path.{_≡_, refl}
 use mathlib.Core.Bool.{Bool, true, false}
 use mathlib.Core.List.{List, [], _∷_, _++_}
 use Prim.Native.Nat.{ℕ, _+_, _*_, _^_, _≤_, _<_}
@@ -7,8 +7,6 @@ use native.Mathlib.Omega.{arith}
 use lib.ListN.{length, length-append}
 use Rattle.woot.specs.declared.Character.{Character}
 use Rattle.woot.specs.declared.Answer.{Answer}
-use Rattle.woot.specs.declared.Refusal.{Refusal}
-use Rattle.woot.specs.declared.Refusal.the-variants.{Layout, Range, Form, Position, Clock, Taken, Conflict, Crossed, Unplaceable, SenderFull, DocumentFull, Output}
 use Rattle.woot.specs.declared.Answer.the-variants.{Done, Deferred, Duplicate, Refused}
 use Rattle.woot.specs.Answers.{Reply, reply, number}
 use Rattle.lists.specs.Lists.{every}
@@ -18,6 +16,7 @@ use Rattle.woot.specs.State.{meaning, counted}
 use Rattle.woot.specs.Form.{wellFormed, replicaWellFormed}
 use Rattle.lists.proofs.Tests.{and-left, and-right}
 use Rattle.convergence.proofs.Forms.{formed}
+use Rattle.convergence.proofs.Replies.{number-few}
 use Rattle.decimal.specs.Numeral.{digits}
 use Rattle.decimal.proofs.Laws.{width-by-power, width-le}
 use Rattle.lines.specs.Fields.{tab, columns}
@@ -44,21 +43,6 @@ reply-length n r =
       column-length (r .refusal) [],
     )
 
--- the number of a refusal has at most two digits
-number-few : (r : Refusal) → number r < 100
-number-few Layout = omega arith
-number-few Range = omega arith
-number-few Form = omega arith
-number-few Position = omega arith
-number-few Clock = omega arith
-number-few Taken = omega arith
-number-few Conflict = omega arith
-number-few Crossed = omega arith
-number-few Unplaceable = omega arith
-number-few SenderFull = omega arith
-number-few DocumentFull = omega arith
-number-few Output = omega arith
-
 -- nothing is counted but where operations were carried out, and a refusal has its number
 pub report-fits : ReportFits
 unfolding reportLine reply spelled
@@ -72,7 +56,7 @@ report-fits n a h p q = go a p q
     go Deferred k l = omega (arith, reply-length n (reply Deferred), width-le n h, zero-few)
     go Duplicate k l = omega (arith, reply-length n (reply Duplicate), width-le n h, zero-few)
     go (Refused r) k l =
-        omega (arith, reply-length n (reply (Refused r)), width-le n h, zero-few, width-by-power (number r) 2 (omega arith) .1 (number-few r))
+        omega (arith, reply-length n (reply (Refused r)), width-le n h, zero-few, width-by-power (number r) 2 (omega arith) .1 (omega (arith, number-few r)))
 
 -- ---- the text
 

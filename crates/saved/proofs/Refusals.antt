@@ -13,13 +13,13 @@ use Rattle.woot.specs.declared.Refusal.the-variants.{Layout, Range, Form}
 use Rattle.woot.specs.State.{meaning, stored}
 use Rattle.woot.specs.Form.{wellFormed, replicaWellFormed}
 use Rattle.woot.specs.Answers.{first, decided}
-use Rattle.lists.proofs.Tests.{clash}
+use Rattle.lists.proofs.Tests.{some-eq, no-some, clash}
 use Rattle.convergence.proofs.Refusals.{decided-exactly}
 use Rattle.convergence.proofs.Writing.{writing-refuses}
 use Rattle.lines.specs.Lines.{concatenated}
 use Rattle.lines.proofs.Writing.{line-some}
 use Rattle.codec.specs.Operations.{operationLine}
-use Rattle.codec.proofs.Refusals.{none-some, by-test}
+use Rattle.codec.proofs.Refusals.{by-test}
 use Rattle.saved.specs.declared.LoadAnswer.{LoadAnswer}
 use Rattle.saved.specs.declared.LoadAnswer.the-variants.{Done, Refused}
 use Rattle.saved.specs.declared.Loaded.{Loaded}
@@ -82,7 +82,7 @@ load-numbers s = go (savedLaidOut s) (savedInRange s) (wellFormed (savedState s)
           (λ e. absurd (omega arith), λ w. clash (w .0) p),
           (λ e. absurd (omega arith), λ w. clash (w .0) p),
           (λ e. absurd (omega arith), λ w. clash (w .0) p),
-          λ x. (λ e. absurd (none-some (sym (ap loadValue a) ∙ e)), λ w. clash (w .0) p),
+          λ x. (λ e. no-some (sym (ap loadValue a) ∙ e), λ w. clash (w .0) p),
         )
     go true false d p q r =
         let a = load-range s p q in
@@ -91,7 +91,7 @@ load-numbers s = go (savedLaidOut s) (savedInRange s) (wellFormed (savedState s)
           (λ e. (p, q), λ w. num),
           (λ e. absurd (omega arith), λ w. clash (w .1) q),
           (λ e. absurd (omega arith), λ w. clash (w .1) q),
-          λ x. (λ e. absurd (none-some (sym (ap loadValue a) ∙ e)), λ w. clash (w .1) q),
+          λ x. (λ e. no-some (sym (ap loadValue a) ∙ e), λ w. clash (w .1) q),
         )
     go true true false p q r =
         let a = load-form s p q r in
@@ -100,7 +100,7 @@ load-numbers s = go (savedLaidOut s) (savedInRange s) (wellFormed (savedState s)
           (λ e. absurd (omega arith), λ w. clash q (w .1)),
           (λ e. (p, q, r), λ w. num),
           (λ e. absurd (omega arith), λ w. clash (w .2) r),
-          λ x. (λ e. absurd (none-some (sym (ap loadValue a) ∙ e)), λ w. clash (w .2) r),
+          λ x. (λ e. no-some (sym (ap loadValue a) ∙ e), λ w. clash (w .2) r),
         )
     go true true true p q r =
         let a = load-done s p q r in
@@ -110,7 +110,7 @@ load-numbers s = go (savedLaidOut s) (savedInRange s) (wellFormed (savedState s)
           (λ e. absurd (omega arith), λ w. clash q (w .1)),
           (λ e. absurd (omega arith), λ w. clash r (w .2)),
           (λ e. (p, q, r), λ w. num),
-          λ x. (λ e. (p, q, r, let k : some (stored (savedState s)) ≡ some x = sym value ∙ e in cc), λ w. value ∙ ap some (w .3)),
+          λ x. (λ e. (p, q, r, some-eq (sym value ∙ e)), λ w. value ∙ ap some (w .3)),
         )
 
 -- ---- writing

@@ -24,7 +24,7 @@ use Rattle.woot.specs.State.{State, blankCharacter, blankPending}
 use Rattle.woot.specs.Pending.{executable}
 use Rattle.woot.specs.Form.{countdown, wellFormed, allInRange, sharesKept, capacityKept, identifiersDistinct, deletesDistinct, ordered, neighboursOrdered, noneExecutable}
 use Rattle.lists.proofs.Tests.{agree, three, and-left, and-right, and-intro, not-intro}
-use Rattle.lists.proofs.Members.{any-append, every-member}
+use Rattle.lists.proofs.Members.{get-member, any-append, every-member}
 use Rattle.convergence.proofs.Identifiers.{same-sym}
 use Rattle.convergence.proofs.Extract.{Extract, extract-last, extract-map, distinct-extract, extract-distinct}
 use Rattle.convergence.proofs.Ranges.{in-range, character-site}
@@ -43,7 +43,7 @@ use Rattle.index.proofs.Indices.{index-later as key-later}
 use Rattle.pending.specs.Queue.{ownKey, firstKey, secondKey, hasDelete}
 use Rattle.pending.specs.Ready.{heldIn}
 use Rattle.well_formed.specs.Form.{charactersFormed, pendingFormed, throughout, sharesIn, roomKept, unheldKey, newAt, keysDistinct, freeAt, keysNew, freshAt, noneRepeated, orderedAt, placesOrdered, nothing, noneReady}
-use Rattle.well_formed.proofs.Throughout.{throughout-cong, every-throughout, elementAt, getD-member, take-member, take-map, map-getD, grown}
+use Rattle.well_formed.proofs.Throughout.{throughout-cong, every-throughout, elementAt, take-member, take-map, map-getD, grown}
 use Rattle.pending.proofs.Earliest.{ready-executable}
 use Rattle.pending.proofs.Pending.{Keyed, AllKeyed, all-keyed, count-senders, count-own, delete-found}
 
@@ -129,7 +129,7 @@ module _ (cs : List Character) (ranges : every characterInRange cs ≡ true) whe
 
   id-in-range : (i : ℕ) → i < length cs → characterId (at i .id) ≡ true
   unfolding characterInRange origin
-  id-in-range i h = in-range (origin (at i)) (every-member characterInRange ranges (getD-member cs i blankCharacter h)) .id
+  id-in-range i h = in-range (origin (at i)) (every-member characterInRange ranges (get-member cs i blankCharacter h)) .id
 
   pub characters-distinct : distinct same (identifiers cs) ≡ keysDistinct (keys cs)
   characters-distinct =
@@ -211,7 +211,7 @@ module _ (os : List Operation) (ranges : every inRange os ≡ true) where
   operationAt j = getD os j (blankPending .operation)
 
   member : (j : ℕ) → j < length os → List·Memᴰ (operationAt j) os
-  member j h = getD-member os j (blankPending .operation) h
+  member j h = get-member os j (blankPending .operation) h
 
   number : (f : Operation → ℕ) (j : ℕ) → j < length os → getD (map f os) j 0 ≡ f (operationAt j)
   number f j h = map-getD f os j 0 (blankPending .operation) h

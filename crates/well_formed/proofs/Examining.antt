@@ -4,12 +4,11 @@ use native.Mathlib.Omega.{arith}
 use mathlib.Core.Path.{_≡_, sym, ap, subst, _∙_}
 use mathlib.Core.Bool.{true, false, not}
 use mathlib.Core.List.{map, List·Memᴰ, Memᴰ·append-left, Memᴰ·append-right, Memᴰ·map}
-use lib.ListN.{length, take, getD, List·getD-map}
+use lib.ListN.{length, take, getD}
 use lib.Seq.{getD-take}
 use Rattle.woot.specs.declared.Identifier.{Identifier}
 use Rattle.woot.specs.declared.Insert.{Insert}
 use Rattle.woot.specs.declared.Character.{Character}
-use Rattle.woot.specs.declared.Pending.{Pending}
 use Rattle.woot.specs.declared.Replica.{Replica}
 use Rattle.woot.specs.Identifiers.{same}
 use Rattle.lists.specs.Lists.{any, keep}
@@ -78,12 +77,6 @@ module _ (r : Replica) (f : replicaWellFormed r ≡ true) where
     pub character-read : (k : ℕ) (d : Character) → k < r .document .length → getD (meaning r .characters) k d ≡ getD (r .document .characters) k d
     unfolding meaning
     character-read k d h = getD-take (r .document .length) (r .document .characters) k d h
-
-    pub pending-read : (j : ℕ) (d : Pending) → j < r .document .waiting → getD (meaning r .pending) j (d .operation) ≡ getD (r .document .pending) j d .operation
-    unfolding meaning
-    pending-read j d h =
-        List·getD-map (λ (p : Pending). p .operation) (take (r .document .waiting) (r .document .pending)) j d
-        ∙ ap (λ (p : Pending). p .operation) (getD-take (r .document .waiting) (r .document .pending) j d h)
 
 -- ---- what the check answers
 

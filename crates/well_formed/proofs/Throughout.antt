@@ -34,11 +34,6 @@ throughout-cong p q (suc n) f = ap₂ (λ (a b : Bool). a && b) (throughout-cong
 -- ---- lists by their indices
 
 module _ {A : Type 0} where
-  pub getD-member : (xs : List A) (i : ℕ) (d : A) → i < length xs → List·Memᴰ (getD xs i d) xs
-  getD-member [] i d h = absurd (not-suc-le-zero h)
-  getD-member (x ∷ xs) zero d h = List·Memᴰ·head refl
-  getD-member (x ∷ xs) (suc i) d h = List·Memᴰ·tail (getD-member xs i d (le-of-suc-le-suc h))
-
   pub take-member : (n : ℕ) (xs : List A) {x : A} → List·Memᴰ x (take n xs) → List·Memᴰ x xs
   take-member (suc n) (y ∷ xs) (List·Memᴰ·head e) = List·Memᴰ·head e
   take-member (suc n) (y ∷ xs) (List·Memᴰ·tail m) = List·Memᴰ·tail (take-member n xs m)

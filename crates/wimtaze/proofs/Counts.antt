@@ -1,12 +1,12 @@
 -- What is answered on a state in form: no check is the one of a short output, what an insert releases was pending, of
 -- which there are at most 512, and what is sent is in range, so that its line is no longer than the longest.
-use Prim.Native.Nat.{ℕ, zero, suc, _+_, _≤_, _<_}
+use Prim.Native.Nat.{ℕ, zero, suc, _≤_, _<_}
 use native.Mathlib.Omega.{arith}
 use mathlib.Core.Path.{_≡_, refl, subst}
-use mathlib.Core.Bool.{Bool, true, false, _||_, not, cond}
+use mathlib.Core.Bool.{Bool, true, false, not, cond}
 use mathlib.Core.Option.{Option, none, some}
-use mathlib.Core.List.{List, [], _∷_, Memᴰ·map, Memᴰ·of-map}
-use lib.Dec.{leb, ltb, eqb}
+use mathlib.Core.List.{List, _∷_, Memᴰ·map, Memᴰ·of-map}
+use lib.Dec.{ltb, eqb}
 use lib.ListN.{length, getD}
 use borrow.Author.Tests.{not-false, ltb-false, eqb-false}
 use Rattle.woot.specs.declared.Identifier.{Identifier}
@@ -14,7 +14,6 @@ use Rattle.woot.specs.declared.Insert.{Insert}
 use Rattle.woot.specs.declared.Operation.{Operation}
 use Rattle.woot.specs.declared.Operation.the-variants.{Insert as insert, Delete as delete}
 use Rattle.woot.specs.declared.Refusal.{Refusal}
-use Rattle.woot.specs.declared.Character.{Character}
 use Rattle.woot.specs.declared.Answer.{Answer}
 use Rattle.woot.specs.declared.Answer.the-variants.{Done, Deferred, Duplicate, Refused}
 use Rattle.woot.specs.declared.Sent.{Sent}
@@ -26,16 +25,16 @@ use Rattle.woot.specs.State.{State}
 use Rattle.woot.specs.Form.{wellFormed}
 use Rattle.woot.specs.Pending.{executable}
 use Rattle.woot.specs.Answers.{number, Check, first, NoneHolds, decided}
-use Rattle.woot.specs.Calls.{Outcome, unchanged, insertCarried, receiveChecks, carryOut, defer, accept, receiveWhen, receive, visibles, generatedInsert, beyondVisible, identifierTaken, insertChecks, advanced, sendInsert, localInsertWhen, localInsert, notVisible, generatedDelete, deleteChecks, sendDelete, localDeleteWhen, localDelete}
+use Rattle.woot.specs.Calls.{Outcome, unchanged, insertCarried, receiveChecks, carryOut, defer, accept, receiveWhen, receive, visibles, generatedInsert, beyondVisible, insertChecks, advanced, sendInsert, localInsertWhen, localInsert, notVisible, generatedDelete, deleteChecks, sendDelete, localDeleteWhen, localDelete}
 use Rattle.lists.specs.Lists.{keep}
 use Rattle.woot.specs.Operations.{isVisible}
-use Rattle.lists.proofs.Members.{keep-member}
+use Rattle.lists.proofs.Members.{get-member, keep-member}
 use Rattle.lists.proofs.Tests.{and-left, and-intro, or-false-left, or-false-right}
 use Rattle.convergence.proofs.Forms.{formed}
 use Rattle.convergence.proofs.Shares.{pending-fit}
 use Rattle.convergence.proofs.Draining.{drained-balance}
 use Rattle.convergence.proofs.Soundness.{standing}
-use Rattle.convergence.proofs.InsertionPoint.{get-member, member-range}
+use Rattle.convergence.proofs.InsertionPoint.{member-range}
 use Rattle.convergence.proofs.Steps.{All, first-none, first-some, generated-made}
 use Rattle.convergence.proofs.Kept.{after-insert}
 use Rattle.codec.specs.Operations.{operationLine}

@@ -6,13 +6,13 @@ use mathlib.Core.Path.{_≡_, refl, _∙_}
 use mathlib.Core.Bool.{Bool, true, false, _||_, not, cond}
 use mathlib.Core.Option.{Option, none, some}
 use mathlib.Core.List.{List, [], _∷_}
-use lib.Dec.{ltb, eqb}
+use lib.Dec.{ltb}
 use lib.ListN.{length, length-map}
 use borrow.Author.Tests.{eqb-false, ltb-true, not-false}
 use Rattle.output.specs.Output.{placed}
 use Rattle.woot.specs.declared.Operation.{Operation}
 use Rattle.woot.specs.declared.Refusal.{Refusal}
-use Rattle.woot.specs.declared.Refusal.the-variants.{Layout, Range, Form, Position, Clock, Taken, Conflict, Crossed, Unplaceable, SenderFull, DocumentFull, Output}
+use Rattle.woot.specs.declared.Refusal.the-variants.{Range, Output}
 use Rattle.woot.specs.declared.Answer.{Answer}
 use Rattle.woot.specs.declared.Answer.the-variants.{Done, Deferred, Duplicate, Refused}
 use Rattle.woot.specs.declared.Sent.{Sent}
@@ -23,12 +23,13 @@ use Rattle.woot.specs.Form.{wellFormed}
 use Rattle.woot.specs.Answers.{number, reply, changes, Check, _⇒_, first, NoneHolds, decided}
 use Rattle.woot.specs.declared.Character.{Character}
 use Rattle.woot.specs.Operations.{isVisible}
-use Rattle.woot.specs.Calls.{Outcome, receive, visibles, localInsert, localDelete}
-use Rattle.woot.specs.Histories.{Call, inserting, deleting, receiving, outcome}
+use Rattle.woot.specs.Calls.{receive, visibles, localInsert, localDelete}
+use Rattle.woot.specs.Histories.{inserting, deleting, receiving, outcome}
 use Rattle.woot.specs.Text.{text}
 use Rattle.lists.specs.Lists.{keep}
 use Rattle.lists.proofs.Members.{keep-length}
 use Rattle.convergence.proofs.Forms.{empty-formed, known-length}
+use Rattle.convergence.proofs.Replies.{number-few}
 use Rattle.convergence.proofs.Shares.{pending-fit}
 use Rattle.convergence.proofs.Kept.{form-kept}
 use Rattle.convergence.proofs.Steps.{All, first-none, first-some}
@@ -47,20 +48,6 @@ use Rattle.wimtaze.proofs.Counting.{known-few}
 use Rattle.wimtaze.proofs.Counts.{Other, Fine, Sends, receive-fine, insert-sends, delete-sends}
 
 -- ---- what is returned
-
-number-few : (q : Refusal) → number q ≤ 12
-number-few Layout = omega arith
-number-few Range = omega arith
-number-few Form = omega arith
-number-few Position = omega arith
-number-few Clock = omega arith
-number-few Taken = omega arith
-number-few Conflict = omega arith
-number-few Crossed = omega arith
-number-few Unplaceable = omega arith
-number-few SenderFull = omega arith
-number-few DocumentFull = omega arith
-number-few Output = omega arith
 
 reply-few : (a : Answer) → Fine a
     → (reply a .refusal ≤ 12) × (reply a .integrated ≤ 513) × (reply a .discarded ≤ 512) × (reply a .refusal ≡ 12 → ⊥)

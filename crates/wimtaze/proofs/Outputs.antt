@@ -24,7 +24,7 @@ use Rattle.woot.specs.declared.Written.the-variants.{Length, Refused as written
 use Rattle.woot.specs.Answers.{changes, _⇒_, first, decided}
 use Rattle.woot.specs.Writing.{writingChecks, writtenAs, outputAfter}
 use Rattle.lists.proofs.Tests.{side}
-use Rattle.convergence.proofs.Writing.{too-short, has-room}
+use Rattle.convergence.proofs.Writing.{length-refused, too-short, has-room}
 use Rattle.lines.specs.declared.Room.the-variants.{Until, Short}
 use Rattle.lines.specs.Answers.{roomFor}
 use Rattle.codec.specs.Operations.{operationLine}
@@ -88,9 +88,6 @@ module _ (x y : Receipt) (e : x ≡ y) (out : List ℕ) where
 
 until-short : {n : ℕ} → Until n ≡ Short → ⊥
 until-short e = let z : _≡_ {A = ℕ} 0 1 = cc in omega arith
-
-length-refused : {n : ℕ} {q : Refusal} → Length n ≡ writtenRefused q → ⊥
-length-refused e = let z : _≡_ {A = ℕ} 0 1 = cc in omega arith
 
 module _ (a : Answer) (bytes sent out line : List ℕ) where
   -- the two tests on the outputs
