@@ -2,7 +2,7 @@
 -- answers done or waits, and what is done where none holds answers nothing else.
 use Prim.Native.Nat.{ℕ, _≤_}
 use native.Mathlib.Omega.{arith}
-use mathlib.Core.Path.{_≡_, refl, ap, sym, _∙_, subst}
+use mathlib.Core.Path.{_≡_, refl, ap, sym, _∙_}
 use mathlib.Core.Bool.{Bool, true, false, cond, false≢true, true≢false}
 use mathlib.Core.Option.{Option, none, some}
 use mathlib.Core.Logic.{_↔_}
@@ -18,9 +18,10 @@ use Rattle.woot.specs.declared.Sent.{Sent}
 use Rattle.woot.specs.declared.Sent.the-variants.{Done as sentDone, Refused as sentRefused}
 use Rattle.woot.specs.State.{State}
 use Rattle.woot.specs.Pending.{executable}
-use Rattle.woot.specs.Answers.{number, Word, done, waits, known, refused, reply, answerOf, Check, first, NoneHolds, decided, Reported}
+use Rattle.woot.specs.Answers.{number, Word, done, waits, known, refused, reply, answerOf, sentOperation, Check, first, NoneHolds, decided}
 use Rattle.woot.specs.Calls.{Outcome, unchanged, carryOut, defer, accept, receiveChecks, receiveWhen, generatedInsert, insertChecks, advanced, sendInsert, localInsertWhen, generatedDelete, deleteChecks, sendDelete, localDeleteWhen}
-use Rattle.convergence.specs.Theorems.{NumbersDiffer, ReceiveNumbers, InsertNumbers, DeleteNumbers, ReceiveDoes, ReceiveWaits, InsertDoes, DeleteDoes}
+use Rattle.lists.proofs.Tests.{some-eq, no-some}
+use Rattle.convergence.specs.Theorems.{NumbersDiffer, ReceiveNumbers, InsertNumbers, DeleteNumbers, ReceiveDoes, ReceiveWaits, InsertDoes, DeleteDoes, InsertSends, DeleteSends}
 use Rattle.convergence.proofs.Refusals.{receive-refuses, insert-refuses, delete-refuses, answer-refused}
 use Rattle.convergence.proofs.Steps.{first-none, All, first-some, Turned, receive-turned, Refusing, insert-turned, delete-turned}
 
@@ -118,8 +119,8 @@ pub none-first : {A : Type 0} (cs : List (Check A)) → NoneHolds cs → first c
 none-first [] w = refl
 none-first (c ∷ cs) w = rw (w .0) (none-first cs (w .1))
 
--- a word that no check answers is that of what is done where none holds
-module _ {A : Type 0} (word : A → Word) (w : Word) (s : State) (cs : List (Check A)) (r : Outcome A) (never : All (λ a. word a ≡ w → ⊥) cs) where
+-- a word, or a value, that no check answers is that of what is done where none holds
+module _ {A B : Type 0} (word : A → B) (w : B) (s : State) (cs : List (Check A)) (r : Outcome A) (never : All (λ a. word a ≡ w → ⊥) cs) where
   pub done-exactly : (word (decided (unchanged s) (first cs) r .answer) ≡ w) ↔ (NoneHolds cs × (word (r .answer) ≡ w))
   unfolding decided unchanged
   done-exactly = (go (first cs) refl, λ h. rw (none-first cs (h .0)) (h .1))
@@ -185,14 +186,23 @@ receive-waits formed s o =
 abbrev wordSent : Sent → Word
 wordSent a = wordOf (answerOf a)
 
-all-refusing : (cs : List (Check Sent)) → All Refusing cs → All (λ a. wordSent a ≡ done → ⊥) cs
+-- what no refusal has no check answers
+module _ {B : Type 0} (view : Sent → B) (v : B) (never : (r : Refusal) → view (sentRefused r) ≡ v → ⊥) where
+  all-refusing : (cs : List (Check Sent)) → All Refusing cs → All (λ a. view a ≡ v → ⊥) cs
+  all-refusing [] t = tt
+  all-refusing (c ∷ cs) t = (refusing (c .answer) (t .0), all-refusing cs (t .1))
+    where
+      refusing : (a : Sent) → Refusing a → view a ≡ v → ⊥
+      refusing (sentDone o n m) t e = t
+      refusing (sentRefused r) t e = never r e
+
+not-done : (r : Refusal) → wordSent (sentRefused r) ≡ done → ⊥
 unfolding answerOf reply
-all-refusing [] t = tt
-all-refusing (c ∷ cs) t = (refusing-word (c .answer) (t .0), all-refusing cs (t .1))
-  where
-    refusing-word : (a : Sent) → Refusing a → wordSent a ≡ done → ⊥
-    refusing-word (sentDone o n m) t e = t
-    refusing-word (sentRefused r) t e = let z : _≡_ {A = ℕ} 0 1 = cc in omega arith
+not-done r e = let z : _≡_ {A = ℕ} 0 1 = cc in omega arith
+
+not-sent : (o : Operation) (r : Refusal) → sentOperation (sentRefused r) ≡ some o → ⊥
+unfolding sentOperation
+not-sent o r e = no-some e
 
 -- what is sent is done
 sent-done : (s : State) (o : Operation) → wordSent (carryOut (sentDone o) s o .answer) ≡ done
@@ -203,11 +213,27 @@ sent-done s (delete d) = refl
 pub insert-does : InsertDoes
 unfolding localInsertWhen sendInsert
 insert-does formed s g n =
-    let w = done-exactly wordSent done s (insertChecks formed s g n) (sendInsert s (generatedInsert s g n)) (all-refusing (insertChecks formed s g n) (insert-turned formed s g n)) in
+    let w = done-exactly wordSent done s (insertChecks formed s g n) (sendInsert s (generatedInsert s g n)) (all-refusing wordSent done not-done (insertChecks formed s g n) (insert-turned formed s g n)) in
     (λ h. w .0 h .0, λ h. w .1 (h, sent-done (advanced s) (insert (generatedInsert s g n))))
 
 pub delete-does : DeleteDoes
 unfolding localDeleteWhen sendDelete
 delete-does formed s p =
-    let w = done-exactly wordSent done s (deleteChecks formed s p) (sendDelete s (generatedDelete s p)) (all-refusing (deleteChecks formed s p) (delete-turned formed s p)) in
+    let w = done-exactly wordSent done s (deleteChecks formed s p) (sendDelete s (generatedDelete s p)) (all-refusing wordSent done not-done (deleteChecks formed s p) (delete-turned formed s p)) in
     (λ h. w .0 h .0, λ h. w .1 (h, sent-done s (delete (generatedDelete s p))))
+
+-- ---- what is sent
+
+pub insert-sends : InsertSends
+unfolding localInsertWhen sendInsert carryOut sentOperation
+insert-sends formed s g n o =
+    let checks = insertChecks formed s g n in
+    let w = done-exactly sentOperation (some o) s checks (sendInsert s (generatedInsert s g n)) (all-refusing sentOperation (some o) (not-sent o) checks (insert-turned formed s g n)) in
+    (λ h. (w .0 h .0, some-eq (w .0 h .1)), λ h. w .1 (h .0, ap some (h .1)))
+
+pub delete-sends : DeleteSends
+unfolding localDeleteWhen sendDelete carryOut sentOperation
+delete-sends formed s p o =
+    let checks = deleteChecks formed s p in
+    let w = done-exactly sentOperation (some o) s checks (sendDelete s (generatedDelete s p)) (all-refusing sentOperation (some o) (not-sent o) checks (delete-turned formed s p)) in
+    (λ h. (w .0 h .0, some-eq (w .0 h .1)), λ h. w .1 (h .0, ap some (h .1)))

@@ -9,6 +9,7 @@ use lib.ListN.{length}
 use Rattle.woot.specs.declared.Identifier.{Identifier}
 use Rattle.woot.specs.declared.Insert.{Insert}
 use Rattle.woot.specs.declared.Operation.{Operation}
+use Rattle.woot.specs.declared.Operation.the-variants.{Insert as insert, Delete as delete}
 use Rattle.woot.specs.declared.Character.{Character}
 use Rattle.woot.specs.declared.Refusal.{Refusal}
 use Rattle.woot.specs.declared.Refusal.the-variants.{Unplaceable, SenderFull, DocumentFull}
@@ -23,8 +24,8 @@ use Rattle.woot.specs.State.{State, initial, pendingSlots}
 use Rattle.woot.specs.Placing.{identifiers, above, Interval, adjacent, candidates, narrowed, position}
 use Rattle.woot.specs.Pending.{executable, crossed, unplaceable, integrate, sentBy, Extracted, earliest, Drained, andIntegrated, andDiscarded, drained, drain}
 use Rattle.woot.specs.Form.{wellFormed}
-use Rattle.woot.specs.Answers.{number, done, waits, reply, answerOf, Check, NoneHolds, Reported}
-use Rattle.woot.specs.Calls.{unchanged, allIntegrated, receiveChecks, receiveWhen, receive, insertChecks, localInsertWhen, deleteChecks, localDeleteWhen}
+use Rattle.woot.specs.Answers.{number, done, waits, reply, answerOf, sentOperation, Check, NoneHolds, Reported}
+use Rattle.woot.specs.Calls.{unchanged, allIntegrated, receiveChecks, receiveWhen, receive, insertChecks, generatedInsert, localInsertWhen, deleteChecks, generatedDelete, localDeleteWhen}
 use Rattle.woot.specs.Writing.{writingChecks, writtenAs, outputAfter, writtenNumber}
 use Rattle.woot.specs.Text.{text}
 use Rattle.woot.specs.Histories.{Call, Begun, startOf, outcome, run, drainedBy, discardedBy, deferredBy, InsertedIn, DeletedIn, charactersAfter, historyOf, SameInserted, SameDeleted}
@@ -124,6 +125,19 @@ abbrev pub DeleteDoes : Type 0
 DeleteDoes =
     (formed : Bool) (s : State) (p : ℕ) →
     (reply (answerOf (localDeleteWhen formed s p .answer)) .word ≡ done) ↔ NoneHolds (deleteChecks formed s p)
+
+-- "typing and erasing also return the operation to be sent": the generated one, exactly when no condition holds
+abbrev pub InsertSends : Type 0
+InsertSends =
+    (formed : Bool) (s : State) (g n : ℕ) (o : Operation) →
+    (sentOperation (localInsertWhen formed s g n .answer) ≡ some o)
+    ↔ (NoneHolds (insertChecks formed s g n) × (insert (generatedInsert s g n) ≡ o))
+
+abbrev pub DeleteSends : Type 0
+DeleteSends =
+    (formed : Bool) (s : State) (p : ℕ) (o : Operation) →
+    (sentOperation (localDeleteWhen formed s p .answer) ≡ some o)
+    ↔ (NoneHolds (deleteChecks formed s p) × (delete (generatedDelete s p) ≡ o))
 
 -- a refused call changes nothing and carries nothing out
 abbrev pub RefusedUnchanged : Type 0

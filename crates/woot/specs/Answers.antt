@@ -5,6 +5,7 @@ use mathlib.Core.Bool.{Bool, true, false, cond}
 use mathlib.Core.Path.{_≡_}
 use mathlib.Core.List.{List, [], _∷_}
 use mathlib.Core.Option.{Option, none, some}
+use Rattle.woot.specs.declared.Operation.{Operation}
 use Rattle.woot.specs.declared.Refusal.{Refusal}
 use Rattle.woot.specs.declared.Refusal.the-variants.{Layout, Range, Form, Position, Clock, Taken, Conflict, Crossed, Unplaceable, SenderFull, DocumentFull, Output}
 use Rattle.woot.specs.declared.Answer.{Answer}
@@ -72,6 +73,11 @@ changes (Refused r) = false
 unfoldable pub answerOf : Sent → Answer
 answerOf (sentDone o n m) = Done n m
 answerOf (sentRefused r) = Refused r
+
+-- the operation to be sent, none with a refusal
+unfoldable pub sentOperation : Sent → Option Operation
+sentOperation (sentDone o n m) = some o
+sentOperation (sentRefused r) = none
 
 -- a condition, and the answer where it holds
 pub record Check (A : Type 0) : Type 0 where
