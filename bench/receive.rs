@@ -9,8 +9,9 @@ mod table;
 use reference::{Erase, Id, Insert, Operation, Reply, Sheet, BEGIN, END};
 
 extern "C" {
-    /// Runs the operations of `crates/workload` on an empty replica and returns how many were carried out.
-    fn workload_run() -> u64;
+    /// Receives the first `rows` inserts of `crates/workload` on an empty replica and then the deletes of the same
+    /// characters, and returns how many were carried out.
+    fn workload_run(rows: u64) -> u64;
 }
 
 const COUNT: usize = 1024;
@@ -43,5 +44,5 @@ fn reference_run() -> u64 {
 
 fn main() {
     table::head();
-    table::row("receive, 1,024 inserts and 1,024 deletes", &reference_run, &|| unsafe { workload_run() });
+    table::row("receive, 1,024 inserts and 1,024 deletes", &reference_run, &|| unsafe { workload_run(COUNT as u64) });
 }

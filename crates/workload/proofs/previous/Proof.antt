@@ -1,0 +1,24 @@
+-- `workload::previous` meets its contract: each arm is that of the definition.
+use Prim.Native.Nat.{_%_}
+use borrow.Author.Tests.{ne-eqb}
+use Rattle.workload.specs.Workload.{previousOf}
+use borrow.Author.Needs.{needs}
+use Rattle.workload.proofs.previous.Statement.{statement}
+use Rattle.workload.proofs.previous.Tie as tie
+
+returns : tie.Need-returns
+unfolding previousOf
+returns c = rw (c .if1 .taken)
+
+sub-identifier : tie.Need-sub-identifier
+sub-identifier c = search needs
+
+identifier-requires : tie.Need-identifier-requires
+identifier-requires c κs = search needs
+
+returns-2 : tie.Need-returns-2
+unfolding previousOf
+returns-2 c = rw (ne-eqb (c .before .before .args .k % 4) 0 (c .before .if1 .left)) (c .identifier .ensures)
+
+pub previous-spec : {M : Type 1} → statement M
+previous-spec = tie.close (tie.spec returns sub-identifier identifier-requires returns-2)
