@@ -1,8 +1,9 @@
 // The hall program: reads lines of operations from standard input into an empty replica, prints a report on each, and
-// last the visible characters.
-use woot::Answer;
+// last the visible characters. What it prints is worked out in `report`; here it is read and printed.
 use woot::Replica;
 use woot::Written;
+ghost use mathlib.Core.Path.{_≡_};
+ghost use Rattle.report.specs.Calls.{answered};
 
 const STDIN: i32 = 0;
 
@@ -20,14 +21,30 @@ fn print(bytes: &[u8]) -> bool {
     false
 }
 
-// Prints the report on a line of the input, and answers whether that went well.
-fn print_report(number: u64, answer: Answer) -> bool {
+// A replica after a line of the input, and whether the report on it could be printed.
+struct Printed {
+    replica: Replica,
+    well: bool,
+}
+
+// Takes the first line of the bytes, and prints the report on it.
+fn print_line(replica: Replica, number: u64, bytes: &[u8]) -> Printed
+    ensures { λ r. ⌜ r .replica ≡ answered replica (now (bytes .entry)) .replica ⌝ }
+{
     let mut line = [0u8; 70];
-    let written = report::report_line(number, answer, &mut line);
+    let processed = report::process_line(replica, number, bytes, &mut line);
+    let written = processed.written;
+    let left = processed.replica;
     if let Written::Length(n) = written {
-        return print(&line[..n]);
+        return Printed {
+            replica: left,
+            well: print(&line[..n]),
+        };
     }
-    true
+    Printed {
+        replica: left,
+        well: true,
+    }
 }
 
 // Prints the visible characters.
@@ -45,12 +62,11 @@ fn run(input: &[u8]) {
     let mut lines = input;
     let mut number = 1;
     while 0 < lines.len() {
-        let receipt = report::answer_line(replica, lines);
-        let answer = receipt.answer;
-        if !print_report(number, answer) {
+        let printed = print_line(replica, number, lines);
+        if !printed.well {
             return;
         }
-        replica = receipt.replica;
+        replica = printed.replica;
         let after = codec::rest(lines);
         lines = after;
         number += 1;

@@ -3,7 +3,7 @@ use Prim.Native.Nat.{ℕ, _+_, _^_, _<_, _≤_}
 use mathlib.Core.Path.{_≡_}
 use mathlib.Core.Bool.{true}
 use mathlib.Core.List.{List, [], _∷_, _++_}
-use lib.ListN.{length}
+use lib.ListN.{length, take}
 use Rattle.woot.specs.declared.Answer.{Answer}
 use Rattle.woot.specs.declared.Replica.{Replica}
 use Rattle.woot.specs.Answers.{reply}
@@ -11,7 +11,8 @@ use Rattle.woot.specs.State.{meaning}
 use Rattle.woot.specs.Form.{replicaWellFormed}
 use Rattle.lines.specs.Lines.{rest}
 use Rattle.report.specs.Lines.{reportLine, textLine}
-use Rattle.report.specs.Calls.{answered, printedFrom, printed}
+use Rattle.report.specs.Calls.{answered, printedFrom, printed, inputMost, hallOutput}
+use Rattle.report.specs.Loop.{looped}
 
 -- ---- sizes
 
@@ -35,6 +36,12 @@ PrintedByLines =
     × ((s : List ℕ) → 0 < length s →
     printedFrom (length s) n r s
     ≡ reportLine n (answered r s .answer) ++ printedFrom (length (rest s)) (n + 1) (answered r s .replica) (rest s))
+
+-- the loop of the program prints the whole output, on lent slices of any bytes, 70 or more for a line and 8,199 at last
+abbrev pub LoopPrints : Type 0
+LoopPrints =
+    (out last input : List ℕ) → 70 ≤ length out → 8199 ≤ length last →
+    looped out last (take inputMost input) ≡ hallOutput input
 
 -- document 01's example: the input, and the whole output
 abbrev pub exampleInput : List ℕ

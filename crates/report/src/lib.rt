@@ -15,6 +15,7 @@ ghost use Rattle.lines.specs.Fields.{tab, lineOf};
 ghost use Rattle.woot.specs.State.{meaning};
 ghost use Rattle.woot.specs.Writing.{writtenAs, outputAfter};
 ghost use Rattle.report.specs.Calls.{answered};
+ghost use Rattle.report.specs.Loop.{processed, processedOut};
 ghost use Rattle.report.specs.Lines.{reportLine, textLine, listing};
 
 // Writes a line of a number, a word and three numbers at the front of the slice, all of it or nothing.
@@ -127,5 +128,27 @@ pub fn answer_line(replica: Replica, bytes: &[u8]) -> Receipt
             answer: Answer::Refused(refusal),
             replica,
         },
+    }
+}
+
+// What is made of a line of the input: how much of the report was written, and the replica after the line.
+pub struct Processed {
+    pub written: Written,
+    pub replica: Replica,
+}
+
+// Answers the first line of the bytes and writes the report on it, as the line of the given number, at the front of the
+// slice. A slice that is too short keeps every byte. The bytes after the line are `codec::rest` of these.
+pub fn process_line(replica: Replica, number: u64, bytes: &[u8], out: &mut [u8]) -> Processed
+    ensures { λ r. ⌜ r ≡ processed replica number (now (bytes .entry)) (now (out .entry)) ⌝ }
+    ensures { λ _. ⌜ now (out .exit) ≡ processedOut replica number (now (bytes .entry)) (now (out .entry)) ⌝ }
+{
+    let receipt = answer_line(replica, bytes);
+    let answer = receipt.answer;
+    let left = receipt.replica;
+    let written = report_line(number, answer, out);
+    Processed {
+        written,
+        replica: left,
     }
 }

@@ -20,11 +20,8 @@ empty-requires c κs = search needs
 loop-holds : tie.Need-loop-holds Inv-loop μ-loop
 loop-holds c = omega arith
 
-answer-line-requires : tie.Need-answer-line-requires Inv-loop μ-loop
-answer-line-requires c κs = search needs
-
-print-report-requires : tie.Need-print-report-requires Inv-loop μ-loop
-print-report-requires c κs = search needs
+print-line-requires : tie.Need-print-line-requires Inv-loop μ-loop
+print-line-requires c κs = search needs
 
 returns : tie.Need-returns Inv-loop μ-loop
 returns c = search needs
@@ -60,8 +57,7 @@ run-spec =
     μ-loop
     empty-requires
     loop-holds
-    answer-line-requires
-    print-report-requires
+    print-line-requires
     returns
     rest-requires
     add-number

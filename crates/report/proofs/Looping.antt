@@ -1,0 +1,102 @@
+-- The loop of the program prints the output: a replica in form stays so, and then every report and the text have room.
+use mathlib.Core.Path.{_≡_, ap}
+use mathlib.Core.Bool.{true}
+use mathlib.Core.List.{List}
+use Prim.Native.Nat.{ℕ, zero, suc, _+_, _^_, _≤_, _<_}
+use native.Mathlib.Omega.{arith}
+use lib.ListN.{length, take, length-take}
+use Rattle.woot.specs.declared.Replica.{Replica}
+use Rattle.woot.specs.declared.Operation.{Operation}
+use Rattle.woot.specs.declared.Answer.{Answer}
+use Rattle.woot.specs.declared.Written.the-variants.{Length}
+use Rattle.woot.specs.State.{initial, meaning, stored, counted}
+use Rattle.woot.specs.Ranges.{within, siteNumber}
+use Rattle.woot.specs.Form.{wellFormed, replicaWellFormed}
+use Rattle.woot.specs.Answers.{reply}
+use Rattle.woot.specs.Calls.{receive}
+use Rattle.woot.specs.Histories.{receiving, outcome}
+use Rattle.storage.specs.Replicas.{receipt, received}
+use Rattle.lists.proofs.Tests.{and-right}
+use Rattle.convergence.proofs.Kept.{counts-true, counts-bounded}
+use Rattle.replica.specs.Theorems.{called}
+use Rattle.replica.proofs.Kept.{replicas-formed, empty-replica-formed}
+use Rattle.lines.specs.Lines.{rest}
+use Rattle.codec.specs.declared.Read.{Read}
+use Rattle.codec.specs.declared.Read.the-variants.{Operation as readsAs, Refused as readRefused}
+use Rattle.codec.specs.Calls.{readOperation}
+use Rattle.report.specs.declared.Processed.{Processed}
+use Rattle.report.specs.Lines.{reportLine, textLine}
+use Rattle.report.specs.Calls.{answeredAs, answered, printedFrom, printed, inputMost, hallOutput}
+use Rattle.report.specs.Loop.{reportOn, processed, processedOut, front, textFront, loopFrom, looped}
+use Rattle.report.specs.Theorems.{LoopPrints}
+use Rattle.report.proofs.Sizes.{report-fits, text-fits}
+use Rattle.codec.proofs.Answers.{fitted-within}
+use Rattle.report.proofs.Writers.{front-whole}
+
+-- a length that is answered is within the slice
+pub processed-within : (r : Replica) (n : ℕ) (s out : List ℕ) {p : Processed} → p ≡ processed r n s out → {m : ℕ} → p .written ≡ Length m
+    → {after : List ℕ} → after ≡ processedOut r n s out → m ≤ length after
+unfolding processed processedOut
+processed-within r n s out e q o = fitted-within (reportOn r n s) out (ap (λ (p : Processed). p .written) e) q o
+
+-- ---- a line on a replica in form
+
+record Small (a : Answer) : Type 0 where
+  carried : reply a .integrated ≤ 513
+  thrown : reply a .discarded ≤ 512
+
+received-small : (r : Replica) (o : Operation) → replicaWellFormed r ≡ true → Small (received r o .answer)
+unfolding received receipt receive outcome replicaWellFormed
+received-small r o f =
+    let s = meaning r in
+    let formed : wellFormed s ≡ true = and-right (counted r) (wellFormed s) f in
+    let t = counts-true s (receiving o) in
+    let b = counts-bounded s (receiving o) in
+    rw (f, ← formed) (record { carried = omega (arith, t .0, b .0); thrown = omega (arith, t .1, b .1) })
+
+module _ (r : Replica) (f : replicaWellFormed r ≡ true) where
+  answered-as-small : (a : Read) → Small (answeredAs r a .answer)
+  unfolding answeredAs reply
+  answered-as-small (readsAs o) = received-small r o f
+  answered-as-small (readRefused q) = record { carried = omega arith; thrown = omega arith }
+
+  answered-as-formed : (a : Read) → replicaWellFormed (answeredAs r a .replica) ≡ true
+  unfolding answeredAs called
+  answered-as-formed (readsAs o) = replicas-formed r (receiving o) f
+  answered-as-formed (readRefused q) = f
+
+  answered-formed : (s : List ℕ) → replicaWellFormed (answered r s .replica) ≡ true
+  unfolding answered
+  answered-formed s = answered-as-formed (readOperation s)
+
+  report-room : (n : ℕ) (s : List ℕ) → n < 2 ^ 64 → length (reportOn r n s) ≤ 70
+  unfolding reportOn answered
+  report-room n s h =
+      let few = answered-as-small (readOperation s) in
+      report-fits n (answered r s .answer) h (omega (arith, few .carried)) (omega (arith, few .thrown))
+
+-- ---- the loop
+
+module _ (out last : List ℕ) (room : 70 ≤ length out) (space : 8199 ≤ length last) where
+  text-shown : (r : Replica) → replicaWellFormed r ≡ true → textFront out last r ≡ textLine (meaning r .characters)
+  unfolding textFront
+  text-shown r f = front-whole (textLine (meaning r .characters)) last (omega (arith, text-fits r f))
+
+  line-shown : (r : Replica) (n : ℕ) (s : List ℕ) → replicaWellFormed r ≡ true → n < 2 ^ 64
+      → front (processed r n s out .written) (processedOut r n s out) ≡ reportLine n (answered r s .answer)
+  unfolding processed processedOut reportOn
+  line-shown r n s f h = front-whole (reportOn r n s) out (omega (arith, report-room r f n s h))
+
+  loop-prints-from : (most n : ℕ) (r : Replica) (s : List ℕ) → replicaWellFormed r ≡ true → n + most < 2 ^ 64
+      → loopFrom out last most n r s ≡ printedFrom most n r s
+  unfolding loopFrom printedFrom processed
+  loop-prints-from zero n r s f h = text-shown r f
+  loop-prints-from (suc most) n r s f h =
+      let again : loopFrom out last most (n + 1) (answered r s .replica) (rest s) ≡ printedFrom most (n + 1) (answered r s .replica) (rest s) = loop-prints-from most (n + 1) (answered r s .replica) (rest s) (answered-formed r f s) (omega arith) in
+      rw (text-shown r f, line-shown r n s f (omega arith), again)
+
+pub loop-prints : LoopPrints
+unfolding looped hallOutput printed siteNumber within
+loop-prints out last input room space =
+    let s = take inputMost input in
+    loop-prints-from out last room space (length s) 1 (stored (initial 16)) s (empty-replica-formed 16) (omega (arith, length-take inputMost input))

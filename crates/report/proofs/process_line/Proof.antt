@@ -1,0 +1,25 @@
+-- `report::process_line` meets its contract, by those of `answer_line` and `report_line`.
+use mathlib.Core.Path.{refl}
+use borrow.Author.Needs.{needs}
+use Rattle.report.specs.Loop.{reportOn, processed, processedOut}
+use Rattle.report.proofs.process_line.Statement.{statement}
+use Rattle.report.proofs.process_line.Tie as tie
+
+answer-line-requires : tie.Need-answer-line-requires
+answer-line-requires c κs = search needs
+
+report-line-requires : tie.Need-report-line-requires
+report-line-requires c κs = search needs
+
+same-length : tie.Need-same-length
+same-length c = search needs
+
+returns : tie.Need-returns
+unfolding processed processedOut reportOn
+returns c =
+    let p = c .before .before .report-line .ensures in
+    rw (← c .before .before .before .before .before .answer-line .ensures, p .0) (refl, p .1)
+
+pub process-line-spec : {M : Type 1} → statement M
+process-line-spec =
+    tie.close (tie.spec answer-line-requires report-line-requires same-length returns)
