@@ -33,7 +33,7 @@ use Rattle.saved.specs.Calls.{loadChecks, unread, loaded}
 use Rattle.saved.proofs.Trips.{saved-says, saved-reads-back}
 use Rattle.wimtaze.specs.Results.{result, silent, inBits, numberOf}
 use Rattle.wimtaze.specs.Effects.{Effect, quiet, turned, writing, writingBoth, afterReceiving, sending, afterSending}
-use Rattle.wimtaze.specs.Calls.{inputChecks, receivingLine, typing, erasing}
+use Rattle.wimtaze.specs.Calls.{inputChecks, receivingLine, insertingHere, deletingHere}
 use Rattle.wimtaze.specs.Theorems.{Fits}
 use Rattle.wimtaze.proofs.Fitting.{results-fit}
 use Rattle.consistency.specs.Copies.{BytesCall, load, receiveLine, type, erase, bytesCall, asBytes, bytesAfter, wordRead, writtenRead, wordOf, keptBytes, afterLoading, whenDone, byEffect, onBytes, stepOn}
@@ -122,13 +122,13 @@ module _ (s : State) (h : wellFormed s ≡ true) where
       handed-away (bytes s h) _ out [] _ _ (rw (saved-says s) (received-step s h (receiving (saidBy line)) (receive s (saidBy line) .answer) refl out))
 
   type-step : (g n : ℕ) (out line : List ℕ) →
-      Follows s (savedBytes s) (inserting g n) (typing (savedBytes s) g n out line)
-  unfolding typing afterSending outcome
+      Follows s (savedBytes s) (inserting g n) (insertingHere (savedBytes s) g n out line)
+  unfolding insertingHere afterSending outcome
   type-step g n out line =
       handed-away (bytes s h) _ out line _ _ (rw (saved-says s) (sent-step s h (inserting g n) (localInsert s g n .answer) refl out line))
 
-  erase-step : (p : ℕ) (out line : List ℕ) → Follows s (savedBytes s) (deleting p) (erasing (savedBytes s) p out line)
-  unfolding erasing afterSending outcome
+  erase-step : (p : ℕ) (out line : List ℕ) → Follows s (savedBytes s) (deleting p) (deletingHere (savedBytes s) p out line)
+  unfolding deletingHere afterSending outcome
   erase-step p out line =
       handed-away (bytes s h) _ out line _ _ (rw (saved-says s) (sent-step s h (deleting p) (localDelete s p .answer) refl out line))
 
@@ -152,10 +152,10 @@ module _ (s : State) (h : wellFormed s ≡ true) where
       read (receivingLine b line out) (results-fit .1 b line out) (omega arith) (omega arith) _ (receive-step line out)
   bytes-step (type g n out line) =
       let b = savedBytes s in
-      read (typing b g n out line) (results-fit .2 b g n out line) (omega arith) (omega arith) _ (type-step g n out line)
+      read (insertingHere b g n out line) (results-fit .2 b g n out line) (omega arith) (omega arith) _ (type-step g n out line)
   bytes-step (erase p out line) =
       let b = savedBytes s in
-      read (erasing b p out line) (results-fit .3 b p out line) (omega arith) (omega arith) _ (erase-step p out line)
+      read (deletingHere b p out line) (results-fit .3 b p out line) (omega arith) (omega arith) _ (erase-step p out line)
 
 -- no bytes lack the layout, whatever else is handed
 no-bytes : savedLaidOut [] ≡ false
@@ -163,7 +163,7 @@ unfolding savedLaidOut closed headLine isSite hasLayout
 no-bytes = refl
 
 pub nothing-step : (c : BytesCall) → Steps (initial 0) (asBytes []) (bytesCall c)
-unfolding stepOn onBytes byEffect afterLoading loaded loadChecks unread receivingLine typing erasing inputChecks decided
+unfolding stepOn onBytes byEffect afterLoading loaded loadChecks unread receivingLine insertingHere deletingHere inputChecks decided
     turned quiet silent result keptBytes wordOf wordRead writtenRead numberOf inBits bytesAfter reply whenDone
 nothing-step load = rw no-bytes (left nothing refl)
 nothing-step (receiveLine line out) = rw no-bytes (left nothing refl)

@@ -25,7 +25,7 @@ use Rattle.saved.specs.Format.{savedState}
 use Rattle.saved.specs.Calls.{loaded, saved, savedOut}
 use Rattle.wimtaze.specs.Results.{numberOf}
 use Rattle.wimtaze.specs.Effects.{Effect}
-use Rattle.wimtaze.specs.Calls.{beginning, receivingLine, typing, erasing}
+use Rattle.wimtaze.specs.Calls.{beginning, receivingLine, insertingHere, deletingHere}
 
 -- a replica in memory, or the bytes of a saved one
 pub data Copy : Type 0 where
@@ -140,8 +140,8 @@ byEffect b e c = record { copy = keptBytes b e; carried = whenDone (wordOf e) (s
 unfoldable pub onBytes : List ℕ → BytesCall → Stepped
 onBytes b load = record { copy = afterLoading b (loaded b .replica) (loaded b .answer); carried = [] }
 onBytes b (receiveLine line out) = byEffect b (receivingLine b line out) (receiving (saidBy line))
-onBytes b (type g n out line) = byEffect b (typing b g n out line) (inserting g n)
-onBytes b (erase p out line) = byEffect b (erasing b p out line) (deleting p)
+onBytes b (type g n out line) = byEffect b (insertingHere b g n out line) (inserting g n)
+onBytes b (erase p out line) = byEffect b (deletingHere b p out line) (deleting p)
 
 -- a call that takes the other kind of copy is not made on it
 unfoldable pub stepOn : Copy → Call → Stepped

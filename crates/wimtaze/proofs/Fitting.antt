@@ -41,7 +41,7 @@ use Rattle.saved.specs.Theorems.{savedMost}
 use Rattle.saved.proofs.Sizes.{saved-length}
 use Rattle.wimtaze.specs.Results.{Result, result, silent}
 use Rattle.wimtaze.specs.Effects.{Effect, quiet, turned, writing, writingBoth, afterReceiving, sending, afterSending}
-use Rattle.wimtaze.specs.Calls.{inputChecks, oneLine, beginning, receivingLine, typing, erasing, showingText, countsOf, counting}
+use Rattle.wimtaze.specs.Calls.{inputChecks, oneLine, beginning, receivingLine, insertingHere, deletingHere, showingText, countsOf, counting}
 use Rattle.wimtaze.specs.Theorems.{textMost, Fits, ResultsFit, CountsWithin, CountsFit, HasRoom, BuffersSuffice}
 use Rattle.wimtaze.proofs.Sizes.{text-length}
 use Rattle.wimtaze.proofs.Counting.{known-few}
@@ -156,15 +156,15 @@ module _ (bytes : List ℕ) where
   receive-line-good line out = input-good (oneLine line) (inRange (saidBy line)) out [] _ (λ h. receive-good (savedState bytes) h (saidBy line) out)
 
   insert-good : (point n : ℕ) (out line : List ℕ)
-      → Good savedMost insertMost (Room insertMost out line) (typing bytes point n out line .result)
-  unfolding typing afterSending outcome
+      → Good savedMost insertMost (Room insertMost out line) (insertingHere bytes point n out line .result)
+  unfolding insertingHere afterSending outcome
   insert-good point n out line =
       input-good true (codePoint n) out line _
       (λ h. send-good (savedState bytes) h insertMost (localInsert (savedState bytes) point n .state) (localInsert (savedState bytes) point n .answer) out line (form-kept (savedState bytes) (inserting point n) h) (insert-sends (savedState bytes) h point n))
 
   delete-good : (index : ℕ) (out line : List ℕ)
-      → Good savedMost deleteMost (Room deleteMost out line) (erasing bytes index out line .result)
-  unfolding erasing afterSending outcome
+      → Good savedMost deleteMost (Room deleteMost out line) (deletingHere bytes index out line .result)
+  unfolding deletingHere afterSending outcome
   delete-good index out line =
       input-good true true out line _
       (λ h. send-good (savedState bytes) h deleteMost (localDelete (savedState bytes) index .state) (localDelete (savedState bytes) index .answer) out line (form-kept (savedState bytes) (deleting index) h) (delete-sends (savedState bytes) h index))

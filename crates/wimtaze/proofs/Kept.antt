@@ -36,7 +36,7 @@ use Rattle.saved.specs.Calls.{loaded}
 use Rattle.saved.proofs.Trips.{saved-reads-back}
 use Rattle.wimtaze.specs.Results.{result, silent}
 use Rattle.wimtaze.specs.Effects.{Effect, quiet, turned, writing, writingBoth, afterReceiving, sending, afterSending}
-use Rattle.wimtaze.specs.Calls.{inputChecks, oneLine, beginning, receivingLine, typing, erasing}
+use Rattle.wimtaze.specs.Calls.{inputChecks, oneLine, beginning, receivingLine, insertingHere, deletingHere}
 use Rattle.wimtaze.specs.Theorems.{Loads, WrittenLoads}
 
 turned-loads : (out line : List ℕ) (q : Refusal) → Loads (turned out line q)
@@ -112,14 +112,14 @@ module _ (bytes : List ℕ) where
       input-loads (oneLine line) (inRange (saidBy line)) out [] _
       (λ h. received-loads (receive said (saidBy line) .state) (receive said (saidBy line) .answer) out (form-kept said (receiving (saidBy line)) h))
 
-  type-loads : (point n : ℕ) (out line : List ℕ) → Loads (typing bytes point n out line)
-  unfolding typing afterSending outcome
+  type-loads : (point n : ℕ) (out line : List ℕ) → Loads (insertingHere bytes point n out line)
+  unfolding insertingHere afterSending outcome
   type-loads point n out line =
       input-loads true (codePoint n) out line _
       (λ h. sent-loads (localInsert said point n .state) (localInsert said point n .answer) out line (form-kept said (inserting point n) h))
 
-  erase-loads : (index : ℕ) (out line : List ℕ) → Loads (erasing bytes index out line)
-  unfolding erasing afterSending outcome
+  erase-loads : (index : ℕ) (out line : List ℕ) → Loads (deletingHere bytes index out line)
+  unfolding deletingHere afterSending outcome
   erase-loads index out line =
       input-loads true true out line _
       (λ h. sent-loads (localDelete said index .state) (localDelete said index .answer) out line (form-kept said (deleting index) h))

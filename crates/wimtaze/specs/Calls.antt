@@ -1,5 +1,5 @@
--- The calls on any bytes and numbers: refusals 1, 2 and 3 over what was handed, then the rule on the state that the saved
--- bytes say, then 12, then the bytes of the new state.
+-- The calls on any bytes and numbers: refusals 1, 2 and 3 over what was handed, then the rule on the state that the
+-- saved bytes say, then 12, then the bytes of the new state.
 use Prim.Native.Nat.{ℕ, _-_}
 use mathlib.Core.Bool.{Bool, true, _&&_, not}
 use mathlib.Core.List.{List, [], _∷_}
@@ -46,21 +46,22 @@ receivingLine bytes line out =
     (afterReceiving (receive (savedState bytes) (saidBy line)) out)
 
 -- `wimtaze_type`
-unfoldable pub typing : List ℕ → ℕ → ℕ → List ℕ → List ℕ → Effect
-typing bytes point n out line =
+unfoldable pub insertingHere : List ℕ → ℕ → ℕ → List ℕ → List ℕ → Effect
+insertingHere bytes point n out line =
     decided (turned out line) (first (inputChecks bytes true (codePoint n)))
     (afterSending (localInsert (savedState bytes) point n) out line)
 
 -- `wimtaze_erase`
-unfoldable pub erasing : List ℕ → ℕ → List ℕ → List ℕ → Effect
-erasing bytes index out line =
+unfoldable pub deletingHere : List ℕ → ℕ → List ℕ → List ℕ → Effect
+deletingHere bytes index out line =
     decided (turned out line) (first (inputChecks bytes true true))
     (afterSending (localDelete (savedState bytes) index) out line)
 
 -- `wimtaze_text`
 unfoldable pub showingText : List ℕ → List ℕ → Effect
 showingText bytes out =
-    decided (turned out []) (first (inputChecks bytes true true)) (writing (Done 0 0) (text (savedState bytes .characters)) out)
+    decided (turned out []) (first (inputChecks bytes true true))
+    (writing (Done 0 0) (text (savedState bytes .characters)) out)
 
 -- the counts of a state: its visible characters, its pending operations, all its characters, and how many more it has
 -- room for

@@ -14,7 +14,7 @@ use Rattle.woot.specs.Text.{text}
 use Rattle.codec.specs.Theorems.{insertMost, deleteMost}
 use Rattle.saved.specs.Theorems.{savedMost}
 use Rattle.wimtaze.specs.Results.{Result, wordNumber, inBits, numberOf}
-use Rattle.wimtaze.specs.Calls.{beginning, receivingLine, typing, erasing, showingText, counting}
+use Rattle.wimtaze.specs.Calls.{beginning, receivingLine, insertingHere, deletingHere, showingText, counting}
 
 -- ---- sizes: the header's WIMTAZE_SHEET_MAX, WIMTAZE_INSERT_MAX, WIMTAZE_ERASE_MAX and WIMTAZE_TEXT_MAX
 
@@ -42,9 +42,9 @@ ResultsFit =
     ((number : ℕ) (out : List ℕ) → Fits savedMost 0 (beginning number out .result))
     × ((bytes line out : List ℕ) → Fits savedMost 0 (receivingLine bytes line out .result))
     × ((bytes : List ℕ) (point n : ℕ) (out line : List ℕ) →
-    Fits savedMost insertMost (typing bytes point n out line .result))
+    Fits savedMost insertMost (insertingHere bytes point n out line .result))
     × ((bytes : List ℕ) (index : ℕ) (out line : List ℕ) →
-    Fits savedMost deleteMost (erasing bytes index out line .result))
+    Fits savedMost deleteMost (deletingHere bytes index out line .result))
     × ((bytes out : List ℕ) → Fits textMost 0 (showingText bytes out .result))
 
 -- each part is read back from its bits, whatever the parts are
@@ -98,8 +98,8 @@ abbrev pub WrittenLoads : Type 0
 WrittenLoads =
     ((number : ℕ) (out : List ℕ) → Loads (beginning number out))
     × ((bytes line out : List ℕ) → Loads (receivingLine bytes line out))
-    × ((bytes : List ℕ) (point n : ℕ) (out line : List ℕ) → Loads (typing bytes point n out line))
-    × ((bytes : List ℕ) (index : ℕ) (out line : List ℕ) → Loads (erasing bytes index out line))
+    × ((bytes : List ℕ) (point n : ℕ) (out line : List ℕ) → Loads (insertingHere bytes point n out line))
+    × ((bytes : List ℕ) (index : ℕ) (out line : List ℕ) → Loads (deletingHere bytes index out line))
 
 -- ---- outputs of the header's sizes
 
@@ -113,7 +113,7 @@ BuffersSuffice =
     ((number : ℕ) (out : List ℕ) → savedMost ≤ length out → HasRoom (beginning number out .result))
     × ((bytes line out : List ℕ) → savedMost ≤ length out → HasRoom (receivingLine bytes line out .result))
     × ((bytes : List ℕ) (point n : ℕ) (out line : List ℕ) → savedMost ≤ length out → insertMost ≤ length line →
-    HasRoom (typing bytes point n out line .result))
+    HasRoom (insertingHere bytes point n out line .result))
     × ((bytes : List ℕ) (index : ℕ) (out line : List ℕ) → savedMost ≤ length out → deleteMost ≤ length line →
-    HasRoom (erasing bytes index out line .result))
+    HasRoom (deletingHere bytes index out line .result))
     × ((bytes out : List ℕ) → textMost ≤ length out → HasRoom (showingText bytes out .result))

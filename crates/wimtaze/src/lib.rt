@@ -13,7 +13,8 @@ ghost use mathlib.Core.Path.{_≡_};
 ghost use mathlib.Core.List.{[]};
 ghost use Rattle.wimtaze.specs.Results.{numberOf};
 ghost use Rattle.wimtaze.specs.Effects.{Leaves};
-ghost use Rattle.wimtaze.specs.Calls.{beginning, receivingLine, typing, erasing, showingText, counting};
+ghost use Rattle.wimtaze.specs.Calls.{beginning, receivingLine, insertingHere, deletingHere};
+ghost use Rattle.wimtaze.specs.Calls.{showingText, counting};
 
 // Writes the empty replica of a site.
 #[no_mangle]
@@ -95,7 +96,7 @@ pub extern "C" fn wimtaze_erase(
     out: &mut [u8],
     line_out: &mut [u8],
 ) -> u64
-    ensures { λ r. ⌜ Leaves (erasing (now (bytes .entry)) index (now (out .entry)) (now («line_out» .entry)))
+    ensures { λ r. ⌜ Leaves (deletingHere (now (bytes .entry)) index (now (out .entry)) (now («line_out» .entry)))
         r (now (out .exit)) (now («line_out» .exit)) ⌝ }
 {
     let loaded = saved::read(bytes);
@@ -118,7 +119,7 @@ pub extern "C" fn wimtaze_type(
     out: &mut [u8],
     line_out: &mut [u8],
 ) -> u64
-    ensures { λ r. ⌜ Leaves (typing (now (bytes .entry)) point «code_point»
+    ensures { λ r. ⌜ Leaves (insertingHere (now (bytes .entry)) point «code_point»
         (now (out .entry)) (now («line_out» .entry)))
         r (now (out .exit)) (now («line_out» .exit)) ⌝ }
 {

@@ -97,8 +97,8 @@ abbrev pub holding : List Insert → State
 holding is = record { site = record { number = 1; clock = 9 }; characters = map character is; pending = [] }
 
 -- P7's rows: 1/1 (begin, 2/1) and 2/1 (1/1, end)
-abbrev pub crossRow : State
-crossRow = holding (put (1 at 1) begin (2 at 1) ∷ put (2 at 1) (1 at 1) end ∷ [])
+abbrev pub namingEachOther : State
+namingEachOther = holding (put (1 at 1) begin (2 at 1) ∷ put (2 at 1) (1 at 1) end ∷ [])
 
 -- P8's shown text xyz
 abbrev pub xyz : State
@@ -115,20 +115,24 @@ g gives x = record { given = g; expected = x }
 unfoldable pub table : List Situation
 table =
     -- P1
-    (after (o1 ∷ o3 ∷ o4 ∷ o2 ∷ []) gives calls (Done 1 0 ∷ Done 1 0 ∷ Done 1 0 ∷ Done 1 0 ∷ []) (3 at 1 ∷ 1 at 1 ∷ 2 at 1 ∷ 3 at 2 ∷ []))
+    (after (o1 ∷ o3 ∷ o4 ∷ o2 ∷ [])
+    gives calls (Done 1 0 ∷ Done 1 0 ∷ Done 1 0 ∷ Done 1 0 ∷ []) (3 at 1 ∷ 1 at 1 ∷ 2 at 1 ∷ 3 at 2 ∷ []))
     -- P2
-    ∷ (after (o2 ∷ o1 ∷ o3 ∷ o4 ∷ []) gives calls (Done 1 0 ∷ Done 1 0 ∷ Done 1 0 ∷ Done 1 0 ∷ []) (3 at 1 ∷ 1 at 1 ∷ 2 at 1 ∷ 3 at 2 ∷ []))
+    ∷ (after (o2 ∷ o1 ∷ o3 ∷ o4 ∷ [])
+    gives calls (Done 1 0 ∷ Done 1 0 ∷ Done 1 0 ∷ Done 1 0 ∷ []) (3 at 1 ∷ 1 at 1 ∷ 2 at 1 ∷ 3 at 2 ∷ []))
     -- P3
     ∷ (after (o1 ∷ o3 ∷ o2 ∷ []) gives calls (Done 1 0 ∷ Done 1 0 ∷ Done 1 0 ∷ []) (3 at 1 ∷ 1 at 1 ∷ 2 at 1 ∷ []))
     -- P4, either arrival
     ∷ (after (o1 ∷ o2 ∷ []) gives calls (Done 1 0 ∷ Done 1 0 ∷ []) (1 at 1 ∷ 2 at 1 ∷ []))
     ∷ (after (o2 ∷ o1 ∷ []) gives calls (Done 1 0 ∷ Done 1 0 ∷ []) (1 at 1 ∷ 2 at 1 ∷ []))
     -- P5
-    ∷ (after (o1 ∷ del 1 (1 at 1) ∷ ins (2 at 1) (1 at 1) end ∷ []) gives calls (Done 1 0 ∷ Done 1 0 ∷ Done 1 0 ∷ []) (1 at 1 ∷ 2 at 1 ∷ []))
+    ∷ (after (o1 ∷ del 1 (1 at 1) ∷ ins (2 at 1) (1 at 1) end ∷ [])
+    gives calls (Done 1 0 ∷ Done 1 0 ∷ Done 1 0 ∷ []) (1 at 1 ∷ 2 at 1 ∷ []))
     -- P6
-    ∷ (after (o1 ∷ o2 ∷ ins (3 at 1) (2 at 1) (1 at 1) ∷ []) gives calls (Done 1 0 ∷ Done 1 0 ∷ Refused 8 ∷ []) (1 at 1 ∷ 2 at 1 ∷ []))
+    ∷ (after (o1 ∷ o2 ∷ ins (3 at 1) (2 at 1) (1 at 1) ∷ [])
+    gives calls (Done 1 0 ∷ Done 1 0 ∷ Refused 8 ∷ []) (1 at 1 ∷ 2 at 1 ∷ []))
     -- P7
-    ∷ (calling crossRow (ins (3 at 1) begin end ∷ []) gives calls (Refused 9 ∷ []) (1 at 1 ∷ 2 at 1 ∷ []))
+    ∷ (calling namingEachOther (ins (3 at 1) begin end ∷ []) gives calls (Refused 9 ∷ []) (1 at 1 ∷ 2 at 1 ∷ []))
     -- P8, with the neighbours that the typed character got
     ∷ (calling xyz (inserting 1 65 ∷ []) gives calls (Done 1 0 ∷ []) (2 at 1 ∷ 1 at 10 ∷ 2 at 2 ∷ 2 at 3 ∷ []))
     ∷ (carrying xyz (inserting 1 65 ∷ []) gives operations (insert (put (1 at 10) (2 at 1) (2 at 2)) ∷ []))
@@ -151,17 +155,18 @@ SituationsHold = AllHold table
 -- ---- cases that tell the rules from slips
 
 -- a delete by site n
-abbrev pub erase : ℕ → Identifier → Operation
-erase n x = delete (record { sender = n; target = x })
+abbrev pub deleteBy : ℕ → Identifier → Operation
+deleteBy n x = delete (record { sender = n; target = x })
 
 -- deletes of 4/1 to 4/n by site 2, the last first
 abbrev pub deletesBy2 : ℕ → List Operation
 deletesBy2 zero = []
-deletesBy2 (suc n) = erase 2 (4 at suc n) ∷ deletesBy2 n
+deletesBy2 (suc n) = deleteBy 2 (4 at suc n) ∷ deletesBy2 n
 
 -- a state of site 1 at the clock with the given characters, visible, and pending operations
-abbrev pub sheet : ℕ → List Insert → List Operation → State
-sheet clock is ps = record { site = record { number = 1; clock = clock }; characters = map character is; pending = ps }
+abbrev pub stateAt : ℕ → List Insert → List Operation → State
+stateAt clock is ps =
+    record { site = record { number = 1; clock = clock }; characters = map character is; pending = ps }
 
 -- an insert that waits for 7/7, which never comes
 abbrev pub stray : Identifier → Operation
@@ -171,62 +176,92 @@ stray x = insert (put x (7 at 7) end)
 unfoldable pub slipCases : List Situation
 slipCases =
     -- waiting edits totalled over all laptops
-    (calling (sheet 0 [] (deletesBy2 31)) (del 2 (4 at 40) ∷ del 2 (4 at 41) ∷ del 3 (4 at 1) ∷ []) gives calls (Waits ∷ Refused 10 ∷ Waits ∷ []) [])
+    (calling (stateAt 0 [] (deletesBy2 31)) (del 2 (4 at 40) ∷ del 2 (4 at 41) ∷ del 3 (4 at 1) ∷ [])
+    gives calls (Waits ∷ Refused 10 ∷ Waits ∷ []) [])
     -- hidden rows left out of the rows between, the new one put just below its previous, or just above its next
     ∷ (after (o1 ∷ del 1 (1 at 1) ∷ o2 ∷ []) gives calls (Done 1 0 ∷ Done 1 0 ∷ Done 1 0 ∷ []) (1 at 1 ∷ 2 at 1 ∷ []))
     ∷ (after (o2 ∷ del 1 (2 at 1) ∷ o1 ∷ []) gives calls (Done 1 0 ∷ Done 1 0 ∷ Done 1 0 ∷ []) (1 at 1 ∷ 2 at 1 ∷ []))
     -- every row between taken as a candidate
     ∷ (after (o1 ∷ o3 ∷ o2 ∷ []) gives calls (Done 1 0 ∷ Done 1 0 ∷ Done 1 0 ∷ []) (3 at 1 ∷ 1 at 1 ∷ 2 at 1 ∷ []))
     -- stopping without the narrower step
-    ∷ (after (o1 ∷ ins (1 at 2) (1 at 1) end ∷ o2 ∷ []) gives calls (Done 1 0 ∷ Done 1 0 ∷ Done 1 0 ∷ []) (1 at 1 ∷ 1 at 2 ∷ 2 at 1 ∷ []))
-    -- not stopping at the first that is not below, on a sheet that was only loaded
-    ∷ (calling (sheet 9 (put (1 at 1) begin end ∷ put (5 at 1) begin end ∷ put (2 at 1) begin end ∷ []) []) (ins (3 at 1) begin end ∷ []) gives calls (Done 1 0 ∷ []) (1 at 1 ∷ 3 at 1 ∷ 5 at 1 ∷ 2 at 1 ∷ []))
+    ∷ (after (o1 ∷ ins (1 at 2) (1 at 1) end ∷ o2 ∷ [])
+    gives calls (Done 1 0 ∷ Done 1 0 ∷ Done 1 0 ∷ []) (1 at 1 ∷ 1 at 2 ∷ 2 at 1 ∷ []))
+    -- not stopping at the first that is not below, on a state that was only loaded
+    ∷ (calling (stateAt 9 (put (1 at 1) begin end ∷ put (5 at 1) begin end ∷ put (2 at 1) begin end ∷ []) [])
+    (ins (3 at 1) begin end ∷ [])
+    gives calls (Done 1 0 ∷ []) (1 at 1 ∷ 3 at 1 ∷ 5 at 1 ∷ 2 at 1 ∷ []))
     -- identifiers ordered by clock first
     ∷ (after (ins (1 at 2) begin end ∷ o2 ∷ []) gives calls (Done 1 0 ∷ Done 1 0 ∷ []) (1 at 2 ∷ 2 at 1 ∷ []))
     -- one walk down the waiting list
-    ∷ (after (ins (3 at 1) (2 at 1) end ∷ ins (2 at 1) (1 at 1) end ∷ o1 ∷ []) gives calls (Waits ∷ Waits ∷ Done 3 0 ∷ []) (1 at 1 ∷ 2 at 1 ∷ 3 at 1 ∷ []))
+    ∷ (after (ins (3 at 1) (2 at 1) end ∷ ins (2 at 1) (1 at 1) end ∷ o1 ∷ [])
+    gives calls (Waits ∷ Waits ∷ Done 3 0 ∷ []) (1 at 1 ∷ 2 at 1 ∷ 3 at 1 ∷ []))
     -- walks repeated, but not from the front each time
-    ∷ (carrying (initial 16) (ins (3 at 1) (2 at 1) end ∷ ins (2 at 1) (1 at 1) end ∷ del 5 (1 at 1) ∷ o1 ∷ []) gives operations (insert (put (1 at 1) begin end) ∷ insert (put (2 at 1) (1 at 1) end) ∷ insert (put (3 at 1) (2 at 1) end) ∷ erase 5 (1 at 1) ∷ []))
+    ∷ (carrying (initial 16) (ins (3 at 1) (2 at 1) end ∷ ins (2 at 1) (1 at 1) end ∷ del 5 (1 at 1) ∷ o1 ∷ [])
+    gives operations (insert (put (1 at 1) begin end) ∷ insert (put (2 at 1) (1 at 1) end)
+    ∷ insert (put (3 at 1) (2 at 1) end) ∷ deleteBy 5 (1 at 1) ∷ []))
     -- the last ready one carried out where the earliest is due
-    ∷ (carrying (initial 16) (del 3 (1 at 1) ∷ del 5 (1 at 1) ∷ o1 ∷ []) gives operations (insert (put (1 at 1) begin end) ∷ erase 3 (1 at 1) ∷ erase 5 (1 at 1) ∷ []))
+    ∷ (carrying (initial 16) (del 3 (1 at 1) ∷ del 5 (1 at 1) ∷ o1 ∷ [])
+    gives operations (insert (put (1 at 1) begin end) ∷ deleteBy 3 (1 at 1) ∷ deleteBy 5 (1 at 1) ∷ []))
     -- a drained erase of a row that is hidden already not counted
-    ∷ (after (del 3 (1 at 1) ∷ del 5 (1 at 1) ∷ o1 ∷ del 7 (1 at 1) ∷ []) gives calls (Waits ∷ Waits ∷ Done 3 0 ∷ Known ∷ []) (1 at 1 ∷ []))
+    ∷ (after (del 3 (1 at 1) ∷ del 5 (1 at 1) ∷ o1 ∷ del 7 (1 at 1) ∷ [])
+    gives calls (Waits ∷ Waits ∷ Done 3 0 ∷ Known ∷ []) (1 at 1 ∷ []))
     -- a waiting insert that meets 8 carried out: previous equal to next, sent again it is refused
-    ∷ (after (ins (2 at 1) (1 at 1) (1 at 1) ∷ o1 ∷ ins (2 at 1) (1 at 1) (1 at 1) ∷ []) gives calls (Waits ∷ Done 1 1 ∷ Refused 8 ∷ []) (1 at 1 ∷ []))
+    ∷ (after (ins (2 at 1) (1 at 1) (1 at 1) ∷ o1 ∷ ins (2 at 1) (1 at 1) (1 at 1) ∷ [])
+    gives calls (Waits ∷ Done 1 1 ∷ Refused 8 ∷ []) (1 at 1 ∷ []))
     -- a waiting insert that meets 9 carried out
-    ∷ (calling (sheet 9 (put (1 at 1) begin (2 at 1) ∷ put (2 at 1) (1 at 1) end ∷ []) (insert (put (3 at 1) begin (5 at 1)) ∷ [])) (ins (5 at 1) (2 at 1) end ∷ []) gives calls (Done 1 1 ∷ []) (1 at 1 ∷ 2 at 1 ∷ 5 at 1 ∷ []))
+    ∷ (calling (stateAt 9 (put (1 at 1) begin (2 at 1) ∷ put (2 at 1) (1 at 1) end ∷ [])
+    (insert (put (3 at 1) begin (5 at 1)) ∷ [])) (ins (5 at 1) (2 at 1) end ∷ [])
+    gives calls (Done 1 1 ∷ []) (1 at 1 ∷ 2 at 1 ∷ 5 at 1 ∷ []))
     -- typing that does not drain
-    ∷ (calling (sheet 0 [] (insert (put (2 at 1) (1 at 1) end) ∷ [])) (inserting 0 65 ∷ []) gives calls (Done 2 0 ∷ []) (1 at 1 ∷ 2 at 1 ∷ []))
+    ∷ (calling (stateAt 0 [] (insert (put (2 at 1) (1 at 1) end) ∷ [])) (inserting 0 65 ∷ [])
+    gives calls (Done 2 0 ∷ []) (1 at 1 ∷ 2 at 1 ∷ []))
     -- the clock not advanced, or counted from another start
-    ∷ (after (inserting 0 65 ∷ inserting 1 66 ∷ inserting 0 67 ∷ []) gives calls (Done 1 0 ∷ Done 1 0 ∷ Done 1 0 ∷ []) (16 at 3 ∷ 16 at 1 ∷ 16 at 2 ∷ []))
+    ∷ (after (inserting 0 65 ∷ inserting 1 66 ∷ inserting 0 67 ∷ [])
+    gives calls (Done 1 0 ∷ Done 1 0 ∷ Done 1 0 ∷ []) (16 at 3 ∷ 16 at 1 ∷ 16 at 2 ∷ []))
     -- an erased row counted among the shown ones
-    ∷ (after (inserting 0 65 ∷ deleting 1 ∷ deleting 1 ∷ inserting 1 66 ∷ inserting 0 66 ∷ []) gives calls (Done 1 0 ∷ Done 1 0 ∷ Refused 4 ∷ Refused 4 ∷ Done 1 0 ∷ []) (16 at 1 ∷ 16 at 2 ∷ []))
+    ∷ (after (inserting 0 65 ∷ deleting 1 ∷ deleting 1 ∷ inserting 1 66 ∷ inserting 0 66 ∷ [])
+    gives calls (Done 1 0 ∷ Done 1 0 ∷ Refused 4 ∷ Refused 4 ∷ Done 1 0 ∷ []) (16 at 1 ∷ 16 at 2 ∷ []))
     -- the hall program's example
-    ∷ (after (insAs 66 (2 at 1) (1 at 1) end ∷ o1 ∷ del 3 (1 at 1) ∷ o1 ∷ insAs 67 (1 at 1) begin end ∷ []) gives calls (Waits ∷ Done 2 0 ∷ Done 1 0 ∷ Known ∷ Refused 7 ∷ []) (1 at 1 ∷ 2 at 1 ∷ []))
+    ∷ (after (insAs 66 (2 at 1) (1 at 1) end ∷ o1 ∷ del 3 (1 at 1) ∷ o1 ∷ insAs 67 (1 at 1) begin end ∷ [])
+    gives calls (Waits ∷ Done 2 0 ∷ Done 1 0 ∷ Known ∷ Refused 7 ∷ []) (1 at 1 ∷ 2 at 1 ∷ []))
     ∷ []
 
 -- answers given too early, too late, or never
 unfoldable pub answerCases : List Situation
 answerCases =
-    -- 2 lets pass an insert that names itself, the end mark as previous, a surrogate
-    (after (ins (1 at 1) (1 at 1) end ∷ ins (1 at 1) end end ∷ insAs 55296 (1 at 1) begin end ∷ []) gives calls (Refused 2 ∷ Refused 2 ∷ Refused 2 ∷ []) [])
+    -- 2 lets pass an insert that names itself, the end mark as previous, the begin mark as next, a surrogate
+    (after (ins (1 at 1) (1 at 1) end ∷ ins (1 at 1) begin (1 at 1) ∷ []) gives calls (Refused 2 ∷ Refused 2 ∷ []) [])
+    ∷ (after (ins (1 at 1) end end ∷ ins (1 at 1) begin begin ∷ []) gives calls (Refused 2 ∷ Refused 2 ∷ []) [])
+    ∷ (after (insAs 55296 (1 at 1) begin end ∷ []) gives calls (Refused 2 ∷ []) [])
+    -- 3 passes a number out of range, 33 waiting of one sender
+    ∷ (calling (stateAt 9 [] (deleteBy 17 (1 at 1) ∷ [])) (o2 ∷ []) gives calls (Refused 3 ∷ []) [])
+    ∷ (calling (stateAt 9 [] (deletesBy2 33)) (o2 ∷ []) gives calls (Refused 3 ∷ []) [])
     -- 3 passes a row above its previous, an identifier held twice, an erase waiting twice, one that has all it needs
-    ∷ (calling (sheet 9 (put (1 at 1) (2 at 1) end ∷ put (2 at 1) begin end ∷ []) []) (del 3 (1 at 1) ∷ []) gives calls (Refused 3 ∷ []) (1 at 1 ∷ 2 at 1 ∷ []))
-    ∷ (calling (sheet 9 (put (1 at 1) begin end ∷ put (1 at 1) begin end ∷ []) []) (del 3 (1 at 1) ∷ []) gives calls (Refused 3 ∷ []) (1 at 1 ∷ 1 at 1 ∷ []))
-    ∷ (calling (sheet 9 (put (1 at 1) begin end ∷ []) (stray (1 at 1) ∷ [])) (del 3 (1 at 1) ∷ []) gives calls (Refused 3 ∷ []) (1 at 1 ∷ []))
-    ∷ (calling (sheet 9 [] (erase 3 (1 at 1) ∷ erase 3 (1 at 1) ∷ [])) (o2 ∷ []) gives calls (Refused 3 ∷ []) [])
-    ∷ (calling (sheet 0 [] (insert (put (1 at 1) begin end) ∷ [])) (o2 ∷ []) gives calls (Refused 3 ∷ []) [])
+    ∷ (calling (stateAt 9 (put (1 at 1) (2 at 1) end ∷ put (2 at 1) begin end ∷ []) []) (del 3 (1 at 1) ∷ [])
+    gives calls (Refused 3 ∷ []) (1 at 1 ∷ 2 at 1 ∷ []))
+    ∷ (calling (stateAt 9 (put (1 at 1) begin end ∷ put (1 at 1) begin end ∷ []) []) (del 3 (1 at 1) ∷ [])
+    gives calls (Refused 3 ∷ []) (1 at 1 ∷ 1 at 1 ∷ []))
+    ∷ (calling (stateAt 9 (put (1 at 1) begin end ∷ []) (stray (1 at 1) ∷ [])) (del 3 (1 at 1) ∷ [])
+    gives calls (Refused 3 ∷ []) (1 at 1 ∷ []))
+    ∷ (calling (stateAt 9 [] (deleteBy 3 (1 at 1) ∷ deleteBy 3 (1 at 1) ∷ [])) (o2 ∷ [])
+    gives calls (Refused 3 ∷ []) [])
+    ∷ (calling (stateAt 0 [] (insert (put (1 at 1) begin end) ∷ [])) (o2 ∷ []) gives calls (Refused 3 ∷ []) [])
     -- known does not see a waiting insert, or a waiting erase
-    ∷ (after (ins (2 at 1) (1 at 1) end ∷ ins (2 at 1) (1 at 1) end ∷ del 3 (1 at 1) ∷ del 3 (1 at 1) ∷ del 4 (1 at 1) ∷ []) gives calls (Waits ∷ Known ∷ Waits ∷ Known ∷ Waits ∷ []) [])
+    ∷ (after (ins (2 at 1) (1 at 1) end ∷ ins (2 at 1) (1 at 1) end
+    ∷ del 3 (1 at 1) ∷ del 3 (1 at 1) ∷ del 4 (1 at 1) ∷ [])
+    gives calls (Waits ∷ Known ∷ Waits ∷ Known ∷ Waits ∷ []) [])
     -- 5 one clock too early, or too late
-    ∷ (calling (sheet 65534 [] []) (inserting 0 65 ∷ inserting 0 65 ∷ []) gives calls (Done 1 0 ∷ Refused 5 ∷ []) (1 at 65535 ∷ []))
+    ∷ (calling (stateAt 65534 [] []) (inserting 0 65 ∷ inserting 0 65 ∷ [])
+    gives calls (Done 1 0 ∷ Refused 5 ∷ []) (1 at 65535 ∷ []))
     -- 6 never, or by the rows alone
-    ∷ (calling (sheet 0 (put (1 at 1) begin end ∷ []) []) (inserting 0 65 ∷ []) gives calls (Refused 6 ∷ []) (1 at 1 ∷ []))
-    ∷ (calling (sheet 0 [] (stray (1 at 1) ∷ [])) (inserting 0 65 ∷ []) gives calls (Refused 6 ∷ []) [])
+    ∷ (calling (stateAt 0 (put (1 at 1) begin end ∷ []) []) (inserting 0 65 ∷ [])
+    gives calls (Refused 6 ∷ []) (1 at 1 ∷ []))
+    ∷ (calling (stateAt 0 [] (stray (1 at 1) ∷ [])) (inserting 0 65 ∷ []) gives calls (Refused 6 ∷ []) [])
     -- 7 by the rows alone
     ∷ (after (ins (2 at 1) (1 at 1) end ∷ insAs 67 (2 at 1) (1 at 1) end ∷ []) gives calls (Waits ∷ Refused 7 ∷ []) [])
     -- 8 reported before 7
-    ∷ (after (o1 ∷ o2 ∷ ins (3 at 1) begin end ∷ ins (3 at 1) (2 at 1) (1 at 1) ∷ []) gives calls (Done 1 0 ∷ Done 1 0 ∷ Done 1 0 ∷ Refused 7 ∷ []) (1 at 1 ∷ 2 at 1 ∷ 3 at 1 ∷ []))
+    ∷ (after (o1 ∷ o2 ∷ ins (3 at 1) begin end ∷ ins (3 at 1) (2 at 1) (1 at 1) ∷ [])
+    gives calls (Done 1 0 ∷ Done 1 0 ∷ Done 1 0 ∷ Refused 7 ∷ []) (1 at 1 ∷ 2 at 1 ∷ 3 at 1 ∷ []))
     ∷ []
 
 -- each case tells the rule from the slip that its comment names

@@ -5,7 +5,7 @@ use Rattle.woot.specs.declared.Generated.{Generated}
 use Rattle.storage.specs.Replicas.{deleted}
 use Rattle.wimtaze.specs.Effects.{quiet, turned}
 use Rattle.wimtaze.specs.Steps.{generatedLeft}
-use Rattle.wimtaze.specs.Calls.{erasing}
+use Rattle.wimtaze.specs.Calls.{deletingHere}
 use Rattle.wimtaze.proofs.Refusals.{refused-alone, passed}
 use Rattle.wimtaze.proofs.Outputs.{carried, turned-away}
 use Rattle.wimtaze.proofs.Bridging.{goes-on, erase-bridge}
@@ -32,7 +32,7 @@ send-requires : tie.Need-send-requires
 send-requires c κs = search needs
 
 returns : tie.Need-returns
-unfolding erasing turned quiet
+unfolding deletingHere turned quiet
 returns c =
     carried (turned-away _ _ _ (refused-alone _ _ (c .before .before .before .before .read .ensures) _ (c .before .before .answer .given .1))) (c .refused .ensures, refl, refl)
 
@@ -43,7 +43,7 @@ same-length-2 : tie.Need-same-length-2
 same-length-2 c = search needs
 
 returns-2 : tie.Need-returns-2
-unfolding erasing
+unfolding deletingHere
 returns-2 c =
     let a = c .before .before .before .before .before .before .before .before .before .before .before .before .before .before .before .args in
     let p = passed _ _ (c .before .before .before .before .before .before .before .before .before .before .before .read .ensures) (c .before .before .before .before .before .before .before .before .before .enum-told .given .1) in

@@ -9,7 +9,7 @@ use Rattle.woot.specs.Answers.{first}
 use Rattle.storage.specs.Replicas.{inserted}
 use Rattle.wimtaze.specs.Effects.{quiet, turned}
 use Rattle.wimtaze.specs.Steps.{generatedLeft}
-use Rattle.wimtaze.specs.Calls.{inputChecks, typing}
+use Rattle.wimtaze.specs.Calls.{inputChecks, insertingHere}
 use Rattle.wimtaze.proofs.Refusals.{refused-alone, passed, refused-range}
 use Rattle.wimtaze.proofs.Outputs.{carried, turned-away}
 use Rattle.wimtaze.proofs.Bridging.{goes-on, type-bridge}
@@ -30,7 +30,7 @@ refused-requires : tie.Need-refused-requires
 refused-requires c κs = search needs
 
 returns : tie.Need-returns
-unfolding typing turned quiet
+unfolding insertingHere turned quiet
 returns c =
     let s = c .before .before .before .before .before .before .before .before .args .bytes .now in
     let out-of-range = sym (c .before .before .before .code-point .ensures) ∙ not-true _ (c .before .before .if1 .taken) in
@@ -53,7 +53,7 @@ send-requires : tie.Need-send-requires
 send-requires c κs = search needs
 
 returns-2 : tie.Need-returns-2
-unfolding typing turned quiet
+unfolding insertingHere turned quiet
 returns-2 c =
     let s = c .before .before .before .before .before .before .before .before .before .before .args .bytes .now in
     let in-range = sym (c .before .before .before .before .before .code-point .ensures) ∙ not-false _ (c .before .before .before .before .if1 .left) in
@@ -67,7 +67,7 @@ same-length-2 : tie.Need-same-length-2
 same-length-2 c = search needs
 
 returns-3 : tie.Need-returns-3
-unfolding typing
+unfolding insertingHere
 returns-3 c =
     let a = c .before .before .before .before .before .before .before .before .before .before .before .before .before .before .before .before .before .args in
     let in-range = sym (c .before .before .before .before .before .before .before .before .before .before .before .before .code-point .ensures) ∙ not-false _ (c .before .before .before .before .before .before .before .before .before .before .before .if1 .left) in
