@@ -41,6 +41,6 @@ pub record Grown (cs : List Character) : Type 0 where
   pub births : Births cs
   pub sorted : Sorted cs
 
--- "no identifier stands for different inserts" among the characters of the two
+-- no identifier stands for different inserts among the characters of the two
 abbrev pub OneMeaning : List Character → List Character → Type 0
 OneMeaning cs ds = (c d : Character) → List·Memᴰ c cs → List·Memᴰ d ds → c .id ≡ d .id → origin c ≡ origin d

@@ -45,7 +45,7 @@ identifiersDistinct s = distinct same (map (λ i. i .id) (presentInserts s))
 unfoldable pub deletesDistinct : State → Bool
 deletesDistinct s = distinct sameDelete (deletes (s .pending))
 
--- "its previous stands above it and its next below it"
+-- of one row, "previous stands above it and its next below it"
 unfoldable pub ordered : List Character → Character → Bool
 ordered cs c = above cs (c .previous) (c .id) && above cs (c .id) (c .next)
 

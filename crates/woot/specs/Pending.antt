@@ -13,7 +13,7 @@ use Rattle.woot.specs.Operations.{sender}
 use Rattle.woot.specs.Placing.{held, above, position, between, integrateInsert, integrateDelete}
 use Rattle.lists.specs.Lists.{keep, missing}
 
--- "an insert needs its previous and next held. An erase needs its row" (001, isExecutable)
+-- "An insert needs its previous and next held (marks always are). An erase needs its row." (001, isExecutable)
 unfoldable pub executable : List Character → Operation → Bool
 executable cs (insert i) = held cs (i .previous) && held cs (i .next)
 executable cs (delete d) = held cs (d .target)

@@ -29,7 +29,7 @@ indexOf x (y ∷ ys) = cond (same x y) 0 (suc (indexOf x ys))
 unfoldable pub placeOf : List Character → Identifier → ℕ
 placeOf cs x = indexOf x (sequence cs)
 
--- "marks always are [held]"
+-- x is held; "marks always are"
 unfoldable pub held : List Character → Identifier → Bool
 held cs x = leb (placeOf cs x) (suc (length cs))
 
@@ -56,7 +56,7 @@ located k (c ∷ cs) = record { place = k; at = c } ∷ located (suc k) cs
 unfoldable pub adjacent : Interval → Bool
 adjacent v = leb (v .lower) (suc (v .upper))
 
--- "strictly between, whose previous is a or stands above a, and whose next is b or stands below b"
+-- "strictly between whose previous is a or stands above a, and whose next is b or stands below b"
 unfoldable pub candidate : List Character → Interval → Located → Bool
 candidate cs v l =
     ltb (v .upper) (l .place) && ltb (l .place) (v .lower) && leb (placeOf cs (l .at .previous)) (v .upper)

@@ -25,7 +25,7 @@ siteNumber n = within 1 lastSite n
 unfoldable pub codePoint : ℕ → Bool
 codePoint n = within 0 lastCodePoint n && not (within firstSurrogate lastSurrogate n)
 
--- "no character has these [marks], and a character's clock is at least 1"
+-- "no character has these", the marks, "and a character's clock is at least 1"
 unfoldable pub characterId : Identifier → Bool
 characterId x = siteNumber (x .site) && within 1 lastClock (x .clock)
 
