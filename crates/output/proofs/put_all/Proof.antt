@@ -25,13 +25,14 @@ has-room-requires c κs = search needs
 returns : tie.Need-returns Inv-loop μ-loop
 returns c =
     let a = c .before .before .before .before .args in
-    let short : length (a .out .now) < a .at + length (a .bytes .now) = lacks-room _ _ _ (sym (c .before .has-room .ensures) ∙ not-true _ (c .if1 .taken)) in
+    let short : length (a .out .now) < a .at + length (a .bytes .now) =
+    omega (arith, lacks-room _ _ _ (sym (c .before .has-room .ensures) ∙ not-true _ (c .if1 .taken))) in
     (sym (past-short _ _ _ short), sym (placed-short _ _ _ short))
 
 loop-holds : tie.Need-loop-holds Inv-loop μ-loop
 loop-holds c =
     let a = c .before .before .before .before .args in
-    (has-room _ _ _ (sym (c .before .has-room .ensures) ∙ not-false _ (c .if1 .left)), zero-le, paste-zero (a .out .now) (a .at) (a .bytes .now), refl)
+    (omega (arith, has-room _ _ _ (sym (c .before .has-room .ensures) ∙ not-false _ (c .if1 .left))), zero-le, paste-zero (a .out .now) (a .at) (a .bytes .now), refl)
 
 shared-slice-read-out : tie.Need-shared-slice-read-out Inv-loop μ-loop
 shared-slice-read-out c = omega arith

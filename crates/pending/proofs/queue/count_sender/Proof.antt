@@ -6,7 +6,7 @@ use Prim.Native.Nat.{ℕ, _+_, _-_, _≤_}
 use native.Mathlib.Omega.{arith}
 use borrow.Author.Tests.{eq-eqb, ne-eqb}
 use lib.Dec.{eqb}
-use lib.ListN.{length}
+use lib.ListN.{length, getD}
 use Rattle.pending.proofs.Searches.{left, left-counted, left-passed, left-none}
 use Rattle.pending.proofs.queue.count_sender.Statement.{statement}
 use Rattle.pending.proofs.queue.count_sender.Tie as tie
@@ -38,8 +38,9 @@ loop-again c =
     let a = c .before .before .before .before .args in
     let l = c .before .before .before .loop in
     let p : ℕ → Bool = λ s. eqb s (a .sender) in
-    ⊎-elim (λ w. (omega arith, omega arith, omega (arith, left-counted p (a .senders .now) (l .i) 0 (omega arith) (eq-eqb _ _ (w .0 .taken)))))
-    (λ w. (omega arith, omega arith, omega (arith, left-passed p (a .senders .now) (l .i) 0 (omega arith) (ne-eqb _ _ (w .0 .left)))))
+    let read = getD (a .senders .now) (l .i) 0 in
+    ⊎-elim (λ w. (omega arith, omega arith, omega (arith, left-counted p (a .senders .now) (l .i) 0 (omega arith) (eq-eqb read (a .sender) (omega (arith, w .0 .taken))))))
+    (λ w. (omega arith, omega arith, omega (arith, left-passed p (a .senders .now) (l .i) 0 (omega arith) (ne-eqb read (a .sender) (λ e. omega (arith, w .0 .left))))))
     (c .if1 .came)
 
 returns : tie.Need-returns Inv-loop μ-loop
