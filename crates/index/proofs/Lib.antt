@@ -1,4 +1,7 @@
 pub mod Keys
+pub mod Walks
+pub mod Tables
+pub mod Agreement
 pub mod Indices
 pub mod Searches
 pub mod Packing

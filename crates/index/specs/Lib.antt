@@ -1,3 +1,4 @@
 pub mod Keys
+pub mod Theorems
 pub mod Packing
 pub mod Index

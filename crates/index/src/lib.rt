@@ -1,5 +1,7 @@
 // Identifiers as numbers, and where a character stands. A call makes the index of its characters once, and lends the
 // numbers to every search that it makes.
+pub mod table;
+
 use woot::Character;
 use woot::Identifier;
 ghost use mathlib.Core.Path.{_≡_};

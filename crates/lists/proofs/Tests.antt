@@ -1,12 +1,12 @@
 -- Tests on Bools taken apart and put together, and going by a test.
 use Prim.Native.Nat.{ℕ, _≤_, _<_}
-use mathlib.Core.Path.{_≡_, refl, sym}
+use mathlib.Core.Path.{_≡_, refl, sym, _∙_}
 use mathlib.Core.Bool.{Bool, true, false, _&&_, _||_, not, false≢true, true≢false}
 use mathlib.Core.Logic.{_⊎_, inl, inr, ⊎-elim}
 use mathlib.Core.Option.{none, some}
 use native.Mathlib.Omega.{arith}
 use lib.Dec.{leb}
-use borrow.Author.Tests.{leb-true, leb-false}
+use borrow.Author.Tests.{leb-true, leb-false, not-true, not-false}
 
 -- the two ways that a test can come out
 pub either : (b : Bool) → (b ≡ true) ⊎ (b ≡ false)
@@ -110,3 +110,10 @@ pub seven : (a b c d e f g : Bool) → a && b && c && d && e && f && g ≡ true 
 seven a b c d e f g h =
     let t = four a b c d (and-left (a && b && c && d) e (and-left (a && b && c && d && e) f (and-left (a && b && c && d && e && f) g h))) in
     (t .0, t .1, t .2, t .3, and-right (a && b && c && d) e (and-left (a && b && c && d && e) f (and-left (a && b && c && d && e && f) g h)), and-right (a && b && c && d && e) f (and-left (a && b && c && d && e && f) g h), and-right (a && b && c && d && e && f) g h)
+
+-- what a call's answer, tested, says of the test that it stands for
+pub refused : {t u : Bool} → t ≡ u → not t ≡ true → u ≡ false
+refused {t} e h = sym e ∙ not-true t h
+
+pub passed : {t u : Bool} → t ≡ u → not t ≡ false → u ≡ true
+passed {t} e h = sym e ∙ not-false t h

@@ -1,4 +1,5 @@
 -- Tests and choices on plain lists, by which the rules are written.
+use Prim.Native.Nat.{ℕ, zero, suc}
 use mathlib.Core.List.{List, [], _∷_}
 use mathlib.Core.Bool.{Bool, true, false, _&&_, _||_, not, cond}
 use mathlib.Core.Option.{Option, none, some}
@@ -28,3 +29,8 @@ module _ {A : Type 0} where
   abbrev pub missing : Option A → Bool
   missing none = true
   missing (some x) = false
+
+-- p passes every number below n
+abbrev pub throughout : (ℕ → Bool) → ℕ → Bool
+throughout p zero = true
+throughout p (suc n) = throughout p n && p n

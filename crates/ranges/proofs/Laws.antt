@@ -1,9 +1,9 @@
 -- The tests of a range, and what an answer that is tested says.
-use mathlib.Core.Path.{_≡_, refl, sym, _∙_}
+use mathlib.Core.Path.{_≡_, refl}
 use mathlib.Core.Bool.{Bool, true, false, not, _&&_}
 use Prim.Native.Nat.{ℕ, _≤_, _<_}
 use lib.Dec.{leb, ltb}
-use borrow.Author.Tests.{le-leb, lt-leb, lt-ltb, le-ltb, leb-true, leb-false, not-true, not-false}
+use borrow.Author.Tests.{le-leb, lt-leb, lt-ltb, le-ltb, leb-true, leb-false}
 use Rattle.woot.specs.Ranges.{within}
 
 pub within-under : (low high n : ℕ) → n < low → within low high n ≡ false
@@ -33,10 +33,3 @@ not-leb m n = go (leb m n) refl
     go : (b : Bool) → leb m n ≡ b → not (leb m n) ≡ ltb n m
     go true e = rw (e, le-ltb n m (leb-true m n e))
     go false e = rw (e, lt-ltb n m (leb-false m n e))
-
--- what a call's answer, tested, says of the test that it stands for
-pub refused : {t u : Bool} → t ≡ u → not t ≡ true → u ≡ false
-refused {t} e h = sym e ∙ not-true t h
-
-pub passed : {t u : Bool} → t ≡ u → not t ≡ false → u ≡ true
-passed {t} e h = sym e ∙ not-false t h

@@ -42,8 +42,10 @@ use Rattle.index.proofs.Keys.{key-same, character-small, all-range-small}
 use Rattle.index.proofs.Indices.{index-later as key-later}
 use Rattle.pending.specs.Queue.{ownKey, firstKey, secondKey, hasDelete}
 use Rattle.pending.specs.Ready.{heldIn}
-use Rattle.well_formed.specs.Form.{charactersFormed, pendingFormed, throughout, sharesIn, roomKept, unheldKey, newAt, keysDistinct, freeAt, keysNew, freshAt, noneRepeated, orderedAt, placesOrdered, nothing, noneReady}
-use Rattle.well_formed.proofs.Throughout.{throughout-cong, every-throughout, elementAt, take-member, take-map, map-getD, grown}
+use Rattle.well_formed.specs.Form.{charactersFormed, pendingFormed, sharesIn, roomKept, unheldKey, newAt, keysDistinct, freeAt, keysNew, freshAt, noneRepeated, orderedAt, placesOrdered, nothing, noneReady}
+use Rattle.lists.specs.Lists.{throughout}
+use Rattle.lists.proofs.Throughout.{throughout-cong}
+use Rattle.well_formed.proofs.Throughout.{every-throughout, elementAt, take-member, take-map, map-getD, grown}
 use Rattle.pending.proofs.Earliest.{ready-executable}
 use Rattle.pending.proofs.Pending.{Keyed, AllKeyed, all-keyed, count-senders, count-own, delete-found}
 

@@ -1,4 +1,4 @@
--- A loop that tests index by index: what it has passed, where it stops, and what it has tested at the end.
+-- Conditions on lists as tests at their indices, which a loop makes one by one.
 use Prim.Native.Nat.{ℕ, zero, suc, _+_, _≤_, _<_}
 use native.Mathlib.Nat.{not-suc-le-zero, le-of-suc-le-suc}
 use native.Mathlib.Numerals.{add-one}
@@ -9,27 +9,10 @@ use mathlib.Core.List.{List, [], _∷_, _++_, map, List·Memᴰ, List·Memᴰ·h
 use mathlib.Core.Logic.{⊎-elim}
 use lib.ListN.{length, take, getD}
 use lib.Seq.{take-suc, take-length}
-use Rattle.lists.specs.Lists.{every}
+use Rattle.lists.specs.Lists.{every, throughout}
 use Rattle.woot.specs.Form.{countdown}
 use Rattle.lists.proofs.Tests.{and-intro, side}
 use Rattle.lists.proofs.Members.{every-append}
-use Rattle.well_formed.specs.Form.{throughout}
-
-module _ (p : ℕ → Bool) where
-  pub throughout-more : (i : ℕ) → throughout p i ≡ true → p i ≡ true → throughout p (i + 1) ≡ true
-  throughout-more i h e = rw (add-one i) (and-intro h e)
-
-  pub throughout-fails : (n i : ℕ) → i < n → p i ≡ false → throughout p n ≡ false
-  throughout-fails zero i h e = absurd (not-suc-le-zero h)
-  throughout-fails (suc n) i h e = ⊎-elim (λ k. rw (last k) (and-false (throughout p n))) (λ k. rw (throughout-fails n i k e)) (side n i)
-    where
-      last : n ≤ i → p n ≡ false
-      last k = let same : n ≡ i = omega arith in rw same e
-
--- tests that agree at each index
-pub throughout-cong : (p q : ℕ → Bool) (n : ℕ) → ((i : ℕ) → i < n → p i ≡ q i) → throughout p n ≡ throughout q n
-throughout-cong p q zero f = refl
-throughout-cong p q (suc n) f = ap₂ (λ (a b : Bool). a && b) (throughout-cong p q n (λ i h. f i (omega arith))) (f n (omega arith))
 
 -- ---- lists by their indices
 

@@ -1,12 +1,12 @@
 -- For the proofs of the code alone: the conditions of form on packed numbers.
-use Prim.Native.Nat.{ℕ, zero, suc, _+_}
+use Prim.Native.Nat.{ℕ, suc, _+_}
 use mathlib.Core.Bool.{Bool, true, false, _&&_, _||_, not, cond}
 use mathlib.Core.List.{List, []}
 use lib.Dec.{leb, ltb, eqb}
 use lib.ListN.{length, take, getD}
 use Rattle.woot.specs.declared.Replica.{Replica}
 use Rattle.woot.specs.Limits.{lastSite, capacity, share}
-use Rattle.lists.specs.Lists.{every, keep}
+use Rattle.lists.specs.Lists.{every, keep, throughout}
 use Rattle.woot.specs.State.{State, meaning, counted}
 use Rattle.woot.specs.Form.{countdown, allInRange, replicaWellFormed}
 use Rattle.index.specs.declared.Found.{Found}
@@ -15,11 +15,6 @@ use Rattle.well_formed.specs.declared.Checked.{Checked}
 use Rattle.index.specs.Index.{indexOf}
 use Rattle.pending.specs.Queue.{queueOf, hasDelete}
 use Rattle.pending.specs.Ready.{heldIn, readyIn}
-
--- p passes every number below n
-abbrev pub throughout : (ℕ → Bool) → ℕ → Bool
-throughout p zero = true
-throughout p (suc n) = throughout p n && p n
 
 -- no site has sent more than its share
 abbrev pub senderWithin : List ℕ → ℕ → Bool

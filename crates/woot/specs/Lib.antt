@@ -2,6 +2,7 @@ pub mod Limits
 pub mod Identifiers
 pub mod Operations
 pub mod Ranges
+pub mod Table
 pub mod State
 pub mod Placing
 pub mod Pending

@@ -75,6 +75,13 @@ pub struct Pending {
     pub operation: Operation,
 }
 
+// Where keys are found: each key belongs to one of 2,048 chains. A chain's head names its latest key, and a key's link an
+// earlier one of its chain, each by one more than its index; 0 ends the chain.
+pub struct Table {
+    pub heads: [u16; 2048],
+    pub links: [u16; 1024],
+}
+
 // The characters in order and the pending operations, earliest first, in fixed arrays of which the counts say how
 // much is in use. (Document 01: the sheet without its record.)
 pub struct Document {

@@ -5,7 +5,7 @@ use borrow.Author.Needs.{needs}
 use Rattle.woot.specs.declared.Identifier.{Identifier}
 use Rattle.woot.specs.Limits.{lastClock}
 use Rattle.woot.specs.Ranges.{within, siteNumber, characterId}
-use Rattle.ranges.proofs.Laws.{refused, passed}
+use Rattle.lists.proofs.Tests.{refused, passed}
 use Rattle.ranges.proofs.character_id.Statement.{statement}
 use Rattle.ranges.proofs.character_id.Tie as tie
 

@@ -4,7 +4,7 @@ use mathlib.Core.Bool.{Bool, _&&_}
 use borrow.Author.Needs.{needs}
 use Rattle.woot.specs.declared.Delete.{Delete}
 use Rattle.woot.specs.Ranges.{siteNumber, characterId, deleteInRange}
-use Rattle.ranges.proofs.Laws.{refused, passed}
+use Rattle.lists.proofs.Tests.{refused, passed}
 use Rattle.ranges.proofs.delete_in_range.Statement.{statement}
 use Rattle.ranges.proofs.delete_in_range.Tie as tie
 

@@ -5,7 +5,7 @@ use borrow.Author.Needs.{needs}
 use Rattle.woot.specs.declared.Insert.{Insert}
 use Rattle.woot.specs.Identifiers.{same}
 use Rattle.woot.specs.Ranges.{codePoint, characterId, previousId, nextId, insertInRange}
-use Rattle.ranges.proofs.Laws.{refused, passed}
+use Rattle.lists.proofs.Tests.{refused, passed}
 use Rattle.ranges.proofs.insert_in_range.Statement.{statement}
 use Rattle.ranges.proofs.insert_in_range.Tie as tie
 

@@ -1,7 +1,7 @@
 -- `replica::delete` meets its contract: the form is checked first.
 use mathlib.Core.Path.{sym, _∙_}
 use borrow.Author.Needs.{needs}
-use Rattle.ranges.proofs.Laws.{refused, passed}
+use Rattle.lists.proofs.Tests.{refused, passed}
 use Rattle.generation.proofs.Outcomes.{delete-unformed}
 use Rattle.replica.proofs.delete.Statement.{statement}
 use Rattle.replica.proofs.delete.Tie as tie

@@ -1,7 +1,7 @@
 -- `replica::insert` meets its contract: the code point is looked at first, then the form.
 use mathlib.Core.Path.{sym, _∙_}
 use borrow.Author.Needs.{needs}
-use Rattle.ranges.proofs.Laws.{refused, passed}
+use Rattle.lists.proofs.Tests.{refused, passed}
 use Rattle.generation.proofs.Outcomes.{insert-unranged, insert-unformed}
 use Rattle.well_formed.proofs.Examining.{check-formed, check-examined}
 use Rattle.replica.proofs.insert.Statement.{statement}

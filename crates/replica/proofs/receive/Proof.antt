@@ -2,7 +2,7 @@
 use mathlib.Core.Path.{_≡_, sym, _∙_}
 use mathlib.Core.Bool.{true}
 use Rattle.woot.specs.Ranges.{inRange}
-use Rattle.ranges.proofs.Laws.{refused, passed}
+use Rattle.lists.proofs.Tests.{refused, passed}
 use Rattle.well_formed.specs.Examined.{Examined}
 use Rattle.reception.proofs.Outcomes.{unranged, unformed}
 use Rattle.well_formed.proofs.Examining.{check-formed, check-examined}

@@ -1,7 +1,7 @@
 -- `saved::load` meets its contract: what is not refused in reading goes by its form.
 use mathlib.Core.Path.{sym, _∙_}
 use borrow.Author.Needs.{needs}
-use Rattle.ranges.proofs.Laws.{refused, passed}
+use Rattle.lists.proofs.Tests.{refused, passed}
 use Rattle.saved.proofs.Loading.{load-refused, load-unformed, load-formed}
 use Rattle.saved.proofs.load.Statement.{statement}
 use Rattle.saved.proofs.load.Tie as tie

@@ -6,7 +6,7 @@ use mathlib.Core.Path.{_≡_, refl, sym}
 use mathlib.Core.Bool.{Bool, _&&_}
 use mathlib.Core.List.{List}
 use lib.ListN.{length-take}
-use Rattle.ranges.proofs.Laws.{refused, passed}
+use Rattle.lists.proofs.Tests.{refused, passed}
 use Rattle.well_formed.specs.Form.{keysDistinct, placesOrdered, charactersFormed}
 use Rattle.index.proofs.Fullness.{FullIndex, full-index}
 use Rattle.well_formed.proofs.characters_formed.Statement.{statement}

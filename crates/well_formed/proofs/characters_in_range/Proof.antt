@@ -7,9 +7,10 @@ use lib.ListN.{length}
 use borrow.Author.Needs.{needs}
 use Rattle.woot.specs.Ranges.{characterInRange}
 use Rattle.woot.specs.State.{blankCharacter}
-use Rattle.ranges.proofs.Laws.{refused, passed}
-use Rattle.well_formed.specs.Form.{throughout}
-use Rattle.well_formed.proofs.Throughout.{elementAt, throughout-more, throughout-fails, every-prefix}
+use Rattle.lists.proofs.Tests.{refused, passed}
+use Rattle.lists.specs.Lists.{throughout}
+use Rattle.lists.proofs.Throughout.{throughout-more, throughout-fails}
+use Rattle.well_formed.proofs.Throughout.{elementAt, every-prefix}
 use Rattle.well_formed.proofs.characters_in_range.Statement.{statement}
 use Rattle.well_formed.proofs.characters_in_range.Tie as tie
 

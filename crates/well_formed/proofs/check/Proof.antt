@@ -4,7 +4,7 @@ use mathlib.Core.Path.{_≡_, refl, sym, _∙_}
 use mathlib.Core.Bool.{true, false, _&&_}
 use Rattle.woot.specs.State.{meaning}
 use Rattle.woot.specs.Form.{replicaWellFormed}
-use Rattle.ranges.proofs.Laws.{refused, passed}
+use Rattle.lists.proofs.Tests.{refused, passed}
 use Rattle.index.specs.declared.Index.{Index}
 use Rattle.pending.specs.declared.queue.Queue.{Queue}
 use Rattle.index.specs.Index.{indexOf}

@@ -10,7 +10,7 @@ use Rattle.lists.specs.Lists.{every}
 use Rattle.woot.specs.Ranges.{siteInRange, characterInRange, inRange}
 use Rattle.woot.specs.State.{meaning, counted, characterSlots, pendingSlots}
 use Rattle.woot.specs.Form.{allInRange}
-use Rattle.ranges.proofs.Laws.{refused, passed}
+use Rattle.lists.proofs.Tests.{refused, passed}
 use Rattle.well_formed.specs.Form.{rangesKept}
 use Rattle.well_formed.proofs.in_ranges.Statement.{statement}
 use Rattle.well_formed.proofs.in_ranges.Tie as tie

@@ -5,9 +5,10 @@ use mathlib.Core.Path.{_≡_, refl, sym}
 use mathlib.Core.Bool.{true}
 use lib.ListN.{length, length-take}
 use borrow.Author.Needs.{needs}
-use Rattle.ranges.proofs.Laws.{refused, passed}
-use Rattle.well_formed.specs.Form.{throughout, newAt}
-use Rattle.well_formed.proofs.Throughout.{throughout-more, throughout-fails}
+use Rattle.lists.proofs.Tests.{refused, passed}
+use Rattle.well_formed.specs.Form.{newAt}
+use Rattle.lists.specs.Lists.{throughout}
+use Rattle.lists.proofs.Throughout.{throughout-more, throughout-fails}
 use Rattle.well_formed.proofs.keys_distinct.Statement.{statement}
 use Rattle.well_formed.proofs.keys_distinct.Tie as tie
 

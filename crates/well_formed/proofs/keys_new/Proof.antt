@@ -6,9 +6,10 @@ use mathlib.Core.Bool.{Bool, true, _&&_}
 use mathlib.Core.List.{List}
 use lib.ListN.{length, take, getD, length-take}
 use borrow.Author.Needs.{needs}
-use Rattle.ranges.proofs.Laws.{refused, passed}
-use Rattle.well_formed.specs.Form.{throughout, unheldKey, freeAt}
-use Rattle.well_formed.proofs.Throughout.{throughout-more, throughout-fails}
+use Rattle.lists.proofs.Tests.{refused, passed}
+use Rattle.well_formed.specs.Form.{unheldKey, freeAt}
+use Rattle.lists.specs.Lists.{throughout}
+use Rattle.lists.proofs.Throughout.{throughout-more, throughout-fails}
 use Rattle.well_formed.proofs.keys_new.Statement.{statement}
 use Rattle.well_formed.proofs.keys_new.Tie as tie
 

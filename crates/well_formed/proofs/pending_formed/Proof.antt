@@ -9,7 +9,7 @@ use lib.Dec.{eqb}
 use lib.ListN.{length}
 use borrow.Author.Tests.{lt-leb, le-leb}
 use Rattle.lists.specs.Lists.{keep}
-use Rattle.ranges.proofs.Laws.{refused, passed}
+use Rattle.lists.proofs.Tests.{refused, passed}
 use Rattle.well_formed.specs.Form.{sharesIn, roomKept, keysNew, noneRepeated, noneReady, pendingFormed}
 use Rattle.lists.proofs.Members.{keep-length}
 use Rattle.well_formed.proofs.pending_formed.Statement.{statement}

@@ -10,10 +10,11 @@ use Rattle.woot.specs.declared.Pending.{Pending}
 use Rattle.woot.specs.Ranges.{inRange}
 use Rattle.lists.specs.Lists.{every}
 use Rattle.woot.specs.State.{blankPending}
-use Rattle.ranges.proofs.Laws.{refused, passed}
+use Rattle.lists.proofs.Tests.{refused, passed}
 use Rattle.storage.specs.Edit.{operations}
-use Rattle.well_formed.specs.Form.{throughout}
-use Rattle.well_formed.proofs.Throughout.{elementAt, throughout-more, throughout-fails, every-prefix, every-map}
+use Rattle.lists.specs.Lists.{throughout}
+use Rattle.lists.proofs.Throughout.{throughout-more, throughout-fails}
+use Rattle.well_formed.proofs.Throughout.{elementAt, every-prefix, every-map}
 use Rattle.well_formed.proofs.pending_in_range.Statement.{statement}
 use Rattle.well_formed.proofs.pending_in_range.Tie as tie
 

@@ -7,8 +7,9 @@ use mathlib.Core.List.{List}
 use lib.Dec.{leb, ltb}
 use lib.ListN.{length, getD}
 use borrow.Author.Tests.{lt-ltb, le-ltb, le-leb, lt-leb}
-use Rattle.well_formed.specs.Form.{throughout, orderedAt}
-use Rattle.well_formed.proofs.Throughout.{throughout-more, throughout-fails}
+use Rattle.well_formed.specs.Form.{orderedAt}
+use Rattle.lists.specs.Lists.{throughout}
+use Rattle.lists.proofs.Throughout.{throughout-more, throughout-fails}
 use Rattle.well_formed.proofs.places_ordered.Statement.{statement}
 use Rattle.well_formed.proofs.places_ordered.Tie as tie
 

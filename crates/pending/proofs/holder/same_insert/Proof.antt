@@ -6,7 +6,7 @@ use lib.Dec.{eqb}
 use Rattle.woot.specs.declared.Insert.{Insert}
 use Rattle.woot.specs.Identifiers.{same}
 use Rattle.woot.specs.Operations.{sameInsert}
-use Rattle.ranges.proofs.Laws.{refused, passed}
+use Rattle.lists.proofs.Tests.{refused, passed}
 use borrow.Author.Needs.{needs}
 use Rattle.pending.proofs.holder.same_insert.Statement.{statement}
 use Rattle.pending.proofs.holder.same_insert.Tie as tie

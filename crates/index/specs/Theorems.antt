@@ -1,0 +1,23 @@
+-- The promises about the table, each proved in proofs/ under its name in small letters.
+use Prim.Native.Nat.{ℕ, _≤_}
+use mathlib.Core.Path.{_≡_}
+use mathlib.Core.Bool.{true}
+use mathlib.Core.List.{List}
+use lib.Dec.{eqb}
+use lib.ListN.{length}
+use Rattle.lists.specs.Lists.{distinct}
+use Rattle.woot.specs.declared.Table.{Table}
+use Rattle.woot.specs.Table.{lookup, searched, agrees, tableOf}
+
+-- "it must be shown to agree with a plain search, found or not": where each key is found at its own index, the lookup of any
+-- key, held or not, gives what a plain search gives
+abbrev pub LookupIsSearch : Type 0
+LookupIsSearch = (t : Table) (ks : List ℕ) → agrees t ks ≡ true → (k : ℕ) → lookup t ks k ≡ searched k ks
+
+-- and no key stands twice
+abbrev pub AgreeingApart : Type 0
+AgreeingApart = (t : Table) (ks : List ℕ) → agrees t ks ≡ true → distinct eqb ks ≡ true
+
+-- the table of keys that are distinct, and no more than it has links, agrees with them
+abbrev pub TableAgrees : Type 0
+TableAgrees = (ks : List ℕ) → distinct eqb ks ≡ true → length ks ≤ 1024 → agrees (tableOf ks) ks ≡ true
