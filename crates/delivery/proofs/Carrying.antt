@@ -28,18 +28,6 @@ use Rattle.integration.specs.declared.Placement.the-variants.{Below}
 use Rattle.integration.specs.Placements.{placementOf}
 use Rattle.integration.proofs.Placements.{says}
 
--- a document at work, with nothing carried out yet, is fit for an insert at a place within it
-pub started-fit : (cs : List Character) (ps : List Operation) (k : ℕ) {w : Work} → w ≡ workOf cs ps 0 0 → k ≤ length cs → length cs < 1024
-    → Tidy w × ((k ≤ w .document .length) × ((w .document .length < 1024) × (w .integrated + 1 < 2 ^ 64)))
-unfolding workOf documentOf
-started-fit cs ps k e h l = rw e (work-tidy cs ps 0 0, (h, (l, omega arith)))
-
-pub started-carried : (cs : List Character) (ps : List Operation) (k : ℕ) (c : Character) {w v : Work} → w ≡ workOf cs ps 0 0
-    → v ≡ workOf (insertAt k c (charactersIn (w .document))) (pendingIn (w .document)) (w .integrated + 1) (w .discarded)
-    → v ≡ workOf (insertAt k c cs) ps 1 0
-started-carried cs ps k c e f =
-    f ∙ rw (e, work-characters cs ps 0 0, work-pending cs ps 0 0, work-integrated cs ps 0 0, work-discarded cs ps 0 0)
-
 -- one whose lists are sound, with one operation carried out so far, can be drained
 pub carried-workable : (cs : List Character) (ps : List Operation) {w : Work} → w ≡ workOf cs ps 1 0 → Sound cs ps → Workable w
 carried-workable cs ps {w} e s =

@@ -22,6 +22,7 @@ use Rattle.convergence.proofs.Soundness.{inserts-extract, sound-out}
 use Rattle.convergence.proofs.Shares.{pending-bound}
 use Rattle.convergence.proofs.Drains.{Found, earliest-found, draining-recurs}
 use Rattle.convergence.proofs.Draining.{sound-carry}
+use Rattle.index.proofs.Sound.{sound-apart}
 use Rattle.index.specs.declared.Found.the-variants.{At, Nothing}
 use Rattle.delivery.specs.declared.Work.{Work}
 use Rattle.storage.specs.Edit.{removed}
@@ -61,6 +62,7 @@ module _ {w : Work} (k : Workable w) (j : ℕ) (at : dueIn w ≡ At j) where
           tidy = work-tidy _ _ _ _;
           ready = rw (work-characters) (f .passed);
           ranges = rw (work-characters) (k .sound .ranges);
+          apart = rw (work-characters) (sound-apart (k .sound));
           room = rw (work-length) (omega (arith, k .sound .room, one-insert (f .extracted)));
           integrated-fits = rw (work-integrated) (omega (arith, due-within .0, k .integrated-fits));
           discarded-fits = rw (work-discarded) (omega (arith, due-within .0, k .discarded-fits));

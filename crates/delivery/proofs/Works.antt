@@ -5,12 +5,13 @@ use native.Mathlib.Omega.{arith}
 use mathlib.Core.Path.{_≡_, refl, ap, sym, _∙_}
 use mathlib.Core.Bool.{true, false, _||_}
 use mathlib.Core.List.{List, [], _∷_, map}
-use lib.ListN.{length, length-map}
+use lib.ListN.{length, take, length-map}
 use Rattle.woot.specs.declared.Insert.{Insert}
 use Rattle.woot.specs.declared.Delete.{Delete}
 use Rattle.woot.specs.declared.Operation.{Operation}
 use Rattle.woot.specs.declared.Operation.the-variants.{Insert as insert, Delete as delete}
 use Rattle.woot.specs.declared.Character.{Character}
+use Rattle.woot.specs.declared.Table.{Table}
 use Rattle.woot.specs.State.{characterSlots, pendingSlots, slotOf, blankCharacter, blankPending, documentOf}
 use Rattle.woot.specs.Operations.{character}
 use Rattle.woot.specs.Placing.{insertAt, integrateDelete}
@@ -18,7 +19,9 @@ use Rattle.woot.specs.Pending.{executable, crossed, unplaceable, integrate}
 use Rattle.lists.proofs.Tests.{clash, or-left, or-right, or-false}
 use Rattle.convergence.proofs.Extract.{extract-length}
 use Rattle.convergence.proofs.Soundness.{insert-extract}
+use Rattle.lists.specs.Padding.{pad}
 use Rattle.lists.proofs.Padding.{pad-take}
+use Rattle.woot.specs.Table.{keys, tableOf}
 use Rattle.integration.specs.declared.Placement.{Placement}
 use Rattle.integration.specs.declared.Placement.the-variants.{Missing, Crossed, Unplaceable, Below}
 use Rattle.delivery.specs.declared.Work.{Work}
@@ -46,6 +49,7 @@ parts t =
       length-is = ap (λ (w : Work). w .document .length) t;
       pending = ap (λ (w : Work). w .document .pending) t;
       waiting-is = ap (λ (w : Work). w .document .waiting) t;
+      table = ap (λ (w : Work). w .document .table) t;
     }
 
 pub work-path : {w : Work} {cs : List Character} {ps : List Operation} {n m : ℕ} → Parts (w .document) cs ps → w .integrated ≡ n → w .discarded ≡ m → w ≡ workOf cs ps n m
@@ -81,6 +85,12 @@ module _ (cs : List Character) (ps : List Operation) (n m : ℕ) where
   work-tidy = λ i. workOf (sym work-characters i) (sym work-pending i) (sym work-integrated i) (sym work-discarded i)
 
 -- ---- one operation carried out
+
+-- the table that is made of an array in use
+pub table-used : (cs xs : List Character) (n : ℕ) {t : Table} → xs ≡ pad characterSlots blankCharacter cs → n ≡ length cs → t ≡ tableOf (keys (take n xs)) → t ≡ tableOf (keys cs)
+table-used cs xs n e count t =
+    let used : take n xs ≡ cs = rw e (pad-take characterSlots blankCharacter cs n (sym count)) in
+    t ∙ ap (λ (ds : List Character). tableOf (keys ds)) used
 
 pub length-inserted : (k : ℕ) (c : Character) (cs : List Character) → length (insertAt k c cs) ≡ length cs + 1
 length-inserted k c cs = omega (arith, extract-length (insert-extract k c cs))

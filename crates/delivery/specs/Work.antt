@@ -10,11 +10,12 @@ use Rattle.woot.specs.declared.Insert.{Insert}
 use Rattle.woot.specs.declared.Operation.{Operation}
 use Rattle.woot.specs.declared.Character.{Character}
 use Rattle.woot.specs.declared.Document.{Document}
-use Rattle.lists.specs.Lists.{every}
+use Rattle.lists.specs.Lists.{every, distinct}
 use Rattle.woot.specs.Operations.{inserts, character}
 use Rattle.woot.specs.Ranges.{characterInRange}
 use Rattle.woot.specs.State.{documentOf, meaning, counted}
-use Rattle.woot.specs.Placing.{insertAt, integrateInsert}
+use Rattle.woot.specs.Identifiers.{same}
+use Rattle.woot.specs.Placing.{identifiers, insertAt, integrateInsert}
 use Rattle.woot.specs.Pending.{executable, crossed, unplaceable, integrate, Extracted, earliest, Drained, drain}
 use Rattle.convergence.specs.Invariants.{Sound}
 use Rattle.index.specs.declared.Found.{Found}
@@ -51,6 +52,7 @@ pub record Due (w : Work) (o : Operation) : Type 0 where
   pub tidy : Tidy w
   pub ready : executable (charactersIn (w .document)) o ≡ true
   pub ranges : every characterInRange (charactersIn (w .document)) ≡ true
+  pub apart : distinct same (identifiers (charactersIn (w .document))) ≡ true
   pub room : w .document .length + length (inserts (o ∷ [])) ≤ 1024
   pub integrated-fits : w .integrated + 1 < 2 ^ 64
   pub discarded-fits : w .discarded + 1 < 2 ^ 64

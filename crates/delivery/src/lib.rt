@@ -19,8 +19,7 @@ ghost use Rattle.index.specs.declared.Found.the-variants.{At};
 ghost use Rattle.delivery.specs.Work.{charactersIn, workOf, Tidy, Workable, Due, finished, Placed};
 ghost use Rattle.delivery.specs.Work.{integratedIn, discardedIn, takenOut, dueIn};
 ghost use Rattle.delivery.specs.Work.{carriedIn, steppedIn, finishedIn};
-ghost use mathlib.Core.Bool.{true};
-ghost use Rattle.woot.specs.State.{meaning, counted};
+ghost use Rattle.woot.specs.State.{meaning};
 
 // The document, and how many operations have been carried out and how many discarded.
 pub struct Work {
@@ -56,9 +55,12 @@ fn carry_insert(work: Work, insert: Insert, k: usize) -> Work
     let d = work.document;
     let cs = d.characters;
     let characters = arrays::put_in(cs, d.length, k, character(insert));
+    let length = d.length + 1;
+    let table = index::table_of(characters, length);
     let document = Document {
         characters,
-        length: d.length + 1,
+        length,
+        table,
         ..d
     };
     Work {
@@ -106,7 +108,8 @@ fn place_insert(work: Work, insert: Insert) -> Work
     let d = work.document;
     let cs = d.characters;
     let n = d.length;
-    match integration::find_place(index::index_of(cs, n), n, insert) {
+    let keys = index::keys_of(cs, n);
+    match integration::find_place(index::index_of(keys, n), n, insert) {
         Placement::Missing => discard(work),
         Placement::Crossed => discard(work),
         Placement::Unplaceable => discard(work),
@@ -155,10 +158,15 @@ fn due(work: Work) -> Found
     let m = d.waiting;
     let keys = index::keys_of(cs, n);
     let queue = queue::queue_of(ps, m);
-    let ids = keys.ids;
-    let first = queue.first;
-    let second = queue.second;
-    ready::ready(&ids[..n], &first[..m], &second[..m])
+    ready::ready_among(
+        &d.table.heads,
+        &d.table.links,
+        &keys.ids,
+        n,
+        &queue.first,
+        &queue.second,
+        m,
+    )
 }
 
 // Takes out the pending operation that is due, and carries it out or discards it.
@@ -192,25 +200,29 @@ fn drain(mut work: Work) -> Work
     work
 }
 
-// The replica's document at work, with nothing carried out yet.
-fn started(replica: Replica) -> Work
-    requires { ⌜ counted replica ≡ true ⌝ }
-    ensures { λ r. ⌜ r ≡ workOf (meaning replica .characters) (meaning replica .pending) 0 0 ⌝ }
+// The replica's document at work, with an insert carried out at its place and nothing else yet.
+fn started(replica: Replica, insert: Insert, k: usize) -> Work
+    requires { ⌜ Placed replica insert k ⌝ }
+    ensures { λ r. ⌜ r
+        ≡ workOf (integrateInsert (meaning replica .characters) insert) (meaning replica .pending) 1 0 ⌝ }
 {
     let d = replica.document;
     let cs = d.characters;
     let ps = d.pending;
-    let characters = arrays::kept(cs, d.length);
+    let characters = arrays::put_in(cs, d.length, k, character(insert));
+    let count = d.length + 1;
+    let table = index::table_of(characters, count);
     let pending = arrays::kept_pending(ps, d.waiting);
     let document = Document {
         characters,
-        length: d.length,
+        length: count,
         pending,
         waiting: d.waiting,
+        table,
     };
     Work {
         document,
-        integrated: 0,
+        integrated: 1,
         discarded: 0,
     }
 }
@@ -222,5 +234,5 @@ pub fn integrate_and_drain(replica: Replica, insert: Insert, k: usize) -> Work
     ensures { λ r. ⌜ r
         ≡ finished (integrateInsert (meaning replica .characters) insert) (meaning replica .pending) 1 0 ⌝ }
 {
-    drain(carry_insert(started(replica), insert, k))
+    drain(started(replica, insert, k))
 }

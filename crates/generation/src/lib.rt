@@ -15,6 +15,7 @@ use woot::Refusal;
 use woot::Replica;
 use woot::Sent;
 use woot::Site;
+use woot::Table;
 ghost use mathlib.Core.Path.{_≡_};
 ghost use mathlib.Core.Bool.{true};
 ghost use Prim.Native.Nat.{_<_};
@@ -23,6 +24,7 @@ ghost use Rattle.woot.specs.Limits.{lastClock};
 ghost use Rattle.woot.specs.Identifiers.{same};
 ghost use Rattle.lists.specs.Lists.{any};
 ghost use Rattle.woot.specs.Ranges.{codePoint, characterId};
+ghost use Rattle.woot.specs.Table.{keys, tableOf};
 ghost use Rattle.woot.specs.State.{meaning};
 ghost use Rattle.woot.specs.Form.{presentInserts, replicaWellFormed};
 ghost use Rattle.woot.specs.Calls.{generatedInsert};
@@ -154,9 +156,10 @@ pub fn insert_visible(
 }
 
 // Deletes the visible character at the index, counted from 1. A step of the calls and not a call: they have checked the
-// replica.
-pub fn delete_visible(replica: Replica, index: usize) -> Generated
+// replica, and made the table of its characters.
+pub fn delete_visible(replica: Replica, table: Table, index: usize) -> Generated
     requires { ⌜ replicaWellFormed replica ≡ true ⌝ }
+    requires { ⌜ table ≡ tableOf (keys (meaning replica .characters)) ⌝ }
     ensures { λ r. ⌜ r ≡ deleted replica index ⌝ }
 {
     if index == 0 {
@@ -180,6 +183,6 @@ pub fn delete_visible(replica: Replica, index: usize) -> Generated
             integrated: 1,
             discarded: 0,
         },
-        replica: storage::hidden(replica, delete),
+        replica: storage::hidden(replica, table, delete),
     }
 }

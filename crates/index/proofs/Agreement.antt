@@ -11,14 +11,22 @@ use mathlib.Core.Option.{Option, none, some, Option·some-ne-none, Option·some-
 use mathlib.Core.Logic.{⊎-elim}
 use borrow.Author.Tests.{eq-eqb, ne-eqb, eqb-true, eqb-false, not-true}
 use lib.Dec.{eqb}
-use lib.ListN.{length, take, getD, set, replicate, length-replicate, getD-replicate, List·getD-eq-default}
+use lib.ListN.{length, take, getD, set, replicate, length-replicate, getD-replicate, length-map, List·getD-eq-default}
 use lib.Seq.{length-take-le, getD-set-same, getD-set-other, getD-take, take-length}
 use Rattle.lists.specs.Lists.{any, distinct, throughout}
 use Rattle.lists.proofs.Tests.{either, side, clash, and-intro, and-left, and-right, or-left, or-right, or-false, not-intro}
 use Rattle.lists.proofs.Throughout.{throughout-at, throughout-all}
 use Rattle.woot.specs.declared.Table.{Table}
-use Rattle.woot.specs.Table.{chainOf, walk, lookup, searched, foundAt, agrees, noTable, entered, enteredAll, tableOf}
+use Rattle.woot.specs.Table.{chainOf, walk, lookup, searched, foundAt, agrees, key, keys, noTable, entered, enteredAll, tableOf}
+use Rattle.woot.specs.declared.Character.{Character}
+use Rattle.woot.specs.Identifiers.{same}
+use Rattle.woot.specs.Placing.{identifiers}
+use Rattle.index.specs.declared.Found.{Found}
+use Rattle.index.specs.declared.Found.the-variants.{At}
+use Rattle.index.specs.Keys.{AllSmall, further, firstIndex, found, asFound}
+use Rattle.index.specs.Tabled.{Tabled}
 use Rattle.index.specs.Theorems.{LookupIsSearch, AgreeingApart, TableAgrees}
+use Rattle.index.proofs.Indices.{distinct-keys}
 use Rattle.index.proofs.Walks.{walk-sound, walk-here, walk-on, walk-below}
 use Rattle.index.proofs.Tables.{is-at, at-is, table-more, Sized, table-sized}
 
@@ -204,3 +212,26 @@ pub table-agrees : TableAgrees
 unfolding agrees
 table-agrees ks h few =
     throughout-all (foundAt (tableOf ks) ks) (length ks) (λ i l. at-is i _ (subst (λ (ls : List ℕ). lookup (tableOf ls) ls (getD ks i 0) ≡ some i) (take-length ks) (each ks few (distinct-apart ks h) (length ks) (omega arith) i l)))
+
+-- ---- what the code finds
+
+search-found : (k : ℕ) (ks : List ℕ) → asFound (searched k ks) ≡ found k ks
+unfolding searched found firstIndex
+search-found k [] = refl
+search-found k (x ∷ ks) = go (eqb k x) (searched k ks) (search-found k ks)
+  where
+    go : (b : Bool) (w : Option ℕ) {r : Found} → asFound w ≡ r → asFound (cond b (some 0) (elim w [ none ↦ none | some i ↦ some (suc i) ])) ≡ cond b (At 0) (further 1 r)
+    go true w e = refl
+    go false none e = rw (← e)
+    go false (some i) e = rw (← e) (ap At (omega arith))
+
+pub tabled-found : {t : Table} {ks : List ℕ} → Tabled t ks → (k : ℕ) → asFound (lookup t ks k) ≡ found k ks
+tabled-found {t} {ks} h k = ap asFound (lookup-is-search t ks (h .agree) k) ∙ search-found k ks
+
+-- the table of distinct keys
+pub tabled : (ks : List ℕ) → distinct eqb ks ≡ true → length ks ≤ 1024 → Tabled (tableOf ks) ks
+tabled ks h few = record { heads = table-sized ks .heads; links = table-sized ks .links; few = few; agree = table-agrees ks h few }
+
+-- the table of characters in range, none of whose identifiers stands twice
+pub tabled-characters : (cs : List Character) → AllSmall cs → distinct same (identifiers cs) ≡ true → length cs ≤ 1024 → Tabled (tableOf (keys cs)) (keys cs)
+tabled-characters cs s h few = tabled (keys cs) (distinct-keys cs s ∙ h) (omega (arith, length-map cs (λ (c : Character). key (c .id))))

@@ -1,18 +1,20 @@
 -- A key is found where its identifier stands.
 use Prim.Native.Nat.{ℕ, suc, _+_, _≤_}
 use native.Mathlib.Omega.{arith}
-use mathlib.Core.Path.{_≡_, refl, ap, sym, _∙_}
-use mathlib.Core.Bool.{Bool, true, false, cond}
+use mathlib.Core.Path.{_≡_, refl, ap, ap₂, sym, _∙_}
+use mathlib.Core.Bool.{Bool, true, false, _&&_, _||_, not, cond}
 use mathlib.Core.List.{List, [], _∷_, _++_, map, List·Memᴰ, List·Memᴰ·head, List·Memᴰ·tail, List·Memᴰ·cases-cons, List·Memᴰ·append-cases, List·Memᴰ·eq-of-singleton, Memᴰ·of-map}
 use mathlib.Core.Logic.{⊎-elim}
 use borrow.Author.Tests.{eq-eqb, ne-eqb}
 use lib.Dec.{eqb}
 use lib.ListN.{length, length-append}
+use Rattle.lists.specs.Lists.{any, distinct}
 use Rattle.woot.specs.declared.Identifier.{Identifier}
 use Rattle.woot.specs.declared.Character.{Character}
 use Rattle.woot.specs.Identifiers.{begin, end, same}
 use Rattle.woot.specs.Placing.{identifiers, sequence, indexOf, placeOf}
-use Rattle.index.specs.Keys.{key, Small, AllSmall, keys, indexIn, placeIn}
+use Rattle.woot.specs.Table.{key, keys}
+use Rattle.index.specs.Keys.{Small, AllSmall, indexIn, placeIn}
 use Rattle.index.proofs.Keys.{key-begin, key-end, key-same}
 
 pub index-here : (k x : ℕ) (xs : List ℕ) → k ≡ x → indexIn k (x ∷ xs) ≡ 0
@@ -65,3 +67,15 @@ module _ (x : Identifier) (p : Small x) where
           ⊎-elim (mark y begin (omega arith))
           (λ n. ⊎-elim (member y) (λ n. mark y end (omega arith) (List·Memᴰ·eq-of-singleton n)) (List·Memᴰ·append-cases (identifiers cs) n))
           (List·Memᴰ·cases-cons m)
+
+-- keys are distinct where identifiers are
+any-keys : (x : Identifier) → Small x → (cs : List Character) → AllSmall cs → any (eqb (key x)) (keys cs) ≡ any (same x) (identifiers cs)
+any-keys x p [] s = refl
+any-keys x p (c ∷ cs) s =
+    ap₂ (λ (a b : Bool). a || b) (key-same x (c .id) p (s c (List·Memᴰ·head refl) .id)) (any-keys x p cs (λ d m. s d (List·Memᴰ·tail m)))
+
+pub distinct-keys : (cs : List Character) → AllSmall cs → distinct eqb (keys cs) ≡ distinct same (identifiers cs)
+distinct-keys [] s = refl
+distinct-keys (c ∷ cs) s =
+    ap₂ (λ (a b : Bool). not a && b) (any-keys (c .id) (s c (List·Memᴰ·head refl) .id) cs (λ d m. s d (List·Memᴰ·tail m)))
+    (distinct-keys cs (λ d m. s d (List·Memᴰ·tail m)))

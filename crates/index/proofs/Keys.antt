@@ -16,7 +16,8 @@ use Rattle.woot.specs.Ranges.{siteNumber, characterId, previousId, nextId, char
 use Rattle.lists.proofs.Tests.{agree, and-left, and-right, and-intro, or-cases, or-left, or-right, either}
 use Rattle.convergence.proofs.Identifiers.{identifier-path, same-eq, eq-same}
 use Rattle.convergence.proofs.Ranges.{within-high, in-range}
-use Rattle.index.specs.Keys.{key, Small, SmallParts, AllSmall}
+use Rattle.woot.specs.Table.{key}
+use Rattle.index.specs.Keys.{Small, SmallParts, AllSmall}
 
 pub key-begin : key begin ≡ 0
 unfolding key

@@ -7,3 +7,4 @@ pub mod Searches
 pub mod Packing
 pub mod Indexes
 pub mod Fullness
+pub mod Sound

@@ -14,7 +14,8 @@ use Rattle.woot.specs.State.{characterSlots}
 use Rattle.lists.specs.Padding.{pad}
 use Rattle.lists.proofs.Padding.{pad-length, pad-take}
 use Rattle.index.specs.declared.CharacterKeys.{CharacterKeys}
-use Rattle.index.specs.Keys.{key, Small, AllSmall, SmallParts, keys, previousKeys, nextKeys, placeIn}
+use Rattle.woot.specs.Table.{key, keys}
+use Rattle.index.specs.Keys.{Small, AllSmall, SmallParts, previousKeys, nextKeys, placeIn}
 use Rattle.index.specs.Packing.{keysOf, placesIn, previousPlaces, nextPlaces}
 use Rattle.index.proofs.Indices.{place-keys}
 
@@ -34,9 +35,9 @@ keys-sizes cs h = (size (λ c. key (c .id)), size (λ c. key (c .previous)), siz
     size : (f : Character → ℕ) → length (pad characterSlots 0 (map f cs)) ≡ characterSlots
     size f = pad-length characterSlots 0 (map f cs) (omega (arith, length-map cs f))
 
-pub places-length : (ids of : List ℕ) → length (placesIn ids of) ≡ characterSlots
+pub places-length : (ids of : List ℕ) → length of ≤ characterSlots → length (placesIn ids of) ≡ characterSlots
 unfolding placesIn
-places-length ids of = pad-length characterSlots 0 _ (omega (arith, length-map (take characterSlots of) (placeIn (take characterSlots ids)), length-take characterSlots of))
+places-length ids of h = pad-length characterSlots 0 _ (omega (arith, length-map of (placeIn ids)))
 
 -- what a caller lends: the slots in use are the keys, and their places those of the rules
 module _ (cs : List Character) (n : ℕ) (e : length cs ≡ n) where
@@ -63,10 +64,7 @@ module _ (cs : List Character) (n : ℕ) (e : length cs ≡ n) where
     -- the array of the places
     padded-places : (f : Character → Identifier) → ((c : Character) → List·Memᴰ c cs → Small (f c)) → placesIn (keys cs) (map (λ c. key (f c)) cs) ≡ pad characterSlots 0 (map (λ c. placeOf cs (f c)) cs)
     unfolding placesIn
-    padded-places f t =
-        let ids = take-all characterSlots (keys cs) (omega (arith, length-map cs (λ (c : Character). key (c .id)))) in
-        let of = take-all characterSlots (map (λ c. key (f c)) cs) (omega (arith, length-map cs (λ (c : Character). key (f c)))) in
-        rw (ids, of, place-each f cs t)
+    padded-places f t = rw (place-each f cs t)
 
     pub padded-previous : placesIn (keys cs) (previousKeys cs) ≡ pad characterSlots 0 (previousPlaces cs)
     padded-previous = padded-places (λ c. c .previous) (λ c m. s c m .previous)

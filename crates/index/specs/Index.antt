@@ -4,7 +4,7 @@ use mathlib.Core.List.{List}
 use Rattle.woot.specs.declared.Character.{Character}
 use Rattle.woot.specs.State.{characterSlots}
 use Rattle.lists.specs.Padding.{pad}
-use Rattle.index.specs.Keys.{keys}
+use Rattle.woot.specs.Table.{keys, tableOf}
 use Rattle.index.specs.Packing.{previousPlaces, nextPlaces}
 use Rattle.index.specs.declared.Index.{Index}
 
@@ -14,4 +14,5 @@ indexOf cs =
       ids = pad characterSlots 0 (keys cs);
       above = pad characterSlots 0 (previousPlaces cs);
       below = pad characterSlots 0 (nextPlaces cs);
+      table = tableOf (keys cs);
     }

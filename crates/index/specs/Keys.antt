@@ -1,17 +1,14 @@
 -- For the proofs of the code alone: identifiers as numbers, what a search among them finds, and where they stand.
-use Prim.Native.Nat.{ℕ, suc, _+_, _*_, _<_}
+use Prim.Native.Nat.{ℕ, suc, _+_, _<_}
 use mathlib.Core.Bool.{Bool, cond}
 use mathlib.Core.List.{List, [], _∷_, _++_, map, List·Memᴰ}
 use mathlib.Core.Option.{Option, none, some}
 use lib.Dec.{eqb}
 use Rattle.woot.specs.declared.Identifier.{Identifier}
 use Rattle.woot.specs.declared.Character.{Character}
+use Rattle.woot.specs.Table.{key}
 use Rattle.index.specs.declared.Found.{Found}
 use Rattle.index.specs.declared.Found.the-variants.{At, Nothing}
-
--- the site above the clock's 16 bits
-unfoldable pub key : Identifier → ℕ
-key x = x .site * 65536 + x .clock
 
 -- the clock has its 16 bits, as in every value of the type
 abbrev pub Small : Identifier → Type 0
@@ -26,10 +23,7 @@ pub record SmallParts (c : Character) : Type 0 where
 abbrev pub AllSmall : List Character → Type 0
 AllSmall cs = (c : Character) → List·Memᴰ c cs → SmallParts c
 
--- the keys of the characters, of their previous and of their next
-abbrev pub keys : List Character → List ℕ
-keys cs = map (λ c. key (c .id)) cs
-
+-- the keys of the characters' previous and of their next
 abbrev pub previousKeys : List Character → List ℕ
 previousKeys cs = map (λ c. key (c .previous)) cs
 

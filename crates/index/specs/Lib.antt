@@ -1,4 +1,5 @@
 pub mod Keys
+pub mod Tabled
 pub mod Theorems
 pub mod Packing
 pub mod Index

@@ -1,13 +1,13 @@
 -- For the proofs of the code alone: the arrays of numbers that a call packs from its characters.
 use Prim.Native.Nat.{ℕ}
 use mathlib.Core.List.{List, map}
-use lib.ListN.{take}
 use Rattle.woot.specs.declared.Character.{Character}
 use Rattle.woot.specs.State.{characterSlots}
 use Rattle.lists.specs.Padding.{pad}
 use Rattle.woot.specs.Placing.{placeOf}
 use Rattle.index.specs.declared.CharacterKeys.{CharacterKeys}
-use Rattle.index.specs.Keys.{keys, previousKeys, nextKeys, placeIn}
+use Rattle.woot.specs.Table.{keys}
+use Rattle.index.specs.Keys.{previousKeys, nextKeys, placeIn}
 
 -- the keys of the characters, of their previous and of their next
 unfoldable pub keysOf : List Character → CharacterKeys
@@ -18,9 +18,9 @@ keysOf cs =
       next = pad characterSlots 0 (nextKeys cs);
     }
 
--- where each of the keys stands among the others, of both as many as there are slots
+-- where each of the keys stands among the others
 unfoldable pub placesIn : List ℕ → List ℕ → List ℕ
-placesIn ids of = pad characterSlots 0 (map (placeIn (take characterSlots ids)) (take characterSlots of))
+placesIn ids of = pad characterSlots 0 (map (placeIn ids) of)
 
 -- where the previous of each character stands, and the next
 abbrev pub previousPlaces : List Character → List ℕ

@@ -4,12 +4,20 @@ pub mod table;
 
 use woot::Character;
 use woot::Identifier;
+use woot::Table;
 ghost use mathlib.Core.Path.{_≡_};
-ghost use Prim.Native.Nat.{min};
-ghost use lib.ListN.{take};
-ghost use Rattle.index.specs.Keys.{key, found, placeIn, Small, AllSmall};
+ghost use mathlib.Core.Bool.{true};
+ghost use mathlib.Core.List.{List};
+ghost use Prim.Native.Nat.{_≤_, min};
+ghost use lib.Dec.{eqb};
+ghost use lib.ListN.{length, take};
+ghost use Rattle.lists.specs.Lists.{distinct};
+ghost use Rattle.woot.specs.declared.Character.{Character};
+ghost use Rattle.woot.specs.Table.{key, keys, tableOf};
+ghost use Rattle.index.specs.Keys.{found, placeIn, Small, AllSmall};
 ghost use Rattle.index.specs.Packing.{keysOf, placesIn};
 ghost use Rattle.index.specs.Index.{indexOf};
+ghost use Rattle.index.specs.Tabled.{Tabled};
 
 // The keys of characters and of their neighbours, each in the slot of its character.
 pub struct CharacterKeys {
@@ -26,11 +34,13 @@ pub enum Found {
     Nothing,
 }
 
-// The keys of the characters, and the places of the previous and of the next of each, in the slot of its character.
+// The keys of the characters, and the places of the previous and of the next of each, in the slot of its character; and
+// the table of the keys.
 pub struct Index {
     pub ids: [u32; 1024],
     pub above: [u16; 1024],
     pub below: [u16; 1024],
+    pub table: Table,
 }
 
 // An identifier as one number. Numbers are ordered as their identifiers are, and the marks are 0 and 1.
@@ -55,15 +65,16 @@ pub fn find(keys: &[u32], key: u32) -> Found
     Found::Nothing
 }
 
-// The place of the character with the given key: 0 for the begin mark, one past the last for the end mark, further
-// where there is none.
-pub fn place_of(ids: &[u32], key: u32) -> usize
+// The place of the character with the given key, by a table that agrees: 0 for the begin mark, one past the last for
+// the end mark, further where there is none. A step of the calls and not a call: they have checked the table, or made it.
+pub fn place_of<'a>(heads: &'a [u16], links: &'a [u16], ids: &'a [u32], key: u32) -> usize
+    requires { ⌜ Tabled (record { heads = now heads; links = now links }) (now ids) ⌝ }
     ensures { λ r. ⌜ r ≡ placeIn (now (ids .entry)) key ⌝ }
 {
     if key == 0 {
         return 0;
     }
-    match find(ids, key) {
+    match table::find(heads, links, ids, key) {
         Found::At(i) => i + 1,
         Found::Nothing => {
             let end = ids.len() + 1;
@@ -76,14 +87,21 @@ pub fn place_of(ids: &[u32], key: u32) -> usize
 }
 
 // The same, where the place of the end mark's key, which most inserts name, is at hand.
-fn place_given(ids: &[u32], end: usize, key: u32) -> usize
+fn place_given<'a>(
+    heads: &'a [u16],
+    links: &'a [u16],
+    ids: &'a [u32],
+    end: usize,
+    key: u32,
+) -> usize
+    requires { ⌜ Tabled (record { heads = now heads; links = now links }) (now ids) ⌝ }
     requires { ⌜ end ≡ placeIn (now ids) 1 ⌝ }
     ensures { λ r. ⌜ r ≡ placeIn (now (ids .entry)) key ⌝ }
 {
     if key == 1 {
         return end;
     }
-    place_of(ids, key)
+    place_of(heads, links, ids, key)
 }
 
 // The lesser of two numbers.
@@ -117,33 +135,54 @@ pub fn keys_of(characters: [Character; 1024], n: usize) -> CharacterKeys
     }
 }
 
-// The place of each of the keys in `of` among the keys in `ids`, of both the first 1,024.
-pub fn places(ids: &[u32], of: &[u32]) -> [u16; 1024]
-    ensures { λ r. ⌜ r ≡ placesIn (now (ids .entry)) (now (of .entry)) ⌝ }
+// The place of each of the first n keys in `of` among the first n in `keys`.
+fn places<'a>(
+    heads: &'a [u16],
+    links: &'a [u16],
+    keys: &'a [u32],
+    of: &'a [u32],
+    n: usize,
+) -> [u16; 1024]
+    requires { ⌜ n ≤ length (now keys) ⌝ }
+    requires { ⌜ n ≤ length (now of) ⌝ }
+    requires { ⌜ Tabled (record { heads = now heads; links = now links }) (take n (now keys)) ⌝ }
+    ensures { λ r. ⌜ r ≡ placesIn (take n (now (keys .entry))) (take n (now (of .entry))) ⌝ }
 {
-    let size = lesser(ids.len(), 1024);
-    let among = &ids[..size];
-    let last = place_of(among, 1);
-    let end = lesser(of.len(), 1024);
+    let ids = &keys[..n];
+    let last = place_of(heads, links, ids, 1);
     let mut out = [0u16; 1024];
     let mut i = 0;
-    while i < end {
-        out[i] = place_given(among, last, of[i]) as u16;
+    while i < n {
+        out[i] = place_given(heads, links, ids, last, of[i]) as u16;
         i += 1;
     }
     out
 }
 
-// The index of the first n characters, of all of them where n is above the slots.
-pub fn index_of(characters: [Character; 1024], n: usize) -> Index
-    ensures { λ r. ⌜ r ≡ indexOf (take n characters) ⌝ }
+// The index of n characters by their keys. A step of the calls and not a call: they have checked that no key stands
+// twice.
+pub fn index_of(keys: CharacterKeys, n: usize) -> Index
+    requires { ⌜ n ≤ 1024 ⌝ }
+    requires { ⌜ distinct eqb (take n (keys .ids)) ≡ true ⌝ }
+    ensures { λ r. ⌜ ((cs : List Character) → keys ≡ keysOf cs → length cs ≡ n → AllSmall cs → r ≡ indexOf cs) ⌝ }
+{
+    let table = table::table_of(&keys.ids, n);
+    let above = places(&table.heads, &table.links, &keys.ids, &keys.previous, n);
+    let below = places(&table.heads, &table.links, &keys.ids, &keys.next, n);
+    let ids = keys.ids;
+    Index {
+        ids,
+        above,
+        below,
+        table,
+    }
+}
+
+// The table of the first n characters, of all of them where n is above the slots.
+pub fn table_of(characters: [Character; 1024], n: usize) -> Table
+    ensures { λ r. ⌜ r ≡ tableOf (keys (take n characters)) ⌝ }
 {
     let end = lesser(n, 1024);
     let keys = keys_of(characters, end);
-    let ids = keys.ids;
-    let previous = keys.previous;
-    let next = keys.next;
-    let above = places(&ids[..end], &previous[..end]);
-    let below = places(&ids[..end], &next[..end]);
-    Index { ids, above, below }
+    table::table_of(&keys.ids, end)
 }

@@ -15,7 +15,8 @@ use Rattle.woot.specs.Placing.{Interval as Between, Located, located, placeOf, 
 use Rattle.lists.proofs.Tests.{either, agree}
 use Rattle.convergence.proofs.Placing.{narrowing}
 use Rattle.integration.specs.declared.Interval.{Interval}
-use Rattle.index.specs.Keys.{key, Small, AllSmall, keys}
+use Rattle.woot.specs.Table.{key, keys}
+use Rattle.index.specs.Keys.{Small, AllSmall}
 use Rattle.index.specs.Packing.{previousPlaces, nextPlaces}
 use Rattle.integration.specs.Passes.{LocatedKey, locatedKeys, outside, candidateIn, walkIn, passIn, width, searchIn, positionIn}
 use Rattle.index.proofs.Keys.{key-below}

@@ -4,13 +4,15 @@ use index::Index;
 use woot::Insert;
 ghost use mathlib.Core.Path.{_≡_};
 ghost use Prim.Native.Nat.{_<_, _≤_};
-ghost use lib.ListN.{length};
-ghost use Rattle.index.specs.Keys.{key, AllSmall, keys};
+ghost use lib.ListN.{length, take};
+ghost use Rattle.woot.specs.Table.{key, keys as keysOfCharacters};
+ghost use Rattle.index.specs.Keys.{AllSmall};
 ghost use Rattle.index.specs.Packing.{previousPlaces, nextPlaces};
 ghost use Rattle.integration.specs.Passes.{locatedKeys, outside, passIn, width, positionIn, asFound};
 ghost use mathlib.Core.List.{List};
 ghost use Rattle.woot.specs.declared.Character.{Character};
 ghost use Rattle.index.specs.Index.{indexOf};
+ghost use Rattle.index.specs.Tabled.{Tabled};
 ghost use Rattle.integration.specs.Placements.{placementOf};
 
 // The places strictly between which a character is to be put.
@@ -99,18 +101,32 @@ pub enum Placement {
     Below(usize),
 }
 
-// Finds the place of an insert among the characters with these keys, whose neighbours have these places.
-fn place_among(ids: &[u32], above: &[u16], below: &[u16], insert: Insert) -> Placement
-    requires { ⌜ length (now ids) ≤ 1024 ⌝ }
+// Finds the place of an insert among the n characters with these keys, whose previous and next have these places.
+fn place_among<'a>(
+    heads: &'a [u16],
+    links: &'a [u16],
+    keys: &'a [u32],
+    uppers: &'a [u16],
+    lowers: &'a [u16],
+    n: usize,
+    insert: Insert,
+) -> Placement
+    requires { ⌜ n ≤ length (now keys) ⌝ }
+    requires { ⌜ n ≤ length (now uppers) ⌝ }
+    requires { ⌜ n ≤ length (now lowers) ⌝ }
+    requires { ⌜ Tabled (record { heads = now heads; links = now links }) (take n (now keys)) ⌝ }
     ensures { λ r. ⌜ ((cs : List Character)
-        → now (ids .entry) ≡ keys cs → now (above .entry) ≡ previousPlaces cs → now (below .entry) ≡ nextPlaces cs
-        → AllSmall cs → r ≡ placementOf cs insert) ⌝ }
+        → take n (now (keys .entry)) ≡ keysOfCharacters cs → take n (now (uppers .entry)) ≡ previousPlaces cs
+        → take n (now (lowers .entry)) ≡ nextPlaces cs → AllSmall cs → r ≡ placementOf cs insert) ⌝ }
 {
+    let ids = &keys[..n];
+    let above = &uppers[..n];
+    let below = &lowers[..n];
     let previous = insert.previous;
     let next = insert.next;
     let id = insert.id;
-    let upper = index::place_of(ids, index::key(previous));
-    let lower = index::place_of(ids, index::key(next));
+    let upper = index::place_of(heads, links, ids, index::key(previous));
+    let lower = index::place_of(heads, links, ids, index::key(next));
     if ids.len() + 1 < upper {
         return Placement::Missing;
     }
@@ -130,11 +146,17 @@ fn place_among(ids: &[u32], above: &[u16], below: &[u16], insert: Insert) -> Pla
 // index of the characters in use.
 pub fn find_place(index: Index, n: usize, insert: Insert) -> Placement
     requires { ⌜ n ≤ 1024 ⌝ }
+    requires { ⌜ Tabled (index .table) (take n (index .ids)) ⌝ }
     ensures { λ r. ⌜ ((cs : List Character)
         → index ≡ indexOf cs → length cs ≡ n → AllSmall cs → r ≡ placementOf cs insert) ⌝ }
 {
-    let ids = index.ids;
-    let above = index.above;
-    let below = index.below;
-    place_among(&ids[..n], &above[..n], &below[..n], insert)
+    place_among(
+        &index.table.heads,
+        &index.table.links,
+        &index.ids,
+        &index.above,
+        &index.below,
+        n,
+        insert,
+    )
 }

@@ -21,7 +21,8 @@ use Rattle.woot.specs.Pending.{executable, earliest}
 use Rattle.lists.proofs.Tests.{and-left, and-right}
 use Rattle.index.specs.declared.Found.{Found}
 use Rattle.index.specs.declared.Found.the-variants.{At, Nothing}
-use Rattle.index.specs.Keys.{key, Small, AllSmall, keys, placeIn, further, firstIndex}
+use Rattle.woot.specs.Table.{key, keys}
+use Rattle.index.specs.Keys.{Small, AllSmall, placeIn, further, firstIndex}
 use Rattle.index.proofs.Indices.{index-here, place-keys}
 use Rattle.index.proofs.Searches.{further-none, further-more}
 use Rattle.storage.specs.Edit.{removed}

@@ -13,7 +13,8 @@ use Rattle.woot.specs.Identifiers.{same}
 use Rattle.lists.specs.Lists.{any}
 use Rattle.woot.specs.Operations.{inserts}
 use Rattle.woot.specs.Placing.{identifiers}
-use Rattle.index.specs.Keys.{key, Small, AllSmall, keys, found}
+use Rattle.woot.specs.Table.{key, keys}
+use Rattle.index.specs.Keys.{Small, AllSmall, found}
 use Rattle.index.specs.declared.Found.{Found}
 use Rattle.index.specs.declared.Found.the-variants.{At, Nothing}
 use Rattle.pending.specs.declared.holder.Holder.{Holder}

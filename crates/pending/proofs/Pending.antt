@@ -24,7 +24,8 @@ use Rattle.lists.proofs.Tests.{and-right, clash, or-false, or-false-left, or-fa
 use Rattle.convergence.proofs.Identifiers.{eq-same}
 use Rattle.lists.proofs.Members.{member-any, every-member, keep-map}
 use Rattle.convergence.proofs.Ranges.{in-range, character-site}
-use Rattle.index.specs.Keys.{key, Small, found}
+use Rattle.woot.specs.Table.{key}
+use Rattle.index.specs.Keys.{Small, found}
 use Rattle.index.proofs.Keys.{key-same, key-injective, character-small, range-small}
 use Rattle.index.specs.declared.Found.{Found}
 use Rattle.index.specs.declared.Found.the-variants.{At, Nothing}

@@ -8,7 +8,7 @@ use Rattle.woot.specs.declared.Operation.the-variants.{Insert as insert, Delete
 use Rattle.woot.specs.Operations.{sender}
 use Rattle.woot.specs.State.{pendingSlots}
 use Rattle.lists.specs.Padding.{pad}
-use Rattle.index.specs.Keys.{key}
+use Rattle.woot.specs.Table.{key}
 use Rattle.pending.specs.declared.queue.Entry.{Entry}
 use Rattle.pending.specs.declared.queue.Queue.{Queue}
 

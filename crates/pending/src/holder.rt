@@ -3,15 +3,19 @@ use crate::queue;
 use crate::queue::Queue;
 use index::Found;
 use index::Index;
+use index::table;
 use woot::Character;
 use woot::Delete;
 use woot::Identifier;
 use woot::Insert;
 use woot::Operation;
 ghost use mathlib.Core.Path.{_≡_};
-ghost use lib.ListN.{take};
+ghost use Prim.Native.Nat.{_≤_};
+ghost use lib.ListN.{length, take};
+ghost use Rattle.index.specs.Tabled.{Tabled};
 ghost use Rattle.woot.specs.Operations.{origin, sameInsert};
-ghost use Rattle.index.specs.Keys.{key, found};
+ghost use Rattle.woot.specs.Table.{key};
+ghost use Rattle.index.specs.Keys.{found};
 ghost use Rattle.pending.specs.Queue.{hasDelete};
 ghost use Rattle.pending.specs.Holder.{holderIn, comparedTo, comparedWith};
 
@@ -29,37 +33,63 @@ pub enum Seen {
     Other,
 }
 
-// Who has the key, among the keys of characters and of pending operations.
-fn holder_among(ids: &[u32], own: &[u32], key: u32) -> Holder
-    ensures { λ r. ⌜ r ≡ holderIn (now (ids .entry)) (now (own .entry)) key ⌝ }
+// Who has the key, among the keys of n characters and of w pending operations.
+fn holder_among<'a>(
+    heads: &'a [u16],
+    links: &'a [u16],
+    ids: &'a [u32],
+    n: usize,
+    own: &'a [u32],
+    w: usize,
+    key: u32,
+) -> Holder
+    requires { ⌜ n ≤ length (now ids) ⌝ }
+    requires { ⌜ w ≤ length (now own) ⌝ }
+    requires { ⌜ Tabled (record { heads = now heads; links = now links }) (take n (now ids)) ⌝ }
+    ensures { λ r. ⌜ r ≡ holderIn (take n (now (ids .entry))) (take w (now (own .entry))) key ⌝ }
 {
-    match index::find(ids, key) {
+    match table::find_among(heads, links, ids, n, key) {
         Found::At(k) => Holder::Character(k),
-        Found::Nothing => match index::find(own, key) {
+        Found::Nothing => match index::find(&own[..w], key) {
             Found::At(j) => Holder::Pending(j),
             Found::Nothing => Holder::Nobody,
         },
     }
 }
 
-// Who has an identifier, among the first n characters and the first w pending operations.
+// Who has an identifier, among n characters and w pending operations. A step of the calls and not a call: they have an
+// index of the characters in use.
 pub fn holder_of(index: Index, n: usize, queue: Queue, w: usize, id: Identifier) -> Holder
+    requires { ⌜ n ≤ 1024 ⌝ }
+    requires { ⌜ w ≤ 512 ⌝ }
+    requires { ⌜ Tabled (index .table) (take n (index .ids)) ⌝ }
     ensures { λ r. ⌜ r ≡ holderIn (take n (index .ids)) (take w (queue .own)) (key id) ⌝ }
 {
-    let ids = index.ids;
-    let own = queue.own;
-    let end = index::lesser(n, 1024);
-    let last = index::lesser(w, 512);
-    holder_among(&ids[..end], &own[..last], index::key(id))
+    holder_among(
+        &index.table.heads,
+        &index.table.links,
+        &index.ids,
+        n,
+        &queue.own,
+        w,
+        index::key(id),
+    )
 }
 
-// The index of the character that has an identifier, among the first n.
+// The index of the character that has an identifier, among n. A step of the calls and not a call: they have an index of
+// the characters in use.
 pub fn character_of(index: Index, n: usize, id: Identifier) -> Found
+    requires { ⌜ n ≤ 1024 ⌝ }
+    requires { ⌜ Tabled (index .table) (take n (index .ids)) ⌝ }
     ensures { λ r. ⌜ r ≡ found (key id) (take n (index .ids)) ⌝ }
 {
-    let ids = index.ids;
-    let end = index::lesser(n, 1024);
-    index::find(&ids[..end], index::key(id))
+    table::find_among(
+        &index.table.heads,
+        &index.table.links,
+        &index.ids,
+        n,
+        index::key(id),
+    )
 }
 
 // Whether an equal delete is among the first w pending operations.

@@ -26,7 +26,7 @@ use Rattle.convergence.proofs.Identifiers.{same-eq}
 use Rattle.convergence.proofs.Places.{held-id}
 use Rattle.convergence.proofs.Soundness.{standing, unheld}
 use Rattle.convergence.proofs.Steps.{any-map}
-use Rattle.index.specs.Keys.{key}
+use Rattle.woot.specs.Table.{key}
 use Rattle.index.proofs.Keys.{character-small}
 use Rattle.pending.specs.declared.queue.Queue.{Queue}
 use Rattle.storage.specs.Replicas.{received}

@@ -15,12 +15,14 @@ use woot::Operation;
 use woot::Receipt;
 use woot::Refusal;
 use woot::Replica;
+use woot::Table;
 ghost use mathlib.Core.Path.{_≡_};
 ghost use mathlib.Core.Bool.{true, false};
 ghost use Rattle.woot.specs.declared.Operation.the-variants.{Insert as ofInsert, Delete as ofDelete};
 ghost use Rattle.woot.specs.declared.Answer.the-variants.{Refused};
 ghost use Rattle.woot.specs.Operations.{sender};
 ghost use Rattle.woot.specs.Ranges.{insertInRange, deleteInRange};
+ghost use Rattle.woot.specs.Table.{keys, tableOf};
 ghost use Rattle.woot.specs.State.{meaning};
 ghost use Rattle.woot.specs.Pending.{executable};
 ghost use Rattle.woot.specs.Form.{replicaWellFormed};
@@ -70,9 +72,10 @@ fn is_full(replica: Replica, queue: Queue, operation: Operation) -> bool
 }
 
 // Puts an operation that lacks something at the end of the pending ones.
-fn defer(replica: Replica, queue: Queue, operation: Operation) -> Receipt
+fn defer(replica: Replica, table: Table, queue: Queue, operation: Operation) -> Receipt
     requires { ⌜ New replica queue operation ⌝ }
     requires { ⌜ executable (meaning replica .characters) operation ≡ false ⌝ }
+    requires { ⌜ table ≡ tableOf (keys (meaning replica .characters)) ⌝ }
     ensures { λ r. ⌜ r ≡ received replica operation ⌝ }
 {
     let d = replica.document;
@@ -84,7 +87,7 @@ fn defer(replica: Replica, queue: Queue, operation: Operation) -> Receipt
     }
     Receipt {
         answer: Answer::Deferred,
-        replica: storage::deferred(replica, operation),
+        replica: storage::deferred(replica, table, operation),
     }
 }
 
@@ -117,7 +120,7 @@ fn receive_new(replica: Replica, index: Index, queue: Queue, insert: Insert) -> 
 {
     let d = replica.document;
     match integration::find_place(index, d.length, insert) {
-        Placement::Missing => defer(replica, queue, Operation::Insert(insert)),
+        Placement::Missing => defer(replica, index.table, queue, Operation::Insert(insert)),
         Placement::Crossed => refused(replica, Refusal::Crossed),
         Placement::Unplaceable => refused(replica, Refusal::Unplaceable),
         Placement::Below(k) => integrate(replica, queue, insert, k),
@@ -160,15 +163,16 @@ pub fn receive_insert(replica: Replica, index: Index, queue: Queue, insert: Inse
 }
 
 // Receives a delete whose target is not held.
-fn receive_absent(replica: Replica, queue: Queue, delete: Delete) -> Receipt
+fn receive_absent(replica: Replica, table: Table, queue: Queue, delete: Delete) -> Receipt
     requires { ⌜ Absent replica queue delete ⌝ }
+    requires { ⌜ table ≡ tableOf (keys (meaning replica .characters)) ⌝ }
     ensures { λ r. ⌜ r ≡ received replica (ofDelete delete) ⌝ }
 {
     let d = replica.document;
     if holder::is_pending(queue, d.waiting, delete) {
         return answered(replica, Answer::Duplicate);
     }
-    defer(replica, queue, Operation::Delete(delete))
+    defer(replica, table, queue, Operation::Delete(delete))
 }
 
 // Receives a delete. A step of the calls and not a call: they have checked the replica and the ranges.
@@ -190,9 +194,9 @@ pub fn receive_delete(replica: Replica, index: Index, queue: Queue, delete: Dele
                     integrated: 1,
                     discarded: 0,
                 },
-                replica: storage::hidden(replica, delete),
+                replica: storage::hidden(replica, index.table, delete),
             }
         }
-        Found::Nothing => receive_absent(replica, queue, delete),
+        Found::Nothing => receive_absent(replica, index.table, queue, delete),
     }
 }

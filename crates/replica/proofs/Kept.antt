@@ -9,13 +9,13 @@ use Rattle.woot.specs.declared.Answer.{Answer}
 use Rattle.woot.specs.declared.Answer.the-variants.{Done, Deferred, Duplicate, Refused}
 use Rattle.woot.specs.declared.Sent.{Sent}
 use Rattle.woot.specs.declared.Sent.the-variants.{Done as sentDone, Refused as sentRefused}
-use Rattle.woot.specs.State.{State, initial, meaning, stored, counted}
+use Rattle.woot.specs.State.{State, initial, meaning, stored}
 use Rattle.woot.specs.Form.{wellFormed, replicaWellFormed}
 use Rattle.woot.specs.Answers.{done, waits, reply, changes, answerOf}
 use Rattle.woot.specs.Calls.{receiveChecks, receiveWhen, receive, insertChecks, localInsertWhen, localInsert, deleteChecks, localDeleteWhen, localDelete}
 use Rattle.woot.specs.Histories.{Call, inserting, deleting, receiving, outcome}
 use borrow.Author.Tests.{not-false}
-use Rattle.lists.proofs.Tests.{and-right}
+use Rattle.storage.proofs.Stored.{form-meant}
 use Rattle.convergence.proofs.Forms.{empty-formed}
 use Rattle.convergence.proofs.Kept.{form-kept}
 use Rattle.convergence.proofs.Replies.{receive-does, receive-waits, insert-does, delete-does}
@@ -39,25 +39,21 @@ unfolding afterSent
 sent-formed r s (sentDone o n m) f h = stored-formed s h
 sent-formed r s (sentRefused q) f h = f
 
-meaning-formed : (r : Replica) → replicaWellFormed r ≡ true → wellFormed (meaning r) ≡ true
-unfolding replicaWellFormed
-meaning-formed r f = and-right (counted r) (wellFormed (meaning r)) f
-
 -- the form of a replica in form is that of what it says
 same-form : (r : Replica) → replicaWellFormed r ≡ true → wellFormed (meaning r) ≡ replicaWellFormed r
-same-form r f = meaning-formed r f ∙ sym f
+same-form r f = form-meant r f ∙ sym f
 
 pub replicas-formed : ReplicasFormed
 unfolding called received inserted deleted receipt generated outcome localInsert localDelete receive
 replicas-formed r (inserting g n) f =
     sent-formed r _ (inserted r g n .answer) f
-    (subst (λ (b : Bool). wellFormed (localInsertWhen b (meaning r) g n .state) ≡ true) (same-form r f) (form-kept (meaning r) (inserting g n) (meaning-formed r f)))
+    (subst (λ (b : Bool). wellFormed (localInsertWhen b (meaning r) g n .state) ≡ true) (same-form r f) (form-kept (meaning r) (inserting g n) (form-meant r f)))
 replicas-formed r (deleting p) f =
     sent-formed r _ (deleted r p .answer) f
-    (subst (λ (b : Bool). wellFormed (localDeleteWhen b (meaning r) p .state) ≡ true) (same-form r f) (form-kept (meaning r) (deleting p) (meaning-formed r f)))
+    (subst (λ (b : Bool). wellFormed (localDeleteWhen b (meaning r) p .state) ≡ true) (same-form r f) (form-kept (meaning r) (deleting p) (form-meant r f)))
 replicas-formed r (receiving o) f =
     answer-formed r _ (received r o .answer) f
-    (subst (λ (b : Bool). wellFormed (receiveWhen b (meaning r) o .state) ≡ true) (same-form r f) (form-kept (meaning r) (receiving o) (meaning-formed r f)))
+    (subst (λ (b : Bool). wellFormed (receiveWhen b (meaning r) o .state) ≡ true) (same-form r f) (form-kept (meaning r) (receiving o) (form-meant r f)))
 
 -- ---- whatever was handed
 

@@ -3,7 +3,7 @@
 use Prim.Native.Nat.{ℕ, _≤_}
 use native.Mathlib.Omega.{arith}
 use mathlib.Core.Path.{_≡_, refl, ap, sym, _∙_, subst}
-use mathlib.Core.Bool.{true, false}
+use mathlib.Core.Bool.{true, false, Bool, _&&_}
 use mathlib.Core.Logic.{⊎-elim}
 use mathlib.Core.List.{List, [], _∷_, map}
 use lib.ListN.{length, take, length-map}
@@ -17,7 +17,9 @@ use Rattle.woot.specs.declared.Answer.{Answer}
 use Rattle.woot.specs.declared.Answer.the-variants.{Done, Deferred, Duplicate, Refused}
 use Rattle.woot.specs.declared.Sent.{Sent}
 use Rattle.woot.specs.declared.Sent.the-variants.{Done as sentDone, Refused as sentRefused}
-use Rattle.woot.specs.State.{State, initial, characterSlots, pendingSlots, slotOf, blankCharacter, blankPending, meaning, documentOf, stored, counted}
+use Rattle.woot.specs.State.{State, initial, characterSlots, pendingSlots, slotOf, blankCharacter, blankPending, meaning, documentOf, stored, counted, tableAgrees}
+use Rattle.woot.specs.Table.{keys, agrees}
+use Rattle.index.proofs.Sound.{sound-tabled}
 use Rattle.lists.specs.Padding.{pad}
 use Rattle.woot.specs.Form.{wellFormed, replicaWellFormed}
 use Rattle.woot.specs.Answers.{answerOf}
@@ -70,9 +72,22 @@ pub counted-stored : (s : State) → Within s → counted (stored s) ≡ true
 unfolding counted stored documentOf
 counted-stored s w = rw (le-leb (length (s .characters)) characterSlots (w .characters-fit), le-leb (length (s .pending)) pendingSlots (w .pending-fit))
 
+own-table : (s : State) → wellFormed s ≡ true → agrees (stored s .document .table) (keys (s .characters)) ≡ true
+unfolding stored documentOf
+own-table s h = sound-tabled (formed s h .sound) .agree
+
+-- the table that is stored agrees
+pub table-stored : (s : State) → wellFormed s ≡ true → tableAgrees (stored s) ≡ true
+unfolding tableAgrees
+table-stored s h = rw (meaning-stored s) (own-table s h)
+
+absorbed : (a b : Bool) → (a ≡ true → b ≡ true) → a && b ≡ a
+absorbed true b f = f refl
+absorbed false b f = refl
+
 pub form-stored : (s : State) → Within s → replicaWellFormed (stored s) ≡ wellFormed s
 unfolding replicaWellFormed
-form-stored s w = rw (counted-stored s w, meaning-stored s)
+form-stored s w = rw (counted-stored s w, meaning-stored s) (absorbed (wellFormed s) (tableAgrees (stored s)) (table-stored s))
 
 -- ---- one call
 

@@ -59,10 +59,11 @@ pub fn insert(replica: Replica, point: usize, code_point: u32) -> Generated
 pub fn delete(replica: Replica, index: usize) -> Generated
     ensures { λ r. ⌜ r ≡ deleted replica index ⌝ }
 {
-    if !well_formed(replica) {
+    let checked = well_formed::check(replica);
+    if !checked.formed {
         return generation::refused(replica, Refusal::Form);
     }
-    generation::delete_visible(replica, index)
+    generation::delete_visible(replica, checked.index.table, index)
 }
 
 // The visible text of a replica as UTF-8 into the slice: its length, or refusal 3 or 12, and then no byte is changed.

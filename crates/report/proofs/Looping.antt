@@ -24,6 +24,7 @@ use Rattle.lines.specs.Lines.{rest}
 use Rattle.codec.specs.declared.Read.{Read}
 use Rattle.codec.specs.declared.Read.the-variants.{Operation as readsAs, Refused as readRefused}
 use Rattle.codec.specs.Calls.{readOperation}
+use Rattle.storage.proofs.Stored.{form-meant}
 use Rattle.report.specs.declared.Processed.{Processed}
 use Rattle.report.specs.Lines.{reportLine, textLine}
 use Rattle.report.specs.Calls.{answeredAs, answered, printedFrom, printed, inputMost, hallOutput}
@@ -46,10 +47,10 @@ record Small (a : Answer) : Type 0 where
   thrown : reply a .discarded ≤ 512
 
 received-small : (r : Replica) (o : Operation) → replicaWellFormed r ≡ true → Small (received r o .answer)
-unfolding received receipt receive outcome replicaWellFormed
+unfolding received receipt receive outcome
 received-small r o f =
     let s = meaning r in
-    let formed : wellFormed s ≡ true = and-right (counted r) (wellFormed s) f in
+    let formed : wellFormed s ≡ true = form-meant r f in
     let t = counts-true s (receiving o) in
     let b = counts-bounded s (receiving o) in
     rw (f, ← formed) (record { carried = omega (arith, t .0, b .0); thrown = omega (arith, t .1, b .1) })

@@ -23,6 +23,7 @@ use Rattle.lines.specs.Fields.{tab, columns}
 use Rattle.lines.proofs.Writing.{line-length}
 use Rattle.codec.proofs.Bounds.{insert-bounds}
 use Rattle.report.specs.Lines.{spelled, replyLine, reportLine, codePoints, textHead, textNumbers, textLine}
+use Rattle.storage.proofs.Stored.{form-meant}
 use Rattle.report.specs.Theorems.{ReportFits, TextFits}
 
 column-length : (n : ℕ) (ns : List ℕ) → length (columns (n ∷ ns)) ≡ length (digits n) + length (columns ns) + 1
@@ -86,10 +87,10 @@ points-fit (c ∷ cs) e = go (isVisible c) refl (points-fit cs (and-right (chara
     go false v rest = rw v (omega arith)
 
 pub text-fits : TextFits
-unfolding textLine textNumbers replicaWellFormed
+unfolding textLine textNumbers
 text-fits r e =
     let cs = meaning r .characters in
-    let f = formed (meaning r) (and-right (counted r) (wellFormed (meaning r)) e) .sound in
+    let f = formed (meaning r) (form-meant r e) .sound in
     omega (
       arith,
       f .room,

@@ -7,15 +7,15 @@ use mathlib.Core.Logic.{_⊎_, inl, inr, ⊎-elim}
 use Prim.Native.Nat.{ℕ, _+_, _≤_, _<_}
 use native.Mathlib.Omega.{arith}
 use lib.ListN.{length, take, getD, set, length-append, length-map}
-use lib.Seq.{take-all, take-nil, take-append-le, append-snoc}
+use lib.Seq.{take-all, take-nil, take-append-le, append-snoc, length-take-le}
 use Rattle.woot.specs.declared.Character.{Character}
 use Rattle.woot.specs.declared.Pending.{Pending}
 use Rattle.lists.specs.Lists.{every}
 use Rattle.woot.specs.State.{characterSlots, pendingSlots, blankCharacter, blankPending, slotOf}
 use Rattle.lists.specs.Padding.{pad}
-use Rattle.lists.proofs.Tests.{either}
+use Rattle.lists.proofs.Tests.{either, side}
 use Rattle.lists.proofs.Members.{every-append}
-use Rattle.lists.proofs.Padding.{pad-push}
+use Rattle.lists.proofs.Padding.{pad-push, pad-take, pad-length}
 use Rattle.lines.specs.Lines.{ended, firstLine, rest, lines, closed, leading}
 use Rattle.lines.specs.Fields.{hasLayout}
 use Rattle.codec.specs.Operations.{isInsert, isDelete}
@@ -28,6 +28,20 @@ use Rattle.saved.specs.Format.{isCharacter, isOperation}
 use Rattle.saved.specs.Reading.{characterRead, operationRead, lineCharacter, characterPasses, charactersRead, linePending, operationPasses, noOperations, operationsRead}
 use Rattle.saved.proofs.Judging.{character-laid, operation-laid}
 use Rattle.lines.proofs.Lines.{lines-ended, lines-unended, lines-rest, closed-rest, closed-unended, rest-shorter, head-first}
+
+-- what the slots hold of a list, however long it is
+pub slots-used : {A : Type 0} (m : ℕ) (z : A) (xs : List A) → take (length xs) (pad m z (take m xs)) ≡ take m xs
+slots-used m z xs = ⊎-elim short long (side (length xs) m)
+  where
+    short : length xs ≤ m → take (length xs) (pad m z (take m xs)) ≡ take m xs
+    short h = rw (take-all m xs h) (pad-take m z xs (length xs) refl)
+
+    long : m < length xs → take (length xs) (pad m z (take m xs)) ≡ take m xs
+    long h =
+        let held = pad m z (take m xs) in
+        let full : length (take m xs) ≡ m = length-take-le m xs (omega arith) in
+        let size = pad-length m z (take m xs) (omega arith) in
+        take-all (length xs) held (omega arith) ∙ sym (take-all m held (omega arith)) ∙ pad-take m z (take m xs) m full
 
 -- ---- the array
 

@@ -10,6 +10,7 @@ use borrow.Author.Tests.{leb-true, leb-false}
 use Rattle.woot.specs.State.{State, characterSlots, pendingSlots, slotOf, meaning, documentOf, stored, counted}
 use Rattle.woot.specs.Form.{wellFormed, replicaWellFormed}
 use Rattle.lists.proofs.Tests.{fails, and-left, and-right}
+use Rattle.storage.proofs.Stored.{form-counted}
 use Rattle.replica.proofs.Runs.{Within, formed-within, form-stored, meaning-stored}
 use Rattle.saved.specs.Calls.{held}
 use Rattle.saved.specs.Theorems.{HeldForm}
@@ -21,8 +22,8 @@ module _ (s : State) where
       rw (take-all characterSlots (s .characters) (w .characters-fit), take-all pendingSlots (map slotOf (s .pending)) (omega (arith, length-map (s .pending) slotOf, w .pending-fit)))
 
   not-counted : (Within s → ⊥) → replicaWellFormed (held s) ≡ false
-  unfolding replicaWellFormed counted held
-  not-counted h = fails (replicaWellFormed (held s)) (λ p. h (fit (and-left (counted (held s)) _ p)))
+  unfolding counted held
+  not-counted h = fails (replicaWellFormed (held s)) (λ p. h (fit (form-counted (held s) p)))
     where
       fit : counted (held s) ≡ true → Within s
       fit q =

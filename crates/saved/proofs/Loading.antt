@@ -26,7 +26,9 @@ use Rattle.saved.specs.Calls.{unread, held, readingChecks, savedRead, lo
 use Rattle.saved.specs.Reading.{siteRead, lineCharacter, characterPasses, charactersRead, linePending, operationPasses, noOperations, operationsRead, replicaOf}
 use Rattle.saved.proofs.Judging.{site-laid, site-passes, site-says, character-passes, character-says, operation-passes, operation-says}
 use Rattle.lines.proofs.Lines.{apart, trailing-drop, lines-rest, closed-rest}
-use Rattle.saved.proofs.Gathering.{is-ended}
+use Rattle.woot.specs.declared.Character.{Character}
+use Rattle.woot.specs.Table.{keys, tableOf}
+use Rattle.saved.proofs.Gathering.{is-ended, slots-used}
 use Rattle.saved.proofs.Trips.{no-site, every-leading}
 use Rattle.saved.proofs.Held.{held-form}
 use Rattle.saved.proofs.Refusals.{load-layout, load-range, load-form, load-done}
@@ -220,7 +222,7 @@ module _ (s : List ℕ) (first : SiteLine) (f : first ≡ siteRead (getD (lines 
                 answer = Done;
                 replica = record {
                   site = site j;
-                  document = record { characters = characters j; length = count j; pending = pending j; waiting = fewer j };
+                  document = record { characters = characters j; length = count j; pending = pending j; waiting = fewer j; table = table j };
                 };
               })
               ∙ sym (read-done s laid ranges)
@@ -233,6 +235,9 @@ module _ (s : List ℕ) (first : SiteLine) (f : first ≡ siteRead (getD (lines 
 
               count : cs .count ≡ length (map characterSaid (characterLines s))
               count = ap (λ x. x .count) read-characters ∙ sym (length-map (characterLines s) characterSaid)
+
+              table : tableOf (keys (take (cs .count) (cs .items))) ≡ tableOf (keys (take characterSlots (map characterSaid (characterLines s))))
+              table = rw (characters, count) (ap (λ (xs : List Character). tableOf (keys xs)) (slots-used characterSlots blankCharacter (map characterSaid (characterLines s))))
 
               pending : ps .items ≡ pad pendingSlots blankPending (take pendingSlots (map slotOf (map operationSaid (operationLines s))))
               pending = ap (λ x. x .items) read-operations ∙ rw operations-said

@@ -10,6 +10,7 @@ use Rattle.woot.specs.declared.Refusal.the-variants.{Layout, Range, Form}
 use Rattle.woot.specs.declared.Written.{Written}
 use Rattle.woot.specs.declared.Written.the-variants.{Refused as writtenRefused}
 use Rattle.woot.specs.State.{State, characterSlots, pendingSlots, slotOf, blankCharacter, blankPending, initial, meaning, stored}
+use Rattle.woot.specs.Table.{keys, tableOf}
 use Rattle.lists.specs.Padding.{pad}
 use Rattle.woot.specs.Form.{wellFormed, replicaWellFormed}
 use Rattle.woot.specs.Answers.{Check, _⇒_, first, decided, number}
@@ -40,7 +41,7 @@ unread a = record { answer = a; replica = noReplica }
 unfoldable pub loaded : List ℕ → Loaded
 loaded s = decided unread (first (loadChecks s)) (record { answer = Done; replica = stored (savedState s) })
 
--- a state as the arrays hold it, as far as they have slots, with the state's own counts
+-- a state as the arrays hold it, as far as they have slots, with the state's own counts, and the table of what they hold
 unfoldable pub held : State → Replica
 held s =
     record {
@@ -50,6 +51,7 @@ held s =
         length = length (s .characters);
         pending = pad pendingSlots blankPending (take pendingSlots (map slotOf (s .pending)));
         waiting = length (s .pending);
+        table = tableOf (keys (take characterSlots (s .characters)));
       };
     }
 

@@ -12,6 +12,7 @@ use Rattle.woot.specs.declared.Replica.{Replica}
 use Rattle.lists.specs.Lists.{every}
 use Rattle.woot.specs.Ranges.{siteInRange, characterInRange, inRange}
 use Rattle.woot.specs.State.{characterSlots, pendingSlots, slotOf, blankCharacter, blankPending}
+use Rattle.woot.specs.Table.{keys, tableOf}
 use Rattle.lists.specs.Padding.{pad}
 use Rattle.saved.specs.declared.reading.Judged.{Judged}
 use Rattle.saved.specs.declared.reading.SiteLine.{SiteLine}
@@ -99,5 +100,11 @@ unfoldable pub replicaOf : Site → Characters → Operations → Replica
 replicaOf site cs ps =
     record {
       site = site;
-      document = record { characters = cs .items; length = cs .count; pending = ps .items; waiting = ps .count };
+      document = record {
+        characters = cs .items;
+        length = cs .count;
+        pending = ps .items;
+        waiting = ps .count;
+        table = tableOf (keys (take (cs .count) (cs .items)));
+      };
     }

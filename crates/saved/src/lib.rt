@@ -44,17 +44,19 @@ fn refuse(reason: Refusal) -> Loaded
     }
 }
 
-// The replica of what was read.
+// The replica of what was read, with the table of its characters.
 fn assemble(site: Site, characters: Characters, operations: Operations) -> Replica
     ensures { λ r. ⌜ r ≡ replicaOf site characters operations ⌝ }
 {
     let items = characters.items;
     let pending = operations.items;
+    let table = index::table_of(items, characters.count);
     let document = Document {
         characters: items,
         length: characters.count,
         pending,
         waiting: operations.count,
+        table,
     };
     Replica { site, document }
 }

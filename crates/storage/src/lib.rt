@@ -5,16 +5,20 @@ use woot::Delete;
 use woot::Document;
 use woot::Operation;
 use woot::Replica;
+use woot::Table;
 ghost use mathlib.Core.Path.{_≡_};
 ghost use mathlib.Core.Bool.{true};
 ghost use Prim.Native.Nat.{_<_};
+ghost use Rattle.woot.specs.Table.{keys, tableOf};
 ghost use Rattle.woot.specs.State.{meaning, stored, counted};
 ghost use Rattle.woot.specs.Placing.{integrateDelete};
 ghost use Rattle.woot.specs.Calls.{withCharacters, withPending};
 
-// The replica with the target of a delete hidden. A step of the calls and not a call: they have checked the counts.
-pub fn hidden(replica: Replica, delete: Delete) -> Replica
+// The replica with the target of a delete hidden, and the table of its characters. A step of the calls and not a call:
+// they have checked the counts, and made the table.
+pub fn hidden(replica: Replica, table: Table, delete: Delete) -> Replica
     requires { ⌜ counted replica ≡ true ⌝ }
+    requires { ⌜ table ≡ tableOf (keys (meaning replica .characters)) ⌝ }
     ensures { λ r. ⌜ r
         ≡ stored (withCharacters (meaning replica) (integrateDelete (meaning replica .characters) delete)) ⌝ }
 {
@@ -29,14 +33,16 @@ pub fn hidden(replica: Replica, delete: Delete) -> Replica
         length: d.length,
         pending,
         waiting: d.waiting,
+        table,
     };
     Replica { site, document }
 }
 
-// The replica with one operation more at the end of the pending ones. A step of the calls and not a call: they have
-// checked the counts, and that there is a slot.
-pub fn deferred(replica: Replica, operation: Operation) -> Replica
+// The replica with one operation more at the end of the pending ones, and the table of its characters. A step of the
+// calls and not a call: they have checked the counts and that there is a slot, and made the table.
+pub fn deferred(replica: Replica, table: Table, operation: Operation) -> Replica
     requires { ⌜ counted replica ≡ true ⌝ }
+    requires { ⌜ table ≡ tableOf (keys (meaning replica .characters)) ⌝ }
     requires { ⌜ replica .document .waiting < 512 ⌝ }
     ensures { λ r. ⌜ r ≡ stored (withPending (meaning replica) operation) ⌝ }
 {
@@ -51,6 +57,7 @@ pub fn deferred(replica: Replica, operation: Operation) -> Replica
         length: d.length,
         pending,
         waiting: d.waiting + 1,
+        table,
     };
     Replica { site, document }
 }

@@ -1,16 +1,16 @@
 -- What the check answers, by how its tests come out.
 use Prim.Native.Nat.{_≤_}
 use native.Mathlib.Omega.{arith}
-use mathlib.Core.Path.{_≡_, refl, _∙_}
-use mathlib.Core.Bool.{Bool, true, false, _&&_, cond}
+use mathlib.Core.Path.{_≡_, refl, ap, _∙_}
+use mathlib.Core.Bool.{Bool, true, false, _&&_, cond, and-true, and-false as and-no}
 use mathlib.Core.Logic.{⊎-elim}
 use borrow.Author.Tests.{leb-true}
-use lib.Dec.{leb}
+use lib.Dec.{leb, eqb}
 use lib.ListN.{length, take, length-map}
 use lib.Seq.{length-take-le}
 use Rattle.woot.specs.declared.Pending.{Pending}
 use Rattle.woot.specs.declared.Replica.{Replica}
-use Rattle.woot.specs.State.{State, meaning, counted, characterSlots, pendingSlots}
+use Rattle.woot.specs.State.{State, meaning, counted, tableAgrees, characterSlots, pendingSlots}
 use Rattle.woot.specs.Form.{allInRange, wellFormed, replicaWellFormed}
 use Rattle.lists.proofs.Tests.{either, and-left, and-right, and-false}
 use Rattle.index.specs.declared.Index.{Index}
@@ -19,7 +19,10 @@ use Rattle.well_formed.specs.declared.Checked.{Checked}
 use Rattle.index.specs.Index.{indexOf}
 use Rattle.storage.specs.Edit.{operations}
 use Rattle.pending.specs.Queue.{queueOf}
-use Rattle.well_formed.specs.Form.{charactersFormed, pendingFormed, rangesKept, formedWith, unformed, checked}
+use Rattle.well_formed.specs.Form.{charactersFormed, placesOrdered, pendingFormed, rangesKept, formedWith, unformed, checked}
+use Rattle.lists.specs.Lists.{distinct}
+use Rattle.woot.specs.Table.{keys}
+use Rattle.index.proofs.Agreement.{agreeing-apart}
 use Rattle.index.proofs.Indexes.{index-ids, index-above, index-below}
 use Rattle.pending.proofs.Queues.{queue-own, queue-first, queue-second, queue-senders}
 use Rattle.well_formed.proofs.Conditions.{conditions}
@@ -28,6 +31,15 @@ pub formed-path : (s : State) {x : Index} {q : Queue} → x ≡ indexOf (s .char
     → _≡_ {A = Checked} (record { formed = true; index = x; queue = q }) (formedWith s)
 unfolding formedWith
 formed-path s e f = λ i. record { formed = true; index = e i; queue = f i }
+
+-- a table that agrees has no key twice
+pub apart : (r : Replica) → tableAgrees r ≡ true → distinct eqb (keys (meaning r .characters)) ≡ true
+unfolding tableAgrees
+apart r h = agreeing-apart (r .document .table) (keys (meaning r .characters)) h
+
+settled : (d o q t : Bool) → (t ≡ true → d ≡ true) → (d && o) && q && t ≡ t && (o && q)
+settled d o q true h = rw (h refl) (and-true (o && q))
+settled d o q false h = and-no ((d && o) && q)
 
 module _ (r : Replica) where
   pub checked-false : replicaWellFormed r ≡ false → checked r ≡ unformed
@@ -48,8 +60,7 @@ module _ (r : Replica) where
 
   -- the tests of what is packed, in the slots in use
   abbrev pub indexFormed : Index → Bool
-  indexFormed x =
-      charactersFormed (take (r .document .length) (x .ids)) (take (r .document .length) (x .above)) (take (r .document .length) (x .below))
+  indexFormed x = placesOrdered (take (r .document .length) (x .above)) (take (r .document .length) (x .below))
 
   abbrev pub queueFormed : Index → Queue → Bool
   queueFormed x q =
@@ -79,8 +90,8 @@ module _ (r : Replica) where
 
     module _ (slots : length (r .document .characters) ≡ characterSlots) (pending-slots : length (r .document .pending) ≡ pendingSlots) where
       pub in-range : (x : Index) (q : Queue) → x ≡ indexOf (meaning r .characters) → q ≡ queueOf (meaning r .pending)
-          → replicaWellFormed r ≡ indexFormed x && queueFormed x q
-      unfolding replicaWellFormed meaning rangesKept
+          → replicaWellFormed r ≡ tableAgrees r && (indexFormed x && queueFormed x q)
+      unfolding replicaWellFormed meaning rangesKept charactersFormed
       in-range x q e f =
           let cs = take (r .document .length) (r .document .characters) in
           let os = operations (take (r .document .waiting) (r .document .pending)) in
@@ -89,4 +100,4 @@ module _ (r : Replica) where
           length-map (take (r .document .waiting) (r .document .pending)) (λ (p : Pending). p .operation) ∙ length-take-le _ _ (omega (arith, few-pending))
           in
           rw (e, f, counts, index-ids cs _ n, index-above cs _ n, index-below cs _ n, queue-own os _ w, queue-first os _ w, queue-second os _ w, queue-senders os _ w)
-          (conditions (meaning r) (and-right (counted r) (allInRange (meaning r)) ranges))
+          (ap (λ (b : Bool). b && tableAgrees r) (conditions (meaning r) (and-right (counted r) (allInRange (meaning r)) ranges)) ∙ settled (distinct eqb (keys cs)) _ _ (tableAgrees r) (apart r))

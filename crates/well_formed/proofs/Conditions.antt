@@ -36,13 +36,14 @@ use Rattle.convergence.proofs.Soundness.{inserts-same, deletes-extract, deletes
 use Rattle.convergence.proofs.Steps.{any-deletes}
 use Rattle.index.specs.declared.Found.{Found}
 use Rattle.index.specs.declared.Found.the-variants.{At, Nothing}
-use Rattle.index.specs.Keys.{key, Small, AllSmall, keys, indexIn, placeIn, further, firstIndex}
+use Rattle.woot.specs.Table.{key, keys}
+use Rattle.index.specs.Keys.{Small, AllSmall, indexIn, placeIn, further, firstIndex}
 use Rattle.index.specs.Packing.{previousPlaces, nextPlaces}
 use Rattle.index.proofs.Keys.{key-same, character-small, all-range-small}
-use Rattle.index.proofs.Indices.{index-later as key-later}
+use Rattle.index.proofs.Indices.{index-later as key-later, distinct-keys}
 use Rattle.pending.specs.Queue.{ownKey, firstKey, secondKey, hasDelete}
 use Rattle.pending.specs.Ready.{heldIn}
-use Rattle.well_formed.specs.Form.{charactersFormed, pendingFormed, sharesIn, roomKept, unheldKey, newAt, keysDistinct, freeAt, keysNew, freshAt, noneRepeated, orderedAt, placesOrdered, nothing, noneReady}
+use Rattle.well_formed.specs.Form.{charactersFormed, pendingFormed, sharesIn, roomKept, unheldKey, newAt, freeAt, keysNew, freshAt, noneRepeated, orderedAt, placesOrdered, nothing, noneReady}
 use Rattle.lists.specs.Lists.{throughout}
 use Rattle.lists.proofs.Throughout.{throughout-cong}
 use Rattle.well_formed.proofs.Throughout.{every-throughout, elementAt, take-member, take-map, map-getD, grown}
@@ -133,15 +134,8 @@ module _ (cs : List Character) (ranges : every characterInRange cs ≡ true) whe
   unfolding characterInRange origin
   id-in-range i h = in-range (origin (at i)) (every-member characterInRange ranges (get-member cs i blankCharacter h)) .id
 
-  pub characters-distinct : distinct same (identifiers cs) ≡ keysDistinct (keys cs)
-  characters-distinct =
-      grown (λ ds. distinct same (identifiers ds)) (newAt (keys cs)) cs blankCharacter step
-      ∙ ap (throughout (newAt (keys cs))) (sym (length-map cs (λ (c : Character). key (c .id))))
-    where
-      step : (i : ℕ) → i < length cs → distinct same (identifiers (take i cs ++ at i ∷ [])) ≡ distinct same (identifiers (take i cs)) && newAt (keys cs) i
-      step i h =
-          rw (take-map (λ (c : Character). key (c .id)) i cs, map-getD (λ (c : Character). key (c .id)) cs i 0 blankCharacter h, unheld-characters (at i .id) (id-in-range i h) (take i cs) (λ c m. all-small c (take-member i cs m)))
-          (distinct-one same same-sym (extract-map (λ (c : Character). c .id) (extract-last (at i) (take i cs))))
+  pub characters-distinct : distinct same (identifiers cs) ≡ distinct eqb (keys cs)
+  characters-distinct = sym (distinct-keys cs all-small)
 
   module _ (apart : distinct same (identifiers cs) ≡ true) where
     own-place : (i : ℕ) → i < length cs → placeOf cs (at i .id) ≡ i + 1
@@ -230,7 +224,7 @@ module _ (os : List Operation) (ranges : every inRange os ≡ true) where
           (delete-step (take j os) (operationAt j) (keyed-before j) (keyed (operationAt j) (member j h)))
 
   module _ (cs : List Character) (character-ranges : every characterInRange cs ≡ true) where
-    pub ids-distinct : distinct same (identifiers cs ++ pendingIds os) ≡ keysDistinct (keys cs) && keysNew (keys cs) (map ownKey os)
+    pub ids-distinct : distinct same (identifiers cs ++ pendingIds os) ≡ distinct eqb (keys cs) && keysNew (keys cs) (map ownKey os)
     unfolding freeAt
     ids-distinct =
         grown (λ ps. distinct same (identifiers cs ++ pendingIds ps)) (freeAt (keys cs) (map ownKey os)) os (blankPending .operation) step
@@ -281,7 +275,7 @@ module _ (s : State) (ranges : allInRange s ≡ true) where
       let os = s .pending in
       let own = map ownKey os in
       rw (ranges, shares, room, known-ids s, ids-distinct os (parts .2) cs (parts .1), deletes-once os (parts .2), none-executable os (parts .2) cs (parts .1))
-      (arranged (sharesIn (map sender os)) (roomKept (keys cs) own) (keysDistinct (keys cs)) (keysNew (keys cs) own)
+      (arranged (sharesIn (map sender os)) (roomKept (keys cs) own) (distinct eqb (keys cs)) (keysNew (keys cs) own)
       (noneRepeated own (map firstKey os) (map sender os))
       (every (ordered cs) cs)
       (placesOrdered (previousPlaces cs) (nextPlaces cs))

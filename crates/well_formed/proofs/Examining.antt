@@ -22,7 +22,8 @@ use Rattle.convergence.proofs.Identifiers.{eq-same}
 use Rattle.lists.proofs.Tests.{or-false}
 use Rattle.convergence.proofs.Forms.{Formed, formed, known-ids, known-length}
 use Rattle.convergence.proofs.Steps.{any-map}
-use Rattle.index.specs.Keys.{key, AllSmall, keys, found}
+use Rattle.woot.specs.Table.{key, keys, tableOf}
+use Rattle.index.specs.Keys.{AllSmall, found}
 use Rattle.index.proofs.Keys.{character-small, all-range-small}
 use Rattle.index.specs.declared.Index.{Index}
 use Rattle.pending.specs.declared.queue.Queue.{Queue}
@@ -37,7 +38,9 @@ use Rattle.well_formed.specs.Form.{formedWith, checked}
 use Rattle.well_formed.specs.Examined.{Examined}
 use Rattle.well_formed.proofs.Checks.{checked-true, checked-formed}
 use Rattle.storage.proofs.Fullness.{FullDocument}
-use Rattle.index.proofs.Indexes.{index-ids}
+use Rattle.index.specs.Tabled.{Tabled}
+use Rattle.index.proofs.Indexes.{index-ids, index-table}
+use Rattle.index.proofs.Sound.{sound-tabled, index-tabled}
 use Rattle.pending.proofs.Queues.{queue-own, queue-first, queue-senders}
 use Rattle.pending.proofs.Pending.{AllKeyed, all-keyed, positive-key, count-senders, count-own}
 use Rattle.pending.proofs.Holders.{CharacterAt, Stands, stands, Holds, holds}
@@ -93,6 +96,15 @@ module _ (r : Replica) (k : Checked) (e : k ≡ checked r) where
 -- ---- with all that was packed
 
 module _ (r : Replica) (x : Index) (q : Queue) (full : FullDocument (r .document)) (e : Examined r x q) where
+  -- the table in the index
+  pub examined-table : x .table ≡ tableOf (keys (meaning r .characters))
+  examined-table = rw (e .index) (index-table (meaning r .characters) (r .document .length) (character-count r full (few r (e .form))))
+
+  pub examined-tabled : Tabled (x .table) (take (r .document .length) (x .ids))
+  examined-tabled =
+      index-tabled (meaning r .characters) (r .document .length) (e .index) (character-count r full (few r (e .form)))
+      (sound-tabled (form r (e .form) .sound))
+
   -- ---- who has an identifier
 
   module _ (id : Identifier) (ranged : characterId id ≡ true) where

@@ -1,4 +1,5 @@
 pub mod Throughout
+pub mod Seen
 pub mod Conditions
 pub mod Checks
 pub mod Examining

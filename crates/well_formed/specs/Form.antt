@@ -6,7 +6,7 @@ use lib.Dec.{leb, ltb, eqb}
 use lib.ListN.{length, take, getD}
 use Rattle.woot.specs.declared.Replica.{Replica}
 use Rattle.woot.specs.Limits.{lastSite, capacity, share}
-use Rattle.lists.specs.Lists.{every, keep, throughout}
+use Rattle.lists.specs.Lists.{every, keep, distinct, throughout}
 use Rattle.woot.specs.State.{State, meaning, counted}
 use Rattle.woot.specs.Form.{countdown, allInRange, replicaWellFormed}
 use Rattle.index.specs.declared.Found.{Found}
@@ -34,9 +34,6 @@ unheldKey ks k = eqb k 0 || not (heldIn ks k)
 -- the key with index i is not among those before it
 abbrev pub newAt : List ℕ → ℕ → Bool
 newAt ks i = unheldKey (take i ks) (getD ks i 0)
-
-abbrev pub keysDistinct : List ℕ → Bool
-keysDistinct ks = throughout (newAt ks) (length ks)
 
 -- the key with index j is neither among the characters' nor among those before it
 unfoldable pub freeAt : List ℕ → List ℕ → ℕ → Bool
@@ -71,7 +68,7 @@ noneReady ids first second = nothing (readyIn ids first second)
 
 -- the conditions on the characters alone, but for the ranges
 unfoldable pub charactersFormed : List ℕ → List ℕ → List ℕ → Bool
-charactersFormed ids above below = keysDistinct ids && placesOrdered above below
+charactersFormed ids above below = distinct eqb ids && placesOrdered above below
 
 -- the conditions on the pending operations, but for the ranges
 unfoldable pub pendingFormed : List ℕ → List ℕ → List ℕ → List ℕ → List ℕ → Bool

@@ -1,21 +1,25 @@
 // The check of a replica's form. The ranges are checked first, on the arrays; then every number is small and no
-// character has a mark's identifier, and the other conditions are checked on what is packed.
+// character has a mark's identifier, and the other conditions are checked on what is packed. Once the replica's table is
+// seen to agree with the keys, no key stands twice, and every other key is found by a table.
 use index::Found;
 use index::Index;
+use index::table;
 use pending::queue;
 use pending::queue::Queue;
 use pending::ready;
 use woot::Character;
 use woot::Pending;
 use woot::Replica;
+use woot::Table;
 ghost use mathlib.Core.Path.{_≡_};
 ghost use Prim.Native.Nat.{_≤_, _<_};
 ghost use lib.ListN.{length, take};
 ghost use Rattle.lists.specs.Lists.{every};
 ghost use Rattle.woot.specs.Ranges.{characterInRange, inRange};
 ghost use Rattle.storage.specs.Edit.{operations};
-ghost use Rattle.well_formed.specs.Form.{sharesIn, keysDistinct, unheldKey, keysNew, freshAt, noneRepeated};
-ghost use Rattle.well_formed.specs.Form.{placesOrdered, noneReady, charactersFormed, pendingFormed};
+ghost use Rattle.well_formed.specs.Form.{sharesIn, unheldKey, keysNew, freshAt, noneRepeated};
+ghost use Rattle.well_formed.specs.Form.{placesOrdered, noneReady, pendingFormed};
+ghost use Rattle.index.specs.Tabled.{Tabled};
 ghost use Rattle.well_formed.specs.Form.{rangesKept, unformed, checked};
 
 // Whether refusal 2 would let the first n characters pass.
@@ -65,41 +69,45 @@ fn shares_kept(senders: &[u8]) -> bool
     true
 }
 
-// Whether a key is a delete's, or is not among the others.
-fn unheld(ids: &[u32], key: u32) -> bool
+// Whether a key is a delete's, or is not among those of the characters nor a mark's.
+fn unheld<'a>(heads: &'a [u16], links: &'a [u16], ids: &'a [u32], key: u32) -> bool
+    requires { ⌜ Tabled (record { heads = now heads; links = now links }) (now ids) ⌝ }
     ensures { λ r. ⌜ r ≡ unheldKey (now (ids .entry)) key ⌝ }
 {
     if key == 0 {
         return true;
     }
-    !ready::is_held(ids, key)
+    !ready::is_held(heads, links, ids, key)
 }
 
-// Whether no key but 0 occurs twice.
-fn keys_distinct(keys: &[u32]) -> bool
-    ensures { λ r. ⌜ r ≡ keysDistinct (now (keys .entry)) ⌝ }
+// The same among keys that have no table.
+fn unseen(keys: &[u32], key: u32) -> bool
+    ensures { λ r. ⌜ r ≡ unheldKey (now (keys .entry)) key ⌝ }
 {
-    let mut i = 0;
-    while i < keys.len() {
-        if !unheld(&keys[..i], keys[i]) {
-            return false;
-        }
-        i += 1;
+    if key == 0 {
+        return true;
     }
-    true
+    if key == 1 {
+        return false;
+    }
+    match index::find(keys, key) {
+        Found::At(_) => false,
+        Found::Nothing => true,
+    }
 }
 
 // Whether no pending insert's key is a character's or an earlier one's.
-fn keys_new(ids: &[u32], own: &[u32]) -> bool
+fn keys_new<'a>(heads: &'a [u16], links: &'a [u16], ids: &'a [u32], own: &'a [u32]) -> bool
+    requires { ⌜ Tabled (record { heads = now heads; links = now links }) (now ids) ⌝ }
     ensures { λ r. ⌜ r ≡ keysNew (now (ids .entry)) (now (own .entry)) ⌝ }
 {
     let mut j = 0;
     while j < own.len() {
         let key = own[j];
-        if !unheld(ids, key) {
+        if !unheld(heads, links, ids, key) {
             return false;
         }
-        if !unheld(&own[..j], key) {
+        if !unseen(&own[..j], key) {
             return false;
         }
         j += 1;
@@ -159,40 +167,45 @@ fn places_ordered<'a>(above: &'a [u16], below: &'a [u16]) -> bool
     true
 }
 
+// The same of the first n of them.
+fn ordered_among<'a>(above: &'a [u16], below: &'a [u16], n: usize) -> bool
+    requires { ⌜ n ≤ length (now above) ⌝ }
+    requires { ⌜ n ≤ length (now below) ⌝ }
+    ensures { λ r. ⌜ r ≡ placesOrdered (take n (now (above .entry))) (take n (now (below .entry))) ⌝ }
+{
+    places_ordered(&above[..n], &below[..n])
+}
+
 // Whether no pending operation has all that it needs.
-fn none_ready<'a>(ids: &'a [u32], first: &'a [u32], second: &'a [u32]) -> bool
+fn none_ready<'a>(
+    heads: &'a [u16],
+    links: &'a [u16],
+    ids: &'a [u32],
+    first: &'a [u32],
+    second: &'a [u32],
+) -> bool
+    requires { ⌜ Tabled (record { heads = now heads; links = now links }) (now ids) ⌝ }
     requires { ⌜ length (now second) ≡ length (now first) ⌝ }
     ensures { λ r. ⌜ r ≡ noneReady (now (ids .entry)) (now (first .entry)) (now (second .entry)) ⌝ }
 {
-    let found = ready::ready(ids, first, second);
+    let found = ready::ready(heads, links, ids, first, second);
     match found {
         Found::At(_) => false,
         Found::Nothing => true,
     }
 }
 
-// The conditions of form on the characters alone, but for their ranges.
-fn characters_formed(index: Index, n: usize) -> bool
-    requires { ⌜ n ≤ 1024 ⌝ }
-    ensures { λ r. ⌜ r ≡ charactersFormed (take n (index .ids)) (take n (index .above)) (take n (index .below)) ⌝ }
-{
-    let ids = index.ids;
-    let above = index.above;
-    let below = index.below;
-    if !keys_distinct(&ids[..n]) {
-        return false;
-    }
-    places_ordered(&above[..n], &below[..n])
-}
-
 // The conditions of form on the pending operations, but for their ranges.
 fn pending_formed<'a>(
+    heads: &'a [u16],
+    links: &'a [u16],
     ids: &'a [u32],
     own: &'a [u32],
     first: &'a [u32],
     second: &'a [u32],
     senders: &'a [u8],
 ) -> bool
+    requires { ⌜ Tabled (record { heads = now heads; links = now links }) (now ids) ⌝ }
     requires { ⌜ length (now first) ≡ length (now own) ⌝ }
     requires { ⌜ length (now second) ≡ length (now own) ⌝ }
     requires { ⌜ length (now senders) ≡ length (now own) ⌝ }
@@ -206,28 +219,40 @@ fn pending_formed<'a>(
     if 1024 < ids.len() + queue::count_inserts(own) {
         return false;
     }
-    if !keys_new(ids, own) {
+    if !keys_new(heads, links, ids, own) {
         return false;
     }
     if !none_repeated(own, first, senders) {
         return false;
     }
-    none_ready(ids, first, second)
+    none_ready(heads, links, ids, first, second)
 }
 
-// The same of the first w pending operations, with the first n characters.
-fn queue_formed(ids: [u32; 1024], n: usize, queue: Queue, w: usize) -> bool
-    requires { ⌜ n ≤ 1024 ⌝ }
-    requires { ⌜ w ≤ 512 ⌝ }
+// The same of w pending operations, with n characters.
+fn queue_formed<'a>(
+    heads: &'a [u16],
+    links: &'a [u16],
+    ids: &'a [u32],
+    n: usize,
+    own: &'a [u32],
+    first: &'a [u32],
+    second: &'a [u32],
+    senders: &'a [u8],
+    w: usize,
+) -> bool
+    requires { ⌜ n ≤ length (now ids) ⌝ }
+    requires { ⌜ w ≤ length (now own) ⌝ }
+    requires { ⌜ w ≤ length (now first) ⌝ }
+    requires { ⌜ w ≤ length (now second) ⌝ }
+    requires { ⌜ w ≤ length (now senders) ⌝ }
+    requires { ⌜ Tabled (record { heads = now heads; links = now links }) (take n (now ids)) ⌝ }
     ensures { λ r. ⌜ r
-        ≡ pendingFormed (take n ids) (take w (queue .own)) (take w (queue .first)) (take w (queue .second))
-        (take w (queue .senders)) ⌝ }
+        ≡ pendingFormed (take n (now (ids .entry))) (take w (now (own .entry))) (take w (now (first .entry)))
+        (take w (now (second .entry))) (take w (now (senders .entry))) ⌝ }
 {
-    let own = queue.own;
-    let first = queue.first;
-    let second = queue.second;
-    let senders = queue.senders;
     pending_formed(
+        heads,
+        links,
         &ids[..n],
         &own[..w],
         &first[..w],
@@ -278,6 +303,10 @@ fn unformed() -> Checked
             ids: [0u32; 1024],
             above: [0u16; 1024],
             below: [0u16; 1024],
+            table: Table {
+                heads: [0u16; 2048],
+                links: [0u16; 1024],
+            },
         },
         queue: Queue {
             own: [0u32; 512],
@@ -299,14 +328,27 @@ pub fn check(replica: Replica) -> Checked
     let n = d.length;
     let w = d.waiting;
     let cs = d.characters;
-    let index = index::index_of(cs, n);
-    if !characters_formed(index, n) {
+    let keys = index::keys_of(cs, n);
+    if !table::agrees_among(&d.table.heads, &d.table.links, &keys.ids, n) {
         return unformed();
     }
-    let ids = index.ids;
+    let index = index::index_of(keys, n);
+    if !ordered_among(&index.above, &index.below, n) {
+        return unformed();
+    }
     let ps = d.pending;
     let queue = queue::queue_of(ps, w);
-    if !queue_formed(ids, n, queue, w) {
+    if !queue_formed(
+        &index.table.heads,
+        &index.table.links,
+        &index.ids,
+        n,
+        &queue.own,
+        &queue.first,
+        &queue.second,
+        &queue.senders,
+        w,
+    ) {
         return unformed();
     }
     Checked {

@@ -11,7 +11,7 @@ use Rattle.woot.specs.Limits.{lastSite, capacity, share}
 use Rattle.woot.specs.Identifiers.{same}
 use Rattle.woot.specs.Operations.{origin, inserts, deletes, sameDelete}
 use Rattle.woot.specs.Ranges.{siteInRange, characterInRange, inRange}
-use Rattle.woot.specs.State.{State, meaning, counted}
+use Rattle.woot.specs.State.{State, meaning, counted, tableAgrees}
 use Rattle.woot.specs.Placing.{above}
 use Rattle.woot.specs.Pending.{executable, pendingFrom}
 use Rattle.lists.specs.Lists.{any, every, distinct}
@@ -64,6 +64,7 @@ wellFormed s =
     && neighboursOrdered s
     && noneExecutable s
 
--- a replica is in form when its counts are within its arrays and its meaning is in form
+-- a replica is in form when its counts are within its arrays, its meaning is in form and, as document 02 adds, its table
+-- agrees: "the form gains that it agrees"
 unfoldable pub replicaWellFormed : Replica → Bool
-replicaWellFormed r = counted r && wellFormed (meaning r)
+replicaWellFormed r = counted r && wellFormed (meaning r) && tableAgrees r

@@ -13,6 +13,7 @@ use Rattle.woot.specs.declared.Document.{Document}
 use Rattle.woot.specs.declared.Replica.{Replica}
 use Rattle.woot.specs.Identifiers.{begin}
 use Rattle.lists.specs.Padding.{pad}
+use Rattle.woot.specs.Table.{keys, agrees, tableOf}
 
 -- characters from the top, pending operations earliest first
 pub record State : Type 0 where
@@ -50,7 +51,7 @@ meaning r =
       pending = map (λ p. p .operation) (take (r .document .waiting) (r .document .pending));
     }
 
--- the document that holds two lists, determined to the last slot
+-- the document that holds two lists, determined to the last slot, and the table of its characters
 unfoldable pub documentOf : List Character → List Operation → Document
 documentOf cs ps =
     record {
@@ -58,6 +59,7 @@ documentOf cs ps =
       length = length cs;
       pending = pad pendingSlots blankPending (map slotOf ps);
       waiting = length ps;
+      table = tableOf (keys cs);
     }
 
 -- the replica that holds a state
@@ -67,3 +69,7 @@ stored s = record { site = s .site; document = documentOf (s .characters) (s .pe
 -- the counts are within the arrays
 unfoldable pub counted : Replica → Bool
 counted r = leb (r .document .length) characterSlots && leb (r .document .waiting) pendingSlots
+
+-- the table finds each character at its own place
+unfoldable pub tableAgrees : Replica → Bool
+tableAgrees r = agrees (r .document .table) (keys (meaning r .characters))

@@ -1,13 +1,25 @@
 -- The table by which a character is found through its identifier, on keys, which are identifiers as numbers. (Document 02,
 -- Req 12: "a table through which receiving finds a row by identifier".)
-use Prim.Native.Nat.{ℕ, zero, suc, _*_, _/_, _%_}
+use Prim.Native.Nat.{ℕ, zero, suc, _+_, _*_, _/_, _%_}
 use mathlib.Core.Bool.{Bool, false, cond}
-use mathlib.Core.List.{List, [], _∷_}
+use mathlib.Core.List.{List, [], _∷_, map}
 use mathlib.Core.Option.{Option, none, some}
 use lib.Dec.{eqb, leb, ltb}
 use lib.ListN.{length, getD, set, replicate}
 use Rattle.lists.specs.Lists.{throughout}
+use Rattle.woot.specs.declared.Identifier.{Identifier}
+use Rattle.woot.specs.declared.Character.{Character}
 use Rattle.woot.specs.declared.Table.{Table}
+
+-- ---- keys
+
+-- an identifier as a number, the site above the clock's 16 bits: the marks are 0 and 1, and numbers are ordered as their
+-- identifiers are
+unfoldable pub key : Identifier → ℕ
+key x = x .site * 65536 + x .clock
+
+abbrev pub keys : List Character → List ℕ
+keys cs = map (λ c. key (c .id)) cs
 
 -- ---- looking up
 

@@ -75,20 +75,23 @@ pub struct Pending {
     pub operation: Operation,
 }
 
-// Where keys are found: each key belongs to one of 2,048 chains. A chain's head names its latest key, and a key's link an
-// earlier one of its chain, each by one more than its index; 0 ends the chain.
+// Where characters are found by their keys, which are identifiers as numbers: each key belongs to one of 2,048 chains.
+// A chain's head names its latest character, and a character's link an earlier one of its chain, each by one more than
+// its index; 0 ends the chain.
 pub struct Table {
     pub heads: [u16; 2048],
     pub links: [u16; 1024],
 }
 
 // The characters in order and the pending operations, earliest first, in fixed arrays of which the counts say how
-// much is in use. (Document 01: the sheet without its record.)
+// much is in use, and the table by which a character is found through its identifier. (Document 01: the sheet without
+// its record.)
 pub struct Document {
     pub characters: [Character; 1024],
     pub length: usize,
     pub pending: [Pending; 512],
     pub waiting: usize,
+    pub table: Table,
 }
 
 // One site's copy of the text. (Document 01: sheet.)
@@ -126,6 +129,10 @@ impl Replica {
                 length: 0,
                 pending: [pending; 512],
                 waiting: 0,
+                table: Table {
+                    heads: [0u16; 2048],
+                    links: [0u16; 1024],
+                },
             },
         }
     }

@@ -3,9 +3,11 @@ use Prim.Native.Nat.{_≤_}
 use native.Mathlib.Omega.{arith}
 use mathlib.Core.Path.{_≡_, sym, _∙_}
 use mathlib.Core.List.{map}
-use lib.ListN.{length, take, length-take}
+use lib.ListN.{length, take}
 use Rattle.index.specs.declared.CharacterKeys.{CharacterKeys}
-use Rattle.index.specs.Keys.{AllSmall, keys}
+use Rattle.woot.specs.Table.{keys}
+use Rattle.index.specs.Keys.{AllSmall}
+use Rattle.index.proofs.Sound.{sound-tabled}
 use Rattle.index.proofs.Packing.{keys-ids, keys-sizes}
 use Rattle.pending.specs.declared.queue.Queue.{Queue}
 use Rattle.delivery.specs.declared.Work.{Work}
@@ -54,43 +56,16 @@ keys-of-requires c κs = search needs
 queue-of-requires : tie.Need-queue-of-requires
 queue-of-requires c κs = search needs
 
-array-share-prefix-ids : tie.Need-array-share-prefix-ids
-array-share-prefix-ids c = let l = lent (c .before .before .before) in omega arith
-
-slice-aggregate-ready : tie.Need-slice-aggregate-ready
-slice-aggregate-ready c = let l = lent (c .before .before .before .before) in simp length-take (omega arith)
-
-array-share-prefix-first : tie.Need-array-share-prefix-first
-array-share-prefix-first c = let l = lent (c .before .before .before .before) in omega arith
-
-slice-aggregate-ready-2 : tie.Need-slice-aggregate-ready-2
-slice-aggregate-ready-2 c = let l = lent (c .before .before .before .before .before) in simp length-take (omega arith)
-
-array-share-prefix-second : tie.Need-array-share-prefix-second
-array-share-prefix-second c = let l = lent (c .before .before .before .before .before) in omega arith
-
-slice-aggregate-ready-3 : tie.Need-slice-aggregate-ready-3
-slice-aggregate-ready-3 c = let l = lent (c .before .before .before .before .before .before) in simp length-take (omega arith)
-
-ready-requires : tie.Need-ready-requires
-ready-requires c κs = search needs
+ready-among-requires : tie.Need-ready-among-requires
+ready-among-requires c κs =
+    let l = lent (c .before .before .before .before .before .before .before .before .before .before .before .before .before) in
+    let k = c .before .before .before .before .before .before .before .before .before .before .before .before .before .before .before .before .before .before .pre in
+    (omega arith, (omega arith, (omega arith, rw (l .ids-used, parts (k .tidy) .table) (sound-tabled (k .sound)))))
 
 returns : tie.Need-returns
 returns c =
-    let l = lent (c .before .before .before .before .before .before .before) in
-    c .ready .ensures ∙ rw (l .ids-used, l .first-used, l .second-used) (ready-executable _ (l .small) _ (c .before .before .before .before .before .before .before .before .before .before .before .before .pre .sound .pending-ranges))
+    let l = lent (c .before .before .before .before .before .before .before .before .before .before .before .before .before .before) in
+    c .ready-among .ensures ∙ rw (l .ids-used, l .first-used, l .second-used) (ready-executable _ (l .small) _ (c .before .before .before .before .before .before .before .before .before .before .before .before .before .before .before .before .before .before .before .pre .sound .pending-ranges))
 
 pub due-spec : {M : Type 1} → statement M
-due-spec =
-    tie.close
-    (tie.spec
-    keys-of-requires
-    queue-of-requires
-    array-share-prefix-ids
-    slice-aggregate-ready
-    array-share-prefix-first
-    slice-aggregate-ready-2
-    array-share-prefix-second
-    slice-aggregate-ready-3
-    ready-requires
-    returns)
+due-spec = tie.close (tie.spec keys-of-requires queue-of-requires ready-among-requires returns)

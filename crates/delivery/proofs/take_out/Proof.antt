@@ -18,14 +18,15 @@ sub-t7 c = search needs
 
 returns : tie.Need-returns
 returns c =
-    let a = c .before .before .before .before .before .args in
-    let p = parts (c .before .before .before .before .before .pre .0) in
+    let a = c .before .before .before .before .before .before .args in
+    let p = parts (c .before .before .before .before .before .before .pre .0) in
     work-path
     (record {
       characters = p .characters;
       length-is = p .length-is;
-      pending = c .before .before .without .ensures ∙ ap (pad 512 blankPending) (sym (waiting-removed _ _));
+      pending = c .before .before .before .without .ensures ∙ ap (pad 512 blankPending) (sym (waiting-removed _ _));
       waiting-is = omega (arith, p .waiting-is, length-removed (a .j) (pendingIn (a .work .document)) (omega arith));
+      table = p .table;
     })
     refl
     refl

@@ -2,7 +2,7 @@
 use mathlib.Core.Path.{_≡_, sym}
 use Rattle.pending.specs.declared.holder.Holder.{Holder}
 use Rattle.storage.proofs.Fullness.{FullDocument, full-replica}
-use Rattle.well_formed.proofs.Examining.{Has, has, nobody, character-takes, pending-takes}
+use Rattle.well_formed.proofs.Examining.{few, examined-tabled, Has, has, nobody, character-takes, pending-takes}
 use borrow.Author.Needs.{needs}
 use Rattle.generation.proofs.is_taken.Statement.{statement}
 use Rattle.generation.proofs.is_taken.Tie as tie
@@ -14,7 +14,10 @@ held : (c : tie.After-holder-of) (h : Holder) → c .holder-of .result ≡ h →
 held c h e = let s = c .before .before in has _ _ _ (full s) (s .pre .0) _ (s .pre .1) (c .holder-of .ensures) e
 
 holder-of-requires : tie.Need-holder-of-requires
-holder-of-requires c κs = search needs
+holder-of-requires c κs =
+    let s = c .before in
+    let n = few _ (s .pre .0 .form) in
+    (n .characters, (n .pending, examined-tabled _ _ _ (full s) (s .pre .0)))
 
 enum-told : tie.Need-enum-told
 enum-told c = search needs

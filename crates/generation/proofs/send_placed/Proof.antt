@@ -4,7 +4,7 @@ use Rattle.woot.specs.State.{meaning}
 use Rattle.integration.specs.Placements.{placementOf}
 use Rattle.storage.proofs.Fullness.{full-replica}
 use Rattle.storage.proofs.Stored.{character-count}
-use Rattle.well_formed.proofs.Examining.{few, small}
+use Rattle.well_formed.proofs.Examining.{few, small, examined-tabled}
 use Rattle.generation.proofs.Generating.{never-missing, never-crossed, send-placeless}
 use borrow.Author.Needs.{needs}
 use Rattle.generation.proofs.send_placed.Statement.{statement}
@@ -18,7 +18,9 @@ found c =
     c .find-place .ensures _ (x .index) (character-count _ (full-replica (s .good .0)) (few _ (x .form))) (small _ (x .form))
 
 find-place-requires : tie.Need-find-place-requires
-find-place-requires c κs = few _ (c .before .pre .0 .form) .characters
+find-place-requires c κs =
+    let s = c .before in
+    (few _ (s .pre .0 .form) .characters, examined-tabled _ _ _ (full-replica (s .good .0)) (s .pre .0))
 
 enum-told : tie.Need-enum-told
 enum-told c = search needs

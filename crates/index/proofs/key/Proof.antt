@@ -2,7 +2,7 @@
 use mathlib.Core.Path.{refl}
 use native.Mathlib.Omega.{arith}
 use borrow.Author.Needs.{needs}
-use Rattle.index.specs.Keys.{key}
+use Rattle.woot.specs.Table.{key}
 use Rattle.index.proofs.key.Statement.{statement}
 use Rattle.index.proofs.key.Tie as tie
 

@@ -9,7 +9,8 @@ use Rattle.woot.specs.declared.Character.{Character}
 use Rattle.woot.specs.State.{characterSlots}
 use Rattle.lists.specs.Padding.{pad}
 use Rattle.index.specs.declared.CharacterKeys.{CharacterKeys}
-use Rattle.index.specs.Keys.{key, AllSmall, keys, previousKeys, nextKeys}
+use Rattle.woot.specs.Table.{key, keys}
+use Rattle.index.specs.Keys.{AllSmall, previousKeys, nextKeys}
 use Rattle.index.specs.Packing.{keysOf}
 use Rattle.index.proofs.Packing.{small-more, keys-path}
 use Rattle.lists.proofs.Padding.{pad-none, pad-map, take-lesser}

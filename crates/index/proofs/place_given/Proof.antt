@@ -6,10 +6,10 @@ use Rattle.index.proofs.place_given.Statement.{statement}
 use Rattle.index.proofs.place_given.Tie as tie
 
 returns : tie.Need-returns
-returns c = c .before .before .pre ∙ ap (placeIn _) (sym (c .if1 .taken))
+returns c = c .before .before .before .before .pre .1 ∙ ap (placeIn _) (sym (c .if1 .taken))
 
 place-of-requires : tie.Need-place-of-requires
-place-of-requires c κs = search needs
+place-of-requires c κs = c .before .before .before .before .pre .0
 
 returns-2 : tie.Need-returns-2
 returns-2 c = search needs

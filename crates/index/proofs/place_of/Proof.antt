@@ -11,14 +11,14 @@ use Rattle.index.proofs.place_of.Statement.{statement}
 use Rattle.index.proofs.place_of.Tie as tie
 
 -- what is found, and that the key is not the begin mark's
-is : (c : tie.After-find) (f : Found) → c .find .result ≡ f → let a = c .before .before .before .args in (found (a .key) (a .ids .now) ≡ f) × (a .key ≡ 0 → ⊥)
+is : (c : tie.After-find) (f : Found) → c .find .result ≡ f → let a = c .before .before .before .before .before .args in (found (a .key) (a .ids .now) ≡ f) × (a .key ≡ 0 → ⊥)
 is c f e = (sym (c .find .ensures) ∙ e, c .before .if1 .left)
 
 returns : tie.Need-returns
 returns c = sym (begin-place _ _ (c .if1 .taken))
 
 find-requires : tie.Need-find-requires
-find-requires c κs = search needs
+find-requires c κs = c .before .before .before .before .pre
 
 enum-known-i : tie.Need-enum-known-i
 enum-known-i c = search needs

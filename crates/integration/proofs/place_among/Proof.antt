@@ -4,12 +4,13 @@ use native.Mathlib.Omega.{arith}
 use mathlib.Core.Path.{_≡_, sym, ap, _∙_}
 use mathlib.Core.List.{List}
 use borrow.Author.Needs.{needs}
-use lib.ListN.{length, length-map}
+use lib.ListN.{length, take, length-map, length-take}
 use Rattle.woot.specs.declared.Identifier.{Identifier}
 use Rattle.woot.specs.declared.Insert.{Insert}
 use Rattle.woot.specs.declared.Character.{Character}
 use Rattle.woot.specs.Placing.{placeOf, position, between}
-use Rattle.index.specs.Keys.{key, Small, AllSmall, keys, placeIn}
+use Rattle.woot.specs.Table.{key, keys}
+use Rattle.index.specs.Keys.{Small, AllSmall, placeIn}
 use Rattle.index.specs.declared.Found.{Found}
 use Rattle.index.specs.Packing.{previousPlaces, nextPlaces}
 use Rattle.integration.specs.Passes.{asFound}
@@ -29,8 +30,8 @@ record Sought (cs : List Character) (i : Insert) (ids : List ℕ) (upper lower :
   above : upper ≡ placeOf cs (i .previous)
   below : lower ≡ placeOf cs (i .next)
 
-on : (c : tie.After-place-of2) → let a = c .before .before .before .before .before .before .before .before .before .before .args in (cs : List Character) → a .ids .now ≡ keys cs → AllSmall cs
-    → Sought cs (a .insert) (a .ids .now) (c .before .before .place-of .result) (c .place-of2 .result)
+on : (c : tie.After-place-of2) → let a = c .before .before .before .before .before .before .before .before .before .before .before .before .before .before .before .args in (cs : List Character) → take (a .n) (a .keys .now) ≡ keys cs → AllSmall cs
+    → Sought cs (a .insert) (take (a .n) (a .keys .now)) (c .before .before .place-of .result) (c .place-of2 .result)
 on c cs e s =
     record {
       size = rw e (length-map cs (λ (d : Character). key (d .id)));
@@ -45,8 +46,8 @@ record Searched (cs : List Character) (i : Insert) (r : Found) : Type 0 where
   ordered : placeOf cs (i .previous) < placeOf cs (i .next)
   result : r ≡ asFound (position cs (i .id) (between cs i))
 
-searched : (c : tie.After-position) → let a = c .before .before .before .before .before .before .before .before .before .before .before .before .before .before .before .args in (cs : List Character)
-    → a .ids .now ≡ keys cs → a .above .now ≡ previousPlaces cs → a .below .now ≡ nextPlaces cs → AllSmall cs → Searched cs (a .insert) (c .position .result)
+searched : (c : tie.After-position) → let a = c .before .before .before .before .before .before .before .before .before .before .before .before .before .before .before .before .before .before .before .before .args in (cs : List Character)
+    → take (a .n) (a .keys .now) ≡ keys cs → take (a .n) (a .uppers .now) ≡ previousPlaces cs → take (a .n) (a .lowers .now) ≡ nextPlaces cs → AllSmall cs → Searched cs (a .insert) (c .position .result)
 unfolding between
 searched c cs e above below s =
     let p = on (c .before .before .before .before .before) cs e s in
@@ -58,24 +59,33 @@ searched c cs e above below s =
       result = rw (c .position .ensures, e, above, below, k .0, p .above, p .below) (ap asFound (position-same cs s _ (k .1) _ _));
     }
 
+slice-aggregate-ids : tie.Need-slice-aggregate-ids
+slice-aggregate-ids c = simp length-take (omega arith)
+
+slice-aggregate-above : tie.Need-slice-aggregate-above
+slice-aggregate-above c = simp length-take (omega arith)
+
+slice-aggregate-below : tie.Need-slice-aggregate-below
+slice-aggregate-below c = simp length-take (omega arith)
+
 key-requires : tie.Need-key-requires
 key-requires c κs = search needs
 
 place-of-requires : tie.Need-place-of-requires
-place-of-requires c κs = search needs
+place-of-requires c κs = c .before .before .before .before .before .before .before .before .before .before .before .before .pre .1 .1 .1
 
 key-requires-2 : tie.Need-key-requires-2
 key-requires-2 c κs = search needs
 
 place-of-requires-2 : tie.Need-place-of-requires-2
-place-of-requires-2 c κs = search needs
+place-of-requires-2 c κs = c .before .before .before .before .before .before .before .before .before .before .before .before .before .before .pre .1 .1 .1
 
 add-if1 : tie.Need-add-if1
 add-if1 c = search needs
 
 returns : tie.Need-returns
 returns c cs e above below s =
-    let a = c .before .before .before .before .before .before .before .before .before .before .before .args in
+    let a = c .before .before .before .before .before .before .before .before .before .before .before .before .before .before .before .before .args in
     let p = on (c .before) cs e s in
     sym (previous-missing cs (a .insert) (omega arith))
 
@@ -84,13 +94,13 @@ add-if2 c = search needs
 
 returns-2 : tie.Need-returns-2
 returns-2 c cs e above below s =
-    let a = c .before .before .before .before .before .before .before .before .before .before .before .before .args in
+    let a = c .before .before .before .before .before .before .before .before .before .before .before .before .before .before .before .before .before .args in
     let p = on (c .before .before) cs e s in
     sym (next-missing cs (a .insert) (omega arith) (omega arith))
 
 returns-3 : tie.Need-returns-3
 returns-3 c cs e above below s =
-    let a = c .before .before .before .before .before .before .before .before .before .before .before .before .before .args in
+    let a = c .before .before .before .before .before .before .before .before .before .before .before .before .before .before .before .before .before .before .args in
     let p = on (c .before .before .before) cs e s in
     sym (places-crossed cs (a .insert) (omega arith) (omega arith) (omega arith))
 
@@ -120,6 +130,9 @@ pub place-among-spec : {M : Type 1} → statement M
 place-among-spec =
     tie.close
     (tie.spec
+    slice-aggregate-ids
+    slice-aggregate-above
+    slice-aggregate-below
     key-requires
     place-of-requires
     key-requires-2

@@ -34,7 +34,7 @@ refused-requires c κs = search needs
 returns : tie.Need-returns
 returns c =
     let p = c .before .before .before .before .before .pre in
-    c .refused .ensures ∙ sym (defer-sender-full _ _ _ (p .0) (p .1) (sym (tested (c .before .before)) ∙ c .before .if1 .taken))
+    c .refused .ensures ∙ sym (defer-sender-full _ _ _ (p .0) (p .1 .0) (sym (tested (c .before .before)) ∙ c .before .if1 .taken))
 
 is-full-requires : tie.Need-is-full-requires
 is-full-requires c κs = search needs
@@ -46,18 +46,18 @@ returns-2 : tie.Need-returns-2
 returns-2 c =
     let p = c .before .before .before .before .before .before .before .pre in
     c .refused2 .ensures
-    ∙ sym (defer-full _ _ _ (p .0) (p .1) (sym (tested (c .before .before .before .before)) ∙ c .before .before .before .if1 .left) (sym (c .before .before .is-full .ensures) ∙ c .before .if2 .taken))
+    ∙ sym (defer-full _ _ _ (p .0) (p .1 .0) (sym (tested (c .before .before .before .before)) ∙ c .before .before .before .if1 .left) (sym (c .before .before .is-full .ensures) ∙ c .before .if2 .taken))
 
 deferred-requires : tie.Need-deferred-requires
 deferred-requires c κs =
     let s = c .before .before .before .before .before .before in
-    (form-counted _ (s .pre .0 .form), defer-slot _ _ _ (s .pre .0) (s .pre .1) (sym (tested (c .before .before .before)) ∙ c .before .before .if1 .left) (full s) (sym (c .before .is-full .ensures) ∙ c .if2 .left))
+    (form-counted _ (s .pre .0 .form), (s .pre .1 .1, defer-slot _ _ _ (s .pre .0) (s .pre .1 .0) (sym (tested (c .before .before .before)) ∙ c .before .before .if1 .left) (full s) (sym (c .before .is-full .ensures) ∙ c .if2 .left)))
 
 returns-3 : tie.Need-returns-3
 returns-3 c =
     let p = c .before .before .before .before .before .before .before .pre in
     rw (c .deferred .ensures)
-    (sym (defer-done _ _ _ (p .0) (p .1) (sym (tested (c .before .before .before .before)) ∙ c .before .before .before .if1 .left) (sym (c .before .before .is-full .ensures) ∙ c .before .if2 .left)))
+    (sym (defer-done _ _ _ (p .0) (p .1 .0) (sym (tested (c .before .before .before .before)) ∙ c .before .before .before .if1 .left) (sym (c .before .before .is-full .ensures) ∙ c .before .if2 .left)))
 
 pub defer-spec : {M : Type 1} → statement M
 defer-spec =

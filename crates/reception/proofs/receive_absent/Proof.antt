@@ -11,7 +11,7 @@ use Rattle.reception.proofs.receive_absent.Tie as tie
 
 -- whether an equal delete is pending
 tested : (c : tie.After-is-pending) → let a = c .before .before .args in c .is-pending .result ≡ duplicate (meaning (a .replica)) (delete (a .delete))
-tested c = let s = c .before .before in c .is-pending .ensures ∙ absent-found _ _ _ (s .pre) (full-replica (s .good .0))
+tested c = let s = c .before .before in c .is-pending .ensures ∙ absent-found _ _ _ (s .pre .0) (full-replica (s .good .0))
 
 is-pending-requires : tie.Need-is-pending-requires
 is-pending-requires c κs = search needs
@@ -20,10 +20,10 @@ answered-requires : tie.Need-answered-requires
 answered-requires c κs = search needs
 
 returns : tie.Need-returns
-returns c = c .answered .ensures ∙ sym (absent-again _ _ _ (c .before .before .before .before .pre) (sym (tested (c .before .before)) ∙ c .before .if1 .taken))
+returns c = c .answered .ensures ∙ sym (absent-again _ _ _ (c .before .before .before .before .pre .0) (sym (tested (c .before .before)) ∙ c .before .if1 .taken))
 
 defer-requires : tie.Need-defer-requires
-defer-requires c κs = let p = c .before .before .before .pre in (absent-new _ _ _ p (sym (tested (c .before)) ∙ c .if1 .left), absent-unready _ _ _ p)
+defer-requires c κs = let p = c .before .before .before .pre in (absent-new _ _ _ (p .0) (sym (tested (c .before)) ∙ c .if1 .left), (absent-unready _ _ _ (p .0), p .1))
 
 returns-2 : tie.Need-returns-2
 returns-2 c = search needs

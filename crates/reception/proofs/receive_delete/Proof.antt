@@ -9,7 +9,7 @@ use Rattle.woot.specs.State.{meaning}
 use Rattle.storage.proofs.Fullness.{FullDocument, full-replica}
 use Rattle.storage.proofs.Stored.{form-counted}
 use Rattle.pending.proofs.Holders.{CharacterAt}
-use Rattle.well_formed.proofs.Examining.{few, stands-at, character-within, character-member, character-named}
+use Rattle.well_formed.proofs.Examining.{few, stands-at, character-within, character-member, character-named, examined-table, examined-tabled}
 use Rattle.reception.proofs.Deleting.{target-ranged, delete-again, delete-done}
 use borrow.Author.Needs.{needs}
 use Rattle.reception.proofs.receive_delete.Statement.{statement}
@@ -33,7 +33,9 @@ within c =
     omega arith
 
 character-of-requires : tie.Need-character-of-requires
-character-of-requires c κs = search needs
+character-of-requires c κs =
+    let s = c .before .before in
+    (few _ (s .pre .0 .form) .characters, examined-tabled _ _ _ (full s) (s .pre .0))
 
 enum-known-k : tie.Need-enum-known-k
 enum-known-k c = search needs
@@ -58,20 +60,24 @@ returns c =
     ∙ sym (delete-again _ (s .pre .0 .form) _ (s .pre .1) _ (character-member _ _ _ (full s) (s .pre .0) _ (ranged s) _ h _) (character-named _ _ _ (full s) (s .pre .0) _ (ranged s) _ h _) (sym (c .before .before .is-visible .ensures) ∙ not-true _ (c .before .if1 .taken)))
 
 hidden-requires : tie.Need-hidden-requires
-hidden-requires c κs = form-counted _ (c .before .before .before .before .before .before .before .before .before .pre .0 .form)
+hidden-requires c κs =
+    let s = c .before .before .before .before .before .before .before .before .before in
+    (form-counted _ (s .pre .0 .form), examined-table _ _ _ (full s) (s .pre .0))
 
 enum-told : tie.Need-enum-told
 enum-told c = search needs
 
 receive-absent-requires : tie.Need-receive-absent-requires
 receive-absent-requires c κs =
-    let s = c .before .before .before .before .before in
-    record {
-      form = s .pre .0 .form;
-      queue = s .pre .0 .queue;
-      ranged = s .pre .1;
-      nowhere = stands-at _ _ _ (full s) (s .pre .0) _ (ranged s) (c .before .before .character-of .ensures) (c .enum-told .given .1);
-    }
+    let s = c .before .before .before .before .before in (
+      record {
+        form = s .pre .0 .form;
+        queue = s .pre .0 .queue;
+        ranged = s .pre .1;
+        nowhere = stands-at _ _ _ (full s) (s .pre .0) _ (ranged s) (c .before .before .character-of .ensures) (c .enum-told .given .1);
+      },
+      examined-table _ _ _ (full s) (s .pre .0),
+    )
 
 returns-2 : tie.Need-returns-2
 returns-2 c =

@@ -6,7 +6,7 @@ use Rattle.integration.specs.Placements.{placementOf}
 use Rattle.storage.proofs.Fullness.{full-replica}
 use Rattle.integration.proofs.Placements.{says}
 use Rattle.storage.proofs.Stored.{character-count}
-use Rattle.well_formed.proofs.Examining.{few, small}
+use Rattle.well_formed.proofs.Examining.{few, small, examined-table, examined-tabled}
 use Rattle.reception.proofs.Receiving.{insert-crossed, insert-placeless}
 use borrow.Author.Needs.{needs}
 use Rattle.reception.proofs.receive_new.Statement.{statement}
@@ -20,13 +20,17 @@ found c =
     c .find-place .ensures _ (x .index) (character-count _ (full-replica (s .good .0)) (few _ (x .form))) (small _ (x .form))
 
 find-place-requires : tie.Need-find-place-requires
-find-place-requires c κs = few _ (c .before .pre .0 .form) .characters
+find-place-requires c κs =
+    let s = c .before in
+    (few _ (s .pre .0 .form) .characters, examined-tabled _ _ _ (full-replica (s .good .0)) (s .pre .0))
 
 enum-told : tie.Need-enum-told
 enum-told c = search needs
 
 defer-requires : tie.Need-defer-requires
-defer-requires c κs = (c .before .before .before .before .pre .1, says _ _ Missing (sym (found (c .before .before)) ∙ c .enum-told .given .1))
+defer-requires c κs =
+    let s = c .before .before .before .before in
+    (s .pre .1, (says _ _ Missing (sym (found (c .before .before)) ∙ c .enum-told .given .1), examined-table _ _ _ (full-replica (s .good .0)) (s .pre .0)))
 
 enum-told-2 : tie.Need-enum-told-2
 enum-told-2 c = search needs

@@ -9,7 +9,7 @@ use Rattle.convergence.proofs.Ranges.{in-range}
 use Rattle.pending.specs.declared.holder.Holder.{Holder}
 use Rattle.storage.proofs.Fullness.{FullDocument, full-replica}
 use Rattle.storage.proofs.Stored.{Counts}
-use Rattle.well_formed.proofs.Examining.{few, Has, has, character-within, pending-within}
+use Rattle.well_formed.proofs.Examining.{few, Has, has, character-within, pending-within, examined-tabled}
 use Rattle.reception.proofs.Seeing.{seen-character, seen-pending, seen-nobody}
 use Rattle.reception.proofs.seen_by.Statement.{statement}
 use Rattle.reception.proofs.seen_by.Tie as tie
@@ -41,7 +41,9 @@ at-pending c =
     omega arith
 
 holder-of-requires : tie.Need-holder-of-requires
-holder-of-requires c κs = search needs
+holder-of-requires c κs =
+    let s = c .before .before in
+    (fits s .characters, (fits s .pending, examined-tabled _ _ _ (full s) (s .pre .0)))
 
 enum-known-k : tie.Need-enum-known-k
 enum-known-k c = search needs

@@ -1,25 +1,33 @@
 -- `replica::delete` meets its contract: the form is checked first.
-use mathlib.Core.Path.{sym, _∙_}
+use mathlib.Core.Path.{_≡_, sym, _∙_}
+use mathlib.Core.Bool.{true}
 use borrow.Author.Needs.{needs}
 use Rattle.lists.proofs.Tests.{refused, passed}
+use Rattle.woot.specs.Form.{replicaWellFormed}
+use Rattle.storage.proofs.Fullness.{full-replica}
+use Rattle.well_formed.proofs.Examining.{check-formed, check-examined, examined-table}
 use Rattle.generation.proofs.Outcomes.{delete-unformed}
 use Rattle.replica.proofs.delete.Statement.{statement}
 use Rattle.replica.proofs.delete.Tie as tie
 
-well-formed-requires : tie.Need-well-formed-requires
-well-formed-requires c κs = search needs
+check-requires : tie.Need-check-requires
+check-requires c κs = search needs
 
 refused-requires : tie.Need-refused-requires
 refused-requires c κs = search needs
 
 returns : tie.Need-returns
-returns c = c .refused .ensures ∙ sym (delete-unformed _ _ (refused (c .before .before .well-formed .ensures) (c .before .if1 .taken)))
+returns c = c .refused .ensures ∙ sym (delete-unformed _ _ (refused (check-formed _ _ (c .before .before .before .check .ensures)) (c .before .if1 .taken)))
 
 delete-visible-requires : tie.Need-delete-visible-requires
-delete-visible-requires c κs = passed (c .before .well-formed .ensures) (c .if1 .left)
+delete-visible-requires c κs =
+    let s = c .before .before .before in
+    let e = c .before .before .check .ensures in
+    let f : replicaWellFormed (s .args .replica) ≡ true = passed (check-formed _ _ e) (c .if1 .left) in
+    (f, examined-table _ _ _ (full-replica (s .good .0)) (check-examined _ _ e f))
 
 returns-2 : tie.Need-returns-2
 returns-2 c = c .delete-visible .ensures
 
 pub delete-spec : {M : Type 1} → statement M
-delete-spec = tie.close (tie.spec well-formed-requires refused-requires returns delete-visible-requires returns-2)
+delete-spec = tie.close (tie.spec check-requires refused-requires returns delete-visible-requires returns-2)

@@ -16,16 +16,16 @@ kept-requires c κs = search needs
 pushed-requires : tie.Need-pushed-requires
 pushed-requires c κs = search needs
 
-add-t10 : tie.Need-add-t10
-add-t10 c = search needs
+add-t11 : tie.Need-add-t11
+add-t11 c = search needs
 
 returns : tie.Need-returns
 unfolding withPending meaning
 returns c =
     let start = c .before .before .before .before .before .before .before in
-    let few : min (start .args .replica .document .waiting) 511 ≡ start .args .replica .document .waiting = omega (arith, start .pre .1) in
+    let few : min (start .args .replica .document .waiting) 511 ≡ start .args .replica .document .waiting = omega (arith, start .pre .1 .1) in
     stored-path (start .args .replica .site)
-    (deferred-parts (start .args .replica) (full-replica (start .good .0)) (counts _ (start .pre .0)) _ _ _ (c .before .before .kept .ensures) (rw few at (c .before .pushed .ensures)))
+    (deferred-parts (start .args .replica) (full-replica (start .good .0)) (counts _ (start .pre .0)) _ _ _ _ (c .before .before .kept .ensures) (rw few at (c .before .pushed .ensures)) (start .pre .1 .0))
 
 pub deferred-spec : {M : Type 1} → statement M
-deferred-spec = tie.close (tie.spec kept-requires pushed-requires add-t10 returns)
+deferred-spec = tie.close (tie.spec kept-requires pushed-requires add-t11 returns)

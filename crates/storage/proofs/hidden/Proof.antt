@@ -18,7 +18,7 @@ unfolding withCharacters meaning
 returns c =
     let start = c .before .before .before .before .before .before in
     stored-path (start .args .replica .site)
-    (hidden-parts (start .args .replica) (full-replica (start .good .0)) (counts _ (start .pre)) _ _ _ (c .before .hidden .ensures) (c .kept-pending .ensures))
+    (hidden-parts (start .args .replica) (full-replica (start .good .0)) (counts _ (start .pre .0)) _ _ _ _ (c .before .hidden .ensures) (c .kept-pending .ensures) (start .pre .1))
 
 pub hidden-spec : {M : Type 1} → statement M
 hidden-spec = tie.close (tie.spec hidden-requires kept-pending-requires returns)

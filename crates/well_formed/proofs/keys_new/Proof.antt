@@ -18,10 +18,10 @@ unfolding freeAt
 reading ids own j e f = λ i. e i && f i
 
 abbrev Inv-loop : tie.InvT-loop
-Inv-loop ids own j₀ j = (j ≤ length own) × (throughout (freeAt ids own) j ≡ true)
+Inv-loop heads links ids own j₀ j = (j ≤ length own) × (throughout (freeAt ids own) j ≡ true)
 
 abbrev μ-loop : tie.MeasureT-loop
-μ-loop ids own j₀ j = length own - j
+μ-loop heads links ids own j₀ j = length own - j
 
 loop-holds : tie.Need-loop-holds Inv-loop μ-loop
 loop-holds c = (omega arith, refl)
@@ -33,25 +33,25 @@ shared-slice-read-key : tie.Need-shared-slice-read-key Inv-loop μ-loop
 shared-slice-read-key c = omega arith
 
 unheld-requires : tie.Need-unheld-requires Inv-loop μ-loop
-unheld-requires c κs = search needs
+unheld-requires c κs = c .before .before .before .before .before .before .before .pre
 
 returns : tie.Need-returns Inv-loop μ-loop
 returns c =
-    let a = c .before .before .before .before .before .before .before .args in
+    let a = c .before .before .before .before .before .before .before .before .before .args in
     let l = c .before .before .before .before .loop in
     sym (throughout-fails (freeAt (a .ids .now) (a .own .now)) (length (a .own .now)) (l .j) (omega arith) (reading _ _ _ (refused (c .before .unheld .ensures) (c .if1 .taken)) refl))
 
-slice-aggregate-unheld : tie.Need-slice-aggregate-unheld Inv-loop μ-loop
-slice-aggregate-unheld c = simp length-take (omega arith)
+slice-aggregate-unseen : tie.Need-slice-aggregate-unseen Inv-loop μ-loop
+slice-aggregate-unseen c = simp length-take (omega arith)
 
-unheld-requires-2 : tie.Need-unheld-requires-2 Inv-loop μ-loop
-unheld-requires-2 c κs = search needs
+unseen-requires : tie.Need-unseen-requires Inv-loop μ-loop
+unseen-requires c κs = search needs
 
 returns-2 : tie.Need-returns-2 Inv-loop μ-loop
 returns-2 c =
-    let a = c .before .before .before .before .before .before .before .before .before .before .args in
+    let a = c .before .before .before .before .before .before .before .before .before .before .before .before .args in
     let l = c .before .before .before .before .before .before .before .loop in
-    sym (throughout-fails (freeAt (a .ids .now) (a .own .now)) (length (a .own .now)) (l .j) (omega arith) (reading _ _ _ (passed (c .before .before .before .before .unheld .ensures) (c .before .before .before .if1 .left)) (refused (c .before .unheld2 .ensures) (c .if2 .taken))))
+    sym (throughout-fails (freeAt (a .ids .now) (a .own .now)) (length (a .own .now)) (l .j) (omega arith) (reading _ _ _ (passed (c .before .before .before .before .unheld .ensures) (c .before .before .before .if1 .left)) (refused (c .before .unseen .ensures) (c .if2 .taken))))
 
 add-j : tie.Need-add-j Inv-loop μ-loop
 add-j c = omega arith
@@ -61,14 +61,14 @@ loop-less c = omega arith
 
 loop-again : tie.Need-loop-again Inv-loop μ-loop
 loop-again c =
-    let a = c .before .before .before .before .before .before .before .before .before .before .args in
+    let a = c .before .before .before .before .before .before .before .before .before .before .before .before .args in
     let l = c .before .before .before .before .before .before .before .loop in
-    (omega arith, throughout-more (freeAt (a .ids .now) (a .own .now)) (l .j) (l .inv .1) (reading _ _ _ (passed (c .before .before .before .before .unheld .ensures) (c .before .before .before .if1 .left)) (passed (c .before .unheld2 .ensures) (c .if2 .left))))
+    (omega arith, throughout-more (freeAt (a .ids .now) (a .own .now)) (l .j) (l .inv .1) (reading _ _ _ (passed (c .before .before .before .before .unheld .ensures) (c .before .before .before .if1 .left)) (passed (c .before .unseen .ensures) (c .if2 .left))))
 
 returns-3 : tie.Need-returns-3 Inv-loop μ-loop
 returns-3 c =
     let l = c .before .loop in
-    let done : l .j ≡ length (c .before .before .before .before .args .own .now) = omega arith in
+    let done : l .j ≡ length (c .before .before .before .before .before .before .args .own .now) = omega arith in
     sym (rw (← done) (l .inv .1))
 
 pub keys-new-spec : {M : Type 1} → statement M
@@ -82,8 +82,8 @@ keys-new-spec =
     shared-slice-read-key
     unheld-requires
     returns
-    slice-aggregate-unheld
-    unheld-requires-2
+    slice-aggregate-unseen
+    unseen-requires
     returns-2
     add-j
     loop-less

@@ -6,7 +6,7 @@ use Rattle.well_formed.proofs.none_ready.Statement.{statement}
 use Rattle.well_formed.proofs.none_ready.Tie as tie
 
 ready-requires : tie.Need-ready-requires
-ready-requires c κs = search needs
+ready-requires c κs = c .before .before .before .before .before .pre .0
 
 enum-told : tie.Need-enum-told
 enum-told c = search needs

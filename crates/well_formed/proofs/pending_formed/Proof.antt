@@ -44,7 +44,7 @@ count-inserts-requires : tie.Need-count-inserts-requires
 count-inserts-requires c κs = search needs
 
 add-if2 : tie.Need-add-if2
-add-if2 c = omega (arith, c .count-inserts .ensures, keep-length (λ (k : ℕ). not (eqb k 0)) (c .before .before .before .before .before .before .before .before .args .own .now))
+add-if2 c = omega (arith, c .count-inserts .ensures, keep-length (λ (k : ℕ). not (eqb k 0)) (c .before .before .before .before .before .before .before .before .before .before .args .own .now))
 
 returns-2 : tie.Need-returns-2
 returns-2 c = sym (reading _ _ _ _ _ (passed (c .before .before .before .shares-kept .ensures) (c .before .before .if1 .left)) (no-room _ _ _ (c .before .count-inserts .ensures) (omega (arith, c .if2 .taken))) refl refl refl)

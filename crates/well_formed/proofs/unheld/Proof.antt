@@ -12,7 +12,7 @@ unfolding unheldKey
 returns c = rw (eq-eqb _ 0 (c .if1 .taken))
 
 is-held-requires : tie.Need-is-held-requires
-is-held-requires c κs = search needs
+is-held-requires c κs = c .before .before .before .before .pre
 
 returns-2 : tie.Need-returns-2
 unfolding unheldKey

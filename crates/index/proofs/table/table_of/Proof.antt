@@ -1,9 +1,8 @@
 -- `index::table::table_of` meets its contract. The loop's invariant: the arrays are the table of the first i keys.
-use Prim.Native.Nat.{_-_, _≤_, _+_}
+use Prim.Native.Nat.{ℕ, _-_, _≤_}
 use native.Mathlib.Omega.{arith}
 use mathlib.Core.Path.{_≡_, refl, ap, sym, _∙_}
-use lib.ListN.{length, take, replicate}
-use lib.Seq.{take-all}
+use lib.ListN.{take}
 use borrow.Author.Needs.{needs}
 use Rattle.woot.specs.declared.Table.{Table}
 use Rattle.woot.specs.Table.{noTable, enteredAll, tableOf}
@@ -12,11 +11,11 @@ use Rattle.index.proofs.table.table_of.Statement.{statement}
 use Rattle.index.proofs.table.table_of.Tie as tie
 
 abbrev Inv-loop : tie.InvT-loop
-Inv-loop keys heads₀ links₀ i₀ heads links i =
-    (i ≤ length keys) × (_≡_ {A = Table} (record { heads = heads; links = links }) (tableOf (take i keys)))
+Inv-loop keys n heads₀ links₀ i₀ heads links i =
+    (i ≤ n) × (_≡_ {A = Table} (record { heads = heads; links = links }) (tableOf (take i keys)))
 
 abbrev μ-loop : tie.MeasureT-loop
-μ-loop keys heads₀ links₀ i₀ heads links i = length keys - i
+μ-loop keys n heads₀ links₀ i₀ heads links i = n - i
 
 loop-holds : tie.Need-loop-holds Inv-loop μ-loop
 unfolding tableOf enteredAll noTable
@@ -68,7 +67,8 @@ returns : tie.Need-returns Inv-loop μ-loop
 returns c =
     let a = c .before .before .before .args in
     let l = c .before .loop in
-    l .inv .1 ∙ ap tableOf (take-all (l .i) (a .keys .now) (omega arith))
+    let done : l .i ≡ a .n = omega arith in
+    l .inv .1 ∙ ap (λ (m : ℕ). tableOf (take m (a .keys .now))) done
 
 pub table-of-spec : {M : Type 1} → statement M
 table-of-spec =

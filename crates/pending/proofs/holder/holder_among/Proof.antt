@@ -1,12 +1,14 @@
 -- `pending::holder::holder_among` looks among the characters first.
 use mathlib.Core.Path.{sym, _∙_}
+use native.Mathlib.Omega.{arith}
+use lib.ListN.{length-take}
 use Rattle.pending.specs.Holder.{firstHolder, holderIn}
 use borrow.Author.Needs.{needs}
 use Rattle.pending.proofs.holder.holder_among.Statement.{statement}
 use Rattle.pending.proofs.holder.holder_among.Tie as tie
 
-find-requires : tie.Need-find-requires
-find-requires c κs = search needs
+find-among-requires : tie.Need-find-among-requires
+find-among-requires c κs = (c .before .before .before .before .pre .0, c .before .before .before .before .pre .1 .1)
 
 enum-known-k : tie.Need-enum-known-k
 enum-known-k c = search needs
@@ -14,8 +16,11 @@ enum-known-k c = search needs
 enum-told : tie.Need-enum-told
 enum-told c = search needs
 
-find-requires-2 : tie.Need-find-requires-2
-find-requires-2 c κs = search needs
+slice-aggregate-find : tie.Need-slice-aggregate-find
+slice-aggregate-find c = simp length-take (omega arith)
+
+find-requires : tie.Need-find-requires
+find-requires c κs = search needs
 
 enum-known-j : tie.Need-enum-known-j
 enum-known-j c = search needs
@@ -25,24 +30,25 @@ enum-told-2 c = search needs
 
 returns : tie.Need-returns
 unfolding holderIn firstHolder
-returns c = rw (sym (c .before .before .before .find .ensures) ∙ c .before .k .given .1)
+returns c = rw (sym (c .before .before .before .find-among .ensures) ∙ c .before .k .given .1)
 
 returns-2 : tie.Need-returns-2
 unfolding holderIn firstHolder
-returns-2 c = rw (sym (c .before .before .before .before .before .before .find .ensures) ∙ c .before .before .before .before .enum-told .given .1, sym (c .before .before .before .find2 .ensures) ∙ c .before .j .given .1)
+returns-2 c = rw (sym (c .before .before .before .before .before .before .before .find-among .ensures) ∙ c .before .before .before .before .before .enum-told .given .1, sym (c .before .before .before .find .ensures) ∙ c .before .j .given .1)
 
 returns-3 : tie.Need-returns-3
 unfolding holderIn firstHolder
-returns-3 c = rw (sym (c .before .before .before .before .before .find .ensures) ∙ c .before .before .before .enum-told .given .1, sym (c .before .before .find2 .ensures) ∙ c .enum-told2 .given .1)
+returns-3 c = rw (sym (c .before .before .before .before .before .before .find-among .ensures) ∙ c .before .before .before .before .enum-told .given .1, sym (c .before .before .find .ensures) ∙ c .enum-told2 .given .1)
 
 pub holder-among-spec : {M : Type 1} → statement M
 holder-among-spec =
     tie.close
     (tie.spec
-    find-requires
+    find-among-requires
     enum-known-k
     enum-told
-    find-requires-2
+    slice-aggregate-find
+    find-requires
     enum-known-j
     enum-told-2
     returns

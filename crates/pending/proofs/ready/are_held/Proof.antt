@@ -5,10 +5,10 @@ use Rattle.pending.proofs.ready.are_held.Statement.{statement}
 use Rattle.pending.proofs.ready.are_held.Tie as tie
 
 is-held-requires : tie.Need-is-held-requires
-is-held-requires c κs = search needs
+is-held-requires c κs = c .before .before .before .pre
 
 is-held-requires-2 : tie.Need-is-held-requires-2
-is-held-requires-2 c κs = search needs
+is-held-requires-2 c κs = c .before .before .before .before .before .pre
 
 returns : tie.Need-returns
 returns c = rw (sym (c .before .before .is-held .ensures) ∙ c .before .if1 .taken, c .is-held2 .ensures)

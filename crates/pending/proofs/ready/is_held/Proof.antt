@@ -6,7 +6,7 @@ use Rattle.pending.proofs.ready.is_held.Statement.{statement}
 use Rattle.pending.proofs.ready.is_held.Tie as tie
 
 place-of-requires : tie.Need-place-of-requires
-place-of-requires c κs = search needs
+place-of-requires c κs = c .before .before .before .pre
 
 add-result : tie.Need-add-result
 add-result c = search needs

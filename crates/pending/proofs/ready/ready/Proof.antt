@@ -10,11 +10,11 @@ use Rattle.pending.proofs.ready.ready.Statement.{statement}
 use Rattle.pending.proofs.ready.ready.Tie as tie
 
 abbrev Inv-loop : tie.InvT-loop
-Inv-loop ids first second end i₀ i =
+Inv-loop heads links ids first second end i₀ i =
     (i ≤ end) × (end ≡ min (length first) (length second)) × (readyIn ids first second ≡ readyLeft ids first second i)
 
 abbrev μ-loop : tie.MeasureT-loop
-μ-loop ids first second end i₀ i = end - i
+μ-loop heads links ids first second end i₀ i = end - i
 
 lesser-requires : tie.Need-lesser-requires Inv-loop μ-loop
 lesser-requires c κs = search needs
@@ -35,11 +35,11 @@ shared-slice-read-are-held-2 : tie.Need-shared-slice-read-are-held-2 Inv-loop μ
 shared-slice-read-are-held-2 c = omega arith
 
 are-held-requires : tie.Need-are-held-requires Inv-loop μ-loop
-are-held-requires c κs = search needs
+are-held-requires c κs = c .before .before .before .before .before .before .before .before .before .before .pre
 
 returns : tie.Need-returns Inv-loop μ-loop
 returns c =
-    let a = c .before .before .before .before .before .before .before .before .before .before .args in
+    let a = c .before .before .before .before .before .before .before .before .before .before .before .before .args in
     let l = c .before .before .before .before .before .loop in
     sym (l .inv .2 ∙ ready-here (a .ids .now) (a .first .now) (a .second .now) (l .i) (omega arith) (omega arith) (rw (c .before .are-held .ensures) at (c .if1 .taken)))
 
@@ -51,13 +51,13 @@ loop-less c = omega arith
 
 loop-again : tie.Need-loop-again Inv-loop μ-loop
 loop-again c =
-    let a = c .before .before .before .before .before .before .before .before .before .before .args in
+    let a = c .before .before .before .before .before .before .before .before .before .before .before .before .args in
     let l = c .before .before .before .before .before .loop in
     (omega arith, l .inv .1, l .inv .2 ∙ ready-passed (a .ids .now) (a .first .now) (a .second .now) (l .i) (omega arith) (omega arith) (rw (c .before .are-held .ensures) at (c .if1 .left)))
 
 returns-2 : tie.Need-returns-2 Inv-loop μ-loop
 returns-2 c =
-    let a = c .before .before .before .before .before .before .args in
+    let a = c .before .before .before .before .before .before .before .before .args in
     let l = c .before .loop in
     sym (l .inv .2 ∙ ready-none (a .ids .now) (a .first .now) (a .second .now) (l .i) (omega arith))
 
