@@ -1,6 +1,6 @@
 -- The round trips of the whole: the lines of what is written are those of the site, of the characters and of the pending
 -- operations; and bytes with the layout are the lines of what they say.
-use mathlib.Core.Path.{_≡_, refl, sym, ap, ap₂, _∙_}
+use mathlib.Core.Path.{_≡_, refl, sym, ap, ap₂, _∙_, subst}
 use mathlib.Core.List.{List, [], _∷_, _++_, map, append-nil, append-assoc}
 use mathlib.Core.Bool.{Bool, true, false, _&&_}
 use Prim.Native.Nat.{ℕ}
@@ -15,8 +15,12 @@ use Rattle.codec.specs.Operations.{operationLine}
 use Rattle.replica.proofs.Runs.{meaning-stored}
 use Rattle.saved.specs.declared.LoadAnswer.the-variants.{Done}
 use Rattle.saved.specs.Format.{siteLine, isSite, characterLine, isCharacter, characterSaid, visibleInRange, isOperation, operationSaid, headLine, characterLines, operationLines, savedLaidOut, savedState, savedInRange, savedBytes}
-use Rattle.saved.specs.Calls.{loaded, loadNumber}
-use Rattle.saved.specs.Theorems.{SavedReadsBack, LoadedWritesBack, LoadedFormed}
+use Rattle.saved.specs.Calls.{loaded, loadNumber, bytesOf}
+use Rattle.replica.specs.Tables.{Searches}
+use Rattle.replica.proofs.Tables.{stored-searches}
+use Rattle.storage.proofs.Stored.{form-meant}
+use Rattle.saved.specs.declared.Loaded.{Loaded}
+use Rattle.saved.specs.Theorems.{SavedReadsBack, LoadedWritesBack, LoadedFormed, LoadedSearches, TableAloneDiffers}
 use Rattle.lines.proofs.Lines.{whole, rejoined, apart, concatenated-append, head-first}
 use Rattle.saved.proofs.Spelling.{bareSite, bareCharacter, bareOperation, site-lines, site-closed, character-lines, character-closed, operation-lines, operation-closed, site-laid, site-back, character-laid, character-back, character-fits, operation-laid, operation-back, operation-other, site-again, character-again, operation-again}
 use Rattle.saved.proofs.Refusals.{load-done, load-numbers}
@@ -234,3 +238,17 @@ loaded-writes-back s e =
 
 pub loaded-formed : LoadedFormed
 loaded-formed s e = ap wellFormed (read-means s e) ∙ was-read s e .2
+
+-- ---- the table
+
+pub loaded-searches : LoadedSearches
+loaded-searches s e =
+    let w = was-read s e in
+    let d = load-done s (w .0) (w .1) (w .2) in
+    subst Searches (sym (ap (λ (x : Loaded). x .replica) d)) (stored-searches (savedState s) (w .2))
+
+pub table-alone-differs : TableAloneDiffers
+unfolding bytesOf
+table-alone-differs r f =
+    let back = saved-reads-back (meaning r) (form-meant r f) in
+    (back .0, ap meaning (back .1) ∙ meaning-stored (meaning r))

@@ -15,6 +15,7 @@ use Rattle.woot.specs.State.{State, meaning, stored}
 use Rattle.woot.specs.Form.{wellFormed, replicaWellFormed}
 use Rattle.woot.specs.Answers.{Reported}
 use Rattle.woot.specs.Writing.{writingChecks, writtenNumber, writtenLength}
+use Rattle.replica.specs.Tables.{Searches}
 use Rattle.saved.specs.declared.LoadAnswer.the-variants.{Done, Refused}
 use Rattle.saved.specs.Format.{savedLaidOut, savedState, savedInRange, savedBytes}
 use Rattle.saved.specs.Calls.{loadChecks, noReplica, held, loaded, loadNumber, loadValue, bytesOf, saveChecks, saved, savedOut}
@@ -43,6 +44,19 @@ HeldForm =
     (s : State) →
     (replicaWellFormed (held s) ≡ wellFormed s)
     × (wellFormed s ≡ true → (held s ≡ stored s) × (meaning (held s) ≡ s))
+
+-- ---- document 02, Req 12: the table
+
+-- "in every sheet ... read": the table of what is read finds what a plain search finds
+abbrev pub LoadedSearches : Type 0
+LoadedSearches = (bytes : List ℕ) → loaded bytes .answer ≡ Done → Searches (loaded bytes .replica)
+
+-- "no saved form holds it, and it alone may differ after a sheet is written and read": a replica in form is read as one
+-- that means the same, whatever its table was
+abbrev pub TableAloneDiffers : Type 0
+TableAloneDiffers =
+    (r : Replica) → replicaWellFormed r ≡ true →
+    (loaded (bytesOf r) .answer ≡ Done) × (meaning (loaded (bytesOf r) .replica) ≡ meaning r)
 
 -- ---- the layout, on lines of every kind: the round trips would hold of any order of fields
 
