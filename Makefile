@@ -4,7 +4,7 @@
 # make run        the hall program on document 01's example
 # make native     the programs in C and Rust over the library
 # make soak       the library against the plain Rust of tests/native, for SECONDS (60) from SEED (the time of day) on
-# make bench      times receiving and the C calls against plain Rust, and prints a table with the ratios
+# make bench      times receiving and the C calls against Rust, prints a table, and draws docs/receive.svg
 # make test       the gate: it proves every crate from nothing and runs what there is to run
 .DEFAULT_GOAL := all
 .DELETE_ON_ERROR:
@@ -89,7 +89,7 @@ bench: library target/staticlib/libworkload.a
 	mkdir -p target/bench
 	rustc --edition 2021 -O -D warnings bench/receive.rs -L target/staticlib -l static=workload -o target/bench/receive
 	rustc --edition 2021 -O -D warnings bench/calls.rs -L target/staticlib -l static=wimtaze -o target/bench/calls
-	target/bench/receive
+	target/bench/receive docs/receive.svg
 	target/bench/calls
 
 test:

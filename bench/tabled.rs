@@ -1,0 +1,246 @@
+//! Receiving with a table, as a Rust programmer would write it for speed: the checks of document 01 at each call, the form
+//! and the table among them, rows found through the chains of a table that is kept beside them, all changed in place.
+
+use crate::reference::{is_code_point, Id, Insert, Operation, Reply, Row, BEGIN, END};
+
+const ROWS: usize = 1024;
+const CHAINS: usize = 2048;
+const SHARE: usize = 32;
+
+pub struct Tabled {
+    laptop: u8,
+    rows: Vec<Row>,
+    waiting: Vec<Operation>,
+    heads: [u16; CHAINS],
+    links: [u16; ROWS],
+}
+
+fn chain(id: Id) -> usize {
+    let key = u64::from(id.laptop) << 16 | u64::from(id.clock);
+    (key * 2_654_435_769 >> 21) as usize % CHAINS
+}
+
+fn is_laptop(n: u8) -> bool {
+    (1..=16).contains(&n)
+}
+
+fn is_character(id: Id) -> bool {
+    is_laptop(id.laptop) && id.clock >= 1
+}
+
+fn insert_passes(i: &Insert) -> bool {
+    is_character(i.id)
+        && is_code_point(i.code)
+        && (i.previous == BEGIN || is_character(i.previous))
+        && (i.next == END || is_character(i.next))
+        && i.previous != i.id
+        && i.next != i.id
+}
+
+fn passes(o: &Operation) -> bool {
+    match o {
+        Operation::Insert(i) => insert_passes(i),
+        Operation::Erase(e) => is_laptop(e.sender) && is_character(e.id),
+    }
+}
+
+fn sender(o: &Operation) -> u8 {
+    match o {
+        Operation::Insert(i) => i.id.laptop,
+        Operation::Erase(e) => e.sender,
+    }
+}
+
+fn insert_of(o: &Operation) -> Option<&Insert> {
+    match o {
+        Operation::Insert(i) => Some(i),
+        Operation::Erase(_) => None,
+    }
+}
+
+impl Tabled {
+    pub fn empty(laptop: u8) -> Tabled {
+        let rows = Vec::with_capacity(ROWS);
+        Tabled { laptop, rows, waiting: Vec::new(), heads: [0; CHAINS], links: [0; ROWS] }
+    }
+
+    fn row(&self, id: Id) -> Option<usize> {
+        let mut at = self.heads[chain(id)] as usize;
+        while at > 0 {
+            if self.rows.get(at - 1)?.insert.id == id {
+                return Some(at - 1);
+            }
+            let next = self.links[at - 1] as usize;
+            if next >= at {
+                return None;
+            }
+            at = next;
+        }
+        None
+    }
+
+    fn place(&self, id: Id) -> Option<usize> {
+        match id {
+            BEGIN => Some(0),
+            END => Some(self.rows.len() + 1),
+            _ => self.row(id).map(|k| k + 1),
+        }
+    }
+
+    fn has_all(&self, o: &Operation) -> bool {
+        match o {
+            Operation::Insert(i) => self.place(i.previous).is_some() && self.place(i.next).is_some(),
+            Operation::Erase(e) => self.row(e.id).is_some(),
+        }
+    }
+
+    fn inserts(&self) -> usize {
+        self.rows.len() + self.waiting.iter().filter_map(insert_of).count()
+    }
+
+    fn row_in_form(&self, k: usize, i: &Insert) -> bool {
+        insert_passes(i)
+            && self.row(i.id) == Some(k)
+            && matches!(self.place(i.previous), Some(p) if p <= k)
+            && matches!(self.place(i.next), Some(n) if k + 1 < n)
+    }
+
+    fn in_form(&self) -> bool {
+        if !is_laptop(self.laptop) || self.inserts() > ROWS {
+            return false;
+        }
+        if !self.rows.iter().enumerate().all(|(k, r)| self.row_in_form(k, &r.insert)) {
+            return false;
+        }
+        let mut from = [0; 256];
+        for (k, o) in self.waiting.iter().enumerate() {
+            let before = &self.waiting[..k];
+            let twice = match o {
+                Operation::Insert(i) => {
+                    self.row(i.id).is_some() || before.iter().filter_map(insert_of).any(|j| j.id == i.id)
+                }
+                Operation::Erase(_) => before.contains(o),
+            };
+            if !passes(o) || twice || self.has_all(o) {
+                return false;
+            }
+            from[sender(o) as usize] += 1;
+        }
+        from.iter().all(|n| *n <= SHARE)
+    }
+
+    /// Condition 8 or 9, or the place above the new row. Both neighbours are held.
+    fn find_place(&self, i: &Insert) -> Result<usize, u8> {
+        let (mut a, mut b) = (self.place(i.previous).unwrap(), self.place(i.next).unwrap());
+        if a >= b {
+            return Err(8);
+        }
+        while a + 1 < b {
+            let (above, below) = (a, b);
+            let mut candidates = 0;
+            for k in above + 1..below {
+                let r = &self.rows[k - 1].insert;
+                if self.place(r.previous).unwrap() > above || self.place(r.next).unwrap() < below {
+                    continue;
+                }
+                candidates += 1;
+                if r.id >= i.id {
+                    b = k;
+                    break;
+                }
+                a = k;
+            }
+            if candidates == 0 {
+                return Err(9);
+            }
+        }
+        Ok(a)
+    }
+
+    fn put(&mut self, insert: Insert, k: usize) {
+        self.rows.insert(k, Row { insert, shown: true });
+        self.heads = [0; CHAINS];
+        for (k, r) in self.rows.iter().enumerate() {
+            let c = chain(r.insert.id);
+            self.links[k] = self.heads[c];
+            self.heads[c] = k as u16 + 1;
+        }
+    }
+
+    fn hide(&mut self, id: Id) {
+        if let Some(k) = self.row(id) {
+            self.rows[k].shown = false;
+        }
+    }
+
+    /// Known or refusal 7, by the row or the waiting operation that is there already.
+    fn seen(&self, o: &Operation) -> Option<Reply> {
+        match o {
+            Operation::Insert(i) => {
+                let held = self.row(i.id).map(|k| &self.rows[k].insert);
+                let other = held.or_else(|| self.waiting.iter().filter_map(insert_of).find(|j| j.id == i.id))?;
+                Some(if other == i { Reply::Known } else { Reply::Refused(7) })
+            }
+            Operation::Erase(e) => match self.row(e.id) {
+                Some(k) => (!self.rows[k].shown).then_some(Reply::Known),
+                None => self.waiting.contains(o).then_some(Reply::Known),
+            },
+        }
+    }
+
+    fn carry_insert(&mut self, i: Insert, k: usize) -> Reply {
+        self.put(i, k);
+        let (mut carried, mut thrown) = (1, 0);
+        while let Some(j) = self.waiting.iter().position(|o| self.has_all(o)) {
+            match self.waiting.remove(j) {
+                Operation::Erase(e) => self.hide(e.id),
+                Operation::Insert(i) => match self.find_place(&i) {
+                    Ok(k) => self.put(i, k),
+                    Err(_) => {
+                        thrown += 1;
+                        continue;
+                    }
+                },
+            }
+            carried += 1;
+        }
+        Reply::Done { carried, thrown }
+    }
+
+    pub fn receive(&mut self, o: &Operation) -> Reply {
+        if !passes(o) {
+            return Reply::Refused(2);
+        }
+        if !self.in_form() {
+            return Reply::Refused(3);
+        }
+        if let Some(reply) = self.seen(o) {
+            return reply;
+        }
+        let ready = self.has_all(o);
+        let mut place = 0;
+        if let (true, Operation::Insert(i)) = (ready, o) {
+            match self.find_place(i) {
+                Ok(k) => place = k,
+                Err(n) => return Reply::Refused(n),
+            }
+        }
+        if !ready && self.waiting.iter().filter(|w| sender(w) == sender(o)).count() >= SHARE {
+            return Reply::Refused(10);
+        }
+        if insert_of(o).is_some() && self.inserts() >= ROWS {
+            return Reply::Refused(11);
+        }
+        match (ready, o) {
+            (true, Operation::Insert(i)) => self.carry_insert(*i, place),
+            (true, Operation::Erase(e)) => {
+                self.hide(e.id);
+                Reply::Done { carried: 1, thrown: 0 }
+            }
+            (false, _) => {
+                self.waiting.push(*o);
+                Reply::Waits
+            }
+        }
+    }
+}
