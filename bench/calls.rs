@@ -135,6 +135,18 @@ fn shown_plain(from: &Left) -> u64 {
     (0..TEXTS).map(|_| text_call(&from.sheet).first.len() as u64).max().unwrap_or(0)
 }
 
+/// Inserts of these identifiers, each after the one before.
+fn typed_as(ids: &[(u64, u64)]) -> Vec<Vec<u8>> {
+    let before = std::iter::once(&(0, 0)).chain(ids);
+    ids.iter().zip(before).map(|((l, c), (pl, pc))| format!("I\t{l}\t{c}\t97\t{pl}\t{pc}\t0\t1\n").into_bytes()).collect()
+}
+
+/// Identifiers as an enemy of the library's table would choose them, all of one chain: there are at most 514 such.
+fn colliding() -> Vec<(u64, u64)> {
+    let all = (1..=16).flat_map(|l| (1..=65_535).map(move |c| (l, c)));
+    all.filter(|(l, c)| ((l * 65_536 + c) * 2_654_435_769 >> 21) % 2048 == 191).take(512).collect()
+}
+
 fn main() {
     let full = typed_plain();
     table::row("wimtaze_type, 1,024 characters", &|| typed_plain().sum(), &|| typed().sum());
@@ -142,4 +154,8 @@ fn main() {
     table::row("wimtaze_receive, their 1,024 lines", &|| received_plain(&lines).sum(), &|| received(&lines).sum());
     table::row("wimtaze_erase, all of them", &|| erased_plain(&full).sum(), &|| erased(&full).sum());
     table::row("wimtaze_text, 100 times 1,024 characters", &|| shown_plain(&full), &|| shown(&full));
+    let usual = typed_as(&(0..512).map(|k| (k % 16 + 1, k / 16 + 1)).collect::<Vec<_>>());
+    table::row("wimtaze_receive, 512 lines", &|| received_plain(&usual).sum(), &|| received(&usual).sum());
+    let enemy = typed_as(&colliding());
+    table::row("the same, their identifiers all of one chain", &|| received_plain(&enemy).sum(), &|| received(&enemy).sum());
 }
