@@ -3,11 +3,10 @@ use mathlib.Core.Path.{_≡_, refl}
 use mathlib.Core.Bool.{Bool, true, false, cond}
 use Prim.Native.Nat.{ℕ, _+_, _/_, _%_, _≤_}
 use native.Mathlib.Omega.{arith}
-use lib.Dec.{leb}
 use lib.ListN.{length}
 use lib.Pow.{areBytes}
 use borrow.Author.Tests.{lt-ltb}
-use Rattle.utf8.specs.Encoding.{significantBits, encodedLength, encode, continuation, oneByte, twoBytes, threeBytes, fourBytes}
+use Rattle.utf8.specs.Encoding.{_to_, encodedLength, encode, continuation, oneByte, twoBytes, threeBytes, fourBytes}
 
 -- a length is one of four
 pub data Length (m : ℕ) : Type 0 where
@@ -16,15 +15,16 @@ pub data Length (m : ℕ) : Type 0 where
   three : m ≡ 3 → Length m
   four : m ≡ 4 → Length m
 
-chosen : (a b d : Bool) → Length (cond a 1 (cond b 2 (cond d 3 4)))
-chosen true b d = one refl
-chosen false true d = two refl
-chosen false false true = three refl
-chosen false false false = four refl
+chosen : (a b d e : Bool) → Length (cond a 1 (cond b 2 (cond d 3 (cond e 4 4))))
+chosen true b d e = one refl
+chosen false true d e = two refl
+chosen false false true e = three refl
+chosen false false false true = four refl
+chosen false false false false = four refl
 
 pub lengths : (n : ℕ) → Length (encodedLength n)
 unfolding encodedLength
-lengths n = chosen (leb (significantBits n) 7) (leb (significantBits n) 11) (leb (significantBits n) 16)
+lengths n = chosen ((0 to 127) n) ((128 to 2047) n) ((2048 to 65535) n) ((65536 to 1114111) n)
 
 -- the bytes by their number
 pub encode-one : (n : ℕ) → encodedLength n ≡ 1 → encode n ≡ oneByte n

@@ -1,4 +1,3 @@
 -- `Laws` and `Ranges` are for the crates that link this one.
 pub mod Laws
-pub mod Bits
 pub mod Ranges

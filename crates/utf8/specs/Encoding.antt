@@ -1,18 +1,22 @@
--- A code point's length and bytes in UTF-8: document 01's count of bits, and the table of RFC 3629, section 3.
-use Prim.Native.Nat.{ℕ, _+_, _-_, _/_, _%_}
+-- A code point's length and bytes in UTF-8: the ranges and the table of RFC 3629, section 3.
+use Prim.Native.Nat.{ℕ, _+_, _/_, _%_}
 use mathlib.Core.List.{List, [], _∷_}
-use mathlib.Core.Bool.{cond}
+use mathlib.Core.Bool.{Bool, _&&_, cond}
 use lib.Dec.{leb, eqb}
-use lib.Count.{leadingZeros}
 
--- what a 32-bit number has left when its leading zeros are taken away
-unfoldable pub significantBits : ℕ → ℕ
-significantBits n = 32 - leadingZeros 32 n
+infix 90 _to_
+-- the test for a number of a range, both ends in it
+unfoldable pub _to_ : ℕ → ℕ → ℕ → Bool
+first to last = λ n. leb first n && leb n last
 
--- up to 7 significant bits take 1 byte (zero too), up to 11 take 2, up to 16 take 3, all others 4
+-- "a list of cases on the RFC's own ranges"; a number above 1,114,111 is no code point, and counts 4
 unfoldable pub encodedLength : ℕ → ℕ
 encodedLength n =
-    cond (leb (significantBits n) 7) 1 (cond (leb (significantBits n) 11) 2 (cond (leb (significantBits n) 16) 3 4))
+    cond ((0 to 127) n) 1
+    (cond ((128 to 2047) n) 2
+    (cond ((2048 to 65535) n) 3
+    (cond ((65536 to 1114111) n) 4
+    4)))
 
 -- the byte 10xxxxxx with the six bits of n from the given weight up
 unfoldable pub continuation : ℕ → ℕ → ℕ

@@ -11,21 +11,17 @@ pub struct Encoded {
     pub length: usize,
 }
 
-// How many bytes the code point takes, by the bits that its leading zeros leave.
+// How many bytes the code point takes, by RFC 3629's ranges. What is above them is no code point, and counts 4.
 pub fn encoded_length(code_point: u32) -> usize
     ensures { λ r. ⌜ r ≡ encodedLength «code_point» ⌝ }
 {
-    let bits = 32 - u32::leading_zeros(code_point);
-    if bits <= 7 {
-        return 1;
+    match code_point {
+        0..=127 => 1,
+        128..=2047 => 2,
+        2048..=65535 => 3,
+        65536..=1114111 => 4,
+        _ => 4,
     }
-    if bits <= 11 {
-        return 2;
-    }
-    if bits <= 16 {
-        return 3;
-    }
-    4
 }
 
 // A byte of the given lead, 110xxxxx or 10xxxxxx for example, over the bits that it carries.

@@ -1,30 +1,24 @@
--- `utf8::encoded_length` meets its contract: the comparisons that led to each `return` bound the significant bits.
+-- `utf8::encoded_length` meets its contract: each arm is a range of the table, and the last is what is above them.
 use mathlib.Core.Path.{sym}
 use native.Mathlib.Omega.{arith}
-use lib.Count.{leading-le}
-use Rattle.utf8.specs.Encoding.{significantBits}
-use Rattle.utf8.proofs.Bits.{one-of-bits, two-of-bits, three-of-bits, four-of-bits}
+use Rattle.utf8.proofs.Ranges.{length-by-ranges}
 use Rattle.utf8.proofs.encoded_length.Statement.{statement}
 use Rattle.utf8.proofs.encoded_length.Tie as tie
 
-sub-bits : tie.Need-sub-bits
-sub-bits c = leading-le 32 _
-
 returns : tie.Need-returns
-unfolding significantBits
-returns c = sym (one-of-bits _ (omega arith))
+returns c = sym (length-by-ranges .one _ (omega arith))
 
 returns-2 : tie.Need-returns-2
-unfolding significantBits
-returns-2 c = sym (two-of-bits _ (omega arith) (omega arith))
+returns-2 c = sym (length-by-ranges .two _ (omega arith) (omega arith))
 
 returns-3 : tie.Need-returns-3
-unfolding significantBits
-returns-3 c = sym (three-of-bits _ (omega arith) (omega arith))
+returns-3 c = sym (length-by-ranges .three _ (omega arith) (omega arith))
 
 returns-4 : tie.Need-returns-4
-unfolding significantBits
-returns-4 c = sym (four-of-bits _ (omega arith))
+returns-4 c = sym (length-by-ranges .four _ (omega arith) (omega arith))
+
+returns-5 : tie.Need-returns-5
+returns-5 c = sym (length-by-ranges .beyond _ (omega arith))
 
 pub encoded-length-spec : {M : Type 1} → statement M
-encoded-length-spec = tie.close (tie.spec sub-bits returns returns-2 returns-3 returns-4)
+encoded-length-spec = tie.close (tie.spec returns returns-2 returns-3 returns-4 returns-5)
