@@ -1,4 +1,4 @@
-// Visible texts in UTF-8: RFC 3629's examples, and the code points at which one more byte is needed.
+// Visible texts in UTF-8: RFC 3629's examples, the code points at which one more byte is needed, and control characters.
 use crate::print;
 use woot::Replica;
 
@@ -35,7 +35,20 @@ pub(crate) fn examples() {
 // The largest code point of one byte, and the smallest of two, three and four.
 pub(crate) fn boundaries() {
     print::text(
-        b"Code points 127, 128, 2,048 and 65,536 give hexadecimal 7F; C2 80; E0 A0 80; F0 90 80 80.\n",
+        b"Code points 127, 128, 2,048 and 65,536 give hexadecimal EF BF BD; C2 80; E0 A0 80; F0 90 80 80.\n",
     );
     show(b"U+007F U+0080 U+0800 U+10000", &[127, 128, 2048, 65536]);
+}
+
+// The ends of the ranges that go out as U+FFFD, and the code points beside them.
+pub(crate) fn controls() {
+    print::text(b"Code points 0 to 8, 11 to 31 and 127 go out as U+FFFD, hexadecimal EF BF BD.\n");
+    show(
+        b"U+0000 U+0008 U+0009 U+000A U+000B U+001F",
+        &[0, 8, 9, 10, 11, 31],
+    );
+    show(
+        b"U+0020 U+007E U+007F U+0080 U+009F",
+        &[32, 126, 127, 128, 159],
+    );
 }

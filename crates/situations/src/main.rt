@@ -15,4 +15,5 @@ fn main() {
     trips::largest();
     encoding::examples();
     encoding::boundaries();
+    encoding::controls();
 }

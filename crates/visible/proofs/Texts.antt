@@ -15,7 +15,7 @@ use Rattle.woot.specs.Operations.{isVisible}
 use Rattle.woot.specs.declared.Refusal.the-variants.{Output}
 use Rattle.woot.specs.declared.Written.the-variants.{Length, Refused}
 use Rattle.lists.specs.Lists.{keep}
-use Rattle.woot.specs.Text.{text, encoded}
+use Rattle.woot.specs.Text.{printed, text, encoded}
 use Rattle.utf8.specs.Encoding.{encode}
 use Rattle.utf8.proofs.Laws.{length-encode, length-bounds}
 use Rattle.lists.proofs.Tests.{side}
@@ -26,7 +26,7 @@ use Rattle.visible.specs.Visible.{spelt}
 -- ---- one character
 
 module _ (c : Character) where
-  pub spelt-visible : isVisible c ≡ true → spelt c ≡ encode (c .«code_point»)
+  pub spelt-visible : isVisible c ≡ true → spelt c ≡ encode (printed (c .«code_point»))
   unfolding spelt
   spelt-visible e = rw e
 
@@ -38,8 +38,8 @@ module _ (c : Character) where
   unfolding spelt
   spelt-bound n e = rw e (go (isVisible c))
     where
-      go : (b : Bool) → length (cond b (encode (c .«code_point»)) []) ≤ 4
-      go true = omega (arith, length-encode (c .«code_point»), length-bounds (c .«code_point») .1)
+      go : (b : Bool) → length (cond b (encode (printed (c .«code_point»))) []) ≤ 4
+      go true = let n = printed (c .«code_point») in omega (arith, length-encode n, length-bounds n .1)
       go false = zero-le
 
 text-cons : (c : Character) (cs : List Character) → text (c ∷ cs) ≡ spelt c ++ text cs
@@ -49,7 +49,7 @@ text-cons c cs = go (isVisible c)
     rest : List Character
     rest = keep isVisible cs
 
-    go : (b : Bool) → encoded (cond b (c ∷ rest) rest) ≡ cond b (encode (c .«code_point»)) [] ++ encoded rest
+    go : (b : Bool) → encoded (cond b (c ∷ rest) rest) ≡ cond b (encode (printed (c .«code_point»))) [] ++ encoded rest
     go true = refl
     go false = refl
 

@@ -4,8 +4,9 @@ use mathlib.Core.Bool.{cond}
 use mathlib.Core.List.{List, []}
 use Rattle.woot.specs.declared.Character.{Character}
 use Rattle.woot.specs.Operations.{isVisible}
+use Rattle.woot.specs.Text.{printed}
 use Rattle.utf8.specs.Encoding.{encode}
 
 -- the bytes of a character that is visible
 unfoldable pub spelt : Character → List ℕ
-spelt c = cond (isVisible c) (encode (c .«code_point»)) []
+spelt c = cond (isVisible c) (encode (printed (c .«code_point»))) []

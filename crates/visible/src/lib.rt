@@ -11,7 +11,7 @@ ghost use lib.ListN.{length, take, getD};
 ghost use Rattle.output.specs.Output.{placed, past};
 ghost use Rattle.woot.specs.Identifiers.{begin, end};
 ghost use Rattle.woot.specs.Calls.{visibles};
-ghost use Rattle.woot.specs.Text.{text};
+ghost use Rattle.woot.specs.Text.{printed, text};
 ghost use Rattle.woot.specs.Writing.{writtenAs, outputAfter};
 ghost use Rattle.visible.specs.Visible.{spelt};
 
@@ -70,12 +70,23 @@ pub fn right(characters: [Character; 1024], n: usize, point: usize) -> Identifie
     identifier(characters, n, point, Identifier::END)
 }
 
+// The code point that goes out for one in the text: U+FFFD for control characters other than tab and line feed.
+fn printed(code_point: u32) -> u32
+    ensures { λ r. ⌜ r ≡ printed «code_point» ⌝ }
+{
+    match code_point {
+        0..=8 | 11..=31 | 127 => 65533,
+        _ => code_point,
+    }
+}
+
 // How many bytes a character adds to the text.
 fn size(character: Character) -> usize
     ensures { λ r. ⌜ r ≡ length (spelt character) ⌝ }
 {
     if character.is_visible() {
-        return utf8::encoded_length(character.code_point);
+        let point = printed(character.code_point);
+        return utf8::encoded_length(point);
     }
     0
 }
@@ -103,7 +114,8 @@ fn put(character: Character, out: &mut [u8], at: usize) -> usize
     if !character.is_visible() {
         return at;
     }
-    utf8::write(character.code_point, out, at)
+    let point = printed(character.code_point);
+    utf8::write(point, out, at)
 }
 
 // Puts the text of the first n characters, for which there is room, at the front of the slice.

@@ -9,7 +9,7 @@ use Rattle.utf8.specs.Encoding.{encode}
 use Rattle.utf8.proofs.Laws.{length-encode, length-bounds}
 use Rattle.woot.specs.declared.Character.{Character}
 use Rattle.woot.specs.Operations.{isVisible}
-use Rattle.woot.specs.Text.{encoded, text}
+use Rattle.woot.specs.Text.{printed, encoded, text}
 use Rattle.convergence.proofs.Forms.{formed}
 use Rattle.lists.proofs.Members.{keep-length}
 use Rattle.wimtaze.specs.Theorems.{TextLength}
@@ -20,7 +20,7 @@ encoded-length : (cs : List Character) → length (encoded cs) ≤ 4 * length cs
 unfolding encoded
 encoded-length [] = omega arith
 encoded-length (c ∷ cs) =
-    let n = c .«code_point» in
+    let n = printed (c .«code_point») in
     omega (arith, length-append (encode n) (encoded cs), length-encode n, length-bounds n .1, encoded-length cs)
 
 pub text-length : TextLength

@@ -1,1 +1,2 @@
 pub mod Situations
+pub mod Text

@@ -18,7 +18,7 @@ use Rattle.woot.specs.declared.Sent.{Sent}
 use Rattle.woot.specs.Answers.{rank, done, waits, known, refused, Reply, reply, answerOf, Check}
 use Rattle.woot.specs.Calls.{receiveChecks, insertChecks, deleteChecks}
 use Rattle.woot.specs.Histories.{Call, inserting, deleting, receiving, outcome, run, integratedBy}
-use Rattle.utf8.specs.Encoding.{encode}
+use Rattle.woot.specs.Text.{text}
 
 infix 90 _at_
 -- the identifier that document 01 writes 3/2 is `3 at 2`: site 3 at clock 2
@@ -40,11 +40,12 @@ insAs n x p q = receiving (insert (record { id = x; «code_point» = n; previous
 abbrev pub del : ℕ → Identifier → Call
 del n x = receiving (delete (record { sender = n; target = x }))
 
--- what is done in a situation: calls on a state, calls looked at for what they carry out, or a code point encoded
+-- what is done in a situation: calls on a state, looked at for their replies, for what they carry out, or for the visible
+-- text that they leave
 pub data Given : Type 0 where
   calling : State → List Call → Given
   carrying : State → List Call → Given
-  encoding : ℕ → Given
+  showing : State → List Call → Given
 
 -- what is seen: the replies in order with the identifiers of the characters afterwards, what was carried out in order,
 -- every field of it, or bytes
@@ -60,11 +61,15 @@ replies s (c ∷ cs) = let r = outcome s c in reply (r .answer) ∷ replies (r .
 unfoldable pub seen : Given → Seen
 seen (calling s cs) = calls (replies s cs) (identifiers (run s cs .characters))
 seen (carrying s cs) = operations (integratedBy s cs)
-seen (encoding n) = bytes (encode n)
+seen (showing s cs) = bytes (text (run s cs .characters))
 
 -- calls on an empty replica of site 16
 abbrev pub after : List Call → Given
 after cs = calling (initial 16) cs
+
+-- a code point typed on it, for the visible text
+abbrev pub typed : ℕ → Given
+typed n = showing (initial 16) (inserting 0 n ∷ [])
 
 -- replies: done with carried and thrown, waits, known, refused
 abbrev pub Done : ℕ → ℕ → Reply
@@ -137,11 +142,11 @@ table =
     ∷ (calling xyz (inserting 1 65 ∷ []) gives calls (Done 1 0 ∷ []) (2 at 1 ∷ 1 at 10 ∷ 2 at 2 ∷ 2 at 3 ∷ []))
     ∷ (carrying xyz (inserting 1 65 ∷ []) gives operations (insert (put (1 at 10) (2 at 1) (2 at 2)) ∷ []))
     ∷ (calling xyz (inserting 4 65 ∷ []) gives calls (Refused 4 ∷ []) (2 at 1 ∷ 2 at 2 ∷ 2 at 3 ∷ []))
-    -- P9
-    ∷ (encoding 127 gives bytes (0x7F ∷ []))
-    ∷ (encoding 128 gives bytes (0xC2 ∷ 0x80 ∷ []))
-    ∷ (encoding 2048 gives bytes (0xE0 ∷ 0xA0 ∷ 0x80 ∷ []))
-    ∷ (encoding 65536 gives bytes (0xF0 ∷ 0x90 ∷ 0x80 ∷ 0x80 ∷ []))
+    -- P9, read with Req 01 of document 02: "P9's 127 becomes EF BF BD"
+    ∷ (typed 127 gives bytes (0xEF ∷ 0xBF ∷ 0xBD ∷ []))
+    ∷ (typed 128 gives bytes (0xC2 ∷ 0x80 ∷ []))
+    ∷ (typed 2048 gives bytes (0xE0 ∷ 0xA0 ∷ 0x80 ∷ []))
+    ∷ (typed 65536 gives bytes (0xF0 ∷ 0x90 ∷ 0x80 ∷ 0x80 ∷ []))
     ∷ []
 
 -- each situation of a list gives what is expected
@@ -221,6 +226,9 @@ slipCases =
     -- an erased row counted among the shown ones
     ∷ (after (inserting 0 65 ∷ deleting 1 ∷ deleting 1 ∷ inserting 1 66 ∷ inserting 0 66 ∷ [])
     gives calls (Done 1 0 ∷ Done 1 0 ∷ Refused 4 ∷ Refused 4 ∷ Done 1 0 ∷ []) (16 at 1 ∷ 16 at 2 ∷ []))
+    -- the substitute of Req 01 put into the row and the line
+    ∷ (carrying (initial 16) (inserting 0 127 ∷ [])
+    gives operations (insert (record { id = 16 at 1; «code_point» = 127; previous = begin; next = end }) ∷ []))
     -- the hall program's example
     ∷ (after (insAs 66 (2 at 1) (1 at 1) end ∷ o1 ∷ del 3 (1 at 1) ∷ o1 ∷ insAs 67 (1 at 1) begin end ∷ [])
     gives calls (Waits ∷ Done 2 0 ∷ Done 1 0 ∷ Known ∷ Refused 7 ∷ []) (1 at 1 ∷ 2 at 1 ∷ []))

@@ -13,6 +13,9 @@ returns : tie.Need-returns
 returns c =
     rw (spelt-hidden (c .before .before .before .args .character) (sym (c .before .is-visible .ensures) ∙ not-true _ (c .if1 .taken))) (sym (past-none _ _), sym (placed-none _ _))
 
+printed-requires : tie.Need-printed-requires
+printed-requires c κs = search needs
+
 write-requires : tie.Need-write-requires
 write-requires c κs = search needs
 
@@ -22,8 +25,14 @@ same-length c = search needs
 returns-2 : tie.Need-returns-2
 returns-2 c =
     let w = c .before .before .write .ensures in
-    let d = c .before .before .before .before .before .before .before .args .character in
-    rw (spelt-visible d (sym (c .before .before .before .before .before .is-visible .ensures) ∙ not-false _ (c .before .before .before .before .if1 .left))) (w .0, w .1)
+    let p = c .before .before .before .before in
+    let b = p .before in
+    let d = b .before .before .before .args .character in
+    rw (
+      spelt-visible d (sym (b .before .is-visible .ensures) ∙ not-false _ (b .if1 .left)),
+      sym (p .printed .ensures),
+    )
+    (w .0, w .1)
 
 pub put-spec : {M : Type 1} → statement M
-put-spec = tie.close (tie.spec is-visible-requires returns write-requires same-length returns-2)
+put-spec = tie.close (tie.spec is-visible-requires returns printed-requires write-requires same-length returns-2)
