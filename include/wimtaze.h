@@ -199,7 +199,9 @@ uint64_t wimtaze_erase(const uint8_t *sheet, size_t sheet_length, uint64_t place
                        size_t sheet_out_length, uint8_t *line_out, size_t line_out_length);
 
 /*
- * Writes the text that the sheet shows, in UTF-8.
+ * Writes the text that the sheet shows, in UTF-8. It is for showing and printing, and not the characters themselves:
+ * code points 0 to 8, 11 to 31 and 127 stand in it as U+FFFD, bytes EF BF BD. The sheet and the lines keep the real
+ * ones.
  * Refusals: 1, 2, 3, 12.
  */
 uint64_t wimtaze_text(const uint8_t *sheet, size_t sheet_length, uint8_t *text_out, size_t text_out_length);

@@ -321,7 +321,7 @@ static void p8(void)
 
 static void p9(void)
 {
-    static const uint8_t utf8[] = {0x7f, 0xc2, 0x80, 0xe0, 0xa0, 0x80, 0xf0, 0x90, 0x80, 0x80};
+    static const uint8_t utf8[] = {0xef, 0xbf, 0xbd, 0xc2, 0x80, 0xe0, 0xa0, 0x80, 0xf0, 0x90, 0x80, 0x80};
     empty(1, ROOM);
     CHECK(done(type(0, 127), 1, 0));
     CHECK(done(type(1, 128), 1, 0));
@@ -330,6 +330,28 @@ static void p9(void)
     uint64_t reply = text();
     CHECK(done(reply, 0, 0));
     CHECK(wimtaze_written(reply) == sizeof utf8 && memcmp(first + GUARD, utf8, sizeof utf8) == 0);
+}
+
+/* Req 01: control characters go out as U+FFFD in the text alone, and each counts three bytes there. */
+static void controls(void)
+{
+    static const uint32_t points[] = {0, 8, 9, 10, 11, 31, 32, 126, 127, 128, 159};
+    static const char shown[] = "\xef\xbf\xbd\xef\xbf\xbd\t\n\xef\xbf\xbd\xef\xbf\xbd ~\xef\xbf\xbd\xc2\x80\xc2\x9f";
+    uint64_t reply;
+    empty(1, ROOM);
+    for (size_t k = 0; k < sizeof points / sizeof points[0]; k++)
+        CHECK(done(type(k, points[k]), 1, 0));
+    reply = text();
+    CHECK(done(reply, 0, 0));
+    CHECK(wimtaze_written(reply) == sizeof shown - 1 && memcmp(first + GUARD, shown, sizeof shown - 1) == 0);
+    empty(1, ROOM);
+    CHECK(line_is(type(0, 127), "I 1 1 127 0 0 0 1\n"));
+    CHECK(sheet_is("S 1 1\nC 1 1 127 1 0 0 0 1\n"));
+    CHECK(refused(text_in(2), WIMTAZE_REFUSAL_OUTPUT));
+    reply = text_in(3);
+    CHECK(done(reply, 0, 0) && wimtaze_written(reply) == 3);
+    CHECK(done(receive("I 2 1 13 1 1 0 1\n"), 1, 0));
+    CHECK(sheet_is("S 1 1\nC 1 1 127 1 0 0 0 1\nC 2 1 13 1 1 1 0 1\n"));
 }
 
 /* ---- the other situations */
@@ -754,6 +776,7 @@ static const struct {
     {"P7: rows between and no candidate", p7},
     {"P8: typing at a gap", p8},
     {"P9: UTF-8 of the text", p9},
+    {"Req 01: control characters", controls},
     {"laptop 2 with 31 waiting", thirty_one_waiting},
     {"1,023 rows and one waiting insert", full},
     {"clocks 65,534 and 65,535", clocks},

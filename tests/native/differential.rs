@@ -148,8 +148,10 @@ const NUMBERS: [&str; 34] = [
 ];
 const MALFORMED: [&str; 8] = ["", "00", "01", "-1", "+1", " 1", "1\t", "a"];
 const LETTERS: &[u8] = b"IDCSidcs0123456789\t\t\n\n\r .-";
-const CODE_POINTS: [u32; 14] =
-    [0, 9, 10, 127, 128, 2047, 2048, 55_295, 57_344, 65_535, 65_536, 1_114_111, 97, 0x265e];
+const CODE_POINTS: [u32; 22] = [
+    0, 8, 9, 10, 11, 13, 31, 32, 126, 127, 128, 159, 2047, 2048, 55_295, 57_344, 65_533, 65_535, 65_536, 1_114_111, 97,
+    0x265e,
+];
 const NO_CODE_POINTS: [u32; 5] = [55_296, 57_343, 1_114_112, 65_536 * 65_535, u32::MAX];
 
 /// How far a made-up row's neighbours may be from it; at 0 they are the marks.

@@ -1,5 +1,6 @@
-//! Document 01 written out plainly: sheets, placing, waiting, lines and saved sheets, for comparison with the library.
-//! It follows the paper's sentences and words, with plain searches, and shares nothing with the library.
+//! Document 01, read with the requests of 02 that have landed, written out plainly: sheets, placing, waiting, lines and
+//! saved sheets, for comparison with the library. It follows the papers' sentences and words, with plain searches, and
+//! shares nothing with the library.
 
 #[derive(Clone, Copy, PartialEq, Eq, PartialOrd, Ord, Debug)]
 pub struct Id {
@@ -65,6 +66,13 @@ fn is_character(id: Id) -> bool {
 
 pub fn is_code_point(n: u32) -> bool {
     n <= 1_114_111 && !(55_296..=57_343).contains(&n)
+}
+
+/// What goes out on the printed sheet: U+FFFD for every ASCII control character but tab and line feed.
+fn printed(code: u32) -> char {
+    let c = char::from_u32(code).unwrap();
+    let stays = !c.is_ascii_control() || c == '\t' || c == '\n';
+    if stays { c } else { '\u{FFFD}' }
 }
 
 impl Insert {
@@ -354,7 +362,7 @@ impl Sheet {
             .rows
             .iter()
             .filter(|r| r.shown)
-            .map(|r| char::from_u32(r.insert.code).unwrap())
+            .map(|r| printed(r.insert.code))
             .collect();
         Ok(text.into_bytes())
     }
