@@ -23,7 +23,7 @@ use Rattle.codec.specs.Operations.{isInsert, isDelete, operationOf, oper
 unfoldable pub lineLaidOut : List ℕ → Bool
 lineLaidOut line = isInsert (fields line) || isDelete (fields line)
 
--- condition 1: "a line lacks the layout"; a first line that no line feed ends lacks it too
+-- condition 1: a line "lacks the layout"; a first line that no line feed ends lacks it too
 unfoldable pub laidOut : List ℕ → Bool
 laidOut s = ended s && lineLaidOut (firstLine s)
 

@@ -60,7 +60,7 @@ visibleNumber v = cond v 1 0
 abbrev pub lastVisible : ℕ
 lastVisible = 1
 
--- "laptop clock codepoint shown prevlaptop prevclock nextlaptop nextclock"
+-- "laptop clock codepoint shown (1 or 0) prevlaptop prevclock nextlaptop nextclock"
 unfoldable pub characterNumbers : Character → List ℕ
 characterNumbers c =
     c .id .site ∷ c .id .clock ∷ c .«code_point» ∷ visibleNumber (c .visible) ∷ c .previous .site ∷ c .previous .clock
