@@ -121,9 +121,9 @@ extern "C" {
 #endif
 
 /* The version of this header and of the library that it came with. */
-#define WIMTAZE_VERSION "0.2.0"
+#define WIMTAZE_VERSION "0.3.0"
 #define WIMTAZE_VERSION_MAJOR 0
-#define WIMTAZE_VERSION_MINOR 2
+#define WIMTAZE_VERSION_MINOR 3
 #define WIMTAZE_VERSION_PATCH 0
 
 /* The limits of a sheet. */
