@@ -1,6 +1,6 @@
 //! Times inserts and then deletes through the library's `receive` against two Rust programs, the plain one of
-//! tests/native/reference.rs and the one with a table in tabled.rs: the same operations, the same checks, all optimised.
-//! With a file's name it also draws the time of a call over the rows there.
+//! tests/native/reference.rs and the one with a table in tabled.rs: the same operations, the same checks, all
+//! optimised. With a file's name it also draws the time of a call over the rows there.
 
 mod plot;
 #[path = "../tests/native/reference.rs"]

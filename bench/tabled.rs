@@ -1,5 +1,6 @@
-//! Receiving with a table, as a Rust programmer would write it for speed: the checks of document 01 at each call, the form
-//! and the table among them, rows found through the chains of a table that is kept beside them, all changed in place.
+//! Receiving with a table, as a Rust programmer would write it for speed: the checks of document 01 at each call, the
+//! form and the table among them, rows found through the chains of a table that is kept beside them and made anew after
+//! an insert, the sheet changed in place.
 
 use crate::reference::{is_code_point, Id, Insert, Operation, Reply, Row, BEGIN, END};
 

@@ -1,5 +1,5 @@
--- For the proofs of the code alone: what is looked up in place of the characters, their keys and where their neighbours
--- stand.
+-- For the proofs of the code alone: what is looked up in place of the characters: their keys, where their neighbours
+-- stand, and the table of the keys.
 use mathlib.Core.List.{List}
 use Rattle.woot.specs.declared.Character.{Character}
 use Rattle.woot.specs.State.{characterSlots}

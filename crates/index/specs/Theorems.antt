@@ -9,8 +9,8 @@ use Rattle.lists.specs.Lists.{distinct}
 use Rattle.woot.specs.declared.Table.{Table}
 use Rattle.woot.specs.Table.{lookup, searched, agrees, tableOf}
 
--- "it must be shown to agree with a plain search, found or not": where each key is found at its own index, the lookup of any
--- key, held or not, gives what a plain search gives
+-- "it must be shown to agree with a plain search, found or not": where each key is found at its own index, the lookup
+-- of any key, held or not, gives what a plain search gives
 abbrev pub LookupIsSearch : Type 0
 LookupIsSearch = (t : Table) (ks : List ℕ) → agrees t ks ≡ true → (k : ℕ) → lookup t ks k ≡ searched k ks
 

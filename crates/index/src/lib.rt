@@ -51,7 +51,7 @@ pub fn key(id: Identifier) -> u32
     id.site as u32 * 65536 + id.clock as u32
 }
 
-// The first index of a key. Every search among keys, of characters or of pending inserts, is this one.
+// The first index of a key among keys that have no table: those of the pending inserts.
 pub fn find(keys: &[u32], key: u32) -> Found
     ensures { λ r. ⌜ r ≡ found key (now (keys .entry)) ⌝ }
 {
@@ -66,7 +66,8 @@ pub fn find(keys: &[u32], key: u32) -> Found
 }
 
 // The place of the character with the given key, by a table that agrees: 0 for the begin mark, one past the last for
-// the end mark, further where there is none. A step of the calls and not a call: they have checked the table, or made it.
+// the end mark, further where there is none. A step of the calls and not a call: they have checked the table, or made
+// it.
 pub fn place_of<'a>(heads: &'a [u16], links: &'a [u16], ids: &'a [u32], key: u32) -> usize
     requires { ⌜ Tabled (record { heads = now heads; links = now links }) (now ids) ⌝ }
     ensures { λ r. ⌜ r ≡ placeIn (now (ids .entry)) key ⌝ }

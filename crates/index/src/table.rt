@@ -42,8 +42,8 @@ pub fn lookup<'a>(heads: &'a [u16], links: &'a [u16], keys: &'a [u32], key: u32)
     Found::Nothing
 }
 
-// The first index of a key, as a plain search finds it, by a table that agrees. A step of the calls and not a call: they
-// have checked the table, or made it.
+// The first index of a key, as a plain search finds it, by a table that agrees. A step of the calls and not a call:
+// they have checked the table, or made it.
 pub fn find<'a>(heads: &'a [u16], links: &'a [u16], keys: &'a [u32], key: u32) -> Found
     requires { ⌜ Tabled (record { heads = now heads; links = now links }) (now keys) ⌝ }
     ensures { λ r. ⌜ r ≡ found key (now (keys .entry)) ⌝ }

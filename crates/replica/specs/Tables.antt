@@ -1,5 +1,5 @@
--- Document 02, Req 12: the table of a replica, and the promises about it, each proved in proofs/ under its name in small
--- letters.
+-- Document 02, Req 12: the table of a replica, and the promises about it, each proved in proofs/ under its name in
+-- small letters.
 use Prim.Native.Nat.{ℕ, suc, _≤_}
 use mathlib.Core.Path.{_≡_}
 use mathlib.Core.Logic.{_↔_}

@@ -41,7 +41,8 @@ unread a = record { answer = a; replica = noReplica }
 unfoldable pub loaded : List ℕ → Loaded
 loaded s = decided unread (first (loadChecks s)) (record { answer = Done; replica = stored (savedState s) })
 
--- a state as the arrays hold it, as far as they have slots, with the state's own counts, and the table of what they hold
+-- a state as the arrays hold it, as far as they have slots, with the state's own counts, and the table of what they
+-- hold
 unfoldable pub held : State → Replica
 held s =
     record {

@@ -47,7 +47,7 @@ HeldForm =
 
 -- ---- document 02, Req 12: the table
 
--- "in every sheet ... read": the table of what is read finds what a plain search finds
+-- "in every sheet begun, read or built", of those read: the table finds what a plain search finds
 abbrev pub LoadedSearches : Type 0
 LoadedSearches = (bytes : List ℕ) → loaded bytes .answer ≡ Done → Searches (loaded bytes .replica)
 

@@ -1,4 +1,5 @@
-// Visible texts in UTF-8: RFC 3629's examples, the code points at which one more byte is needed, and control characters.
+// Visible texts in UTF-8: RFC 3629's examples, the code points at which one more byte is needed, and control
+// characters.
 use crate::print;
 use woot::Replica;
 

@@ -70,7 +70,7 @@ pub fn right(characters: [Character; 1024], n: usize, point: usize) -> Identifie
     identifier(characters, n, point, Identifier::END)
 }
 
-// The code point that goes out for one in the text: U+FFFD for control characters other than tab and line feed.
+// The code point that goes out for one in the text: U+FFFD for 0 to 8, 11 to 31 and 127, and any other as it is.
 fn printed(code_point: u32) -> u32
     ensures { λ r. ⌜ r ≡ printed «code_point» ⌝ }
 {

@@ -1,6 +1,6 @@
 // The check of a replica's form. The ranges are checked first, on the arrays; then every number is small and no
-// character has a mark's identifier, and the other conditions are checked on what is packed. Once the replica's table is
-// seen to agree with the keys, no key stands twice, and every other key is found by a table.
+// character has a mark's identifier, and the other conditions are checked on what is packed. Once the replica's table
+// is seen to agree with the keys, no key stands twice, and every other key is found by a table.
 use index::Found;
 use index::Index;
 use index::table;

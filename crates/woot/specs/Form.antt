@@ -64,7 +64,7 @@ wellFormed s =
     && neighboursOrdered s
     && noneExecutable s
 
--- a replica is in form when its counts are within its arrays, its meaning is in form and, as document 02 adds, its table
--- agrees: "the form gains that it agrees"
+-- a replica is in form when its counts are within its arrays, its meaning is in form and, as document 02 adds, its
+-- table agrees: "the form gains that it agrees"
 unfoldable pub replicaWellFormed : Replica → Bool
 replicaWellFormed r = counted r && wellFormed (meaning r) && tableAgrees r

@@ -40,8 +40,8 @@ insAs n x p q = receiving (insert (record { id = x; «code_point» = n; previous
 abbrev pub del : ℕ → Identifier → Call
 del n x = receiving (delete (record { sender = n; target = x }))
 
--- what is done in a situation: calls on a state, looked at for their replies, for what they carry out, or for the visible
--- text that they leave
+-- what is done in a situation: calls on a state, looked at for their replies, for what they carry out, or for the
+-- visible text that they leave
 pub data Given : Type 0 where
   calling : State → List Call → Given
   carrying : State → List Call → Given

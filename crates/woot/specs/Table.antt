@@ -1,5 +1,5 @@
--- The table by which a character is found through its identifier, on keys, which are identifiers as numbers. (Document 02,
--- Req 12: "a table through which receiving finds a row by identifier".)
+-- The table by which a character is found through its identifier, on keys, which are identifiers as numbers. (Document
+-- 02, Req 12: "a table through which receiving finds a row by identifier".)
 use Prim.Native.Nat.{ℕ, zero, suc, _+_, _*_, _/_, _%_}
 use mathlib.Core.Bool.{Bool, false, cond}
 use mathlib.Core.List.{List, [], _∷_, map}
@@ -13,8 +13,8 @@ use Rattle.woot.specs.declared.Table.{Table}
 
 -- ---- keys
 
--- an identifier as a number, the site above the clock's 16 bits: the marks are 0 and 1, and numbers are ordered as their
--- identifiers are
+-- an identifier as a number, the site above the clock's 16 bits: the marks are 0 and 1, and numbers are ordered as
+-- their identifiers are
 unfoldable pub key : Identifier → ℕ
 key x = x .site * 65536 + x .clock
 
@@ -31,8 +31,8 @@ chains = 2048
 unfoldable pub chainOf : ℕ → ℕ
 chainOf k = k * 2654435769 / 2097152 % chains
 
--- the walk down a chain, n steps at most, from one more than an index: where it comes to k. An index is believed only where
--- k stands at it, and a link only where it leads to an earlier index
+-- the walk down a chain, n steps at most, from one more than an index: where it comes to k. An index is believed only
+-- where k stands at it, and a link only where it leads to an earlier index
 unfoldable pub walk : ℕ → List ℕ → List ℕ → ℕ → ℕ → Option ℕ
 walk zero links ks k p = none
 walk (suc n) links ks k zero = none

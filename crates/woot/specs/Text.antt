@@ -1,4 +1,4 @@
--- The visible text, in which by Req 01 of document 02 control characters go out as U+FFFD.
+-- The visible text, in which by Req 01 of document 02 some control characters go out as U+FFFD.
 use Prim.Native.Nat.{ℕ}
 use mathlib.Core.Path.{_≡_}
 use mathlib.Core.Bool.{Bool, true, false, _||_, cond}

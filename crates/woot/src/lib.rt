@@ -76,7 +76,7 @@ pub struct Pending {
 }
 
 // Where characters are found by their keys, which are identifiers as numbers: each key belongs to one of 2,048 chains.
-// A chain's head names its latest character, and a character's link an earlier one of its chain, each by one more than
+// A chain's head names its last character, and a character's link an earlier one of its chain, each by one more than
 // its index; 0 ends the chain.
 pub struct Table {
     pub heads: [u16; 2048],
