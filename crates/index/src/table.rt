@@ -17,12 +17,14 @@ fn chain(key: u32) -> usize
 }
 
 // The index of a key, where the walk down its chain comes to it. A place in the table is believed only where the key
-// stands there, and a link only where it leads to an earlier one, so that any table will do.
+// stands there, and a link only where it leads to an earlier one, so that any table will do. A step of the calls and not
+// a call: they lend arrays of these sizes.
 pub fn lookup<'a>(heads: &'a [u16], links: &'a [u16], keys: &'a [u32], key: u32) -> Found
     requires { ⌜ length (now heads) ≡ 2048 ⌝ }
     requires { ⌜ length (now keys) ≤ length (now links) ⌝ }
     ensures { λ r. ⌜ r
-        ≡ asFound (lookup (record { heads = now (heads .entry); links = now (links .entry) }) (now (keys .entry)) key) ⌝ }
+        ≡ asFound (lookup (record { heads = now (heads .entry); links = now (links .entry) })
+        (now (keys .entry)) key) ⌝ }
 {
     let mut at = heads[chain(key)] as usize;
     while 0 < at {
@@ -51,7 +53,7 @@ pub fn find<'a>(heads: &'a [u16], links: &'a [u16], keys: &'a [u32], key: u32) -
     lookup(heads, links, keys, key)
 }
 
-// The same among the first n keys.
+// The same among the first n keys: a step of the calls too.
 pub fn find_among<'a>(
     heads: &'a [u16],
     links: &'a [u16],
@@ -97,7 +99,8 @@ fn agrees<'a>(heads: &'a [u16], links: &'a [u16], keys: &'a [u32]) -> bool
     true
 }
 
-// Whether each of the first n keys is found at its own index.
+// Whether each of the first n keys is found at its own index. A step of the calls and not a call: they lend arrays of
+// these sizes.
 pub fn agrees_among<'a>(heads: &'a [u16], links: &'a [u16], keys: &'a [u32], n: usize) -> bool
     requires { ⌜ length (now heads) ≡ 2048 ⌝ }
     requires { ⌜ n ≤ length (now links) ⌝ }
@@ -108,7 +111,8 @@ pub fn agrees_among<'a>(heads: &'a [u16], links: &'a [u16], keys: &'a [u32], n: 
     agrees(heads, links, &keys[..n])
 }
 
-// The table of the first n keys, each entered in its turn.
+// The table of the first n keys, each entered in its turn. A step of the calls and not a call: they have no more keys
+// than a table has links.
 pub fn table_of(keys: &[u32], n: usize) -> Table
     requires { ⌜ n ≤ length (now keys) ⌝ }
     requires { ⌜ n ≤ 1024 ⌝ }

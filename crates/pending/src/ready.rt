@@ -50,7 +50,7 @@ pub fn ready<'a>(
     Found::Nothing
 }
 
-// The same of w operations, with n characters.
+// The same of w operations, with n characters: a step of the calls too.
 pub fn ready_among<'a>(
     heads: &'a [u16],
     links: &'a [u16],
@@ -64,7 +64,8 @@ pub fn ready_among<'a>(
     requires { ⌜ w ≤ length (now first) ⌝ }
     requires { ⌜ w ≤ length (now second) ⌝ }
     requires { ⌜ Tabled (record { heads = now heads; links = now links }) (take n (now ids)) ⌝ }
-    ensures { λ r. ⌜ r ≡ readyIn (take n (now (ids .entry))) (take w (now (first .entry))) (take w (now (second .entry))) ⌝ }
+    ensures { λ r. ⌜ r
+        ≡ readyIn (take n (now (ids .entry))) (take w (now (first .entry))) (take w (now (second .entry))) ⌝ }
 {
     ready(heads, links, &ids[..n], &first[..w], &second[..w])
 }
