@@ -15,7 +15,7 @@ use Rattle.convergence.proofs.Writing.{too-short, has-room}
 use Rattle.replica.proofs.Runs.{Within, meaning-stored, form-stored}
 use Rattle.saved.specs.Format.{savedBytes}
 use Rattle.saved.specs.Calls.{bytesOf, saved, savedOut}
-use Rattle.saved.proofs.Saving.{unformed, formed}
+use Rattle.saved.proofs.Refusals.{unformed, formed}
 use Rattle.wimtaze.proofs.Kept.{front}
 
 -- what saving comes to

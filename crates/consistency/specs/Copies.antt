@@ -40,12 +40,12 @@ pub data MemoryCall : Type 0 where
   onRecord : ℕ → ℕ → MemoryCall
   -- `report::answer_line`: the first line of these bytes is read and received
   onLine : List ℕ → MemoryCall
-  -- `saved::save` into a lent slice
+  -- `saving::save` into a lent slice
   save : List ℕ → MemoryCall
 
 -- the calls on saved bytes
 pub data BytesCall : Type 0 where
-  -- `saved::load`
+  -- `loading::load`
   load : BytesCall
   -- `wimtaze_receive`: a line; the output
   receiveLine : List ℕ → List ℕ → BytesCall

@@ -1,11 +1,7 @@
 pub mod Spelling
 pub mod Bounds
-pub mod Judging
-pub mod Gathering
 pub mod Trips
 pub mod Refusals
 pub mod Sizes
 pub mod Held
-pub mod Loading
-pub mod Saving
 pub mod Examples

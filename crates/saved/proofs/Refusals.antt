@@ -1,6 +1,6 @@
 -- A refusal is answered exactly when its condition is the first to hold; where none holds, the replica that the bytes say.
 use mathlib.Core.Path.{_≡_, refl, sym, ap, _∙_}
-use mathlib.Core.List.{List, _++_}
+use mathlib.Core.List.{List, [], _++_}
 use mathlib.Core.Logic.{_↔_}
 use mathlib.Core.Bool.{Bool, true, false}
 use mathlib.Core.Option.{Option, none, some}
@@ -10,12 +10,14 @@ use lib.ListN.{length, length-append}
 use Rattle.woot.specs.declared.Replica.{Replica}
 use Rattle.woot.specs.declared.Refusal.{Refusal}
 use Rattle.woot.specs.declared.Refusal.the-variants.{Layout, Range, Form}
+use Rattle.woot.specs.declared.Written.the-variants.{Refused as writtenRefused}
 use Rattle.woot.specs.State.{meaning, stored}
 use Rattle.woot.specs.Form.{wellFormed, replicaWellFormed}
 use Rattle.woot.specs.Answers.{first, decided}
+use Rattle.woot.specs.Writing.{writtenAs, outputAfter}
 use Rattle.lists.proofs.Tests.{some-eq, no-some, clash}
 use Rattle.convergence.proofs.Refusals.{decided-exactly}
-use Rattle.convergence.proofs.Writing.{writing-refuses}
+use Rattle.convergence.proofs.Writing.{own-first, own-none, writing-refuses}
 use Rattle.lines.specs.Lines.{concatenated}
 use Rattle.lines.proofs.Writing.{line-some}
 use Rattle.codec.specs.Operations.{operationLine}
@@ -114,6 +116,19 @@ load-numbers s = go (savedLaidOut s) (savedInRange s) (wellFormed (savedState s)
         )
 
 -- ---- writing
+
+module _ (r : Replica) (out : List ℕ) where
+  pub unformed : replicaWellFormed r ≡ false → (writtenRefused Form ≡ saved r out) × (out ≡ savedOut r out)
+  unfolding saved savedOut saveChecks
+  unformed e =
+      let w = own-first (saveChecks r) (writtenRefused Form) (bytesOf r) out (rw e refl) in
+      (sym (w .0), sym (w .1))
+
+  -- a replica in form goes by the room alone
+  pub formed : replicaWellFormed r ≡ true
+      → (writtenAs [] (bytesOf r) out ≡ saved r out) × (outputAfter [] (bytesOf r) out ≡ savedOut r out)
+  unfolding saved savedOut saveChecks
+  formed e = own-none (saveChecks r) (bytesOf r) out (rw e refl)
 
 pub save-refuses : SaveRefuses
 unfolding saved savedOut

@@ -1,4 +1,3 @@
 pub mod Format
 pub mod Calls
-pub mod Reading
 pub mod Theorems

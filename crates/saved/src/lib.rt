@@ -1,25 +1,12 @@
-// Saved replicas: read from bytes, and written into a lent slice.
-mod reading;
-mod writing;
-
-use lines::Room;
-use reading::Characters;
-use reading::Operations;
-use woot::Document;
+// Saved replicas: the types and the definitions of their format, and the theorems about it. `loading` reads them, and
+// `saving` writes them.
 use woot::Refusal;
 use woot::Replica;
-use woot::Site;
-use woot::Written;
-ghost use mathlib.Core.Path.{_≡_};
-ghost use mathlib.Core.List.{[]};
-ghost use Rattle.woot.specs.Writing.{writtenAs, outputAfter};
-ghost use Rattle.saved.specs.Calls.{unread, savedRead, loaded, bytesOf, saved, savedOut};
-ghost use Rattle.saved.specs.Reading.{replicaOf};
 
 // The head words of the lines of a site and of a character.
-pub(crate) const SITE: u8 = 83;
+pub const SITE: u8 = 83;
 
-pub(crate) const CHARACTER: u8 = 67;
+pub const CHARACTER: u8 = 67;
 
 // What reading answers.
 pub enum LoadAnswer {
@@ -31,108 +18,4 @@ pub enum LoadAnswer {
 pub struct Loaded {
     pub answer: LoadAnswer,
     pub replica: Replica,
-}
-
-// A refusal, and what stands beside it.
-fn refuse(reason: Refusal) -> Loaded
-    ensures { λ r. ⌜ r ≡ unread (LoadAnswer.Refused reason) ⌝ }
-{
-    let replica = Replica::empty(0);
-    Loaded {
-        answer: LoadAnswer::Refused(reason),
-        replica,
-    }
-}
-
-// The replica of what was read, with the table of its characters.
-fn assemble(site: Site, characters: Characters, operations: Operations) -> Replica
-    ensures { λ r. ⌜ r ≡ replicaOf site characters operations ⌝ }
-{
-    let items = characters.items;
-    let pending = operations.items;
-    let table = index::table_of(items, characters.count);
-    let document = Document {
-        characters: items,
-        length: characters.count,
-        pending,
-        waiting: operations.count,
-        table,
-    };
-    Replica { site, document }
-}
-
-// Reads a saved replica whose form is not checked: its counts may be above its arrays. A fault of the layout comes
-// first, wherever it is, and then a number out of range.
-pub fn read(bytes: &[u8]) -> Loaded
-    ensures { λ r. ⌜ r ≡ savedRead (now (bytes .entry)) ⌝ }
-{
-    let first = reading::read_site(reading::head(bytes));
-    if !first.judged.laid_out {
-        return refuse(Refusal::Layout);
-    }
-    let body = lines::rest(bytes);
-    let characters = reading::read_characters(body);
-    let count = characters.count;
-    let operations = reading::read_operations(reading::skip(body, count));
-    if !operations.laid_out {
-        return refuse(Refusal::Layout);
-    }
-    if !first.judged.in_range {
-        return refuse(Refusal::Range);
-    }
-    if !characters.in_range {
-        return refuse(Refusal::Range);
-    }
-    if !operations.in_range {
-        return refuse(Refusal::Range);
-    }
-    let site = first.site;
-    let replica = assemble(site, characters, operations);
-    Loaded {
-        answer: LoadAnswer::Done,
-        replica,
-    }
-}
-
-// Reads a saved replica. A fault of the layout comes first, wherever it is, then a number out of range, then the form.
-pub fn load(bytes: &[u8]) -> Loaded
-    ensures { λ r. ⌜ r ≡ loaded (now (bytes .entry)) ⌝ }
-{
-    let found = read(bytes);
-    let answer = found.answer;
-    if let LoadAnswer::Refused(_) = answer {
-        return found;
-    }
-    let replica = found.replica;
-    if !replica::well_formed(replica) {
-        return refuse(Refusal::Form);
-    }
-    found
-}
-
-// Writes a replica, in form or not, at the front of the slice; of counts above its arrays, what these hold. A refused
-// call leaves every byte as it was.
-pub fn put(replica: Replica, out: &mut [u8]) -> Written
-    ensures { λ r. ⌜ r ≡ writtenAs [] (bytesOf replica) (now (out .entry)) ⌝ }
-    ensures { λ r. ⌜ now (out .exit) ≡ outputAfter [] (bytesOf replica) (now (out .entry)) ⌝ }
-{
-    let room = writing::measure(replica, out.len());
-    match room {
-        Room::Until(length) => {
-            writing::put_all(replica, out);
-            Written::Length(length)
-        }
-        Room::Short => Written::Refused(Refusal::Output),
-    }
-}
-
-// Writes a saved replica at the front of the slice. A refused call leaves every byte as it was.
-pub fn save(replica: Replica, out: &mut [u8]) -> Written
-    ensures { λ r. ⌜ r ≡ saved replica (now (out .entry)) ⌝ }
-    ensures { λ r. ⌜ now (out .exit) ≡ savedOut replica (now (out .entry)) ⌝ }
-{
-    if !replica::well_formed(replica) {
-        return Written::Refused(Refusal::Form);
-    }
-    put(replica, out)
 }

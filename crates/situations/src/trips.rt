@@ -42,16 +42,16 @@ fn compare(first: &[u8], second: &[u8]) {
 
 // Loads a saved replica, saves it again and compares the two.
 fn save_again(first: &[u8]) {
-    let loaded = saved::load(first);
+    let loaded = loading::load(first);
     let r = loaded.replica;
     let mut second = io::large_buffer();
-    let n = print::count(saved::save(r, &mut second));
+    let n = print::count(saving::save(r, &mut second));
     compare(first, print::front(&second, n));
 }
 
 // Saves a replica, loads it and saves it again.
 pub(crate) fn save_twice(r: Replica) {
     let mut first = io::large_buffer();
-    let n = print::count(saved::save(r, &mut first));
+    let n = print::count(saving::save(r, &mut first));
     save_again(print::front(&first, n));
 }

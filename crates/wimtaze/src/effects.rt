@@ -43,7 +43,7 @@ fn after_writing(answer: Answer, written: Written) -> u64
 pub(crate) fn save(answer: Answer, replica: Replica, out: &mut [u8]) -> u64
     ensures { λ r. ⌜ Leaves (writing answer (bytesOf replica) (now (out .entry))) r (now (out .exit)) [] ⌝ }
 {
-    after_writing(answer, saved::put(replica, out))
+    after_writing(answer, saving::put(replica, out))
 }
 
 // Writes the visible text.
@@ -143,7 +143,7 @@ fn save_both(
     match space {
         Room::Short => results::refused(Refusal::Output),
         Room::Until(length) => {
-            let written = saved::put(replica, out);
+            let written = saving::put(replica, out);
             match written {
                 Written::Refused(refusal) => results::refused(refusal),
                 Written::Length(n) => {

@@ -1,0 +1,222 @@
+-- What is read of a line is what the line says: one argument for every kind of line, over what is made of its numbers.
+use mathlib.Core.Path.{_≡_, refl, sym, ap, _∙_}
+use mathlib.Core.List.{List, [], _++_}
+use mathlib.Core.Bool.{Bool, true, false, _&&_, cond}
+use Prim.Native.Nat.{ℕ, _-_}
+use lib.Dec.{eqb, leb}
+use lib.ListN.{length, getD, replicate}
+use borrow.Author.Tests.{leb-true, le-leb}
+use native.Mathlib.Omega.{arith}
+use Rattle.woot.specs.declared.Site.{Site}
+use Rattle.woot.specs.declared.Character.{Character}
+use Rattle.woot.specs.declared.Operation.{Operation}
+use Rattle.woot.specs.declared.Refusal.{Refusal}
+use Rattle.woot.specs.declared.Refusal.the-variants.{Layout, Range}
+use Rattle.woot.specs.Ranges.{siteInRange, characterInRange, inRange}
+use Rattle.lists.specs.Padding.{pad}
+use Rattle.lists.proofs.Tests.{agree, clash, and-left, and-right, and-intro}
+use Rattle.lines.specs.declared.Verdict.the-variants.{Malformed, Above, Within}
+use Rattle.lines.specs.declared.Numbers.{Numbers}
+use Rattle.lines.specs.Fields.{fields, valuesOf, atMost}
+use Rattle.lines.specs.Answers.{slots, holding, verdictOn, numbersOf}
+use Rattle.lines.proofs.Values.{at-padded, at-most-at}
+use Rattle.codec.specs.declared.Read.the-variants.{Operation as readsAs, Refused as readRefused}
+use Rattle.codec.specs.Calls.{readAs, readLine}
+use Rattle.codec.proofs.Judging.{identifier-padded, read-layout, read-range, read-operation}
+use Rattle.loading.specs.declared.reading.Judged.{Judged}
+use Rattle.loading.specs.declared.reading.SiteLine.{SiteLine}
+use Rattle.loading.specs.declared.reading.CharacterLine.{CharacterLine}
+use Rattle.loading.specs.declared.reading.OperationLine.{OperationLine}
+use Rattle.saved.specs.Format.{siteHead, siteLimits, siteOf, isSite, siteSaid, characterHead, characterLimits, characterOf, isCharacter, characterSaid, visibleInRange, isOperation, operationSaid}
+use Rattle.loading.specs.Reading.{judgement, judgedAs, siteRead, characterRead, noOperation, operationJudged, operationRead}
+use Rattle.saved.proofs.Bounds.{site-at-most, character-at-most}
+
+module _ {A : Type 0} (say : List ℕ → A) (passes : A → Bool) (laid : Bool) (limits ns : List ℕ) where
+  abbrev told : Bool → Bool → Numbers
+  told b c = cond b (cond c (holding Within ns) (holding Above [])) (holding Malformed [])
+
+  abbrev read : Numbers
+  read = verdictOn laid limits ns
+
+  -- it is laid out as it should be
+  laid-so : judgedAs (read .verdict) (passes (say (read .values))) .«laid_out» ≡ laid
+  unfolding verdictOn holding judgedAs judgement
+  laid-so = go laid (atMost limits ns)
+    where
+      go : (b c : Bool) → judgedAs (told b c .verdict) (passes (say (told b c .values))) .«laid_out» ≡ b
+      go true true = refl
+      go true false = refl
+      go false c = refl
+
+  module _ (padded : (m : ℕ) (ms : List ℕ) → say (ms ++ replicate m 0) ≡ say ms) where
+    -- then it is in range where its numbers are within their limits and what they say passes
+    passes-so : laid ≡ true → judgedAs (read .verdict) (passes (say (read .values))) .«in_range» ≡ atMost limits ns && passes (say ns)
+    unfolding verdictOn holding judgedAs judgement pad
+    passes-so l = rw l (go (atMost limits ns))
+      where
+        go : (c : Bool) → judgedAs (told true c .verdict) (passes (say (told true c .values))) .«in_range» ≡ c && passes (say ns)
+        go true = ap passes (padded (slots - length ns) ns)
+        go false = refl
+
+    -- and what is read is what it says
+    says-so : judgedAs (read .verdict) (passes (say (read .values))) .«in_range» ≡ true → say (read .values) ≡ say ns
+    unfolding verdictOn holding judgedAs judgement pad
+    says-so e = go laid (atMost limits ns) e
+      where
+        go : (b c : Bool) → judgedAs (told b c .verdict) (passes (say (told b c .values))) .«in_range» ≡ true → say (told b c .values) ≡ say ns
+        go true true q = padded (slots - length ns) ns
+        go true false q = cc
+        go false c q = cc
+
+-- ---- a site's line
+
+site-padded : (m : ℕ) (ns : List ℕ) → siteOf (ns ++ replicate m 0) ≡ siteOf ns
+unfolding siteOf
+site-padded m ns = λ j. record { number = at-padded m ns 0 j; clock = at-padded m ns 1 j }
+
+-- the numbers of a line
+abbrev ns : List ℕ → List ℕ
+ns line = valuesOf (fields line)
+
+module _ (line : List ℕ) where
+  -- as the code makes it of the numbers
+  pub site-made : {r : Numbers} → r ≡ numbersOf siteHead siteLimits (fields line) → {x : Site} → x ≡ siteOf (r .values) → {b : Bool} → b ≡ siteInRange x
+      → {j : Judged} → j ≡ judgedAs (r .verdict) b → _≡_ {A = SiteLine} (record { judged = j; site = x }) (siteRead line)
+  unfolding siteRead
+  site-made {r} e {x} s p {j} q =
+      (λ i. record { judged = now i; site = s i })
+      ∙ ap (λ (n : Numbers). record { judged = judgedAs (n .verdict) (siteInRange (siteOf (n .values))); site = siteOf (n .values) }) e
+    where
+      now : j ≡ judgedAs (r .verdict) (siteInRange (siteOf (r .values)))
+      now = q ∙ ap (judgedAs (r .verdict)) (p ∙ ap siteInRange s)
+
+  pub site-laid : siteRead line .judged .«laid_out» ≡ isSite line
+  unfolding siteRead numbersOf isSite
+  site-laid = laid-so siteOf siteInRange (isSite line) siteLimits (ns line)
+
+  pub site-passes : isSite line ≡ true → siteRead line .judged .«in_range» ≡ siteInRange (siteSaid line)
+  unfolding siteRead numbersOf isSite siteSaid
+  site-passes l =
+      passes-so siteOf siteInRange (isSite line) siteLimits (ns line) site-padded l
+      ∙ agree (atMost siteLimits (ns line) && siteInRange (siteOf (ns line))) (siteInRange (siteOf (ns line))) (and-right (atMost siteLimits (ns line)) (siteInRange (siteOf (ns line)))) (λ p. and-intro (site-at-most (ns line) p) p)
+
+  pub site-says : siteRead line .judged .«in_range» ≡ true → siteRead line .site ≡ siteSaid line
+  unfolding siteRead numbersOf isSite siteSaid
+  site-says e = says-so siteOf siteInRange (isSite line) siteLimits (ns line) site-padded e
+
+-- ---- a character's line
+
+character-padded : (m : ℕ) (ns : List ℕ) → characterOf (ns ++ replicate m 0) ≡ characterOf ns
+unfolding characterOf
+character-padded m ns = λ j. record {
+  id = identifier-padded 0 m ns j;
+  «code_point» = at-padded m ns 2 j;
+  visible = eqb (at-padded m ns 3 j) 1;
+  previous = identifier-padded 4 m ns j;
+  next = identifier-padded 6 m ns j;
+}
+
+-- the limit of shown is the range that the character does not tell
+visible-limited : (ns : List ℕ) → atMost characterLimits ns && characterInRange (characterOf ns) ≡ characterInRange (characterOf ns) && leb (getD ns 3 0) 1
+visible-limited ns =
+    let w = atMost characterLimits ns in
+    let r = characterInRange (characterOf ns) in
+    let v = leb (getD ns 3 0) 1 in
+    agree (w && r) (r && v)
+    (λ p. and-intro (and-right w r p) (le-leb (getD ns 3 0) 1 (at-most-at characterLimits ns (and-left w r p) 3 (omega arith))))
+    (λ p. and-intro (character-at-most ns (and-left r v p) (leb-true (getD ns 3 0) 1 (and-right r v p))) (and-left r v p))
+
+module _ (line : List ℕ) where
+  -- as the code makes it of the numbers
+  pub character-made : {r : Numbers} → r ≡ numbersOf characterHead characterLimits (fields line) → {x : Character} → x ≡ characterOf (r .values) → {b : Bool} → b ≡ characterInRange x
+      → {j : Judged} → j ≡ judgedAs (r .verdict) b → _≡_ {A = CharacterLine} (record { judged = j; character = x }) (characterRead line)
+  unfolding characterRead
+  character-made {r} e {x} s p {j} q =
+      (λ i. record { judged = now i; character = s i })
+      ∙ ap (λ (n : Numbers). record { judged = judgedAs (n .verdict) (characterInRange (characterOf (n .values))); character = characterOf (n .values) }) e
+    where
+      now : j ≡ judgedAs (r .verdict) (characterInRange (characterOf (r .values)))
+      now = q ∙ ap (judgedAs (r .verdict)) (p ∙ ap characterInRange s)
+
+  pub character-laid : characterRead line .judged .«laid_out» ≡ isCharacter line
+  unfolding characterRead numbersOf isCharacter
+  character-laid = laid-so characterOf characterInRange (isCharacter line) characterLimits (ns line)
+
+  pub character-passes : isCharacter line ≡ true → characterRead line .judged .«in_range» ≡ characterInRange (characterSaid line) && visibleInRange line
+  unfolding characterRead numbersOf isCharacter characterSaid visibleInRange
+  character-passes l =
+      passes-so characterOf characterInRange (isCharacter line) characterLimits (ns line) character-padded l ∙ visible-limited (ns line)
+
+  pub character-says : characterRead line .judged .«in_range» ≡ true → characterRead line .character ≡ characterSaid line
+  unfolding characterRead numbersOf isCharacter characterSaid
+  character-says e = says-so characterOf characterInRange (isCharacter line) characterLimits (ns line) character-padded e
+
+-- ---- an operation's line, by what `codec` answers
+
+module _ (line : List ℕ) where
+  by-checks : readLine line ≡ readAs (isOperation line) (operationSaid line)
+  unfolding readLine isOperation operationSaid
+  by-checks = refl
+
+  pub operation-done : (o : Operation) → readLine line ≡ readsAs o
+      → _≡_ {A = OperationLine} (record { judged = judgement true true; operation = o }) (operationRead line)
+  unfolding operationRead operationJudged
+  operation-done o e = go (isOperation line) (inRange (operationSaid line)) refl refl
+    where
+      go : (a b : Bool) → isOperation line ≡ a → inRange (operationSaid line) ≡ b
+          → _≡_ {A = OperationLine} (record { judged = judgement true true; operation = o }) (operationRead line)
+      go false b p q = let z : readRefused Layout ≡ readsAs o = sym (read-layout _) ∙ rw (by-checks, p) at e in cc
+      go true false p q = let z : readRefused Range ≡ readsAs o = sym (read-range _ q) ∙ rw (by-checks, p) at e in cc
+      go true true p q =
+          let z : readsAs (operationSaid line) ≡ readsAs o = sym (read-operation _ q) ∙ rw (by-checks, p) at e in
+          let same : operationSaid line ≡ o = cc in
+          rw (p, q) (λ j. record { judged = judgement true true; operation = sym same j })
+
+  module _ (r : Refusal) (e : readLine line ≡ readRefused r) where
+    pub operation-range : r ≡ Range → noOperation true ≡ operationRead line
+    unfolding operationRead operationJudged
+    operation-range h = go (isOperation line) (inRange (operationSaid line)) refl refl
+      where
+        go : (a b : Bool) → isOperation line ≡ a → inRange (operationSaid line) ≡ b → noOperation true ≡ operationRead line
+        go false b p q = let z : readRefused Layout ≡ readRefused Range = sym (read-layout _) ∙ rw (by-checks, p, h) at e in cc
+        go true false p q = rw (p, q)
+        go true true p q = let z : readsAs (operationSaid line) ≡ readRefused r = sym (read-operation _ q) ∙ rw (by-checks, p) at e in cc
+
+    pub operation-layout : (r ≡ Range → ⊥) → noOperation false ≡ operationRead line
+    unfolding operationRead operationJudged
+    operation-layout h = go (isOperation line) (inRange (operationSaid line)) refl refl
+      where
+        go : (a b : Bool) → isOperation line ≡ a → inRange (operationSaid line) ≡ b → noOperation false ≡ operationRead line
+        go false b p q = rw p
+        go true false p q =
+            let z : readRefused Range ≡ readRefused r = sym (read-range _ q) ∙ rw (by-checks, p) at e in
+            let same : r ≡ Range = cc in
+            absurd (h same)
+        go true true p q = let z : readsAs (operationSaid line) ≡ readRefused r = sym (read-operation _ q) ∙ rw (by-checks, p) at e in cc
+
+  -- what is read of it is what the line says
+  pub operation-laid : operationRead line .judged .«laid_out» ≡ isOperation line
+  unfolding operationRead operationJudged noOperation judgement
+  operation-laid = go (isOperation line) (inRange (operationSaid line)) refl refl
+    where
+      go : (a b : Bool) → isOperation line ≡ a → inRange (operationSaid line) ≡ b → operationRead line .judged .«laid_out» ≡ isOperation line
+      go false b p q = rw p
+      go true false p q = rw (p, q)
+      go true true p q = rw (p, q)
+
+  pub operation-passes : isOperation line ≡ true → operationRead line .judged .«in_range» ≡ inRange (operationSaid line)
+  unfolding operationRead operationJudged noOperation judgement
+  operation-passes p = go (inRange (operationSaid line)) refl
+    where
+      go : (b : Bool) → inRange (operationSaid line) ≡ b → operationRead line .judged .«in_range» ≡ inRange (operationSaid line)
+      go true q = rw (p, q)
+      go false q = rw (p, q)
+
+  pub operation-says : operationRead line .judged .«in_range» ≡ true → operationRead line .operation ≡ operationSaid line
+  unfolding operationRead operationJudged noOperation judgement
+  operation-says e = go (isOperation line) (inRange (operationSaid line)) refl refl
+    where
+      go : (a b : Bool) → isOperation line ≡ a → inRange (operationSaid line) ≡ b → operationRead line .operation ≡ operationSaid line
+      go false b p q = clash e (rw p)
+      go true false p q = clash e (rw (p, q))
+      go true true p q = rw (p, q)

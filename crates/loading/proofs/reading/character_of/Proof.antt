@@ -1,0 +1,76 @@
+-- `loading::reading::character_of` meets its contract: each number fits its field, since its limit does.
+use native.Mathlib.Omega.{arith}
+use lib.Dec.{eqb}
+use lib.ListN.{getD}
+use Rattle.codec.specs.Operations.{identifierAt}
+use Rattle.lines.proofs.Values.{at-most-at}
+use Rattle.saved.specs.Format.{characterLimits, characterOf}
+use borrow.Author.Needs.{needs}
+use Rattle.loading.proofs.reading.character_of.Statement.{statement}
+use Rattle.loading.proofs.reading.character_of.Tie as tie
+
+array-read-identifier : tie.Need-array-read-identifier
+array-read-identifier c = search needs
+
+array-read-identifier-2 : tie.Need-array-read-identifier-2
+array-read-identifier-2 c = search needs
+
+identifier-requires : tie.Need-identifier-requires
+identifier-requires c κs = let b = at-most-at characterLimits (c .args .t1) (c .pre) in omega (arith, b 0 (omega arith), b 1 (omega arith))
+
+array-read-t12 : tie.Need-array-read-t12
+array-read-t12 c = search needs
+
+cast-t13 : tie.Need-cast-t13
+cast-t13 c = let b = at-most-at characterLimits (c .before .args .t1) (c .before .pre) in omega (arith, b 2 (omega arith))
+
+array-read-t16 : tie.Need-array-read-t16
+array-read-t16 c = search needs
+
+array-read-identifier-3 : tie.Need-array-read-identifier-3
+array-read-identifier-3 c = search needs
+
+array-read-identifier-4 : tie.Need-array-read-identifier-4
+array-read-identifier-4 c = search needs
+
+identifier-requires-2 : tie.Need-identifier-requires-2
+identifier-requires-2 c κs = let b = at-most-at characterLimits (c .before .args .t1) (c .before .pre) in omega (arith, b 4 (omega arith), b 5 (omega arith))
+
+array-read-identifier-5 : tie.Need-array-read-identifier-5
+array-read-identifier-5 c = search needs
+
+array-read-identifier-6 : tie.Need-array-read-identifier-6
+array-read-identifier-6 c = search needs
+
+identifier-requires-3 : tie.Need-identifier-requires-3
+identifier-requires-3 c κs = let b = at-most-at characterLimits (c .before .before .args .t1) (c .before .before .pre) in omega (arith, b 6 (omega arith), b 7 (omega arith))
+
+returns : tie.Need-returns
+unfolding characterOf identifierAt
+returns c =
+    let n = c .before .before .before .args .t1 in
+    λ j. record {
+      id = c .before .before .identifier .ensures j;
+      «code_point» = getD n 2 0;
+      visible = eqb (getD n 3 0) 1;
+      previous = c .before .identifier2 .ensures j;
+      next = c .identifier3 .ensures j;
+    }
+
+pub character-of-spec : {M : Type 1} → statement M
+character-of-spec =
+    tie.close
+    (tie.spec
+    array-read-identifier
+    array-read-identifier-2
+    identifier-requires
+    array-read-t12
+    cast-t13
+    array-read-t16
+    array-read-identifier-3
+    array-read-identifier-4
+    identifier-requires-2
+    array-read-identifier-5
+    array-read-identifier-6
+    identifier-requires-3
+    returns)

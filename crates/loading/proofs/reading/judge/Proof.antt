@@ -1,0 +1,29 @@
+-- `loading::reading::judge` meets its contract: the arm knows the verdict.
+use borrow.Author.Needs.{needs}
+use Rattle.loading.specs.Reading.{judgement, judgedAs}
+use Rattle.loading.proofs.reading.judge.Statement.{statement}
+use Rattle.loading.proofs.reading.judge.Tie as tie
+
+enum-told : tie.Need-enum-told
+enum-told c = search needs
+
+enum-told-2 : tie.Need-enum-told-2
+enum-told-2 c = search needs
+
+enum-told-3 : tie.Need-enum-told-3
+enum-told-3 c = search needs
+
+returns : tie.Need-returns
+unfolding judgedAs judgement
+returns c = rw (c .enum-told .given .1)
+
+returns-2 : tie.Need-returns-2
+unfolding judgedAs judgement
+returns-2 c = rw (c .enum-told2 .given .1)
+
+returns-3 : tie.Need-returns-3
+unfolding judgedAs judgement
+returns-3 c = rw (c .enum-told3 .given .1)
+
+pub judge-spec : {M : Type 1} → statement M
+judge-spec = tie.close (tie.spec enum-told enum-told-2 enum-told-3 returns returns-2 returns-3)

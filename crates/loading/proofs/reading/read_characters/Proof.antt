@@ -1,0 +1,92 @@
+-- `loading::reading::read_characters` meets its contract, by the invariant of `proofs/Gathering.antt`.
+use mathlib.Core.Path.{_≡_, ap, _∙_}
+use mathlib.Core.Logic.{inl, inr, ⊎-elim}
+use mathlib.Core.List.{[]}
+use native.Mathlib.Omega.{arith}
+use lib.ListN.{length, getD}
+use borrow.Author.Needs.{needs}
+use borrow.Author.Tests.{not-true, not-false}
+use Rattle.woot.specs.State.{initial, documentOf, stored}
+use Rattle.lines.specs.Lines.{lines}
+use Rattle.loading.specs.Reading.{characterRead}
+use Rattle.lines.proofs.Lines.{rest-shorter}
+use Rattle.loading.proofs.Gathering.{CharacterLoop, characters-begun, characters-end, characters-left, characters-more}
+use Rattle.loading.proofs.reading.read_characters.Statement.{statement}
+use Rattle.loading.proofs.reading.read_characters.Tie as tie
+
+abbrev Inv-loop : tie.InvT-loop
+Inv-loop s items₀ count₀ in-range₀ left₀ items count in-range left = CharacterLoop s items count in-range left
+
+abbrev μ-loop : tie.MeasureT-loop
+μ-loop s items₀ count₀ in-range₀ left₀ items count in-range left = length left
+
+empty-requires : tie.Need-empty-requires Inv-loop μ-loop
+empty-requires c κs = search needs
+
+-- the first line that is left, as it is read
+line-read : (c : tie.After-read-character Inv-loop μ-loop) → c .read-character .result ≡ characterRead (getD (lines (c .before .before .loop .left .now)) 0 [])
+line-read c = c .read-character .ensures ∙ ap characterRead (c .before .head .ensures)
+
+loop-holds : tie.Need-loop-holds Inv-loop μ-loop
+unfolding stored documentOf initial
+loop-holds c =
+    let s = c .before .before .before .before .args .bytes .now in
+    rw (c .before .before .empty .ensures) (characters-begun s)
+
+head-requires : tie.Need-head-requires Inv-loop μ-loop
+head-requires c κs = search needs
+
+read-character-requires : tie.Need-read-character-requires Inv-loop μ-loop
+read-character-requires c κs = search needs
+
+returns : tie.Need-returns Inv-loop μ-loop
+returns c =
+    characters-end (c .before .before .before .before .loop .inv) _ (line-read (c .before .before)) (not-true _ (c .if1 .taken))
+
+mul-items : tie.Need-mul-items Inv-loop μ-loop
+mul-items c = omega arith
+
+array-set-from-items : tie.Need-array-set-from-items Inv-loop μ-loop
+array-set-from-items c = omega arith
+
+both-requires : tie.Need-both-requires Inv-loop μ-loop
+both-requires c κs = search needs
+
+add-count : tie.Need-add-count Inv-loop μ-loop
+add-count c =
+    let l = c .before .before .before .before .before .before .before .loop .inv in
+    omega (arith, l .small, characters-left l _ (line-read (c .before .before .before .before .before)) (not-false _ (c .before .before .before .if1 .left)))
+
+rest-requires : tie.Need-rest-requires Inv-loop μ-loop
+rest-requires c κs = search needs
+
+loop-less : tie.Need-loop-less Inv-loop μ-loop
+loop-less c =
+    let l = c .before .before .before .before .before .before .before .before .loop in
+    let some = characters-left (l .inv) _ (line-read (c .before .before .before .before .before .before)) (not-false _ (c .before .before .before .before .if1 .left)) in
+    omega (arith, rest-shorter (l .left .now) some, ap length (c .rest .ensures))
+
+loop-again : tie.Need-loop-again Inv-loop μ-loop
+loop-again c =
+    characters-more (c .before .before .before .before .before .before .before .before .loop .inv) _ (line-read (c .before .before .before .before .before .before)) (not-false _ (c .before .before .before .before .if1 .left))
+    (⊎-elim (λ w. inl (w .0 .taken, w .1)) (λ w. inr (w .0 .left, w .1)) (c .before .before .if2 .came))
+    (c .before .both .ensures) (c .rest .ensures)
+
+pub read-characters-spec : {M : Type 1} → statement M
+read-characters-spec =
+    tie.close
+    (tie.spec
+    Inv-loop
+    μ-loop
+    empty-requires
+    loop-holds
+    head-requires
+    read-character-requires
+    returns
+    mul-items
+    array-set-from-items
+    both-requires
+    add-count
+    rest-requires
+    loop-less
+    loop-again)

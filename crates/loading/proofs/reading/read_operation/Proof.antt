@@ -1,0 +1,63 @@
+-- `loading::reading::read_operation` meets its contract: what `codec` answers is the operation, refusal 2 or refusal 1.
+use mathlib.Core.Path.{_≡_, sym, _∙_, subst}
+use mathlib.Core.List.{List, [], _∷_}
+use Prim.Native.Nat.{ℕ}
+use types.Run.{OneOf, miss}
+use denote.Enum.Declared.{tagOf}
+use Rattle.woot.specs.declared.Refusal.{Refusal}
+use Rattle.woot.specs.declared.Refusal.the-variants.{Range}
+use Rattle.woot.proofs.Refusal.{the-type}
+use Rattle.loading.specs.Reading.{judgement}
+use Rattle.loading.proofs.Judging.{operation-done, operation-range, operation-layout}
+use borrow.Author.Needs.{needs}
+use Rattle.loading.proofs.reading.read_operation.Statement.{statement}
+use Rattle.loading.proofs.reading.read_operation.Tie as tie
+
+-- every refusal but 2, by its tag
+abbrev others : List ℕ
+others = 0 ∷ 2 ∷ 3 ∷ 4 ∷ 5 ∷ 6 ∷ 7 ∷ 8 ∷ 9 ∷ 10 ∷ 11 ∷ []
+
+no-range : (r : Refusal) → OneOf others (tagOf the-type r) → r ≡ Range → ⊥
+no-range r k e = miss others 1 tt (subst (λ (q : Refusal). OneOf others (tagOf the-type q)) e k)
+
+read-line-requires : tie.Need-read-line-requires
+read-line-requires c κs = search needs
+
+enum-known-read : tie.Need-enum-known-read
+enum-known-read c = search needs
+
+enum-known-read-2 : tie.Need-enum-known-read-2
+enum-known-read-2 c = search needs
+
+enum-told : tie.Need-enum-told
+enum-told c = search needs
+
+no-operation-requires : tie.Need-no-operation-requires
+no-operation-requires c κs = search needs
+
+no-operation-requires-2 : tie.Need-no-operation-requires-2
+no-operation-requires-2 c κs = search needs
+
+returns : tie.Need-returns
+unfolding judgement
+returns c = operation-done (c .before .before .before .before .before .args .line .now) _ (sym (c .before .before .before .read-line .ensures) ∙ c .before .read .given .1)
+
+returns-2 : tie.Need-returns-2
+returns-2 c = c .no-operation .ensures ∙ operation-range (c .before .before .before .before .before .before .before .before .args .line .now) _ (sym (c .before .before .before .before .before .before .read-line .ensures) ∙ c .before .before .before .before .read2 .given .1) (c .before .enum-told .given .1)
+
+returns-3 : tie.Need-returns-3
+returns-3 c = c .no-operation2 .ensures ∙ operation-layout (c .before .before .before .before .before .before .before .args .line .now) _ (sym (c .before .before .before .before .before .read-line .ensures) ∙ c .before .before .before .read2 .given .1) (no-range _ (c .before .match2 .keys2))
+
+pub read-operation-spec : {M : Type 1} → statement M
+read-operation-spec =
+    tie.close
+    (tie.spec
+    read-line-requires
+    enum-known-read
+    enum-known-read-2
+    enum-told
+    no-operation-requires
+    no-operation-requires-2
+    returns
+    returns-2
+    returns-3)

@@ -1,0 +1,47 @@
+-- `saving::writing::character_numbers` meets its contract: the array is written as the definition is.
+use Rattle.saved.specs.Format.{characterNumbers}
+use borrow.Author.Needs.{needs}
+use Rattle.saving.proofs.writing.character_numbers.Statement.{statement}
+use Rattle.saving.proofs.writing.character_numbers.Tie as tie
+
+cast-t2 : tie.Need-cast-t2
+cast-t2 c = search needs
+
+cast-t3 : tie.Need-cast-t3
+cast-t3 c = search needs
+
+cast-t4 : tie.Need-cast-t4
+cast-t4 c = search needs
+
+visible-number-requires : tie.Need-visible-number-requires
+visible-number-requires c κs = search needs
+
+cast-t6 : tie.Need-cast-t6
+cast-t6 c = search needs
+
+cast-t7 : tie.Need-cast-t7
+cast-t7 c = search needs
+
+cast-t8 : tie.Need-cast-t8
+cast-t8 c = search needs
+
+cast-t9 : tie.Need-cast-t9
+cast-t9 c = search needs
+
+returns : tie.Need-returns
+unfolding characterNumbers
+returns c = rw (c .before .before .before .before .visible-number .ensures)
+
+pub character-numbers-spec : {M : Type 1} → statement M
+character-numbers-spec =
+    tie.close
+    (tie.spec
+    cast-t2
+    cast-t3
+    cast-t4
+    visible-number-requires
+    cast-t6
+    cast-t7
+    cast-t8
+    cast-t9
+    returns)
