@@ -31,8 +31,8 @@ use Rattle.codec.specs.Calls.{saidBy}
 use Rattle.saved.specs.Format.{isSite, headLine, savedLaidOut, savedState, savedBytes}
 use Rattle.saved.specs.Calls.{loadChecks, unread, loaded}
 use Rattle.saved.proofs.Trips.{saved-says, saved-reads-back}
-use Rattle.wimtaze.specs.Results.{result, silent, inBits, numberOf}
-use Rattle.wimtaze.specs.Effects.{Effect, quiet, turned, writing, writingBoth, afterReceiving, sending, afterSending}
+use Rattle.results.specs.Results.{result, silent, inBits, numberOf}
+use Rattle.effects.specs.Effects.{Effect, quiet, turned, writing, writingBoth, afterReceiving, sending, afterSending}
 use Rattle.wimtaze.specs.Calls.{inputChecks, receivingLine, insertingHere, deletingHere}
 use Rattle.wimtaze.specs.Theorems.{Fits}
 use Rattle.wimtaze.proofs.Fitting.{results-fit}

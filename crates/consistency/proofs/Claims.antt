@@ -17,8 +17,8 @@ use Rattle.convergence.proofs.Forms.{empty-formed}
 use Rattle.convergence.proofs.Convergence.{convergence}
 use Rattle.saved.specs.Format.{savedBytes}
 use Rattle.replica.proofs.Runs.{initial-within}
-use Rattle.wimtaze.specs.Results.{result, silent}
-use Rattle.wimtaze.specs.Effects.{quiet, turned, writing}
+use Rattle.results.specs.Results.{result, silent}
+use Rattle.effects.specs.Effects.{quiet, turned, writing}
 use Rattle.wimtaze.specs.Calls.{beginning}
 use Rattle.wimtaze.proofs.Fitting.{results-fit}
 use Rattle.consistency.specs.Copies.{Copy, Call, memoryCall, bytesCall, bytesAfter, stepOn, ran, carriedBy, Empty, emptyReplica, emptyBytes, begun, charactersOf, textOf}

@@ -4,8 +4,8 @@ use mathlib.Core.Path.{_≡_}
 use mathlib.Core.List.{List}
 use lib.ListN.{take}
 use Rattle.woot.specs.Answers.{Word, done, waits, known, refused}
-use Rattle.wimtaze.specs.Results.{wordNumber, numberOf}
-use Rattle.wimtaze.specs.Effects.{Effect}
+use Rattle.results.specs.Results.{wordNumber, numberOf}
+use Rattle.effects.specs.Effects.{Effect}
 use Rattle.wimtaze.specs.Theorems.{Fits}
 use Rattle.wimtaze.proofs.Parts.{returned-reads-back}
 use Rattle.consistency.specs.Copies.{Copy, asBytes, bytesAfter, wordRead, writtenRead, wordOf, keptBytes}

@@ -23,8 +23,8 @@ use Rattle.saved.specs.declared.LoadAnswer.{LoadAnswer}
 use Rattle.saved.specs.declared.LoadAnswer.the-variants.{Done as loadDone, Refused as loadRefused}
 use Rattle.saved.specs.Format.{savedState}
 use Rattle.saved.specs.Calls.{loaded, saved, savedOut}
-use Rattle.wimtaze.specs.Results.{numberOf}
-use Rattle.wimtaze.specs.Effects.{Effect}
+use Rattle.results.specs.Results.{numberOf}
+use Rattle.effects.specs.Effects.{Effect}
 use Rattle.wimtaze.specs.Calls.{beginning, receivingLine, insertingHere, deletingHere}
 
 -- a replica in memory, or the bytes of a saved one

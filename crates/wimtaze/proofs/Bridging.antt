@@ -28,10 +28,10 @@ use Rattle.codec.specs.Operations.{operationLine}
 use Rattle.saved.specs.Format.{savedState, savedBytes}
 use Rattle.saved.specs.Calls.{bytesOf, held}
 use Rattle.saved.proofs.Held.{held-form}
-use Rattle.wimtaze.specs.Effects.{Effect, quiet, turned, writing, writingBoth, afterReceiving, sending, afterSending}
-use Rattle.wimtaze.specs.Results.{Result, silent}
-use Rattle.wimtaze.specs.Calls.{inputChecks, countsOf, counting}
-use Rattle.wimtaze.specs.Steps.{receiptLeft, sentLeft, generatedLeft, textLeft, countsLeft}
+use Rattle.effects.specs.Effects.{Effect, quiet, turned, writing, writingBoth, afterReceiving, sending, afterSending, countsOf}
+use Rattle.results.specs.Results.{Result, silent}
+use Rattle.wimtaze.specs.Calls.{inputChecks, counting}
+use Rattle.effects.specs.Steps.{receiptLeft, sentLeft, generatedLeft, textLeft, countsLeft}
 
 -- the form first, and then the rest
 abbrev pub formed-first : State → List ℕ → List ℕ → Effect → Effect

@@ -39,12 +39,12 @@ use Rattle.saved.specs.Format.{savedState, savedBytes}
 use Rattle.codec.specs.Theorems.{insertMost, deleteMost}
 use Rattle.saved.specs.Theorems.{savedMost}
 use Rattle.saved.proofs.Sizes.{saved-length}
-use Rattle.wimtaze.specs.Results.{Result, result, silent}
-use Rattle.wimtaze.specs.Effects.{Effect, quiet, turned, writing, writingBoth, afterReceiving, sending, afterSending}
-use Rattle.wimtaze.specs.Calls.{inputChecks, oneLine, beginning, receivingLine, insertingHere, deletingHere, showingText, countsOf, counting}
+use Rattle.results.specs.Results.{Result, result, silent}
+use Rattle.effects.specs.Effects.{Effect, quiet, turned, writing, writingBoth, afterReceiving, sending, afterSending, countsOf}
+use Rattle.wimtaze.specs.Calls.{inputChecks, oneLine, beginning, receivingLine, insertingHere, deletingHere, showingText, counting}
 use Rattle.wimtaze.specs.Theorems.{textMost, Fits, ResultsFit, CountsWithin, CountsFit, HasRoom, BuffersSuffice}
 use Rattle.wimtaze.proofs.Sizes.{text-length}
-use Rattle.wimtaze.proofs.Counting.{known-few}
+use Rattle.effects.proofs.Counting.{known-few}
 use Rattle.wimtaze.proofs.Counts.{Other, Fine, Sends, receive-fine, insert-sends, delete-sends}
 
 -- ---- what is returned

@@ -34,8 +34,8 @@ use Rattle.saved.specs.declared.LoadAnswer.the-variants.{Done as loadDone}
 use Rattle.saved.specs.Format.{savedState, savedBytes}
 use Rattle.saved.specs.Calls.{loaded}
 use Rattle.saved.proofs.Trips.{saved-reads-back}
-use Rattle.wimtaze.specs.Results.{result, silent}
-use Rattle.wimtaze.specs.Effects.{Effect, quiet, turned, writing, writingBoth, afterReceiving, sending, afterSending}
+use Rattle.results.specs.Results.{result, silent}
+use Rattle.effects.specs.Effects.{Effect, quiet, turned, writing, writingBoth, afterReceiving, sending, afterSending}
 use Rattle.wimtaze.specs.Calls.{inputChecks, oneLine, beginning, receivingLine, insertingHere, deletingHere}
 use Rattle.wimtaze.specs.Theorems.{Loads, WrittenLoads}
 

@@ -2,7 +2,7 @@
 use Prim.Native.Nat.{_<_}
 use native.Mathlib.Omega.{arith}
 use Rattle.woot.specs.Answers.{Word, done, waits, known, refused}
-use Rattle.wimtaze.specs.Results.{Result, wordNumber, inBits, numberOf}
+use Rattle.results.specs.Results.{Result, wordNumber, inBits, numberOf}
 use Rattle.wimtaze.specs.Calls.{counting}
 use Rattle.wimtaze.specs.Theorems.{PartsReadBack, ReadsBack, ReturnedReadsBack, CountsReadBack}
 use Rattle.wimtaze.proofs.Fitting.{counts-fit}

@@ -1,6 +1,6 @@
 -- The calls on any bytes and numbers: refusals 1, 2 and 3 over what was handed, then the rule on the state that the
 -- saved bytes say, then 12, then the bytes of the new state.
-use Prim.Native.Nat.{ℕ, _-_}
+use Prim.Native.Nat.{ℕ}
 use mathlib.Core.Bool.{Bool, true, _&&_, not}
 use mathlib.Core.List.{List, [], _∷_}
 use lib.Dec.{eqb}
@@ -8,18 +8,17 @@ use lib.ListN.{length}
 use Rattle.woot.specs.declared.Refusal.{Refusal}
 use Rattle.woot.specs.declared.Refusal.the-variants.{Layout, Range, Form}
 use Rattle.woot.specs.declared.Answer.the-variants.{Done, Refused}
-use Rattle.woot.specs.Limits.{capacity}
 use Rattle.woot.specs.Ranges.{siteNumber, codePoint, inRange}
 use Rattle.woot.specs.State.{State, initial}
-use Rattle.woot.specs.Form.{presentInserts, wellFormed}
+use Rattle.woot.specs.Form.{wellFormed}
 use Rattle.woot.specs.Answers.{Check, _⇒_, first, decided}
-use Rattle.woot.specs.Calls.{receive, visibles, localInsert, localDelete}
+use Rattle.woot.specs.Calls.{receive, localInsert, localDelete}
 use Rattle.woot.specs.Text.{text}
 use Rattle.lines.specs.Lines.{rest}
 use Rattle.codec.specs.Calls.{laidOut, saidBy}
 use Rattle.saved.specs.Format.{savedLaidOut, savedInRange, savedState, savedBytes}
-use Rattle.wimtaze.specs.Results.{Result, result, silent}
-use Rattle.wimtaze.specs.Effects.{Effect, turned, writing, afterReceiving, afterSending}
+use Rattle.results.specs.Results.{Result, silent}
+use Rattle.effects.specs.Effects.{Effect, turned, writing, afterReceiving, afterSending, countsOf}
 
 -- conditions 1, 2 and 3 over a saved replica and what else was handed, of which the two Bools say whether it has its
 -- layout and is in range
@@ -62,13 +61,6 @@ unfoldable pub showingText : List ℕ → List ℕ → Effect
 showingText bytes out =
     decided (turned out []) (first (inputChecks bytes true true))
     (writing (Done 0 0) (text (savedState bytes .characters)) out)
-
--- the counts of a state: its visible characters, its pending operations, all its characters, and how many more it has
--- room for
-unfoldable pub countsOf : State → Result
-countsOf s =
-    result (Done (length (visibles (s .characters))) (length (s .pending))) (length (s .characters))
-    (capacity - length (presentInserts s))
 
 -- `wimtaze_counts`
 unfoldable pub counting : List ℕ → Result

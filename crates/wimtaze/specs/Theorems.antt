@@ -7,13 +7,13 @@ use lib.ListN.{length, take}
 use Rattle.woot.specs.Answers.{known, refused}
 use Rattle.saved.specs.declared.LoadAnswer.the-variants.{Done as loadDone}
 use Rattle.saved.specs.Calls.{loaded}
-use Rattle.wimtaze.specs.Effects.{Effect}
+use Rattle.effects.specs.Effects.{Effect}
 use Rattle.woot.specs.State.{State}
 use Rattle.woot.specs.Form.{wellFormed}
 use Rattle.woot.specs.Text.{text}
 use Rattle.codec.specs.Theorems.{insertMost, deleteMost}
 use Rattle.saved.specs.Theorems.{savedMost}
-use Rattle.wimtaze.specs.Results.{Result, wordNumber, inBits, numberOf}
+use Rattle.results.specs.Results.{Result, wordNumber, inBits, numberOf}
 use Rattle.wimtaze.specs.Calls.{beginning, receivingLine, insertingHere, deletingHere, showingText, counting}
 
 -- ---- sizes: the header's WIMTAZE_SHEET_MAX, WIMTAZE_INSERT_MAX, WIMTAZE_ERASE_MAX and WIMTAZE_TEXT_MAX

@@ -1,8 +1,6 @@
 // The calls for programs in C: numbers and byte runs alone, and a saved replica in place of one in memory. Each returns
 // one number, and the header says how to take it apart.
-mod effects;
 mod inputs;
-mod results;
 
 use codec::Read;
 use saved::LoadAnswer;
@@ -11,8 +9,8 @@ use woot::Refusal;
 use woot::Replica;
 ghost use mathlib.Core.Path.{_≡_};
 ghost use mathlib.Core.List.{[]};
-ghost use Rattle.wimtaze.specs.Results.{numberOf};
-ghost use Rattle.wimtaze.specs.Effects.{Leaves};
+ghost use Rattle.results.specs.Results.{numberOf};
+ghost use Rattle.effects.specs.Effects.{Leaves};
 ghost use Rattle.wimtaze.specs.Calls.{beginning, receivingLine, insertingHere, deletingHere};
 ghost use Rattle.wimtaze.specs.Calls.{showingText, counting};
 

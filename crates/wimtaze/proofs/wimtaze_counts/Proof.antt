@@ -1,6 +1,6 @@
 -- `wimtaze::wimtaze_counts` meets its contract: what the reader refuses is refused, and what it reads is counted.
 use mathlib.Core.Path.{sym, ap, _∙_}
-use Rattle.wimtaze.specs.Results.{numberOf}
+use Rattle.results.specs.Results.{numberOf}
 use Rattle.wimtaze.proofs.Refusals.{refused-alone, passed}
 use Rattle.wimtaze.proofs.Bridging.{counts-refused, counts-passed}
 use borrow.Author.Needs.{needs}

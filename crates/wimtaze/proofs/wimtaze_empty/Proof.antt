@@ -5,7 +5,7 @@ use borrow.Author.Tests.{le-leb, lt-leb}
 use native.Mathlib.Omega.{arith}
 use Rattle.woot.specs.Ranges.{within, siteNumber}
 use Rattle.woot.specs.Answers.{decided}
-use Rattle.wimtaze.specs.Effects.{quiet, turned}
+use Rattle.effects.specs.Effects.{quiet, turned}
 use Rattle.woot.specs.State.{initial}
 use Rattle.saved.specs.Calls.{bytesOf}
 use Rattle.wimtaze.specs.Calls.{beginning}

@@ -3,11 +3,11 @@ use mathlib.Core.Path.{refl, sym, ap, _∙_}
 use Rattle.woot.specs.declared.Replica.{Replica}
 use Rattle.woot.specs.declared.Generated.{Generated}
 use Rattle.storage.specs.Replicas.{deleted}
-use Rattle.wimtaze.specs.Effects.{quiet, turned}
-use Rattle.wimtaze.specs.Steps.{generatedLeft}
+use Rattle.effects.specs.Effects.{quiet, turned}
+use Rattle.effects.specs.Steps.{generatedLeft}
 use Rattle.wimtaze.specs.Calls.{deletingHere}
 use Rattle.wimtaze.proofs.Refusals.{refused-alone, passed}
-use Rattle.wimtaze.proofs.Outputs.{carried, turned-away}
+use Rattle.effects.proofs.Outputs.{carried, turned-away}
 use Rattle.wimtaze.proofs.Bridging.{goes-on, erase-bridge}
 use borrow.Author.Needs.{needs}
 use Rattle.wimtaze.proofs.wimtaze_erase.Statement.{statement}

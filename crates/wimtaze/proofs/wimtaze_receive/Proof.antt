@@ -2,11 +2,11 @@
 use mathlib.Core.Path.{refl, sym, ap, _∙_}
 use mathlib.Core.Option.{some}
 use Rattle.woot.specs.declared.Receipt.{Receipt}
-use Rattle.wimtaze.specs.Effects.{quiet, turned}
-use Rattle.wimtaze.specs.Steps.{receiptLeft}
+use Rattle.effects.specs.Effects.{quiet, turned}
+use Rattle.effects.specs.Steps.{receiptLeft}
 use Rattle.wimtaze.specs.Calls.{receivingLine}
 use Rattle.wimtaze.proofs.Refusals.{refused-line, refused-beside, passed-beside}
-use Rattle.wimtaze.proofs.Outputs.{carried, turned-away}
+use Rattle.effects.proofs.Outputs.{carried, turned-away}
 use Rattle.wimtaze.proofs.Bridging.{goes-on, receive-bridge}
 use borrow.Author.Needs.{needs}
 use Rattle.wimtaze.proofs.wimtaze_receive.Statement.{statement}

@@ -2,11 +2,11 @@
 use mathlib.Core.Path.{refl, sym, ap, _∙_}
 use mathlib.Core.List.{[]}
 use Rattle.woot.specs.declared.Replica.{Replica}
-use Rattle.wimtaze.specs.Steps.{textLeft}
-use Rattle.wimtaze.specs.Effects.{quiet, turned}
+use Rattle.effects.specs.Steps.{textLeft}
+use Rattle.effects.specs.Effects.{quiet, turned}
 use Rattle.wimtaze.specs.Calls.{showingText}
 use Rattle.wimtaze.proofs.Refusals.{refused-alone, passed}
-use Rattle.wimtaze.proofs.Outputs.{carried, turned-away}
+use Rattle.effects.proofs.Outputs.{carried, turned-away}
 use Rattle.wimtaze.proofs.Bridging.{goes-on, text-bridge}
 use borrow.Author.Needs.{needs}
 use Rattle.wimtaze.proofs.wimtaze_text.Statement.{statement}

@@ -7,11 +7,11 @@ use Rattle.woot.specs.declared.Replica.{Replica}
 use Rattle.woot.specs.declared.Generated.{Generated}
 use Rattle.woot.specs.Answers.{first}
 use Rattle.storage.specs.Replicas.{inserted}
-use Rattle.wimtaze.specs.Effects.{quiet, turned}
-use Rattle.wimtaze.specs.Steps.{generatedLeft}
+use Rattle.effects.specs.Effects.{quiet, turned}
+use Rattle.effects.specs.Steps.{generatedLeft}
 use Rattle.wimtaze.specs.Calls.{inputChecks, insertingHere}
 use Rattle.wimtaze.proofs.Refusals.{refused-alone, passed, refused-range}
-use Rattle.wimtaze.proofs.Outputs.{carried, turned-away}
+use Rattle.effects.proofs.Outputs.{carried, turned-away}
 use Rattle.wimtaze.proofs.Bridging.{goes-on, type-bridge}
 use borrow.Author.Needs.{needs}
 use Rattle.wimtaze.proofs.wimtaze_type.Statement.{statement}

@@ -1,0 +1,159 @@
+-- What a call leaves is told of its whole effect at once, so that an equation of effects carries it over. Each law here
+-- says which effect it is once the tests on the way are known.
+use mathlib.Core.Path.{_≡_, refl, sym, ap, _∙_, subst}
+use mathlib.Core.Bool.{Bool, true, false, _||_, not, cond}
+use mathlib.Core.List.{List, [], _∷_}
+use mathlib.Core.Option.{Option, some}
+use mathlib.Core.Logic.{_⊎_, inl, inr}
+use Prim.Native.Nat.{ℕ, _+_, _≤_, _<_}
+use native.Mathlib.Omega.{arith}
+use borrow.Author.Tests.{leb-true, leb-false, lt-ltb, le-ltb}
+use lib.Dec.{leb, ltb}
+use lib.ListN.{length}
+use Rattle.output.specs.Output.{hasRoom, placed}
+use Rattle.woot.specs.declared.Operation.{Operation}
+use Rattle.woot.specs.declared.Replica.{Replica}
+use Rattle.woot.specs.declared.Refusal.{Refusal}
+use Rattle.woot.specs.declared.Refusal.the-variants.{Form, Output}
+use Rattle.woot.specs.declared.Answer.{Answer}
+use Rattle.woot.specs.declared.Answer.the-variants.{Done}
+use Rattle.woot.specs.declared.Sent.the-variants.{Done as sentDone, Refused as sentRefused}
+use Rattle.woot.specs.declared.Receipt.{Receipt}
+use Rattle.woot.specs.declared.Generated.{Generated}
+use Rattle.woot.specs.declared.Written.the-variants.{Length, Refused as writtenRefused}
+use Rattle.woot.specs.Answers.{changes, _⇒_, first, decided}
+use Rattle.woot.specs.Writing.{writingChecks, writtenAs, outputAfter}
+use Rattle.lists.proofs.Tests.{side}
+use Rattle.convergence.proofs.Writing.{length-refused, too-short, has-room}
+use Rattle.lines.specs.declared.Room.the-variants.{Until, Short}
+use Rattle.lines.specs.Answers.{roomFor}
+use Rattle.codec.specs.Operations.{operationLine}
+use Rattle.woot.specs.Form.{replicaWellFormed}
+use Rattle.replica.specs.Texts.{textOf, textChecks, textWritten, textOut}
+use Rattle.saved.specs.Calls.{bytesOf}
+use Rattle.results.specs.Results.{result}
+use Rattle.effects.specs.Effects.{Effect, Leaves, quiet, turned, writing, writingBoth}
+use Rattle.effects.specs.Steps.{afterWriting, receiptLeft, sentLeft, generatedLeft, textLeft}
+
+pub carried : {e f : Effect} {r : ℕ} {out line : List ℕ} → e ≡ f → Leaves f r out line → Leaves e r out line
+carried {r = r} {out = out} {line = line} p h = subst (λ (x : Effect). Leaves x r out line) (sym p) h
+
+-- a refusal that holds turns the call away
+pub turned-away : (out line : List ℕ) {o : Option Refusal} (e : Effect) {q : Refusal} → o ≡ some q → decided (turned out line) o e ≡ turned out line q
+unfolding decided
+turned-away out line e h = rw h
+
+-- ---- one output
+
+module _ (a : Answer) (bytes out : List ℕ) where
+  -- what a writer with no condition of its own does
+  pub writing-written : writing a bytes out ≡ record { result = afterWriting a (writtenAs [] bytes out); output = outputAfter [] bytes out; line = [] }
+  unfolding writing decided turned quiet writtenAs outputAfter writingChecks afterWriting
+  writing-written = go (ltb (length out) (length bytes))
+    where
+      go : (b : Bool)
+          → decided (turned out []) (first ((b ⇒ Output) ∷ [])) (record { result = result a (length bytes) 0; output = placed out 0 bytes; line = [] })
+          ≡ record { result = afterWriting a (decided (λ w. w) (first ((b ⇒ writtenRefused Output) ∷ [])) (Length (length bytes))); output = decided (λ w. out) (first ((b ⇒ writtenRefused Output) ∷ [])) (placed out 0 bytes); line = [] }
+      go true = refl
+      go false = refl
+
+-- the text of a replica, by what its writer answers
+pub text-written : (r : Replica) (out : List ℕ) → textLeft r out ≡ record { result = afterWriting (Done 0 0) (textWritten r out); output = textOut r out; line = [] }
+unfolding textLeft textWritten textOut textChecks writtenAs outputAfter writingChecks decided turned quiet afterWriting writing
+text-written r out = go (replicaWellFormed r) (ltb (length out) (length (textOf r)))
+  where
+    go : (f b : Bool)
+        → decided (turned out []) (first ((not f ⇒ Form) ∷ [])) (decided (turned out []) (first ((b ⇒ Output) ∷ [])) (record { result = result (Done 0 0) (length (textOf r)) 0; output = placed out 0 (textOf r); line = [] }))
+        ≡ record {
+          result = afterWriting (Done 0 0) (decided (λ w. w) (first ((not f ⇒ writtenRefused Form) ∷ (b ⇒ writtenRefused Output) ∷ [])) (Length (length (textOf r))));
+          output = decided (λ w. out) (first ((not f ⇒ writtenRefused Form) ∷ (b ⇒ writtenRefused Output) ∷ [])) (placed out 0 (textOf r));
+          line = [];
+        }
+    go true true = refl
+    go true false = refl
+    go false b = refl
+
+-- ---- receiving
+
+module _ (x y : Receipt) (e : x ≡ y) (out : List ℕ) where
+  pub unchanged : changes (x .answer) ≡ false → receiptLeft y out ≡ quiet out [] (x .answer)
+  unfolding receiptLeft
+  unchanged h = rw (← e, h)
+
+  pub changed : changes (x .answer) ≡ true → receiptLeft y out ≡ writing (x .answer) (bytesOf (x .replica)) out
+  unfolding receiptLeft
+  changed h = rw (← e, h)
+
+-- ---- sending
+
+until-short : {n : ℕ} → Until n ≡ Short → ⊥
+until-short e = let z : _≡_ {A = ℕ} 0 1 = cc in omega arith
+
+module _ (a : Answer) (bytes sent out line : List ℕ) where
+  -- the two tests on the outputs
+  abbrev decidedBoth : Bool → Bool → Effect
+  decidedBoth b c =
+      decided (turned out line) (first ((b || c ⇒ Output) ∷ []))
+      (record { result = result a (length bytes) (length sent); output = placed out 0 bytes; line = placed line 0 sent })
+
+  pub line-short : roomFor (length line) 0 sent ≡ Short → writingBoth a bytes sent out line ≡ turned out line Output
+  unfolding writingBoth decided roomFor hasRoom
+  line-short h = go (leb (0 + length sent) (length line)) refl h
+    where
+      over : (b : Bool) → decidedBoth b true ≡ turned out line Output
+      over true = refl
+      over false = refl
+
+      go : (b : Bool) → leb (0 + length sent) (length line) ≡ b → cond b (Until (0 + length sent)) Short ≡ Short → writingBoth a bytes sent out line ≡ turned out line Output
+      go true e k = absurd (until-short k)
+      go false e k =
+          let low : length line < length sent = omega (arith, leb-false (0 + length sent) (length line) e) in
+          rw (lt-ltb (length line) (length sent) low) (over (ltb (length out) (length bytes)))
+
+  module _ {m : ℕ} (h : roomFor (length line) 0 sent ≡ Until m) where
+    -- the line has room, and is so long
+    line-room : (ltb (length line) (length sent) ≡ false) × (m ≡ length sent)
+    unfolding roomFor hasRoom
+    line-room = go (leb (0 + length sent) (length line)) refl h
+      where
+        go : (b : Bool) → leb (0 + length sent) (length line) ≡ b → cond b (Until (0 + length sent)) Short ≡ Until m → (ltb (length line) (length sent) ≡ false) × (m ≡ length sent)
+        go true e k =
+            let low : length sent ≤ length line = omega (arith, leb-true (0 + length sent) (length line) e) in
+            let long : 0 + length sent ≡ m = cc in
+            (le-ltb (length line) (length sent) low, omega arith)
+        go false e k = absurd (until-short (sym k))
+
+    pub save-refused : {q : Refusal} → writtenAs [] bytes out ≡ writtenRefused q → (writingBoth a bytes sent out line ≡ turned out line q) × (outputAfter [] bytes out ≡ out)
+    unfolding writingBoth decided
+    save-refused {q} k = go (side (length bytes) (length out))
+      where
+        go : (length bytes ≤ length out) ⊎ (length out < length bytes) → (writingBoth a bytes sent out line ≡ turned out line q) × (outputAfter [] bytes out ≡ out)
+        go (inl room) = absurd (length-refused (sym (has-room [] bytes out refl room .0) ∙ k))
+        go (inr low) =
+            let w = too-short [] bytes out refl low in
+            let same : writtenRefused Output ≡ writtenRefused q = sym (w .0) ∙ k in
+            let o : Output ≡ q = cc in
+            (rw (lt-ltb (length out) (length bytes) low) (ap (turned out line) o), w .1)
+
+    pub both-written : {n : ℕ} → writtenAs [] bytes out ≡ Length n
+        → writingBoth a bytes sent out line ≡ record { result = result a n m; output = outputAfter [] bytes out; line = placed line 0 sent }
+    unfolding writingBoth decided
+    both-written {n} k = go (side (length bytes) (length out))
+      where
+        go : (length bytes ≤ length out) ⊎ (length out < length bytes) → writingBoth a bytes sent out line ≡ record { result = result a n m; output = outputAfter [] bytes out; line = placed line 0 sent }
+        go (inl room) =
+            let w = has-room [] bytes out refl room in
+            let same : Length (length bytes) ≡ Length n = sym (w .0) ∙ k in
+            let o : length bytes ≡ n = cc in
+            rw (le-ltb (length out) (length bytes) room, line-room .0, ← o, line-room .1, w .1)
+        go (inr low) = absurd (length-refused (sym k ∙ too-short [] bytes out refl low .0))
+
+module _ (g : Generated) (out line : List ℕ) where
+  pub not-sent : {q : Refusal} → g .answer ≡ sentRefused q → generatedLeft g out line ≡ turned out line q
+  unfolding generatedLeft sentLeft
+  not-sent h = rw h
+
+  pub sent-both : {o : Operation} {n m : ℕ} → g .answer ≡ sentDone o n m →
+      generatedLeft g out line ≡ writingBoth (Done n m) (bytesOf (g .replica)) (operationLine o) out line
+  unfolding generatedLeft sentLeft
+  sent-both h = rw h

@@ -1,0 +1,45 @@
+-- `effects::send` meets its contract, variant by variant.
+use mathlib.Core.Path.{refl}
+use Rattle.effects.specs.Effects.{quiet, turned}
+use Rattle.effects.proofs.Outputs.{carried, not-sent, sent-both}
+use borrow.Author.Needs.{needs}
+use Rattle.effects.proofs.send.Statement.{statement}
+use Rattle.effects.proofs.send.Tie as tie
+
+enum-known-answer : tie.Need-enum-known-answer
+enum-known-answer c = search needs
+
+refused-requires : tie.Need-refused-requires
+refused-requires c κs = search needs
+
+enum-known-answer-2 : tie.Need-enum-known-answer-2
+enum-known-answer-2 c = search needs
+
+save-both-requires : tie.Need-save-both-requires
+save-both-requires c κs = search needs
+
+returns : tie.Need-returns
+unfolding turned quiet
+returns c = carried (not-sent _ _ _ (c .before .before .answer .given .1)) (c .refused .ensures, refl, refl)
+
+same-length : tie.Need-same-length
+same-length c = search needs
+
+same-length-2 : tie.Need-same-length-2
+same-length-2 c = search needs
+
+returns-2 : tie.Need-returns-2
+returns-2 c = carried (sent-both _ _ _ (c .before .before .before .before .before .before .before .before .before .answer2 .given .1)) (c .before .before .before .before .save-both .ensures)
+
+pub send-spec : {M : Type 1} → statement M
+send-spec =
+    tie.close
+    (tie.spec
+    enum-known-answer
+    refused-requires
+    enum-known-answer-2
+    save-both-requires
+    returns
+    same-length
+    same-length-2
+    returns-2)

@@ -1,0 +1,50 @@
+-- For the proofs of the code alone: what the steps of a call leave, of replicas in memory.
+use Prim.Native.Nat.{ℕ}
+use mathlib.Core.Bool.{not, cond}
+use mathlib.Core.List.{List, [], _∷_}
+use Rattle.woot.specs.declared.Replica.{Replica}
+use Rattle.woot.specs.declared.Refusal.the-variants.{Form}
+use Rattle.woot.specs.declared.Answer.{Answer}
+use Rattle.woot.specs.declared.Answer.the-variants.{Done, Refused}
+use Rattle.woot.specs.declared.Sent.{Sent}
+use Rattle.woot.specs.declared.Sent.the-variants.{Done as sentDone, Refused as sentRefused}
+use Rattle.woot.specs.declared.Receipt.{Receipt}
+use Rattle.woot.specs.declared.Generated.{Generated}
+use Rattle.woot.specs.declared.Written.{Written}
+use Rattle.woot.specs.declared.Written.the-variants.{Length, Refused as writtenRefused}
+use Rattle.woot.specs.State.{meaning}
+use Rattle.woot.specs.Form.{replicaWellFormed}
+use Rattle.woot.specs.Answers.{changes, _⇒_, first, decided}
+use Rattle.codec.specs.Operations.{operationLine}
+use Rattle.replica.specs.Texts.{textOf}
+use Rattle.saved.specs.Calls.{bytesOf}
+use Rattle.results.specs.Results.{Result, result, silent}
+use Rattle.effects.specs.Effects.{Effect, quiet, turned, writing, writingBoth, countsOf}
+
+-- an answer with so many bytes written, unless writing was refused
+unfoldable pub afterWriting : Answer → Written → Result
+afterWriting a (Length n) = result a n 0
+afterWriting a (writtenRefused q) = silent (Refused q)
+
+-- what a receipt leaves
+unfoldable pub receiptLeft : Receipt → List ℕ → Effect
+receiptLeft x out =
+    cond (changes (x .answer)) (writing (x .answer) (bytesOf (x .replica)) out) (quiet out [] (x .answer))
+
+-- what comes of a call that sends
+unfoldable pub sentLeft : Sent → Replica → List ℕ → List ℕ → Effect
+sentLeft (sentDone o n m) r out line = writingBoth (Done n m) (bytesOf r) (operationLine o) out line
+sentLeft (sentRefused q) r out line = turned out line q
+
+unfoldable pub generatedLeft : Generated → List ℕ → List ℕ → Effect
+generatedLeft x out line = sentLeft (x .answer) (x .replica) out line
+
+-- the text of a replica, whose form decides first
+unfoldable pub textLeft : Replica → List ℕ → Effect
+textLeft r out =
+    decided (turned out []) (first ((not (replicaWellFormed r) ⇒ Form) ∷ [])) (writing (Done 0 0) (textOf r) out)
+
+-- the counts of a replica, whose form decides first
+unfoldable pub countsLeft : Replica → Result
+countsLeft r =
+    decided (λ q. silent (Refused q)) (first ((not (replicaWellFormed r) ⇒ Form) ∷ [])) (countsOf (meaning r))

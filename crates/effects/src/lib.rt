@@ -1,0 +1,177 @@
+// What the calls do once nothing that was handed is refused for its layout or range: the rule, and then the bytes of
+// what it leaves.
+use lines::Room;
+use pending::queue;
+use pending::queue::Queue;
+use woot::Answer;
+use woot::Generated;
+use woot::Operation;
+use woot::Refusal;
+use woot::Replica;
+use woot::Sent;
+use woot::Written;
+ghost use mathlib.Core.Path.{_≡_};
+ghost use mathlib.Core.Bool.{true, not};
+ghost use mathlib.Core.List.{[]};
+ghost use lib.Dec.{eqb};
+ghost use lib.ListN.{length, take};
+ghost use Rattle.lists.specs.Lists.{keep};
+ghost use Rattle.woot.specs.State.{meaning};
+ghost use Rattle.woot.specs.Form.{replicaWellFormed};
+ghost use Rattle.woot.specs.Answers.{changes};
+ghost use Rattle.pending.specs.Queue.{queueOf};
+ghost use Rattle.codec.specs.Operations.{operationLine};
+ghost use Rattle.storage.specs.Replicas.{received};
+ghost use Rattle.saved.specs.Calls.{bytesOf};
+ghost use Rattle.results.specs.Results.{numberOf};
+ghost use Rattle.effects.specs.Effects.{Leaves, writing, writingBoth, countsOf};
+ghost use Rattle.effects.specs.Steps.{afterWriting, receiptLeft, generatedLeft, textLeft, countsLeft};
+
+// What is returned once writing was tried.
+fn after_writing(answer: Answer, written: Written) -> u64
+    ensures { λ r. ⌜ r ≡ numberOf (afterWriting answer written) ⌝ }
+{
+    match written {
+        Written::Length(n) => results::returned(answer, n, 0),
+        Written::Refused(refusal) => results::refused(refusal),
+    }
+}
+
+// Saves the replica, and answers so.
+pub fn save(answer: Answer, replica: Replica, out: &mut [u8]) -> u64
+    ensures { λ r. ⌜ Leaves (writing answer (bytesOf replica) (now (out .entry))) r (now (out .exit)) [] ⌝ }
+{
+    after_writing(answer, saving::put(replica, out))
+}
+
+// Writes the visible text.
+pub fn show(replica: Replica, out: &mut [u8]) -> u64
+    ensures { λ r. ⌜ Leaves (textLeft replica (now (out .entry))) r (now (out .exit)) [] ⌝ }
+{
+    let none = Answer::Done {
+        integrated: 0,
+        discarded: 0,
+    };
+    after_writing(none, replica::visible_text(replica, out))
+}
+
+// How many of the first w pending operations are inserts.
+fn inserts_among(queue: Queue, w: usize) -> usize
+    ensures { λ r. ⌜ r ≡ length (keep (λ k. not (eqb k 0)) (take w (queue .own))) ⌝ }
+{
+    let own = queue.own;
+    let end = index::lesser(w, 512);
+    queue::count_inserts(&own[..end])
+}
+
+// The counts of a replica that is well formed, whose pending operations are packed. A pending insert has its place
+// kept, so the room is what is left beside it.
+fn counts_of(replica: Replica, queue: Queue) -> u64
+    requires { ⌜ replicaWellFormed replica ≡ true ⌝ }
+    requires { ⌜ queue ≡ queueOf (meaning replica .pending) ⌝ }
+    ensures { λ r. ⌜ r ≡ numberOf (countsOf (meaning replica)) ⌝ }
+{
+    let d = replica.document;
+    let characters = d.characters;
+    let n = d.length;
+    let w = d.waiting;
+    let held = n + inserts_among(queue, w);
+    let room = 1024 - held;
+    let shown = visible::count(characters, n);
+    let counts = Answer::Done {
+        integrated: shown,
+        discarded: w,
+    };
+    results::returned(counts, n, room)
+}
+
+// Counts what the replica holds.
+pub fn count(replica: Replica) -> u64
+    ensures { λ r. ⌜ r ≡ numberOf (countsLeft replica) ⌝ }
+{
+    let checked = well_formed::check(replica);
+    if !checked.formed {
+        return results::refused(Refusal::Form);
+    }
+    let queue = checked.queue;
+    counts_of(replica, queue)
+}
+
+// Whether the answer is one that changes the replica.
+fn is_change(answer: Answer) -> bool
+    ensures { λ r. ⌜ r ≡ changes answer ⌝ }
+{
+    match answer {
+        Answer::Done {
+            integrated: _,
+            discarded: _,
+        } => true,
+        Answer::Deferred => true,
+        Answer::Duplicate => false,
+        Answer::Refused(_) => false,
+    }
+}
+
+// Receives the operation, and saves the replica if that changed it.
+pub fn receive(replica: Replica, operation: Operation, out: &mut [u8]) -> u64
+    ensures { λ r. ⌜ Leaves (receiptLeft (received replica operation) (now (out .entry))) r (now (out .exit)) [] ⌝ }
+{
+    let receipt = replica::receive(replica, operation);
+    let answer = receipt.answer;
+    if !is_change(answer) {
+        return results::returned(answer, 0, 0);
+    }
+    let after = receipt.replica;
+    save(answer, after, out)
+}
+
+// Saves the replica and writes the line, or neither: the line is measured before anything is written.
+fn save_both(
+    answer: Answer,
+    replica: Replica,
+    operation: Operation,
+    out: &mut [u8],
+    line: &mut [u8],
+) -> u64
+    ensures { λ r. ⌜ Leaves (writingBoth answer (bytesOf replica) (operationLine operation)
+        (now (out .entry)) (now (line .entry)))
+        r (now (out .exit)) (now (line .exit)) ⌝ }
+{
+    let space = codec::measure(operation, line.len(), 0);
+    match space {
+        Room::Short => results::refused(Refusal::Output),
+        Room::Until(length) => {
+            let written = saving::put(replica, out);
+            match written {
+                Written::Refused(refusal) => results::refused(refusal),
+                Written::Length(n) => {
+                    codec::put_operation(operation, line, 0);
+                    results::returned(answer, n, length)
+                }
+            }
+        }
+    }
+}
+
+// Saves the new replica and writes the line of the operation to be sent, or answers the refusal.
+pub fn send(generated: Generated, out: &mut [u8], line: &mut [u8]) -> u64
+    ensures { λ r. ⌜ Leaves (generatedLeft generated (now (out .entry)) (now (line .entry)))
+        r (now (out .exit)) (now (line .exit)) ⌝ }
+{
+    let answer = generated.answer;
+    match answer {
+        Sent::Refused(refusal) => results::refused(refusal),
+        Sent::Done {
+            operation,
+            integrated,
+            discarded,
+        } => {
+            let done = Answer::Done {
+                integrated,
+                discarded,
+            };
+            let after = generated.replica;
+            save_both(done, after, operation, out, line)
+        }
+    }
+}

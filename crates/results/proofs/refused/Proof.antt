@@ -1,0 +1,15 @@
+-- `results::refused` meets its contract: a refusal is an answer with nothing written.
+use Rattle.results.specs.Results.{silent}
+use borrow.Author.Needs.{needs}
+use Rattle.results.proofs.refused.Statement.{statement}
+use Rattle.results.proofs.refused.Tie as tie
+
+returned-requires : tie.Need-returned-requires
+returned-requires c κs = search needs
+
+returns : tie.Need-returns
+unfolding silent
+returns c = c .returned .ensures
+
+pub refused-spec : {M : Type 1} → statement M
+refused-spec = tie.close (tie.spec returned-requires returns)
