@@ -18,8 +18,8 @@ use Rattle.woot.specs.Histories.{inserting, deleting, receiving, outcome, Call 
 use Rattle.storage.specs.Replicas.{afterAnswer, afterSent, receipt, generated, received, inserted, deleted}
 use Rattle.replica.specs.Theorems.{called, answerTo}
 use Rattle.replica.proofs.Runs.{Within, formed-within, meaning-stored, form-stored}
-use Rattle.site_record.specs.Lent.{returned}
-use Rattle.site_record.proofs.Sites.{lent-follows}
+use Rattle.lent.specs.Lent.{returned}
+use Rattle.lent.proofs.Sites.{lent-follows}
 use Rattle.codec.specs.Calls.{laidOut, saidBy, readOperation}
 use Rattle.codec.proofs.Judging.{read-layout, read-range, read-operation}
 use Rattle.report.specs.Calls.{answeredAs, answered}

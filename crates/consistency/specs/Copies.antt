@@ -15,8 +15,8 @@ use Rattle.woot.specs.Calls.{allIntegrated}
 use Rattle.woot.specs.Text.{text}
 use Rattle.woot.specs.Histories.{inserting, deleting, receiving, outcome, Call as RuleCall}
 use Rattle.replica.specs.Theorems.{called, answerTo}
-use Rattle.site_record.specs.declared.Returned.{Returned}
-use Rattle.site_record.specs.Lent.{together, returned, siteAfter}
+use Rattle.lent.specs.declared.Returned.{Returned}
+use Rattle.lent.specs.Lent.{together, returned, siteAfter}
 use Rattle.codec.specs.Calls.{saidBy}
 use Rattle.report.specs.Calls.{answered}
 use Rattle.saved.specs.declared.LoadAnswer.{LoadAnswer}

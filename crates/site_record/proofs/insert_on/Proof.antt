@@ -47,16 +47,16 @@ use Rattle.woot.proofs.Site as S
 use Rattle.woot.proofs.Site.Laws as S′
 use Rattle.woot.proofs.Document as D
 use Rattle.woot.proofs.Document.Laws as D′
-use Rattle.site_record.specs.declared.Outcome.{Outcome}
-use Rattle.site_record.specs.Lent.{returned, withClock, siteAfter}
-use Rattle.site_record.proofs.Returned as R
-use Rattle.site_record.proofs.Returned.Laws as R′
-use Rattle.site_record.proofs.Outcome as O
-use Rattle.site_record.proofs.Outcome.Laws as O′
-use Rattle.site_record.proofs.insert_with as with
-use Rattle.site_record.proofs.insert_with.Symbol as with-def
-use Rattle.site_record.proofs.insert_with.Symbol.{name as #site-record·insert-with}
-use Rattle.site_record.proofs.insert_with.Met as with-thm
+use Rattle.lent.specs.declared.Outcome.{Outcome}
+use Rattle.lent.specs.Lent.{returned, withClock, siteAfter}
+use Rattle.lent.proofs.Returned as R
+use Rattle.lent.proofs.Returned.Laws as R′
+use Rattle.lent.proofs.Outcome as O
+use Rattle.lent.proofs.Outcome.Laws as O′
+use Rattle.lent.proofs.insert_with as with
+use Rattle.lent.proofs.insert_with.Symbol as with-def
+use Rattle.lent.proofs.insert_with.Symbol.{name as #lent·insert-with}
+use Rattle.lent.proofs.insert_with.Met as with-thm
 use Rattle.site_record.proofs.insert_on.Key.{name as #site-record·insert-on}
 use Rattle.site_record.proofs.insert_on as f
 use Rattle.site_record.proofs.insert_on.Statement as stated
@@ -204,7 +204,7 @@ module _ {M : Type 1} (𝓤 : URA M) (H : Heap 𝓤) (A : Atoms 𝓤) (W : Given
         exE 𝓤 _ (λ ws.
         via 𝓤 _ (snd∗ 𝓤 (sem 𝓤 H A (lasts with.ended tt (h, plains) ws)) (sep 𝓤 (fact 𝓤 (Returns h d g n r)) (fact 𝓤 (Leaves h r)))) (at-once 𝓤 (Returns h d g n r) (Leaves h r)))
 
-    module _ (C : Calls 𝓤 H) (Λ : Loops 𝓤 H) (fm : FmC 𝓤 H (W .laws) C) (known : Triple 𝓤 (C #site-record·insert-with) With) where
+    module _ (C : Calls 𝓤 H) (Λ : Loops 𝓤 H) (fm : FmC 𝓤 H (W .laws) C) (known : Triple 𝓤 (C #lent·insert-with) With) where
       -- the locals, by their types and places
       abbrev locals : (l₀ l₁ l₂ l₃ l₄ l₅ l₆ : ℕ) → Env 𝓤 H
       locals l₀ l₁ l₂ l₃ l₄ l₅ l₆ = (R′.mir, l₀) ∷ (borrowed, l₁) ∷ (D′.mir, l₂) ∷ (tyInt w64, l₃) ∷ (tyInt w32, l₄) ∷ (O′.mir, l₅) ∷ (S′.mir, l₆) ∷ []
@@ -297,7 +297,7 @@ module _ {M : Type 1} (𝓤 : URA M) (H : Heap 𝓤) (A : Atoms 𝓤) (W : Given
           spelt ! S.the-row (Is S.the-row) (shows 𝓤 H A S.the-row) (LL.vals S.the-type S′.the-laws) (LL.tells S.the-type S′.the-laws) fullShare h vs b o $
           move ! (1 ∷ []) $ peeks ! S.the-row (Is S.the-row) (shows 𝓤 H A S.the-row) h (record-value h ∷ []) (λ was. move ! (1 ∷ 0 ∷ []) $ middle l₀ l₁ l₂ l₃ l₄ l₅ l₆ is gg gn was)))))))))
 
-  walks : (C : Calls 𝓤 H) (Λ : Loops 𝓤 H) → FmC 𝓤 H (W .laws) C → Triple 𝓤 (C #site-record·insert-with) With → Walks 𝓤 H A f.ended stayed (WpFn 𝓤 H C Λ code.function) clauses
+  walks : (C : Calls 𝓤 H) (Λ : Loops 𝓤 H) → FmC 𝓤 H (W .laws) C → Triple 𝓤 (C #lent·insert-with) With → Walks 𝓤 H A f.ended stayed (WpFn 𝓤 H C Λ code.function) clauses
   walks C Λ fm known =
       walked 𝓤 H A f.ended stayed clauses (WpFn 𝓤 H C Λ code.function)
       (λ κs. (ptr-vals, (LL.vals D.the-type D′.the-laws, (uint-vals w64, (uint-vals w32, tt)))))
@@ -316,7 +316,7 @@ module _ {M : Type 1} (𝓤 : URA M) (H : Heap 𝓤) (A : Atoms 𝓤) (W : Given
     ),
   )
 
-  meets : (𝓣 : Tables 𝓤 H) → Triple 𝓤 (𝓣 .C #site-record·insert-with) With → Meets 𝓤 H A f.signature (WpFn 𝓤 H (𝓣 .C) (𝓣 .Λ) code.function) (f.spec 𝓤 H A at-mem run)
+  meets : (𝓣 : Tables 𝓤 H) → Triple 𝓤 (𝓣 .C #lent·insert-with) With → Meets 𝓤 H A f.signature (WpFn 𝓤 H (𝓣 .C) (𝓣 .Λ) code.function) (f.spec 𝓤 H A at-mem run)
   meets 𝓣 known =
       walk-meets 𝓤 H A f.ended stayed W goes clauses (WpFn 𝓤 H (𝓣 .C) (𝓣 .Λ) code.function) (WpFn-mono 𝓤 H (W .laws) 𝓣 code.function)
       (walks (𝓣 .C) (𝓣 .Λ) (fmOf 𝓤 H (W .laws) 𝓣) known)
@@ -328,4 +328,4 @@ insert-on-spec 𝓤 H 𝓜 𝓖 𝓡 =
     let 𝓣 = tables 𝓤 H 𝓜 𝓡 code.env in
     entered 𝓤 H (tripleOf 𝓤 H (𝓖 .A) f.signature (f.spec 𝓤 H (𝓖 .A) (𝓜 .mem) (𝓡 .run))) (𝓣 .C) (𝓣 .Λ) #site-record·insert-on code.function (code.unfolded 𝓤 H 𝓜 𝓡)
     (meets 𝓤 H (𝓖 .A) W (𝓜 .mem) (𝓡 .run) (tablesOf 𝓤 H 𝓜 𝓣)
-    (cited 𝓤 H (With 𝓤 H (𝓖 .A) W (𝓜 .mem) (𝓡 .run)) 𝓜 𝓡 code.env #site-record·insert-with with-def.routine code.calls-site-record·insert-with (with-thm.met 𝓤 H 𝓜 𝓖 𝓡)))
+    (cited 𝓤 H (With 𝓤 H (𝓖 .A) W (𝓜 .mem) (𝓡 .run)) 𝓜 𝓡 code.env #lent·insert-with with-def.routine code.calls-lent·insert-with (with-thm.met 𝓤 H 𝓜 𝓖 𝓡)))

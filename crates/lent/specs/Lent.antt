@@ -12,7 +12,7 @@ use Rattle.woot.specs.Form.{replicaWellFormed}
 use Rattle.woot.specs.Histories.{inserting}
 use Rattle.storage.specs.Replicas.{inserted}
 use Rattle.replica.specs.Theorems.{called}
-use Rattle.site_record.specs.declared.Returned.{Returned}
+use Rattle.lent.specs.declared.Returned.{Returned}
 
 -- "the record counts as part of the sheet"
 abbrev pub together : Site → Document → Replica

@@ -1,10 +1,10 @@
--- `site_record::insert_with` takes apart what the call on replicas returns.
+-- `lent::insert_with` takes apart what the call on replicas returns.
 use mathlib.Core.Path.{refl}
 use borrow.Author.Needs.{needs}
-use Rattle.site_record.specs.Lent.{together, returned}
-use Rattle.site_record.proofs.Sites.{clock-after}
-use Rattle.site_record.proofs.insert_with.Statement.{statement}
-use Rattle.site_record.proofs.insert_with.Tie as tie
+use Rattle.lent.specs.Lent.{together, returned}
+use Rattle.lent.proofs.Sites.{clock-after}
+use Rattle.lent.proofs.insert_with.Statement.{statement}
+use Rattle.lent.proofs.insert_with.Tie as tie
 
 insert-requires : tie.Need-insert-requires
 insert-requires c κs = search needs

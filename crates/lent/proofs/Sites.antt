@@ -16,7 +16,7 @@ use Rattle.storage.specs.Replicas.{afterSent, generated, inserted}
 use Rattle.replica.specs.Theorems.{called}
 use Rattle.woot.specs.Histories.{inserting}
 use Rattle.replica.proofs.Kept.{replicas-formed}
-use Rattle.site_record.specs.Lent.{together, returned, withClock, siteAfter, LentFollows, RecordFormed}
+use Rattle.lent.specs.Lent.{together, returned, withClock, siteAfter, LentFollows, RecordFormed}
 
 module _ (r : Replica) (g n : ℕ) where
   -- what the call comes to where the checks report m
