@@ -18,9 +18,9 @@ use Rattle.codec.specs.Operations.{identifierAt, insertOf, deleteOf, isInsert, 
 use Rattle.codec.specs.Calls.{lineLaidOut, laidOut, readChecks, readAs, saidBy, readOperation}
 use Rattle.storage.specs.Replicas.{afterAnswer, receipt, received}
 use Rattle.report.specs.Lines.{spelled, replyLine, reportLine, codePoints, textNumbers, textLine}
-use Rattle.report.specs.Calls.{answeredAs, answered, printedFrom, printed}
+use Rattle.report.specs.Calls.{answeredAs, answered, printedFrom, wholeOutput}
 use Rattle.report.specs.Theorems.{Example}
 
 pub example : Example
-unfolding same below sender character origin isVisible hidden deletedBy sameInsert sameDelete sameOperation within siteNumber codePoint characterId previousId nextId siteInRange insertInRange deleteInRange inRange characterInRange initial pad slotOf blankCharacter blankPending meaning documentOf stored counted tableAgrees key chainOf walk lookup isAt agrees noTable entered enteredAll tableOf sequence indexOf placeOf held above adjacent candidate candidates narrowed search position between insertAt integrateInsert integrateDelete executable crossed unplaceable integrate pendingFrom earliest andIntegrated andDiscarded drained drainSteps drain presentInserts allInRange sharesKept capacityKept identifiersDistinct deletesDistinct ordered neighboursOrdered noneExecutable wellFormed replicaWellFormed reply unchanged decided allIntegrated withCharacters withPending afterDrain insertCarried duplicate conflicting senderFull documentFull receiveChecks carryOut defer accept receiveWhen isDigit leadingZero isNumeral valueOf digitsIn digits ended firstLine rest numerals hasLayout valuesOf identifierAt insertOf deleteOf isInsert isDelete operationOf lineLaidOut laidOut readChecks readAs saidBy readOperation afterAnswer receipt received lineOf spelled replyLine reportLine codePoints textNumbers textLine answeredAs answered printedFrom printed
+unfolding same below sender character origin isVisible hidden deletedBy sameInsert sameDelete sameOperation within siteNumber codePoint characterId previousId nextId siteInRange insertInRange deleteInRange inRange characterInRange initial pad slotOf blankCharacter blankPending meaning documentOf stored counted tableAgrees key chainOf walk lookup isAt agrees noTable entered enteredAll tableOf sequence indexOf placeOf held above adjacent candidate candidates narrowed search position between insertAt integrateInsert integrateDelete executable crossed unplaceable integrate pendingFrom earliest andIntegrated andDiscarded drained drainSteps drain presentInserts allInRange sharesKept capacityKept identifiersDistinct deletesDistinct ordered neighboursOrdered noneExecutable wellFormed replicaWellFormed reply unchanged decided allIntegrated withCharacters withPending afterDrain insertCarried duplicate conflicting senderFull documentFull receiveChecks carryOut defer accept receiveWhen isDigit leadingZero isNumeral valueOf digitsIn digits ended firstLine rest numerals hasLayout valuesOf identifierAt insertOf deleteOf isInsert isDelete operationOf lineLaidOut laidOut readChecks readAs saidBy readOperation afterAnswer receipt received lineOf spelled replyLine reportLine codePoints textNumbers textLine answeredAs answered printedFrom wholeOutput
 example = refl

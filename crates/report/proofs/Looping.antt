@@ -27,7 +27,7 @@ use Rattle.codec.specs.Calls.{readOperation}
 use Rattle.storage.proofs.Stored.{form-meant}
 use Rattle.report.specs.declared.Processed.{Processed}
 use Rattle.report.specs.Lines.{reportLine, textLine}
-use Rattle.report.specs.Calls.{answeredAs, answered, printedFrom, printed, inputMost, hallOutput}
+use Rattle.report.specs.Calls.{answeredAs, answered, printedFrom, wholeOutput, inputMost, hallOutput}
 use Rattle.report.specs.Loop.{reportOn, processed, processedOut, front, textFront, loopFrom, looped}
 use Rattle.report.specs.Theorems.{LoopPrints}
 use Rattle.report.proofs.Sizes.{report-fits, text-fits}
@@ -97,7 +97,7 @@ module _ (out last : List ℕ) (room : 70 ≤ length out) (space : 8199 ≤ leng
       rw (text-shown r f, line-shown r n s f (omega arith), again)
 
 pub loop-prints : LoopPrints
-unfolding looped hallOutput printed siteNumber within
+unfolding looped hallOutput wholeOutput siteNumber within
 loop-prints out last input room space =
     let s = take inputMost input in
     loop-prints-from out last room space (length s) 1 (stored (initial 16)) s (empty-replica-formed 16) (omega (arith, length-take inputMost input))

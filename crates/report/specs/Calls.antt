@@ -38,9 +38,9 @@ abbrev pub inputMost : ℕ
 inputMost = 65536
 
 -- the whole output on the whole input: "it begins with an empty sheet of laptop 16"
-unfoldable pub printed : List ℕ → List ℕ
-printed s = printedFrom (length s) 1 (stored (initial 16)) s
+unfoldable pub wholeOutput : List ℕ → List ℕ
+wholeOutput s = printedFrom (length s) 1 (stored (initial 16)) s
 
 -- "reads the first 65,536 bytes of standard input, takes them as the whole input": all that the program prints
 unfoldable pub hallOutput : List ℕ → List ℕ
-hallOutput input = printed (take inputMost input)
+hallOutput input = wholeOutput (take inputMost input)

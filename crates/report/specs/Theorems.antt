@@ -11,7 +11,7 @@ use Rattle.woot.specs.State.{meaning}
 use Rattle.woot.specs.Form.{replicaWellFormed}
 use Rattle.lines.specs.Lines.{rest}
 use Rattle.report.specs.Lines.{reportLine, textLine}
-use Rattle.report.specs.Calls.{answered, printedFrom, printed, inputMost, hallOutput}
+use Rattle.report.specs.Calls.{answered, printedFrom, wholeOutput, inputMost, hallOutput}
 use Rattle.report.specs.Loop.{looped}
 
 -- ---- sizes
@@ -62,4 +62,4 @@ exampleOutput =
     84 ∷ 9 ∷ 49 ∷ 9 ∷ 54 ∷ 54 ∷ 10 ∷ []
 
 abbrev pub Example : Type 0
-Example = printed exampleInput ≡ exampleOutput
+Example = wholeOutput exampleInput ≡ exampleOutput
