@@ -20,13 +20,14 @@ use Rattle.lines.specs.Lines.{ended, firstLine, rest, lines, closed, leading}
 use Rattle.lines.specs.Fields.{hasLayout}
 use Rattle.codec.specs.Operations.{isInsert, isDelete}
 use Rattle.codec.specs.Calls.{lineLaidOut}
-use Rattle.loading.specs.declared.reading.CharacterLine.{CharacterLine}
-use Rattle.loading.specs.declared.reading.OperationLine.{OperationLine}
+use Rattle.saved_lines.specs.declared.CharacterLine.{CharacterLine}
+use Rattle.saved_lines.specs.declared.OperationLine.{OperationLine}
 use Rattle.loading.specs.declared.reading.Characters.{Characters}
 use Rattle.loading.specs.declared.reading.Operations.{Operations}
 use Rattle.saved.specs.Format.{isCharacter, isOperation}
-use Rattle.loading.specs.Reading.{characterRead, operationRead, lineCharacter, characterPasses, charactersRead, linePending, operationPasses, noOperations, operationsRead}
-use Rattle.loading.proofs.Judging.{character-laid, operation-laid}
+use Rattle.saved_lines.specs.Judging.{characterRead, operationRead}
+use Rattle.loading.specs.Reading.{lineCharacter, characterPasses, charactersRead, linePending, operationPasses, noOperations, operationsRead}
+use Rattle.saved_lines.proofs.Judging.{character-laid, operation-laid}
 use Rattle.lines.proofs.Lines.{lines-ended, lines-unended, lines-rest, closed-rest, closed-unended, rest-shorter, head-first}
 
 -- what the slots hold of a list, however long it is

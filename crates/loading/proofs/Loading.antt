@@ -18,13 +18,14 @@ use Rattle.lists.proofs.Tests.{and-left, and-right, and-intro}
 use Rattle.lines.specs.Lines.{rest, lines, closed, leading, trailing}
 use Rattle.saved.specs.declared.LoadAnswer.the-variants.{Done, Refused}
 use Rattle.saved.specs.declared.Loaded.{Loaded}
-use Rattle.loading.specs.declared.reading.SiteLine.{SiteLine}
+use Rattle.saved_lines.specs.declared.SiteLine.{SiteLine}
 use Rattle.loading.specs.declared.reading.Characters.{Characters}
 use Rattle.loading.specs.declared.reading.Operations.{Operations}
 use Rattle.saved.specs.Format.{isSite, siteSaid, isCharacter, characterSaid, visibleInRange, isOperation, operationSaid, headLine, characterLines, operationLines, savedLaidOut, savedState, savedInRange}
 use Rattle.saved.specs.Calls.{unread, held, readingChecks, savedRead, loaded}
-use Rattle.loading.specs.Reading.{siteRead, lineCharacter, characterPasses, charactersRead, linePending, operationPasses, noOperations, operationsRead, replicaOf}
-use Rattle.loading.proofs.Judging.{site-laid, site-passes, site-says, character-passes, character-says, operation-passes, operation-says}
+use Rattle.saved_lines.specs.Judging.{siteRead}
+use Rattle.loading.specs.Reading.{lineCharacter, characterPasses, charactersRead, linePending, operationPasses, noOperations, operationsRead, replicaOf}
+use Rattle.saved_lines.proofs.Judging.{site-laid, site-passes, site-says, character-passes, character-says, operation-passes, operation-says}
 use Rattle.lines.proofs.Lines.{apart, trailing-drop, lines-rest, closed-rest}
 use Rattle.woot.specs.declared.Character.{Character}
 use Rattle.woot.specs.Table.{keys, tableOf}

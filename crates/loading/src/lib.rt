@@ -46,7 +46,7 @@ fn assemble(site: Site, characters: Characters, operations: Operations) -> Repli
 pub fn read(bytes: &[u8]) -> Loaded
     ensures { λ r. ⌜ r ≡ savedRead (now (bytes .entry)) ⌝ }
 {
-    let first = reading::read_site(reading::head(bytes));
+    let first = saved_lines::read_site(reading::head(bytes));
     if !first.judged.laid_out {
         return refuse(Refusal::Layout);
     }

@@ -9,7 +9,8 @@ use Rattle.lines.specs.Lines.{lines}
 use Rattle.saved.specs.declared.LoadAnswer.the-variants.{Done, Refused}
 use Rattle.saved.specs.declared.Loaded.{Loaded}
 use Rattle.saved.specs.Calls.{unread, savedRead}
-use Rattle.loading.specs.Reading.{siteRead, replicaOf}
+use Rattle.saved_lines.specs.Judging.{siteRead}
+use Rattle.loading.specs.Reading.{replicaOf}
 use Rattle.loading.proofs.Loading.{no-first, skip-fits, no-later, out-of-range, all-read}
 use borrow.Author.Needs.{needs}
 use Rattle.loading.proofs.read.Statement.{statement}

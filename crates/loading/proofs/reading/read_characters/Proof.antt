@@ -8,7 +8,7 @@ use borrow.Author.Needs.{needs}
 use borrow.Author.Tests.{not-true, not-false}
 use Rattle.woot.specs.State.{initial, documentOf, stored}
 use Rattle.lines.specs.Lines.{lines}
-use Rattle.loading.specs.Reading.{characterRead}
+use Rattle.saved_lines.specs.Judging.{characterRead}
 use Rattle.lines.proofs.Lines.{rest-shorter}
 use Rattle.loading.proofs.Gathering.{CharacterLoop, characters-begun, characters-end, characters-left, characters-more}
 use Rattle.loading.proofs.reading.read_characters.Statement.{statement}

@@ -8,7 +8,7 @@ use borrow.Author.Needs.{needs}
 use borrow.Author.Tests.{not-true, not-false}
 use Rattle.woot.specs.State.{initial, slotOf, documentOf, stored}
 use Rattle.lines.specs.Lines.{lines}
-use Rattle.loading.specs.Reading.{operationRead}
+use Rattle.saved_lines.specs.Judging.{operationRead}
 use Rattle.lines.proofs.Lines.{rest-shorter}
 use Rattle.loading.proofs.Gathering.{OperationLoop, operations-begun, operations-lack, operations-end, operations-more}
 use Rattle.loading.proofs.reading.read_operations.Statement.{statement}

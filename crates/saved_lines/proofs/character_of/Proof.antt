@@ -1,4 +1,4 @@
--- `loading::reading::character_of` meets its contract: each number fits its field, since its limit does.
+-- `saved_lines::character_of` meets its contract: each number fits its field, since its limit does.
 use native.Mathlib.Omega.{arith}
 use lib.Dec.{eqb}
 use lib.ListN.{getD}
@@ -6,8 +6,8 @@ use Rattle.codec.specs.Operations.{identifierAt}
 use Rattle.lines.proofs.Values.{at-most-at}
 use Rattle.saved.specs.Format.{characterLimits, characterOf}
 use borrow.Author.Needs.{needs}
-use Rattle.loading.proofs.reading.character_of.Statement.{statement}
-use Rattle.loading.proofs.reading.character_of.Tie as tie
+use Rattle.saved_lines.proofs.character_of.Statement.{statement}
+use Rattle.saved_lines.proofs.character_of.Tie as tie
 
 array-read-identifier : tie.Need-array-read-identifier
 array-read-identifier c = search needs

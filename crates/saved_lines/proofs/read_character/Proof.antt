@@ -1,11 +1,11 @@
--- `loading::reading::read_character` meets its contract: what is read is made of the numbers as the definition makes it.
+-- `saved_lines::read_character` meets its contract: what is read is made of the numbers as the definition makes it.
 use borrow.Author.Needs.{needs}
 use Rattle.lines.specs.Answers.{numbersOf}
 use Rattle.lines.proofs.Verdicts.{values-at-most}
 use Rattle.saved.specs.Format.{characterLimits}
-use Rattle.loading.proofs.Judging.{character-made}
-use Rattle.loading.proofs.reading.read_character.Statement.{statement}
-use Rattle.loading.proofs.reading.read_character.Tie as tie
+use Rattle.saved_lines.proofs.Judging.{character-made}
+use Rattle.saved_lines.proofs.read_character.Statement.{statement}
+use Rattle.saved_lines.proofs.read_character.Tie as tie
 
 slice-aggregate-read : tie.Need-slice-aggregate-read
 slice-aggregate-read c = search needs

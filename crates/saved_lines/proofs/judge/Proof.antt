@@ -1,8 +1,8 @@
--- `loading::reading::judge` meets its contract: the arm knows the verdict.
+-- `saved_lines::judge` meets its contract: the arm knows the verdict.
 use borrow.Author.Needs.{needs}
-use Rattle.loading.specs.Reading.{judgement, judgedAs}
-use Rattle.loading.proofs.reading.judge.Statement.{statement}
-use Rattle.loading.proofs.reading.judge.Tie as tie
+use Rattle.saved_lines.specs.Judging.{judgement, judgedAs}
+use Rattle.saved_lines.proofs.judge.Statement.{statement}
+use Rattle.saved_lines.proofs.judge.Tie as tie
 
 enum-told : tie.Need-enum-told
 enum-told c = search needs

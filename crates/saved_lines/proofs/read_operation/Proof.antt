@@ -1,4 +1,4 @@
--- `loading::reading::read_operation` meets its contract: what `codec` answers is the operation, refusal 2 or refusal 1.
+-- `saved_lines::read_operation` meets its contract: what `codec` answers is the operation, refusal 2 or refusal 1.
 use mathlib.Core.Path.{_≡_, sym, _∙_, subst}
 use mathlib.Core.List.{List, [], _∷_}
 use Prim.Native.Nat.{ℕ}
@@ -7,11 +7,11 @@ use denote.Enum.Declared.{tagOf}
 use Rattle.woot.specs.declared.Refusal.{Refusal}
 use Rattle.woot.specs.declared.Refusal.the-variants.{Range}
 use Rattle.woot.proofs.Refusal.{the-type}
-use Rattle.loading.specs.Reading.{judgement}
-use Rattle.loading.proofs.Judging.{operation-done, operation-range, operation-layout}
+use Rattle.saved_lines.specs.Judging.{judgement}
+use Rattle.saved_lines.proofs.Judging.{operation-done, operation-range, operation-layout}
 use borrow.Author.Needs.{needs}
-use Rattle.loading.proofs.reading.read_operation.Statement.{statement}
-use Rattle.loading.proofs.reading.read_operation.Tie as tie
+use Rattle.saved_lines.proofs.read_operation.Statement.{statement}
+use Rattle.saved_lines.proofs.read_operation.Tie as tie
 
 -- every refusal but 2, by its tag
 abbrev others : List ℕ

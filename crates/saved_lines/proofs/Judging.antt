@@ -23,12 +23,12 @@ use Rattle.lines.proofs.Values.{at-padded, at-most-at}
 use Rattle.codec.specs.declared.Read.the-variants.{Operation as readsAs, Refused as readRefused}
 use Rattle.codec.specs.Calls.{readAs, readLine}
 use Rattle.codec.proofs.Judging.{identifier-padded, read-layout, read-range, read-operation}
-use Rattle.loading.specs.declared.reading.Judged.{Judged}
-use Rattle.loading.specs.declared.reading.SiteLine.{SiteLine}
-use Rattle.loading.specs.declared.reading.CharacterLine.{CharacterLine}
-use Rattle.loading.specs.declared.reading.OperationLine.{OperationLine}
+use Rattle.saved_lines.specs.declared.Judged.{Judged}
+use Rattle.saved_lines.specs.declared.SiteLine.{SiteLine}
+use Rattle.saved_lines.specs.declared.CharacterLine.{CharacterLine}
+use Rattle.saved_lines.specs.declared.OperationLine.{OperationLine}
 use Rattle.saved.specs.Format.{siteHead, siteLimits, siteOf, isSite, siteSaid, characterHead, characterLimits, characterOf, isCharacter, characterSaid, visibleInRange, isOperation, operationSaid}
-use Rattle.loading.specs.Reading.{judgement, judgedAs, siteRead, characterRead, noOperation, operationJudged, operationRead}
+use Rattle.saved_lines.specs.Judging.{judgement, judgedAs, siteRead, characterRead, noOperation, operationJudged, operationRead}
 use Rattle.saved.proofs.Bounds.{site-at-most, character-at-most}
 
 module _ {A : Type 0} (say : List ℕ → A) (passes : A → Bool) (laid : Bool) (limits ns : List ℕ) where

@@ -1,11 +1,11 @@
--- `loading::reading::read_site` meets its contract: what is read is made of the numbers as the definition makes it.
+-- `saved_lines::read_site` meets its contract: what is read is made of the numbers as the definition makes it.
 use borrow.Author.Needs.{needs}
 use Rattle.lines.specs.Answers.{numbersOf}
 use Rattle.lines.proofs.Verdicts.{values-at-most}
 use Rattle.saved.specs.Format.{siteLimits}
-use Rattle.loading.proofs.Judging.{site-made}
-use Rattle.loading.proofs.reading.read_site.Statement.{statement}
-use Rattle.loading.proofs.reading.read_site.Tie as tie
+use Rattle.saved_lines.proofs.Judging.{site-made}
+use Rattle.saved_lines.proofs.read_site.Statement.{statement}
+use Rattle.saved_lines.proofs.read_site.Tie as tie
 
 slice-aggregate-read : tie.Need-slice-aggregate-read
 slice-aggregate-read c = search needs

@@ -1,11 +1,11 @@
--- `loading::reading::site_of` meets its contract: each number fits its field, since its limit does.
+-- `saved_lines::site_of` meets its contract: each number fits its field, since its limit does.
 use mathlib.Core.Path.{refl}
 use native.Mathlib.Omega.{arith}
 use Rattle.lines.proofs.Values.{at-most-at}
 use Rattle.saved.specs.Format.{siteLimits, siteOf}
 use borrow.Author.Needs.{needs}
-use Rattle.loading.proofs.reading.site_of.Statement.{statement}
-use Rattle.loading.proofs.reading.site_of.Tie as tie
+use Rattle.saved_lines.proofs.site_of.Statement.{statement}
+use Rattle.saved_lines.proofs.site_of.Tie as tie
 
 array-read-t5 : tie.Need-array-read-t5
 array-read-t5 c = search needs

@@ -1,0 +1,44 @@
+-- For the proofs of the code alone: what is read of a line, as values of the code's types. Its layout comes first, then its
+-- range, then what it says.
+use Prim.Native.Nat.{ℕ}
+use mathlib.Core.List.{List}
+use mathlib.Core.Bool.{Bool, true, false, cond}
+use Rattle.woot.specs.declared.Operation.{Operation}
+use Rattle.woot.specs.Ranges.{siteInRange, characterInRange, inRange}
+use Rattle.woot.specs.State.{blankPending}
+use Rattle.saved_lines.specs.declared.Judged.{Judged}
+use Rattle.saved_lines.specs.declared.SiteLine.{SiteLine}
+use Rattle.saved_lines.specs.declared.CharacterLine.{CharacterLine}
+use Rattle.saved_lines.specs.declared.OperationLine.{OperationLine}
+use Rattle.lines.specs.declared.Verdict.{Verdict}
+use Rattle.lines.specs.declared.Numbers.{Numbers}
+use Rattle.lines.specs.Fields.{fields}
+use Rattle.lines.specs.Answers.{byVerdict, numbersOf}
+use Rattle.saved.specs.Format.{siteHead, siteLimits, siteOf, characterHead, characterLimits, characterOf, isOperation, operationSaid}
+
+unfoldable pub judgement : Bool → Bool → Judged
+judgement laid passes = record { «laid_out» = laid; «in_range» = passes }
+
+unfoldable pub judgedAs : Verdict → Bool → Judged
+judgedAs verdict passes = byVerdict verdict (judgement false false) (judgement true false) (judgement true passes)
+
+unfoldable pub siteRead : List ℕ → SiteLine
+siteRead line =
+    let r : Numbers = numbersOf siteHead siteLimits (fields line) in
+    record { judged = judgedAs (r .verdict) (siteInRange (siteOf (r .values))); site = siteOf (r .values) }
+
+unfoldable pub characterRead : List ℕ → CharacterLine
+characterRead line =
+    let r : Numbers = numbersOf characterHead characterLimits (fields line) in
+    record { judged = judgedAs (r .verdict) (characterInRange (characterOf (r .values))); character = characterOf (r .values) }
+
+-- filler where the layout or the range lacks
+unfoldable pub noOperation : Bool → OperationLine
+noOperation laid = record { judged = judgement laid false; operation = blankPending .operation }
+
+unfoldable pub operationJudged : Operation → OperationLine
+operationJudged o =
+    cond (inRange o) (record { judged = judgement true true; operation = o }) (noOperation true)
+
+unfoldable pub operationRead : List ℕ → OperationLine
+operationRead line = cond (isOperation line) (operationJudged (operationSaid line)) (noOperation false)

@@ -1,0 +1,154 @@
+// Reading one line of a saved replica: whether it has the layout of its kind, whether it is in range, and what it says.
+// These are steps of `loading`, and not calls.
+use codec::Read;
+use lines::Verdict;
+use saved::CHARACTER;
+use saved::SITE;
+use woot::Character;
+use woot::Identifier;
+use woot::Insert;
+use woot::Operation;
+use woot::Refusal;
+use woot::Site;
+ghost use mathlib.Core.Path.{_≡_};
+ghost use mathlib.Core.Bool.{true};
+ghost use Rattle.lines.specs.Fields.{atMost};
+ghost use Rattle.saved.specs.Format.{siteLimits, siteOf, characterLimits, characterOf};
+ghost use Rattle.saved_lines.specs.Judging.{judgedAs, siteRead, characterRead, noOperation, operationRead};
+
+// Whether a line has the layout of its kind, and whether what it says is in range too.
+pub struct Judged {
+    pub laid_out: bool,
+    pub in_range: bool,
+}
+
+// What a line says as a site's: a site in range, or what is left of it.
+pub struct SiteLine {
+    pub judged: Judged,
+    pub site: Site,
+}
+
+// The same as a character's.
+pub struct CharacterLine {
+    pub judged: Judged,
+    pub character: Character,
+}
+
+// The same as a pending operation's.
+pub struct OperationLine {
+    pub judged: Judged,
+    pub operation: Operation,
+}
+
+// Judges a line by the verdict on its numbers, and by whether what they say is in range.
+fn judge(verdict: Verdict, in_range: bool) -> Judged
+    ensures { λ r. ⌜ r ≡ judgedAs verdict «in_range» ⌝ }
+{
+    match verdict {
+        Verdict::Malformed => Judged {
+            laid_out: false,
+            in_range: false,
+        },
+        Verdict::Above => Judged {
+            laid_out: true,
+            in_range: false,
+        },
+        Verdict::Within => Judged {
+            laid_out: true,
+            in_range,
+        },
+    }
+}
+
+// The site that numbers within their limits say.
+fn site_of(values: [u64; 9]) -> Site
+    requires { ⌜ atMost siteLimits values ≡ true ⌝ }
+    ensures { λ r. ⌜ r ≡ siteOf values ⌝ }
+{
+    Site {
+        number: values[0] as u8,
+        clock: values[1] as u16,
+    }
+}
+
+// Reads a line as a site's.
+pub fn read_site(line: &[u8]) -> SiteLine
+    ensures { λ r. ⌜ r ≡ siteRead (now (line .entry)) ⌝ }
+{
+    let head = [SITE];
+    let limits = [16u64, 65535];
+    let numbers = lines::read(line, &head, &limits);
+    let verdict = numbers.verdict;
+    let values = numbers.values;
+    let site = site_of(values);
+    let judged = judge(verdict, ranges::site_in_range(site));
+    SiteLine { judged, site }
+}
+
+// The character that numbers within their limits say.
+fn character_of(values: [u64; 9]) -> Character
+    requires { ⌜ atMost characterLimits values ≡ true ⌝ }
+    ensures { λ r. ⌜ r ≡ characterOf values ⌝ }
+{
+    Character {
+        id: codec::identifier(values[0], values[1]),
+        code_point: values[2] as u32,
+        visible: values[3] == 1,
+        previous: codec::identifier(values[4], values[5]),
+        next: codec::identifier(values[6], values[7]),
+    }
+}
+
+// Reads a line as a character's.
+pub fn read_character(line: &[u8]) -> CharacterLine
+    ensures { λ r. ⌜ r ≡ characterRead (now (line .entry)) ⌝ }
+{
+    let head = [CHARACTER];
+    let limits = [16u64, 65535, 1114111, 1, 16, 65535, 16, 65535];
+    let numbers = lines::read(line, &head, &limits);
+    let verdict = numbers.verdict;
+    let values = numbers.values;
+    let character = character_of(values);
+    let judged = judge(verdict, ranges::character_in_range(character));
+    CharacterLine { judged, character }
+}
+
+// A line that is no operation's, or that is out of range.
+fn no_operation(laid_out: bool) -> OperationLine
+    ensures { λ r. ⌜ r ≡ noOperation «laid_out» ⌝ }
+{
+    let none = Identifier::BEGIN;
+    let judged = Judged {
+        laid_out,
+        in_range: false,
+    };
+    OperationLine {
+        judged,
+        operation: Operation::Insert(Insert {
+            id: none,
+            code_point: 0,
+            previous: none,
+            next: none,
+        }),
+    }
+}
+
+// Reads a line as a pending operation's.
+pub fn read_operation(line: &[u8]) -> OperationLine
+    ensures { λ r. ⌜ r ≡ operationRead (now (line .entry)) ⌝ }
+{
+    let read = codec::read_line(line);
+    match read {
+        Read::Operation(operation) => {
+            let judged = Judged {
+                laid_out: true,
+                in_range: true,
+            };
+            OperationLine { judged, operation }
+        }
+        Read::Refused(refusal) => match refusal {
+            Refusal::Range => no_operation(true),
+            _ => no_operation(false),
+        },
+    }
+}
