@@ -109,7 +109,16 @@ fn place_insert(work: Work, insert: Insert) -> Work
     let cs = d.characters;
     let n = d.length;
     let keys = index::keys_of(cs, n);
-    match integration::find_place(index::index_of(keys, n), n, insert) {
+    let index = index::index_of(&d.table.heads, &d.table.links, keys, n);
+    match integration::find_place(
+        &d.table.heads,
+        &d.table.links,
+        &index.ids,
+        &index.above,
+        &index.below,
+        n,
+        insert,
+    ) {
         Placement::Missing => discard(work),
         Placement::Crossed => discard(work),
         Placement::Unplaceable => discard(work),

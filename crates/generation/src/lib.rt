@@ -15,16 +15,16 @@ use woot::Refusal;
 use woot::Replica;
 use woot::Sent;
 use woot::Site;
-use woot::Table;
 ghost use mathlib.Core.Path.{_≡_};
 ghost use mathlib.Core.Bool.{true};
-ghost use Prim.Native.Nat.{_<_};
+ghost use Prim.Native.Nat.{_<_, _≤_};
+ghost use lib.ListN.{length, take};
 ghost use Rattle.woot.specs.declared.Sent.the-variants.{Refused as sentRefused};
 ghost use Rattle.woot.specs.Limits.{lastClock};
 ghost use Rattle.woot.specs.Identifiers.{same};
 ghost use Rattle.lists.specs.Lists.{any};
 ghost use Rattle.woot.specs.Ranges.{codePoint, characterId};
-ghost use Rattle.woot.specs.Table.{keys, tableOf};
+ghost use Rattle.woot.specs.Table.{keys};
 ghost use Rattle.woot.specs.State.{meaning};
 ghost use Rattle.woot.specs.Form.{presentInserts, replicaWellFormed};
 ghost use Rattle.woot.specs.Calls.{generatedInsert};
@@ -72,7 +72,15 @@ fn is_taken(replica: Replica, index: Index, queue: Queue, id: Identifier) -> boo
     ensures { λ r. ⌜ r ≡ any (λ j. same id (j .id)) (presentInserts (meaning replica)) ⌝ }
 {
     let d = replica.document;
-    match holder::holder_of(index, d.length, queue, d.waiting, id) {
+    match holder::holder_of(
+        &d.table.heads,
+        &d.table.links,
+        &index.ids,
+        d.length,
+        &queue.own,
+        d.waiting,
+        index::key(id),
+    ) {
         Holder::Character(_) => true,
         Holder::Pending(_) => true,
         Holder::Nobody => false,
@@ -87,7 +95,7 @@ fn send(replica: Replica, queue: Queue, insert: Insert, k: usize) -> Generated
     ensures { λ r. ⌜ r ≡ sentInsert replica insert ⌝ }
 {
     let d = replica.document;
-    if room::document_full(d.length, queue, d.waiting) {
+    if room::document_full(d.length, &queue.own, d.waiting) {
         return refused(replica, Refusal::DocumentFull);
     }
     let site = replica.site;
@@ -116,7 +124,15 @@ fn send_placed(replica: Replica, index: Index, queue: Queue, insert: Insert) -> 
     ensures { λ r. ⌜ r ≡ sentInsert replica insert ⌝ }
 {
     let d = replica.document;
-    match integration::find_place(index, d.length, insert) {
+    match integration::find_place(
+        &d.table.heads,
+        &d.table.links,
+        &index.ids,
+        &index.above,
+        &index.below,
+        d.length,
+        insert,
+    ) {
         Placement::Missing => refused(replica, Refusal::Unplaceable),
         Placement::Crossed => refused(replica, Refusal::Unplaceable),
         Placement::Unplaceable => refused(replica, Refusal::Unplaceable),
@@ -156,10 +172,11 @@ pub fn insert_visible(
 }
 
 // Deletes the visible character at the index, counted from 1. A step of the calls and not a call: they have checked the
-// replica, and made the table of its characters.
-pub fn delete_visible(replica: Replica, table: Table, index: usize) -> Generated
+// replica, and lend the characters' keys.
+pub fn delete_visible(replica: Replica, ids: &[u32], index: usize) -> Generated
     requires { ⌜ replicaWellFormed replica ≡ true ⌝ }
-    requires { ⌜ table ≡ tableOf (keys (meaning replica .characters)) ⌝ }
+    requires { ⌜ replica .document .length ≤ length (now ids) ⌝ }
+    requires { ⌜ take (replica .document .length) (now ids) ≡ keys (meaning replica .characters) ⌝ }
     ensures { λ r. ⌜ r ≡ deleted replica index ⌝ }
 {
     if index == 0 {
@@ -183,6 +200,6 @@ pub fn delete_visible(replica: Replica, table: Table, index: usize) -> Generated
             integrated: 1,
             discarded: 0,
         },
-        replica: storage::hidden(replica, table, delete),
+        replica: storage::hidden(replica, ids, delete),
     }
 }

@@ -1,11 +1,9 @@
 -- Lists that are sound have a table that agrees: no identifier stands twice, and there are no more than it has links.
-use Prim.Native.Nat.{ℕ}
 use native.Mathlib.Omega.{arith}
 use mathlib.Core.Path.{_≡_, refl, sym, _∙_}
 use mathlib.Core.Bool.{Bool, true, false, not}
 use mathlib.Core.List.{List, [], _∷_, _++_}
 use borrow.Author.Tests.{not-true}
-use lib.ListN.{length, take}
 use Rattle.lists.specs.Lists.{any, distinct}
 use Rattle.lists.proofs.Tests.{and-intro, and-left, and-right, not-intro, or-false-left}
 use Rattle.lists.proofs.Members.{any-append, every-member}
@@ -16,12 +14,9 @@ use Rattle.woot.specs.Ranges.{characterInRange}
 use Rattle.woot.specs.Placing.{identifiers}
 use Rattle.woot.specs.Table.{keys, tableOf}
 use Rattle.convergence.specs.Invariants.{Sound, pendingIds}
-use Rattle.index.specs.declared.Index.{Index}
 use Rattle.index.specs.Keys.{AllSmall}
-use Rattle.index.specs.Index.{indexOf}
 use Rattle.index.specs.Tabled.{Tabled}
 use Rattle.index.proofs.Keys.{all-range-small}
-use Rattle.index.proofs.Indexes.{index-ids, index-table}
 use Rattle.index.proofs.Agreement.{tabled-characters}
 
 distinct-left : {A : Type 0} (same : A → A → Bool) (xs ys : List A) → distinct same (xs ++ ys) ≡ true → distinct same xs ≡ true
@@ -40,7 +35,3 @@ module _ {cs : List Character} {ps : List Operation} (s : Sound cs ps) where
 
   pub sound-tabled : Tabled (tableOf (keys cs)) (keys cs)
   sound-tabled = tabled-characters cs sound-small sound-apart (omega (arith, s .room))
-
--- an index has such a table
-pub index-tabled : (cs : List Character) (n : ℕ) {x : Index} → x ≡ indexOf cs → length cs ≡ n → Tabled (tableOf (keys cs)) (keys cs) → Tabled (x .table) (take n (x .ids))
-index-tabled cs n e count t = rw (e, index-table cs n count, index-ids cs n count) t

@@ -1,10 +1,10 @@
--- For the proofs of the code alone: what is looked up in place of the characters: their keys, where their neighbours
--- stand, and the table of the keys.
+-- For the proofs of the code alone: what is looked up in place of the characters: their keys, and where their neighbours
+-- stand.
 use mathlib.Core.List.{List}
 use Rattle.woot.specs.declared.Character.{Character}
 use Rattle.woot.specs.State.{characterSlots}
 use Rattle.lists.specs.Padding.{pad}
-use Rattle.woot.specs.Table.{keys, tableOf}
+use Rattle.woot.specs.Table.{keys}
 use Rattle.index.specs.Packing.{previousPlaces, nextPlaces}
 use Rattle.index.specs.declared.Index.{Index}
 
@@ -14,5 +14,4 @@ indexOf cs =
       ids = pad characterSlots 0 (keys cs);
       above = pad characterSlots 0 (previousPlaces cs);
       below = pad characterSlots 0 (nextPlaces cs);
-      table = tableOf (keys cs);
     }

@@ -6,12 +6,9 @@ use woot::Character;
 use woot::Identifier;
 use woot::Table;
 ghost use mathlib.Core.Path.{_≡_};
-ghost use mathlib.Core.Bool.{true};
 ghost use mathlib.Core.List.{List};
 ghost use Prim.Native.Nat.{_≤_, min};
-ghost use lib.Dec.{eqb};
 ghost use lib.ListN.{length, take};
-ghost use Rattle.lists.specs.Lists.{distinct};
 ghost use Rattle.woot.specs.declared.Character.{Character};
 ghost use Rattle.woot.specs.Table.{key, keys, tableOf};
 ghost use Rattle.index.specs.Keys.{found, placeIn, Small, AllSmall};
@@ -34,13 +31,11 @@ pub enum Found {
     Nothing,
 }
 
-// The keys of the characters, and the places of the previous and of the next of each, in the slot of its character; and
-// the table of the keys.
+// The keys of the characters, and the places of the previous and of the next of each, in the slot of its character.
 pub struct Index {
     pub ids: [u32; 1024],
     pub above: [u16; 1024],
     pub below: [u16; 1024],
-    pub table: Table,
 }
 
 // An identifier as one number. Numbers are ordered as their identifiers are, and the marks are 0 and 1.
@@ -160,23 +155,17 @@ fn places<'a>(
     out
 }
 
-// The index of n characters by their keys. A step of the calls and not a call: they have checked that no key stands
-// twice.
-pub fn index_of(keys: CharacterKeys, n: usize) -> Index
+// The index of n characters by their keys and a table that agrees with them. A step of the calls and not a call: they
+// have checked the table, or made it.
+pub fn index_of<'a>(heads: &'a [u16], links: &'a [u16], keys: CharacterKeys, n: usize) -> Index
     requires { ⌜ n ≤ 1024 ⌝ }
-    requires { ⌜ distinct eqb (take n (keys .ids)) ≡ true ⌝ }
+    requires { ⌜ Tabled (record { heads = now heads; links = now links }) (take n (keys .ids)) ⌝ }
     ensures { λ r. ⌜ ((cs : List Character) → keys ≡ keysOf cs → length cs ≡ n → AllSmall cs → r ≡ indexOf cs) ⌝ }
 {
-    let table = table::table_of(&keys.ids, n);
-    let above = places(&table.heads, &table.links, &keys.ids, &keys.previous, n);
-    let below = places(&table.heads, &table.links, &keys.ids, &keys.next, n);
+    let above = places(heads, links, &keys.ids, &keys.previous, n);
+    let below = places(heads, links, &keys.ids, &keys.next, n);
     let ids = keys.ids;
-    Index {
-        ids,
-        above,
-        below,
-        table,
-    }
+    Index { ids, above, below }
 }
 
 // The table of the first n characters, of all of them where n is above the slots.

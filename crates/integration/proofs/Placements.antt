@@ -6,7 +6,7 @@ use mathlib.Core.Bool.{Bool, true, false}
 use mathlib.Core.Option.{Option, none, some}
 use mathlib.Core.List.{List}
 use borrow.Author.Tests.{lt-ltb, le-ltb, le-leb, lt-leb}
-use lib.ListN.{length}
+use lib.ListN.{length, take}
 use Rattle.woot.specs.declared.Insert.{Insert}
 use Rattle.woot.specs.declared.Operation.the-variants.{Insert as insert}
 use Rattle.woot.specs.declared.Character.{Character}
@@ -14,6 +14,12 @@ use Rattle.woot.specs.Operations.{character}
 use Rattle.woot.specs.Placing.{placeOf, held, above, position, between, insertAt, integrateInsert}
 use Rattle.woot.specs.Pending.{executable, crossed, unplaceable}
 use Rattle.convergence.proofs.Standing.{placement-at}
+use Rattle.woot.specs.Table.{keys}
+use Rattle.index.specs.declared.Index.{Index}
+use Rattle.index.specs.Keys.{AllSmall}
+use Rattle.index.specs.Packing.{previousPlaces, nextPlaces}
+use Rattle.index.specs.Index.{indexOf}
+use Rattle.index.proofs.Indexes.{index-ids, index-above, index-below}
 use Rattle.index.specs.declared.Found.the-variants.{At, Nothing}
 use Rattle.integration.specs.Passes.{asFound}
 use Rattle.integration.specs.declared.Placement.{Placement}
@@ -88,3 +94,10 @@ module _ (cs : List Character) (i : Insert) where
           let p = placement-at cs i b straight k g in
           let same : p .place ≡ k = cc (p .found) in
           rw (b, f, g) (b, straight, rw (b, g), rw same at (p .result), rw same at (p .within))
+
+-- what is found by an index of the characters
+pub placed-by : {cs : List Character} {x : Index} {n : ℕ} (i : Insert) {p : Placement} → x ≡ indexOf cs → length cs ≡ n → AllSmall cs
+    → ((ds : List Character) → take n (x .ids) ≡ keys ds → take n (x .above) ≡ previousPlaces ds → take n (x .below) ≡ nextPlaces ds → AllSmall ds → p ≡ placementOf ds i)
+    → p ≡ placementOf cs i
+placed-by {cs} {n = n} i e count small found =
+    found cs (rw e (index-ids cs n count)) (rw e (index-above cs n count)) (rw e (index-below cs n count)) small

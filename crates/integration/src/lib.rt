@@ -1,6 +1,5 @@
 // Where an insert goes: the place between its neighbours, found in passes over the candidates there.
 use index::Found;
-use index::Index;
 use woot::Insert;
 ghost use mathlib.Core.Path.{_≡_};
 ghost use Prim.Native.Nat.{_<_, _≤_};
@@ -11,7 +10,6 @@ ghost use Rattle.index.specs.Packing.{previousPlaces, nextPlaces};
 ghost use Rattle.integration.specs.Passes.{locatedKeys, outside, passIn, width, positionIn, asFound};
 ghost use mathlib.Core.List.{List};
 ghost use Rattle.woot.specs.declared.Character.{Character};
-ghost use Rattle.index.specs.Index.{indexOf};
 ghost use Rattle.index.specs.Tabled.{Tabled};
 ghost use Rattle.integration.specs.Placements.{placementOf};
 
@@ -101,8 +99,9 @@ pub enum Placement {
     Below(usize),
 }
 
-// Finds the place of an insert among the n characters with these keys, whose previous and next have these places.
-fn place_among<'a>(
+// Finds the place of an insert among the n characters with these keys, whose previous and next have these places. A step
+// of the calls and not a call: they have an index of the characters in use, and a table of their keys.
+pub fn find_place<'a>(
     heads: &'a [u16],
     links: &'a [u16],
     keys: &'a [u32],
@@ -140,23 +139,4 @@ fn place_among<'a>(
         Found::At(k) => Placement::Below(k),
         Found::Nothing => Placement::Unplaceable,
     }
-}
-
-// Finds the place of an insert among n characters, by their index. A step of the calls and not a call: they have an
-// index of the characters in use.
-pub fn find_place(index: Index, n: usize, insert: Insert) -> Placement
-    requires { ⌜ n ≤ 1024 ⌝ }
-    requires { ⌜ Tabled (index .table) (take n (index .ids)) ⌝ }
-    ensures { λ r. ⌜ ((cs : List Character)
-        → index ≡ indexOf cs → length cs ≡ n → AllSmall cs → r ≡ placementOf cs insert) ⌝ }
-{
-    place_among(
-        &index.table.heads,
-        &index.table.links,
-        &index.ids,
-        &index.above,
-        &index.below,
-        n,
-        insert,
-    )
 }

@@ -1,12 +1,9 @@
-// Who has an identifier, and whether a received operation is known. A count above the slots is taken as all of them.
+// Who has an identifier, and whether a received operation is known.
 use crate::queue;
-use crate::queue::Queue;
 use index::Found;
-use index::Index;
 use index::table;
 use woot::Character;
 use woot::Delete;
-use woot::Identifier;
 use woot::Insert;
 use woot::Operation;
 ghost use mathlib.Core.Path.{_≡_};
@@ -15,7 +12,6 @@ ghost use lib.ListN.{length, take};
 ghost use Rattle.index.specs.Tabled.{Tabled};
 ghost use Rattle.woot.specs.Operations.{origin, sameInsert};
 ghost use Rattle.woot.specs.Table.{key};
-ghost use Rattle.index.specs.Keys.{found};
 ghost use Rattle.pending.specs.Queue.{hasDelete};
 ghost use Rattle.pending.specs.Holder.{holderIn, comparedTo, comparedWith};
 
@@ -33,8 +29,9 @@ pub enum Seen {
     Other,
 }
 
-// Who has the key, among the keys of n characters and of w pending operations.
-fn holder_among<'a>(
+// Who has the key, among the keys of n characters and of w pending operations. A step of the calls and not a call: they
+// have a table of the characters' keys.
+pub fn holder_of<'a>(
     heads: &'a [u16],
     links: &'a [u16],
     ids: &'a [u32],
@@ -57,56 +54,27 @@ fn holder_among<'a>(
     }
 }
 
-// Who has an identifier, among n characters and w pending operations. A step of the calls and not a call: they have an
-// index of the characters in use.
-pub fn holder_of(index: Index, n: usize, queue: Queue, w: usize, id: Identifier) -> Holder
-    requires { ⌜ n ≤ 1024 ⌝ }
-    requires { ⌜ w ≤ 512 ⌝ }
-    requires { ⌜ Tabled (index .table) (take n (index .ids)) ⌝ }
-    ensures { λ r. ⌜ r ≡ holderIn (take n (index .ids)) (take w (queue .own)) (key id) ⌝ }
-{
-    holder_among(
-        &index.table.heads,
-        &index.table.links,
-        &index.ids,
-        n,
-        &queue.own,
-        w,
-        index::key(id),
-    )
-}
-
-// The index of the character that has an identifier, among n. A step of the calls and not a call: they have an index of
-// the characters in use.
-pub fn character_of(index: Index, n: usize, id: Identifier) -> Found
-    requires { ⌜ n ≤ 1024 ⌝ }
-    requires { ⌜ Tabled (index .table) (take n (index .ids)) ⌝ }
-    ensures { λ r. ⌜ r ≡ found (key id) (take n (index .ids)) ⌝ }
-{
-    table::find_among(
-        &index.table.heads,
-        &index.table.links,
-        &index.ids,
-        n,
-        index::key(id),
-    )
-}
-
-// Whether an equal delete is among the first w pending operations.
-pub fn is_pending(queue: Queue, w: usize, delete: Delete) -> bool
+// Whether an equal delete is among w pending operations. A step of the calls and not a call: they lend arrays of these
+// sizes.
+pub fn is_pending<'a>(
+    own: &'a [u32],
+    first: &'a [u32],
+    senders: &'a [u8],
+    w: usize,
+    delete: Delete,
+) -> bool
+    requires { ⌜ w ≤ length (now own) ⌝ }
+    requires { ⌜ w ≤ length (now first) ⌝ }
+    requires { ⌜ w ≤ length (now senders) ⌝ }
     ensures { λ r. ⌜ r
         ≡ hasDelete (key (delete .target)) (delete .sender)
-        (take w (queue .own)) (take w (queue .first)) (take w (queue .senders)) ⌝ }
+        (take w (now (own .entry))) (take w (now (first .entry))) (take w (now (senders .entry))) ⌝ }
 {
     let target = delete.target;
-    let own = queue.own;
-    let first = queue.first;
-    let senders = queue.senders;
-    let end = index::lesser(w, 512);
     queue::has_delete(
-        &own[..end],
-        &first[..end],
-        &senders[..end],
+        &own[..w],
+        &first[..w],
+        &senders[..w],
         index::key(target),
         delete.sender,
     )

@@ -30,7 +30,7 @@ use Rattle.woot.specs.Table.{key}
 use Rattle.index.proofs.Keys.{character-small}
 use Rattle.pending.specs.declared.queue.Queue.{Queue}
 use Rattle.storage.specs.Replicas.{received}
-use Rattle.pending.specs.Queue.{hasDelete}
+use Rattle.pending.specs.Queue.{queueOf, hasDelete}
 use Rattle.reception.specs.Needs.{New, Absent}
 use Rattle.storage.proofs.Fullness.{FullDocument}
 use Rattle.pending.proofs.Pending.{delete-found}
@@ -75,7 +75,7 @@ module _ (r : Replica) (f : replicaWellFormed r ≡ true) (d : Delete) (ranged :
 
 -- ---- no character has the target
 
-module _ (r : Replica) (q : Queue) (d : Delete) (a : Absent r q d) where
+module _ (r : Replica) (d : Delete) (a : Absent r d) where
   nothing-hid : any (λ c. same (d .target) (c .id) && not (isVisible c)) (meaning r .characters) ≡ false
   nothing-hid =
       none-named (λ c. c .id) (λ c. not (isVisible c)) (d .target) (meaning r .characters)
@@ -86,20 +86,20 @@ module _ (r : Replica) (q : Queue) (d : Delete) (a : Absent r q d) where
   unfolding duplicate
   absent-known = rw nothing-hid
 
-  pub absent-found : FullDocument (r .document)
+  pub absent-found : FullDocument (r .document) → (q : Queue) → q ≡ queueOf (meaning r .pending)
       → hasDelete (key (d .target)) (d .sender) (take (r .document .waiting) (q .own)) (take (r .document .waiting) (q .first)) (take (r .document .waiting) (q .senders))
       ≡ duplicate (meaning r) (delete d)
-  absent-found full =
-      rw (own-used r (a .form) full q (a .queue), first-used r (a .form) full q (a .queue), senders-used r (a .form) full q (a .queue))
+  absent-found full q e =
+      rw (own-used r (a .form) full q e, first-used r (a .form) full q e, senders-used r (a .form) full q e)
       (delete-found d (character-small (d .target) (target-ranged d (a .ranged))) (meaning r .pending) (keyed r (a .form)) ∙ sym absent-known)
 
   pub absent-again : duplicate (meaning r) (delete d) ≡ true → received r (delete d) ≡ record { answer = Duplicate; replica = r }
   unfolding inRange
   absent-again e = outcomes.known r (delete d) (a .ranged) (a .form) e
 
-  pub absent-new : duplicate (meaning r) (delete d) ≡ false → New r q (delete d)
+  pub absent-new : duplicate (meaning r) (delete d) ≡ false → New r (delete d)
   unfolding inRange conflicting
-  absent-new e = record { form = a .form; queue = a .queue; ranged = a .ranged; new = e; sole = refl }
+  absent-new e = record { form = a .form; ranged = a .ranged; new = e; sole = refl }
 
   pub absent-unready : executable (meaning r .characters) (delete d) ≡ false
   unfolding executable

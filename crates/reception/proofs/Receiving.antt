@@ -6,7 +6,7 @@ use mathlib.Core.Bool.{Bool, true, false, cond}
 use mathlib.Core.List.{List, [], _∷_}
 use borrow.Author.Tests.{leb-false}
 use lib.Dec.{leb}
-use lib.ListN.{length-append}
+use lib.ListN.{take, length-append}
 use Rattle.woot.specs.declared.Insert.{Insert}
 use Rattle.woot.specs.declared.Operation.{Operation}
 use Rattle.woot.specs.declared.Operation.the-variants.{Insert as insert, Delete as delete}
@@ -26,19 +26,21 @@ use Rattle.convergence.proofs.Shares.{pending-bound}
 use Rattle.convergence.proofs.Soundness.{sound-defer}
 use Rattle.convergence.proofs.Steps.{fresh-insert, space-insert, unused}
 use Rattle.pending.specs.declared.queue.Queue.{Queue}
+use Rattle.pending.specs.Queue.{queueOf}
+use Rattle.woot.specs.Form.{replicaWellFormed}
 use Rattle.delivery.specs.declared.Work.{Work}
 use Rattle.integration.specs.declared.Placement.the-variants.{Crossed as crossing, Unplaceable as placeless, Below}
 use Rattle.pending.specs.declared.holder.Seen.{Seen}
 use Rattle.pending.specs.declared.holder.Seen.the-variants.{New as unseen, Same, Other}
 use Rattle.storage.specs.Replicas.{received}
-use Rattle.reception.specs.Needs.{seenOf, New}
+use Rattle.reception.specs.Needs.{seenOf, fullWith, New}
 use Rattle.integration.specs.Placements.{placementOf}
 use Rattle.delivery.specs.Work.{finished, Placed}
 use Rattle.storage.proofs.Fullness.{FullDocument}
 use Rattle.integration.proofs.Placements.{says}
 use Rattle.storage.proofs.Stored.{pending-count}
 use Rattle.delivery.proofs.Carrying.{finished-integrated, finished-discarded, finished-stored, addable-placed}
-use Rattle.well_formed.proofs.Examining.{few, form}
+use Rattle.well_formed.proofs.Examining.{few, form, room-counted}
 use Rattle.reception.proofs.Outcomes as outcomes
 
 -- ---- what was seen
@@ -59,6 +61,14 @@ module _ (s : State) (i : Insert) where
       go false p true q = (p, q)
       go false p false q = (p, q)
 
+-- ---- condition 11, on what is packed
+
+pub full-with : (r : Replica) → replicaWellFormed r ≡ true → FullDocument (r .document) → (q : Queue) → q ≡ queueOf (meaning r .pending) → (o : Operation)
+    → fullWith (r .document .length) (take (r .document .waiting) (q .own)) o ≡ documentFull (meaning r) o
+unfolding fullWith documentFull
+full-with r f full q e (insert i) = room-counted r f full q e
+full-with r f full q e (delete d) = refl
+
 -- ---- an operation that lacks something
 
 unready-straight : (cs : List Character) (o : Operation) → executable cs o ≡ false → crossed cs o ≡ false
@@ -71,7 +81,7 @@ unfolding unplaceable
 unready-placed cs (insert i) u = rw u
 unready-placed cs (delete d) u = refl
 
-module _ (r : Replica) (q : Queue) (o : Operation) (n : New r q o) (u : executable (meaning r .characters) o ≡ false) where
+module _ (r : Replica) (o : Operation) (n : New r o) (u : executable (meaning r .characters) o ≡ false) where
   straight : crossed (meaning r .characters) o ≡ false
   straight = unready-straight (meaning r .characters) o u
 
@@ -99,7 +109,7 @@ module _ (r : Replica) (q : Queue) (o : Operation) (n : New r q o) (u : executab
 
 -- ---- an insert carried out
 
-module _ (r : Replica) (q : Queue) (i : Insert) (n : New r q (insert i)) where
+module _ (r : Replica) (i : Insert) (n : New r (insert i)) where
   pub insert-crossed : placementOf (meaning r .characters) i ≡ crossing → received r (insert i) ≡ record { answer = Refused Crossed; replica = r }
   insert-crossed p = outcomes.cross r (insert i) (n .ranged) (n .form) (n .new) (n .sole) (says (meaning r .characters) i crossing p .1)
 

@@ -2,6 +2,7 @@
 // calls and not calls: the calls have checked the range and the form.
 use index::Found;
 use index::Index;
+use index::table;
 use integration::Placement;
 use pending::holder;
 use pending::holder::Holder;
@@ -15,21 +16,19 @@ use woot::Operation;
 use woot::Receipt;
 use woot::Refusal;
 use woot::Replica;
-use woot::Table;
 ghost use mathlib.Core.Path.{_≡_};
 ghost use mathlib.Core.Bool.{true, false};
+ghost use Prim.Native.Nat.{_≤_};
+ghost use lib.ListN.{length, take};
 ghost use Rattle.woot.specs.declared.Operation.the-variants.{Insert as ofInsert, Delete as ofDelete};
 ghost use Rattle.woot.specs.declared.Answer.the-variants.{Refused};
 ghost use Rattle.woot.specs.Operations.{sender};
 ghost use Rattle.woot.specs.Ranges.{insertInRange, deleteInRange};
-ghost use Rattle.woot.specs.Table.{keys, tableOf};
 ghost use Rattle.woot.specs.State.{meaning};
 ghost use Rattle.woot.specs.Pending.{executable};
-ghost use Rattle.woot.specs.Form.{replicaWellFormed};
-ghost use Rattle.woot.specs.Calls.{documentFull};
 ghost use Rattle.storage.specs.Replicas.{received};
 ghost use Rattle.pending.specs.Queue.{queueOf};
-ghost use Rattle.reception.specs.Needs.{seenOf, New, Absent};
+ghost use Rattle.reception.specs.Needs.{seenOf, fullWith, New, Absent};
 ghost use Rattle.integration.specs.Placements.{placementOf};
 ghost use Rattle.well_formed.specs.Examined.{Examined};
 ghost use Rattle.integration.specs.declared.Placement.the-variants.{Below};
@@ -58,46 +57,46 @@ fn sender(operation: Operation) -> u8
     }
 }
 
-// Whether an operation is an insert, and the document is full.
-fn is_full(replica: Replica, queue: Queue, operation: Operation) -> bool
-    requires { ⌜ replicaWellFormed replica ≡ true ⌝ }
-    requires { ⌜ queue ≡ queueOf (meaning replica .pending) ⌝ }
-    ensures { λ r. ⌜ r ≡ documentFull (meaning replica) operation ⌝ }
+// Whether an operation is an insert, and n characters and the inserts among w pending operations fill the document.
+fn is_full(n: usize, own: &[u32], w: usize, operation: Operation) -> bool
+    requires { ⌜ w ≤ length (now own) ⌝ }
+    ensures { λ r. ⌜ r ≡ fullWith n (take w (now (own .entry))) operation ⌝ }
 {
-    let d = replica.document;
     match operation {
-        Operation::Insert(_) => room::document_full(d.length, queue, d.waiting),
+        Operation::Insert(_) => room::document_full(n, own, w),
         Operation::Delete(_) => false,
     }
 }
 
 // Puts an operation that lacks something at the end of the pending ones.
-fn defer(replica: Replica, table: Table, queue: Queue, operation: Operation) -> Receipt
-    requires { ⌜ New replica queue operation ⌝ }
+fn defer(replica: Replica, index: Index, queue: Queue, operation: Operation) -> Receipt
+    requires { ⌜ Examined replica index queue ⌝ }
+    requires { ⌜ New replica operation ⌝ }
     requires { ⌜ executable (meaning replica .characters) operation ≡ false ⌝ }
-    requires { ⌜ table ≡ tableOf (keys (meaning replica .characters)) ⌝ }
     ensures { λ r. ⌜ r ≡ received replica operation ⌝ }
 {
     let d = replica.document;
-    if room::sender_full(queue, d.waiting, sender(operation)) {
+    if room::sender_full(&queue.senders, d.waiting, sender(operation)) {
         return refused(replica, Refusal::SenderFull);
     }
-    if is_full(replica, queue, operation) {
+    if is_full(d.length, &queue.own, d.waiting, operation) {
         return refused(replica, Refusal::DocumentFull);
     }
     Receipt {
         answer: Answer::Deferred,
-        replica: storage::deferred(replica, table, operation),
+        replica: storage::deferred(replica, &index.ids, operation),
     }
 }
 
 // Carries out an insert that goes in after the first k characters.
 fn integrate(replica: Replica, queue: Queue, insert: Insert, k: usize) -> Receipt
-    requires { ⌜ New replica queue (ofInsert insert) ⌝ }
+    requires { ⌜ New replica (ofInsert insert) ⌝ }
+    requires { ⌜ queue ≡ queueOf (meaning replica .pending) ⌝ }
     requires { ⌜ placementOf (meaning replica .characters) insert ≡ Below k ⌝ }
     ensures { λ r. ⌜ r ≡ received replica (ofInsert insert) ⌝ }
 {
-    if is_full(replica, queue, Operation::Insert(insert)) {
+    let d = replica.document;
+    if is_full(d.length, &queue.own, d.waiting, Operation::Insert(insert)) {
         return refused(replica, Refusal::DocumentFull);
     }
     let site = replica.site;
@@ -115,12 +114,20 @@ fn integrate(replica: Replica, queue: Queue, insert: Insert, k: usize) -> Receip
 // Receives an insert that is new.
 fn receive_new(replica: Replica, index: Index, queue: Queue, insert: Insert) -> Receipt
     requires { ⌜ Examined replica index queue ⌝ }
-    requires { ⌜ New replica queue (ofInsert insert) ⌝ }
+    requires { ⌜ New replica (ofInsert insert) ⌝ }
     ensures { λ r. ⌜ r ≡ received replica (ofInsert insert) ⌝ }
 {
     let d = replica.document;
-    match integration::find_place(index, d.length, insert) {
-        Placement::Missing => defer(replica, index.table, queue, Operation::Insert(insert)),
+    match integration::find_place(
+        &d.table.heads,
+        &d.table.links,
+        &index.ids,
+        &index.above,
+        &index.below,
+        d.length,
+        insert,
+    ) {
+        Placement::Missing => defer(replica, index, queue, Operation::Insert(insert)),
         Placement::Crossed => refused(replica, Refusal::Crossed),
         Placement::Unplaceable => refused(replica, Refusal::Unplaceable),
         Placement::Below(k) => integrate(replica, queue, insert, k),
@@ -135,7 +142,15 @@ fn seen_by(replica: Replica, index: Index, queue: Queue, insert: Insert) -> Seen
 {
     let d = replica.document;
     let id = insert.id;
-    match holder::holder_of(index, d.length, queue, d.waiting, id) {
+    match holder::holder_of(
+        &d.table.heads,
+        &d.table.links,
+        &index.ids,
+        d.length,
+        &queue.own,
+        d.waiting,
+        index::key(id),
+    ) {
         Holder::Character(k) => {
             let c = d.characters[k];
             holder::compared(insert, holder::origin(c))
@@ -163,16 +178,16 @@ pub fn receive_insert(replica: Replica, index: Index, queue: Queue, insert: Inse
 }
 
 // Receives a delete whose target is not held.
-fn receive_absent(replica: Replica, table: Table, queue: Queue, delete: Delete) -> Receipt
-    requires { ⌜ Absent replica queue delete ⌝ }
-    requires { ⌜ table ≡ tableOf (keys (meaning replica .characters)) ⌝ }
+fn receive_absent(replica: Replica, index: Index, queue: Queue, delete: Delete) -> Receipt
+    requires { ⌜ Examined replica index queue ⌝ }
+    requires { ⌜ Absent replica delete ⌝ }
     ensures { λ r. ⌜ r ≡ received replica (ofDelete delete) ⌝ }
 {
     let d = replica.document;
-    if holder::is_pending(queue, d.waiting, delete) {
+    if holder::is_pending(&queue.own, &queue.first, &queue.senders, d.waiting, delete) {
         return answered(replica, Answer::Duplicate);
     }
-    defer(replica, table, queue, Operation::Delete(delete))
+    defer(replica, index, queue, Operation::Delete(delete))
 }
 
 // Receives a delete. A step of the calls and not a call: they have checked the replica and the ranges.
@@ -183,7 +198,13 @@ pub fn receive_delete(replica: Replica, index: Index, queue: Queue, delete: Dele
 {
     let d = replica.document;
     let target = delete.target;
-    match holder::character_of(index, d.length, target) {
+    match table::find_among(
+        &d.table.heads,
+        &d.table.links,
+        &index.ids,
+        d.length,
+        index::key(target),
+    ) {
         Found::At(k) => {
             let c = d.characters[k];
             if !c.is_visible() {
@@ -194,9 +215,9 @@ pub fn receive_delete(replica: Replica, index: Index, queue: Queue, delete: Dele
                     integrated: 1,
                     discarded: 0,
                 },
-                replica: storage::hidden(replica, index.table, delete),
+                replica: storage::hidden(replica, &index.ids, delete),
             }
         }
-        Found::Nothing => receive_absent(replica, index.table, queue, delete),
+        Found::Nothing => receive_absent(replica, index, queue, delete),
     }
 }

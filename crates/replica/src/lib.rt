@@ -63,7 +63,7 @@ pub fn delete(replica: Replica, index: usize) -> Generated
     if !checked.formed {
         return generation::refused(replica, Refusal::Form);
     }
-    generation::delete_visible(replica, checked.index.table, index)
+    generation::delete_visible(replica, &checked.index.ids, index)
 }
 
 // The visible text of a replica as UTF-8 into the slice: its length, or refusal 3 or 12, and then no byte is changed.

@@ -13,12 +13,16 @@ use Rattle.woot.proofs.Replica as replica
 pub record FullDocument (d : Document) : Type 0 where
   pub characters : length (d .characters) ≡ 1024
   pub pending : length (d .pending) ≡ 512
+  pub heads : length (d .table .heads) ≡ 2048
+  pub links : length (d .table .links) ≡ 1024
 
 pub full-document : {d : Document} {vs : List Val} → Is document.the-row d vs → FullDocument d
 full-document g =
     record {
       characters = simp length-map at (g .1 .1 .0 .1 .0 .1);
       pending = simp length-map at (g .1 .1 .1 .1 .0 .1 .0 .1);
+      heads = simp length-map at (g .1 .1 .1 .1 .1 .1 .0 .1 .1 .0 .1 .0 .1);
+      links = simp length-map at (g .1 .1 .1 .1 .1 .1 .0 .1 .1 .1 .0 .1 .0 .1);
     }
 
 pub full-replica : {r : Replica} {vs : List Val} → Is replica.the-row r vs → FullDocument (r .document)

@@ -1,24 +1,26 @@
 // A replica after a change: stored anew, so that every slot that is not in use is filler.
 pub mod arrays;
 
+use index::table;
 use woot::Delete;
 use woot::Document;
 use woot::Operation;
 use woot::Replica;
-use woot::Table;
 ghost use mathlib.Core.Path.{_≡_};
 ghost use mathlib.Core.Bool.{true};
-ghost use Prim.Native.Nat.{_<_};
-ghost use Rattle.woot.specs.Table.{keys, tableOf};
+ghost use Prim.Native.Nat.{_<_, _≤_};
+ghost use lib.ListN.{length, take};
+ghost use Rattle.woot.specs.Table.{keys};
 ghost use Rattle.woot.specs.State.{meaning, stored, counted};
 ghost use Rattle.woot.specs.Placing.{integrateDelete};
 ghost use Rattle.woot.specs.Calls.{withCharacters, withPending};
 
-// The replica with the target of a delete hidden, and the table of its characters. A step of the calls and not a call:
-// they have checked the counts, and made the table.
-pub fn hidden(replica: Replica, table: Table, delete: Delete) -> Replica
+// The replica with the target of a delete hidden. A step of the calls and not a call: they have checked the counts, and
+// lend the characters' keys.
+pub fn hidden(replica: Replica, ids: &[u32], delete: Delete) -> Replica
     requires { ⌜ counted replica ≡ true ⌝ }
-    requires { ⌜ table ≡ tableOf (keys (meaning replica .characters)) ⌝ }
+    requires { ⌜ replica .document .length ≤ length (now ids) ⌝ }
+    requires { ⌜ take (replica .document .length) (now ids) ≡ keys (meaning replica .characters) ⌝ }
     ensures { λ r. ⌜ r
         ≡ stored (withCharacters (meaning replica) (integrateDelete (meaning replica .characters) delete)) ⌝ }
 {
@@ -28,6 +30,7 @@ pub fn hidden(replica: Replica, table: Table, delete: Delete) -> Replica
     let ps = d.pending;
     let characters = arrays::hidden(cs, d.length, delete);
     let pending = arrays::kept_pending(ps, d.waiting);
+    let table = table::table_of(ids, d.length);
     let document = Document {
         characters,
         length: d.length,
@@ -38,12 +41,13 @@ pub fn hidden(replica: Replica, table: Table, delete: Delete) -> Replica
     Replica { site, document }
 }
 
-// The replica with one operation more at the end of the pending ones, and the table of its characters. A step of the
-// calls and not a call: they have checked the counts and that there is a slot, and made the table.
-pub fn deferred(replica: Replica, table: Table, operation: Operation) -> Replica
+// The replica with one operation more at the end of the pending ones. A step of the calls and not a call: they have
+// checked the counts and that there is a slot, and lend the characters' keys.
+pub fn deferred(replica: Replica, ids: &[u32], operation: Operation) -> Replica
     requires { ⌜ counted replica ≡ true ⌝ }
-    requires { ⌜ table ≡ tableOf (keys (meaning replica .characters)) ⌝ }
     requires { ⌜ replica .document .waiting < 512 ⌝ }
+    requires { ⌜ replica .document .length ≤ length (now ids) ⌝ }
+    requires { ⌜ take (replica .document .length) (now ids) ≡ keys (meaning replica .characters) ⌝ }
     ensures { λ r. ⌜ r ≡ stored (withPending (meaning replica) operation) ⌝ }
 {
     let site = replica.site;
@@ -52,6 +56,7 @@ pub fn deferred(replica: Replica, table: Table, operation: Operation) -> Replica
     let ps = d.pending;
     let characters = arrays::kept(cs, d.length);
     let pending = arrays::pushed(ps, d.waiting, operation);
+    let table = table::table_of(ids, d.length);
     let document = Document {
         characters,
         length: d.length,

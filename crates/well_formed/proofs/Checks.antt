@@ -21,7 +21,10 @@ use Rattle.storage.specs.Edit.{operations}
 use Rattle.pending.specs.Queue.{queueOf}
 use Rattle.well_formed.specs.Form.{charactersFormed, placesOrdered, pendingFormed, rangesKept, formedWith, unformed, checked}
 use Rattle.lists.specs.Lists.{distinct}
-use Rattle.woot.specs.Table.{keys}
+use Rattle.woot.specs.declared.Character.{Character}
+use Rattle.woot.specs.Table.{key, keys}
+use Rattle.index.specs.Tabled.{Tabled}
+use Rattle.storage.proofs.Fullness.{FullDocument}
 use Rattle.index.proofs.Agreement.{agreeing-apart}
 use Rattle.index.proofs.Indexes.{index-ids, index-above, index-below}
 use Rattle.pending.proofs.Queues.{queue-own, queue-first, queue-second, queue-senders}
@@ -33,9 +36,21 @@ unfolding formedWith
 formed-path s e f = λ i. record { formed = true; index = e i; queue = f i }
 
 -- a table that agrees has no key twice
-pub apart : (r : Replica) → tableAgrees r ≡ true → distinct eqb (keys (meaning r .characters)) ≡ true
+apart : (r : Replica) → tableAgrees r ≡ true → distinct eqb (keys (meaning r .characters)) ≡ true
 unfolding tableAgrees
 apart r h = agreeing-apart (r .document .table) (keys (meaning r .characters)) h
+
+-- and finds every key, where the characters have slots
+pub own-tabled : (r : Replica) → FullDocument (r .document) → tableAgrees r ≡ true → length (meaning r .characters) ≤ 1024
+    → Tabled (r .document .table) (keys (meaning r .characters))
+unfolding tableAgrees
+own-tabled r f h few =
+    record {
+      heads = f .heads;
+      links = f .links;
+      few = omega (arith, length-map (meaning r .characters) (λ (c : Character). key (c .id)));
+      agree = h;
+    }
 
 settled : (d o q t : Bool) → (t ≡ true → d ≡ true) → (d && o) && q && t ≡ t && (o && q)
 settled d o q true h = rw (h refl) (and-true (o && q))

@@ -22,7 +22,7 @@ use Rattle.convergence.proofs.Identifiers.{eq-same}
 use Rattle.lists.proofs.Tests.{or-false}
 use Rattle.convergence.proofs.Forms.{Formed, formed, known-ids, known-length}
 use Rattle.convergence.proofs.Steps.{any-map}
-use Rattle.woot.specs.Table.{key, keys, tableOf}
+use Rattle.woot.specs.Table.{key, keys}
 use Rattle.index.specs.Keys.{AllSmall, found}
 use Rattle.index.proofs.Keys.{character-small, all-range-small}
 use Rattle.index.specs.declared.Index.{Index}
@@ -36,15 +36,14 @@ use Rattle.pending.specs.Queue.{ownKey, firstKey, queueOf}
 use Rattle.pending.specs.Holder.{holderIn}
 use Rattle.well_formed.specs.Form.{formedWith, checked}
 use Rattle.well_formed.specs.Examined.{Examined}
-use Rattle.well_formed.proofs.Checks.{checked-true, checked-formed}
+use Rattle.well_formed.proofs.Checks.{checked-true, checked-formed, own-tabled}
 use Rattle.storage.proofs.Fullness.{FullDocument}
 use Rattle.index.specs.Tabled.{Tabled}
-use Rattle.index.proofs.Indexes.{index-ids, index-table}
-use Rattle.index.proofs.Sound.{sound-tabled, index-tabled}
+use Rattle.index.proofs.Indexes.{index-ids}
 use Rattle.pending.proofs.Queues.{queue-own, queue-first, queue-senders}
 use Rattle.pending.proofs.Pending.{AllKeyed, all-keyed, positive-key, count-senders, count-own}
 use Rattle.pending.proofs.Holders.{CharacterAt, Stands, stands, Holds, holds}
-use Rattle.storage.proofs.Stored.{Counts, counts, form-counted, form-meant, character-count, pending-count}
+use Rattle.storage.proofs.Stored.{Counts, counts, form-counted, form-meant, form-table, character-count, pending-count}
 use lib.Dec.{leb, eqb}
 use Rattle.woot.specs.Limits.{capacity, share}
 use Rattle.woot.specs.Pending.{pendingFrom}
@@ -96,14 +95,11 @@ module _ (r : Replica) (k : Checked) (e : k ≡ checked r) where
 -- ---- with all that was packed
 
 module _ (r : Replica) (x : Index) (q : Queue) (full : FullDocument (r .document)) (e : Examined r x q) where
-  -- the table in the index
-  pub examined-table : x .table ≡ tableOf (keys (meaning r .characters))
-  examined-table = rw (e .index) (index-table (meaning r .characters) (r .document .length) (character-count r full (few r (e .form))))
-
-  pub examined-tabled : Tabled (x .table) (take (r .document .length) (x .ids))
+  -- the replica's own table finds the keys of the index
+  pub examined-tabled : Tabled (r .document .table) (take (r .document .length) (x .ids))
   examined-tabled =
-      index-tabled (meaning r .characters) (r .document .length) (e .index) (character-count r full (few r (e .form)))
-      (sound-tabled (form r (e .form) .sound))
+      rw (ids-used r (e .form) full x (e .index))
+      (own-tabled r full (form-table r (e .form)) (omega (arith, character-count r full (few r (e .form)), few r (e .form) .characters)))
 
   -- ---- who has an identifier
 

@@ -1,6 +1,6 @@
 // The check of a replica's form. The ranges are checked first, on the arrays; then every number is small and no
 // character has a mark's identifier, and the other conditions are checked on what is packed. Once the replica's table
-// is seen to agree with the keys, no key stands twice, and every other key is found by a table.
+// is seen to agree with the keys, no key stands twice, and every other key is found by it.
 use index::Found;
 use index::Index;
 use index::table;
@@ -10,7 +10,6 @@ use pending::ready;
 use woot::Character;
 use woot::Pending;
 use woot::Replica;
-use woot::Table;
 ghost use mathlib.Core.Path.{_≡_};
 ghost use Prim.Native.Nat.{_≤_, _<_};
 ghost use lib.ListN.{length, take};
@@ -303,10 +302,6 @@ fn unformed() -> Checked
             ids: [0u32; 1024],
             above: [0u16; 1024],
             below: [0u16; 1024],
-            table: Table {
-                heads: [0u16; 2048],
-                links: [0u16; 1024],
-            },
         },
         queue: Queue {
             own: [0u32; 512],
@@ -332,15 +327,15 @@ pub fn check(replica: Replica) -> Checked
     if !table::agrees_among(&d.table.heads, &d.table.links, &keys.ids, n) {
         return unformed();
     }
-    let index = index::index_of(keys, n);
+    let index = index::index_of(&d.table.heads, &d.table.links, keys, n);
     if !ordered_among(&index.above, &index.below, n) {
         return unformed();
     }
     let ps = d.pending;
     let queue = queue::queue_of(ps, w);
     if !queue_formed(
-        &index.table.heads,
-        &index.table.links,
+        &d.table.heads,
+        &d.table.links,
         &index.ids,
         n,
         &queue.own,

@@ -10,15 +10,16 @@ use Rattle.lists.proofs.Members.{every-member}
 use Rattle.index.specs.Keys.{AllSmall}
 use Rattle.index.specs.Index.{indexOf}
 use Rattle.index.proofs.Keys.{all-range-small}
-use Rattle.index.proofs.Indices.{distinct-keys}
+use Rattle.woot.specs.Table.{keys}
+use Rattle.index.specs.Tabled.{Tabled}
 use Rattle.index.proofs.Packing.{keys-ids}
 use Rattle.index.proofs.Agreement.{tabled-characters}
-use Rattle.index.proofs.Sound.{index-tabled}
+use Rattle.index.proofs.Indexes.{index-ids}
 use Rattle.integration.specs.declared.Placement.{Placement}
 use Rattle.integration.specs.declared.Placement.the-variants.{Missing, Crossed, Unplaceable}
 use Rattle.delivery.specs.declared.Work.{Work}
 use Rattle.delivery.specs.Work.{charactersIn, pendingIn, Due, carried}
-use Rattle.integration.proofs.Placements.{Says, says}
+use Rattle.integration.proofs.Placements.{Says, says, placed-by}
 use Rattle.delivery.proofs.Works.{parts, judged, carried-insert}
 use Rattle.delivery.proofs.place_insert.Statement.{statement}
 use Rattle.delivery.proofs.place_insert.Tie as tie
@@ -33,13 +34,17 @@ record Judges (w : Work) (i : Insert) (p : Placement) : Type 0 where
 small : {w : Work} {o : Operation} → Due w o → AllSmall (charactersIn (w .document))
 small d = all-range-small _ (λ b m. every-member characterInRange (d .ranges) m)
 
-indexed : (c : tie.After-index-of) → c .index-of .result ≡ indexOf (charactersIn (c .before .before .before .before .args .work .document))
-indexed c = let d = c .before .before .before .before .pre in c .index-of .ensures _ (c .before .keys-of .ensures .0) (sym (parts (d .tidy) .length-is)) (small d)
+-- the document's own table finds its keys
+finds : {w : Work} {o : Operation} → Due w o → Tabled (w .document .table) (keys (charactersIn (w .document)))
+finds d = rw (parts (d .tidy) .table) (tabled-characters _ (small d) (d .apart) (omega (arith, d .room, parts (d .tidy) .length-is)))
 
-on : (c : tie.After-find-place) (p : Placement) → c .find-place .result ≡ p → let a = c .before .before .before .before .before .args in Judges (a .work) (a .insert) p
+indexed : (c : tie.After-index-of) → c .index-of .result ≡ indexOf (charactersIn (c .before .before .before .before .before .before .before .before .before .args .work .document))
+indexed c = let d = c .before .before .before .before .before .before .before .before .before .pre in c .index-of .ensures _ (c .before .before .before .before .before .before .keys-of .ensures .0) (sym (parts (d .tidy) .length-is)) (small d)
+
+on : (c : tie.After-find-place) (p : Placement) → c .find-place .result ≡ p → let a = c .before .before .before .before .before .before .before .before .before .before .before .before .before .before .before .before .before .before .before .before .before .before .args in Judges (a .work) (a .insert) p
 on c p e =
-    let d = c .before .before .before .before .before .pre in
-    let is = sym (c .find-place .ensures _ (indexed (c .before)) (sym (parts (d .tidy) .length-is)) (small d)) ∙ e in
+    let d = c .before .before .before .before .before .before .before .before .before .before .before .before .before .before .before .before .before .before .before .before .before .before .pre in
+    let is = sym (placed-by _ (indexed (c .before .before .before .before .before .before .before .before .before .before .before .before .before)) (sym (parts (d .tidy) .length-is)) (small d) (c .find-place .ensures)) ∙ e in
     record { says-so = says _ _ p is; becomes = carried-insert _ _ _ _ _ (d .ready) p is }
 
 keys-of-requires : tie.Need-keys-of-requires
@@ -47,16 +52,15 @@ keys-of-requires c κs = search needs
 
 index-of-requires : tie.Need-index-of-requires
 index-of-requires c κs =
-    let d = c .before .before .before .pre in
-    let cs = charactersIn (c .before .before .before .args .work .document) in
-    (omega (arith, d .room), rw (c .keys-of .ensures .0, keys-ids cs _ (sym (parts (d .tidy) .length-is))) (distinct-keys cs (small d) ∙ d .apart))
+    let d = c .before .before .before .before .before .before .before .before .pre in
+    let cs = charactersIn (c .before .before .before .before .before .before .before .before .args .work .document) in
+    (omega (arith, d .room), rw (c .before .before .before .before .before .keys-of .ensures .0, keys-ids cs _ (sym (parts (d .tidy) .length-is))) (finds d))
 
 find-place-requires : tie.Need-find-place-requires
 find-place-requires c κs =
-    let d = c .before .before .before .before .pre in
-    let cs = charactersIn (c .before .before .before .before .args .work .document) in
-    let count = sym (parts (d .tidy) .length-is) in
-    (omega (arith, d .room), index-tabled cs _ (indexed c) count (tabled-characters cs (small d) (d .apart) (omega (arith, d .room, count))))
+    let d = c .before .before .before .before .before .before .before .before .before .before .before .before .before .before .before .before .before .before .before .before .before .pre in
+    let cs = charactersIn (c .before .before .before .before .before .before .before .before .before .before .before .before .before .before .before .before .before .before .before .before .before .args .work .document) in
+    (omega (arith, d .room), (omega (arith, d .room), (omega (arith, d .room), rw (indexed (c .before .before .before .before .before .before .before .before .before .before .before .before), index-ids cs _ (sym (parts (d .tidy) .length-is))) (finds d))))
 
 enum-told : tie.Need-enum-told
 enum-told c = search needs
@@ -81,7 +85,7 @@ enum-known-k c = search needs
 
 carry-insert-requires : tie.Need-carry-insert-requires
 carry-insert-requires c κs =
-    let d = c .before .before .before .before .before .before .before .before .pre in
+    let d = c .before .before .before .before .before .before .before .before .before .before .before .before .before .before .before .before .before .before .before .before .before .before .before .before .before .pre in
     let s = on (c .before .before .before) _ (c .before .k .given .1) .says-so in
     (d .tidy, (omega (arith, s .4, parts (d .tidy) .length-is), (omega (arith, d .room), d .integrated-fits)))
 

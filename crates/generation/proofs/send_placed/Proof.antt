@@ -1,7 +1,9 @@
 -- `generation::send_placed` goes by what is found for the insert, whose neighbours are held and in order.
+use native.Mathlib.Omega.{arith}
 use mathlib.Core.Path.{_≡_, sym, _∙_}
 use Rattle.woot.specs.State.{meaning}
 use Rattle.integration.specs.Placements.{placementOf}
+use Rattle.integration.proofs.Placements.{placed-by}
 use Rattle.storage.proofs.Fullness.{full-replica}
 use Rattle.storage.proofs.Stored.{character-count}
 use Rattle.well_formed.proofs.Examining.{few, small, examined-tabled}
@@ -11,16 +13,17 @@ use Rattle.generation.proofs.send_placed.Statement.{statement}
 use Rattle.generation.proofs.send_placed.Tie as tie
 
 -- what is found is the rules' placement
-found : (c : tie.After-find-place) → let a = c .before .before .args in c .find-place .result ≡ placementOf (meaning (a .replica) .characters) (a .insert)
+found : (c : tie.After-find-place) → let a = c .before .before .before .before .before .before .before .before .before .before .before .before .before .before .args in c .find-place .result ≡ placementOf (meaning (a .replica) .characters) (a .insert)
 found c =
-    let s = c .before .before in
+    let s = c .before .before .before .before .before .before .before .before .before .before .before .before .before .before in
     let x = s .pre .0 in
-    c .find-place .ensures _ (x .index) (character-count _ (full-replica (s .good .0)) (few _ (x .form))) (small _ (x .form))
+    placed-by _ (x .index) (character-count _ (full-replica (s .good .0)) (few _ (x .form))) (small _ (x .form)) (c .find-place .ensures)
 
 find-place-requires : tie.Need-find-place-requires
 find-place-requires c κs =
-    let s = c .before in
-    (few _ (s .pre .0 .form) .characters, examined-tabled _ _ _ (full-replica (s .good .0)) (s .pre .0))
+    let s = c .before .before .before .before .before .before .before .before .before .before .before .before .before in
+    let n = few _ (s .pre .0 .form) in
+    (omega arith, (omega arith, (omega arith, examined-tabled _ _ _ (full-replica (s .good .0)) (s .pre .0))))
 
 enum-told : tie.Need-enum-told
 enum-told c = search needs
@@ -44,16 +47,16 @@ enum-known-k : tie.Need-enum-known-k
 enum-known-k c = search needs
 
 send-requires : tie.Need-send-requires
-send-requires c κs = let p = c .before .before .before .before .before .pre in (p .1, (p .0 .queue, sym (found (c .before .before .before)) ∙ c .before .k .given .1))
+send-requires c κs = let p = c .before .before .before .before .before .before .before .before .before .before .before .before .before .before .before .before .before .pre in (p .1, (p .0 .queue, sym (found (c .before .before .before)) ∙ c .before .k .given .1))
 
 returns : tie.Need-returns
-returns c = absurd (never-missing _ _ (c .before .before .before .before .before .pre .1) (sym (found (c .before .before .before)) ∙ c .before .enum-told .given .1))
+returns c = absurd (never-missing _ _ (c .before .before .before .before .before .before .before .before .before .before .before .before .before .before .before .before .before .pre .1) (sym (found (c .before .before .before)) ∙ c .before .enum-told .given .1))
 
 returns-2 : tie.Need-returns-2
-returns-2 c = absurd (never-crossed _ _ (c .before .before .before .before .before .pre .1) (sym (found (c .before .before .before)) ∙ c .before .enum-told2 .given .1))
+returns-2 c = absurd (never-crossed _ _ (c .before .before .before .before .before .before .before .before .before .before .before .before .before .before .before .before .before .pre .1) (sym (found (c .before .before .before)) ∙ c .before .enum-told2 .given .1))
 
 returns-3 : tie.Need-returns-3
-returns-3 c = c .refused3 .ensures ∙ sym (send-placeless _ _ (c .before .before .before .before .before .pre .1) (sym (found (c .before .before .before)) ∙ c .before .enum-told3 .given .1))
+returns-3 c = c .refused3 .ensures ∙ sym (send-placeless _ _ (c .before .before .before .before .before .before .before .before .before .before .before .before .before .before .before .before .before .pre .1) (sym (found (c .before .before .before)) ∙ c .before .enum-told3 .given .1))
 
 returns-4 : tie.Need-returns-4
 returns-4 c = search needs

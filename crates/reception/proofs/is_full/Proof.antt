@@ -1,8 +1,5 @@
 -- `reception::is_full` goes by the kind of the operation.
-use mathlib.Core.Path.{_∙_}
-use Rattle.woot.specs.Calls.{documentFull}
-use Rattle.storage.proofs.Fullness.{full-replica}
-use Rattle.well_formed.proofs.Examining.{room-counted}
+use Rattle.reception.specs.Needs.{fullWith}
 use borrow.Author.Needs.{needs}
 use Rattle.reception.proofs.is_full.Statement.{statement}
 use Rattle.reception.proofs.is_full.Tie as tie
@@ -17,13 +14,11 @@ enum-told-2 : tie.Need-enum-told-2
 enum-told-2 c = search needs
 
 returns : tie.Need-returns
-unfolding documentFull
-returns c =
-    let s = c .before .before .before .before in
-    rw (c .before .enum-told .given .1) (c .document-full .ensures ∙ room-counted _ (s .pre .0) (full-replica (s .good .0)) _ (s .pre .1))
+unfolding fullWith
+returns c = rw (c .before .enum-told .given .1) (c .document-full .ensures)
 
 returns-2 : tie.Need-returns-2
-unfolding documentFull
+unfolding fullWith
 returns-2 c = rw (c .enum-told2 .given .1)
 
 pub is-full-spec : {M : Type 1} → statement M

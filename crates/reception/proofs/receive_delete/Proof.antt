@@ -9,7 +9,7 @@ use Rattle.woot.specs.State.{meaning}
 use Rattle.storage.proofs.Fullness.{FullDocument, full-replica}
 use Rattle.storage.proofs.Stored.{form-counted}
 use Rattle.pending.proofs.Holders.{CharacterAt}
-use Rattle.well_formed.proofs.Examining.{few, stands-at, character-within, character-member, character-named, examined-table, examined-tabled}
+use Rattle.well_formed.proofs.Examining.{few, stands-at, character-within, character-member, character-named, ids-used, examined-tabled}
 use Rattle.reception.proofs.Deleting.{target-ranged, delete-again, delete-done}
 use borrow.Author.Needs.{needs}
 use Rattle.reception.proofs.receive_delete.Statement.{statement}
@@ -22,20 +22,24 @@ ranged : (c : tie.Start) → characterId (c .args .delete .target) ≡ true
 ranged c = target-ranged _ (c .pre .1)
 
 -- the character at the index found
-at : (c : tie.After-known-told) → let a = c .before .before .before .before .before .before .args in CharacterAt (a .delete .target) (meaning (a .replica) .characters) (c .before .k .given .0 .0)
-at c = let s = c .before .before .before .before .before .before in stands-at _ _ _ (full s) (s .pre .0) _ (ranged s) (c .before .before .before .character-of .ensures) (c .before .k .given .1)
+at : (c : tie.After-known-told) → let a = c .before .before .before .before .before .before .before .before .before .before .before .before .before .before .before .args in CharacterAt (a .delete .target) (meaning (a .replica) .characters) (c .before .k .given .0 .0)
+at c = let s = c .before .before .before .before .before .before .before .before .before .before .before .before .before .before .before in stands-at _ _ _ (full s) (s .pre .0) _ (ranged s) (rw (c .before .before .before .before .key .ensures .0) at (c .before .before .before .find-among .ensures)) (c .before .k .given .1)
 
 within : (c : tie.After-known-told) → c .before .k .given .0 .0 < 1024
 within c =
-    let s = c .before .before .before .before .before .before in
+    let s = c .before .before .before .before .before .before .before .before .before .before .before .before .before .before .before in
     let n = few _ (s .pre .0 .form) in
     let h = character-within _ _ _ (full s) (s .pre .0) _ (ranged s) (c .before .k .given .0 .0) (at c) in
     omega arith
 
-character-of-requires : tie.Need-character-of-requires
-character-of-requires c κs =
-    let s = c .before .before in
-    (few _ (s .pre .0 .form) .characters, examined-tabled _ _ _ (full s) (s .pre .0))
+key-requires : tie.Need-key-requires
+key-requires c κs = search needs
+
+find-among-requires : tie.Need-find-among-requires
+find-among-requires c κs =
+    let s = c .before .before .before .before .before .before .before .before .before .before .before in
+    let n = few _ (s .pre .0 .form) in
+    (omega arith, examined-tabled _ _ _ (full s) (s .pre .0))
 
 enum-known-k : tie.Need-enum-known-k
 enum-known-k c = search needs
@@ -54,37 +58,37 @@ answered-requires c κs = search needs
 
 returns : tie.Need-returns
 returns c =
-    let s = c .before .before .before .before .before .before .before .before .before .before in
+    let s = c .before .before .before .before .before .before .before .before .before .before .before .before .before .before .before .before .before .before .before in
     let h = at (c .before .before .before .before) in
     c .answered .ensures
     ∙ sym (delete-again _ (s .pre .0 .form) _ (s .pre .1) _ (character-member _ _ _ (full s) (s .pre .0) _ (ranged s) _ h _) (character-named _ _ _ (full s) (s .pre .0) _ (ranged s) _ h _) (sym (c .before .before .is-visible .ensures) ∙ not-true _ (c .before .if1 .taken)))
 
 hidden-requires : tie.Need-hidden-requires
 hidden-requires c κs =
-    let s = c .before .before .before .before .before .before .before .before .before in
-    (form-counted _ (s .pre .0 .form), examined-table _ _ _ (full s) (s .pre .0))
+    let s = c .before .before .before .before .before .before .before .before .before .before .before .before .before .before .before .before .before .before .before .before .before in
+    let n = few _ (s .pre .0 .form) in
+    (form-counted _ (s .pre .0 .form), (omega arith, ids-used _ (s .pre .0 .form) (full s) _ (s .pre .0 .index)))
 
 enum-told : tie.Need-enum-told
 enum-told c = search needs
 
 receive-absent-requires : tie.Need-receive-absent-requires
 receive-absent-requires c κs =
-    let s = c .before .before .before .before .before in (
+    let s = c .before .before .before .before .before .before .before .before .before .before .before .before .before .before in (
+      s .pre .0,
       record {
         form = s .pre .0 .form;
-        queue = s .pre .0 .queue;
         ranged = s .pre .1;
-        nowhere = stands-at _ _ _ (full s) (s .pre .0) _ (ranged s) (c .before .before .character-of .ensures) (c .enum-told .given .1);
+        nowhere = stands-at _ _ _ (full s) (s .pre .0) _ (ranged s) (rw (c .before .before .before .key .ensures .0) at (c .before .before .find-among .ensures)) (c .enum-told .given .1);
       },
-      examined-table _ _ _ (full s) (s .pre .0),
     )
 
 returns-2 : tie.Need-returns-2
 returns-2 c =
-    let s = c .before .before .before .before .before .before .before .before .before .before in
-    let h = at (c .before .before .before .before) in
+    let s = c .before .before .before .before .before .before .before .before .before .before .before .before .before .before .before .before .before .before .before .before .before .before in
+    let h = at (c .before .before .before .before .before .before .before) in
     rw (c .hidden .ensures)
-    (sym (delete-done _ (s .pre .0 .form) _ (s .pre .1) _ (character-member _ _ _ (full s) (s .pre .0) _ (ranged s) _ h _) (character-named _ _ _ (full s) (s .pre .0) _ (ranged s) _ h _) (sym (c .before .before .is-visible .ensures) ∙ not-false _ (c .before .if1 .left))))
+    (sym (delete-done _ (s .pre .0 .form) _ (s .pre .1) _ (character-member _ _ _ (full s) (s .pre .0) _ (ranged s) _ h _) (character-named _ _ _ (full s) (s .pre .0) _ (ranged s) _ h _) (sym (c .before .before .before .before .before .is-visible .ensures) ∙ not-false _ (c .before .before .before .before .if1 .left))))
 
 returns-3 : tie.Need-returns-3
 returns-3 c = search needs
@@ -93,7 +97,8 @@ pub receive-delete-spec : {M : Type 1} → statement M
 receive-delete-spec =
     tie.close
     (tie.spec
-    character-of-requires
+    key-requires
+    find-among-requires
     enum-known-k
     mul-c
     element-copy-out-c

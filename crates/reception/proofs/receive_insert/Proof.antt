@@ -19,7 +19,7 @@ unfolding inRange
 receive-new-requires c κs =
     let p = c .before .before .before .pre in
     let w = seen-says _ _ New (sym (c .before .before .seen-by .ensures) ∙ c .enum-told .given .1) in
-    (p .0, record { form = p .0 .form; queue = p .0 .queue; ranged = p .1; new = w .0; sole = w .1 })
+    (p .0, record { form = p .0 .form; ranged = p .1; new = w .0; sole = w .1 })
 
 enum-told-2 : tie.Need-enum-told-2
 enum-told-2 c = search needs

@@ -23,27 +23,31 @@ fits c = few _ (c .pre .0 .form)
 id-ranged : (c : tie.Start) → characterId (c .args .insert .id) ≡ true
 id-ranged c = in-range (c .args .insert) (c .pre .1) .id
 
-held : (c : tie.After-holder-of) (h : Holder) → c .holder-of .result ≡ h → let s = c .before .before .before in Has _ _ _ (full s) (s .pre .0) _ (id-ranged s) h
-held c h e = let s = c .before .before .before in has _ _ _ (full s) (s .pre .0) _ (id-ranged s) (c .holder-of .ensures) e
+held : (c : tie.After-holder-of) (h : Holder) → c .holder-of .result ≡ h → let s = c .before .before .before .before .before .before .before .before .before .before .before .before .before .before .before in Has _ _ _ (full s) (s .pre .0) _ (id-ranged s) h
+held c h e = let s = c .before .before .before .before .before .before .before .before .before .before .before .before .before .before .before in has _ _ _ (full s) (s .pre .0) _ (id-ranged s) (rw (c .before .key .ensures .0) at (c .holder-of .ensures)) e
 
 at-character : (c : tie.After-known-told) → c .before .k .given .0 .0 < 1024
 at-character c =
-    let s = c .before .before .before .before .before .before in
+    let s = c .before .before .before .before .before .before .before .before .before .before .before .before .before .before .before .before .before .before in
     let n = fits s in
     let h = character-within _ _ _ (full s) (s .pre .0) _ (id-ranged s) (c .before .k .given .0 .0) (held (c .before .before .before) _ (c .before .k .given .1)) in
     omega arith
 
 at-pending : (c : tie.After-known-told2) → c .before .j .given .0 .0 < 512
 at-pending c =
-    let s = c .before .before .before .before .before .before in
+    let s = c .before .before .before .before .before .before .before .before .before .before .before .before .before .before .before .before .before .before in
     let n = fits s in
     let h = pending-within _ _ _ (full s) (s .pre .0) _ (id-ranged s) (c .before .j .given .0 .0) (held (c .before .before .before) _ (c .before .j .given .1)) in
     omega arith
 
+key-requires : tie.Need-key-requires
+key-requires c κs = search needs
+
 holder-of-requires : tie.Need-holder-of-requires
 holder-of-requires c κs =
-    let s = c .before .before in
-    (fits s .characters, (fits s .pending, examined-tabled _ _ _ (full s) (s .pre .0)))
+    let s = c .before .before .before .before .before .before .before .before .before .before .before .before .before .before in
+    let n = fits s in
+    (omega arith, (omega arith, examined-tabled _ _ _ (full s) (s .pre .0)))
 
 enum-known-k : tie.Need-enum-known-k
 enum-known-k c = search needs
@@ -77,24 +81,25 @@ enum-told c = search needs
 
 returns : tie.Need-returns
 returns c =
-    let s = c .before .before .before .before .before .before .before .before .before in
+    let s = c .before .before .before .before .before .before .before .before .before .before .before .before .before .before .before .before .before .before .before .before .before in
     rw (c .compared .ensures, c .before .origin .ensures)
     (seen-character _ _ _ (full s) (s .pre .0) _ (s .pre .1) _ (held (c .before .before .before .before .before .before) _ (c .before .before .before .before .k .given .1)) _)
 
 returns-2 : tie.Need-returns-2
 returns-2 c =
-    let s = c .before .before .before .before .before .before .before .before in
+    let s = c .before .before .before .before .before .before .before .before .before .before .before .before .before .before .before .before .before .before .before .before in
     c .compared-pending .ensures ∙ seen-pending _ _ _ (full s) (s .pre .0) _ (s .pre .1) _ (held (c .before .before .before .before .before) _ (c .before .before .before .j .given .1)) _
 
 returns-3 : tie.Need-returns-3
 returns-3 c =
-    let s = c .before .before .before .before .before in
+    let s = c .before .before .before .before .before .before .before .before .before .before .before .before .before .before .before .before .before in
     seen-nobody _ _ _ (full s) (s .pre .0) _ (s .pre .1) (held (c .before .before) _ (c .enum-told .given .1))
 
 pub seen-by-spec : {M : Type 1} → statement M
 seen-by-spec =
     tie.close
     (tie.spec
+    key-requires
     holder-of-requires
     enum-known-k
     mul-c

@@ -1,5 +1,7 @@
--- `storage::hidden` builds both arrays anew.
+-- `storage::hidden` builds both arrays anew, and the table of the keys that are lent.
+use mathlib.Core.Path.{ap, _∙_}
 use borrow.Author.Needs.{needs}
+use Rattle.woot.specs.Table.{tableOf}
 use Rattle.woot.specs.State.{meaning}
 use Rattle.woot.specs.Calls.{withCharacters}
 use Rattle.storage.proofs.Fullness.{full-replica}
@@ -13,12 +15,17 @@ hidden-requires c κs = search needs
 kept-pending-requires : tie.Need-kept-pending-requires
 kept-pending-requires c κs = search needs
 
+table-of-requires : tie.Need-table-of-requires
+table-of-requires c κs =
+    let start = c .before .before .before .before .before .before .before in
+    (start .pre .1 .0, counts _ (start .pre .0) .characters)
+
 returns : tie.Need-returns
 unfolding withCharacters meaning
 returns c =
-    let start = c .before .before .before .before .before .before in
+    let start = c .before .before .before .before .before .before .before .before in
     stored-path (start .args .replica .site)
-    (hidden-parts (start .args .replica) (full-replica (start .good .0)) (counts _ (start .pre .0)) _ _ _ _ (c .before .hidden .ensures) (c .kept-pending .ensures) (start .pre .1))
+    (hidden-parts (start .args .replica) (full-replica (start .good .0)) (counts _ (start .pre .0)) _ _ _ _ (c .before .before .hidden .ensures) (c .before .kept-pending .ensures) (c .table-of .ensures ∙ ap tableOf (start .pre .1 .1)))
 
 pub hidden-spec : {M : Type 1} → statement M
-hidden-spec = tie.close (tie.spec hidden-requires kept-pending-requires returns)
+hidden-spec = tie.close (tie.spec hidden-requires kept-pending-requires table-of-requires returns)

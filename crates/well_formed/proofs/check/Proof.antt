@@ -2,11 +2,8 @@
 use borrow.Author.Needs.{needs}
 use native.Mathlib.Omega.{arith}
 use mathlib.Core.Path.{_≡_, refl, ap, sym, _∙_}
-use lib.Dec.{eqb}
-use lib.ListN.{length, take, length-map}
-use Rattle.lists.specs.Lists.{distinct}
-use Rattle.woot.specs.declared.Character.{Character}
-use Rattle.woot.specs.Table.{key, keys, agrees}
+use lib.ListN.{length, take}
+use Rattle.woot.specs.Table.{keys, agrees}
 use mathlib.Core.Bool.{true, false, _&&_}
 use Rattle.woot.specs.State.{meaning, tableAgrees}
 use Rattle.woot.specs.Form.{replicaWellFormed}
@@ -18,13 +15,12 @@ use Rattle.index.specs.Packing.{keysOf}
 use Rattle.index.specs.Index.{indexOf}
 use Rattle.index.specs.Tabled.{Tabled}
 use Rattle.index.proofs.Packing.{keys-ids}
-use Rattle.index.proofs.Indexes.{index-ids, index-table}
-use Rattle.index.proofs.Agreement.{tabled}
+use Rattle.index.proofs.Indexes.{index-ids}
 use Rattle.storage.proofs.Stored.{character-count}
 use Rattle.pending.specs.Queue.{queueOf}
 use Rattle.well_formed.specs.Form.{rangesKept}
 use Rattle.storage.proofs.Fullness.{full-replica}
-use Rattle.well_formed.proofs.Checks.{apart, formed-path, checked-false, checked-true, out-of-range, few-characters, few-pending, indexFormed, queueFormed, in-range}
+use Rattle.well_formed.proofs.Checks.{own-tabled, formed-path, checked-false, checked-true, out-of-range, few-characters, few-pending, indexFormed, queueFormed, in-range}
 use Rattle.well_formed.proofs.check.Statement.{statement}
 use Rattle.well_formed.proofs.check.Tie as tie
 
@@ -48,32 +44,28 @@ size c =
     character-count (s .args .replica) (full-replica (s .good .0)) (record { characters = few-characters _ (kept c); pending = few-pending _ (kept c) })
 
 -- the keys in use
-used : (c : tie.After-agrees-among) → let r = c .before .before .before .before .before .before .before .before .before .before .before .before .before .before .args .replica in take (r .document .length) (c .before .before .before .before .before .before .before .before .before .keys-of .result .ids) ≡ keys (meaning r .characters)
-used c = rw (packed (c .before .before .before .before .before .before .before .before .before) .0) (keys-ids _ _ (size (c .before .before .before .before .before .before .before .before .before .before .before .before)))
+used : (c : tie.After-keys-of) → let r = c .before .before .before .before .before .args .replica in take (r .document .length) (c .keys-of .result .ids) ≡ keys (meaning r .characters)
+used c = rw (packed c .0) (keys-ids _ _ (size (c .before .before .before)))
 
 -- the test of the table
 agree : (c : tie.After-agrees-among) → c .agrees-among .result ≡ tableAgrees (c .before .before .before .before .before .before .before .before .before .before .before .before .before .before .args .replica)
 unfolding tableAgrees
-agree c = c .agrees-among .ensures ∙ ap (agrees (c .before .before .before .before .before .before .before .before .before .before .before .before .before .before .args .replica .document .table)) (used c)
+agree c = c .agrees-among .ensures ∙ ap (agrees (c .before .before .before .before .before .before .before .before .before .before .before .before .before .before .args .replica .document .table)) (used (c .before .before .before .before .before .before .before .before .before))
 
 agreed : (c : tie.Else2) → tableAgrees (c .before .before .before .before .before .before .before .before .before .before .before .before .before .before .before .args .replica) ≡ true
 agreed c = passed (agree (c .before)) (c .if2 .left)
 
-distinct-used : (c : tie.Else2) → distinct eqb (take (c .before .before .before .before .before .before .before .before .before .before .before .before .before .before .before .args .replica .document .length) (c .before .before .before .before .before .before .before .before .before .before .keys-of .result .ids)) ≡ true
-distinct-used c = rw (used (c .before)) (apart _ (agreed c))
+-- the replica's own table finds its keys
+finds : (c : tie.Else2) → let r = c .before .before .before .before .before .before .before .before .before .before .before .before .before .before .before .args .replica in Tabled (r .document .table) (keys (meaning r .characters))
+finds c =
+    let s = c .before .before .before .before .before .before .before .before .before .before .before .before .before .before .before in
+    own-tabled (s .args .replica) (full-replica (s .good .0)) (agreed c) (omega (arith, size (c .before .before .before .before .before .before .before .before .before .before .before .before .before), few-characters _ (kept (c .before .before .before .before .before .before .before .before .before .before .before .before .before))))
 
 -- the index of the characters
-indexes : (c : tie.After-index-of) → c .index-of .result ≡ indexOf (meaning (c .before .before .before .before .before .before .before .before .before .before .before .before .before .before .before .before .args .replica) .characters)
+indexes : (c : tie.After-index-of) → c .index-of .result ≡ indexOf (meaning (c .before .before .before .before .before .before .before .before .before .before .before .before .before .before .before .before .before .before .before .before .before .args .replica) .characters)
 indexes c =
-    let p = packed (c .before .before .before .before .before .before .before .before .before .before .before) in
-    c .index-of .ensures (meaning (c .before .before .before .before .before .before .before .before .before .before .before .before .before .before .before .before .args .replica) .characters) (p .0) (size (c .before .before .before .before .before .before .before .before .before .before .before .before .before .before)) (p .1)
-
--- and the table in it
-in-table : (c : tie.After-index-of) → Tabled (c .index-of .result .table) (take (c .before .before .before .before .before .before .before .before .before .before .before .before .before .before .before .before .args .replica .document .length) (c .index-of .result .ids))
-in-table c =
-    let cs = meaning (c .before .before .before .before .before .before .before .before .before .before .before .before .before .before .before .before .args .replica) .characters in
-    let few = few-characters _ (kept (c .before .before .before .before .before .before .before .before .before .before .before .before .before .before)) in
-    rw (indexes c, index-table cs _ (size (c .before .before .before .before .before .before .before .before .before .before .before .before .before .before)), index-ids cs _ (size (c .before .before .before .before .before .before .before .before .before .before .before .before .before .before))) (tabled (keys cs) (apart _ (agreed (c .before))) (omega (arith, length-map cs (λ (d : Character). key (d .id)), size (c .before .before .before .before .before .before .before .before .before .before .before .before .before .before))))
+    let p = packed (c .before .before .before .before .before .before .before .before .before .before .before .before .before .before .before .before) in
+    c .index-of .ensures (meaning (c .before .before .before .before .before .before .before .before .before .before .before .before .before .before .before .before .before .before .before .before .before .args .replica) .characters) (p .0) (size (c .before .before .before .before .before .before .before .before .before .before .before .before .before .before .before .before .before .before .before)) (p .1)
 
 in-ranges-requires : tie.Need-in-ranges-requires
 in-ranges-requires c κs = search needs
@@ -100,10 +92,10 @@ returns-2 c =
     c .unformed2 .ensures ∙ sym (checked-false r (tests (c .before .before .before .before .before .before .before .before .before .before .before .before .before .before) _ _ refl refl ∙ rw test))
 
 index-of-requires : tie.Need-index-of-requires
-index-of-requires c κs = (few-characters _ (kept (c .before .before .before .before .before .before .before .before .before .before .before .before .before)), distinct-used c)
+index-of-requires c κs = (few-characters _ (kept (c .before .before .before .before .before .before .before .before .before .before .before .before .before .before .before .before .before .before)), rw (used (c .before .before .before .before .before .before .before .before .before .before .before .before .before .before .before)) (finds (c .before .before .before .before .before)))
 
 ordered-among-requires : tie.Need-ordered-among-requires
-ordered-among-requires c κs = let few = few-characters _ (kept (c .before .before .before .before .before .before .before .before .before .before .before .before .before .before .before .before .before .before .before)) in (omega arith, omega arith)
+ordered-among-requires c κs = let few = few-characters _ (kept (c .before .before .before .before .before .before .before .before .before .before .before .before .before .before .before .before .before .before .before .before .before .before .before .before)) in (omega arith, omega arith)
 
 unformed-requires-3 : tie.Need-unformed-requires-3
 unformed-requires-3 c κs = search needs
@@ -111,20 +103,21 @@ unformed-requires-3 c κs = search needs
 returns-3 : tie.Need-returns-3
 unfolding meaning
 returns-3 c =
-    let r = c .before .before .before .before .before .before .before .before .before .before .before .before .before .before .before .before .before .before .before .before .before .before .before .before .args .replica in
+    let r = c .before .before .before .before .before .before .before .before .before .before .before .before .before .before .before .before .before .before .before .before .before .before .before .before .before .before .before .before .before .args .replica in
     let x = c .before .before .before .before .before .before .before .before .index-of .result in
-    let table = agreed (c .before .before .before .before .before .before .before .before .before) in
+    let table = agreed (c .before .before .before .before .before .before .before .before .before .before .before .before .before .before) in
     let test : indexFormed r x ≡ false = refused {u = indexFormed r x} (c .before .before .ordered-among .ensures) (c .before .if3 .taken) in
-    c .unformed3 .ensures ∙ sym (checked-false r (tests (c .before .before .before .before .before .before .before .before .before .before .before .before .before .before .before .before .before .before .before .before .before .before) x _ (indexes (c .before .before .before .before .before .before .before .before)) refl ∙ rw (table, test)))
+    c .unformed3 .ensures ∙ sym (checked-false r (tests (c .before .before .before .before .before .before .before .before .before .before .before .before .before .before .before .before .before .before .before .before .before .before .before .before .before .before .before) x _ (indexes (c .before .before .before .before .before .before .before .before)) refl ∙ rw (table, test)))
 
 queue-of-requires : tie.Need-queue-of-requires
 queue-of-requires c κs = search needs
 
 queue-formed-requires : tie.Need-queue-formed-requires
 queue-formed-requires c κs =
-    let few = few-characters _ (kept (c .before .before .before .before .before .before .before .before .before .before .before .before .before .before .before .before .before .before .before .before .before .before .before .before .before .before .before .before .before .before .before .before .before .before .before .before .before .before .before)) in
-    let pending = few-pending _ (kept (c .before .before .before .before .before .before .before .before .before .before .before .before .before .before .before .before .before .before .before .before .before .before .before .before .before .before .before .before .before .before .before .before .before .before .before .before .before .before .before)) in
-    (omega arith, (omega arith, (omega arith, (omega arith, (omega arith, in-table (c .before .before .before .before .before .before .before .before .before .before .before .before .before .before .before .before .before .before .before .before .before .before .before .before .before))))))
+    let few = few-characters _ (kept (c .before .before .before .before .before .before .before .before .before .before .before .before .before .before .before .before .before .before .before .before .before .before .before .before .before .before .before .before .before .before .before .before .before .before .before .before .before .before .before .before .before .before .before .before .before)) in
+    let pending = few-pending _ (kept (c .before .before .before .before .before .before .before .before .before .before .before .before .before .before .before .before .before .before .before .before .before .before .before .before .before .before .before .before .before .before .before .before .before .before .before .before .before .before .before .before .before .before .before .before .before)) in
+    let cs = meaning (c .before .before .before .before .before .before .before .before .before .before .before .before .before .before .before .before .before .before .before .before .before .before .before .before .before .before .before .before .before .before .before .before .before .before .before .before .before .before .before .before .before .before .before .before .before .before .before .args .replica) .characters in
+    (omega arith, (omega arith, (omega arith, (omega arith, (omega arith, rw (indexes (c .before .before .before .before .before .before .before .before .before .before .before .before .before .before .before .before .before .before .before .before .before .before .before .before .before .before), index-ids cs _ (size (c .before .before .before .before .before .before .before .before .before .before .before .before .before .before .before .before .before .before .before .before .before .before .before .before .before .before .before .before .before .before .before .before .before .before .before .before .before .before .before .before .before .before .before .before .before))) (finds (c .before .before .before .before .before .before .before .before .before .before .before .before .before .before .before .before .before .before .before .before .before .before .before .before .before .before .before .before .before .before .before .before)))))))
 
 unformed-requires-4 : tie.Need-unformed-requires-4
 unformed-requires-4 c κs = search needs
@@ -132,26 +125,26 @@ unformed-requires-4 c κs = search needs
 returns-4 : tie.Need-returns-4
 unfolding meaning
 returns-4 c =
-    let r = c .before .before .before .before .before .before .before .before .before .before .before .before .before .before .before .before .before .before .before .before .before .before .before .before .before .before .before .before .before .before .before .before .before .before .before .before .before .before .before .before .before .before .before .before .args .replica in
-    let x = c .before .before .before .before .before .before .before .before .before .before .before .before .before .before .before .before .before .before .before .before .before .before .before .before .before .before .before .before .index-of .result in
-    let q = c .before .before .before .before .before .before .before .before .before .before .before .before .before .before .before .before .before .before .before .queue-of .result in
-    let table = agreed (c .before .before .before .before .before .before .before .before .before .before .before .before .before .before .before .before .before .before .before .before .before .before .before .before .before .before .before .before .before) in
-    let first : indexFormed r x ≡ true = passed {u = indexFormed r x} (c .before .before .before .before .before .before .before .before .before .before .before .before .before .before .before .before .before .before .before .before .before .before .ordered-among .ensures) (c .before .before .before .before .before .before .before .before .before .before .before .before .before .before .before .before .before .before .before .before .before .if3 .left) in
+    let r = c .before .before .before .before .before .before .before .before .before .before .before .before .before .before .before .before .before .before .before .before .before .before .before .before .before .before .before .before .before .before .before .before .before .before .before .before .before .before .before .before .before .before .before .before .before .before .before .before .before .before .args .replica in
+    let x = c .before .before .before .before .before .before .before .before .before .before .before .before .before .before .before .before .before .before .before .before .before .before .before .before .before .before .before .before .before .index-of .result in
+    let q = c .before .before .before .before .before .before .before .before .before .before .before .before .before .before .before .before .before .before .before .before .queue-of .result in
+    let table = agreed (c .before .before .before .before .before .before .before .before .before .before .before .before .before .before .before .before .before .before .before .before .before .before .before .before .before .before .before .before .before .before .before .before .before .before .before) in
+    let first : indexFormed r x ≡ true = passed {u = indexFormed r x} (c .before .before .before .before .before .before .before .before .before .before .before .before .before .before .before .before .before .before .before .before .before .before .before .ordered-among .ensures) (c .before .before .before .before .before .before .before .before .before .before .before .before .before .before .before .before .before .before .before .before .before .before .if3 .left) in
     let second : queueFormed r x q ≡ false = refused {u = queueFormed r x q} (c .before .before .queue-formed .ensures) (c .before .if4 .taken) in
-    c .unformed4 .ensures ∙ sym (checked-false r (tests (c .before .before .before .before .before .before .before .before .before .before .before .before .before .before .before .before .before .before .before .before .before .before .before .before .before .before .before .before .before .before .before .before .before .before .before .before .before .before .before .before .before .before) x q (indexes (c .before .before .before .before .before .before .before .before .before .before .before .before .before .before .before .before .before .before .before .before .before .before .before .before .before .before .before .before)) (c .before .before .before .before .before .before .before .before .before .before .before .before .before .before .before .before .before .before .before .queue-of .ensures) ∙ rw (table, first, second)))
+    c .unformed4 .ensures ∙ sym (checked-false r (tests (c .before .before .before .before .before .before .before .before .before .before .before .before .before .before .before .before .before .before .before .before .before .before .before .before .before .before .before .before .before .before .before .before .before .before .before .before .before .before .before .before .before .before .before .before .before .before .before .before) x q (indexes (c .before .before .before .before .before .before .before .before .before .before .before .before .before .before .before .before .before .before .before .before .before .before .before .before .before .before .before .before .before)) (c .before .before .before .before .before .before .before .before .before .before .before .before .before .before .before .before .before .before .before .before .queue-of .ensures) ∙ rw (table, first, second)))
 
 returns-5 : tie.Need-returns-5
 unfolding meaning
 returns-5 c =
-    let r = c .before .before .before .before .before .before .before .before .before .before .before .before .before .before .before .before .before .before .before .before .before .before .before .before .before .before .before .before .before .before .before .before .before .before .before .before .before .before .before .before .before .before .before .args .replica in
-    let x = c .before .before .before .before .before .before .before .before .before .before .before .before .before .before .before .before .before .before .before .before .before .before .before .before .before .before .before .index-of .result in
-    let q = c .before .before .before .before .before .before .before .before .before .before .before .before .before .before .before .before .before .before .queue-of .result in
-    let table = agreed (c .before .before .before .before .before .before .before .before .before .before .before .before .before .before .before .before .before .before .before .before .before .before .before .before .before .before .before .before) in
-    let first : indexFormed r x ≡ true = passed {u = indexFormed r x} (c .before .before .before .before .before .before .before .before .before .before .before .before .before .before .before .before .before .before .before .before .before .ordered-among .ensures) (c .before .before .before .before .before .before .before .before .before .before .before .before .before .before .before .before .before .before .before .before .if3 .left) in
+    let r = c .before .before .before .before .before .before .before .before .before .before .before .before .before .before .before .before .before .before .before .before .before .before .before .before .before .before .before .before .before .before .before .before .before .before .before .before .before .before .before .before .before .before .before .before .before .before .before .before .before .args .replica in
+    let x = c .before .before .before .before .before .before .before .before .before .before .before .before .before .before .before .before .before .before .before .before .before .before .before .before .before .before .before .before .index-of .result in
+    let q = c .before .before .before .before .before .before .before .before .before .before .before .before .before .before .before .before .before .before .before .queue-of .result in
+    let table = agreed (c .before .before .before .before .before .before .before .before .before .before .before .before .before .before .before .before .before .before .before .before .before .before .before .before .before .before .before .before .before .before .before .before .before .before) in
+    let first : indexFormed r x ≡ true = passed {u = indexFormed r x} (c .before .before .before .before .before .before .before .before .before .before .before .before .before .before .before .before .before .before .before .before .before .before .ordered-among .ensures) (c .before .before .before .before .before .before .before .before .before .before .before .before .before .before .before .before .before .before .before .before .before .if3 .left) in
     let second : queueFormed r x q ≡ true = passed {u = queueFormed r x q} (c .before .queue-formed .ensures) (c .if4 .left) in
-    let e = indexes (c .before .before .before .before .before .before .before .before .before .before .before .before .before .before .before .before .before .before .before .before .before .before .before .before .before .before .before) in
-    let f = c .before .before .before .before .before .before .before .before .before .before .before .before .before .before .before .before .before .before .queue-of .ensures in
-    formed-path (meaning r) e f ∙ sym (checked-true r (tests (c .before .before .before .before .before .before .before .before .before .before .before .before .before .before .before .before .before .before .before .before .before .before .before .before .before .before .before .before .before .before .before .before .before .before .before .before .before .before .before .before .before) x q e f ∙ rw (table, first, second)))
+    let e = indexes (c .before .before .before .before .before .before .before .before .before .before .before .before .before .before .before .before .before .before .before .before .before .before .before .before .before .before .before .before) in
+    let f = c .before .before .before .before .before .before .before .before .before .before .before .before .before .before .before .before .before .before .before .queue-of .ensures in
+    formed-path (meaning r) e f ∙ sym (checked-true r (tests (c .before .before .before .before .before .before .before .before .before .before .before .before .before .before .before .before .before .before .before .before .before .before .before .before .before .before .before .before .before .before .before .before .before .before .before .before .before .before .before .before .before .before .before .before .before .before .before) x q e f ∙ rw (table, first, second)))
 
 pub check-spec : {M : Type 1} → statement M
 check-spec =

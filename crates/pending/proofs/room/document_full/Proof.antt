@@ -8,15 +8,9 @@ use borrow.Author.Tests.{leb-true, leb-false, le-leb, lt-leb}
 use lib.Dec.{leb}
 use lib.ListN.{length-take}
 use Rattle.lists.proofs.Tests.{either}
-use Rattle.lists.proofs.Padding.{first-or-all}
-use Rattle.pending.proofs.Fullness.{full-queue}
-use Rattle.pending.proofs.Queues.{FullQueue}
 use borrow.Author.Needs.{needs}
 use Rattle.pending.proofs.room.document_full.Statement.{statement}
 use Rattle.pending.proofs.room.document_full.Tie as tie
-
-queued : (c : tie.Start) → FullQueue (c .args .queue)
-queued c = full-queue (c .good .1 .0)
 
 -- what is left after n is compared, or the sum
 left-or-sum : (m n k : ℕ) → leb (m - n) k ≡ leb m (n + k)
@@ -31,37 +25,19 @@ enough m n k h = sym (le-leb m (n + k) (omega arith))
 returns : tie.Need-returns
 returns c = enough _ _ _ (c .if1 .taken)
 
-lesser-requires : tie.Need-lesser-requires
-lesser-requires c κs = search needs
-
 sub-result : tie.Need-sub-result
 sub-result c = search needs
 
-array-share-prefix-own : tie.Need-array-share-prefix-own
-array-share-prefix-own c = let f = queued (c .before .before .before) in omega (arith, c .lesser .ensures)
-
 slice-aggregate-count-inserts : tie.Need-slice-aggregate-count-inserts
-slice-aggregate-count-inserts c =
-    let f = queued (c .before .before .before .before) in
-    simp length-take (omega (arith, c .before .lesser .ensures))
+slice-aggregate-count-inserts c = simp length-take (omega arith)
 
 count-inserts-requires : tie.Need-count-inserts-requires
 count-inserts-requires c κs = search needs
 
 returns-2 : tie.Need-returns-2
-returns-2 c =
-    let s = c .before .before .before .before .before in
-    rw (c .count-inserts .ensures, c .before .before .lesser .ensures, first-or-all (s .args .queue .own) (s .args .w) 512 (queued s .own))
-    (left-or-sum 1024 (s .args .n) _)
+returns-2 c = rw (c .count-inserts .ensures) (left-or-sum 1024 (c .before .before .before .before .args .n) _)
 
 pub document-full-spec : {M : Type 1} → statement M
 document-full-spec =
     tie.close
-    (tie.spec
-    returns
-    lesser-requires
-    sub-result
-    array-share-prefix-own
-    slice-aggregate-count-inserts
-    count-inserts-requires
-    returns-2)
+    (tie.spec returns sub-result slice-aggregate-count-inserts count-inserts-requires returns-2)
