@@ -17,8 +17,8 @@ fn chain(key: u32) -> usize
 }
 
 // The index of a key, where the walk down its chain comes to it. A place in the table is believed only where the key
-// stands there, and a link only where it leads to an earlier one, so that any table will do. A step of the calls and not
-// a call: they lend arrays of these sizes.
+// stands there, and a link only where it leads to an earlier one, so that any table will do. A step of the calls and
+// not a call: they lend arrays of these sizes.
 pub fn lookup<'a>(heads: &'a [u16], links: &'a [u16], keys: &'a [u32], key: u32) -> Found
     requires { ⌜ length (now heads) ≡ 2048 ⌝ }
     requires { ⌜ length (now keys) ≤ length (now links) ⌝ }

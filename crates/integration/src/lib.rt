@@ -99,8 +99,8 @@ pub enum Placement {
     Below(usize),
 }
 
-// Finds the place of an insert among the n characters with these keys, whose previous and next have these places. A step
-// of the calls and not a call: they have an index of the characters in use, and a table of their keys.
+// Finds the place of an insert among the n characters with these keys, whose previous and next have these places. A
+// step of the calls and not a call: they have an index of the characters in use, and a table of their keys.
 pub fn find_place<'a>(
     heads: &'a [u16],
     links: &'a [u16],
