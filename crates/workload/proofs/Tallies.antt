@@ -1,15 +1,17 @@
--- Laws of the tally: one operation more at the end of the list is one step more, and counts at most one.
-use mathlib.Core.Path.{_≡_, refl, sym, ap, _∙_}
-use mathlib.Core.List.{List, [], _∷_, _++_, map, map-append}
-use Prim.Native.Nat.{ℕ, _+_, _≤_, min}
+-- Laws of the tally: one operation more at the end of the list is one step more, and counts at most one. The operations
+-- by number, all of them, are the list that the definition has.
+use mathlib.Core.Path.{_≡_, refl, ap, _∙_}
+use mathlib.Core.List.{List, [], _∷_, _++_, map, map-append, append-nil, append-assoc}
+use Prim.Native.Nat.{ℕ, zero, suc, _+_, _-_, _≤_, min}
+use native.Mathlib.Nat.{add-zero, add-suc}
 use native.Mathlib.Numerals.{add-one}
 use native.Mathlib.Omega.{arith}
+use borrow.Author.Tests.{lt-ltb, le-ltb}
 use Rattle.woot.specs.declared.Operation.{Operation}
 use Rattle.woot.specs.declared.Answer.{Answer}
 use Rattle.woot.specs.declared.Answer.the-variants.{Done, Deferred, Duplicate, Refused}
 use Rattle.storage.specs.Replicas.{received}
-use Rattle.workload.specs.declared.Tally.{Tally}
-use Rattle.workload.specs.Workload.{insertOf, deleteOf, numbersBelow, operationsOf, carried, tallied, talliedAll, noneTallied, carriedOut}
+use Rattle.workload.specs.Workload.{insertOf, deleteOf, numbersBelow, operationOf, operationsOf, carried, Tally, tallied, talliedAll, noneTallied, carriedOut}
 
 pub carried-le : (a : Answer) → carried a ≤ 1
 unfolding carried
@@ -42,15 +44,41 @@ received-more {f} {t} {u} {v} {k} r e =
       few = rw e (omega (arith, r .few, carried-le (received (u .replica) (f k) .answer)));
     }
 
--- the deletes after the inserts are the whole list
-pub both-received : (rows : ℕ) {n : ℕ} {inserted deleted : Tally} → n ≡ min rows 1024
-    → inserted ≡ talliedAll noneTallied (map insertOf (numbersBelow n))
-    → deleted ≡ talliedAll inserted (map deleteOf (numbersBelow n))
-    → deleted .count ≡ carriedOut rows
+-- by number, the first of the operations are the inserts
+inserts-first : (n k : ℕ) → k ≤ n → map (operationOf n) (numbersBelow k) ≡ map insertOf (numbersBelow k)
+unfolding operationOf numbersBelow
+inserts-first n zero h = refl
+inserts-first n (suc k) h =
+    rw (
+      map-append (operationOf n) (numbersBelow k) (k ∷ []),
+      map-append insertOf (numbersBelow k) (k ∷ []),
+      inserts-first n k (omega arith),
+      lt-ltb k n (omega arith),
+    )
+
+-- and the others are the deletes
+deletes-after : (n m : ℕ)
+    → map (operationOf n) (numbersBelow (n + m)) ≡ map insertOf (numbersBelow n) ++ map deleteOf (numbersBelow m)
+unfolding operationOf numbersBelow
+deletes-after n zero = rw (add-zero n, append-nil (map insertOf (numbersBelow n))) (inserts-first n n (omega arith))
+deletes-after n (suc m) =
+    let back : n + m - n ≡ m = omega arith in
+    rw (
+      add-suc n m,
+      map-append (operationOf n) (numbersBelow (n + m)) ((n + m) ∷ []),
+      map-append deleteOf (numbersBelow m) (m ∷ []),
+      deletes-after n m,
+      le-ltb (n + m) n (omega arith),
+      back,
+    )
+    (append-assoc (map insertOf (numbersBelow n)) (map deleteOf (numbersBelow m)) (deleteOf m ∷ []))
+
+-- where all of them were received, the count is that of the definition
+pub all-received : (rows : ℕ) {n : ℕ} {u : Tally} → n ≡ min rows 1024
+    → Received (operationOf n) noneTallied u (n + n)
+    → u .count ≡ carriedOut rows
 unfolding carriedOut operationsOf
-both-received rows {n = n} cut p q =
-    let inserts = map insertOf (numbersBelow n) in
-    let deletes = map deleteOf (numbersBelow n) in
+all-received rows {n = n} cut r =
     ap (λ (t : Tally). t .count)
-    (q ∙ ap (λ (t : Tally). talliedAll t deletes) p ∙ sym (tallied-append noneTallied inserts deletes)
+    (r .left ∙ ap (talliedAll noneTallied) (deletes-after n n)
     ∙ ap (λ (m : ℕ). talliedAll noneTallied (operationsOf m)) cut)

@@ -3,8 +3,9 @@
 use Prim.Native.Nat.{ℕ, zero, suc, _+_, _-_, _/_, _%_, min}
 use mathlib.Core.Bool.{cond}
 use mathlib.Core.List.{List, [], _∷_, _++_, map}
-use lib.Dec.{eqb}
+use lib.Dec.{eqb, ltb}
 use Rattle.woot.specs.declared.Identifier.{Identifier}
+use Rattle.woot.specs.declared.Replica.{Replica}
 use Rattle.woot.specs.declared.Operation.{Operation}
 use Rattle.woot.specs.declared.Operation.the-variants.{Insert, Delete}
 use Rattle.woot.specs.declared.Answer.{Answer}
@@ -12,7 +13,6 @@ use Rattle.woot.specs.declared.Answer.the-variants.{Done, Deferred, Duplicate, 
 use Rattle.woot.specs.Identifiers.{begin, end}
 use Rattle.woot.specs.State.{initial, stored, characterSlots}
 use Rattle.storage.specs.Replicas.{received}
-use Rattle.workload.specs.declared.Tally.{Tally}
 
 -- ---- the operations
 
@@ -31,6 +31,10 @@ insertOf k =
 unfoldable pub deleteOf : ℕ → Operation
 deleteOf k = Delete (record { sender = k % 16 + 1; target = identifierOf k })
 
+-- the k-th operation on n characters, from 0: their inserts, and then their deletes
+unfoldable pub operationOf : ℕ → ℕ → Operation
+operationOf n k = cond (ltb k n) (insertOf k) (deleteOf (k - n))
+
 -- the numbers below n, in order
 unfoldable pub numbersBelow : ℕ → List ℕ
 numbersBelow zero = []
@@ -48,6 +52,11 @@ carried (Done n m) = 1
 carried Deferred = 0
 carried Duplicate = 0
 carried (Refused r) = 0
+
+-- a replica, and how many of the operations that it received were carried out
+pub record Tally : Type 0 where
+  pub replica : Replica
+  pub count : ℕ
 
 -- one operation more
 unfoldable pub tallied : Tally → Operation → Tally

@@ -7,18 +7,14 @@ use woot::Insert;
 use woot::Operation;
 use woot::Replica;
 ghost use mathlib.Core.Path.{_≡_};
-ghost use mathlib.Core.List.{map};
-ghost use Prim.Native.Nat.{_≤_, _<_, min};
+ghost use Prim.Native.Nat.{_+_, _≤_, _<_, min};
 ghost use Rattle.workload.specs.Workload.{
   identifierOf,
   previousOf,
   insertOf,
   deleteOf,
-  numbersBelow,
+  operationOf,
   carried,
-  tallied,
-  talliedAll,
-  noneTallied,
   carriedOut,
 };
 
@@ -65,6 +61,18 @@ fn delete(k: u16) -> Operation
     })
 }
 
+// The k-th operation on `rows` characters: their inserts, and then their deletes.
+fn operation(rows: u16, k: u16) -> Operation
+    requires { ⌜ rows ≤ 1024 ⌝ }
+    requires { ⌜ k < rows + rows ⌝ }
+    ensures { λ r. ⌜ r ≡ operationOf rows k ⌝ }
+{
+    if k < rows {
+        return insert(k);
+    }
+    delete(k - rows)
+}
+
 // 1 where the operation was carried out.
 fn carried(answer: Answer) -> u64
     ensures { λ r. ⌜ r ≡ carried answer ⌝ }
@@ -80,60 +88,6 @@ fn carried(answer: Answer) -> u64
     }
 }
 
-// A replica, and how many of the operations that it received were carried out.
-struct Tally {
-    replica: Replica,
-    count: u64,
-}
-
-// Receives one more.
-fn receive(tally: Tally, operation: Operation) -> Tally
-    requires { ⌜ tally .count < 2048 ⌝ }
-    ensures { λ r. ⌜ r ≡ tallied tally operation ⌝ }
-{
-    let replica = tally.replica;
-    let receipt = replica::receive(replica, operation);
-    let answer = receipt.answer;
-    let left = receipt.replica;
-    Tally {
-        replica: left,
-        count: tally.count + carried(answer),
-    }
-}
-
-// Receives the first `rows` inserts on an empty replica.
-fn receive_inserts(rows: u16) -> Tally
-    requires { ⌜ rows ≤ 1024 ⌝ }
-    ensures { λ r. ⌜ r ≡ talliedAll noneTallied (map insertOf (numbersBelow rows)) ⌝ }
-    ensures { λ r. ⌜ r .count ≤ rows ⌝ }
-{
-    let mut left = Tally {
-        replica: Replica::empty(16),
-        count: 0,
-    };
-    let mut k: u16 = 0;
-    while k < rows {
-        left = receive(left, insert(k));
-        k += 1;
-    }
-    left
-}
-
-// Receives the first `rows` deletes.
-fn receive_deletes(inserted: Tally, rows: u16) -> Tally
-    requires { ⌜ rows ≤ 1024 ⌝ }
-    requires { ⌜ inserted .count ≤ 1024 ⌝ }
-    ensures { λ r. ⌜ r ≡ talliedAll inserted (map deleteOf (numbersBelow rows)) ⌝ }
-{
-    let mut left = inserted;
-    let mut k: u16 = 0;
-    while k < rows {
-        left = receive(left, delete(k));
-        k += 1;
-    }
-    left
-}
-
 // As many as there are slots for, where it is more.
 fn within(rows: u64) -> u16
     ensures { λ r. ⌜ r ≡ min rows 1024 ⌝ }
@@ -145,13 +99,22 @@ fn within(rows: u64) -> u16
 }
 
 // Receives the first `rows` inserts on an empty replica of site 16, 1,024 at most, and then the deletes of the same
-// characters, and answers how many of them were carried out.
+// characters, and answers how many of them were carried out. The one call of `replica::receive` stands in the loop: a
+// function between would copy the replica at each call, and that would be timed too.
 #[no_mangle]
 pub extern "C" fn workload_run(rows: u64) -> u64
     ensures { λ r. ⌜ r ≡ carriedOut rows ⌝ }
 {
     let n = within(rows);
-    let inserted = receive_inserts(n);
-    let deleted = receive_deletes(inserted, n);
-    deleted.count
+    let mut replica = Replica::empty(16);
+    let mut count: u64 = 0;
+    let mut k: u16 = 0;
+    while k < n + n {
+        let receipt = replica::receive(replica, operation(n, k));
+        let answer = receipt.answer;
+        replica = receipt.replica;
+        count += carried(answer);
+        k += 1;
+    }
+    count
 }
