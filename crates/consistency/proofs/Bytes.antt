@@ -28,9 +28,10 @@ use Rattle.lines.specs.Lines.{closed}
 use Rattle.lines.specs.Fields.{hasLayout}
 use Rattle.codec.specs.Operations.{operationLine}
 use Rattle.codec.specs.Calls.{saidBy}
-use Rattle.saved.specs.Format.{isSite, headLine, savedLaidOut, savedState, savedBytes}
+use Rattle.saved.specs.Format.{isSite, headLine, savedLaidOut, savedBytes}
+use Rattle.saved.specs.Calls.{loadedState}
 use Rattle.saved.specs.Calls.{loadChecks, unread, loaded}
-use Rattle.saved.proofs.Trips.{saved-says, saved-reads-back}
+use Rattle.saved.proofs.Trips.{saved-loads, saved-reads-back}
 use Rattle.results.specs.Results.{result, silent, inBits, numberOf}
 use Rattle.effects.specs.Effects.{Effect, quiet, turned, writing, writingBoth, afterReceiving, sending, afterSending}
 use Rattle.wimtaze.specs.Calls.{inputChecks, receivingLine, insertingHere, deletingHere}
@@ -119,18 +120,18 @@ module _ (s : State) (h : wellFormed s ≡ true) where
       Follows s (savedBytes s) (receiving (saidBy line)) (receivingLine (savedBytes s) line out)
   unfolding receivingLine afterReceiving outcome
   receive-step line out =
-      handed-away (bytes s h) _ out [] _ _ (rw (saved-says s) (received-step s h (receiving (saidBy line)) (receive s (saidBy line) .answer) refl out))
+      handed-away (bytes s h) _ out [] _ _ (rw (saved-loads s h) (received-step s h (receiving (saidBy line)) (receive s (saidBy line) .answer) refl out))
 
   type-step : (g n : ℕ) (out line : List ℕ) →
       Follows s (savedBytes s) (inserting g n) (insertingHere (savedBytes s) g n out line)
   unfolding insertingHere afterSending outcome
   type-step g n out line =
-      handed-away (bytes s h) _ out line _ _ (rw (saved-says s) (sent-step s h (inserting g n) (localInsert s g n .answer) refl out line))
+      handed-away (bytes s h) _ out line _ _ (rw (saved-loads s h) (sent-step s h (inserting g n) (localInsert s g n .answer) refl out line))
 
   erase-step : (p : ℕ) (out line : List ℕ) → Follows s (savedBytes s) (deleting p) (deletingHere (savedBytes s) p out line)
   unfolding deletingHere afterSending outcome
   erase-step p out line =
-      handed-away (bytes s h) _ out line _ _ (rw (saved-says s) (sent-step s h (deleting p) (localDelete s p .answer) refl out line))
+      handed-away (bytes s h) _ out line _ _ (rw (saved-loads s h) (sent-step s h (deleting p) (localDelete s p .answer) refl out line))
 
   load-step : Steps s (asBytes (savedBytes s)) (bytesCall load)
   unfolding stepOn onBytes afterLoading
@@ -140,9 +141,9 @@ module _ (s : State) (h : wellFormed s ≡ true) where
 
   -- the effect as it is read off the returned number
   read : {m k : ℕ} (e : Effect) → Fits m k (e .result) → m < 65536 → k < 65536 → (c : RuleCall) →
-      Follows s (savedBytes s) c e → Step s (keptBytes (savedBytes s) e) (whenDone (wordOf e) (savedState (savedBytes s)) c)
+      Follows s (savedBytes s) c e → Step s (keptBytes (savedBytes s) e) (whenDone (wordOf e) (loadedState (savedBytes s)) c)
   unfolding Follows
-  read e f hm hk c t = rw (saved-says s, effect-returned e f hm hk (savedBytes s), word-returned e f hm hk) t
+  read e f hm hk c t = rw (saved-loads s h, effect-returned e f hm hk (savedBytes s), word-returned e f hm hk) t
 
   pub bytes-step : (c : BytesCall) → Steps s (asBytes (savedBytes s)) (bytesCall c)
   unfolding stepOn onBytes byEffect Follows

@@ -65,7 +65,7 @@ changes-formed : (s : State) {r : Outcome Answer} → RuleStep s r → changes (
 unfolding changes unchanged
 changes-formed s (turned Duplicate w) h = absurd (false≢true h)
 changes-formed s (turned (Refused q) w) h = absurd (false≢true h)
-changes-formed s (adds t i a) h = reformed s (a .formed)
+changes-formed s (adds i a) h = reformed s (a .formed)
 changes-formed s (removes d a) h = reformed s (a .formed)
 changes-formed s (defers o a) h = reformed s (a .formed)
 

@@ -22,7 +22,7 @@ use Rattle.report.specs.Calls.{answered}
 use Rattle.saved.specs.declared.LoadAnswer.{LoadAnswer}
 use Rattle.saved.specs.declared.LoadAnswer.the-variants.{Done as loadDone, Refused as loadRefused}
 use Rattle.saved.specs.Format.{savedState}
-use Rattle.saved.specs.Calls.{loaded, saved, savedOut}
+use Rattle.saved.specs.Calls.{loadedState, loaded, saved, savedOut}
 use Rattle.results.specs.Results.{numberOf}
 use Rattle.effects.specs.Effects.{Effect}
 use Rattle.wimtaze.specs.Calls.{beginning, receivingLine, insertingHere, deletingHere}
@@ -132,9 +132,9 @@ onMemory r (onLine s) =
     }
 onMemory r (save out) = record { copy = afterSaving r (savedOut r out) (saved r out); carried = [] }
 
--- a C call on bytes, which makes the call of the rules on what they say
+-- a C call on bytes, which makes the call of the rules on the state that loading makes of them
 unfoldable pub byEffect : List ℕ → Effect → RuleCall → Stepped
-byEffect b e c = record { copy = keptBytes b e; carried = whenDone (wordOf e) (savedState b) c }
+byEffect b e c = record { copy = keptBytes b e; carried = whenDone (wordOf e) (loadedState b) c }
 
 -- on saved bytes
 unfoldable pub onBytes : List ℕ → BytesCall → Stepped

@@ -31,9 +31,8 @@ use Rattle.convergence.proofs.Forms.{formed}
 use Rattle.convergence.proofs.Soundness.{fresh-unheld, sound-in, sound-out, out-fresh}
 use Rattle.convergence.proofs.Drains.{Draining, stop, discard, carry}
 use Rattle.convergence.proofs.Draining.{sound-carry}
-use Rattle.convergence.proofs.Steps.{Step, turned, adds, removes, defers, step, generated-uncrossed}
-use Rattle.convergence.proofs.Kept.{after-insert}
-use Rattle.convergence.proofs.Refusals.{skipped, held-there, never, other, other-sent, receive-refuses, insert-refuses, delete-refuses, answer-refused}
+use Rattle.convergence.proofs.Steps.{Step, turned, adds, removes, defers, step, generated-uncrossed, after-insert}
+use Rattle.convergence.proofs.Refusals.{skipped, held-there, never, unreported, other, other-sent, receive-refuses, insert-refuses, delete-refuses, answer-refused}
 
 grown-carry : {cs : List Character} {os ps : List Operation} (o : Operation) → Extract o os ps → Sound cs ps → executable cs o ≡ true → crossed cs o ≡ false → Grown cs → Grown (integrate cs o)
 unfolding integrate inRange
@@ -52,7 +51,7 @@ grown-drained (carry t w uncrossed placeable r) s g =
 grown-step : (s : State) {r : Outcome Answer} → Step s r → Grown (s .characters) → Grown (r .state .characters)
 unfolding unchanged carryOut defer withCharacters withPending
 grown-step s (turned a w) g = g
-grown-step s (adds t i a) g =
+grown-step s (adds i a) g =
     grown-drained (after-insert s i) (sound-in i (a .formed .sound) (a .ranged) (a .fresh) (a .space) (a .ready) (a .uncrossed) (a .placeable))
     (grown-insert (s .characters) i g (a .ranged) (fresh-unheld (s .characters) (s .pending) i (a .ranged) (a .fresh)) (a .ready) (a .uncrossed))
 grown-step s (removes d a) g = grown-delete (s .characters) d g
@@ -101,7 +100,7 @@ insert-placeable s g n w r =
 
 delete-placeable : (s : State) (p : ℕ) → Reported (sentRefused Unplaceable) (deleteChecks (wellFormed s) s p) → ⊥
 unfolding deleteChecks
-delete-placeable s p r = never (skipped (other-sent (λ h. omega arith)) (skipped (other-sent (λ h. omega arith)) r .1) .1)
+delete-placeable s p = unreported (deleteChecks (wellFormed s) s p) (other-sent (λ h. omega arith), (other-sent (λ h. omega arith), tt))
 
 placeable : (s : State) (c : Call) → Grown (s .characters) → outcome s c .answer ≡ Refused Unplaceable → ⊥
 unfolding outcome receive localInsert localDelete

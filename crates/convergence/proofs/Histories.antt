@@ -24,8 +24,7 @@ use Rattle.convergence.specs.Invariants.{Sound}
 use Rattle.convergence.proofs.Soundness.{placed-extract, placed-held, fresh-unheld, sound-in, sound-out, out-fresh}
 use Rattle.convergence.proofs.Drains.{Draining, stop, discard, carry}
 use Rattle.convergence.proofs.Draining.{sound-carry, drained-balance}
-use Rattle.convergence.proofs.Steps.{Step, turned, adds, removes, defers, step}
-use Rattle.convergence.proofs.Kept.{after-insert}
+use Rattle.convergence.proofs.Steps.{Step, turned, adds, removes, defers, step, after-insert}
 use Rattle.convergence.proofs.Faithful.{Faithful, faithful-empty, faithful-insert, faithful-delete}
 
 -- a pending operation carried out
@@ -46,7 +45,7 @@ faithful-drained os (carry {d = d} t w uncrossed placeable r) s f =
 faithful-step : (s : State) (os : List Operation) {r : Outcome Answer} → Step s r → Faithful (s .characters) os → Faithful (r .state .characters) (os ++ allIntegrated r)
 unfolding unchanged carryOut defer withCharacters withPending allIntegrated executable
 faithful-step s os (turned a w) f = subst (λ qs. Faithful (s .characters) qs) (sym (append-nil os)) f
-faithful-step s os (adds t i a) f =
+faithful-step s os (adds i a) f =
     subst (λ qs. Faithful (insertCarried s i .characters) qs) (append-assoc os (insert i ∷ []) (insertCarried s i .integrated))
     (faithful-drained (os ++ insert i ∷ []) (after-insert s i) (sound-in i (a .formed .sound) (a .ranged) (a .fresh) (a .space) (a .ready) (a .uncrossed) (a .placeable))
     (faithful-insert i (placed-extract (s .characters) i (a .ready) (a .uncrossed) (a .placeable)) (fresh-unheld (s .characters) (s .pending) i (a .ranged) (a .fresh)) (placed-held (s .characters) i (a .ready) (a .uncrossed) (a .placeable)) f))
@@ -82,7 +81,7 @@ balance-step : (s : State) {r : Outcome Answer} → Step s r → isDeferred (r .
 unfolding unchanged carryOut defer withCharacters withPending
 balance-step s (turned Duplicate w) = omega arith
 balance-step s (turned (Refused r) w) = omega arith
-balance-step s (adds t i a) = omega (arith, drained-balance (after-insert s i))
+balance-step s (adds i a) = omega (arith, drained-balance (after-insert s i))
 balance-step s (removes d a) = omega arith
 balance-step s (defers o a) = omega (arith, length-append (s .pending) (o ∷ []))
 

@@ -1,5 +1,6 @@
 pub mod Identifiers
 pub mod Ranges
+pub mod Clocks
 pub mod Extract
 pub mod Insertion
 pub mod Places
@@ -19,6 +20,7 @@ pub mod InsertionPoint
 pub mod Steps
 pub mod Shares
 pub mod Kept
+pub mod Hearing
 pub mod Faithful
 pub mod Histories
 pub mod Refusals

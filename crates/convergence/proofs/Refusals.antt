@@ -21,6 +21,7 @@ use Rattle.woot.specs.Answers.{Check, first, decided, Reported, here, later, nu
 use Rattle.woot.specs.Calls.{Outcome, unchanged, carryOut, defer, accept, receiveChecks, receiveWhen, receive, insertChecks, generatedInsert, sendInsert, localInsertWhen, localInsert, deleteChecks, generatedDelete, sendDelete, localDeleteWhen, localDelete}
 use Rattle.woot.specs.Histories.{inserting, deleting, receiving, withAnswer, outcome}
 use Rattle.lists.proofs.Tests.{some-eq, no-some}
+use Rattle.convergence.proofs.Steps.{All}
 use Rattle.convergence.specs.Theorems.{ReceiveRefuses, ReceiveKnows, InsertRefuses, DeleteRefuses, RefusedUnchanged, KnownUnchanged}
 
 module _ {A : Type 0} where
@@ -70,6 +71,12 @@ module _ {A : Type 0} {a : A} where
 
   pub never : Reported a [] → ⊥
   never r = elim r [ ]
+
+  -- what no check of the list answers is not reported
+  pub unreported : (cs : List (Check A)) → All (λ b. b ≡ a → ⊥) cs → Reported a cs → ⊥
+  unreported [] w r = never r
+  unreported (c ∷ cs) w (here h e) = w .0 e
+  unreported (c ∷ cs) w (later h r) = unreported cs (w .1) r
 
 -- refusals with other numbers differ, as answers of either kind
 pub other : {r q : Refusal} → (number r ≡ number q → ⊥) → Refused r ≡ Refused q → ⊥

@@ -19,7 +19,7 @@ use Rattle.woot.specs.declared.Sent.the-variants.{Done as sentDone, Refused as 
 use Rattle.woot.specs.State.{State}
 use Rattle.woot.specs.Pending.{executable}
 use Rattle.woot.specs.Answers.{number, Word, done, waits, known, refused, reply, answerOf, sentOperation, Check, first, NoneHolds, decided}
-use Rattle.woot.specs.Calls.{Outcome, unchanged, carryOut, defer, accept, receiveChecks, receiveWhen, generatedInsert, insertChecks, advanced, sendInsert, localInsertWhen, generatedDelete, deleteChecks, sendDelete, localDeleteWhen}
+use Rattle.woot.specs.Calls.{Outcome, unchanged, carryOut, defer, accept, receiveChecks, receiveWhen, generatedInsert, insertChecks, sendInsert, localInsertWhen, generatedDelete, deleteChecks, sendDelete, localDeleteWhen}
 use Rattle.lists.proofs.Tests.{some-eq, no-some}
 use Rattle.convergence.specs.Theorems.{NumbersDiffer, ReceiveNumbers, InsertNumbers, DeleteNumbers, ReceiveDoes, ReceiveWaits, InsertDoes, DeleteDoes, InsertSends, DeleteSends}
 use Rattle.convergence.proofs.Refusals.{receive-refuses, insert-refuses, delete-refuses, answer-refused}
@@ -214,7 +214,7 @@ pub insert-does : InsertDoes
 unfolding localInsertWhen sendInsert
 insert-does formed s g n =
     let w = done-exactly wordSent done s (insertChecks formed s g n) (sendInsert s (generatedInsert s g n)) (all-refusing wordSent done not-done (insertChecks formed s g n) (insert-turned formed s g n)) in
-    (λ h. w .0 h .0, λ h. w .1 (h, sent-done (advanced s) (insert (generatedInsert s g n))))
+    (λ h. w .0 h .0, λ h. w .1 (h, sent-done s (insert (generatedInsert s g n))))
 
 pub delete-does : DeleteDoes
 unfolding localDeleteWhen sendDelete

@@ -1,15 +1,15 @@
 -- What a call does, as one of four steps with all that is known where it is taken: nothing, an insert carried out, a
 -- delete carried out, an operation deferred. Every theorem about calls goes by these.
-use Prim.Native.Nat.{ℕ, suc, _+_, _≤_, _<_}
+use Prim.Native.Nat.{ℕ, suc, _+_, _≤_, _<_, max}
 use native.Mathlib.Omega.{arith}
-use mathlib.Core.Path.{_≡_, refl, ap, _∙_, subst}
+use mathlib.Core.Path.{_≡_, refl, ap, sym, _∙_, subst}
 use mathlib.Core.Bool.{Bool, true, false, _&&_, _||_, not, cond}
 use mathlib.Core.Option.{Option, none, some}
 use mathlib.Core.Logic.{_⊎_, ⊎-elim}
 use mathlib.Core.List.{List, [], _∷_, _++_, map, List·Memᴰ, List·Memᴰ·head, List·Memᴰ·tail, List·Memᴰ·append-cases}
 use lib.Dec.{leb, ltb, eqb}
 use lib.ListN.{length}
-use borrow.Author.Tests.{leb-false, ltb-false, not-false}
+use borrow.Author.Tests.{leb-false, ltb-false, not-false, eq-eqb}
 use Rattle.woot.specs.declared.Identifier.{Identifier}
 use Rattle.woot.specs.declared.Site.{Site}
 use Rattle.woot.specs.declared.Insert.{Insert}
@@ -27,15 +27,16 @@ use Rattle.woot.specs.Operations.{sender, origin, isVisible, inserts, deletes, 
 use Rattle.woot.specs.Ranges
 use Rattle.woot.specs.Ranges.{siteNumber, codePoint, characterId, previousId, nextId, siteInRange, insertInRange, inRange}
 use Rattle.woot.specs.State.{State}
-use Rattle.woot.specs.Placing.{identifiers, held}
+use Rattle.woot.specs.Placing.{identifiers, held, integrateInsert}
 use Rattle.woot.specs.Pending.{executable, crossed, unplaceable, pendingFrom, Drained}
+use Rattle.woot.specs.Clock.{ownInsert, heard, heardAll}
 use Rattle.woot.specs.Form.{presentInserts, wellFormed}
 use Rattle.woot.specs.Answers.{Check, first, NoneHolds, decided, answerOf}
-use Rattle.woot.specs.Calls.{Outcome, unchanged, afterDrain, insertCarried, duplicate, conflicting, senderFull, documentFull, receiveChecks, carryOut, defer, accept, receiveWhen, receive, visibles, nextIdentifier, generatedInsert, beyondVisible, identifierTaken, insertChecks, advanced, sendInsert, localInsertWhen, localInsert, notVisible, deleteChecks, generatedDelete, sendDelete, localDeleteWhen, localDelete}
+use Rattle.woot.specs.Calls.{Outcome, unchanged, afterDrain, insertCarried, duplicate, conflicting, senderFull, documentFull, receiveChecks, carryOut, defer, accept, receiveWhen, receive, visibles, nextIdentifier, generatedInsert, beyondVisible, identifierTaken, insertChecks, sendInsert, localInsertWhen, localInsert, notVisible, deleteChecks, generatedDelete, sendDelete, localDeleteWhen, localDelete}
 use Rattle.woot.specs.Histories.{Call, inserting, deleting, receiving, withAnswer, outcome}
-use Rattle.lists.specs.Lists.{any}
+use Rattle.lists.specs.Lists.{any, every}
 use Rattle.lists.proofs.Tests.{clash, and-left, and-intro, and-false, or-left, or-right, or-false-left, or-false-right, not-intro, fails}
-use Rattle.lists.proofs.Members.{any-none, none-any}
+use Rattle.lists.proofs.Members.{any-none, none-any, every-member}
 use Rattle.convergence.specs.Invariants.{pendingIds, Made}
 use Rattle.convergence.proofs.Forms.{Formed, formed, known-ids, known-length}
 use Rattle.convergence.specs.Agreement.{Standing}
@@ -43,6 +44,9 @@ use Rattle.convergence.proofs.Identifiers.{eq-same, ne-same}
 use Rattle.convergence.proofs.Ranges.{InRange, to-range, to-within, no-mark}
 use Rattle.convergence.proofs.Places.{held-begin, held-end}
 use Rattle.convergence.proofs.InsertionPoint.{Marked, mark, inner, leftOf, rightOf, left-marked, right-marked, marked-held, left-above, member-range}
+use Rattle.convergence.proofs.Clocks.{reaches, reaches-clock, heard-reaches, heard-keeps-all, heard-all-still}
+use Rattle.convergence.proofs.Drains.{Draining, draining}
+use Rattle.convergence.proofs.Draining.{in-every, integrated-every}
 use Rattle.convergence.proofs.Soundness.{Unused, standing, any-left}
 
 -- an answer by which nothing is changed
@@ -52,10 +56,9 @@ Turned Deferred = ⊥
 Turned Duplicate = Unit
 Turned (Refused r) = Unit
 
--- an insert that is carried out, with the site as it is afterwards
-pub record Addable (s : State) (t : Site) (i : Insert) : Type 0 where
+-- an insert that is carried out
+pub record Addable (s : State) (i : Insert) : Type 0 where
   pub formed : Formed s
-  pub site : siteInRange t ≡ true
   pub ranged : insertInRange i ≡ true
   pub fresh : any (same (i .id)) (identifiers (s .characters) ++ pendingIds (s .pending)) ≡ false
   pub space : length (s .characters) + length (inserts (s .pending)) < capacity
@@ -76,6 +79,7 @@ pub record Deferrable (s : State) (o : Operation) : Type 0 where
   pub space : pendingFrom (sender o) (s .pending) < share
   pub unused : Unused (s .characters) (s .pending) o
 
+-- an insert carried out, with what it releases, and with the site as it is afterwards
 abbrev pub added : State → Site → Insert → Outcome Answer
 added s t i =
     let d : Drained = insertCarried s i in
@@ -89,9 +93,33 @@ added s t i =
 
 pub data Step (s : State) : Outcome Answer → Type 0 where
   turned : (a : Answer) → Turned a → Step s (unchanged s a)
-  adds : (t : Site) (i : Insert) → Addable s t i → Step s (added s t i)
+  adds : (i : Insert) → Addable s i → Step s (added s (heard (s .site) i) i)
   removes : (d : Delete) → Removable s d → Step s (carryOut Done s (delete d))
   defers : (o : Operation) → Deferrable s o → Step s (defer s o)
+
+-- ---- the clock
+
+-- the draining that follows an insert
+pub after-insert : (s : State) (i : Insert) → Draining (integrateInsert (s .characters) i) (s .pending) (insertCarried s i)
+unfolding insertCarried
+after-insert s i = draining (integrateInsert (s .characters) i) (s .pending)
+
+-- with an insert in its place, a clock that has heard it reaches all that is present
+pub in-reached : (s : State) (i : Insert) → Addable s i → every (reaches (heard (s .site) i)) (identifiers (integrateInsert (s .characters) i) ++ pendingIds (s .pending)) ≡ true
+in-reached s i a =
+    in-every (reaches (heard (s .site) i)) (s .characters) (s .pending) i (a .ready) (a .uncrossed) (a .placeable)
+    (heard-reaches (s .site) i)
+    (heard-keeps-all (s .site) i (identifiers (s .characters) ++ pendingIds (s .pending)) (a .formed .reached))
+
+-- so that what is drained after it raises nothing
+pub drained-still : (s : State) (i : Insert) → Addable s i → heardAll (s .site) (i ∷ inserts (insertCarried s i .integrated)) ≡ heard (s .site) i
+drained-still s i a =
+    heard-all-still (heard (s .site) i) (inserts (insertCarried s i .integrated))
+    (integrated-every (reaches (heard (s .site) i)) (after-insert s i) (in-reached s i a))
+
+-- what is carried out, with the clock as it is then
+drained-added : (s : State) (i : Insert) → Addable s i → Step s (added s (heardAll (s .site) (i ∷ inserts (insertCarried s i .integrated))) i)
+drained-added s i a = subst (λ (t : Site). Step s (added s t i)) (sym (drained-still s i a)) (adds i a)
 
 module _ {A : Type 0} where
   pub first-none : (cs : List (Check A)) → first cs ≡ none → NoneHolds cs
@@ -171,7 +199,7 @@ unused s (delete d) new sole space =
 carried-step : (s : State) (o : Operation) → Formed s → inRange o ≡ true → Unused (s .characters) (s .pending) o → executable (s .characters) o ≡ true → crossed (s .characters) o ≡ false → unplaceable (s .characters) o ≡ false → Step s (carryOut Done s o)
 unfolding carryOut afterDrain inRange executable
 carried-step s (insert i) f r u e x p =
-    adds (s .site) i (record { formed = f; site = f .site; ranged = r; fresh = u .0; space = u .1; ready = e; uncrossed = x; placeable = p })
+    drained-added s i (record { formed = f; ranged = r; fresh = u .0; space = u .1; ready = e; uncrossed = x; placeable = p })
 carried-step s (delete d) f r u e x p = removes d (record { formed = f; ready = e })
 
 accept-step : (s : State) (o : Operation) → NoneHolds (receiveChecks (wellFormed s) s o) → Step s (accept s o)
@@ -216,10 +244,6 @@ insert-turned formed s g n = (tt, (tt, (tt, (tt, (tt, (tt, (tt, tt)))))))
 pub delete-turned : (formed : Bool) (s : State) (p : ℕ) → All Refusing (deleteChecks formed s p)
 unfolding deleteChecks
 delete-turned formed s p = (tt, (tt, tt))
-
--- the site after its clock is advanced
-abbrev ahead : Site → Site
-ahead t = record { number = t .number; clock = t .clock + 1 }
 
 pub any-map : {A B : Type 0} (p : B → Bool) (f : A → B) (xs : List A) → any p (map f xs) ≡ any (λ x. p (f x)) xs
 any-map p f [] = refl
@@ -292,22 +316,37 @@ generated-made s g n form coded within-visible early free =
           not-next = beside (nextIdentifier (s .site)) (ne-same (nextIdentifier (s .site)) end (no-mark (nextIdentifier (s .site)) 1 id)) unused-here (right-marked std g visible);
         }
 
--- the advanced clock is in range
-advanced-site : (s : State) → Formed s → leb lastClock (s .site .clock) ≡ false → siteInRange (ahead (s .site)) ≡ true
-unfolding siteInRange
-advanced-site s form early =
-    let low = leb-false lastClock (s .site .clock) early in
-    and-intro (and-left (siteNumber (s .site .number)) (Ranges.within 0 lastClock (s .site .clock)) (form .site)) (to-within 0 lastClock (s .site .clock + 1) (omega arith) (omega arith))
+-- ---- Req 04 of document 02: the next identifier is nobody's
+
+next-unreached : (t : Site) (x : Identifier) → reaches t x ≡ true → same (nextIdentifier t) x ≡ false
+unfolding nextIdentifier
+next-unreached t x h =
+    ne-same (nextIdentifier t) x (λ e.
+    let below : x .clock ≤ t .clock = reaches-clock t x h (sym (ap (λ (y : Identifier). y .site) e)) in
+    omega (arith, below, ap (λ (y : Identifier). y .clock) e))
+
+pub formed-untaken : (s : State) → Formed s → identifierTaken s ≡ false
+unfolding identifierTaken
+formed-untaken s f =
+    sym (any-map (same (nextIdentifier (s .site))) (λ j. j .id) (presentInserts s))
+    ∙ ap (any (same (nextIdentifier (s .site)))) (known-ids s)
+    ∙ none-any (same (nextIdentifier (s .site))) (identifiers (s .characters) ++ pendingIds (s .pending))
+    (λ x m. next-unreached (s .site) x (every-member (reaches (s .site)) (f .reached) m))
+
+-- the clock that has heard what is typed here is one higher
+pub typed-heard : (s : State) (g n : ℕ) → heard (s .site) (generatedInsert s g n) ≡ record { number = s .site .number; clock = s .site .clock + 1 }
+unfolding heard ownInsert generatedInsert nextIdentifier
+typed-heard s g n =
+    let m : max (s .site .clock) (s .site .clock + 1) ≡ s .site .clock + 1 = omega arith in
+    rw (eq-eqb (s .site .number) (s .site .number) refl, m)
 
 -- where every condition fails, it is carried out
-generated-step : (s : State) (g n : ℕ) → NoneHolds (insertChecks (wellFormed s) s g n) → Addable s (ahead (s .site)) (generatedInsert s g n)
+pub generated-addable : (known : Bool) (s : State) (g n : ℕ) → Formed s → NoneHolds (insertChecks known s g n) → Addable s (generatedInsert s g n)
 unfolding insertChecks
-generated-step s g n w =
-    let form = formed s (not-false (wellFormed s) (w .1 .0)) in
+generated-addable known s g n form w =
     let m = generated-made s g n form (not-false (codePoint n) (w .0)) (w .1 .1 .0) (w .1 .1 .1 .0) (w .1 .1 .1 .1 .0) in
     record {
       formed = form;
-      site = advanced-site s form (w .1 .1 .1 .0);
       ranged = m .ranged;
       fresh = m .fresh;
       space = space-insert s (generatedInsert s g n) (w .1 .1 .1 .1 .1 .1 .0);
@@ -316,11 +355,15 @@ generated-step s g n w =
       placeable = w .1 .1 .1 .1 .1 .0;
     }
 
+generated-step : (s : State) (g n : ℕ) → NoneHolds (insertChecks (wellFormed s) s g n) → Addable s (generatedInsert s g n)
+unfolding insertChecks
+generated-step s g n w = generated-addable (wellFormed s) s g n (formed s (not-false (wellFormed s) (w .1 .0))) w
+
 -- ---- every call
 
 insert-step : (s : State) (g n : ℕ) (m : Option Sent) → first (insertChecks (wellFormed s) s g n) ≡ m → Step s (withAnswer answerOf (decided (unchanged s) m (sendInsert s (generatedInsert s g n))))
-unfolding decided unchanged sendInsert carryOut insertCarried answerOf afterDrain advanced
-insert-step s g n none e = adds (ahead (s .site)) (generatedInsert s g n) (generated-step s g n (first-none (insertChecks (wellFormed s) s g n) e))
+unfolding decided unchanged sendInsert carryOut insertCarried answerOf afterDrain
+insert-step s g n none e = drained-added s (generatedInsert s g n) (generated-step s g n (first-none (insertChecks (wellFormed s) s g n) e))
 insert-step s g n (some a) e = turned (answerOf a) (refusing-turned a (first-some Refusing (insertChecks (wellFormed s) s g n) (insert-turned (wellFormed s) s g n) a e))
 
 delete-step : (s : State) (p : ℕ) (m : Option Sent) → first (deleteChecks (wellFormed s) s p) ≡ m → Step s (withAnswer answerOf (decided (unchanged s) m (sendDelete s (generatedDelete s p))))

@@ -1,3 +1,4 @@
 pub mod Agreement
 pub mod Theorems
+pub mod Clocks
 pub mod Invariants

@@ -59,8 +59,8 @@ module _ (cs : List Character) (ps : List Operation) {w : Work} (e : w ≡ finis
   finished-stored t = ap (λ (v : Work). record { site = t; document = v .document }) e
 
 -- an insert that may be carried out, at the place found
-pub addable-placed : (r : Replica) (f : replicaWellFormed r ≡ true) (t : Site) (i : Insert) (k : ℕ) → Addable (meaning r) t i → placementOf (meaning r .characters) i ≡ Below k → Placed r i k
-addable-placed r f t i k a p =
+pub addable-placed : (r : Replica) (f : replicaWellFormed r ≡ true) (i : Insert) (k : ℕ) → Addable (meaning r) i → placementOf (meaning r .characters) i ≡ Below k → Placed r i k
+addable-placed r f i k a p =
     let w = says (meaning r .characters) i (Below k) p in
     record {
       counts = form-counted r f;

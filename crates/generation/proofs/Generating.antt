@@ -1,12 +1,13 @@
 -- What inserting and deleting here test and make is what the rules say.
-use Prim.Native.Nat.{ℕ, _+_, _≤_, _<_}
-use mathlib.Core.Path.{_≡_, sym}
+use Prim.Native.Nat.{ℕ, _≤_, _<_}
+use mathlib.Core.Path.{_≡_, sym, _∙_}
 use mathlib.Core.Bool.{true, false}
 use mathlib.Core.List.{_∷_}
 use borrow.Author.Tests.{eq-eqb, ne-eqb, lt-ltb, le-ltb}
 use lib.Dec.{leb}
 use lib.ListN.{length, take, getD}
 use Rattle.woot.specs.declared.Identifier.{Identifier}
+use Rattle.woot.specs.declared.Site.{Site}
 use Rattle.woot.specs.declared.Insert.{Insert}
 use Rattle.woot.specs.declared.Operation.the-variants.{Insert as insert, Delete as delete}
 use Rattle.woot.specs.declared.Replica.{Replica}
@@ -16,12 +17,13 @@ use Rattle.woot.specs.declared.Generated.{Generated}
 use Rattle.woot.specs.Limits.{capacity}
 use Rattle.woot.specs.Identifiers.{begin}
 use Rattle.woot.specs.State.{meaning, stored}
+use Rattle.woot.specs.Clock.{heard}
 use Rattle.woot.specs.Placing.{integrateInsert, integrateDelete}
 use Rattle.woot.specs.Pending.{unplaceable}
 use Rattle.woot.specs.Form.{presentInserts, replicaWellFormed}
-use Rattle.woot.specs.Calls.{visibles, withCharacters, afterDrain, insertCarried, documentFull, advanced, beyondVisible, notVisible, generatedDelete}
+use Rattle.woot.specs.Calls.{visibles, withCharacters, afterDrain, insertCarried, documentFull, beyondVisible, notVisible, generatedDelete}
 use Rattle.lists.proofs.Tests.{clash}
-use Rattle.convergence.proofs.Steps.{space-insert}
+use Rattle.convergence.proofs.Steps.{Addable, drained-still, space-insert}
 use Rattle.delivery.specs.declared.Work.{Work}
 use Rattle.integration.specs.declared.Placement.the-variants.{Missing, Crossed, Unplaceable, Below}
 use Rattle.storage.specs.Replicas.{deleted}
@@ -65,13 +67,11 @@ module _ (r : Replica) (i : Insert) (a : Sendable r i) where
     send-full e = sent-full r i placeable e
 
     module _ (space : leb capacity (length (presentInserts (meaning r))) ≡ false) where
-      pub send-placed : Placed r i k
+      addable : Addable (meaning r) i
       unfolding documentFull
-      send-placed =
-          addable-placed r (a .form) (meaning r .site) i k
+      addable =
           record {
             formed = form r (a .form);
-            site = form r (a .form) .site;
             ranged = a .made .ranged;
             fresh = a .made .fresh;
             space = space-insert (meaning r) i space;
@@ -79,14 +79,16 @@ module _ (r : Replica) (i : Insert) (a : Sendable r i) where
             uncrossed = a .made .uncrossed;
             placeable = placeable;
           }
-          p
 
-      pub send-done : (w : Work) → w ≡ finished (integrateInsert (meaning r .characters) i) (meaning r .pending) 1 0
-          → _≡_ {A = Generated} (record { answer = sentDone (insert i) (w .integrated) (w .discarded); replica = record { site = record { number = r .site .number; clock = r .site .clock + 1 }; document = w .document } }) (sentInsert r i)
-      unfolding documentFull afterDrain advanced insertCarried meaning
-      send-done w e =
+      pub send-placed : Placed r i k
+      send-placed = addable-placed r (a .form) i k addable p
+
+      pub send-done : (w : Work) (t : Site) → w ≡ finished (integrateInsert (meaning r .characters) i) (meaning r .pending) 1 0 → t ≡ heard (r .site) i
+          → _≡_ {A = Generated} (record { answer = sentDone (insert i) (w .integrated) (w .discarded); replica = record { site = t; document = w .document } }) (sentInsert r i)
+      unfolding documentFull afterDrain insertCarried meaning
+      send-done w t e f =
           let cs = integrateInsert (meaning r .characters) i in
-          rw (finished-integrated cs (meaning r .pending) e, finished-discarded cs (meaning r .pending) e, finished-stored cs (meaning r .pending) e (record { number = r .site .number; clock = r .site .clock + 1 }))
+          rw (finished-integrated cs (meaning r .pending) e, finished-discarded cs (meaning r .pending) e, finished-stored cs (meaning r .pending) e t, f ∙ sym (drained-still (meaning r) i addable))
           (sym (sent-done r i placeable space))
 
 -- ---- deleting

@@ -9,7 +9,7 @@ use Rattle.woot.specs.declared.Insert.{Insert}
 use Rattle.woot.specs.declared.Operation.the-variants.{Insert as insert, Delete as delete}
 use Rattle.woot.specs.declared.Replica.{Replica}
 use Rattle.woot.specs.declared.Refusal.{Refusal}
-use Rattle.woot.specs.declared.Refusal.the-variants.{Range, Form, Position, Clock, Taken, Unplaceable, DocumentFull}
+use Rattle.woot.specs.declared.Refusal.the-variants.{Range, Form, Position, Clock, Unplaceable, DocumentFull}
 use Rattle.woot.specs.declared.Sent.the-variants.{Done as sentDone, Refused as sentRefused}
 use Rattle.woot.specs.declared.Generated.{Generated}
 use Rattle.woot.specs.Limits.{lastClock}
@@ -19,7 +19,9 @@ use Rattle.woot.specs.Placing.{integrateDelete}
 use Rattle.woot.specs.Pending.{unplaceable}
 use Rattle.woot.specs.Form.{replicaWellFormed}
 use Rattle.woot.specs.Answers.{decided}
-use Rattle.woot.specs.Calls.{unchanged, withCharacters, afterDrain, insertCarried, documentFull, generatedInsert, beyondVisible, identifierTaken, insertChecks, advanced, carryOut, sendInsert, localInsertWhen, notVisible, deleteChecks, generatedDelete, sendDelete, localDeleteWhen}
+use Rattle.woot.specs.Calls.{unchanged, withCharacters, afterDrain, insertCarried, documentFull, generatedInsert, beyondVisible, insertChecks, carryOut, sendInsert, localInsertWhen, notVisible, deleteChecks, generatedDelete, sendDelete, localDeleteWhen}
+use Rattle.convergence.proofs.Steps.{formed-untaken}
+use Rattle.well_formed.proofs.Examining.{form as form-facts}
 use Rattle.generation.specs.Sending.{sendChecks, sentInsert}
 use Rattle.storage.specs.Replicas.{afterSent, generated, inserted, deleted}
 
@@ -50,14 +52,10 @@ module _ (r : Replica) (g n : ℕ) where
         insert-late e = rw (ranged, form, visible, e)
 
         module _ (early : leb lastClock (meaning r .site .clock) ≡ false) where
-          pub insert-taken : identifierTaken (meaning r) ≡ true → inserted r g n ≡ insert-refused Taken
-          unfolding inserted generated afterSent localInsertWhen insertChecks decided unchanged
-          insert-taken e = rw (ranged, form, visible, early, e)
-
-          module _ (free : identifierTaken (meaning r) ≡ false) where
-            pub insert-sent : inserted r g n ≡ sentInsert r (generatedInsert (meaning r) g n)
-            unfolding inserted localInsertWhen insertChecks sentInsert sendChecks
-            insert-sent = rw (ranged, form, visible, early, free)
+          -- refusal 6 is never met
+          pub insert-sent : inserted r g n ≡ sentInsert r (generatedInsert (meaning r) g n)
+          unfolding inserted localInsertWhen insertChecks sentInsert sendChecks
+          insert-sent = rw (ranged, form, visible, early, formed-untaken (meaning r) (form-facts r form))
 
 -- once the insert is made
 module _ (r : Replica) (i : Insert) where
@@ -71,8 +69,8 @@ module _ (r : Replica) (i : Insert) where
     sent-full e = rw (placed, e)
 
     pub sent-done : documentFull (meaning r) (insert i) ≡ false
-        → sentInsert r i ≡ record { answer = sentDone (insert i) (suc (length (insertCarried (meaning r) i .integrated))) (length (insertCarried (meaning r) i .discarded)); replica = stored (afterDrain (advanced (meaning r)) (insertCarried (meaning r) i)) }
-    unfolding sentInsert sendChecks generated afterSent decided sendInsert carryOut insertCarried advanced
+        → sentInsert r i ≡ record { answer = sentDone (insert i) (suc (length (insertCarried (meaning r) i .integrated))) (length (insertCarried (meaning r) i .discarded)); replica = stored (afterDrain (meaning r) i (insertCarried (meaning r) i)) }
+    unfolding sentInsert sendChecks generated afterSent decided sendInsert carryOut insertCarried
     sent-done e = rw (placed, e)
 
 -- ---- deleting

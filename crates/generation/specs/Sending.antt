@@ -13,17 +13,14 @@ use Rattle.woot.specs.Pending.{unplaceable}
 use Rattle.woot.specs.Answers.{Check, _⇒_, first, decided}
 use Rattle.woot.specs.Calls.{unchanged, documentFull, sendInsert}
 use Rattle.storage.specs.Replicas.{generated}
-use Prim.Native.Nat.{_<_}
 use mathlib.Core.Path.{_≡_}
 use mathlib.Core.Bool.{true}
-use Rattle.woot.specs.Limits.{lastClock}
 use Rattle.woot.specs.Form.{replicaWellFormed}
 use Rattle.convergence.specs.Invariants.{Made}
 
 -- an insert that was made here: nothing has its identifier, and its neighbours are held and in order
 pub record Sendable (r : Replica) (i : Insert) : Type 0 where
   pub form : replicaWellFormed r ≡ true
-  pub early : r .site .clock < lastClock
   pub made : Made (meaning r) i
 
 -- the conditions that are left

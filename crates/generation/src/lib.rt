@@ -2,8 +2,6 @@
 // functions are steps of the calls and not calls: the calls have checked the range and the form.
 use index::Index;
 use integration::Placement;
-use pending::holder;
-use pending::holder::Holder;
 use pending::queue::Queue;
 use pending::room;
 use woot::Delete;
@@ -14,19 +12,16 @@ use woot::Operation;
 use woot::Refusal;
 use woot::Replica;
 use woot::Sent;
-use woot::Site;
 ghost use mathlib.Core.Path.{_≡_};
 ghost use mathlib.Core.Bool.{true};
 ghost use Prim.Native.Nat.{_<_, _≤_};
 ghost use lib.ListN.{length, take};
 ghost use Rattle.woot.specs.declared.Sent.the-variants.{Refused as sentRefused};
 ghost use Rattle.woot.specs.Limits.{lastClock};
-ghost use Rattle.woot.specs.Identifiers.{same};
-ghost use Rattle.lists.specs.Lists.{any};
-ghost use Rattle.woot.specs.Ranges.{codePoint, characterId};
+ghost use Rattle.woot.specs.Ranges.{codePoint};
 ghost use Rattle.woot.specs.Table.{keys};
 ghost use Rattle.woot.specs.State.{meaning};
-ghost use Rattle.woot.specs.Form.{presentInserts, replicaWellFormed};
+ghost use Rattle.woot.specs.Form.{replicaWellFormed};
 ghost use Rattle.woot.specs.Calls.{generatedInsert};
 ghost use Rattle.integration.specs.declared.Placement.the-variants.{Below};
 ghost use Rattle.storage.specs.Replicas.{inserted, deleted};
@@ -65,29 +60,7 @@ fn generated_insert(replica: Replica, point: usize, code_point: u32) -> Insert
     }
 }
 
-// Whether an identifier belongs to a character or a pending insert.
-fn is_taken(replica: Replica, index: Index, queue: Queue, id: Identifier) -> bool
-    requires { ⌜ Examined replica index queue ⌝ }
-    requires { ⌜ characterId id ≡ true ⌝ }
-    ensures { λ r. ⌜ r ≡ any (λ j. same id (j .id)) (presentInserts (meaning replica)) ⌝ }
-{
-    let d = replica.document;
-    match holder::holder_of(
-        &d.table.heads,
-        &d.table.links,
-        &index.ids,
-        d.length,
-        &queue.own,
-        d.waiting,
-        index::key(id),
-    ) {
-        Holder::Character(_) => true,
-        Holder::Pending(_) => true,
-        Holder::Nobody => false,
-    }
-}
-
-// Carries out an insert that goes in after the first k characters, and advances the clock.
+// Carries out an insert that goes in after the first k characters; the clock follows it, by one since it was made here.
 fn send(replica: Replica, queue: Queue, insert: Insert, k: usize) -> Generated
     requires { ⌜ Sendable replica insert ⌝ }
     requires { ⌜ queue ≡ queueOf (meaning replica .pending) ⌝ }
@@ -98,7 +71,7 @@ fn send(replica: Replica, queue: Queue, insert: Insert, k: usize) -> Generated
     if room::document_full(d.length, &queue.own, d.waiting) {
         return refused(replica, Refusal::DocumentFull);
     }
-    let site = replica.site;
+    let site = clock::heard(replica.site, insert);
     let work = delivery::integrate_and_drain(replica, insert, k);
     let document = work.document;
     Generated {
@@ -107,13 +80,7 @@ fn send(replica: Replica, queue: Queue, insert: Insert, k: usize) -> Generated
             integrated: work.integrated,
             discarded: work.discarded,
         },
-        replica: Replica {
-            site: Site {
-                number: site.number,
-                clock: site.clock + 1,
-            },
-            document,
-        },
+        replica: Replica { site, document },
     }
 }
 
@@ -140,8 +107,9 @@ fn send_placed(replica: Replica, index: Index, queue: Queue, insert: Insert) -> 
     }
 }
 
-// Inserts a code point at an insertion point among the visible characters. A step of the calls and not a call: they
-// have checked the replica and the code point.
+// Inserts a code point at an insertion point among the visible characters. The clock of a replica that is well formed
+// reaches every identifier of the site's, so that the next one is nobody's (refusal 6). A step of the calls and not a call: they have
+// checked the replica and the code point.
 pub fn insert_visible(
     replica: Replica,
     index: Index,
@@ -164,10 +132,6 @@ pub fn insert_visible(
         return refused(replica, Refusal::Clock);
     }
     let i = generated_insert(replica, point, code_point);
-    let id = i.id;
-    if is_taken(replica, index, queue, id) {
-        return refused(replica, Refusal::Taken);
-    }
     send_placed(replica, index, queue, i)
 }
 

@@ -9,9 +9,12 @@ use Rattle.woot.specs.declared.Sent.{Sent}
 use Rattle.woot.specs.declared.Sent.the-variants.{Done, Refused}
 use Rattle.woot.specs.State.{meaning, stored}
 use Rattle.woot.specs.Form.{replicaWellFormed}
-use Rattle.woot.specs.Answers.{first, decided}
-use Rattle.woot.specs.Calls.{Outcome, unchanged, afterDrain, insertChecks, generatedInsert, advanced, insertCarried, carryOut, sendInsert, localInsertWhen}
-use Rattle.convergence.proofs.Steps.{All, first-some}
+use Rattle.woot.specs.Answers.{NoneHolds, first, decided}
+use Rattle.woot.specs.Calls.{Outcome, unchanged, afterDrain, insertChecks, generatedInsert, carryOut, sendInsert, localInsertWhen}
+use Rattle.convergence.proofs.Forms.{Formed, formed}
+use Rattle.convergence.proofs.Steps.{All, first-none, first-some, drained-still, generated-addable, typed-heard}
+use Rattle.storage.proofs.Stored.{form-meant}
+use borrow.Author.Tests.{not-false}
 use Rattle.storage.specs.Replicas.{afterSent, generated, inserted}
 use Rattle.replica.specs.Theorems.{called}
 use Rattle.woot.specs.Histories.{inserting}
@@ -26,20 +29,28 @@ module _ (r : Replica) (g n : ℕ) where
   Told : Option Sent → Type 0
   Told m = afterSent r (come m .state) (come m .answer) .site ≡ siteAfter (r .site) (come m .answer)
 
-  told : (m : Option Sent) → ((a : Sent) → m ≡ some a → Told (some a)) → Told m
-  unfolding come Told decided sendInsert carryOut insertCarried afterDrain advanced afterSent siteAfter stored meaning
-  told none t = refl
-  told (some a) t = t a refl
+  -- where none is reported, the clock has heard what was made, and what that released raised nothing
+  advanced : (known : Bool) → Formed (meaning r) → NoneHolds (insertChecks known (meaning r) g n) → Told none
+  unfolding come Told decided sendInsert carryOut afterDrain afterSent siteAfter stored meaning
+  advanced known f w =
+      drained-still (meaning r) (generatedInsert (meaning r) g n) (generated-addable known (meaning r) g n f w) ∙ typed-heard (meaning r) g n
+
+  told : (m : Option Sent) → (m ≡ none → Told none) → ((a : Sent) → m ≡ some a → Told (some a)) → Told m
+  told none f t = f refl
+  told (some a) f t = t a refl
 
   refusals : (formed : Bool) → All (λ a. Told (some a)) (insertChecks formed (meaning r) g n)
   unfolding come Told decided unchanged afterSent siteAfter insertChecks
   refusals formed = (refl, (refl, (refl, (refl, (refl, (refl, (refl, tt)))))))
 
   site-after : inserted r g n .replica .site ≡ siteAfter (r .site) (inserted r g n .answer)
-  unfolding come Told inserted generated localInsertWhen
+  unfolding come Told inserted generated localInsertWhen insertChecks
   site-after =
       let checks = insertChecks (replicaWellFormed r) (meaning r) g n in
-      told (first checks) (first-some (λ a. Told (some a)) checks (refusals (replicaWellFormed r)))
+      told (first checks) (λ e. none-told (first-none checks e)) (first-some (λ a. Told (some a)) checks (refusals (replicaWellFormed r)))
+    where
+      none-told : NoneHolds (insertChecks (replicaWellFormed r) (meaning r) g n) → Told none
+      none-told w = advanced (replicaWellFormed r) (formed (meaning r) (form-meant r (not-false (replicaWellFormed r) (w .1 .0)))) w
 
 -- the number is kept
 same-number : (s : Site) (a : Sent) → withClock s (siteAfter s a .clock) ≡ siteAfter s a

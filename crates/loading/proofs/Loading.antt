@@ -22,7 +22,8 @@ use Rattle.saved_lines.specs.declared.SiteLine.{SiteLine}
 use Rattle.loading.specs.declared.reading.Characters.{Characters}
 use Rattle.loading.specs.declared.reading.Operations.{Operations}
 use Rattle.saved.specs.Format.{isSite, siteSaid, isCharacter, characterSaid, visibleInRange, isOperation, operationSaid, headLine, characterLines, operationLines, savedLaidOut, savedState, savedInRange}
-use Rattle.saved.specs.Calls.{unread, held, readingChecks, savedRead, loaded}
+use Rattle.saved.specs.Calls.{loadedState, unread, inArrays, held, readingChecks, savedRead, loaded}
+use Rattle.clock.specs.Raising.{raisedReplica}
 use Rattle.saved_lines.specs.Judging.{siteRead}
 use Rattle.loading.specs.Reading.{lineCharacter, characterPasses, charactersRead, linePending, operationPasses, noOperations, operationsRead, replicaOf}
 use Rattle.saved_lines.proofs.Judging.{site-laid, site-passes, site-says, character-passes, character-says, operation-passes, operation-says}
@@ -216,15 +217,15 @@ module _ (s : List ℕ) (first : SiteLine) (f : first ≡ siteRead (getD (lines 
               all-say linePending operationSaid slotOf operationPasses (λ x e. ap slotOf (operation-says x e)) (operationLines s) (sym (ap (λ x. x .«in_range») read-operations) ∙ e₃)
 
           -- so what is read is what the bytes say
-          pub all-read : _≡_ {A = Loaded} (record { answer = Done; replica = replicaOf (first .site) cs ps }) (savedRead s)
-          unfolding replicaOf held savedState charactersRead headLine
+          pub all-read : _≡_ {A = Loaded} (record { answer = Done; replica = raisedReplica (replicaOf (first .site) cs ps) }) (savedRead s)
+          unfolding replicaOf held inArrays savedState charactersRead headLine
           all-read =
               (λ j. record {
                 answer = Done;
-                replica = record {
+                replica = raisedReplica (record {
                   site = site j;
                   document = record { characters = characters j; length = count j; pending = pending j; waiting = fewer j; table = table j };
-                };
+                });
               })
               ∙ sym (read-done s laid ranges)
             where
@@ -278,13 +279,15 @@ module _ (s : List ℕ) (x : Loaded) (e : x ≡ savedRead s) where
     is-held : x ≡ record { answer = Done; replica = held (savedState s) }
     is-held = e ∙ read-done s (both .0) (both .1)
 
-    form-is : replicaWellFormed (x .replica) ≡ wellFormed (savedState s)
+    form-is : replicaWellFormed (x .replica) ≡ wellFormed (loadedState s)
+    unfolding loadedState
     form-is = ap (λ y. replicaWellFormed (y .replica)) is-held ∙ held-form (savedState s) .0
 
     pub load-unformed : replicaWellFormed (x .replica) ≡ false → unread (Refused Form) ≡ loaded s
     load-unformed p = sym (load-form s (both .0) (both .1) (sym form-is ∙ p))
 
     pub load-formed : replicaWellFormed (x .replica) ≡ true → x ≡ loaded s
+    unfolding loadedState
     load-formed p =
         is-held ∙ (λ j. record { answer = Done; replica = held-form (savedState s) .1 (sym form-is ∙ p) .0 j })
         ∙ sym (load-done s (both .0) (both .1) (sym form-is ∙ p))

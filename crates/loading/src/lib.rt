@@ -41,8 +41,9 @@ fn assemble(site: Site, characters: Characters, operations: Operations) -> Repli
     Replica { site, document }
 }
 
-// Reads a saved replica whose form is not checked: its counts may be above its arrays. A fault of the layout comes
-// first, wherever it is, and then a number out of range.
+// Reads a saved replica whose form is not checked: its counts may be above its arrays. A clock below that of a
+// character or a pending insert of its own is raised. A fault of the layout comes first, wherever it is, and then a
+// number out of range.
 pub fn read(bytes: &[u8]) -> Loaded
     ensures { λ r. ⌜ r ≡ savedRead (now (bytes .entry)) ⌝ }
 {
@@ -67,7 +68,7 @@ pub fn read(bytes: &[u8]) -> Loaded
         return refuse(Refusal::Range);
     }
     let site = first.site;
-    let replica = assemble(site, characters, operations);
+    let replica = clock::raised(assemble(site, characters, operations));
     Loaded {
         answer: LoadAnswer::Done,
         replica,

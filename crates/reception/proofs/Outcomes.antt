@@ -76,7 +76,7 @@ pub deferred : (r : Replica) (o : Operation) → executable (meaning r .characte
 unfolding receipt afterAnswer accept defer
 deferred r o e = rw e
 
-pub carried-insert : (r : Replica) (i : Insert) → executable (meaning r .characters) (insert i) ≡ true → receipt r (accept (meaning r) (insert i)) ≡ record { answer = Done (suc (length (insertCarried (meaning r) i .integrated))) (length (insertCarried (meaning r) i .discarded)); replica = stored (afterDrain (meaning r) (insertCarried (meaning r) i)) }
+pub carried-insert : (r : Replica) (i : Insert) → executable (meaning r .characters) (insert i) ≡ true → receipt r (accept (meaning r) (insert i)) ≡ record { answer = Done (suc (length (insertCarried (meaning r) i .integrated))) (length (insertCarried (meaning r) i .discarded)); replica = stored (afterDrain (meaning r) i (insertCarried (meaning r) i)) }
 unfolding receipt afterAnswer accept carryOut
 carried-insert r i e = rw e
 

@@ -7,6 +7,7 @@ use mathlib.Core.List.{List, [], _∷_}
 use borrow.Author.Tests.{leb-false}
 use lib.Dec.{leb}
 use lib.ListN.{take, length-append}
+use Rattle.woot.specs.declared.Site.{Site}
 use Rattle.woot.specs.declared.Insert.{Insert}
 use Rattle.woot.specs.declared.Operation.{Operation}
 use Rattle.woot.specs.declared.Operation.the-variants.{Insert as insert, Delete as delete}
@@ -19,12 +20,13 @@ use Rattle.woot.specs.Limits.{share}
 use Rattle.woot.specs.Operations.{sender}
 use Rattle.woot.specs.Ranges.{inRange}
 use Rattle.woot.specs.State.{State, meaning, stored}
+use Rattle.woot.specs.Clock.{heard}
 use Rattle.woot.specs.Placing.{integrateInsert}
 use Rattle.woot.specs.Pending.{executable, crossed, unplaceable, pendingFrom}
 use Rattle.woot.specs.Calls.{afterDrain, insertCarried, withPending, duplicate, conflicting, senderFull, documentFull}
 use Rattle.convergence.proofs.Shares.{pending-bound}
 use Rattle.convergence.proofs.Soundness.{sound-defer}
-use Rattle.convergence.proofs.Steps.{fresh-insert, space-insert, unused}
+use Rattle.convergence.proofs.Steps.{Addable, drained-still, fresh-insert, space-insert, unused}
 use Rattle.pending.specs.declared.queue.Queue.{Queue}
 use Rattle.pending.specs.Queue.{queueOf}
 use Rattle.woot.specs.Form.{replicaWellFormed}
@@ -136,13 +138,11 @@ module _ (r : Replica) (i : Insert) (n : New r (insert i)) where
     insert-full e = outcomes.document-full r (insert i) (n .ranged) (n .form) (n .new) (n .sole) uncrossed placeable prompt e
 
     module _ (space : documentFull (meaning r) (insert i) ≡ false) where
-      pub insert-placed : Placed r i k
+      addable : Addable (meaning r) i
       unfolding inRange
-      insert-placed =
-          addable-placed r (n .form) (meaning r .site) i k
+      addable =
           record {
             formed = form r (n .form);
-            site = form r (n .form) .site;
             ranged = n .ranged;
             fresh = fresh-insert (meaning r) i (n .new) (n .sole);
             space = space-insert (meaning r) i space;
@@ -150,12 +150,14 @@ module _ (r : Replica) (i : Insert) (n : New r (insert i)) where
             uncrossed = uncrossed;
             placeable = placeable;
           }
-          p
 
-      pub insert-done : (w : Work) → w ≡ finished (integrateInsert (meaning r .characters) i) (meaning r .pending) 1 0
-          → _≡_ {A = Receipt} (record { answer = Done (w .integrated) (w .discarded); replica = record { site = r .site; document = w .document } }) (received r (insert i))
+      pub insert-placed : Placed r i k
+      insert-placed = addable-placed r (n .form) i k addable p
+
+      pub insert-done : (w : Work) (t : Site) → w ≡ finished (integrateInsert (meaning r .characters) i) (meaning r .pending) 1 0 → t ≡ heard (r .site) i
+          → _≡_ {A = Receipt} (record { answer = Done (w .integrated) (w .discarded); replica = record { site = t; document = w .document } }) (received r (insert i))
       unfolding afterDrain insertCarried meaning
-      insert-done w e =
+      insert-done w t e f =
           let cs = integrateInsert (meaning r .characters) i in
-          rw (finished-integrated cs (meaning r .pending) e, finished-discarded cs (meaning r .pending) e, finished-stored cs (meaning r .pending) e (r .site))
+          rw (finished-integrated cs (meaning r .pending) e, finished-discarded cs (meaning r .pending) e, finished-stored cs (meaning r .pending) e t, f ∙ sym (drained-still (meaning r) i addable))
           (sym (outcomes.accepted r (insert i) (n .ranged) (n .form) (n .new) (n .sole) uncrossed placeable prompt space ∙ outcomes.carried-insert r i ready))

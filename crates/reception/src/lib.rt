@@ -88,7 +88,8 @@ fn defer(replica: Replica, index: Index, queue: Queue, operation: Operation) -> 
     }
 }
 
-// Carries out an insert that goes in after the first k characters.
+// Carries out an insert that goes in after the first k characters; the clock follows it. What it releases raises the
+// clock no further, which reaches all that waits where the replica is well formed.
 fn integrate(replica: Replica, queue: Queue, insert: Insert, k: usize) -> Receipt
     requires { ⌜ New replica (ofInsert insert) ⌝ }
     requires { ⌜ queue ≡ queueOf (meaning replica .pending) ⌝ }
@@ -99,7 +100,7 @@ fn integrate(replica: Replica, queue: Queue, insert: Insert, k: usize) -> Receip
     if is_full(d.length, &queue.own, d.waiting, Operation::Insert(insert)) {
         return refused(replica, Refusal::DocumentFull);
     }
-    let site = replica.site;
+    let site = clock::heard(replica.site, insert);
     let work = delivery::integrate_and_drain(replica, insert, k);
     let document = work.document;
     Receipt {

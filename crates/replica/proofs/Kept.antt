@@ -16,11 +16,15 @@ use Rattle.woot.specs.Calls.{receiveChecks, receiveWhen, receive, insertChecks,
 use Rattle.woot.specs.Histories.{Call, inserting, deleting, receiving, outcome}
 use borrow.Author.Tests.{not-false}
 use Rattle.storage.proofs.Stored.{form-meant}
+use Rattle.woot.specs.declared.Refusal.the-variants.{Taken}
+use Rattle.convergence.proofs.Refusals.{insert-refuses}
+use Rattle.convergence.proofs.Hearing.{insert-untaken}
+use Rattle.convergence.proofs.Forms.{formed}
 use Rattle.convergence.proofs.Forms.{empty-formed}
 use Rattle.convergence.proofs.Kept.{form-kept}
 use Rattle.convergence.proofs.Replies.{receive-does, receive-waits, insert-does, delete-does}
 use Rattle.storage.specs.Replicas.{afterAnswer, afterSent, receipt, generated, received, inserted, deleted}
-use Rattle.replica.specs.Theorems.{called, answerTo, ReplicasFormed, AcceptedFormed, EmptyReplicaFormed}
+use Rattle.replica.specs.Theorems.{called, answerTo, ReplicasFormed, AcceptedFormed, EmptyReplicaFormed, InsertNeverTaken}
 use Rattle.replica.proofs.Runs.{formed-within, form-stored, initial-within}
 
 -- what is stored of a state in form is in form
@@ -86,3 +90,10 @@ accepted-formed r c e = replicas-formed r c (accepted-form r c e)
 
 pub empty-replica-formed : EmptyReplicaFormed
 empty-replica-formed n = form-stored (initial n) (initial-within n) ∙ empty-formed n
+
+-- ---- refusal 6
+
+pub insert-never-taken : InsertNeverTaken
+unfolding inserted generated
+insert-never-taken r g n e =
+    insert-untaken (replicaWellFormed r) (meaning r) g n (λ f. formed (meaning r) (form-meant r f)) (insert-refuses (replicaWellFormed r) (meaning r) g n Taken .0 e)

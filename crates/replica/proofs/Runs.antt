@@ -130,7 +130,7 @@ called-stored s (receiving o) w =
 unformed-step : (s : State) {r : Outcome Answer} → Step s r → wellFormed s ≡ false → r .state ≡ s
 unfolding unchanged
 unformed-step s (turned a w) h = refl
-unformed-step s (adds t i a) h = clash (reformed s (a .formed)) h
+unformed-step s (adds i a) h = clash (reformed s (a .formed)) h
 unformed-step s (removes d a) h = clash (reformed s (a .formed)) h
 unformed-step s (defers o a) h = clash (reformed s (a .formed)) h
 

@@ -5,6 +5,8 @@ use mathlib.Core.Bool.{true}
 use mathlib.Core.List.{List, [], _∷_}
 use Rattle.woot.specs.declared.Replica.{Replica}
 use Rattle.woot.specs.declared.Answer.{Answer}
+use Rattle.woot.specs.declared.Refusal.the-variants.{Taken}
+use Rattle.woot.specs.declared.Sent.the-variants.{Refused as sentRefused}
 use Rattle.woot.specs.State.{initial, meaning, stored}
 use Rattle.woot.specs.Ranges.{siteNumber}
 use Rattle.woot.specs.Form.{replicaWellFormed}
@@ -45,6 +47,10 @@ EmptyReplicaFormed = (n : ℕ) → replicaWellFormed (stored (initial n)) ≡ si
 -- replicas in memory, begun by `Replica::empty`, are at every moment the states of the rules as they are stored
 abbrev pub ReplicasFollow : Type 0
 ReplicasFollow = (b : Begun) (cs : List Call) → ran (stored (startOf b)) cs ≡ stored (run (startOf b) cs)
+
+-- document 02, Req 04: `replica::insert` never answers refusal 6, whatever replica it is handed
+abbrev pub InsertNeverTaken : Type 0
+InsertNeverTaken = (r : Replica) (g n : ℕ) → inserted r g n .answer ≡ sentRefused Taken → ⊥
 
 -- demand 3: the same inserts carried out and the same characters deleted give equal characters and equal visible bytes
 abbrev pub ReplicasConverge : Type 0

@@ -25,8 +25,8 @@ use Rattle.codec.proofs.Refusals.{by-test}
 use Rattle.saved.specs.declared.LoadAnswer.{LoadAnswer}
 use Rattle.saved.specs.declared.LoadAnswer.the-variants.{Done, Refused}
 use Rattle.saved.specs.declared.Loaded.{Loaded}
-use Rattle.saved.specs.Format.{siteHead, siteNumbers, siteLine, characterLine, savedLaidOut, savedState, savedInRange, savedBytes}
-use Rattle.saved.specs.Calls.{loadChecks, noReplica, unread, loaded, loadNumber, handedOver, loadValue, bytesOf, saveChecks, saved, savedOut}
+use Rattle.saved.specs.Format.{siteHead, siteNumbers, siteLine, characterLine, savedLaidOut, savedInRange, savedBytes}
+use Rattle.saved.specs.Calls.{loadedState, loadChecks, noReplica, unread, loaded, loadNumber, handedOver, loadValue, bytesOf, saveChecks, saved, savedOut}
 use Rattle.saved.specs.Theorems.{LoadRefuses, LoadNumbers, SaveRefuses, SaveNumbers}
 
 -- ---- reading
@@ -42,11 +42,11 @@ module _ (s : List ℕ) where
     load-range e = rw (l, e)
 
     module _ (i : savedInRange s ≡ true) where
-      pub load-form : wellFormed (savedState s) ≡ false → loaded s ≡ unread (Refused Form)
+      pub load-form : wellFormed (loadedState s) ≡ false → loaded s ≡ unread (Refused Form)
       unfolding loaded loadChecks decided
       load-form e = rw (l, i, e)
 
-      pub load-done : wellFormed (savedState s) ≡ true → _≡_ {A = Loaded} (loaded s) (record { answer = Done; replica = stored (savedState s) })
+      pub load-done : wellFormed (loadedState s) ≡ true → _≡_ {A = Loaded} (loaded s) (record { answer = Done; replica = stored (loadedState s) })
       unfolding loaded loadChecks decided
       load-done e = rw (l, i, e)
 
@@ -62,21 +62,21 @@ refused-none (some a) x r d e = refl
 pub load-refuses : LoadRefuses
 unfolding loaded unread
 load-refuses s r =
-    let x : Loaded = record { answer = Done; replica = stored (savedState s) } in (
+    let x : Loaded = record { answer = Done; replica = stored (loadedState s) } in (
       decided-exactly unread (λ y. y .answer) (λ a. refl) (loadChecks s) x (Refused r) (never-done r),
       refused-none (first (loadChecks s)) x r refl,
     )
 
 pub load-numbers : LoadNumbers
 unfolding loadNumber loadValue handedOver unread
-load-numbers s = go (savedLaidOut s) (savedInRange s) (wellFormed (savedState s)) refl refl refl
+load-numbers s = go (savedLaidOut s) (savedInRange s) (wellFormed (loadedState s)) refl refl refl
   where
-    go : (a b d : Bool) → savedLaidOut s ≡ a → savedInRange s ≡ b → wellFormed (savedState s) ≡ d
+    go : (a b d : Bool) → savedLaidOut s ≡ a → savedInRange s ≡ b → wellFormed (loadedState s) ≡ d
         → ((loadNumber (loaded s .answer) ≡ 1) ↔ (savedLaidOut s ≡ false))
         × ((loadNumber (loaded s .answer) ≡ 2) ↔ ((savedLaidOut s ≡ true) × (savedInRange s ≡ false)))
-        × ((loadNumber (loaded s .answer) ≡ 3) ↔ ((savedLaidOut s ≡ true) × (savedInRange s ≡ true) × (wellFormed (savedState s) ≡ false)))
-        × ((loadNumber (loaded s .answer) ≡ 0) ↔ ((savedLaidOut s ≡ true) × (savedInRange s ≡ true) × (wellFormed (savedState s) ≡ true)))
-        × ((x : Replica) → (loadValue (loaded s) ≡ some x) ↔ ((savedLaidOut s ≡ true) × (savedInRange s ≡ true) × (wellFormed (savedState s) ≡ true) × (stored (savedState s) ≡ x)))
+        × ((loadNumber (loaded s .answer) ≡ 3) ↔ ((savedLaidOut s ≡ true) × (savedInRange s ≡ true) × (wellFormed (loadedState s) ≡ false)))
+        × ((loadNumber (loaded s .answer) ≡ 0) ↔ ((savedLaidOut s ≡ true) × (savedInRange s ≡ true) × (wellFormed (loadedState s) ≡ true)))
+        × ((x : Replica) → (loadValue (loaded s) ≡ some x) ↔ ((savedLaidOut s ≡ true) × (savedInRange s ≡ true) × (wellFormed (loadedState s) ≡ true) × (stored (loadedState s) ≡ x)))
     go false b d p q r =
         let a = load-layout s p in
         let num : loadNumber (loaded s .answer) ≡ 1 = ap (λ y. loadNumber (y .answer)) a in (
@@ -107,7 +107,7 @@ load-numbers s = go (savedLaidOut s) (savedInRange s) (wellFormed (savedState s)
     go true true true p q r =
         let a = load-done s p q r in
         let num : loadNumber (loaded s .answer) ≡ 0 = ap (λ y. loadNumber (y .answer)) a in
-        let value : loadValue (loaded s) ≡ some (stored (savedState s)) = ap loadValue a in (
+        let value : loadValue (loaded s) ≡ some (stored (loadedState s)) = ap loadValue a in (
           (λ e. absurd (omega arith), λ e. clash p e),
           (λ e. absurd (omega arith), λ w. clash q (w .1)),
           (λ e. absurd (omega arith), λ w. clash r (w .2)),

@@ -7,21 +7,23 @@ use Prim.Native.Nat.{ℕ}
 use lib.ListN.{drop}
 use Rattle.lists.specs.Lists.{every}
 use Rattle.woot.specs.State.{State, meaning, stored}
-use Rattle.woot.specs.Form.{allInRange, wellFormed}
+use Rattle.woot.specs.Form.{allInRange, sharesKept, capacityKept, identifiersDistinct, deletesDistinct, neighboursOrdered, noneExecutable, clockKept, wellFormed, raised}
+use Rattle.convergence.proofs.Hearing.{raising}
+use borrow.Author.Tests.{not-false}
 use Rattle.lists.proofs.Tests.{and-left, and-right, three, seven}
-use Rattle.lines.specs.Lines.{lines, closed, leading, trailing, concatenated}
+use Rattle.lines.specs.Lines.{lines, rest, closed, leading, trailing, concatenated}
 use Rattle.lines.specs.Fields.{hasLayout}
 use Rattle.codec.specs.Operations.{operationLine}
 use Rattle.replica.proofs.Runs.{meaning-stored}
 use Rattle.saved.specs.declared.LoadAnswer.the-variants.{Done}
-use Rattle.saved.specs.Format.{siteLine, isSite, characterLine, isCharacter, characterSaid, visibleInRange, isOperation, operationSaid, headLine, characterLines, operationLines, savedLaidOut, savedState, savedInRange, savedBytes}
-use Rattle.saved.specs.Calls.{loaded, loadNumber, bytesOf}
+use Rattle.saved.specs.Format.{siteHead, siteNumbers, siteLine, isSite, characterLine, isCharacter, characterSaid, visibleInRange, isOperation, operationSaid, headLine, characterLines, operationLines, savedLaidOut, savedState, savedInRange, savedBytes}
+use Rattle.saved.specs.Calls.{loadedState, needsRaising, loaded, loadNumber, bytesOf}
 use Rattle.replica.specs.Tables.{Searches}
 use Rattle.replica.proofs.Tables.{stored-searches}
 use Rattle.storage.proofs.Stored.{form-meant}
 use Rattle.saved.specs.declared.Loaded.{Loaded}
-use Rattle.saved.specs.Theorems.{SavedReadsBack, LoadedWritesBack, LoadedFormed, LoadedSearches, TableAloneDiffers}
-use Rattle.lines.proofs.Lines.{whole, rejoined, apart, concatenated-append, head-first}
+use Rattle.saved.specs.Theorems.{SavedReadsBack, LoadedWritesBack, RaisedWritesBack, LoadedFormed, LoadedSearches, TableAloneDiffers}
+use Rattle.lines.proofs.Lines.{line-rest, whole, rejoined, apart, concatenated-append, head-first}
 use Rattle.saved.proofs.Spelling.{bareSite, bareCharacter, bareOperation, site-lines, site-closed, character-lines, character-closed, operation-lines, operation-closed, site-laid, site-back, character-laid, character-back, character-fits, operation-laid, operation-back, operation-other, site-again, character-again, operation-again}
 use Rattle.saved.proofs.Refusals.{load-done, load-numbers}
 
@@ -164,12 +166,27 @@ module _ (s : State) where
 
 formed-ranges : (s : State) → wellFormed s ≡ true → allInRange s ≡ true
 unfolding wellFormed
-formed-ranges s h = seven (allInRange s) _ _ _ _ _ _ h .0
+formed-ranges s h = seven (allInRange s) _ _ _ _ _ _ (and-left _ (clockKept s) h) .0
+
+formed-clock : (s : State) → wellFormed s ≡ true → clockKept s ≡ true
+unfolding wellFormed
+formed-clock s h =
+    let lists = allInRange s && sharesKept s && capacityKept s && identifiersDistinct s && deletesDistinct s && neighboursOrdered s && noneExecutable s in
+    and-right lists (clockKept s) h
+
+-- a state in form needs no raising
+pub saved-loads : (s : State) → wellFormed s ≡ true → loadedState (savedBytes s) ≡ s
+unfolding loadedState
+saved-loads s h = ap raised (saved-says s) ∙ raising s .still .1 (formed-clock s h)
+
+unraised : (s : State) → wellFormed s ≡ true → needsRaising (savedBytes s) ≡ false
+unfolding needsRaising
+unraised s h = rw (saved-says s, formed-clock s h)
 
 pub saved-reads-back : SavedReadsBack
 saved-reads-back s h =
-    let d = load-done (savedBytes s) (saved-laid s) (saved-in-range s ∙ formed-ranges s h) (ap wellFormed (saved-says s) ∙ h) in
-    (ap (λ w. w .answer) d, ap (λ w. w .replica) d ∙ ap stored (saved-says s))
+    let d = load-done (savedBytes s) (saved-laid s) (saved-in-range s ∙ formed-ranges s h) (ap wellFormed (saved-loads s h) ∙ h) in
+    (ap (λ w. w .answer) d, ap (λ w. w .replica) d ∙ ap stored (saved-loads s h), unraised s h)
 
 -- ---- what is read, written
 
@@ -221,20 +238,38 @@ module _ (s : List ℕ) (l : savedLaidOut s ≡ true) where
 
 -- what was read says the state and is in form
 module _ (s : List ℕ) (e : loaded s .answer ≡ Done) where
-  was-read : (savedLaidOut s ≡ true) × (savedInRange s ≡ true) × (wellFormed (savedState s) ≡ true)
+  was-read : (savedLaidOut s ≡ true) × (savedInRange s ≡ true) × (wellFormed (loadedState s) ≡ true)
   unfolding loadNumber
   was-read = load-numbers s .3 .0 (ap loadNumber e)
 
-  read-means : meaning (loaded s .replica) ≡ savedState s
+  read-means : meaning (loaded s .replica) ≡ loadedState s
   read-means =
-      ap (λ w. meaning (w .replica)) (load-done s (was-read .0) (was-read .1) (was-read .2)) ∙ meaning-stored (savedState s)
+      ap (λ w. meaning (w .replica)) (load-done s (was-read .0) (was-read .1) (was-read .2)) ∙ meaning-stored (loadedState s)
+
+  -- the bytes are those of what they say
+  read-again : savedBytes (savedState s) ≡ s
+  unfolding savedInRange
+  read-again = says-saved s (was-read .0) (and-right (allInRange (savedState s)) (every visibleInRange (characterLines s)) (was-read .1))
 
 pub loaded-writes-back : LoadedWritesBack
-unfolding savedInRange
-loaded-writes-back s e =
-    let w = was-read s e in
+unfolding needsRaising loadedState
+loaded-writes-back s e n =
+    ap savedBytes (read-means s e ∙ raising (savedState s) .still .1 (not-false (clockKept (savedState s)) n)) ∙ read-again s e
+
+-- a state's bytes after its first line
+site-first : (t : State) → savedBytes t ≡ siteLine (t .site) ++ (concatenated characterLine (t .characters) ++ concatenated operationLine (t .pending))
+unfolding savedBytes
+site-first t = append-assoc (siteLine (t .site)) (concatenated characterLine (t .characters)) (concatenated operationLine (t .pending))
+
+pub raised-writes-back : RaisedWritesBack
+unfolding loadedState raised siteLine
+raised-writes-back s e =
+    let t = savedState s in
+    let others = concatenated characterLine (t .characters) ++ concatenated operationLine (t .pending) in
+    let same : rest s ≡ others = ap rest (sym (read-again s e) ∙ site-first t) ∙ line-rest siteHead (siteNumbers (t .site)) others refl in
     ap savedBytes (read-means s e)
-    ∙ says-saved s (w .0) (and-right (allInRange (savedState s)) (every visibleInRange (characterLines s)) (w .1))
+    ∙ site-first (loadedState s)
+    ∙ ap (λ (b : List ℕ). siteLine (loadedState s .site) ++ b) (sym same)
 
 pub loaded-formed : LoadedFormed
 loaded-formed s e = ap wellFormed (read-means s e) ∙ was-read s e .2
@@ -245,7 +280,7 @@ pub loaded-searches : LoadedSearches
 loaded-searches s e =
     let w = was-read s e in
     let d = load-done s (w .0) (w .1) (w .2) in
-    subst Searches (sym (ap (λ (x : Loaded). x .replica) d)) (stored-searches (savedState s) (w .2))
+    subst Searches (sym (ap (λ (x : Loaded). x .replica) d)) (stored-searches (loadedState s) (w .2))
 
 pub table-alone-differs : TableAloneDiffers
 unfolding bytesOf

@@ -2,7 +2,7 @@
 -- checking order; where none holds, what is done stands below them.
 use Prim.Native.Nat.{ℕ}
 use mathlib.Core.List.{List, [], _∷_, map}
-use mathlib.Core.Bool.{not}
+use mathlib.Core.Bool.{Bool, not}
 use mathlib.Core.Option.{Option, none, some}
 use lib.ListN.{length, take}
 use Rattle.woot.specs.declared.Replica.{Replica}
@@ -12,9 +12,10 @@ use Rattle.woot.specs.declared.Written.the-variants.{Refused as writtenRefused}
 use Rattle.woot.specs.State.{State, characterSlots, pendingSlots, slotOf, blankCharacter, blankPending, initial, meaning, stored}
 use Rattle.woot.specs.Table.{keys, tableOf}
 use Rattle.lists.specs.Padding.{pad}
-use Rattle.woot.specs.Form.{wellFormed, replicaWellFormed}
+use Rattle.woot.specs.Form.{clockKept, wellFormed, replicaWellFormed, raised}
 use Rattle.woot.specs.Answers.{Check, _⇒_, first, decided, number}
 use Rattle.woot.specs.Writing.{writtenAs, outputAfter}
+use Rattle.clock.specs.Raising.{raisedReplica}
 use Rattle.saved.specs.declared.LoadAnswer.{LoadAnswer}
 use Rattle.saved.specs.declared.LoadAnswer.the-variants.{Done, Refused}
 use Rattle.saved.specs.declared.Loaded.{Loaded}
@@ -22,11 +23,19 @@ use Rattle.saved.specs.Format.{savedLaidOut, savedState, savedInRange, s
 
 -- ---- reading
 
+-- document 02, Req 04, "loading a saved sheet raises the clock": the state that loading makes of what the bytes say
+unfoldable pub loadedState : List ℕ → State
+loadedState s = raised (savedState s)
+
+-- the clock is below that of some own row or waiting insert
+unfoldable pub needsRaising : List ℕ → Bool
+needsRaising s = not (clockKept (savedState s))
+
 -- conditions 1, 2 and 3, each over all of the bytes
 unfoldable pub loadChecks : List ℕ → List (Check LoadAnswer)
 loadChecks s =
     (not (savedLaidOut s) ⇒ Refused Layout) ∷ (not (savedInRange s) ⇒ Refused Range)
-    ∷ (not (wellFormed (savedState s)) ⇒ Refused Form)
+    ∷ (not (wellFormed (loadedState s)) ⇒ Refused Form)
     ∷ []
 
 -- the replica that stands beside a refusal
@@ -37,14 +46,14 @@ noReplica = stored (initial 0)
 unfoldable pub unread : LoadAnswer → Loaded
 unread a = record { answer = a; replica = noReplica }
 
--- the first condition that holds decides; where none does, the replica that the bytes say
+-- the first condition that holds decides; where none does, the replica that the bytes say, its clock raised
 unfoldable pub loaded : List ℕ → Loaded
-loaded s = decided unread (first (loadChecks s)) (record { answer = Done; replica = stored (savedState s) })
+loaded s = decided unread (first (loadChecks s)) (record { answer = Done; replica = stored (loadedState s) })
 
 -- a state as the arrays hold it, as far as they have slots, with the state's own counts, and the table of what they
 -- hold
-unfoldable pub held : State → Replica
-held s =
+unfoldable pub inArrays : State → Replica
+inArrays s =
     record {
       site = s .site;
       document = record {
@@ -56,11 +65,15 @@ held s =
       };
     }
 
+-- the same, its clock raised over what the arrays hold
+unfoldable pub held : State → Replica
+held s = raisedReplica (inArrays s)
+
 -- conditions 1 and 2 alone
 unfoldable pub readingChecks : List ℕ → List (Check LoadAnswer)
 readingChecks s = (not (savedLaidOut s) ⇒ Refused Layout) ∷ (not (savedInRange s) ⇒ Refused Range) ∷ []
 
--- what the bytes say, its form not checked
+-- what the bytes say, its clock raised and its form not checked
 unfoldable pub savedRead : List ℕ → Loaded
 savedRead s = decided unread (first (readingChecks s)) (record { answer = Done; replica = held (savedState s) })
 

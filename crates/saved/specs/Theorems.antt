@@ -3,7 +3,7 @@ use Prim.Native.Nat.{ℕ, _≤_, _<_}
 use mathlib.Core.Path.{_≡_}
 use mathlib.Core.Logic.{_↔_}
 use mathlib.Core.Bool.{true, false}
-use mathlib.Core.List.{List, [], _∷_}
+use mathlib.Core.List.{List, [], _∷_, _++_}
 use mathlib.Core.Option.{some}
 use lib.ListN.{length}
 use Rattle.woot.specs.declared.Operation.the-variants.{Insert as insert, Delete as delete}
@@ -12,38 +12,49 @@ use Rattle.woot.specs.declared.Refusal.{Refusal}
 use Rattle.woot.specs.declared.Written.the-variants.{Refused as writtenRefused}
 use Rattle.woot.specs.Identifiers.{begin, end}
 use Rattle.woot.specs.State.{State, meaning, stored}
-use Rattle.woot.specs.Form.{wellFormed, replicaWellFormed}
+use Rattle.woot.specs.Form.{wellFormed, replicaWellFormed, raised}
+use Rattle.lines.specs.Lines.{rest}
 use Rattle.woot.specs.Answers.{Reported}
 use Rattle.woot.specs.Writing.{writingChecks, writtenNumber, writtenLength}
 use Rattle.replica.specs.Tables.{Searches}
 use Rattle.saved.specs.declared.LoadAnswer.the-variants.{Done, Refused}
-use Rattle.saved.specs.Format.{savedLaidOut, savedState, savedInRange, savedBytes}
-use Rattle.saved.specs.Calls.{loadChecks, noReplica, held, loaded, loadNumber, loadValue, bytesOf, saveChecks, saved, savedOut}
+use Rattle.saved.specs.Format.{siteLine, savedLaidOut, savedInRange, savedBytes}
+use Rattle.saved.specs.Calls.{loadedState, needsRaising, loadChecks, noReplica, held, loaded, loadNumber, loadValue, bytesOf, saveChecks, saved, savedOut}
 
 -- ---- round trips
 
--- what is written of a state in form is read as that state
+-- what is written of a state in form is read as that state, and its clock needs no raising
 abbrev pub SavedReadsBack : Type 0
 SavedReadsBack =
     (s : State) → wellFormed s ≡ true →
     (loaded (savedBytes s) .answer ≡ Done) × (loaded (savedBytes s) .replica ≡ stored s)
+    × (needsRaising (savedBytes s) ≡ false)
 
--- and bytes that are read were written so, byte for byte
+-- and bytes that are read were written so, byte for byte: by Req 04 of document 02, "those whose clock needs no
+-- raising"
 abbrev pub LoadedWritesBack : Type 0
 LoadedWritesBack =
-    (bytes : List ℕ) → loaded bytes .answer ≡ Done → savedBytes (meaning (loaded bytes .replica)) ≡ bytes
+    (bytes : List ℕ) → loaded bytes .answer ≡ Done → needsRaising bytes ≡ false →
+    savedBytes (meaning (loaded bytes .replica)) ≡ bytes
+
+-- of any other the first line alone differs, which has the raised clock
+abbrev pub RaisedWritesBack : Type 0
+RaisedWritesBack =
+    (bytes : List ℕ) → loaded bytes .answer ≡ Done →
+    savedBytes (meaning (loaded bytes .replica)) ≡ siteLine (loadedState bytes .site) ++ rest bytes
 
 -- a replica that is read is in form
 abbrev pub LoadedFormed : Type 0
 LoadedFormed = (bytes : List ℕ) → loaded bytes .answer ≡ Done → wellFormed (meaning (loaded bytes .replica)) ≡ true
 
--- what is read before the form is checked: the replica is in form exactly when the state that the bytes say is, and
--- then it is that state as it is stored, and means it
+-- what is read before the form is checked: with its clock raised the replica is in form exactly when the state that
+-- loading makes is, and then it is that state as it is stored, and means it
 abbrev pub HeldForm : Type 0
 HeldForm =
     (s : State) →
-    (replicaWellFormed (held s) ≡ wellFormed s)
-    × (wellFormed s ≡ true → (held s ≡ stored s) × (meaning (held s) ≡ s))
+    (replicaWellFormed (held s) ≡ wellFormed (raised s))
+    × (wellFormed (raised s) ≡ true →
+    (held s ≡ stored (raised s)) × (meaning (held s) ≡ raised s))
 
 -- ---- document 02, Req 12: the table
 
@@ -117,20 +128,20 @@ LoadRefuses =
     × (loaded bytes .answer ≡ Refused r → loaded bytes .replica ≡ noReplica)
 
 -- by number: 1 where the layout lacks, 2 where it does not and something is out of range, 3 where neither is and the
--- state is not in form, else 0 and the replica that stores what the bytes say
+-- state that loading makes is not in form, else 0 and the replica that stores that state
 abbrev pub LoadNumbers : Type 0
 LoadNumbers =
     (bytes : List ℕ) →
     ((loadNumber (loaded bytes .answer) ≡ 1) ↔ (savedLaidOut bytes ≡ false))
     × ((loadNumber (loaded bytes .answer) ≡ 2) ↔ ((savedLaidOut bytes ≡ true) × (savedInRange bytes ≡ false)))
     × ((loadNumber (loaded bytes .answer) ≡ 3)
-    ↔ ((savedLaidOut bytes ≡ true) × (savedInRange bytes ≡ true) × (wellFormed (savedState bytes) ≡ false)))
+    ↔ ((savedLaidOut bytes ≡ true) × (savedInRange bytes ≡ true) × (wellFormed (loadedState bytes) ≡ false)))
     × ((loadNumber (loaded bytes .answer) ≡ 0)
-    ↔ ((savedLaidOut bytes ≡ true) × (savedInRange bytes ≡ true) × (wellFormed (savedState bytes) ≡ true)))
+    ↔ ((savedLaidOut bytes ≡ true) × (savedInRange bytes ≡ true) × (wellFormed (loadedState bytes) ≡ true)))
     × ((r : Replica) →
     (loadValue (loaded bytes) ≡ some r)
-    ↔ ((savedLaidOut bytes ≡ true) × (savedInRange bytes ≡ true) × (wellFormed (savedState bytes) ≡ true)
-    × (stored (savedState bytes) ≡ r)))
+    ↔ ((savedLaidOut bytes ≡ true) × (savedInRange bytes ≡ true) × (wellFormed (loadedState bytes) ≡ true)
+    × (stored (loadedState bytes) ≡ r)))
 
 -- the writer answers refusal r exactly when its condition holds and none before it, and changes no byte then
 abbrev pub SaveRefuses : Type 0

@@ -41,8 +41,8 @@ pub fn hidden(replica: Replica, ids: &[u32], delete: Delete) -> Replica
     Replica { site, document }
 }
 
-// The replica with one operation more at the end of the pending ones. A step of the calls and not a call: they have
-// checked the counts and that there is a slot, and lend the characters' keys.
+// The replica with one operation more at the end of the pending ones, which its clock follows. A step of the calls and
+// not a call: they have checked the counts and that there is a slot, and lend the characters' keys.
 pub fn deferred(replica: Replica, ids: &[u32], operation: Operation) -> Replica
     requires { ⌜ counted replica ≡ true ⌝ }
     requires { ⌜ replica .document .waiting < 512 ⌝ }
@@ -51,6 +51,7 @@ pub fn deferred(replica: Replica, ids: &[u32], operation: Operation) -> Replica
     ensures { λ r. ⌜ r ≡ stored (withPending (meaning replica) operation) ⌝ }
 {
     let site = replica.site;
+    let heard = clock::heard_operation(site, operation);
     let d = replica.document;
     let cs = d.characters;
     let ps = d.pending;
@@ -64,5 +65,8 @@ pub fn deferred(replica: Replica, ids: &[u32], operation: Operation) -> Replica
         waiting: d.waiting + 1,
         table,
     };
-    Replica { site, document }
+    Replica {
+        site: heard,
+        document,
+    }
 }

@@ -19,7 +19,7 @@ use Rattle.well_formed.specs.declared.Checked.{Checked}
 use Rattle.index.specs.Index.{indexOf}
 use Rattle.storage.specs.Edit.{operations}
 use Rattle.pending.specs.Queue.{queueOf}
-use Rattle.well_formed.specs.Form.{charactersFormed, placesOrdered, pendingFormed, rangesKept, formedWith, unformed, checked}
+use Rattle.well_formed.specs.Form.{charactersFormed, placesOrdered, pendingFormed, clockReached, rangesKept, formedWith, unformed, checked}
 use Rattle.lists.specs.Lists.{distinct}
 use Rattle.woot.specs.declared.Character.{Character}
 use Rattle.woot.specs.Table.{key, keys}
@@ -82,6 +82,7 @@ module _ (r : Replica) where
       pendingFormed (take (r .document .length) (x .ids)) (take (r .document .waiting) (q .own)) (take (r .document .waiting) (q .first))
       (take (r .document .waiting) (q .second))
       (take (r .document .waiting) (q .senders))
+      && clockReached (r .site) (take (r .document .length) (x .ids)) (take (r .document .waiting) (q .own))
 
   pub out-of-range : rangesKept r ≡ false → replicaWellFormed r ≡ false
   unfolding rangesKept replicaWellFormed wellFormed

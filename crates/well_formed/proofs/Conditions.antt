@@ -43,10 +43,11 @@ use Rattle.index.proofs.Keys.{key-same, character-small, all-range-small}
 use Rattle.index.proofs.Indices.{index-later as key-later, distinct-keys}
 use Rattle.pending.specs.Queue.{ownKey, firstKey, secondKey, hasDelete}
 use Rattle.pending.specs.Ready.{heldIn}
-use Rattle.well_formed.specs.Form.{charactersFormed, pendingFormed, sharesIn, roomKept, unheldKey, newAt, freeAt, keysNew, freshAt, noneRepeated, orderedAt, placesOrdered, nothing, noneReady}
+use Rattle.well_formed.specs.Form.{charactersFormed, pendingFormed, sharesIn, roomKept, unheldKey, newAt, freeAt, keysNew, freshAt, noneRepeated, orderedAt, placesOrdered, nothing, noneReady, clockReached}
 use Rattle.lists.specs.Lists.{throughout}
 use Rattle.lists.proofs.Throughout.{throughout-cong}
 use Rattle.well_formed.proofs.Throughout.{every-throughout, elementAt, take-member, take-map, map-getD, grown}
+use Rattle.well_formed.proofs.Reaching.{clock-reached}
 use Rattle.pending.proofs.Earliest.{ready-executable}
 use Rattle.pending.proofs.Pending.{Keyed, AllKeyed, all-keyed, count-senders, count-own, delete-found}
 
@@ -240,13 +241,13 @@ module _ (os : List Operation) (ranges : every inRange os ≡ true) where
 
 -- ---- all of them
 
-arranged : (b c k d e f f' g : Bool) → (k ≡ true → f ≡ f') → b && c && (k && d) && e && f && g ≡ (k && f') && (b && c && d && e && g)
-arranged false c false d e f f' g h = refl
-arranged true false false d e f f' g h = refl
-arranged true true false d e f f' g h = refl
-arranged b c true d e f f' g h = rw (h refl) (last (b && c && d && e) f')
+arranged : (b c k d e f f' g t : Bool) → (k ≡ true → f ≡ f') → b && c && (k && d) && e && f && g && t ≡ (k && f') && ((b && c && d && e && g) && t)
+arranged false c false d e f f' g t h = refl
+arranged true false false d e f f' g t h = refl
+arranged true true false d e f f' g t h = refl
+arranged b c true d e f f' g t h = rw (h refl) (last (b && c && d && e) f')
   where
-    last : (x y : Bool) → x && y && g ≡ y && (x && g)
+    last : (x y : Bool) → x && y && g && t ≡ y && (x && g && t)
     last true true = refl
     last true false = refl
     last false true = refl
@@ -268,16 +269,18 @@ module _ (s : State) (ranges : allInRange s ≡ true) where
 
   pub conditions : wellFormed s
       ≡ charactersFormed (keys (s .characters)) (previousPlaces (s .characters)) (nextPlaces (s .characters))
-      && pendingFormed (keys (s .characters)) (map ownKey (s .pending)) (map firstKey (s .pending)) (map secondKey (s .pending)) (map sender (s .pending))
+      && (pendingFormed (keys (s .characters)) (map ownKey (s .pending)) (map firstKey (s .pending)) (map secondKey (s .pending)) (map sender (s .pending))
+      && clockReached (s .site) (keys (s .characters)) (map ownKey (s .pending)))
   unfolding wellFormed identifiersDistinct deletesDistinct neighboursOrdered noneExecutable charactersFormed pendingFormed
   conditions =
       let cs = s .characters in
       let os = s .pending in
       let own = map ownKey os in
-      rw (ranges, shares, room, known-ids s, ids-distinct os (parts .2) cs (parts .1), deletes-once os (parts .2), none-executable os (parts .2) cs (parts .1))
+      rw (ranges, shares, room, known-ids s, ids-distinct os (parts .2) cs (parts .1), deletes-once os (parts .2), none-executable os (parts .2) cs (parts .1), clock-reached s ranges)
       (arranged (sharesIn (map sender os)) (roomKept (keys cs) own) (distinct eqb (keys cs)) (keysNew (keys cs) own)
       (noneRepeated own (map firstKey os) (map sender os))
       (every (ordered cs) cs)
       (placesOrdered (previousPlaces cs) (nextPlaces cs))
       (noneReady (keys cs) (map firstKey os) (map secondKey os))
+      (clockReached (s .site) (keys cs) own)
       (λ e. characters-ordered cs (parts .1) (characters-distinct cs (parts .1) ∙ e)))

@@ -1,5 +1,6 @@
 pub mod Throughout
 pub mod Seen
+pub mod Reaching
 pub mod Conditions
 pub mod Checks
 pub mod Examining

@@ -1,9 +1,10 @@
 -- For the proofs of the code alone: the conditions of form on packed numbers.
-use Prim.Native.Nat.{ℕ, suc, _+_}
+use Prim.Native.Nat.{ℕ, suc, _+_, _/_, _%_}
 use mathlib.Core.Bool.{Bool, true, false, _&&_, _||_, not, cond}
 use mathlib.Core.List.{List, []}
 use lib.Dec.{leb, ltb, eqb}
 use lib.ListN.{length, take, getD}
+use Rattle.woot.specs.declared.Site.{Site}
 use Rattle.woot.specs.declared.Replica.{Replica}
 use Rattle.woot.specs.Limits.{lastSite, capacity, share}
 use Rattle.lists.specs.Lists.{every, keep, distinct, throughout}
@@ -65,6 +66,14 @@ nothing Nothing = true
 -- no operation has all that it needs
 abbrev pub noneReady : List ℕ → List ℕ → List ℕ → Bool
 noneReady ids first second = nothing (readyIn ids first second)
+
+-- the clock is not below a key's, where that has the site's number
+unfoldable pub reachesKey : Site → ℕ → Bool
+reachesKey t k = not (eqb (k / 65536) (t .number)) || leb (k % 65536) (t .clock)
+
+-- nor below that of any key
+abbrev pub clockReached : Site → List ℕ → List ℕ → Bool
+clockReached t ids own = every (reachesKey t) ids && every (reachesKey t) own
 
 -- the conditions on the characters alone, but for the ranges
 unfoldable pub charactersFormed : List ℕ → List ℕ → List ℕ → Bool

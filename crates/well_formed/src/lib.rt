@@ -10,14 +10,16 @@ use pending::ready;
 use woot::Character;
 use woot::Pending;
 use woot::Replica;
+use woot::Site;
 ghost use mathlib.Core.Path.{_≡_};
+ghost use mathlib.Core.Bool.{_&&_};
 ghost use Prim.Native.Nat.{_≤_, _<_};
 ghost use lib.ListN.{length, take};
 ghost use Rattle.lists.specs.Lists.{every};
 ghost use Rattle.woot.specs.Ranges.{characterInRange, inRange};
 ghost use Rattle.storage.specs.Edit.{operations};
 ghost use Rattle.well_formed.specs.Form.{sharesIn, unheldKey, keysNew, freshAt, noneRepeated};
-ghost use Rattle.well_formed.specs.Form.{placesOrdered, noneReady, pendingFormed};
+ghost use Rattle.well_formed.specs.Form.{placesOrdered, noneReady, pendingFormed, reachesKey, clockReached};
 ghost use Rattle.index.specs.Tabled.{Tabled};
 ghost use Rattle.well_formed.specs.Form.{rangesKept, unformed, checked};
 
@@ -227,8 +229,33 @@ fn pending_formed<'a>(
     none_ready(heads, links, ids, first, second)
 }
 
-// The same of w pending operations, with n characters.
+// Whether the site's clock reaches the identifier with a key, as it does any that has another site's number.
+fn reaches(site: Site, key: u32) -> bool
+    ensures { λ r. ⌜ r ≡ reachesKey site key ⌝ }
+{
+    if key / 65536 != site.number as u32 {
+        return true;
+    }
+    key % 65536 <= site.clock as u32
+}
+
+// Whether it reaches every one of the keys.
+fn reaches_all(site: Site, keys: &[u32]) -> bool
+    ensures { λ r. ⌜ r ≡ every (reachesKey site) (now (keys .entry)) ⌝ }
+{
+    let mut i = 0;
+    while i < keys.len() {
+        if !reaches(site, keys[i]) {
+            return false;
+        }
+        i += 1;
+    }
+    true
+}
+
+// The conditions on w pending operations, with n characters, and that the clock reaches the inserts of both.
 fn queue_formed<'a>(
+    site: Site,
     heads: &'a [u16],
     links: &'a [u16],
     ids: &'a [u32],
@@ -247,9 +274,10 @@ fn queue_formed<'a>(
     requires { ⌜ Tabled (record { heads = now heads; links = now links }) (take n (now ids)) ⌝ }
     ensures { λ r. ⌜ r
         ≡ pendingFormed (take n (now (ids .entry))) (take w (now (own .entry))) (take w (now (first .entry)))
-        (take w (now (second .entry))) (take w (now (senders .entry))) ⌝ }
+        (take w (now (second .entry))) (take w (now (senders .entry)))
+        && clockReached site (take n (now (ids .entry))) (take w (now (own .entry))) ⌝ }
 {
-    pending_formed(
+    if !pending_formed(
         heads,
         links,
         &ids[..n],
@@ -257,7 +285,13 @@ fn queue_formed<'a>(
         &first[..w],
         &second[..w],
         &senders[..w],
-    )
+    ) {
+        return false;
+    }
+    if !reaches_all(site, &ids[..n]) {
+        return false;
+    }
+    reaches_all(site, &own[..w])
 }
 
 // The counts are within the arrays, and refusal 2 would let every number, mark and neighbour pass.
@@ -334,6 +368,7 @@ pub fn check(replica: Replica) -> Checked
     let ps = d.pending;
     let queue = queue::queue_of(ps, w);
     if !queue_formed(
+        replica.site,
         &d.table.heads,
         &d.table.links,
         &index.ids,

@@ -26,7 +26,8 @@ use Rattle.replica.specs.Texts.{textOf}
 use Rattle.replica.proofs.Runs.{meaning-stored}
 use Rattle.codec.specs.Operations.{operationLine}
 use Rattle.saved.specs.Format.{savedState, savedBytes}
-use Rattle.saved.specs.Calls.{bytesOf, held}
+use Rattle.saved.specs.Calls.{loadedState, bytesOf, held}
+use Rattle.woot.specs.Form.{raised}
 use Rattle.saved.proofs.Held.{held-form}
 use Rattle.effects.specs.Effects.{Effect, quiet, turned, writing, writingBoth, afterReceiving, sending, afterSending, countsOf}
 use Rattle.results.specs.Results.{Result, silent}
@@ -79,18 +80,18 @@ module _ (s : State) (out line : List ℕ) (e : Effect) where
   unfolding decided
   formed-off h = rw h
 
-module _ (s : State) (h : wellFormed s ≡ true) where
-  received-held : (o : Operation) → received (held s) o ≡ receipt (held s) (receive s o)
+module _ (u : State) (h : wellFormed (raised u) ≡ true) where
+  received-held : (o : Operation) → received (held u) o ≡ receipt (held u) (receive (raised u) o)
   unfolding received receive
-  received-held o = rw (held-form s .0, held-form s .1 h .1)
+  received-held o = rw (held-form u .0, held-form u .1 h .1)
 
-  inserted-held : (g n : ℕ) → inserted (held s) g n ≡ generated (held s) (localInsert s g n)
+  inserted-held : (g n : ℕ) → inserted (held u) g n ≡ generated (held u) (localInsert (raised u) g n)
   unfolding inserted localInsert
-  inserted-held g n = rw (held-form s .0, held-form s .1 h .1)
+  inserted-held g n = rw (held-form u .0, held-form u .1 h .1)
 
-  deleted-held : (p : ℕ) → deleted (held s) p ≡ generated (held s) (localDelete s p)
+  deleted-held : (p : ℕ) → deleted (held u) p ≡ generated (held u) (localDelete (raised u) p)
   unfolding deleted localDelete
-  deleted-held p = rw (held-form s .0, held-form s .1 h .1)
+  deleted-held p = rw (held-form u .0, held-form u .1 h .1)
 
 -- a replica out of form is refused with 3
 module _ (r : Replica) (f : replicaWellFormed r ≡ false) where
@@ -112,60 +113,60 @@ unformed r out f = rw f
 
 -- ---- the calls
 
-module _ (s : State) (out : List ℕ) where
-  pub receive-bridge : (o : Operation) → inRange o ≡ true → formed-first s out [] (afterReceiving (receive s o) out) ≡ receiptLeft (received (held s) o) out
+module _ (u : State) (out : List ℕ) where
+  pub receive-bridge : (o : Operation) → inRange o ≡ true → formed-first (raised u) out [] (afterReceiving (receive (raised u) o) out) ≡ receiptLeft (received (held u) o) out
   unfolding receiptLeft turned changes
-  receive-bridge o ranged = go (wellFormed s) refl
+  receive-bridge o ranged = go (wellFormed (raised u)) refl
     where
-      go : (b : Bool) → wellFormed s ≡ b → formed-first s out [] (afterReceiving (receive s o) out) ≡ receiptLeft (received (held s) o) out
-      go true e = formed-on s out [] _ e ∙ sym (receipt-saved (held s) (receive s o) out) ∙ ap (λ (x : Receipt). receiptLeft x out) (sym (received-held s e o))
-      go false e = formed-off s out [] _ e ∙ ap (λ (x : Receipt). receiptLeft x out) (sym (received-off (held s) (held-form s .0 ∙ e) o ranged))
+      go : (b : Bool) → wellFormed (raised u) ≡ b → formed-first (raised u) out [] (afterReceiving (receive (raised u) o) out) ≡ receiptLeft (received (held u) o) out
+      go true e = formed-on (raised u) out [] _ e ∙ sym (receipt-saved (held u) (receive (raised u) o) out) ∙ ap (λ (x : Receipt). receiptLeft x out) (sym (received-held u e o))
+      go false e = formed-off (raised u) out [] _ e ∙ ap (λ (x : Receipt). receiptLeft x out) (sym (received-off (held u) (held-form u .0 ∙ e) o ranged))
 
-  pub text-bridge : formed-first s out [] (writing (Done 0 0) (text (s .characters)) out) ≡ textLeft (held s) out
+  pub text-bridge : formed-first (raised u) out [] (writing (Done 0 0) (text ((raised u) .characters)) out) ≡ textLeft (held u) out
   unfolding textLeft textOf
-  text-bridge = go (wellFormed s) refl
+  text-bridge = go (wellFormed (raised u)) refl
     where
-      go : (b : Bool) → wellFormed s ≡ b → formed-first s out [] (writing (Done 0 0) (text (s .characters)) out) ≡ textLeft (held s) out
-      go true e = rw (held-form s .0, held-form s .1 e .1)
-      go false e = formed-off s out [] _ e ∙ sym (unformed (held s) out (held-form s .0 ∙ e))
+      go : (b : Bool) → wellFormed (raised u) ≡ b → formed-first (raised u) out [] (writing (Done 0 0) (text ((raised u) .characters)) out) ≡ textLeft (held u) out
+      go true e = rw (held-form u .0, held-form u .1 e .1)
+      go false e = formed-off (raised u) out [] _ e ∙ sym (unformed (held u) out (held-form u .0 ∙ e))
 
   module _ (line : List ℕ) where
-    pub type-bridge : (g n : ℕ) → codePoint n ≡ true → formed-first s out line (afterSending (localInsert s g n) out line) ≡ generatedLeft (inserted (held s) g n) out line
+    pub type-bridge : (g n : ℕ) → codePoint n ≡ true → formed-first (raised u) out line (afterSending (localInsert (raised u) g n) out line) ≡ generatedLeft (inserted (held u) g n) out line
     unfolding generatedLeft sentLeft
-    type-bridge g n ranged = go (wellFormed s) refl
+    type-bridge g n ranged = go (wellFormed (raised u)) refl
       where
-        go : (b : Bool) → wellFormed s ≡ b → formed-first s out line (afterSending (localInsert s g n) out line) ≡ generatedLeft (inserted (held s) g n) out line
-        go true e = formed-on s out line _ e ∙ sym (sent-saved (held s) (localInsert s g n) out line) ∙ ap (λ (x : Generated). generatedLeft x out line) (sym (inserted-held s e g n))
-        go false e = formed-off s out line _ e ∙ ap (λ (x : Generated). generatedLeft x out line) (sym (inserted-off (held s) (held-form s .0 ∙ e) g n ranged))
+        go : (b : Bool) → wellFormed (raised u) ≡ b → formed-first (raised u) out line (afterSending (localInsert (raised u) g n) out line) ≡ generatedLeft (inserted (held u) g n) out line
+        go true e = formed-on (raised u) out line _ e ∙ sym (sent-saved (held u) (localInsert (raised u) g n) out line) ∙ ap (λ (x : Generated). generatedLeft x out line) (sym (inserted-held u e g n))
+        go false e = formed-off (raised u) out line _ e ∙ ap (λ (x : Generated). generatedLeft x out line) (sym (inserted-off (held u) (held-form u .0 ∙ e) g n ranged))
 
-    pub erase-bridge : (p : ℕ) → formed-first s out line (afterSending (localDelete s p) out line) ≡ generatedLeft (deleted (held s) p) out line
+    pub erase-bridge : (p : ℕ) → formed-first (raised u) out line (afterSending (localDelete (raised u) p) out line) ≡ generatedLeft (deleted (held u) p) out line
     unfolding generatedLeft sentLeft
-    erase-bridge p = go (wellFormed s) refl
+    erase-bridge p = go (wellFormed (raised u)) refl
       where
-        go : (b : Bool) → wellFormed s ≡ b → formed-first s out line (afterSending (localDelete s p) out line) ≡ generatedLeft (deleted (held s) p) out line
-        go true e = formed-on s out line _ e ∙ sym (sent-saved (held s) (localDelete s p) out line) ∙ ap (λ (x : Generated). generatedLeft x out line) (sym (deleted-held s e p))
-        go false e = formed-off s out line _ e ∙ ap (λ (x : Generated). generatedLeft x out line) (sym (deleted-off (held s) (held-form s .0 ∙ e) p))
+        go : (b : Bool) → wellFormed (raised u) ≡ b → formed-first (raised u) out line (afterSending (localDelete (raised u) p) out line) ≡ generatedLeft (deleted (held u) p) out line
+        go true e = formed-on (raised u) out line _ e ∙ sym (sent-saved (held u) (localDelete (raised u) p) out line) ∙ ap (λ (x : Generated). generatedLeft x out line) (sym (deleted-held u e p))
+        go false e = formed-off (raised u) out line _ e ∙ ap (λ (x : Generated). generatedLeft x out line) (sym (deleted-off (held u) (held-form u .0 ∙ e) p))
 
 -- ---- the counts, which write nothing
 
-counts-bridge : (s : State) → decided (λ q. silent (Refused q)) (first ((not (wellFormed s) ⇒ Form) ∷ [])) (countsOf s) ≡ countsLeft (held s)
+counts-bridge : (u : State) → decided (λ q. silent (Refused q)) (first ((not (wellFormed (raised u)) ⇒ Form) ∷ [])) (countsOf (raised u)) ≡ countsLeft (held u)
 unfolding countsLeft decided
-counts-bridge s = go (wellFormed s) refl
+counts-bridge u = go (wellFormed (raised u)) refl
   where
-    go : (b : Bool) → wellFormed s ≡ b
-        → decided (λ q. silent (Refused q)) (first ((not (wellFormed s) ⇒ Form) ∷ [])) (countsOf s) ≡ countsLeft (held s)
-    go true e = rw (held-form s .0, held-form s .1 e .1)
-    go false e = rw (held-form s .0, e)
+    go : (b : Bool) → wellFormed (raised u) ≡ b
+        → decided (λ q. silent (Refused q)) (first ((not (wellFormed (raised u)) ⇒ Form) ∷ [])) (countsOf (raised u)) ≡ countsLeft (held u)
+    go true e = rw (held-form u .0, held-form u .1 e .1)
+    go false e = rw (held-form u .0, e)
 
 module _ (bytes : List ℕ) where
   pub counts-refused : {q : Refusal} → first (inputChecks bytes true true) ≡ some q → counting bytes ≡ silent (Refused q)
   unfolding counting decided
   counts-refused h = rw h
 
-  pub counts-passed : {r : Replica} → first (inputChecks bytes true true) ≡ first ((not (wellFormed (savedState bytes)) ⇒ Form) ∷ [])
+  pub counts-passed : {r : Replica} → first (inputChecks bytes true true) ≡ first ((not (wellFormed (loadedState bytes)) ⇒ Form) ∷ [])
       → r ≡ held (savedState bytes) → counting bytes ≡ countsLeft r
-  unfolding counting
+  unfolding counting loadedState
   counts-passed h e =
-      ap (λ (o : Option Refusal). decided (λ q. silent (Refused q)) o (countsOf (savedState bytes))) h
+      ap (λ (o : Option Refusal). decided (λ q. silent (Refused q)) o (countsOf (loadedState bytes))) h
       ∙ counts-bridge (savedState bytes)
       ∙ ap countsLeft (sym e)

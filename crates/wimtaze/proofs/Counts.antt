@@ -25,7 +25,7 @@ use Rattle.woot.specs.State.{State}
 use Rattle.woot.specs.Form.{wellFormed}
 use Rattle.woot.specs.Pending.{executable}
 use Rattle.woot.specs.Answers.{number, Check, first, NoneHolds, decided}
-use Rattle.woot.specs.Calls.{Outcome, unchanged, insertCarried, receiveChecks, carryOut, defer, accept, receiveWhen, receive, visibles, generatedInsert, beyondVisible, insertChecks, advanced, sendInsert, localInsertWhen, localInsert, notVisible, generatedDelete, deleteChecks, sendDelete, localDeleteWhen, localDelete}
+use Rattle.woot.specs.Calls.{Outcome, unchanged, insertCarried, receiveChecks, carryOut, defer, accept, receiveWhen, receive, visibles, generatedInsert, beyondVisible, insertChecks, sendInsert, localInsertWhen, localInsert, notVisible, generatedDelete, deleteChecks, sendDelete, localDeleteWhen, localDelete}
 use Rattle.lists.specs.Lists.{keep}
 use Rattle.woot.specs.Operations.{isVisible}
 use Rattle.lists.proofs.Members.{get-member, keep-member}
@@ -36,7 +36,7 @@ use Rattle.convergence.proofs.Draining.{drained-balance}
 use Rattle.convergence.proofs.Soundness.{standing}
 use Rattle.convergence.proofs.InsertionPoint.{member-range}
 use Rattle.convergence.proofs.Steps.{All, first-none, first-some, generated-made}
-use Rattle.convergence.proofs.Kept.{after-insert}
+use Rattle.convergence.proofs.Steps.{after-insert}
 use Rattle.codec.specs.Operations.{operationLine}
 use Rattle.codec.proofs.Sizes.{line-lengths}
 use Rattle.codec.specs.Theorems.{insertMost, deleteMost}
@@ -115,7 +115,7 @@ module _ (s : State) (h : wellFormed s ≡ true) where
       (λ w. accept-fine s o h)
 
   pub insert-sends : (g n : ℕ) → Sends insertMost (localInsert s g n .answer)
-  unfolding localInsert localInsertWhen insertChecks sendInsert carryOut insertCarried advanced inRange
+  unfolding localInsert localInsertWhen insertChecks sendInsert carryOut insertCarried inRange
   insert-sends g n =
       let i = generatedInsert s g n in
       by-checks (Sends insertMost) s (insertChecks (wellFormed s) s g n) (sendInsert s i)

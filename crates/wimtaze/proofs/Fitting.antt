@@ -35,7 +35,8 @@ use Rattle.convergence.proofs.Kept.{form-kept}
 use Rattle.convergence.proofs.Steps.{All, first-none, first-some}
 use Rattle.codec.specs.Operations.{operationLine}
 use Rattle.codec.specs.Calls.{saidBy}
-use Rattle.saved.specs.Format.{savedState, savedBytes}
+use Rattle.saved.specs.Format.{savedBytes}
+use Rattle.saved.specs.Calls.{loadedState}
 use Rattle.codec.specs.Theorems.{insertMost, deleteMost}
 use Rattle.saved.specs.Theorems.{savedMost}
 use Rattle.saved.proofs.Sizes.{saved-length}
@@ -145,35 +146,35 @@ begin-good n out =
 module _ (bytes : List ℕ) where
   -- where none of the refusals over what was handed holds, the state is in form
   input-good : {m k : ℕ} {room : Type 0} (laid ranged : Bool) (out line : List ℕ) (e : Effect)
-      → (wellFormed (savedState bytes) ≡ true → Good m k room (e .result)) → Good m k room (decided (turned out line) (first (inputChecks bytes laid ranged)) e .result)
+      → (wellFormed (loadedState bytes) ≡ true → Good m k room (e .result)) → Good m k room (decided (turned out line) (first (inputChecks bytes laid ranged)) e .result)
   unfolding inputChecks
   input-good laid ranged out line e good =
-      handed-good out line (inputChecks bytes laid ranged) e (refl, (refl, (refl, tt))) (λ w. good (not-false (wellFormed (savedState bytes)) (w .1 .1 .0)))
+      handed-good out line (inputChecks bytes laid ranged) e (refl, (refl, (refl, tt))) (λ w. good (not-false (wellFormed (loadedState bytes)) (w .1 .1 .0)))
 
   receive-line-good : (line out : List ℕ)
       → Good savedMost 0 (savedMost ≤ length out) (receivingLine bytes line out .result)
   unfolding receivingLine
-  receive-line-good line out = input-good (oneLine line) (inRange (saidBy line)) out [] _ (λ h. receive-good (savedState bytes) h (saidBy line) out)
+  receive-line-good line out = input-good (oneLine line) (inRange (saidBy line)) out [] _ (λ h. receive-good (loadedState bytes) h (saidBy line) out)
 
   insert-good : (point n : ℕ) (out line : List ℕ)
       → Good savedMost insertMost (Room insertMost out line) (insertingHere bytes point n out line .result)
   unfolding insertingHere afterSending outcome
   insert-good point n out line =
       input-good true (codePoint n) out line _
-      (λ h. send-good (savedState bytes) h insertMost (localInsert (savedState bytes) point n .state) (localInsert (savedState bytes) point n .answer) out line (form-kept (savedState bytes) (inserting point n) h) (insert-sends (savedState bytes) h point n))
+      (λ h. send-good (loadedState bytes) h insertMost (localInsert (loadedState bytes) point n .state) (localInsert (loadedState bytes) point n .answer) out line (form-kept (loadedState bytes) (inserting point n) h) (insert-sends (loadedState bytes) h point n))
 
   delete-good : (index : ℕ) (out line : List ℕ)
       → Good savedMost deleteMost (Room deleteMost out line) (deletingHere bytes index out line .result)
   unfolding deletingHere afterSending outcome
   delete-good index out line =
       input-good true true out line _
-      (λ h. send-good (savedState bytes) h deleteMost (localDelete (savedState bytes) index .state) (localDelete (savedState bytes) index .answer) out line (form-kept (savedState bytes) (deleting index) h) (delete-sends (savedState bytes) h index))
+      (λ h. send-good (loadedState bytes) h deleteMost (localDelete (loadedState bytes) index .state) (localDelete (loadedState bytes) index .answer) out line (form-kept (loadedState bytes) (deleting index) h) (delete-sends (loadedState bytes) h index))
 
   show-good : (out : List ℕ) → Good textMost 0 (textMost ≤ length out) (showingText bytes out .result)
   unfolding showingText
   show-good out =
       input-good true true out [] _
-      (λ h. writing-good (Done 0 0) (text (savedState bytes .characters)) out (omega arith, omega arith) (text-length (savedState bytes) h))
+      (λ h. writing-good (Done 0 0) (text (loadedState bytes .characters)) out (omega arith, omega arith) (text-length (loadedState bytes) h))
 
 pub results-fit : ResultsFit
 results-fit = (
@@ -223,6 +224,6 @@ pub counts-fit : CountsFit
 unfolding counting inputChecks decided
 counts-fit bytes = go (first (inputChecks bytes true true)) refl
   where
-    go : (o : Option Refusal) → first (inputChecks bytes true true) ≡ o → CountsWithin (decided (λ q. silent (Refused q)) o (countsOf (savedState bytes)))
-    go none h = counts-within (savedState bytes) (not-false (wellFormed (savedState bytes)) (first-none (inputChecks bytes true true) h .1 .1 .0))
+    go : (o : Option Refusal) → first (inputChecks bytes true true) ≡ o → CountsWithin (decided (λ q. silent (Refused q)) o (countsOf (loadedState bytes)))
+    go none h = counts-within (loadedState bytes) (not-false (wellFormed (loadedState bytes)) (first-none (inputChecks bytes true true) h .1 .1 .0))
     go (some q) h = refused-within q

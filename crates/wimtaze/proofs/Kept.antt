@@ -31,13 +31,13 @@ use Rattle.convergence.proofs.Steps.{first-none}
 use Rattle.codec.specs.Operations.{operationLine}
 use Rattle.codec.specs.Calls.{saidBy}
 use Rattle.saved.specs.declared.LoadAnswer.the-variants.{Done as loadDone}
-use Rattle.saved.specs.Format.{savedState, savedBytes}
-use Rattle.saved.specs.Calls.{loaded}
+use Rattle.saved.specs.Format.{savedBytes}
+use Rattle.saved.specs.Calls.{loadedState, loaded}
 use Rattle.saved.proofs.Trips.{saved-reads-back}
 use Rattle.results.specs.Results.{result, silent}
 use Rattle.effects.specs.Effects.{Effect, quiet, turned, writing, writingBoth, afterReceiving, sending, afterSending}
 use Rattle.wimtaze.specs.Calls.{inputChecks, oneLine, beginning, receivingLine, insertingHere, deletingHere}
-use Rattle.wimtaze.specs.Theorems.{Loads, WrittenLoads}
+use Rattle.wimtaze.specs.Theorems.{Formed, Loads, WrittenLoads}
 
 turned-loads : (out line : List ℕ) (q : Refusal) → Loads (turned out line q)
 unfolding turned quiet silent result reply
@@ -57,9 +57,10 @@ front out bytes h = ap (take (length bytes)) (placed-room out 0 bytes (omega ari
 
 module _ (s : State) (h : wellFormed s ≡ true) where
   front-loads : (out : List ℕ) → ltb (length out) (length (savedBytes s)) ≡ false
-      → loaded (take (length (savedBytes s)) (placed out 0 (savedBytes s))) .answer ≡ loadDone
+      → Formed (take (length (savedBytes s)) (placed out 0 (savedBytes s)))
   front-loads out e =
-      rw (front out (savedBytes s) (ltb-false (length out) (length (savedBytes s)) e)) (saved-reads-back s h .0)
+      let back = saved-reads-back s h in
+      rw (front out (savedBytes s) (ltb-false (length out) (length (savedBytes s)) e)) (back .0, back .2)
 
   writing-loads : (a : Answer) (out : List ℕ) → Loads (writing a (savedBytes s) out)
   unfolding writing decided result
@@ -98,7 +99,7 @@ sent-loads t (sentRefused q) out line h = turned-loads out line q
 
 module _ (bytes : List ℕ) where
   abbrev said : State
-  said = savedState bytes
+  said = loadedState bytes
 
   input-loads : (laid ranged : Bool) (out line : List ℕ) (e : Effect) → (wellFormed said ≡ true → Loads e)
       → Loads (decided (turned out line) (first (inputChecks bytes laid ranged)) e)

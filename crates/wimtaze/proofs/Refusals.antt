@@ -21,7 +21,7 @@ use Rattle.storage.specs.Replicas.{received}
 use Rattle.saved.specs.declared.LoadAnswer.the-variants.{Done, Refused}
 use Rattle.saved.specs.declared.Loaded.{Loaded}
 use Rattle.saved.specs.Format.{savedLaidOut, savedInRange, savedState}
-use Rattle.saved.specs.Calls.{unread, held, readingChecks, savedRead}
+use Rattle.saved.specs.Calls.{loadedState, unread, held, readingChecks, savedRead}
 use Rattle.wimtaze.specs.Calls.{inputChecks, oneLine}
 use Rattle.wimtaze.specs.Inputs.{layoutFirst, firstOf}
 
@@ -97,14 +97,14 @@ line-read laid o p h = read laid (inRange o) o p h
 
 -- where layout and range are passed, the form alone is left
 abbrev pub formLeft : List ℕ → Option Refusal
-formLeft s = first ((not (wellFormed (savedState s)) ⇒ Form) ∷ [])
+formLeft s = first ((not (wellFormed (loadedState s)) ⇒ Form) ∷ [])
 
 module _ (s : List ℕ) (x : Loaded) (e : x ≡ savedRead s) where
   -- a saved replica that is refused, and nothing else that could be
   pub refused-alone : (q : Refusal) → x .answer ≡ Refused q → first (inputChecks s true true) ≡ some q
   unfolding inputChecks savedRead readingChecks
   refused-alone q h =
-      alone (savedLaidOut s) (savedInRange s) (wellFormed (savedState s)) (savedState s) q
+      alone (savedLaidOut s) (savedInRange s) (wellFormed (loadedState s)) (savedState s) q
       (sym (ap (λ (y : Loaded). y .answer) e) ∙ h)
 
   -- neither refusal 1 nor 2 holds, and the replica is what the bytes say, as far as the arrays hold it
@@ -118,7 +118,7 @@ module _ (s : List ℕ) (x : Loaded) (e : x ≡ savedRead s) where
   pub refused-range : first (inputChecks s true false) ≡ some (firstOf (x .answer) Range)
   unfolding inputChecks savedRead readingChecks
   refused-range =
-      ranged (savedLaidOut s) (savedInRange s) (wellFormed (savedState s)) (savedState s)
+      ranged (savedLaidOut s) (savedInRange s) (wellFormed (loadedState s)) (savedState s)
       ∙ ap (λ (y : Loaded). some (firstOf (y .answer) Range)) (sym e)
 
   -- a line that is refused beside a saved replica
@@ -126,7 +126,7 @@ module _ (s : List ℕ) (x : Loaded) (e : x ≡ savedRead s) where
       first (inputChecks s laid (inRange o)) ≡ some (firstOf (x .answer) q)
   unfolding inputChecks savedRead readingChecks readAs readChecks
   refused-line laid o q h =
-      line (savedLaidOut s) (savedInRange s) (wellFormed (savedState s)) laid (inRange o) (savedState s) o q h
+      line (savedLaidOut s) (savedInRange s) (wellFormed (loadedState s)) laid (inRange o) (savedState s) o q h
       ∙ ap (λ (y : Loaded). some (firstOf (y .answer) q)) (sym e)
 
   -- a saved replica that is refused beside a line that is read

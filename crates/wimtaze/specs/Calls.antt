@@ -1,5 +1,5 @@
--- The calls on any bytes and numbers: refusals 1, 2 and 3 over what was handed, then the rule on the state that the
--- saved bytes say, then 12, then the bytes of the new state.
+-- The calls on any bytes and numbers: refusals 1, 2 and 3 over what was handed, then the rule on the state that loading
+-- makes of the saved bytes, then 12, then the bytes of the new state.
 use Prim.Native.Nat.{ℕ}
 use mathlib.Core.Bool.{Bool, true, _&&_, not}
 use mathlib.Core.List.{List, [], _∷_}
@@ -16,7 +16,8 @@ use Rattle.woot.specs.Calls.{receive, localInsert, localDelete}
 use Rattle.woot.specs.Text.{text}
 use Rattle.lines.specs.Lines.{rest}
 use Rattle.codec.specs.Calls.{laidOut, saidBy}
-use Rattle.saved.specs.Format.{savedLaidOut, savedInRange, savedState, savedBytes}
+use Rattle.saved.specs.Format.{savedLaidOut, savedInRange, savedBytes}
+use Rattle.saved.specs.Calls.{loadedState}
 use Rattle.results.specs.Results.{Result, silent}
 use Rattle.effects.specs.Effects.{Effect, turned, writing, afterReceiving, afterSending, countsOf}
 
@@ -25,7 +26,7 @@ use Rattle.effects.specs.Effects.{Effect, turned, writing, afterReceiving, afte
 unfoldable pub inputChecks : List ℕ → Bool → Bool → List (Check Refusal)
 inputChecks bytes laid ranged =
     (not (savedLaidOut bytes && laid) ⇒ Layout) ∷ (not (savedInRange bytes && ranged) ⇒ Range)
-    ∷ (not (wellFormed (savedState bytes)) ⇒ Form)
+    ∷ (not (wellFormed (loadedState bytes)) ⇒ Form)
     ∷ []
 
 -- one line that has its layout, and nothing after its line feed
@@ -42,26 +43,26 @@ beginning number out =
 unfoldable pub receivingLine : List ℕ → List ℕ → List ℕ → Effect
 receivingLine bytes line out =
     decided (turned out []) (first (inputChecks bytes (oneLine line) (inRange (saidBy line))))
-    (afterReceiving (receive (savedState bytes) (saidBy line)) out)
+    (afterReceiving (receive (loadedState bytes) (saidBy line)) out)
 
 -- `wimtaze_type`
 unfoldable pub insertingHere : List ℕ → ℕ → ℕ → List ℕ → List ℕ → Effect
 insertingHere bytes point n out line =
     decided (turned out line) (first (inputChecks bytes true (codePoint n)))
-    (afterSending (localInsert (savedState bytes) point n) out line)
+    (afterSending (localInsert (loadedState bytes) point n) out line)
 
 -- `wimtaze_erase`
 unfoldable pub deletingHere : List ℕ → ℕ → List ℕ → List ℕ → Effect
 deletingHere bytes index out line =
     decided (turned out line) (first (inputChecks bytes true true))
-    (afterSending (localDelete (savedState bytes) index) out line)
+    (afterSending (localDelete (loadedState bytes) index) out line)
 
 -- `wimtaze_text`
 unfoldable pub showingText : List ℕ → List ℕ → Effect
 showingText bytes out =
     decided (turned out []) (first (inputChecks bytes true true))
-    (writing (Done 0 0) (text (savedState bytes .characters)) out)
+    (writing (Done 0 0) (text (loadedState bytes .characters)) out)
 
 -- `wimtaze_counts`
 unfoldable pub counting : List ℕ → Result
-counting bytes = decided (λ q. silent (Refused q)) (first (inputChecks bytes true true)) (countsOf (savedState bytes))
+counting bytes = decided (λ q. silent (Refused q)) (first (inputChecks bytes true true)) (countsOf (loadedState bytes))

@@ -1,12 +1,13 @@
 -- The promises about what the calls return, each proved in proofs/ under its name in small letters.
 use Prim.Native.Nat.{ℕ, _+_, _%_, _/_, _^_, _≤_, _<_}
 use mathlib.Core.Path.{_≡_}
-use mathlib.Core.Bool.{true}
+use mathlib.Core.Bool.{true, false}
 use mathlib.Core.List.{List}
 use lib.ListN.{length, take}
-use Rattle.woot.specs.Answers.{known, refused}
+use Rattle.woot.specs.declared.Refusal.the-variants.{Taken}
+use Rattle.woot.specs.Answers.{number, known, refused}
 use Rattle.saved.specs.declared.LoadAnswer.the-variants.{Done as loadDone}
-use Rattle.saved.specs.Calls.{loaded}
+use Rattle.saved.specs.Calls.{needsRaising, loaded}
 use Rattle.effects.specs.Effects.{Effect}
 use Rattle.woot.specs.State.{State}
 use Rattle.woot.specs.Form.{wellFormed}
@@ -25,6 +26,14 @@ textMost = 4096
 -- the visible text of a state in form is no longer
 abbrev pub TextLength : Type 0
 TextLength = (s : State) → wellFormed s ≡ true → length (text (s .characters)) ≤ textMost
+
+-- ---- document 02, Req 04
+
+-- `wimtaze_type` never answers refusal 6, on any bytes, numbers and slices
+abbrev pub TypeNeverTaken : Type 0
+TypeNeverTaken =
+    (bytes : List ℕ) (point n : ℕ) (out line : List ℕ) →
+    insertingHere bytes point n out line .result .reply .refusal ≡ number Taken → ⊥
 
 -- ---- the parts of what is returned
 
@@ -87,11 +96,15 @@ CountsReadBack = (bytes : List ℕ) → ReadsBack (counting bytes)
 
 -- ---- the form is kept
 
--- the bytes that were written, where the word is done or waits, are a saved replica in form: they are loaded
+-- these bytes are a saved replica in form: they are loaded, and their clock needs no raising
+abbrev pub Formed : List ℕ → Type 0
+Formed bytes = (loaded bytes .answer ≡ loadDone) × (needsRaising bytes ≡ false)
+
+-- the bytes that were written, where the word is done or waits, are
 abbrev pub Loads : Effect → Type 0
 Loads e =
     (e .result .reply .word ≡ known → ⊥) → (e .result .reply .word ≡ refused → ⊥) →
-    loaded (take (e .result .written) (e .output)) .answer ≡ loadDone
+    Formed (take (e .result .written) (e .output))
 
 -- "every call keeps the form", of the bytes that a call writes, whatever was handed
 abbrev pub WrittenLoads : Type 0

@@ -10,9 +10,10 @@ use Rattle.woot.specs.Ranges.{within, siteNumber, codePoint, characterId
 use Rattle.woot.specs.State.{initial}
 use Rattle.woot.specs.Placing.{sequence, indexOf, placeOf, held, above, adjacent, candidate, candidates, narrowed, search, position, between, insertAt, integrateInsert, integrateDelete}
 use Rattle.woot.specs.Pending.{executable, crossed, unplaceable, integrate, pendingFrom, earliest, andIntegrated, andDiscarded, drained, drainSteps, drain}
-use Rattle.woot.specs.Form.{presentInserts, allInRange, sharesKept, capacityKept, identifiersDistinct, deletesDistinct, ordered, neighboursOrdered, noneExecutable, wellFormed}
+use Rattle.woot.specs.Form.{presentInserts, allInRange, sharesKept, capacityKept, identifiersDistinct, deletesDistinct, ordered, neighboursOrdered, noneExecutable, clockReaches, clockKept, wellFormed}
+use Rattle.woot.specs.Clock.{ownInsert, heard}
 use Rattle.woot.specs.Answers.{number, reply, answerOf, decided}
-use Rattle.woot.specs.Calls.{unchanged, allIntegrated, withCharacters, withPending, afterDrain, insertCarried, duplicate, conflicting, senderFull, documentFull, receiveChecks, carryOut, defer, accept, receiveWhen, receive, visibles, nextIdentifier, generatedInsert, beyondVisible, identifierTaken, insertChecks, advanced, sendInsert, localInsertWhen, localInsert, notVisible, deleteChecks, generatedDelete, sendDelete, localDeleteWhen, localDelete}
+use Rattle.woot.specs.Calls.{unchanged, allIntegrated, withCharacters, withPending, afterDrain, insertCarried, duplicate, conflicting, senderFull, documentFull, receiveChecks, carryOut, defer, accept, receiveWhen, receive, visibles, nextIdentifier, generatedInsert, beyondVisible, identifierTaken, insertChecks, sendInsert, localInsertWhen, localInsert, notVisible, deleteChecks, generatedDelete, sendDelete, localDeleteWhen, localDelete}
 use Rattle.woot.specs.Text.{unprintable, printed, encoded, text}
 use Rattle.woot.specs.Histories.{outcome}
 use Rattle.woot.specs.declared.Identifier.{Identifier}
@@ -22,7 +23,7 @@ use Rattle.woot.specs.State.{State}
 use Rattle.woot.specs.Placing.{identifiers}
 use Rattle.woot.specs.Answers.{Reply}
 use Rattle.woot.specs.Histories.{Call, run, integratedBy}
-use Rattle.woot.specs.Situations.{Given, calling, carrying, showing, Seen, calls, operations, bytes, replies, seen, Situation, table, slipCases, answerCases, SituationsHold, CasesTell, CheckingOrder}
+use Rattle.woot.specs.Situations.{Given, calling, carrying, showing, Seen, calls, operations, bytes, replies, seen, Situation, table, slipCases, answerCases, clockCases, SituationsHold, CasesTell, CheckingOrder}
 
 -- k at xs, whose cells are computed first
 whole : {A B : Type 0} → List A → (List A → B) → B
@@ -84,8 +85,8 @@ all-computed [] = refl
 all-computed (t ∷ ts) = ap₂ (λ a bs. a ∷ bs) (sym (computed-same (t .given))) (all-computed ts)
 
 both : SituationsHold × CasesTell
-unfolding table carriedIn slipCases answerCases whole settled stepped computed _to_ encodedLength continuation oneByte twoBytes threeBytes fourBytes encode unprintable printed encoded text same below sender character origin isVisible hidden deletedBy sameInsert sameDelete sameOperation within siteNumber codePoint characterId previousId nextId siteInRange insertInRange deleteInRange inRange characterInRange initial sequence indexOf placeOf held above adjacent candidate candidates narrowed search position between insertAt integrateInsert integrateDelete executable crossed unplaceable integrate pendingFrom earliest andIntegrated andDiscarded drained drainSteps drain presentInserts allInRange sharesKept capacityKept identifiersDistinct deletesDistinct ordered neighboursOrdered noneExecutable wellFormed reply answerOf unchanged decided allIntegrated withCharacters withPending afterDrain insertCarried duplicate conflicting senderFull documentFull receiveChecks carryOut defer accept receiveWhen receive visibles nextIdentifier generatedInsert beyondVisible identifierTaken insertChecks advanced sendInsert localInsertWhen localInsert notVisible deleteChecks generatedDelete sendDelete localDeleteWhen localDelete outcome
-both = (all-computed table ∙ refl, (all-computed slipCases ∙ refl, all-computed answerCases ∙ refl))
+unfolding table carriedIn slipCases answerCases clockCases whole settled stepped computed _to_ encodedLength continuation oneByte twoBytes threeBytes fourBytes encode unprintable printed encoded text same below sender character origin isVisible hidden deletedBy sameInsert sameDelete sameOperation within siteNumber codePoint characterId previousId nextId siteInRange insertInRange deleteInRange inRange characterInRange initial sequence indexOf placeOf held above adjacent candidate candidates narrowed search position between insertAt integrateInsert integrateDelete executable crossed unplaceable integrate pendingFrom earliest andIntegrated andDiscarded drained drainSteps drain presentInserts allInRange sharesKept capacityKept identifiersDistinct deletesDistinct ordered neighboursOrdered noneExecutable clockReaches clockKept ownInsert heard wellFormed reply answerOf unchanged decided allIntegrated withCharacters withPending afterDrain insertCarried duplicate conflicting senderFull documentFull receiveChecks carryOut defer accept receiveWhen receive visibles nextIdentifier generatedInsert beyondVisible identifierTaken insertChecks sendInsert localInsertWhen localInsert notVisible deleteChecks generatedDelete sendDelete localDeleteWhen localDelete outcome
+both = (all-computed table ∙ refl, (all-computed slipCases ∙ refl, all-computed answerCases ∙ refl, all-computed clockCases ∙ refl))
 
 pub situations-hold : SituationsHold
 situations-hold = both .0

@@ -20,9 +20,10 @@ use Rattle.woot.specs.declared.Sent.{Sent}
 use Rattle.woot.specs.declared.Sent.the-variants.{Done as sentDone, Refused as sentRefused}
 use Rattle.woot.specs.Limits.{lastClock, capacity, share}
 use Rattle.woot.specs.Identifiers.{begin, end, same}
-use Rattle.woot.specs.Operations.{sender, origin, isVisible, sameInsert, sameOperation}
+use Rattle.woot.specs.Operations.{sender, origin, isVisible, sameInsert, sameOperation, inserts}
 use Rattle.woot.specs.Ranges.{codePoint, inRange}
 use Rattle.woot.specs.State.{State}
+use Rattle.woot.specs.Clock.{heardAll}
 use Rattle.woot.specs.Placing.{identifiers, integrateInsert, integrateDelete}
 use Rattle.woot.specs.Pending.{executable, crossed, unplaceable, pendingFrom, drain, Drained}
 use Rattle.woot.specs.Form.{presentInserts, wellFormed}
@@ -50,13 +51,25 @@ allIntegrated r = r .own ++ r .drained
 unfoldable pub withCharacters : State → List Character → State
 withCharacters s cs = record { site = s .site; characters = cs; pending = s .pending }
 
--- a state with one operation more at the end of the pending ones
+-- a state with one operation more at the end of the pending ones; by Req 04 of document 02 its clock follows an insert
+-- of its own number that "starts to wait"
 unfoldable pub withPending : State → Operation → State
-withPending s o = record { site = s .site; characters = s .characters; pending = s .pending ++ o ∷ [] }
+withPending s o =
+    record {
+      site = heardAll (s .site) (inserts (o ∷ []));
+      characters = s .characters;
+      pending = s .pending ++ o ∷ [];
+    }
 
--- "after each insert carried out": the state as its pending operations are drained into it
-unfoldable pub afterDrain : State → Drained → State
-afterDrain s d = record { site = s .site; characters = d .characters; pending = d .pending }
+-- "after each insert carried out": the state as its pending operations are drained into it; by Req 04 of document 02
+-- its clock follows each insert of its own number that "is carried out"
+unfoldable pub afterDrain : State → Insert → Drained → State
+afterDrain s i d =
+    record {
+      site = heardAll (s .site) (i ∷ inserts (d .integrated));
+      characters = d .characters;
+      pending = d .pending;
+    }
 
 -- an insert carried out, with what it releases
 unfoldable pub insertCarried : State → Insert → Drained
@@ -101,7 +114,7 @@ carryOut done s (insert i) =
     let d : Drained = insertCarried s i in
     record {
       answer = done (suc (length (d .integrated))) (length (d .discarded));
-      state = afterDrain s d;
+      state = afterDrain s i d;
       own = insert i ∷ [];
       drained = d .integrated;
       discarded = d .discarded;
@@ -155,7 +168,8 @@ generatedInsert s g n =
 unfoldable pub beyondVisible : State → ℕ → Bool
 beyondVisible s g = ltb (length (visibles (s .characters))) g
 
--- condition 6: "the identifier about to be typed belongs to a row or a waiting insert"
+-- condition 6: "the identifier about to be typed belongs to a row or a waiting insert"; by Req 04 of document 02 typing
+-- "never meets" it, and "the number stays reserved"
 unfoldable pub identifierTaken : State → Bool
 identifierTaken s = any (λ i. same (nextIdentifier (s .site)) (i .id)) (presentInserts s)
 
@@ -169,18 +183,10 @@ insertChecks formed s g n =
     ∷ (documentFull s (insert (generatedInsert s g n)) ⇒ sentRefused DocumentFull)
     ∷ []
 
--- "lent to a typing call, which advances the clock by one in it"
-unfoldable pub advanced : State → State
-advanced s =
-    record {
-      site = record { number = s .site .number; clock = s .site .clock + 1 };
-      characters = s .characters;
-      pending = s .pending;
-    }
-
--- what is done where no condition holds: the character is put in, and what waited for it follows
+-- what is done where no condition holds: the character is put in, and what waited for it follows. Its clock is one
+-- higher than the site's, which follows it: "lent to a typing call, which advances the clock by one in it"
 unfoldable pub sendInsert : State → Insert → Outcome Sent
-sendInsert s i = carryOut (sentDone (insert i)) (advanced s) (insert i)
+sendInsert s i = carryOut (sentDone (insert i)) s (insert i)
 
 unfoldable pub localInsertWhen : Bool → State → ℕ → ℕ → Outcome Sent
 localInsertWhen formed s g n =

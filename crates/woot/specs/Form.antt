@@ -1,17 +1,19 @@
 -- Well-formedness (document 01: in form), as named conditions.
 use Prim.Native.Nat.{ℕ, zero, suc, _+_}
-use mathlib.Core.Bool.{Bool, _&&_, not}
+use mathlib.Core.Bool.{Bool, _&&_, _||_, not}
 use mathlib.Core.List.{List, [], _∷_, _++_, map}
 use lib.Dec.{leb}
 use lib.ListN.{length}
 use Rattle.woot.specs.declared.Insert.{Insert}
 use Rattle.woot.specs.declared.Character.{Character}
+use Rattle.woot.specs.declared.Site.{Site}
 use Rattle.woot.specs.declared.Replica.{Replica}
 use Rattle.woot.specs.Limits.{lastSite, capacity, share}
 use Rattle.woot.specs.Identifiers.{same}
 use Rattle.woot.specs.Operations.{origin, inserts, deletes, sameDelete}
 use Rattle.woot.specs.Ranges.{siteInRange, characterInRange, inRange}
 use Rattle.woot.specs.State.{State, meaning, counted, tableAgrees}
+use Rattle.woot.specs.Clock.{ownInsert, heardAll}
 use Rattle.woot.specs.Placing.{above}
 use Rattle.woot.specs.Pending.{executable, pendingFrom}
 use Rattle.lists.specs.Lists.{any, every, distinct}
@@ -57,12 +59,27 @@ neighboursOrdered s = every (ordered (s .characters)) (s .characters)
 unfoldable pub noneExecutable : State → Bool
 noneExecutable s = not (any (executable (s .characters)) (s .pending))
 
--- in form
+-- of one insert, the clock is "not below" its identifier's, where that "has its own laptop's number"
+unfoldable pub clockReaches : Site → Insert → Bool
+clockReaches t i = not (ownInsert t i) || leb (i .id .clock) (t .clock)
+
+-- document 02, Req 04: "the clock is not below that of any row or waiting insert whose identifier has its own laptop's
+-- number"
+unfoldable pub clockKept : State → Bool
+clockKept s = every (clockReaches (s .site)) (presentInserts s)
+
+-- in form; "the form gains" the last condition
 unfoldable pub wellFormed : State → Bool
 wellFormed s =
     allInRange s && sharesKept s && capacityKept s && identifiersDistinct s && deletesDistinct s
     && neighboursOrdered s
     && noneExecutable s
+    && clockKept s
+
+-- "loading a saved sheet raises the clock the same way over its rows and waiting inserts"
+unfoldable pub raised : State → State
+raised s =
+    record { site = heardAll (s .site) (presentInserts s); characters = s .characters; pending = s .pending }
 
 -- a replica is in form when its counts are within its arrays, its meaning is in form and, as document 02 adds, its
 -- table agrees: "the form gains that it agrees"

@@ -6,6 +6,7 @@ pub mod Table
 pub mod State
 pub mod Placing
 pub mod Pending
+pub mod Clock
 pub mod Form
 pub mod Answers
 pub mod Writing

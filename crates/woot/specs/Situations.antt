@@ -253,7 +253,7 @@ answerCases =
     gives calls (Refused 3 ∷ []) (1 at 1 ∷ []))
     ∷ (calling (stateAt 9 [] (deleteBy 3 (1 at 1) ∷ deleteBy 3 (1 at 1) ∷ [])) (o2 ∷ [])
     gives calls (Refused 3 ∷ []) [])
-    ∷ (calling (stateAt 0 [] (insert (put (1 at 1) begin end) ∷ [])) (o2 ∷ []) gives calls (Refused 3 ∷ []) [])
+    ∷ (calling (stateAt 9 [] (insert (put (1 at 1) begin end) ∷ [])) (o2 ∷ []) gives calls (Refused 3 ∷ []) [])
     -- known does not see a waiting insert, or a waiting erase
     ∷ (after (ins (2 at 1) (1 at 1) end ∷ ins (2 at 1) (1 at 1) end
     ∷ del 3 (1 at 1) ∷ del 3 (1 at 1) ∷ del 4 (1 at 1) ∷ [])
@@ -261,10 +261,6 @@ answerCases =
     -- 5 one clock too early, or too late
     ∷ (calling (stateAt 65534 [] []) (inserting 0 65 ∷ inserting 0 65 ∷ [])
     gives calls (Done 1 0 ∷ Refused 5 ∷ []) (1 at 65535 ∷ []))
-    -- 6 never, or by the rows alone
-    ∷ (calling (stateAt 0 (put (1 at 1) begin end ∷ []) []) (inserting 0 65 ∷ [])
-    gives calls (Refused 6 ∷ []) (1 at 1 ∷ []))
-    ∷ (calling (stateAt 0 [] (stray (1 at 1) ∷ [])) (inserting 0 65 ∷ []) gives calls (Refused 6 ∷ []) [])
     -- 7 by the rows alone
     ∷ (after (ins (2 at 1) (1 at 1) end ∷ insAs 67 (2 at 1) (1 at 1) end ∷ []) gives calls (Waits ∷ Refused 7 ∷ []) [])
     -- 8 reported before 7
@@ -272,9 +268,41 @@ answerCases =
     gives calls (Done 1 0 ∷ Done 1 0 ∷ Done 1 0 ∷ Refused 7 ∷ []) (1 at 1 ∷ 2 at 1 ∷ 3 at 1 ∷ []))
     ∷ []
 
+-- document 02, Req 04: the clock not raised, raised where it should not be, or lowered; it shows in what is typed next
+unfoldable pub clockCases : List Situation
+clockCases =
+    -- no raise where an own insert is carried out, or where it starts to wait
+    (after (ins (16 at 5) begin end ∷ inserting 0 65 ∷ [])
+    gives calls (Done 1 0 ∷ Done 1 0 ∷ []) (16 at 6 ∷ 16 at 5 ∷ []))
+    ∷ (after (ins (16 at 7) (1 at 1) end ∷ inserting 0 65 ∷ o1 ∷ inserting 0 66 ∷ [])
+    gives calls (Waits ∷ Done 1 0 ∷ Done 2 0 ∷ Done 1 0 ∷ []) (16 at 9 ∷ 1 at 1 ∷ 16 at 7 ∷ 16 at 8 ∷ []))
+    -- raised to the lower, or by one
+    ∷ (after (ins (16 at 5) begin end ∷ ins (16 at 2) begin end ∷ inserting 2 65 ∷ [])
+    gives calls (Done 1 0 ∷ Done 1 0 ∷ Done 1 0 ∷ []) (16 at 2 ∷ 16 at 5 ∷ 16 at 6 ∷ []))
+    -- raised by another site's insert
+    ∷ (after (ins (3 at 9) begin end ∷ inserting 0 65 ∷ [])
+    gives calls (Done 1 0 ∷ Done 1 0 ∷ []) (16 at 1 ∷ 3 at 9 ∷ []))
+    -- raised by an insert that is refused
+    ∷ (after (o1 ∷ o2 ∷ ins (16 at 9) (2 at 1) (1 at 1) ∷ inserting 2 65 ∷ [])
+    gives calls (Done 1 0 ∷ Done 1 0 ∷ Refused 8 ∷ Done 1 0 ∷ []) (1 at 1 ∷ 2 at 1 ∷ 16 at 1 ∷ []))
+    -- lowered where a waiting insert is thrown out
+    ∷ (after (ins (16 at 9) (1 at 1) (1 at 1) ∷ o1 ∷ inserting 1 65 ∷ [])
+    gives calls (Waits ∷ Done 1 1 ∷ Done 1 0 ∷ []) (1 at 1 ∷ 16 at 10 ∷ []))
+    -- 6 where the clock has come to its end, for 5
+    ∷ (after (ins (16 at 65535) begin end ∷ inserting 0 65 ∷ [])
+    gives calls (Done 1 0 ∷ Refused 5 ∷ []) (16 at 65535 ∷ []))
+    -- 3 passes a clock below that of an own row or waiting insert, or asks it of another site's
+    ∷ (calling (stateAt 0 (put (1 at 1) begin end ∷ []) []) (inserting 0 65 ∷ [])
+    gives calls (Refused 3 ∷ []) (1 at 1 ∷ []))
+    ∷ (calling (stateAt 0 [] (stray (1 at 1) ∷ [])) (inserting 0 65 ∷ []) gives calls (Refused 3 ∷ []) [])
+    ∷ (calling (stateAt 1 (put (1 at 1) begin end ∷ put (2 at 5) begin end ∷ []) (stray (3 at 7) ∷ []))
+    (inserting 2 65 ∷ [])
+    gives calls (Done 1 0 ∷ []) (1 at 1 ∷ 2 at 5 ∷ 1 at 2 ∷ []))
+    ∷ []
+
 -- each case tells the rule from the slip that its comment names
 abbrev pub CasesTell : Type 0
-CasesTell = AllHold slipCases × AllHold answerCases
+CasesTell = AllHold slipCases × AllHold answerCases × AllHold clockCases
 
 -- ---- the checking order
 
@@ -299,7 +327,7 @@ rises [] = true
 rises (n ∷ []) = true
 rises (n ∷ m ∷ ns) = ltb n m && rises (m ∷ ns)
 
--- receiving meets 2, 3, known, 7, 8, 9, 10, 11; typing 2, 3, 4, 5, 6, 9, 11; erasing 3, 4: in this order, on any state
+-- receiving meets 2, 3, known, 7, 8, 9, 10, 11; typing 2, 3, 4, 5, 6 (reserved), 9, 11; erasing 3, 4: in this order, on any state
 pub record CheckingOrder (formed : Bool) (s : State) : Type 0 where
   pub receiving-meets : (o : Operation) → numbersOf (receiveChecks formed s o) ≡ 2 ∷ 3 ∷ 0 ∷ 7 ∷ 8 ∷ 9 ∷ 10 ∷ 11 ∷ []
   pub inserting-meets : (g n : ℕ) → sentNumbersOf (insertChecks formed s g n) ≡ 2 ∷ 3 ∷ 4 ∷ 5 ∷ 6 ∷ 9 ∷ 11 ∷ []

@@ -150,7 +150,7 @@ pub enum Refusal {
     Position,
     // 5: the clock is at its end.
     Clock,
-    // 6: the identifier about to be used is taken.
+    // 6: the identifier about to be used is taken. Reserved: no call answers it.
     Taken,
     // 7: the identifier stands for another insert.
     Conflict,

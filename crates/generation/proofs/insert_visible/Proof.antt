@@ -5,10 +5,10 @@ use borrow.Author.Tests.{le-leb, lt-leb}
 use lib.Dec.{leb}
 use Rattle.woot.specs.Limits.{lastClock}
 use Rattle.woot.specs.State.{meaning}
-use Rattle.woot.specs.Calls.{generatedInsert, beyondVisible, identifierTaken}
-use Rattle.convergence.proofs.Steps.{next-character, generated-made}
+use Rattle.woot.specs.Calls.{beyondVisible}
+use Rattle.convergence.proofs.Steps.{generated-made, formed-untaken}
 use Rattle.well_formed.proofs.Examining.{form}
-use Rattle.generation.proofs.Outcomes.{insert-beyond, insert-late, insert-taken, insert-sent}
+use Rattle.generation.proofs.Outcomes.{insert-beyond, insert-late, insert-sent}
 use Rattle.generation.proofs.Generating.{count-below, count-reaches}
 use borrow.Author.Needs.{needs}
 use Rattle.generation.proofs.insert_visible.Statement.{statement}
@@ -20,10 +20,6 @@ visible c = count-reaches _ _ _ (c .before .count .ensures) (c .if1 .left)
 early : (c : tie.Else2) → leb lastClock (meaning (c .before .before .before .before .before .before .before .args .replica) .site .clock) ≡ false
 unfolding meaning
 early c = lt-leb _ _ (c .if2 .left)
-
-free : (c : tie.After-is-taken) → c .is-taken .result ≡ identifierTaken (meaning (c .before .before .before .before .before .before .before .before .before .before .args .replica))
-unfolding identifierTaken generatedInsert
-free c = rw (c .before .before .generated-insert .ensures) at (c .is-taken .ensures)
 
 count-requires : tie.Need-count-requires
 count-requires c κs = search needs
@@ -48,37 +44,22 @@ returns-2 c =
 generated-insert-requires : tie.Need-generated-insert-requires
 generated-insert-requires c κs = search needs
 
-is-taken-requires : tie.Need-is-taken-requires
-unfolding generatedInsert
-is-taken-requires c κs =
-    let x = c .before .before .before .before .before .before .before .before .before .pre .0 in
-    (x, rw (c .before .generated-insert .ensures) (next-character _ (form _ (x .form)) (early (c .before .before))))
-
-refused-requires-3 : tie.Need-refused-requires-3
-refused-requires-3 c κs = search needs
-
-returns-3 : tie.Need-returns-3
-returns-3 c =
-    let p = c .before .before .before .before .before .before .before .before .before .before .before .before .pre in
-    c .refused3 .ensures
-    ∙ sym (insert-taken _ _ _ (p .1) (p .0 .form) (visible (c .before .before .before .before .before .before .before .before)) (early (c .before .before .before .before .before)) (sym (free (c .before .before)) ∙ c .before .if3 .taken))
-
 send-placed-requires : tie.Need-send-placed-requires
 send-placed-requires c κs =
-    let p = c .before .before .before .before .before .before .before .before .before .before .before .pre in (
+    let p = c .before .before .before .before .before .before .before .before .pre in
+    let f = form _ (p .0 .form) in (
       p .0,
-      rw (c .before .before .before .generated-insert .ensures) record {
+      rw (c .generated-insert .ensures) record {
         form = p .0 .form;
-        early = c .before .before .before .before .if2 .left;
-        made = generated-made _ _ _ (form _ (p .0 .form)) (p .1) (visible (c .before .before .before .before .before .before .before)) (early (c .before .before .before .before)) (sym (free (c .before)) ∙ c .if3 .left);
+        made = generated-made _ _ _ f (p .1) (visible (c .before .before .before .before)) (early (c .before)) (formed-untaken _ f);
       },
     )
 
-returns-4 : tie.Need-returns-4
-returns-4 c =
-    let p = c .before .before .before .before .before .before .before .before .before .before .before .before .pre in
-    rw (c .send-placed .ensures, c .before .before .before .before .generated-insert .ensures)
-    (sym (insert-sent _ _ _ (p .1) (p .0 .form) (visible (c .before .before .before .before .before .before .before .before)) (early (c .before .before .before .before .before)) (sym (free (c .before .before)) ∙ c .before .if3 .left)))
+returns-3 : tie.Need-returns-3
+returns-3 c =
+    let p = c .before .before .before .before .before .before .before .before .before .pre in
+    rw (c .send-placed .ensures, c .before .generated-insert .ensures)
+    (sym (insert-sent _ _ _ (p .1) (p .0 .form) (visible (c .before .before .before .before .before)) (early (c .before .before))))
 
 pub insert-visible-spec : {M : Type 1} → statement M
 insert-visible-spec =
@@ -90,8 +71,5 @@ insert-visible-spec =
     refused-requires-2
     returns-2
     generated-insert-requires
-    is-taken-requires
-    refused-requires-3
-    returns-3
     send-placed-requires
-    returns-4)
+    returns-3)

@@ -30,18 +30,18 @@ returns c =
     let p = c .before .before .before .before .before .before .before .pre in
     c .refused .ensures ∙ sym (send-full _ _ (p .0) _ (p .1 .1) (sym (tested (c .before .before)) ∙ c .before .if1 .taken))
 
+heard-requires : tie.Need-heard-requires
+heard-requires c κs = search needs
+
 integrate-and-drain-requires : tie.Need-integrate-and-drain-requires
 integrate-and-drain-requires c κs =
     let p = c .before .before .before .before .before .before .before .pre in
     send-placed _ _ (p .0) _ (p .1 .1) (sym (tested (c .before .before)) ∙ c .before .if1 .left)
 
-add-t16 : tie.Need-add-t16
-add-t16 c = search needs
-
 returns-2 : tie.Need-returns-2
 returns-2 c =
-    let p = c .before .before .before .before .before .before .before .before .before .before .pre in
-    send-done _ _ (p .0) _ (p .1 .1) (sym (tested (c .before .before .before .before .before)) ∙ c .before .before .before .before .if1 .left) _ (c .before .before .integrate-and-drain .ensures)
+    let p = c .before .before .before .before .before .before .before .before .before .pre in
+    send-done _ _ (p .0) _ (p .1 .1) (sym (tested (c .before .before .before .before)) ∙ c .before .before .before .if1 .left) _ _ (c .before .integrate-and-drain .ensures) (c .before .before .heard .ensures)
 
 pub send-spec : {M : Type 1} → statement M
 send-spec =
@@ -50,6 +50,6 @@ send-spec =
     document-full-requires
     refused-requires
     returns
+    heard-requires
     integrate-and-drain-requires
-    add-t16
     returns-2)

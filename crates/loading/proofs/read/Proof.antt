@@ -9,6 +9,7 @@ use Rattle.lines.specs.Lines.{lines}
 use Rattle.saved.specs.declared.LoadAnswer.the-variants.{Done, Refused}
 use Rattle.saved.specs.declared.Loaded.{Loaded}
 use Rattle.saved.specs.Calls.{unread, savedRead}
+use Rattle.clock.specs.Raising.{raisedReplica}
 use Rattle.saved_lines.specs.Judging.{siteRead}
 use Rattle.loading.specs.Reading.{replicaOf}
 use Rattle.loading.proofs.Loading.{no-first, skip-fits, no-later, out-of-range, all-read}
@@ -54,7 +55,7 @@ module _ (c : tie.After-read-operations) where
     out-operations e = out (fails-third (c .before .before .before .before .before .before .read-site .result .judged .«in_range») (c .before .before .read-characters .result .«in_range») (c .read-operations .result .«in_range») e)
 
     inside : c .before .before .before .before .before .before .read-site .result .judged .«in_range» ≡ true → c .before .before .read-characters .result .«in_range» ≡ true → c .read-operations .result .«in_range» ≡ true
-        → _≡_ {A = Loaded} (record { answer = Done; replica = replicaOf (c .before .before .before .before .before .before .read-site .result .site) (c .before .before .read-characters .result) (c .read-operations .result) }) (savedRead (c .before .before .before .before .before .before .before .before .before .args .bytes .now))
+        → _≡_ {A = Loaded} (record { answer = Done; replica = raisedReplica (replicaOf (c .before .before .before .before .before .before .read-site .result .site) (c .before .before .read-characters .result) (c .read-operations .result)) }) (savedRead (c .before .before .before .before .before .before .before .before .before .args .bytes .now))
     inside e₁ e₂ e₃ =
         all-read _ _ (first-read (c .before .before .before .before .before .before)) (not-false _ (c .before .before .before .before .if1 .left)) (c .before .before .before .rest .ensures) _ (c .before .before .read-characters .ensures) _ (c .before .skip .ensures) _ (c .read-operations .ensures) l e₁ e₂ e₃
 
@@ -109,8 +110,11 @@ returns-5 c = c .refuse5 .ensures ∙ out-operations (c .before .before .before 
 assemble-requires : tie.Need-assemble-requires
 assemble-requires c κs = search needs
 
+raised-requires : tie.Need-raised-requires
+raised-requires c κs = search needs
+
 returns-6 : tie.Need-returns-6
-returns-6 c = (λ j. record { answer = Done; replica = c .assemble .ensures j }) ∙ inside (c .before .before .before .before .before .before .before .before .before .before) (not-false _ (c .before .before .before .before .before .before .before .before .if2 .left)) (not-false _ (c .before .before .before .before .before .before .if3 .left)) (not-false _ (c .before .before .before .before .if4 .left)) (not-false _ (c .before .before .if5 .left))
+returns-6 c = (λ j. record { answer = Done; replica = (c .raised .ensures ∙ ap raisedReplica (c .before .assemble .ensures)) j }) ∙ inside (c .before .before .before .before .before .before .before .before .before .before .before) (not-false _ (c .before .before .before .before .before .before .before .before .before .if2 .left)) (not-false _ (c .before .before .before .before .before .before .before .if3 .left)) (not-false _ (c .before .before .before .before .before .if4 .left)) (not-false _ (c .before .before .before .if5 .left))
 
 pub read-spec : {M : Type 1} → statement M
 read-spec =
@@ -133,4 +137,5 @@ read-spec =
     refuse-requires-5
     returns-5
     assemble-requires
+    raised-requires
     returns-6)

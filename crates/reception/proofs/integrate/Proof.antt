@@ -26,6 +26,9 @@ returns c =
     let p = c .before .before .before .before .before .before .before .pre in
     c .refused .ensures ∙ sym (insert-full _ _ (p .0) _ (p .1 .1) (sym (filled (c .before .before)) ∙ c .before .if1 .taken))
 
+heard-requires : tie.Need-heard-requires
+heard-requires c κs = search needs
+
 integrate-and-drain-requires : tie.Need-integrate-and-drain-requires
 integrate-and-drain-requires c κs =
     let p = c .before .before .before .before .before .before .before .pre in
@@ -34,8 +37,8 @@ integrate-and-drain-requires c κs =
 returns-2 : tie.Need-returns-2
 returns-2 c =
     let p = c .before .before .before .before .before .before .before .before .before .pre in
-    insert-done _ _ (p .0) _ (p .1 .1) (sym (filled (c .before .before .before .before)) ∙ c .before .before .before .if1 .left) _ (c .before .integrate-and-drain .ensures)
+    insert-done _ _ (p .0) _ (p .1 .1) (sym (filled (c .before .before .before .before)) ∙ c .before .before .before .if1 .left) _ _ (c .before .integrate-and-drain .ensures) (c .before .before .heard .ensures)
 
 pub integrate-spec : {M : Type 1} → statement M
 integrate-spec =
-    tie.close (tie.spec is-full-requires refused-requires returns integrate-and-drain-requires returns-2)
+    tie.close (tie.spec is-full-requires refused-requires returns heard-requires integrate-and-drain-requires returns-2)

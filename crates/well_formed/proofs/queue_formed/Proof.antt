@@ -1,6 +1,8 @@
--- `well_formed::queue_formed` lends the parts in use.
+-- `well_formed::queue_formed` lends the parts in use, and makes its tests one after the other.
 use native.Mathlib.Omega.{arith}
 use lib.ListN.{length-take}
+use borrow.Author.Needs.{needs}
+use Rattle.lists.proofs.Tests.{refused, passed}
 use Rattle.well_formed.proofs.queue_formed.Statement.{statement}
 use Rattle.well_formed.proofs.queue_formed.Tie as tie
 
@@ -25,7 +27,28 @@ pending-formed-requires c κs =
     (s .pre .1 .1 .1 .1 .1, (simp length-take (omega arith), (simp length-take (omega arith), simp length-take (omega arith))))
 
 returns : tie.Need-returns
-returns c = c .pending-formed .ensures
+returns c = rw (refused (c .before .pending-formed .ensures) (c .if1 .taken))
+
+slice-aggregate-reaches-all : tie.Need-slice-aggregate-reaches-all
+slice-aggregate-reaches-all c = simp length-take (omega arith)
+
+reaches-all-requires : tie.Need-reaches-all-requires
+reaches-all-requires c κs = search needs
+
+returns-2 : tie.Need-returns-2
+returns-2 c =
+    rw (passed (c .before .before .before .before .pending-formed .ensures) (c .before .before .before .if1 .left), refused (c .before .reaches-all .ensures) (c .if2 .taken))
+
+slice-aggregate-reaches-all-2 : tie.Need-slice-aggregate-reaches-all-2
+slice-aggregate-reaches-all-2 c = simp length-take (omega arith)
+
+reaches-all-requires-2 : tie.Need-reaches-all-requires-2
+reaches-all-requires-2 c κs = search needs
+
+returns-3 : tie.Need-returns-3
+returns-3 c =
+    rw (passed (c .before .before .before .before .before .before .pending-formed .ensures) (c .before .before .before .before .before .if1 .left), passed (c .before .before .before .reaches-all .ensures) (c .before .before .if2 .left))
+    (c .reaches-all2 .ensures)
 
 pub queue-formed-spec : {M : Type 1} → statement M
 queue-formed-spec =
@@ -37,4 +60,10 @@ queue-formed-spec =
     slice-aggregate-pending-formed-4
     slice-aggregate-pending-formed-5
     pending-formed-requires
-    returns)
+    returns
+    slice-aggregate-reaches-all
+    reaches-all-requires
+    returns-2
+    slice-aggregate-reaches-all-2
+    reaches-all-requires-2
+    returns-3)
