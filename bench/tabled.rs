@@ -10,6 +10,7 @@ const SHARE: usize = 32;
 
 pub struct Tabled {
     laptop: u8,
+    clock: u16,
     rows: Vec<Row>,
     waiting: Vec<Operation>,
     heads: [u16; CHAINS],
@@ -62,7 +63,7 @@ fn insert_of(o: &Operation) -> Option<&Insert> {
 impl Tabled {
     pub fn empty(laptop: u8) -> Tabled {
         let rows = Vec::with_capacity(ROWS);
-        Tabled { laptop, rows, waiting: Vec::new(), heads: [0; CHAINS], links: [0; ROWS] }
+        Tabled { laptop, clock: 0, rows, waiting: Vec::new(), heads: [0; CHAINS], links: [0; ROWS] }
     }
 
     fn row(&self, id: Id) -> Option<usize> {
@@ -99,8 +100,20 @@ impl Tabled {
         self.rows.len() + self.waiting.iter().filter_map(insert_of).count()
     }
 
+    /// The clock is not below an identifier that has the laptop's own number.
+    fn reaches(&self, id: Id) -> bool {
+        id.laptop != self.laptop || id.clock <= self.clock
+    }
+
+    fn hear(&mut self, i: &Insert) {
+        if !self.reaches(i.id) {
+            self.clock = i.id.clock;
+        }
+    }
+
     fn row_in_form(&self, k: usize, i: &Insert) -> bool {
         insert_passes(i)
+            && self.reaches(i.id)
             && self.row(i.id) == Some(k)
             && matches!(self.place(i.previous), Some(p) if p <= k)
             && matches!(self.place(i.next), Some(n) if k + 1 < n)
@@ -116,13 +129,15 @@ impl Tabled {
         let mut from = [0; 256];
         for (k, o) in self.waiting.iter().enumerate() {
             let before = &self.waiting[..k];
-            let twice = match o {
+            let faulty = match o {
                 Operation::Insert(i) => {
-                    self.row(i.id).is_some() || before.iter().filter_map(insert_of).any(|j| j.id == i.id)
+                    !self.reaches(i.id)
+                        || self.row(i.id).is_some()
+                        || before.iter().filter_map(insert_of).any(|j| j.id == i.id)
                 }
                 Operation::Erase(_) => before.contains(o),
             };
-            if !passes(o) || twice || self.has_all(o) {
+            if !passes(o) || faulty || self.has_all(o) {
                 return false;
             }
             from[sender(o) as usize] += 1;
@@ -159,6 +174,7 @@ impl Tabled {
     }
 
     fn put(&mut self, insert: Insert, k: usize) {
+        self.hear(&insert);
         self.rows.insert(k, Row { insert, shown: true });
         self.heads = [0; CHAINS];
         for (k, r) in self.rows.iter().enumerate() {
@@ -240,6 +256,9 @@ impl Tabled {
             }
             (false, _) => {
                 self.waiting.push(*o);
+                if let Some(i) = insert_of(o) {
+                    self.hear(i);
+                }
                 Reply::Waits
             }
         }

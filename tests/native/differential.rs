@@ -338,6 +338,15 @@ struct Tester {
     told: Duration,
 }
 
+/// Whether a call that does not type leaves another first line, which has the clock.
+fn raises(call: &Call, outcome: &Outcome) -> bool {
+    let first_line = |bytes: &[u8]| bytes.split(|b| *b == b'\n').next().map(<[u8]>::to_vec);
+    let (sheet, _) = call.inputs();
+    matches!(call, Call::Receive(..) | Call::Erase(..))
+        && !outcome.first.is_empty()
+        && first_line(&outcome.first) != first_line(sheet)
+}
+
 /// The parts of the number that a call returned.
 fn told(call: &Call, n: u64) -> String {
     let names = match call {
@@ -365,6 +374,9 @@ impl Tester {
     }
 
     fn note(&mut self, call: &Call, outcome: &Outcome) {
+        if raises(call, outcome) {
+            *self.met.entry((call.name(), "raising".into())).or_default() += 1;
+        }
         let word = match outcome.reply {
             Reply::Done { carried, thrown } => {
                 if carried > 1 {
@@ -505,6 +517,9 @@ impl Tester {
         let typing = 15 + self.random.below(20);
         for _ in 0..50 + self.random.below(350) {
             let k = self.random.below(count);
+            if self.random.one_in(120) {
+                self.set_up_anew(&mut laptops[k], &sent);
+            }
             let sheet = laptops[k].sheet.clone();
             let written = match self.random.below(100) {
                 n if n < typing => self.type_somewhere(&sheet),
@@ -528,6 +543,13 @@ impl Tester {
                 sent.push(line);
             }
         }
+    }
+
+    /// A laptop that lost its sheet begins with an empty one of its number, and all that was sent comes to it again.
+    fn set_up_anew(&mut self, laptop: &mut Laptop, sent: &[Vec<u8>]) {
+        let number = reference::read_sheet(&laptop.sheet).map_or(1, |sheet| sheet.laptop);
+        laptop.sheet = self.begin(number.into());
+        laptop.inbox = sent.to_vec();
     }
 
     /// Some line that is on its way, mostly an early one; it may come again, and comes again if it was turned away.
@@ -658,9 +680,9 @@ impl Tester {
 /// Every reply that each call can give, and waiting operations carried and thrown out.
 const TO_MEET: [(&str, &str); 6] = [
     ("empty", "done 2 12"),
-    ("receive", "done waits known releasing throwing 1 2 3 7 8 9 10 11 12"),
-    ("type", "done releasing throwing 1 2 3 4 5 6 9 11 12"),
-    ("erase", "done 1 2 3 4 12"),
+    ("receive", "done waits known releasing throwing raising 1 2 3 7 8 9 10 11 12"),
+    ("type", "done releasing throwing 1 2 3 4 5 9 11 12"),
+    ("erase", "done raising 1 2 3 4 12"),
     ("text", "done 1 2 3 12"),
     ("counts", "done 1 2 3"),
 ];

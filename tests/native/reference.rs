@@ -143,6 +143,28 @@ impl Sheet {
         self.rows.len() + self.waiting_inserts().count()
     }
 
+    /// The clock becomes the larger of itself and that of an insert with the laptop's own number (Req 04).
+    fn hear(&mut self, i: &Insert) {
+        if i.id.laptop == self.laptop && i.id.clock > self.clock {
+            self.clock = i.id.clock;
+        }
+    }
+
+    /// The same over the rows and the waiting inserts, as loading does.
+    fn hear_all(&mut self) {
+        let held: Vec<Insert> = self.rows.iter().map(|r| r.insert).collect();
+        let waiting: Vec<Insert> = self.waiting_inserts().copied().collect();
+        for i in held.iter().chain(&waiting) {
+            self.hear(i);
+        }
+    }
+
+    /// The clock is not below that of any row or waiting insert that has the laptop's own number.
+    fn clock_kept(&self) -> bool {
+        let mut all = self.rows.iter().map(|r| r.insert.id).chain(self.waiting_inserts().map(|i| i.id));
+        !all.any(|id| id.laptop == self.laptop && id.clock > self.clock)
+    }
+
     fn identifier_used(&self, id: Id) -> bool {
         self.rows.iter().any(|r| r.insert.id == id) || self.waiting_inserts().any(|i| i.id == id)
     }
@@ -152,6 +174,9 @@ impl Sheet {
             return false;
         }
         if !self.waiting.iter().all(|o| o.passes()) || self.inserts() > MOST_ROWS {
+            return false;
+        }
+        if !self.clock_kept() {
             return false;
         }
         for laptop in 1..=16 {
@@ -230,6 +255,7 @@ impl Sheet {
     /// Puts the row in, and carries out what that releases.
     fn carry_insert(&mut self, i: Insert, k: usize) -> Reply {
         self.rows.insert(k, Row { insert: i, shown: true });
+        self.hear(&i);
         let (mut carried, mut thrown) = (1, 0);
         while let Some(j) = self.waiting.iter().position(|o| self.has_all(o)) {
             match self.waiting.remove(j) {
@@ -240,6 +266,7 @@ impl Sheet {
                 Operation::Insert(i) => match self.find_place(&i) {
                     Ok(k) => {
                         self.rows.insert(k, Row { insert: i, shown: true });
+                        self.hear(&i);
                         carried += 1;
                     }
                     Err(_) => thrown += 1,
@@ -294,6 +321,9 @@ impl Sheet {
             }
             (false, _) => {
                 self.waiting.push(*o);
+                if let Operation::Insert(i) = o {
+                    self.hear(i);
+                }
                 Reply::Waits
             }
         }
@@ -438,7 +468,7 @@ pub fn operation_line(o: &Operation) -> Vec<u8> {
     line.into_bytes()
 }
 
-/// A saved sheet: refusals 1, 2 and 3 over the whole of it, in this order.
+/// A saved sheet: refusals 1, 2 and 3 over the whole of it, in this order. Loading raises a clock that is too low.
 pub fn read_sheet(bytes: &[u8]) -> Result<Sheet, u8> {
     if bytes.last() != Some(&b'\n') {
         return Err(1);
@@ -470,6 +500,7 @@ pub fn read_sheet(bytes: &[u8]) -> Result<Sheet, u8> {
     if !passes {
         return Err(2);
     }
+    sheet.hear_all();
     if !sheet.in_form() {
         return Err(3);
     }
