@@ -13,6 +13,9 @@
  * An acknowledgement is the line itself, sent back. (If lines were numbered for this, they would be numbered anew after
  * a crash, and a late acknowledgement be taken for that of another line.)
  *
+ * (A laptop that lost its sheet and keeps its number is opened by anew.h, and sends acknowledgements alone until it has
+ * all.)
+ *
  * The laptops are 1 to some count, at most 16, and share out the sheet's 1,024 characters evenly. Include this file
  * before any other, in one file of a program.
  */
@@ -32,7 +35,7 @@
 #include <string.h>
 #include <unistd.h>
 
-/* A line that this laptop made, until every other laptop has acknowledged it. */
+/* A line to be sent, until every laptop that it is for has acknowledged it. */
 struct letter {
     uint8_t line[WIMTAZE_LINE_MAX];
     size_t length;
@@ -49,7 +52,7 @@ struct laptop {
     uint8_t sheet[WIMTAZE_SHEET_MAX], after[WIMTAZE_SHEET_MAX];
     size_t length;
     int saved; /* whether the file has this sheet */
-    char file[LAPTOP_PATH], new_file[LAPTOP_PATH], lock_file[LAPTOP_PATH];
+    char file[LAPTOP_PATH], new_file[LAPTOP_PATH], anew_file[LAPTOP_PATH], lock_file[LAPTOP_PATH];
     int directory, lock;
 
     struct letter *outbox; /* the oldest first */
@@ -57,6 +60,11 @@ struct laptop {
 
     struct letter held[LAPTOP_HELD]; /* lines that were refused with 10 */
     size_t held_count;
+
+    /* See anew.h. */
+    uint64_t anew;                          /* opened anew under this number; else 0 */
+    uint32_t awaited;                       /* bit n is set as long as laptop n has not told it that it has all */
+    uint64_t asked[WIMTAZE_LAPTOP_MAX + 1]; /* the numbers under which others, opened anew, asked for everything */
 };
 
 /* Ends the program, since its disk or memory fails it: a laptop that cannot save must not send. */
@@ -93,9 +101,14 @@ static const uint8_t *laptop_first_row(const struct laptop *laptop)
     return laptop_row_after(laptop, laptop->sheet);
 }
 
-/* How many characters this laptop may still type: what is left of its share, if the sheet can take so many. */
+/*
+ * How many characters this laptop may still type: what is left of its share, if the sheet can take so many; none as
+ * long as some of its own characters may not have come back.
+ */
 static unsigned laptop_room(const struct laptop *laptop)
 {
+    if (laptop->awaited != 0)
+        return 0;
     unsigned room = wimtaze_room(wimtaze_counts(laptop->sheet, laptop->length));
     unsigned share = WIMTAZE_CHARACTER_MAX / laptop->count, typed = laptop_field(laptop->sheet, 2);
     unsigned left = typed < share ? share - typed : 0;
@@ -104,8 +117,13 @@ static unsigned laptop_room(const struct laptop *laptop)
 
 /* ---- the outbox */
 
-static void laptop_post(struct laptop *laptop, const void *line, size_t length)
+static void laptop_post(struct laptop *laptop, const void *line, size_t length, uint32_t to)
 {
+    for (size_t k = 0; k < laptop->outbox_count; k++)
+        if (laptop->outbox[k].length == length && memcmp(laptop->outbox[k].line, line, length) == 0) {
+            laptop->outbox[k].missing |= to;
+            return;
+        }
     if (laptop->outbox_count == laptop->outbox_room) {
         laptop->outbox_room = laptop->outbox_room == 0 ? 64 : 2 * laptop->outbox_room;
         laptop->outbox = realloc(laptop->outbox, laptop->outbox_room * sizeof *laptop->outbox);
@@ -115,26 +133,38 @@ static void laptop_post(struct laptop *laptop, const void *line, size_t length)
     struct letter *letter = &laptop->outbox[laptop->outbox_count++];
     memcpy(letter->line, line, length);
     letter->length = length;
-    letter->missing = (2u << laptop->count) - 2 - (1u << laptop->number);
+    letter->missing = to;
     letter->due = 0;
 }
 
-/* Makes the lines anew that some laptop may lack: those of its own characters, and of every erased one. */
-static void laptop_fill_outbox(struct laptop *laptop)
+/* The other laptops, a bit for each. */
+static uint32_t laptop_others(const struct laptop *laptop)
+{
+    return (2u << laptop->count) - 2 - (1u << laptop->number);
+}
+
+/* Makes the lines of the sheet's characters again: of its own or of all, and of every erased one. */
+static void laptop_post_rows(struct laptop *laptop, int all, uint32_t to)
 {
     for (const uint8_t *row = laptop_first_row(laptop); row != NULL; row = laptop_row_after(laptop, row)) {
         char line[WIMTAZE_LINE_MAX + 1];
         unsigned by = laptop_field(row, 1), clock = laptop_field(row, 2);
-        if (by == laptop->number) {
+        if (all || by == laptop->number) {
             int n = sprintf(line, "I\t%u\t%u\t%u\t%u\t%u\t%u\t%u\n", by, clock, laptop_field(row, 3),
                             laptop_field(row, 5), laptop_field(row, 6), laptop_field(row, 7), laptop_field(row, 8));
-            laptop_post(laptop, line, (size_t)n);
+            laptop_post(laptop, line, (size_t)n, to);
         }
         if (laptop_field(row, 4) == 0) {
             int n = sprintf(line, "D\t%u\t%u\t%u\n", laptop->number, by, clock);
-            laptop_post(laptop, line, (size_t)n);
+            laptop_post(laptop, line, (size_t)n, to);
         }
     }
+}
+
+/* The lines that some laptop may lack after a crash. */
+static void laptop_fill_outbox(struct laptop *laptop)
+{
+    laptop_post_rows(laptop, 0, laptop_others(laptop));
 }
 
 /* Takes in that laptop `from` has acknowledged a line. */
@@ -164,10 +194,13 @@ static void laptop_keep(struct laptop *laptop, uint64_t reply)
     }
 }
 
-/* Brings the sheet to the disk, whole or not at all: to a new file, which then takes the old one's name. */
+/*
+ * Brings the sheet to the disk, whole or not at all: to a new file, which then takes the old one's name. The sheet of a
+ * laptop that was opened anew is no sheet to go on from until it has all.
+ */
 static void laptop_save(struct laptop *laptop)
 {
-    if (laptop->saved)
+    if (laptop->saved || laptop->awaited != 0)
         return;
     FILE *file = fopen(laptop->new_file, "wb");
     if (file == NULL || fwrite(laptop->sheet, 1, laptop->length, file) != laptop->length || fflush(file) != 0 ||
@@ -177,7 +210,7 @@ static void laptop_save(struct laptop *laptop)
     laptop->saved = 1;
 }
 
-/* Types a character; refused with 11 also at the end of the laptop's share. */
+/* Types a character; refused with 11 also at the end of the laptop's share, and as long as it awaits others. */
 static enum wimtaze_refusals laptop_type(struct laptop *laptop, uint64_t gap, uint32_t code_point)
 {
     uint8_t line[WIMTAZE_LINE_MAX];
@@ -187,18 +220,21 @@ static enum wimtaze_refusals laptop_type(struct laptop *laptop, uint64_t gap, ui
                                   line, sizeof line);
     laptop_keep(laptop, reply);
     if (wimtaze_word(reply) == WIMTAZE_DONE)
-        laptop_post(laptop, line, wimtaze_line_written(reply));
+        laptop_post(laptop, line, wimtaze_line_written(reply), laptop_others(laptop));
     return wimtaze_refusal(reply);
 }
 
+/* Erases a character; refused with 4 also as long as the laptop awaits others. */
 static enum wimtaze_refusals laptop_erase(struct laptop *laptop, uint64_t place)
 {
     uint8_t line[WIMTAZE_LINE_MAX];
+    if (laptop->awaited != 0)
+        return WIMTAZE_REFUSAL_POSITION;
     uint64_t reply = wimtaze_erase(laptop->sheet, laptop->length, place, laptop->after, sizeof laptop->after, line,
                                    sizeof line);
     laptop_keep(laptop, reply);
     if (wimtaze_word(reply) == WIMTAZE_DONE)
-        laptop_post(laptop, line, wimtaze_line_written(reply));
+        laptop_post(laptop, line, wimtaze_line_written(reply), laptop_others(laptop));
     return wimtaze_refusal(reply);
 }
 
@@ -270,15 +306,24 @@ static void laptop_lock(struct laptop *laptop)
         laptop_die(laptop->lock_file);
 }
 
+static void laptop_begin(struct laptop *laptop)
+{
+    laptop_keep(laptop, wimtaze_empty(laptop->number, laptop->after, sizeof laptop->after));
+    laptop_save(laptop);
+}
+
 /* Goes on from the file. Where there is none yet, and not where one was lost, it begins an empty sheet. */
 static void laptop_load(struct laptop *laptop)
 {
+    if (access(laptop->anew_file, F_OK) == 0) {
+        fprintf(stderr, "%s: this laptop was opened anew and does not have all yet\n", laptop->anew_file);
+        exit(EXIT_FAILURE);
+    }
     FILE *file = fopen(laptop->file, "rb");
     if (file == NULL && errno != ENOENT)
         laptop_die(laptop->file);
     if (file == NULL) {
-        laptop_keep(laptop, wimtaze_empty(laptop->number, laptop->after, sizeof laptop->after));
-        laptop_save(laptop);
+        laptop_begin(laptop);
         return;
     }
     laptop->length = fread(laptop->sheet, 1, sizeof laptop->sheet, file);
@@ -301,19 +346,26 @@ static void laptop_path(char *path, const char *directory, unsigned number, cons
     }
 }
 
-/* Opens laptop `number` of `count`, whose sheet is the file "laptop-<number>" of the directory. */
-static void laptop_open(struct laptop *laptop, const char *directory, unsigned number, unsigned count)
+/* Everything about laptop `number` of `count` but its sheet. */
+static void laptop_prepare(struct laptop *laptop, const char *directory, unsigned number, unsigned count)
 {
     memset(laptop, 0, sizeof *laptop);
     laptop->number = number;
     laptop->count = count;
     laptop_path(laptop->file, directory, number, "");
     laptop_path(laptop->new_file, directory, number, ".new");
+    laptop_path(laptop->anew_file, directory, number, ".anew");
     laptop_path(laptop->lock_file, directory, number, ".lock");
     laptop->directory = open(directory, O_RDONLY);
     if (laptop->directory < 0)
         laptop_die(directory);
     laptop_lock(laptop);
+}
+
+/* Opens laptop `number` of `count`, whose sheet is the file "laptop-<number>" of the directory. */
+static void laptop_open(struct laptop *laptop, const char *directory, unsigned number, unsigned count)
+{
+    laptop_prepare(laptop, directory, number, count);
     laptop_load(laptop);
 }
 

@@ -3,14 +3,16 @@
  * for its sheet, and types a note, with slips in it that any of them erases. They talk by UDP datagrams on the loopback
  * interface, all through one relay. It loses one in five, delivers one in eight twice, and holds each back for some
  * time, so that they overtake each other. For a while it cuts laptops 13 to 16 off from the others; in that time laptop
- * 5 is killed, and started again from its file. At the end the sixteen files must show the same text.
+ * 5 is killed, and started again from its file, and laptop 9 is killed, loses its file, and is set up anew under its
+ * number: the others send it everything, its own characters among it, and it types on. At the end the sixteen files
+ * must show the same text.
  *
  *     playing_hall [SECONDS [SEED]]     types for so long, 2 to 60 seconds; 20 if nothing is said
  *
  * The seed decides what chance has to decide; when each process gets its turn is up to the system. Nothing leaves the
  * machine: each socket has an address 127.0.0.1 and a port that the system picks.
  */
-#include "laptop.h"
+#include "anew.h"
 
 #include <arpa/inet.h>
 #include <netinet/in.h>
@@ -24,9 +26,10 @@ enum {
     LAPTOPS = 16,
     SECTION = 13,       /* the first laptop of the section that is cut off */
     KILLED = 5,         /* the laptop that is killed */
+    RENEWED = 9,        /* the laptop that loses its file too */
     EDITS = 30,         /* of a laptop in the time of the typing */
     RESEND = 200,       /* milliseconds until a line is sent again, */
-    RESEND_EACH = 30,   /* and so many more for each line in the outbox: with many, the others are busy or away */
+    RESEND_EACH = 30,   /* and so many more for each line that all others lack: with many, they are busy or away */
     BATCH = 64,         /* datagrams that a laptop takes in before it saves */
     ON_THE_WAY = 16384, /* datagrams that the relay can hold back; more are lost */
     PATIENCE = 60       /* seconds after the typing until the referee gives up */
@@ -44,7 +47,15 @@ static const char *const NOTES[LAPTOPS] = {
 };
 
 /* A datagram has three bytes, to whom, from whom and what it is, and then a line. Laptop 0 is the referee. */
-enum { LINE = 'L', ACKNOWLEDGEMENT = 'A', STATUS = 'S', HEADER = 3, DATAGRAM = 64 };
+enum {
+    LINE = 'L',
+    ACKNOWLEDGEMENT = 'A',
+    ASKING = '?', /* for everything, by a laptop that was opened anew: under which number stands for the line */
+    TOLD = '.',   /* that it has all, with the same number */
+    STATUS = 'S',
+    HEADER = 3,
+    DATAGRAM = 64
+};
 
 struct datagram {
     uint8_t bytes[DATAGRAM];
@@ -144,22 +155,47 @@ static size_t take_in(int net, struct datagram *due)
             continue;
         const uint8_t *line = bytes + HEADER;
         size_t length = (size_t)n - HEADER;
+        uint64_t anew = 0;
+        if (length == sizeof anew)
+            memcpy(&anew, line, sizeof anew);
         if (bytes[2] == ACKNOWLEDGEMENT)
             laptop_acknowledged(&laptop, bytes[1], line, length);
-        else if (wimtaze_word(laptop_receive(&laptop, line, length)) != WIMTAZE_REFUSED)
-            due[count++] = addressed(bytes[1], ACKNOWLEDGEMENT, line, length);
+        else if (bytes[2] == TOLD)
+            laptop_told(&laptop, bytes[1], anew);
+        else if (bytes[2] == ASKING ? laptop_asked(&laptop, bytes[1], anew)
+                                    : wimtaze_word(laptop_receive(&laptop, line, length)) != WIMTAZE_REFUSED)
+            due[count++] = addressed(bytes[1], bytes[2] == ASKING ? TOLD : ACKNOWLEDGEMENT, line, length);
     }
+    return count;
+}
+
+/* Asks the laptops that have not told it that it has all. */
+static void ask_again(int net)
+{
+    for (unsigned to = 1; to <= LAPTOPS; to++)
+        if (laptop.awaited >> to & 1)
+            send_datagram(net, addressed(to, ASKING, &laptop.anew, sizeof laptop.anew));
+}
+
+/* How many deliveries of lines to a laptop are not acknowledged. */
+static size_t missing(void)
+{
+    size_t count = 0;
+    for (size_t k = 0; k < laptop.outbox_count; k++)
+        for (uint32_t bits = laptop.outbox[k].missing; bits != 0; bits &= bits - 1)
+            count++;
     return count;
 }
 
 /* Sends the lines that are due to the laptops that have not acknowledged them. */
 static void send_outbox(int net, uint64_t now)
 {
+    uint64_t pause = RESEND + RESEND_EACH * missing() / (LAPTOPS - 1);
     for (size_t k = 0; k < laptop.outbox_count; k++) {
         struct letter *letter = &laptop.outbox[k];
         if (now < letter->due)
             continue;
-        letter->due = now + RESEND + RESEND_EACH * laptop.outbox_count;
+        letter->due = now + pause;
         for (unsigned to = 1; to <= LAPTOPS; to++)
             if (letter->missing >> to & 1)
                 send_datagram(net, addressed(to, LINE, letter->line, letter->length));
@@ -174,7 +210,7 @@ static void send_status(int net)
         .characters = wimtaze_character_count(counts),
         .waiting = wimtaze_waiting_count(counts),
         .unacknowledged = (uint32_t)laptop.outbox_count,
-        .finished = desk.typed == strlen(note) && desk.slip == 0 && laptop.outbox_count == 0,
+        .finished = desk.typed == strlen(note) && desk.slip == 0 && laptop.outbox_count == 0 && laptop.awaited == 0,
     };
     send_datagram(net, addressed(0, STATUS, &status, sizeof status));
 }
@@ -203,6 +239,7 @@ static void run_laptop(int net, int life, unsigned pace)
         if (now >= next_edit)
             next_edit = now + pace / 2 + below(pace);
         if (now >= next_status) {
+            ask_again(net);
             send_status(net);
             next_status = now + 200;
         }
@@ -229,6 +266,19 @@ static void hold_back(const struct datagram *datagram, uint64_t now)
     }
     on_the_way[on_the_way_count].until = now + (below(8) == 0 ? below(400) : below(60));
     on_the_way[on_the_way_count++].datagram = *datagram;
+}
+
+/* Forgets what a laptop has sent and is on its way, as a laptop that is set up anew under its number needs it. */
+static void forget(unsigned from)
+{
+    for (size_t k = 0; k < on_the_way_count;) {
+        if (on_the_way[k].datagram.bytes[1] != from) {
+            k++;
+            continue;
+        }
+        lost++;
+        on_the_way[k] = on_the_way[--on_the_way_count];
+    }
 }
 
 /* What becomes of a datagram from one laptop to another. */
@@ -331,7 +381,7 @@ struct hall {
     int life[2];
 };
 
-static void start_laptop(struct hall *hall, unsigned number, unsigned times_before)
+static void start_laptop(struct hall *hall, unsigned number, unsigned times_before, int anew)
 {
     fflush(stdout);
     hall->process[number] = fork();
@@ -348,12 +398,15 @@ static void start_laptop(struct hall *hall, unsigned number, unsigned times_befo
             close(nets[k]);
     chance = hall->seed * 1000 + number + times_before * LAPTOPS;
     note = NOTES[number - 1];
-    laptop_open(&laptop, hall->directory, number, LAPTOPS);
+    if (anew)
+        laptop_open_anew(&laptop, hall->directory, number, LAPTOPS, (uint64_t)time(NULL));
+    else
+        laptop_open(&laptop, hall->directory, number, LAPTOPS);
     run_laptop(nets[number], hall->life[0], hall->seconds * 1000 / EDITS);
     _exit(EXIT_SUCCESS);
 }
 
-/* What goes wrong at this time: when the section is cut off, and when laptop 5 is dead. */
+/* What goes wrong at this time: when the section is cut off, and when laptops 5 and 9 are dead. */
 static int is_cut(const struct hall *hall, uint64_t elapsed)
 {
     return elapsed >= hall->seconds * 200 && elapsed < hall->seconds * 700;
@@ -376,7 +429,7 @@ static void report(const struct hall *hall, uint64_t elapsed)
     }
     printf("%3u s %8u to %4u %8u %10u %11lu %8lu %8lu %8lu  %s%s\n", (unsigned)(elapsed / 1000), least, most, waiting,
            unacknowledged, passed, lost, doubled, cut, is_cut(hall, elapsed) ? "13 to 16 are cut off" : "",
-           is_dead(hall, elapsed) ? ", 5 is dead" : "");
+           is_dead(hall, elapsed) ? ", 5 and 9 are dead" : "");
     fflush(stdout);
 }
 
@@ -388,17 +441,24 @@ static int all_finished(const struct hall *hall)
     return 1;
 }
 
-static void kill_or_start(struct hall *hall, uint64_t elapsed)
+/* The file of laptop 9 is lost with it, and so is what it has sent: both are gone before it starts anew. */
+static void kill_or_start(struct hall *hall, unsigned number, uint64_t elapsed)
 {
-    pid_t *process = &hall->process[KILLED];
+    pid_t *process = &hall->process[number];
     if (is_dead(hall, elapsed) && *process != 0) {
         kill(*process, SIGKILL);
         waitpid(*process, NULL, 0);
         *process = 0;
-        hall->status[KILLED].finished = 0;
-    } else if (!is_dead(hall, elapsed) && *process == 0) {
-        start_laptop(hall, KILLED, 1);
+        hall->status[number].finished = 0;
     }
+    if (number == RENEWED && *process == 0) {
+        char path[LAPTOP_PATH];
+        laptop_path(path, hall->directory, RENEWED, "");
+        unlink(path);
+        forget(RENEWED);
+    }
+    if (!is_dead(hall, elapsed) && *process == 0)
+        start_laptop(hall, number, 1, number == RENEWED);
 }
 
 /* Whether every laptop came to its end before the time was up; each second a line on how far they are. */
@@ -410,7 +470,8 @@ static int run_hall(struct hall *hall)
         uint64_t now = milliseconds(), elapsed = now - hall->start;
         relay_all(hall->status, now, is_cut(hall, elapsed));
         deliver(now);
-        kill_or_start(hall, elapsed);
+        kill_or_start(hall, KILLED, elapsed);
+        kill_or_start(hall, RENEWED, elapsed);
         if (elapsed >= next_report) {
             report(hall, elapsed);
             next_report += 1000;
@@ -451,10 +512,10 @@ static int compare(const char *directory)
 
 static void remove_files(const char *directory)
 {
-    static const char *const kinds[] = {"", ".new", ".lock"};
-    for (unsigned k = 0; k < 3 * LAPTOPS; k++) {
+    static const char *const kinds[] = {"", ".new", ".anew", ".lock"};
+    for (unsigned k = 0; k < 4 * LAPTOPS; k++) {
         char path[LAPTOP_PATH];
-        laptop_path(path, directory, k / 3 + 1, kinds[k % 3]);
+        laptop_path(path, directory, k / 4 + 1, kinds[k % 4]);
         unlink(path);
     }
     rmdir(directory);
@@ -476,7 +537,7 @@ static int play(struct hall *hall)
     chance = hall->seed;
     hall->start = milliseconds();
     for (unsigned k = 1; k <= LAPTOPS; k++)
-        start_laptop(hall, k, 0);
+        start_laptop(hall, k, 0, 0);
     int in_time = run_hall(hall);
     close(hall->life[1]);
     for (unsigned k = 1; k <= LAPTOPS; k++)

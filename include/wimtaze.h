@@ -31,8 +31,11 @@
  * work. These rules are enough for it; without any one of them laptops can end with different texts for good.
  *
  *  1. One number for each laptop, 1 to 16, for the life of the sheet, and one running program on its file. A laptop
- *     whose sheet is lost or old never goes on under its number: it begins an empty sheet under one that nobody has
- *     had, and the others send it everything.
+ *     whose sheet is lost or old begins an empty sheet, and the others send it everything. It may keep its number,
+ *     since its clock follows its own characters as they come back, if nothing that it sent before, line or
+ *     acknowledgement, is on its way or held aside by rule 5 any more, and if, until it has all that every other laptop
+ *     holds, it types nothing and goes on from no file. Then it sends its own again, as after a crash. If it cannot
+ *     know that, it takes a number that nobody has had, and its old one is gone for good.
  *  2. Save before you send. The new sheet is on the disk (a new file, synced, renamed over the old one) before its line
  *     is sent, and before the line that it came from is acknowledged. A laptop that crashed goes on from its file.
  *  3. Keep each line that you made until every other laptop has acknowledged it. Until then send it again from time to
@@ -43,8 +46,9 @@
  *     carried out: keep it until then, or drop it and wait until its sender sends it again.
  *  6. Share out the room. A sheet holds 1,024 characters in its life, erased ones counted. If the laptops type more
  *     between them, each ends with its own 1,024. So agree beforehand how many each may type, 1,024 in all (64 each for
- *     sixteen laptops), and type no more. How many a laptop has typed is the clock in its saved sheet; how many its
- *     sheet can still take is wimtaze_room. When the room is used up, begin a new sheet on every laptop.
+ *     sixteen laptops), and type no more. How many a laptop has typed, and got back after it was set up anew, is the
+ *     clock in its saved sheet; how many its sheet can still take is wimtaze_room. When the room is used up, begin a
+ *     new sheet on every laptop.
  *  7. Let lines come unchanged, and only from laptops that you trust: they carry no checksum and no signature.
  *
  * What to do after a refusal:
@@ -54,9 +58,11 @@
  *         Typing, and 2: what was given is no code point.
  *   3     The file is damaged: rule 1.
  *   4     Typing, erasing: the text is shorter than you thought. It may change with every line that comes.
- *   5     Typing: this laptop has typed 65,535 characters. Rule 6 was broken.
- *   6, 7  Two laptops have one number, or one went on from an old sheet: rule 1 or 2 was broken. 6 tells it to that
- *         laptop, when it types, and 7 to the others, when its line comes; they never acknowledge it. The copies differ
+ *   5     Typing: this laptop has typed 65,535 characters, or a line with its number and that clock came. Rule 6 or 7
+ *         was broken.
+ *   6     Reserved. No call answers it.
+ *   7     Two laptops have one number, or one went on from an old sheet, or typed before it had its own characters
+ *         back: rule 1 or 2 was broken. It is told when the line comes, which is never acknowledged. The copies differ
  *         for good: tell a person, and begin a new sheet on every laptop.
  *   8     Receiving: never between laptops that keep the rules. Otherwise as 7.
  *   9     Receiving, typing: never on a sheet that began empty. Otherwise as 7.
@@ -66,7 +72,8 @@
  *   12    The output is too short. With the sizes below it never is.
  *
  * If wimtaze_thrown is not 0, an edit that waited has met 8 or 9. The file laptop.h, which is installed with the
- * examples, keeps all these rules and can be copied; playing_hall.c there runs sixteen such laptops over a bad network.
+ * examples, keeps all these rules and can be copied, with anew.h for a laptop that lost its sheet; playing_hall.c there
+ * runs sixteen such laptops over a bad network.
  *
  *
  * The layouts
@@ -86,7 +93,8 @@
  * A character's laptop and clock are its identifier: the laptop that typed it, and how many that laptop had typed then,
  * this one counted. Prev and next are the identifiers of the two that it was typed between; 0 0 is the beginning of the
  * text and 0 1 its end. Shown is 1, or 0 once the character is erased. Laptops are 1 to 16, clocks 1 to 65,535 (after S
- * from 0), and code points 0 to 1,114,111 without 55,296 to 57,343.
+ * from 0), and code points 0 to 1,114,111 without 55,296 to 57,343. A clock after S that is below that of one of the
+ * laptop's own characters on the sheet, waiting ones among them, is taken as that one's.
  *
  * The lines can be made again from a sheet. A C line without its shown and with I for C is the line of that character.
  * Where shown is 0, D with your own number and the character's laptop and clock is a line that erases it. So a laptop
@@ -121,9 +129,9 @@ extern "C" {
 #endif
 
 /* The version of this header and of the library that it came with. */
-#define WIMTAZE_VERSION "0.3.0"
+#define WIMTAZE_VERSION "0.4.0"
 #define WIMTAZE_VERSION_MAJOR 0
-#define WIMTAZE_VERSION_MINOR 3
+#define WIMTAZE_VERSION_MINOR 4
 #define WIMTAZE_VERSION_PATCH 0
 
 /* The limits of a sheet. */
@@ -160,7 +168,7 @@ enum wimtaze_refusals {
     WIMTAZE_REFUSAL_FORM = 3,           /* the saved sheet contradicts itself: the library never writes such a one */
     WIMTAZE_REFUSAL_POSITION = 4,       /* no such gap or place: above the count of shown characters, or place 0 */
     WIMTAZE_REFUSAL_CLOCK = 5,          /* the laptop's clock is 65,535: it can type no more */
-    WIMTAZE_REFUSAL_TAKEN = 6,          /* the sheet has the identifier about to be typed (an old sheet put back?) */
+    WIMTAZE_REFUSAL_TAKEN = 6,          /* reserved: the clock follows the laptop's own characters; never answered */
     WIMTAZE_REFUSAL_CONFLICT = 7,       /* the insert's identifier stands for another insert on the sheet */
     WIMTAZE_REFUSAL_CROSSED = 8,        /* the insert's two neighbours stand in the other order on the sheet */
     WIMTAZE_REFUSAL_UNPLACEABLE = 9,    /* the sheet gives the insert no place between its neighbours */
@@ -186,7 +194,7 @@ uint64_t wimtaze_receive(const uint8_t *sheet, size_t sheet_length, const uint8_
 /*
  * Types one character, given as its Unicode code point, and writes the new sheet and the line to send.
  * The gap is the count of shown characters above it: 0 puts it first.
- * Refusals: 1, 2, 3, 4, 5, 6, 9, 11, 12 (if either output is short, neither is written).
+ * Refusals: 1, 2, 3, 4, 5, 9, 11, 12 (if either output is short, neither is written).
  */
 uint64_t wimtaze_type(const uint8_t *sheet, size_t sheet_length, uint64_t gap, uint32_t code_point, uint8_t *sheet_out,
                       size_t sheet_out_length, uint8_t *line_out, size_t line_out_length);
