@@ -13,8 +13,8 @@
  * An acknowledgement is the line itself, sent back. (If lines were numbered for this, they would be numbered anew after
  * a crash, and a late acknowledgement be taken for that of another line.)
  *
- * (A laptop that lost its sheet and keeps its number is opened by anew.h, and sends acknowledgements alone until it has
- * all.)
+ * (A laptop that lost its sheet and keeps its number is opened by anew.h. Until it has all it saves, types and erases
+ * nothing; if it ends before that, everything is sent to it again.)
  *
  * The laptops are 1 to some count, at most 16, and share out the sheet's 1,024 characters evenly. Include this file
  * before any other, in one file of a program.
@@ -161,10 +161,23 @@ static void laptop_post_rows(struct laptop *laptop, int all, uint32_t to)
     }
 }
 
+/* The same of the edits that wait, which are lines already: its own or all. */
+static void laptop_post_waiting(struct laptop *laptop, int all, uint32_t to)
+{
+    const uint8_t *end = laptop->sheet + laptop->length;
+    for (const uint8_t *line = laptop->sheet; line < end;) {
+        const uint8_t *next = (const uint8_t *)memchr(line, '\n', (size_t)(end - line)) + 1;
+        if ((*line == 'I' || *line == 'D') && (all || laptop_field(line, 1) == laptop->number))
+            laptop_post(laptop, line, (size_t)(next - line), to);
+        line = next;
+    }
+}
+
 /* The lines that some laptop may lack after a crash. */
 static void laptop_fill_outbox(struct laptop *laptop)
 {
     laptop_post_rows(laptop, 0, laptop_others(laptop));
+    laptop_post_waiting(laptop, 0, laptop_others(laptop));
 }
 
 /* Takes in that laptop `from` has acknowledged a line. */

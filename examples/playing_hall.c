@@ -441,7 +441,10 @@ static int all_finished(const struct hall *hall)
     return 1;
 }
 
-/* The file of laptop 9 is lost with it, and so is what it has sent: both are gone before it starts anew. */
+/*
+ * The file of laptop 9 is lost with it, and so is what the relay holds of it. What lies in another's socket already is
+ * read there before 9 asks.
+ */
 static void kill_or_start(struct hall *hall, unsigned number, uint64_t elapsed)
 {
     pid_t *process = &hall->process[number];
@@ -545,7 +548,7 @@ static int play(struct hall *hall)
             waitpid(hall->process[k], NULL, 0);
     if (!in_time)
         puts("interrupted, or a laptop ended, or not every line was delivered in time");
-    return !interrupted && compare(hall->directory) && in_time;
+    return !interrupted && in_time && compare(hall->directory);
 }
 
 int main(int argc, char **argv)

@@ -34,16 +34,18 @@
  *     whose sheet is lost or old begins an empty sheet, and the others send it everything. It may keep its number,
  *     since its clock follows its own characters as they come back, if nothing that it sent before, line or
  *     acknowledgement, is on its way or held aside by rule 5 any more, and if, until it has all that every other laptop
- *     holds, it types nothing and goes on from no file. Then it sends its own again, as after a crash. If it cannot
- *     know that, it takes a number that nobody has had, and its old one is gone for good.
+ *     holds, it types nothing and goes on from no file. Then it sends its own again, as after a crash, those that wait
+ *     on its sheet among them. If it cannot know that, or never gets all (more than 32 of its own wait for one that was
+ *     lost), it takes a number that nobody has had, and its old one is gone for good.
  *  2. Save before you send. The new sheet is on the disk (a new file, synced, renamed over the old one) before its line
  *     is sent, and before the line that it came from is acknowledged. A laptop that crashed goes on from its file.
  *  3. Keep each line that you made until every other laptop has acknowledged it. Until then send it again from time to
  *     time, the oldest first. After a crash, make the lines again from the saved sheet: see the layouts. If a laptop is
  *     gone for good, the others send each other everything.
  *  4. Acknowledge a line only when wimtaze_receive answered done, waits or known: then the sheet has it.
- *  5. A line refused with 10 comes in later. Do not acknowledge it. Hand the same line over again after something was
- *     carried out: keep it until then, or drop it and wait until its sender sends it again.
+ *  5. A line refused with 10 comes in later, unless what it waits for was lost with a sheet. Do not acknowledge it.
+ *     Hand the same line over again after something was carried out: keep it until then, or drop it and wait until its
+ *     sender sends it again.
  *  6. Share out the room. A sheet holds 1,024 characters in its life, erased ones counted. If the laptops type more
  *     between them, each ends with its own 1,024. So agree beforehand how many each may type, 1,024 in all (64 each for
  *     sixteen laptops), and type no more. How many a laptop has typed, and got back after it was set up anew, is the
