@@ -483,6 +483,23 @@ static void clock_follows(void)
     CHECK(refused(type(0, 'x'), WIMTAZE_REFUSAL_CLOCK));
 }
 
+/* Nor does an own insert that is refused for want of room. */
+static void clock_stays(void)
+{
+    char line[64];
+    load("S 2 0\n");
+    for (int k = 1; k <= 32; k++) {
+        sprintf(line, "D 2 9 %d\n", k);
+        append(line);
+    }
+    CHECK(refused(receive("I 2 99 65 9 9 0 1\n"), WIMTAZE_REFUSAL_SENDER_FULL));
+    CHECK(line_is(type(0, 'x'), "I 2 1 120 0 0 0 1\n"));
+    load_rows(1024);
+    CHECK(refused(receive("I 4 9 98 0 0 0 1\n"), WIMTAZE_REFUSAL_DOCUMENT_FULL));
+    CHECK(done(erase(1), 1, 0));
+    CHECK(memcmp(sheet, "S\t4\t0\n", 6) == 0);
+}
+
 /* A saved clock that is too low is raised by loading, which shows only where a sheet is written. */
 static void clock_raised(void)
 {
@@ -858,6 +875,7 @@ static const struct {
     {"clocks 65,534 and 65,535", clocks},
     {"Req 04: a laptop set up anew", set_up_anew},
     {"Req 04: what raises the clock", clock_follows},
+    {"Req 04: a refusal raises no clock", clock_stays},
     {"Req 04: a saved clock that is too low", clock_raised},
     {"the hall's example", hall},
     {"what an insert releases", released},

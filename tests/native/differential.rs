@@ -550,6 +550,7 @@ impl Tester {
         let number = reference::read_sheet(&laptop.sheet).map_or(1, |sheet| sheet.laptop);
         laptop.sheet = self.begin(number.into());
         laptop.inbox = sent.to_vec();
+        *self.met.entry(("receive", "anew".into())).or_default() += 1;
     }
 
     /// Some line that is on its way, mostly an early one; it may come again, and comes again if it was turned away.
@@ -680,7 +681,7 @@ impl Tester {
 /// Every reply that each call can give, and waiting operations carried and thrown out.
 const TO_MEET: [(&str, &str); 6] = [
     ("empty", "done 2 12"),
-    ("receive", "done waits known releasing throwing raising 1 2 3 7 8 9 10 11 12"),
+    ("receive", "done waits known releasing throwing raising anew 1 2 3 7 8 9 10 11 12"),
     ("type", "done releasing throwing 1 2 3 4 5 9 11 12"),
     ("erase", "done raising 1 2 3 4 12"),
     ("text", "done 1 2 3 12"),
