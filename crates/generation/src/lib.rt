@@ -108,8 +108,8 @@ fn send_placed(replica: Replica, index: Index, queue: Queue, insert: Insert) -> 
 }
 
 // Inserts a code point at an insertion point among the visible characters. The clock of a replica that is well formed
-// reaches every identifier of the site's, so that the next one is nobody's (refusal 6). A step of the calls and not a call: they have
-// checked the replica and the code point.
+// reaches every identifier of the site's, so that the next one is nobody's (refusal 6). A step of the calls and not a
+// call: they have checked the replica and the code point.
 pub fn insert_visible(
     replica: Replica,
     index: Index,

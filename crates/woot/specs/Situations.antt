@@ -327,7 +327,8 @@ rises [] = true
 rises (n ∷ []) = true
 rises (n ∷ m ∷ ns) = ltb n m && rises (m ∷ ns)
 
--- receiving meets 2, 3, known, 7, 8, 9, 10, 11; typing 2, 3, 4, 5, 6 (reserved), 9, 11; erasing 3, 4: in this order, on any state
+-- receiving meets 2, 3, known, 7, 8, 9, 10, 11; typing 2, 3, 4, 5, 6 (reserved), 9, 11; erasing 3, 4: in this order, on
+-- any state
 pub record CheckingOrder (formed : Bool) (s : State) : Type 0 where
   pub receiving-meets : (o : Operation) → numbersOf (receiveChecks formed s o) ≡ 2 ∷ 3 ∷ 0 ∷ 7 ∷ 8 ∷ 9 ∷ 10 ∷ 11 ∷ []
   pub inserting-meets : (g n : ℕ) → sentNumbersOf (insertChecks formed s g n) ≡ 2 ∷ 3 ∷ 4 ∷ 5 ∷ 6 ∷ 9 ∷ 11 ∷ []
