@@ -19,7 +19,9 @@ use Rattle.well_formed.specs.declared.Checked.{Checked}
 use Rattle.index.specs.Index.{indexOf}
 use Rattle.storage.specs.Edit.{operations}
 use Rattle.pending.specs.Queue.{queueOf}
-use Rattle.well_formed.specs.Form.{charactersFormed, placesOrdered, pendingFormed, clockReached, rangesKept, formedWith, unformed, checked}
+use Rattle.pending_form.specs.Form.{pendingFormed}
+use Rattle.replica_ranges.specs.Ranges.{rangesKept}
+use Rattle.well_formed.specs.Form.{charactersFormed, placesOrdered, clockReached, formedWith, unformed, checked}
 use Rattle.lists.specs.Lists.{distinct}
 use Rattle.woot.specs.declared.Character.{Character}
 use Rattle.woot.specs.Table.{key, keys}

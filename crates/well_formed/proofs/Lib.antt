@@ -1,5 +1,3 @@
-pub mod Throughout
-pub mod Seen
 pub mod Reaching
 pub mod Conditions
 pub mod Checks

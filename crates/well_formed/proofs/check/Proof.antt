@@ -18,7 +18,7 @@ use Rattle.index.proofs.Packing.{keys-ids}
 use Rattle.index.proofs.Indexes.{index-ids}
 use Rattle.storage.proofs.Stored.{character-count}
 use Rattle.pending.specs.Queue.{queueOf}
-use Rattle.well_formed.specs.Form.{rangesKept}
+use Rattle.replica_ranges.specs.Ranges.{rangesKept}
 use Rattle.storage.proofs.Fullness.{full-replica}
 use Rattle.well_formed.proofs.Checks.{own-tabled, formed-path, checked-false, checked-true, out-of-range, few-characters, few-pending, indexFormed, queueFormed, in-range}
 use Rattle.well_formed.proofs.check.Statement.{statement}

@@ -9,7 +9,7 @@ use Rattle.lists.proofs.Tests.{refused, passed}
 use Rattle.lists.specs.Lists.{throughout}
 use Rattle.lists.proofs.Throughout.{throughout-more, throughout-fails}
 use Rattle.well_formed.specs.Form.{reachesKey}
-use Rattle.well_formed.proofs.Throughout.{elementAt, every-throughout}
+use Rattle.lists.proofs.Indices.{elementAt, every-throughout}
 use Rattle.well_formed.proofs.reaches_all.Statement.{statement}
 use Rattle.well_formed.proofs.reaches_all.Tie as tie
 
