@@ -28,7 +28,7 @@ use Rattle.delivery.specs.declared.Work.{Work}
 use Rattle.storage.specs.Edit.{removed}
 use Rattle.storage.proofs.Slots.{operation-at}
 use Rattle.delivery.specs.Work.{charactersIn, pendingIn, workOf, Workable, Due, carried, stepped, finished, takenOut, dueIn, takenFrom, carriedIn, steppedIn, finishedIn}
-use Rattle.pending.proofs.Earliest.{takes}
+use Rattle.ready.proofs.Earliest.{takes}
 use Rattle.delivery.proofs.Works.{parts, work-characters, work-pending, work-length, work-waiting, work-integrated, work-discarded, work-tidy, carried-discarded, carried-integrated}
 
 pub workable-bounded : {w : Work} → Workable w → (w .document .length ≤ 1024) × (w .document .waiting ≤ 512)

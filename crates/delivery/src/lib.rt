@@ -2,7 +2,6 @@
 use index::Found;
 use integration::Placement;
 use pending::queue;
-use pending::ready;
 use storage::arrays;
 use woot::Character;
 use woot::Delete;

@@ -2,5 +2,3 @@ pub mod Searches
 pub mod Queues
 pub mod Fullness
 pub mod Pending
-pub mod Earliest
-pub mod Holders

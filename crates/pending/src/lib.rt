@@ -1,5 +1,4 @@
-// The pending operations: searches and counts among them, and whether there is room for one more.
-pub mod holder;
+// The pending operations: packed into numbers, with searches and counts among them, and whether there is room for one
+// more.
 pub mod queue;
-pub mod ready;
 pub mod room;

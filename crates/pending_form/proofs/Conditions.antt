@@ -36,11 +36,11 @@ use Rattle.index.specs.Keys.{Small, AllSmall, indexIn, placeIn, further, firstI
 use Rattle.index.proofs.Keys.{key-same, character-small, all-range-small}
 use Rattle.index.proofs.Indices.{index-later as key-later, distinct-keys}
 use Rattle.pending.specs.Queue.{ownKey, firstKey, secondKey, hasDelete}
-use Rattle.pending.specs.Ready.{heldIn}
+use Rattle.ready.specs.Ready.{heldIn}
 use Rattle.pending_form.specs.Form.{unheldKey, freeAt, keysNew, freshAt, noneRepeated, nothing, noneReady}
 use Rattle.lists.specs.Lists.{throughout}
 use Rattle.lists.proofs.Indices.{take-member, take-map, map-getD, grown}
-use Rattle.pending.proofs.Earliest.{ready-executable}
+use Rattle.ready.proofs.Earliest.{ready-executable}
 use Rattle.pending.proofs.Pending.{Keyed, AllKeyed, all-keyed, delete-found}
 
 -- ---- distinct lists

@@ -11,7 +11,7 @@ use Rattle.index.specs.declared.Found.the-variants.{At, Nothing}
 use Rattle.index.specs.Keys.{indexIn, found, placeIn}
 use Rattle.index.proofs.Indices.{index-here, index-later}
 use Rattle.index.proofs.Searches.{first-says, later-place}
-use Rattle.pending.specs.Ready.{heldIn}
+use Rattle.ready.specs.Ready.{heldIn}
 use Rattle.pending_form.specs.Form.{unheldKey}
 
 module _ (ks : List ℕ) (k : ℕ) where

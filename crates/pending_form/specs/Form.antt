@@ -10,7 +10,7 @@ use Rattle.woot.specs.Form.{countdown}
 use Rattle.index.specs.declared.Found.{Found}
 use Rattle.index.specs.declared.Found.the-variants.{At, Nothing}
 use Rattle.pending.specs.Queue.{hasDelete}
-use Rattle.pending.specs.Ready.{heldIn, readyIn}
+use Rattle.ready.specs.Ready.{heldIn, readyIn}
 
 -- no site has sent more than its share
 abbrev pub senderWithin : List ℕ → ℕ → Bool

@@ -3,7 +3,6 @@
 // numbers, and has seen that the replica's table agrees with the keys of the characters.
 use index::Found;
 use pending::queue;
-use pending::ready;
 ghost use mathlib.Core.Path.{_≡_};
 ghost use Prim.Native.Nat.{_<_};
 ghost use lib.ListN.{length};

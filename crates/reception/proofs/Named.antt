@@ -19,8 +19,8 @@ use Rattle.lists.proofs.Members.{any-none, any-append}
 use Rattle.convergence.proofs.Identifiers.{eq-same, same-sym}
 use Rattle.convergence.proofs.Forms.{Formed, known-ids}
 use Rattle.convergence.proofs.Steps.{any-map}
-use Rattle.pending.specs.declared.holder.Seen.the-variants.{New}
-use Rattle.pending.specs.Holder.{comparedTo}
+use Rattle.holder.specs.declared.Seen.the-variants.{New}
+use Rattle.holder.specs.Holder.{comparedTo}
 use Rattle.reception.specs.Needs.{seenOf}
 
 -- ---- a name among distinct names

@@ -32,8 +32,8 @@ use Rattle.pending.specs.Queue.{queueOf}
 use Rattle.woot.specs.Form.{replicaWellFormed}
 use Rattle.delivery.specs.declared.Work.{Work}
 use Rattle.integration.specs.declared.Placement.the-variants.{Crossed as crossing, Unplaceable as placeless, Below}
-use Rattle.pending.specs.declared.holder.Seen.{Seen}
-use Rattle.pending.specs.declared.holder.Seen.the-variants.{New as unseen, Same, Other}
+use Rattle.holder.specs.declared.Seen.{Seen}
+use Rattle.holder.specs.declared.Seen.the-variants.{New as unseen, Same, Other}
 use Rattle.storage.specs.Replicas.{received}
 use Rattle.reception.specs.Needs.{seenOf, fullWith, New}
 use Rattle.integration.specs.Placements.{placementOf}

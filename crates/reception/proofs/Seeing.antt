@@ -15,9 +15,9 @@ use Rattle.woot.specs.Form.{presentInserts}
 use Rattle.convergence.proofs.Ranges.{in-range}
 use Rattle.index.specs.declared.Index.{Index}
 use Rattle.pending.specs.declared.queue.Queue.{Queue}
-use Rattle.pending.specs.declared.holder.Holder.the-variants.{Character as ofCharacter, Pending as ofPending, Nobody}
-use Rattle.pending.specs.declared.holder.Seen.the-variants.{New}
-use Rattle.pending.specs.Holder.{comparedTo, comparedWith}
+use Rattle.holder.specs.declared.Holder.the-variants.{Character as ofCharacter, Pending as ofPending, Nobody}
+use Rattle.holder.specs.declared.Seen.the-variants.{New}
+use Rattle.holder.specs.Holder.{comparedTo, comparedWith}
 use Rattle.reception.specs.Needs.{seenOf}
 use Rattle.well_formed.specs.Examined.{Examined}
 use Rattle.storage.proofs.Fullness.{FullDocument}

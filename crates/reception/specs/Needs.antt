@@ -19,8 +19,8 @@ use Rattle.woot.specs.Placing.{identifiers}
 use Rattle.woot.specs.Form.{replicaWellFormed}
 use Rattle.woot.specs.Calls.{duplicate, conflicting}
 use Rattle.woot.specs.declared.Operation.the-variants.{Insert as insert, Delete as delete}
-use Rattle.pending.specs.declared.holder.Seen.{Seen}
-use Rattle.pending.specs.declared.holder.Seen.the-variants.{New as unseen, Same, Other}
+use Rattle.holder.specs.declared.Seen.{Seen}
+use Rattle.holder.specs.declared.Seen.the-variants.{New as unseen, Same, Other}
 
 -- an operation that is neither refused nor known by what is looked at first
 pub record New (r : Replica) (o : Operation) : Type 0 where

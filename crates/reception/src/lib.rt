@@ -1,12 +1,11 @@
 // Receiving an operation that is in range, on a replica that is well formed. The public functions are steps of the
 // calls and not calls: the calls have checked the range and the form.
+use holder::Holder;
+use holder::Seen;
 use index::Found;
 use index::Index;
 use index::table;
 use integration::Placement;
-use pending::holder;
-use pending::holder::Holder;
-use pending::holder::Seen;
 use pending::queue::Queue;
 use pending::room;
 use woot::Answer;

@@ -29,11 +29,11 @@ use Rattle.index.specs.declared.Index.{Index}
 use Rattle.pending.specs.declared.queue.Queue.{Queue}
 use Rattle.index.specs.declared.Found.{Found}
 use Rattle.well_formed.specs.declared.Checked.{Checked}
-use Rattle.pending.specs.declared.holder.Holder.{Holder}
-use Rattle.pending.specs.declared.holder.Holder.the-variants.{Character as ofCharacter, Pending as ofPending, Nobody}
+use Rattle.holder.specs.declared.Holder.{Holder}
+use Rattle.holder.specs.declared.Holder.the-variants.{Character as ofCharacter, Pending as ofPending, Nobody}
 use Rattle.index.specs.Index.{indexOf}
 use Rattle.pending.specs.Queue.{ownKey, firstKey, queueOf}
-use Rattle.pending.specs.Holder.{holderIn}
+use Rattle.holder.specs.Holder.{holderIn}
 use Rattle.well_formed.specs.Form.{formedWith, checked}
 use Rattle.well_formed.specs.Examined.{Examined}
 use Rattle.well_formed.proofs.Checks.{checked-true, checked-formed, own-tabled}
@@ -42,7 +42,7 @@ use Rattle.index.specs.Tabled.{Tabled}
 use Rattle.index.proofs.Indexes.{index-ids}
 use Rattle.pending.proofs.Queues.{queue-own, queue-first, queue-senders}
 use Rattle.pending.proofs.Pending.{AllKeyed, all-keyed, positive-key, count-senders, count-own}
-use Rattle.pending.proofs.Holders.{CharacterAt, Stands, stands, Holds, holds}
+use Rattle.holder.proofs.Holders.{CharacterAt, Stands, stands, Holds, holds}
 use Rattle.storage.proofs.Stored.{Counts, counts, form-counted, form-meant, form-table, character-count, pending-count}
 use lib.Dec.{leb, eqb}
 use Rattle.woot.specs.Limits.{capacity, share}

@@ -14,7 +14,7 @@ use Rattle.delivery.specs.declared.Work.{Work}
 use Rattle.pending.specs.Queue.{firstKey, secondKey}
 use Rattle.delivery.specs.Work.{charactersIn, pendingIn}
 use Rattle.pending.proofs.Queues.{queue-full, queue-first, queue-second}
-use Rattle.pending.proofs.Earliest.{ready-executable}
+use Rattle.ready.proofs.Earliest.{ready-executable}
 use Rattle.delivery.proofs.Works.{parts}
 use Rattle.delivery.proofs.Stepping.{workable-bounded}
 use borrow.Author.Needs.{needs}

@@ -8,7 +8,7 @@ use Rattle.woot.specs.Ranges.{characterId}
 use Rattle.woot.specs.State.{meaning}
 use Rattle.storage.proofs.Fullness.{FullDocument, full-replica}
 use Rattle.storage.proofs.Stored.{form-counted}
-use Rattle.pending.proofs.Holders.{CharacterAt}
+use Rattle.holder.proofs.Holders.{CharacterAt}
 use Rattle.well_formed.proofs.Examining.{few, stands-at, character-within, character-member, character-named, ids-used, examined-tabled}
 use Rattle.reception.proofs.Deleting.{target-ranged, delete-again, delete-done}
 use borrow.Author.Needs.{needs}

@@ -1,7 +1,7 @@
 -- `reception::receive_insert` goes by what the insert is to the replica.
 use mathlib.Core.Path.{sym, _∙_}
 use Rattle.woot.specs.Ranges.{inRange}
-use Rattle.pending.specs.declared.holder.Seen.the-variants.{New, Same, Other}
+use Rattle.holder.specs.declared.Seen.the-variants.{New, Same, Other}
 use Rattle.reception.proofs.Outcomes.{known, conflict}
 use Rattle.reception.proofs.Receiving.{seen-says}
 use borrow.Author.Needs.{needs}

@@ -6,7 +6,7 @@ use mathlib.Core.Bool.{true}
 use borrow.Author.Needs.{needs}
 use Rattle.woot.specs.Ranges.{characterId}
 use Rattle.convergence.proofs.Ranges.{in-range}
-use Rattle.pending.specs.declared.holder.Holder.{Holder}
+use Rattle.holder.specs.declared.Holder.{Holder}
 use Rattle.storage.proofs.Fullness.{FullDocument, full-replica}
 use Rattle.storage.proofs.Stored.{Counts}
 use Rattle.well_formed.proofs.Examining.{few, Has, has, character-within, pending-within, examined-tabled}
