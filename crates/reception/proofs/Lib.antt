@@ -2,4 +2,3 @@ pub mod Outcomes
 pub mod Named
 pub mod Seeing
 pub mod Receiving
-pub mod Deleting

@@ -7,15 +7,12 @@ use mathlib.Core.List.{List}
 use lib.Dec.{leb, eqb}
 use lib.ListN.{length}
 use Rattle.woot.specs.declared.Insert.{Insert}
-use Rattle.woot.specs.declared.Delete.{Delete}
 use Rattle.woot.specs.declared.Operation.{Operation}
 use Rattle.woot.specs.declared.Replica.{Replica}
-use Rattle.lists.specs.Lists.{any, keep}
+use Rattle.lists.specs.Lists.{keep}
 use Rattle.woot.specs.Limits.{capacity}
-use Rattle.woot.specs.Identifiers.{same}
-use Rattle.woot.specs.Ranges.{deleteInRange, inRange}
+use Rattle.woot.specs.Ranges.{inRange}
 use Rattle.woot.specs.State.{meaning, State}
-use Rattle.woot.specs.Placing.{identifiers}
 use Rattle.woot.specs.Form.{replicaWellFormed}
 use Rattle.woot.specs.Calls.{duplicate, conflicting}
 use Rattle.woot.specs.declared.Operation.the-variants.{Insert as insert, Delete as delete}
@@ -28,12 +25,6 @@ pub record New (r : Replica) (o : Operation) : Type 0 where
   pub ranged : inRange o ≡ true
   pub new : duplicate (meaning r) o ≡ false
   pub sole : conflicting (meaning r) o ≡ false
-
--- a delete whose target no character is
-pub record Absent (r : Replica) (d : Delete) : Type 0 where
-  pub form : replicaWellFormed r ≡ true
-  pub ranged : deleteInRange d ≡ true
-  pub nowhere : any (same (d .target)) (identifiers (meaning r .characters)) ≡ false
 
 -- condition 11 on the keys of the pending operations
 unfoldable pub fullWith : ℕ → List ℕ → Operation → Bool

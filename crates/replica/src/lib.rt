@@ -32,8 +32,8 @@ pub fn receive(replica: Replica, operation: Operation) -> Receipt
     let index = checked.index;
     let queue = checked.queue;
     match operation {
-        Operation::Insert(i) => reception::receive_insert(replica, index, queue, i),
-        Operation::Delete(d) => reception::receive_delete(replica, index, queue, d),
+        Operation::Insert(i) => insert_reception::receive_insert(replica, index, queue, i),
+        Operation::Delete(d) => delete_reception::receive_delete(replica, index, queue, d),
     }
 }
 

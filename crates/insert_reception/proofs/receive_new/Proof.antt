@@ -1,4 +1,4 @@
--- `reception::receive_new` goes by what is found for the insert.
+-- `insert_reception::receive_new` goes by what is found for the insert.
 use native.Mathlib.Omega.{arith}
 use mathlib.Core.Path.{_≡_, sym, _∙_}
 use Rattle.woot.specs.State.{meaning}
@@ -8,10 +8,10 @@ use Rattle.storage.proofs.Fullness.{full-replica}
 use Rattle.integration.proofs.Placements.{says, placed-by}
 use Rattle.storage.proofs.Stored.{character-count}
 use Rattle.well_formed.proofs.Examining.{few, small, examined-tabled}
-use Rattle.reception.proofs.Receiving.{insert-crossed, insert-placeless}
+use Rattle.insert_reception.proofs.Inserting.{insert-crossed, insert-placeless}
 use borrow.Author.Needs.{needs}
-use Rattle.reception.proofs.receive_new.Statement.{statement}
-use Rattle.reception.proofs.receive_new.Tie as tie
+use Rattle.insert_reception.proofs.receive_new.Statement.{statement}
+use Rattle.insert_reception.proofs.receive_new.Tie as tie
 
 -- what is found is the rules' placement
 found : (c : tie.After-find-place) → let a = c .before .before .before .before .before .before .before .before .before .before .before .before .before .before .args in c .find-place .result ≡ placementOf (meaning (a .replica) .characters) (a .insert)

@@ -1,12 +1,12 @@
--- `reception::receive_insert` goes by what the insert is to the replica.
+-- `insert_reception::receive_insert` goes by what the insert is to the replica.
 use mathlib.Core.Path.{sym, _∙_}
 use Rattle.woot.specs.Ranges.{inRange}
 use Rattle.holder.specs.declared.Seen.the-variants.{New, Same, Other}
 use Rattle.reception.proofs.Outcomes.{known, conflict}
-use Rattle.reception.proofs.Receiving.{seen-says}
+use Rattle.insert_reception.proofs.Inserting.{seen-says}
 use borrow.Author.Needs.{needs}
-use Rattle.reception.proofs.receive_insert.Statement.{statement}
-use Rattle.reception.proofs.receive_insert.Tie as tie
+use Rattle.insert_reception.proofs.receive_insert.Statement.{statement}
+use Rattle.insert_reception.proofs.receive_insert.Tie as tie
 
 seen-by-requires : tie.Need-seen-by-requires
 seen-by-requires c κs = search needs

@@ -1,5 +1,5 @@
 -- What receiving a delete answers: by the one character that has its target, or by the pending deletes where none has.
-use mathlib.Core.Path.{_≡_, refl, sym, ap, subst, _∙_}
+use mathlib.Core.Path.{_≡_, refl, sym, subst, _∙_}
 use mathlib.Core.Bool.{true, false, _&&_, not}
 use mathlib.Core.List.{List, List·Memᴰ}
 use lib.Dec.{eqb}
@@ -31,12 +31,13 @@ use Rattle.index.proofs.Keys.{character-small}
 use Rattle.pending.specs.declared.queue.Queue.{Queue}
 use Rattle.storage.specs.Replicas.{received}
 use Rattle.pending.specs.Queue.{queueOf, hasDelete}
-use Rattle.reception.specs.Needs.{New, Absent}
+use Rattle.reception.specs.Needs.{New}
+use Rattle.delete_reception.specs.Absent.{Absent}
 use Rattle.storage.proofs.Fullness.{FullDocument}
 use Rattle.pending.proofs.Pending.{delete-found}
 use Rattle.reception.proofs.Named.{none-named, one-named}
 use Rattle.well_formed.proofs.Examining.{form, keyed, own-used, first-used, senders-used}
 use Rattle.reception.proofs.Outcomes as outcomes
 
 pub target-ranged : (d : Delete) → deleteInRange d ≡ true → characterId (d .target) ≡ true
 unfolding deleteInRange

@@ -1,4 +1,4 @@
--- `reception::receive_delete` goes by the character that has the target.
+-- `delete_reception::receive_delete` goes by the character that has the target.
 use Prim.Native.Nat.{_<_}
 use native.Mathlib.Omega.{arith}
 use mathlib.Core.Path.{_≡_, sym, _∙_}
@@ -10,10 +10,10 @@ use Rattle.storage.proofs.Fullness.{FullDocument, full-replica}
 use Rattle.storage.proofs.Stored.{form-counted}
 use Rattle.holder.proofs.Holders.{CharacterAt}
 use Rattle.well_formed.proofs.Examining.{few, stands-at, character-within, character-member, character-named, ids-used, examined-tabled}
-use Rattle.reception.proofs.Deleting.{target-ranged, delete-again, delete-done}
+use Rattle.delete_reception.proofs.Deleting.{target-ranged, delete-again, delete-done}
 use borrow.Author.Needs.{needs}
-use Rattle.reception.proofs.receive_delete.Statement.{statement}
-use Rattle.reception.proofs.receive_delete.Tie as tie
+use Rattle.delete_reception.proofs.receive_delete.Statement.{statement}
+use Rattle.delete_reception.proofs.receive_delete.Tie as tie
 
 full : (c : tie.Start) → FullDocument (c .args .replica .document)
 full c = full-replica (c .good .0)

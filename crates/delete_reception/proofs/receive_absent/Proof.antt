@@ -1,4 +1,4 @@
--- `reception::receive_absent` looks for an equal delete, and defers it where there is none.
+-- `delete_reception::receive_absent` looks for an equal delete, and defers it where there is none.
 use native.Mathlib.Omega.{arith}
 use mathlib.Core.Path.{_≡_, sym, _∙_}
 use Rattle.woot.specs.declared.Operation.the-variants.{Delete as delete}
@@ -6,10 +6,10 @@ use Rattle.woot.specs.State.{meaning}
 use Rattle.woot.specs.Calls.{duplicate}
 use Rattle.storage.proofs.Fullness.{full-replica}
 use Rattle.well_formed.proofs.Examining.{few}
-use Rattle.reception.proofs.Deleting.{absent-found, absent-again, absent-new, absent-unready}
+use Rattle.delete_reception.proofs.Deleting.{absent-found, absent-again, absent-new, absent-unready}
 use borrow.Author.Needs.{needs}
-use Rattle.reception.proofs.receive_absent.Statement.{statement}
-use Rattle.reception.proofs.receive_absent.Tie as tie
+use Rattle.delete_reception.proofs.receive_absent.Statement.{statement}
+use Rattle.delete_reception.proofs.receive_absent.Tie as tie
 
 -- whether an equal delete is pending
 tested : (c : tie.After-is-pending) → let a = c .before .before .before .before .before .before .before .before .before .args in c .is-pending .result ≡ duplicate (meaning (a .replica)) (delete (a .delete))

@@ -1,4 +1,4 @@
--- `reception::integrate` meets its contract: the room is looked at before anything is done.
+-- `insert_reception::integrate` meets its contract: the room is looked at before anything is done.
 use native.Mathlib.Omega.{arith}
 use mathlib.Core.Path.{_≡_, sym, _∙_}
 use Rattle.woot.specs.declared.Operation.the-variants.{Insert as insert}
@@ -6,10 +6,11 @@ use Rattle.woot.specs.State.{meaning}
 use Rattle.woot.specs.Calls.{documentFull}
 use Rattle.storage.proofs.Fullness.{full-replica}
 use Rattle.well_formed.proofs.Examining.{few}
-use Rattle.reception.proofs.Receiving.{full-with, insert-full, insert-placed, insert-done}
+use Rattle.reception.proofs.Receiving.{full-with}
+use Rattle.insert_reception.proofs.Inserting.{insert-full, insert-placed, insert-done}
 use borrow.Author.Needs.{needs}
-use Rattle.reception.proofs.integrate.Statement.{statement}
-use Rattle.reception.proofs.integrate.Tie as tie
+use Rattle.insert_reception.proofs.integrate.Statement.{statement}
+use Rattle.insert_reception.proofs.integrate.Tie as tie
 
 -- whether the document is full
 filled : (c : tie.After-is-full) → let a = c .before .before .before .before .before .args in c .is-full .result ≡ documentFull (meaning (a .replica)) (insert (a .insert))
