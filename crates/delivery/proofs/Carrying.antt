@@ -17,10 +17,11 @@ use Rattle.woot.specs.Pending.{drain}
 use Rattle.woot.specs.Form.{replicaWellFormed}
 use Rattle.convergence.specs.Invariants.{Sound}
 use Rattle.convergence.proofs.Shares.{pending-bound}
-use Rattle.delivery.specs.declared.Work.{Work}
-use Rattle.delivery.specs.Work.{charactersIn, pendingIn, workOf, Tidy, Workable, finished, Placed}
+use Rattle.execution.specs.declared.Work.{Work}
+use Rattle.execution.specs.Work.{charactersIn, pendingIn, workOf, Tidy}
+use Rattle.delivery.specs.Work.{Workable, finished, Placed}
 use Rattle.storage.proofs.Stored.{form-counted}
-use Rattle.delivery.proofs.Works.{work-characters, work-pending, work-integrated, work-discarded, work-waiting, work-tidy}
+use Rattle.execution.proofs.Works.{work-characters, work-pending, work-integrated, work-discarded, work-waiting, work-tidy}
 use Rattle.woot.specs.declared.Insert.{Insert}
 use Rattle.convergence.proofs.Soundness.{sound-in}
 use Rattle.convergence.proofs.Steps.{Addable}

@@ -1,3 +1,2 @@
-pub mod Works
 pub mod Carrying
 pub mod Stepping

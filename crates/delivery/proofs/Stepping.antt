@@ -1,6 +1,6 @@
 -- One step of draining a document at work: it is due, it leaves fewer pending, and draining what it leaves is draining what
 -- was there.
-use Prim.Native.Nat.{ℕ, suc, _+_, _≤_, _<_}
+use Prim.Native.Nat.{ℕ, zero, suc, _+_, _≤_, _<_}
 use native.Mathlib.Nat.{add-zero}
 use native.Mathlib.Omega.{arith}
 use mathlib.Core.Path.{_≡_, refl, sym, _∙_}
@@ -24,12 +24,20 @@ use Rattle.convergence.proofs.Drains.{Found, earliest-found, draining-recurs}
 use Rattle.convergence.proofs.Draining.{sound-carry}
 use Rattle.index.proofs.Sound.{sound-apart}
 use Rattle.index.specs.declared.Found.the-variants.{At, Nothing}
-use Rattle.delivery.specs.declared.Work.{Work}
+use Rattle.execution.specs.declared.Work.{Work}
 use Rattle.storage.specs.Edit.{removed}
 use Rattle.storage.proofs.Slots.{operation-at}
-use Rattle.delivery.specs.Work.{charactersIn, pendingIn, workOf, Workable, Due, carried, stepped, finished, takenOut, dueIn, takenFrom, carriedIn, steppedIn, finishedIn}
+use Rattle.execution.specs.Work.{charactersIn, pendingIn, workOf, Due, carried, carriedIn}
+use Rattle.delivery.specs.Work.{Workable, stepped, finished, takenOut, dueIn, takenFrom, steppedIn, finishedIn}
 use Rattle.ready.proofs.Earliest.{takes}
-use Rattle.delivery.proofs.Works.{parts, work-characters, work-pending, work-length, work-waiting, work-integrated, work-discarded, work-tidy, carried-discarded, carried-integrated}
+use Rattle.execution.proofs.Works.{parts, work-characters, work-pending, work-length, work-waiting, work-integrated, work-discarded, work-tidy, carried-discarded, carried-integrated}
+
+-- one element less
+pub length-removed : {A : Type 0} (j : ℕ) (xs : List A) → j < length xs → length xs ≡ length (removed j xs) + 1
+unfolding removed
+length-removed j [] h = absurd (omega arith)
+length-removed zero (x ∷ xs) h = omega arith
+length-removed (suc j) (x ∷ xs) h = omega (arith, length-removed j xs (omega arith))
 
 pub workable-bounded : {w : Work} → Workable w → (w .document .length ≤ 1024) × (w .document .waiting ≤ 512)
 workable-bounded k =

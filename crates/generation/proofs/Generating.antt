@@ -24,7 +24,7 @@ use Rattle.woot.specs.Form.{presentInserts, replicaWellFormed}
 use Rattle.woot.specs.Calls.{visibles, withCharacters, afterDrain, insertCarried, documentFull, beyondVisible, notVisible, generatedDelete}
 use Rattle.lists.proofs.Tests.{clash}
 use Rattle.convergence.proofs.Steps.{Addable, drained-still, space-insert}
-use Rattle.delivery.specs.declared.Work.{Work}
+use Rattle.execution.specs.declared.Work.{Work}
 use Rattle.integration.specs.declared.Placement.the-variants.{Missing, Crossed, Unplaceable, Below}
 use Rattle.storage.specs.Replicas.{deleted}
 use Rattle.integration.specs.Placements.{placementOf}

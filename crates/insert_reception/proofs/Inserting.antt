@@ -16,7 +16,7 @@ use Rattle.woot.specs.Placing.{integrateInsert}
 use Rattle.woot.specs.Pending.{executable, crossed, unplaceable}
 use Rattle.woot.specs.Calls.{afterDrain, insertCarried, duplicate, conflicting, senderFull, documentFull}
 use Rattle.convergence.proofs.Steps.{Addable, drained-still, fresh-insert, space-insert}
-use Rattle.delivery.specs.declared.Work.{Work}
+use Rattle.execution.specs.declared.Work.{Work}
 use Rattle.integration.specs.declared.Placement.the-variants.{Crossed as crossing, Unplaceable as placeless, Below}
 use Rattle.holder.specs.declared.Seen.{Seen}
 use Rattle.holder.specs.declared.Seen.the-variants.{New as unseen, Same, Other}

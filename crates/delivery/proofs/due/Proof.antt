@@ -10,12 +10,12 @@ use Rattle.index.specs.Keys.{AllSmall}
 use Rattle.index.proofs.Sound.{sound-tabled}
 use Rattle.index.proofs.Packing.{keys-ids, keys-sizes}
 use Rattle.pending.specs.declared.queue.Queue.{Queue}
-use Rattle.delivery.specs.declared.Work.{Work}
+use Rattle.execution.specs.declared.Work.{Work}
 use Rattle.pending.specs.Queue.{firstKey, secondKey}
-use Rattle.delivery.specs.Work.{charactersIn, pendingIn}
+use Rattle.execution.specs.Work.{charactersIn, pendingIn}
 use Rattle.pending.proofs.Queues.{queue-full, queue-first, queue-second}
 use Rattle.ready.proofs.Earliest.{ready-executable}
-use Rattle.delivery.proofs.Works.{parts}
+use Rattle.execution.proofs.Works.{parts}
 use Rattle.delivery.proofs.Stepping.{workable-bounded}
 use borrow.Author.Needs.{needs}
 use Rattle.delivery.proofs.due.Statement.{statement}

@@ -8,7 +8,7 @@ use Rattle.woot.specs.Operations.{character}
 use Rattle.woot.specs.Placing.{insertAt}
 use Rattle.storage.proofs.Fullness.{full-replica}
 use Rattle.storage.proofs.Stored.{counts, kept-pending, character-count, pending-count}
-use Rattle.delivery.proofs.Works.{work-path, length-inserted, table-used}
+use Rattle.execution.proofs.Works.{work-path, length-inserted, table-used}
 use borrow.Author.Needs.{needs}
 use Rattle.delivery.proofs.started.Statement.{statement}
 use Rattle.delivery.proofs.started.Tie as tie

@@ -3,9 +3,10 @@ use native.Mathlib.Omega.{arith}
 use mathlib.Core.Path.{refl, sym, ap, _∙_}
 use Rattle.woot.specs.State.{blankPending}
 use Rattle.lists.specs.Padding.{pad}
-use Rattle.delivery.specs.Work.{pendingIn}
+use Rattle.execution.specs.Work.{pendingIn}
 use Rattle.storage.proofs.Slots.{waiting-removed}
-use Rattle.delivery.proofs.Works.{parts, work-path, length-removed}
+use Rattle.execution.proofs.Works.{parts, work-path}
+use Rattle.delivery.proofs.Stepping.{length-removed}
 use borrow.Author.Needs.{needs}
 use Rattle.delivery.proofs.take_out.Statement.{statement}
 use Rattle.delivery.proofs.take_out.Tie as tie

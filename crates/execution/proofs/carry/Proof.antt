@@ -1,9 +1,9 @@
--- `delivery::carry` goes by the kind of the operation.
+-- `execution::carry` goes by the kind of the operation.
 use mathlib.Core.Path.{sym, _∙_}
-use Rattle.delivery.proofs.Works.{carried-delete}
+use Rattle.execution.proofs.Works.{carried-delete}
 use borrow.Author.Needs.{needs}
-use Rattle.delivery.proofs.carry.Statement.{statement}
-use Rattle.delivery.proofs.carry.Tie as tie
+use Rattle.execution.proofs.carry.Statement.{statement}
+use Rattle.execution.proofs.carry.Tie as tie
 
 enum-known-operation : tie.Need-enum-known-operation
 enum-known-operation c = search needs

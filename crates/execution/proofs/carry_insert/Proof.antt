@@ -1,15 +1,15 @@
--- `delivery::carry_insert` has the array with the character in it, one longer, and its table.
+-- `execution::carry_insert` has the array with the character in it, one longer, and its table.
 use Prim.Native.Nat.{_+_, min}
 use native.Mathlib.Omega.{arith}
 use mathlib.Core.Path.{_≡_, refl}
 use lib.ListN.{length}
 use Rattle.woot.specs.Operations.{character}
 use Rattle.woot.specs.Placing.{insertAt}
-use Rattle.delivery.specs.Work.{charactersIn}
-use Rattle.delivery.proofs.Works.{parts, work-path, length-inserted, table-used}
+use Rattle.execution.specs.Work.{charactersIn}
+use Rattle.execution.proofs.Works.{parts, work-path, length-inserted, table-used}
 use borrow.Author.Needs.{needs}
-use Rattle.delivery.proofs.carry_insert.Statement.{statement}
-use Rattle.delivery.proofs.carry_insert.Tie as tie
+use Rattle.execution.proofs.carry_insert.Statement.{statement}
+use Rattle.execution.proofs.carry_insert.Tie as tie
 
 character-requires : tie.Need-character-requires
 character-requires c κs = search needs

@@ -1,4 +1,4 @@
--- `delivery::place_insert` does with an insert what is found for it.
+-- `execution::place_insert` does with an insert what is found for it.
 use native.Mathlib.Omega.{arith}
 use mathlib.Core.Path.{_≡_, sym, _∙_}
 use borrow.Author.Needs.{needs}
@@ -17,12 +17,12 @@ use Rattle.index.proofs.Agreement.{tabled-characters}
 use Rattle.index.proofs.Indexes.{index-ids}
 use Rattle.integration.specs.declared.Placement.{Placement}
 use Rattle.integration.specs.declared.Placement.the-variants.{Missing, Crossed, Unplaceable}
-use Rattle.delivery.specs.declared.Work.{Work}
-use Rattle.delivery.specs.Work.{charactersIn, pendingIn, Due, carried}
+use Rattle.execution.specs.declared.Work.{Work}
+use Rattle.execution.specs.Work.{charactersIn, pendingIn, Due, carried}
 use Rattle.integration.proofs.Placements.{Says, says, placed-by}
-use Rattle.delivery.proofs.Works.{parts, judged, carried-insert}
-use Rattle.delivery.proofs.place_insert.Statement.{statement}
-use Rattle.delivery.proofs.place_insert.Tie as tie
+use Rattle.execution.proofs.Works.{parts, judged, carried-insert}
+use Rattle.execution.proofs.place_insert.Statement.{statement}
+use Rattle.execution.proofs.place_insert.Tie as tie
 
 -- what is found for the insert is what the rules say of it, and what becomes of it goes by that
 record Judges (w : Work) (i : Insert) (p : Placement) : Type 0 where

@@ -1,10 +1,10 @@
 -- A document at work as its parts: what is in use of a tidy one is what it was made of, and the arrays that a step builds
 -- anew make a tidy one again.
-use Prim.Native.Nat.{ℕ, zero, suc, _+_, _<_}
+use Prim.Native.Nat.{ℕ, _+_}
 use native.Mathlib.Omega.{arith}
 use mathlib.Core.Path.{_≡_, refl, ap, sym, _∙_}
 use mathlib.Core.Bool.{true, false, _||_}
-use mathlib.Core.List.{List, [], _∷_, map}
+use mathlib.Core.List.{List, map}
 use lib.ListN.{length, take, length-map}
 use Rattle.woot.specs.declared.Insert.{Insert}
 use Rattle.woot.specs.declared.Delete.{Delete}
@@ -24,21 +24,12 @@ use Rattle.lists.proofs.Padding.{pad-take}
 use Rattle.woot.specs.Table.{keys, tableOf}
 use Rattle.integration.specs.declared.Placement.{Placement}
 use Rattle.integration.specs.declared.Placement.the-variants.{Missing, Crossed, Unplaceable, Below}
-use Rattle.delivery.specs.declared.Work.{Work}
-use Rattle.storage.specs.Edit.{removed}
-use Rattle.delivery.specs.Work.{charactersIn, pendingIn, workOf, Tidy, carried}
+use Rattle.execution.specs.declared.Work.{Work}
+use Rattle.execution.specs.Work.{charactersIn, pendingIn, workOf, Tidy, carried}
 use Rattle.integration.specs.Placements.{placementOf}
 use Rattle.integration.proofs.Placements.{Says, says}
 use Rattle.storage.proofs.Stored.{Parts, document-path}
 use Rattle.storage.proofs.Slots.{operations-wait}
-
--- ---- lists without one element
-
-pub length-removed : {A : Type 0} (j : ℕ) (xs : List A) → j < length xs → length xs ≡ length (removed j xs) + 1
-unfolding removed
-length-removed j [] h = absurd (omega arith)
-length-removed zero (x ∷ xs) h = omega arith
-length-removed (suc j) (x ∷ xs) h = omega (arith, length-removed j xs (omega arith))
 
 -- ---- the parts of a tidy document
 pub parts : {w : Work} → Tidy w → Parts (w .document) (charactersIn (w .document)) (pendingIn (w .document))

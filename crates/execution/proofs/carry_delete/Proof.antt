@@ -1,12 +1,12 @@
--- `delivery::carry_delete` has the array with the target hidden, as long.
+-- `execution::carry_delete` has the array with the target hidden, as long.
 use mathlib.Core.Path.{refl, ap, sym, _∙_}
 use Rattle.woot.specs.Table.{tableOf}
 use Rattle.storage.proofs.Stored.{delete-keys}
 use Rattle.convergence.proofs.Deletion.{delete-length}
-use Rattle.delivery.proofs.Works.{parts, work-path}
+use Rattle.execution.proofs.Works.{parts, work-path}
 use borrow.Author.Needs.{needs}
-use Rattle.delivery.proofs.carry_delete.Statement.{statement}
-use Rattle.delivery.proofs.carry_delete.Tie as tie
+use Rattle.execution.proofs.carry_delete.Statement.{statement}
+use Rattle.execution.proofs.carry_delete.Tie as tie
 
 hidden-requires : tie.Need-hidden-requires
 hidden-requires c κs = search needs

@@ -1,8 +1,8 @@
--- `delivery::character` has the insert's fields, visible.
+-- `execution::character` has the insert's fields, visible.
 use mathlib.Core.Path.{refl}
 use Rattle.woot.specs.Operations.{character}
-use Rattle.delivery.proofs.character.Statement.{statement}
-use Rattle.delivery.proofs.character.Tie as tie
+use Rattle.execution.proofs.character.Statement.{statement}
+use Rattle.execution.proofs.character.Tie as tie
 
 returns : tie.Need-returns
 unfolding character

@@ -1,9 +1,9 @@
--- `delivery::discard` keeps the document.
+-- `execution::discard` keeps the document.
 use mathlib.Core.Path.{refl}
-use Rattle.delivery.proofs.Works.{parts, work-path}
+use Rattle.execution.proofs.Works.{parts, work-path}
 use borrow.Author.Needs.{needs}
-use Rattle.delivery.proofs.discard.Statement.{statement}
-use Rattle.delivery.proofs.discard.Tie as tie
+use Rattle.execution.proofs.discard.Statement.{statement}
+use Rattle.execution.proofs.discard.Tie as tie
 
 add-t2 : tie.Need-add-t2
 add-t2 c = search needs
