@@ -1,4 +1,4 @@
-// Executing one operation on a document at work: it is carried out where it has a place and discarded where it has none,
+// Executing one operation on a document at work: it is carried out where it has a place, discarded where it has none,
 // and counted.
 use integration::Placement;
 use storage::arrays;
@@ -119,8 +119,8 @@ fn place_insert(work: Work, insert: Insert) -> Work
     }
 }
 
-// Carries out an operation that is executable, or discards it. A step of the calls and not a call: they have taken it out
-// of the pending ones, and know that there is room.
+// Carries out an operation that is executable, or discards it. A step of the calls and not a call: they have taken it
+// out of the pending ones, and know that there is room.
 pub fn carry(work: Work, operation: Operation) -> Work
     requires { ⌜ Due work operation ⌝ }
     ensures { λ r. ⌜ r ≡ carriedIn work operation ⌝ }

@@ -1,5 +1,5 @@
-// What a received operation is to a replica that is well formed, and the answers that need no work on its rows: the
-// replica as it was, or the operation put off. Receiving an insert and receiving a delete stand on it, each in its crate.
+// What a received insert is to a replica that is well formed, and the answers that need no work on its characters: the
+// replica as it was, or the operation put off. Receiving an insert and receiving a delete stand on it, each in a crate.
 use holder::Holder;
 use holder::Seen;
 use index::Index;
