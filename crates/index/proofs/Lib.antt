@@ -1,8 +1,6 @@
 pub mod Keys
-pub mod Walks
-pub mod Tables
-pub mod Agreement
 pub mod Indices
+pub mod Agreement
 pub mod Searches
 pub mod Packing
 pub mod Indexes

@@ -2,7 +2,6 @@
 use Prim.Native.Nat.{ℕ, suc, _+_, _<_}
 use mathlib.Core.Bool.{Bool, cond}
 use mathlib.Core.List.{List, [], _∷_, _++_, map, List·Memᴰ}
-use mathlib.Core.Option.{Option, none, some}
 use lib.Dec.{eqb}
 use Rattle.woot.specs.declared.Identifier.{Identifier}
 use Rattle.woot.specs.declared.Character.{Character}
@@ -52,8 +51,3 @@ found k xs = firstIndex (λ x. eqb k x) xs
 -- where k stands among the keys, the begin mark's above them and the end mark's below
 unfoldable pub placeIn : List ℕ → ℕ → ℕ
 placeIn ks k = indexIn k (0 ∷ (ks ++ 1 ∷ []))
-
--- what is found, as the code answers it
-abbrev pub asFound : Option ℕ → Found
-asFound none = Nothing
-asFound (some i) = At i

@@ -174,5 +174,5 @@ pub fn table_of(characters: [Character; 1024], n: usize) -> Table
 {
     let end = lesser(n, 1024);
     let keys = keys_of(characters, end);
-    table::table_of(&keys.ids, end)
+    chains::table_of(&keys.ids, end)
 }

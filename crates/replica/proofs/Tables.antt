@@ -23,8 +23,7 @@ use Rattle.convergence.proofs.Forms.{formed}
 use Rattle.index.specs.Keys.{Small, AllSmall}
 use Rattle.index.specs.Tabled.{Tabled}
 use Rattle.index.proofs.Keys.{key-same}
-use Rattle.index.proofs.Agreement.{lookup-is-search}
-use Rattle.index.proofs.Tables.{is-at, at-is}
+use Rattle.index.proofs.Agreement.{is-at, at-is, lookup-is-search}
 use Rattle.index.proofs.Sound.{sound-small, sound-tabled}
 use Rattle.storage.proofs.Stored.{form-meant, form-table}
 use Rattle.replica.specs.Tables.{lookedUp, searchedFor, Searches, AgreesExactly, CalledSearches, BegunSearches}

@@ -13,8 +13,8 @@ use Rattle.woot.proofs.Replica as replica
 pub record FullDocument (d : Document) : Type 0 where
   pub characters : length (d .characters) ≡ 1024
   pub pending : length (d .pending) ≡ 512
-  pub heads : length (d .table .heads) ≡ 2048
-  pub links : length (d .table .links) ≡ 1024
+  pub heads : length (d .table .heads) ≡ 1024
+  pub links : length (d .table .links) ≡ 2048
 
 pub full-document : {d : Document} {vs : List Val} → Is document.the-row d vs → FullDocument d
 full-document g =

@@ -1,7 +1,6 @@
 // A replica after a change: stored anew, so that every slot that is not in use is filler.
 pub mod arrays;
 
-use index::table;
 use woot::Delete;
 use woot::Document;
 use woot::Operation;
@@ -30,7 +29,7 @@ pub fn hidden(replica: Replica, ids: &[u32], delete: Delete) -> Replica
     let ps = d.pending;
     let characters = arrays::hidden(cs, d.length, delete);
     let pending = arrays::kept_pending(ps, d.waiting);
-    let table = table::table_of(ids, d.length);
+    let table = chains::table_of(ids, d.length);
     let document = Document {
         characters,
         length: d.length,
@@ -57,7 +56,7 @@ pub fn deferred(replica: Replica, ids: &[u32], operation: Operation) -> Replica
     let ps = d.pending;
     let characters = arrays::kept(cs, d.length);
     let pending = arrays::pushed(ps, d.waiting, operation);
-    let table = table::table_of(ids, d.length);
+    let table = chains::table_of(ids, d.length);
     let document = Document {
         characters,
         length: d.length,

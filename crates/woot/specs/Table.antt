@@ -1,7 +1,7 @@
 -- The table by which a character is found through its identifier, on keys, which are identifiers as numbers. (Document
 -- 02, Req 12: "a table through which receiving finds a row by identifier".)
-use Prim.Native.Nat.{ℕ, zero, suc, _+_, _*_, _/_, _%_}
-use mathlib.Core.Bool.{Bool, false, cond}
+use Prim.Native.Nat.{ℕ, zero, suc, _+_, _-_, _*_, _/_, _%_}
+use mathlib.Core.Bool.{Bool, false, _&&_, cond}
 use mathlib.Core.List.{List, [], _∷_, map}
 use mathlib.Core.Option.{Option, none, some}
 use lib.Dec.{eqb, leb, ltb}
@@ -25,24 +25,34 @@ keys cs = map (λ c. key (c .id)) cs
 
 -- how many chains there are
 abbrev pub chains : ℕ
-chains = 2048
+chains = 1024
 
 -- the chain of a key: a product with about 2^32 times the golden ratio's fraction spreads keys that follow each other
 unfoldable pub chainOf : ℕ → ℕ
-chainOf k = k * 2654435769 / 2097152 % chains
+chainOf k = k * 2654435769 / 4194304 % chains
 
--- the walk down a chain, n steps at most, from one more than an index: where it comes to k. An index is believed only
--- where k stands at it, and a link only where it leads to an earlier index
-unfoldable pub walk : ℕ → List ℕ → List ℕ → ℕ → ℕ → Option ℕ
-walk zero links ks k p = none
-walk (suc n) links ks k zero = none
-walk (suc n) links ks k (suc i) =
-    cond (leb (length ks) i) none
-    (cond (eqb (getD ks i 0) k) (some i) (cond (ltb i (getD links i 0)) none (walk n links ks k (getD links i 0))))
+-- a place is one more than an index, and 0 stands above them all. Each place has two links, and the bits of a key, the
+-- lowest first, choose among them on its way down the chain: the slot of the link is that of the next bit
+abbrev pub slot : ℕ → ℕ → ℕ
+slot at rest = 2 * (at - 1) + rest % 2
+
+-- whether a link leads on from one place to another: only to a later one of the n in use, so that every walk ends
+abbrev pub leads : ℕ → ℕ → ℕ → Bool
+leads n at next = ltb at next && leb next n
+
+-- the walk down a chain, n steps at most, by the link from a place to the next: where it comes to k. A place is
+-- believed only where k stands at it
+unfoldable pub walk : ℕ → List ℕ → List ℕ → ℕ → ℕ → ℕ → ℕ → Option ℕ
+walk zero links ks k rest at next = none
+walk (suc n) links ks k rest at next =
+    cond (leads (length ks) at next)
+    (cond (eqb (getD ks (next - 1) 0) k) (some (next - 1))
+    (walk n links ks k (rest / 2) next (getD links (slot next rest) 0)))
+    none
 
 -- the index of k among the keys, by the table: the walk from the head of its chain
 unfoldable pub lookup : Table → List ℕ → ℕ → Option ℕ
-lookup t ks k = walk (getD (t .heads) (chainOf k) 0) (t .links) ks k (getD (t .heads) (chainOf k) 0)
+lookup t ks k = walk (length ks) (t .links) ks k k 0 (getD (t .heads) (chainOf k) 0)
 
 -- the index of k among the keys, by a plain search
 unfoldable pub searched : ℕ → List ℕ → Option ℕ
@@ -68,15 +78,25 @@ agrees t ks = throughout (foundAt t ks) (length ks)
 
 -- with no key in it
 unfoldable pub noTable : Table
-noTable = record { heads = replicate chains 0; links = replicate 1024 0 }
+noTable = record { heads = replicate chains 0; links = replicate 2048 0 }
 
--- with the key k entered, whose index is i: it becomes the head of its chain, and is linked to the head that was
+-- where the way of a key ends among n places, m steps at most from one of them: the first slot whose link leads nowhere
+unfoldable pub freeSlot : ℕ → List ℕ → ℕ → ℕ → ℕ → ℕ
+freeSlot zero links n rest at = slot at rest
+freeSlot (suc m) links n rest at =
+    cond (leads n at (getD links (slot at rest) 0)) (freeSlot m links n (rest / 2) (getD links (slot at rest) 0))
+    (slot at rest)
+
+-- with the key k entered, whose index is i: it becomes the head of its chain where there is none, and is linked where
+-- its way down the chain ends. No other link changes, so what was found is found
 unfoldable pub entered : Table → ℕ → ℕ → Table
 entered t i k =
-    record {
-      heads = set (t .heads) (chainOf k) (suc i);
-      links = set (t .links) i (getD (t .heads) (chainOf k) 0);
-    }
+    cond (leads i 0 (getD (t .heads) (chainOf k) 0))
+    (record {
+      heads = t .heads;
+      links = set (t .links) (freeSlot i (t .links) i k (getD (t .heads) (chainOf k) 0)) (suc i);
+    })
+    (record { heads = set (t .heads) (chainOf k) (suc i); links = t .links })
 
 -- with keys entered one after another, the first of which has the index i
 unfoldable pub enteredAll : Table → ℕ → List ℕ → Table

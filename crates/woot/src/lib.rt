@@ -75,12 +75,13 @@ pub struct Pending {
     pub operation: Operation,
 }
 
-// Where characters are found by their keys, which are identifiers as numbers: each key belongs to one of 2,048 chains.
-// A chain's head names its last character, and a character's link an earlier one of its chain, each by one more than
-// its index; 0 ends the chain.
+// Where characters are found by their keys, which are identifiers as numbers: each key belongs to one of 1,024 chains.
+// A chain is a tree, so that keys which share one cannot make it long: its head names its first character, and each
+// character has two links to later ones, among which the next bit of the key chooses. A link names a character by one
+// more than its index, and 0 none.
 pub struct Table {
-    pub heads: [u16; 2048],
-    pub links: [u16; 1024],
+    pub heads: [u16; 1024],
+    pub links: [u16; 2048],
 }
 
 // The characters in order and the pending operations, earliest first, in fixed arrays of which the counts say how
@@ -130,8 +131,8 @@ impl Replica {
                 pending: [pending; 512],
                 waiting: 0,
                 table: Table {
-                    heads: [0u16; 2048],
-                    links: [0u16; 1024],
+                    heads: [0u16; 1024],
+                    links: [0u16; 2048],
                 },
             },
         }

@@ -1,4 +1,4 @@
--- `index::table::agrees` meets its contract. The loop's invariant: each of the first i keys is found at its own index.
+-- `chains::agrees` meets its contract. The loop's invariant: each of the first i keys is found at its own index.
 use Prim.Native.Nat.{_-_, _≤_}
 use native.Mathlib.Omega.{arith}
 use mathlib.Core.Path.{_≡_, refl, sym, _∙_}
@@ -9,8 +9,8 @@ use Rattle.lists.specs.Lists.{throughout}
 use Rattle.lists.proofs.Tests.{refused, passed}
 use Rattle.lists.proofs.Throughout.{throughout-more, throughout-fails}
 use Rattle.woot.specs.Table.{foundAt, agrees}
-use Rattle.index.proofs.table.agrees.Statement.{statement}
-use Rattle.index.proofs.table.agrees.Tie as tie
+use Rattle.chains.proofs.agrees.Statement.{statement}
+use Rattle.chains.proofs.agrees.Tie as tie
 
 abbrev Inv-loop : tie.InvT-loop
 Inv-loop heads links keys i₀ i =

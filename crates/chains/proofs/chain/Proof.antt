@@ -1,11 +1,11 @@
--- `index::table::chain` meets its contract: a remainder by 2,048 is below it.
+-- `chains::chain` meets its contract: a remainder by 1,024 is below it.
 use native.Mathlib.Nat.{mod-lt}
 use native.Mathlib.Omega.{arith}
 use mathlib.Core.Path.{refl}
 use borrow.Author.Needs.{needs}
 use Rattle.woot.specs.Table.{chainOf}
-use Rattle.index.proofs.table.chain.Statement.{statement}
-use Rattle.index.proofs.table.chain.Tie as tie
+use Rattle.chains.proofs.chain.Statement.{statement}
+use Rattle.chains.proofs.chain.Tie as tie
 
 mul-result : tie.Need-mul-result
 mul-result c = search needs

@@ -1,0 +1,4 @@
+pub mod Walks
+pub mod Slots
+pub mod Tables
+pub mod Agreement
