@@ -1,7 +1,7 @@
 -- A table that finds each key at its own index looks up what a plain search finds. The table of distinct keys is such: a key
 -- that is entered is found at once, and those before it as they were, since their links are kept.
 use Prim.Native.Nat.{ℕ, zero, suc, _-_, _≤_, _<_}
-use native.Mathlib.Nat.{not-suc-le-zero, le-of-suc-le-suc, mod-lt}
+use native.Mathlib.Nat.{not-suc-le-zero, le-of-suc-le-suc}
 use native.Mathlib.Omega.{arith}
 use mathlib.Core.Path.{_≡_, refl, ap, sym, _∙_, subst}
 use mathlib.Core.Bool.{Bool, true, false, not, cond, false≢true}
@@ -12,15 +12,15 @@ use borrow.Author.Tests.{eq-eqb, ne-eqb, eqb-true, eqb-false, not-true}
 use lib.Dec.{eqb}
 use lib.ListN.{length, take, getD, set}
 use lib.Seq.{length-take-le, getD-set-same, getD-set-other, getD-take, take-length}
-use Rattle.lists.specs.Lists.{any, distinct, throughout}
+use Rattle.lists.specs.Lists.{any, distinct}
 use Rattle.lists.proofs.Tests.{either, side, clash, and-intro, and-left, and-right, or-left, or-right, or-false, not-intro, no-some}
 use Rattle.lists.proofs.Throughout.{throughout-at, throughout-all}
 use Rattle.woot.specs.declared.Table.{Table}
 use Rattle.woot.specs.Table.{chainOf, leads, walk, freeSlot, lookup, searched, isAt, foundAt, agrees, entered, tableOf}
 use Rattle.chains.specs.Theorems.{LookupIsSearch, AgreeingApart, TableAgrees}
-use Rattle.chains.proofs.Walks.{leads-on, leads-later, leads-within, walk-ends, walk-sound, walk-here}
+use Rattle.chains.proofs.Walks.{leads-later, leads-within, walk-ends, walk-sound, walk-here}
 use Rattle.chains.proofs.Slots.{Free, Kept, free-slot, free-low, free-kept, walk-kept, walk-free}
-use Rattle.chains.proofs.Tables.{head, entered-linked, entered-headed, table-more, Sized, table-sized}
+use Rattle.chains.proofs.Tables.{head, chain-low, entered-linked, entered-headed, table-more, Sized, table-sized}
 
 -- ---- an index that is found
 
@@ -120,10 +120,6 @@ agreeing-apart t ks h =
     differ i j p e = omega arith
 
 -- ---- the table of keys
-
-chain-low : (k : ℕ) → chainOf k < 1024
-unfolding chainOf
-chain-low k = mod-lt _ (omega arith)
 
 -- one key more, x with the index n, in a table t of the first n keys
 module _ (ks : List ℕ) (n : ℕ) (h : n < length ks) (t : Table) (sized : Sized t) (room : n < 1024) where

@@ -1,18 +1,23 @@
 -- The table of one key more: the key is entered in the table of those before it, as a chain's head or at its free slot.
 use Prim.Native.Nat.{ℕ, suc, _+_, _<_}
+use native.Mathlib.Nat.{mod-lt}
 use native.Mathlib.Numerals.{add-one}
 use native.Mathlib.Omega.{arith}
 use mathlib.Core.Path.{_≡_, ap, sym, _∙_}
 use mathlib.Core.Bool.{true, false}
 use mathlib.Core.List.{List, [], _∷_, _++_}
 use mathlib.Core.Logic.{⊎-elim}
-use lib.ListN.{length, take, getD, set, replicate, length-set, length-replicate}
+use lib.ListN.{length, take, getD, set, length-set, length-replicate}
 use lib.Seq.{take-suc, length-take-le}
 use Rattle.lists.proofs.Tests.{either}
 use Rattle.woot.specs.declared.Table.{Table}
 use Rattle.woot.specs.Table.{chainOf, leads, freeSlot, noTable, entered, enteredAll, tableOf}
 
 -- ---- a key entered
+
+pub chain-low : (k : ℕ) → chainOf k < 1024
+unfolding chainOf
+chain-low k = mod-lt _ (omega arith)
 
 module _ (t : Table) (i k : ℕ) where
   -- the head of the key's chain

@@ -1,13 +1,13 @@
 -- The promises about the table, each proved in proofs/ under its name in small letters.
-use Prim.Native.Nat.{ℕ, _≤_}
+use Prim.Native.Nat.{ℕ, _≤_, _<_}
 use mathlib.Core.Path.{_≡_}
 use mathlib.Core.Bool.{true}
 use mathlib.Core.List.{List}
 use lib.Dec.{eqb}
-use lib.ListN.{length}
+use lib.ListN.{length, getD}
 use Rattle.lists.specs.Lists.{distinct}
 use Rattle.woot.specs.declared.Table.{Table}
-use Rattle.woot.specs.Table.{lookup, searched, agrees, tableOf}
+use Rattle.woot.specs.Table.{chainOf, walk, lookup, searched, agrees, tableOf}
 
 -- "it must be shown to agree with a plain search, found or not": where each key is found at its own index, the lookup
 -- of any key, held or not, gives what a plain search gives
@@ -18,6 +18,12 @@ LookupIsSearch = (t : Table) (ks : List ℕ) → agrees t ks ≡ true → (k : �
 abbrev pub AgreeingApart : Type 0
 AgreeingApart = (t : Table) (ks : List ℕ) → agrees t ks ≡ true → distinct eqb ks ≡ true
 
--- the table of keys that are distinct, and no more than it has links, agrees with them
+-- the table of keys that are distinct, and no more than it has places, agrees with them
 abbrev pub TableAgrees : Type 0
 TableAgrees = (ks : List ℕ) → distinct eqb ks ≡ true → length ks ≤ 1024 → agrees (tableOf ks) ks ≡ true
+
+-- and a walk in it is short, whatever chains the keys share: where they have 24 bits, as keys of identifiers do, 25 steps
+-- find what the whole walk finds
+abbrev pub WalksShort : Type 0
+WalksShort = (ks : List ℕ) → ((i : ℕ) → i < length ks → getD ks i 0 < 16777216) → length ks ≤ 1024
+    → (k : ℕ) → k < 16777216 → walk 25 (tableOf ks .links) ks k k 0 (getD (tableOf ks .heads) (chainOf k) 0) ≡ lookup (tableOf ks) ks k

@@ -1,5 +1,5 @@
 -- `chains::found_at` meets its contract: the place that is found is one more than the index.
-use mathlib.Core.Path.{_≡_, sym}
+use mathlib.Core.Path.{_≡_}
 use Prim.Native.Nat.{ℕ, suc, _+_}
 use native.Mathlib.Omega.{arith}
 use mathlib.Core.Option.{Option, none, some}

@@ -1,6 +1,6 @@
 -- `chains::lookup` meets its contract. The loop's invariant: the walk from where it stands finds what the lookup finds.
-use mathlib.Core.Path.{_≡_, ap, sym, _∙_}
-use Prim.Native.Nat.{ℕ, suc, _-_, _≤_, _<_}
+use mathlib.Core.Path.{_≡_, _∙_}
+use Prim.Native.Nat.{ℕ, _-_, _≤_, _<_}
 use native.Mathlib.Omega.{arith}
 use mathlib.Core.Option.{Option, some}
 use borrow.Author.Needs.{needs}

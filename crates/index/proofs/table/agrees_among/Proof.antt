@@ -1,7 +1,6 @@
 -- `index::table::agrees_among` lends the first n keys.
 use native.Mathlib.Omega.{arith}
 use lib.ListN.{length-take}
-use borrow.Author.Needs.{needs}
 use Rattle.index.proofs.table.agrees_among.Statement.{statement}
 use Rattle.index.proofs.table.agrees_among.Tie as tie
 
