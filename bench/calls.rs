@@ -141,10 +141,15 @@ fn typed_as(ids: &[(u64, u64)]) -> Vec<Vec<u8>> {
     ids.iter().zip(before).map(|((l, c), (pl, pc))| format!("I\t{l}\t{c}\t97\t{pl}\t{pc}\t0\t1\n").into_bytes()).collect()
 }
 
-/// Identifiers as an enemy of the library's table would choose them, all of one chain: there are at most 514 such.
+/// Identifiers as an enemy of the library's table would choose them: all of one chain, which at most 1,027 share, and with
+/// as many low bits alike as can be, so that its tree is deep. No choice of 512 makes the walks longer by a twentieth.
 fn colliding() -> Vec<(u64, u64)> {
+    let key = |&(l, c): &(u64, u64)| l * 65_536 + c;
     let all = (1..=16).flat_map(|l| (1..=65_535).map(move |c| (l, c)));
-    all.filter(|(l, c)| ((l * 65_536 + c) * 2_654_435_769 >> 21) % 2048 == 191).take(512).collect()
+    let mut chosen: Vec<_> = all.filter(|id| (key(id) * 2_654_435_769 >> 22) % 1024 == 789).collect();
+    chosen.sort_by_key(|id| std::cmp::Reverse(key(id).reverse_bits()));
+    chosen.truncate(512);
+    chosen
 }
 
 fn main() {
