@@ -5,15 +5,15 @@ use mathlib.Core.Path.{_≡_, refl, ap, ap₂, sym, _∙_}
 use mathlib.Core.List.{List, [], _∷_, _++_, map}
 use Rattle.utf8.specs.Encoding.{_to_, encodedLength, continuation, oneByte, twoBytes, threeBytes, fourBytes, encode}
 use Rattle.woot.specs.Identifiers.{same, below}
-use Rattle.woot.specs.Operations.{sender, character, origin, isVisible, hidden, deletedBy, sameInsert, sameDelete, sameOperation}
-use Rattle.woot.specs.Ranges.{within, siteNumber, codePoint, characterId, previousId, nextId, siteInRange, insertInRange, deleteInRange, inRange, characterInRange}
+use Rattle.woot.specs.Operations.{sender, character, origin, isVisible, withToggles, toggledBy, sameInsert, sameToggle, sameOperation}
+use Rattle.woot.specs.Ranges.{within, siteNumber, codePoint, characterId, previousId, nextId, siteInRange, insertInRange, toggleInRange, inRange, characterInRange}
 use Rattle.woot.specs.State.{initial}
-use Rattle.woot.specs.Placing.{sequence, indexOf, placeOf, held, above, adjacent, candidate, candidates, narrowed, search, position, between, insertAt, integrateInsert, integrateDelete}
+use Rattle.woot.specs.Placing.{sequence, indexOf, placeOf, held, above, adjacent, candidate, candidates, narrowed, search, position, between, insertAt, integrateInsert, integrateToggle}
 use Rattle.woot.specs.Pending.{executable, crossed, unplaceable, integrate, pendingFrom, earliest, andIntegrated, andDiscarded, drained, drainSteps, drain}
-use Rattle.woot.specs.Form.{presentInserts, allInRange, sharesKept, capacityKept, identifiersDistinct, deletesDistinct, ordered, neighboursOrdered, noneExecutable, clockReaches, clockKept, wellFormed}
+use Rattle.woot.specs.Form.{presentInserts, allInRange, sharesKept, capacityKept, identifiersDistinct, togglesDistinct, ordered, neighboursOrdered, noneExecutable, clockReaches, clockKept, wellFormed}
 use Rattle.woot.specs.Clock.{ownInsert, heard}
 use Rattle.woot.specs.Answers.{number, reply, answerOf, decided}
-use Rattle.woot.specs.Calls.{unchanged, allIntegrated, withCharacters, withPending, afterDrain, insertCarried, duplicate, conflicting, senderFull, documentFull, receiveChecks, carryOut, defer, accept, receiveWhen, receive, visibles, nextIdentifier, generatedInsert, beyondVisible, identifierTaken, insertChecks, sendInsert, localInsertWhen, localInsert, notVisible, deleteChecks, generatedDelete, sendDelete, localDeleteWhen, localDelete}
+use Rattle.woot.specs.Calls.{unchanged, allIntegrated, withCharacters, withPending, afterDrain, insertCarried, duplicate, conflicting, senderFull, documentFull, receiveChecks, carryOut, defer, accept, receiveWhen, receive, visibles, nextIdentifier, generatedInsert, beyondVisible, identifierTaken, insertChecks, sendInsert, localInsertWhen, localInsert, togglesOf, generatedToggle, sendToggle, notVisible, deleteChecks, generatedDelete, localDeleteWhen, localDelete, notHidden, lastToggle, restoreChecks, localRestoreWhen, localRestore}
 use Rattle.woot.specs.Text.{unprintable, printed, encoded, text}
 use Rattle.woot.specs.Histories.{outcome}
 use Rattle.woot.specs.declared.Identifier.{Identifier}
@@ -23,7 +23,7 @@ use Rattle.woot.specs.State.{State}
 use Rattle.woot.specs.Placing.{identifiers}
 use Rattle.woot.specs.Answers.{Reply}
 use Rattle.woot.specs.Histories.{Call, run, integratedBy}
-use Rattle.woot.specs.Situations.{Given, calling, carrying, showing, Seen, calls, operations, bytes, replies, seen, Situation, table, slipCases, answerCases, clockCases, SituationsHold, CasesTell, CheckingOrder}
+use Rattle.woot.specs.Situations.{Given, calling, carrying, showing, Seen, calls, operations, bytes, replies, seen, Situation, table, slipCases, answerCases, clockCases, toggleCases, SituationsHold, CasesTell, CheckingOrder}
 
 -- k at xs, whose cells are computed first
 whole : {A B : Type 0} → List A → (List A → B) → B
@@ -85,8 +85,8 @@ all-computed [] = refl
 all-computed (t ∷ ts) = ap₂ (λ a bs. a ∷ bs) (sym (computed-same (t .given))) (all-computed ts)
 
 both : SituationsHold × CasesTell
-unfolding table carriedIn slipCases answerCases clockCases whole settled stepped computed _to_ encodedLength continuation oneByte twoBytes threeBytes fourBytes encode unprintable printed encoded text same below sender character origin isVisible hidden deletedBy sameInsert sameDelete sameOperation within siteNumber codePoint characterId previousId nextId siteInRange insertInRange deleteInRange inRange characterInRange initial sequence indexOf placeOf held above adjacent candidate candidates narrowed search position between insertAt integrateInsert integrateDelete executable crossed unplaceable integrate pendingFrom earliest andIntegrated andDiscarded drained drainSteps drain presentInserts allInRange sharesKept capacityKept identifiersDistinct deletesDistinct ordered neighboursOrdered noneExecutable clockReaches clockKept ownInsert heard wellFormed reply answerOf unchanged decided allIntegrated withCharacters withPending afterDrain insertCarried duplicate conflicting senderFull documentFull receiveChecks carryOut defer accept receiveWhen receive visibles nextIdentifier generatedInsert beyondVisible identifierTaken insertChecks sendInsert localInsertWhen localInsert notVisible deleteChecks generatedDelete sendDelete localDeleteWhen localDelete outcome
-both = (all-computed table ∙ refl, (all-computed slipCases ∙ refl, all-computed answerCases ∙ refl, all-computed clockCases ∙ refl))
+unfolding table carriedIn slipCases answerCases clockCases toggleCases whole settled stepped computed _to_ encodedLength continuation oneByte twoBytes threeBytes fourBytes encode unprintable printed encoded text same below sender character origin isVisible withToggles toggledBy sameInsert sameToggle sameOperation within siteNumber codePoint characterId previousId nextId siteInRange insertInRange toggleInRange inRange characterInRange initial sequence indexOf placeOf held above adjacent candidate candidates narrowed search position between insertAt integrateInsert integrateToggle executable crossed unplaceable integrate pendingFrom earliest andIntegrated andDiscarded drained drainSteps drain presentInserts allInRange sharesKept capacityKept identifiersDistinct togglesDistinct ordered neighboursOrdered noneExecutable clockReaches clockKept ownInsert heard wellFormed reply answerOf unchanged decided allIntegrated withCharacters withPending afterDrain insertCarried duplicate conflicting senderFull documentFull receiveChecks carryOut defer accept receiveWhen receive visibles nextIdentifier generatedInsert beyondVisible identifierTaken insertChecks sendInsert localInsertWhen localInsert togglesOf generatedToggle sendToggle notVisible deleteChecks generatedDelete localDeleteWhen localDelete notHidden lastToggle restoreChecks localRestoreWhen localRestore outcome
+both = (all-computed table ∙ refl, (all-computed slipCases ∙ refl, all-computed answerCases ∙ refl, all-computed clockCases ∙ refl, all-computed toggleCases ∙ refl))
 
 pub situations-hold : SituationsHold
 situations-hold = both .0
@@ -95,5 +95,5 @@ pub cases-tell : CasesTell
 cases-tell = both .1
 
 pub checking-order : (formed : Bool) (s : State) → CheckingOrder formed s
-unfolding receiveChecks insertChecks deleteChecks reply answerOf
-checking-order formed s = record { receiving-meets = λ o. refl; inserting-meets = λ g n. refl; deleting-meets = λ p. refl; receiving-rises = λ o. refl; inserting-rises = λ g n. refl; deleting-rises = λ p. refl }
+unfolding receiveChecks insertChecks deleteChecks restoreChecks reply answerOf
+checking-order formed s = record { receiving-meets = λ o. refl; inserting-meets = λ g n. refl; deleting-meets = λ p. refl; restoring-meets = λ x. refl; receiving-rises = λ o. refl; inserting-rises = λ g n. refl; deleting-rises = λ p. refl; restoring-rises = λ x. refl }

@@ -7,18 +7,20 @@ use mathlib.Core.List.{List, [], _∷_}
 use mathlib.Core.Option.{Option, none, some}
 use Rattle.woot.specs.declared.Operation.{Operation}
 use Rattle.woot.specs.declared.Refusal.{Refusal}
-use Rattle.woot.specs.declared.Refusal.the-variants.{Layout, Range, Form, Position, Clock, Taken, Conflict, Crossed, Unplaceable, SenderFull, DocumentFull, Output}
+use Rattle.woot.specs.declared.Refusal.the-variants.{Layout, Range, Form, Position, NotHidden, LastToggle, Clock, Taken, Conflict, Crossed, Unplaceable, SenderFull, DocumentFull, Output}
 use Rattle.woot.specs.declared.Answer.{Answer}
 use Rattle.woot.specs.declared.Answer.the-variants.{Done, Deferred, Duplicate, Refused}
 use Rattle.woot.specs.declared.Sent.{Sent}
 use Rattle.woot.specs.declared.Sent.the-variants.{Done as sentDone, Refused as sentRefused}
 
--- document 01, "Grounds for turning a call away"
+-- document 01, "Grounds for turning a call away", and the numbers that document 02 adds
 abbrev pub number : Refusal → ℕ
 number Layout = 1
 number Range = 2
 number Form = 3
 number Position = 4
+number NotHidden = 13
+number LastToggle = 14
 number Clock = 5
 number Taken = 6
 number Conflict = 7
@@ -29,20 +31,22 @@ number DocumentFull = 11
 number Output = 12
 
 -- the place of a refusal in the checking order: what compares two refusals compares these, since a later number may be
--- checked earlier
+-- checked earlier; 13 and 14 "come after 4, in that order"
 abbrev pub rank : Refusal → ℕ
 rank Layout = 1
 rank Range = 2
 rank Form = 3
 rank Position = 4
-rank Clock = 5
-rank Taken = 6
-rank Conflict = 7
-rank Crossed = 8
-rank Unplaceable = 9
-rank SenderFull = 10
-rank DocumentFull = 11
-rank Output = 12
+rank NotHidden = 5
+rank LastToggle = 6
+rank Clock = 7
+rank Taken = 8
+rank Conflict = 9
+rank Crossed = 10
+rank Unplaceable = 11
+rank SenderFull = 12
+rank DocumentFull = 13
+rank Output = 14
 
 -- the words of document 01's replies
 pub data Word : Type 0 where

@@ -1,4 +1,4 @@
--- The three calls: typing, erasing and receiving. Each has its conditions in checking order; where none holds, what is
+-- The four calls: typing, erasing, restoring and receiving. Each has its conditions in checking order; where none holds, what is
 -- done stands below them.
 use Prim.Native.Nat.{ℕ, suc, _+_}
 use mathlib.Core.Bool.{Bool, false, _&&_, _||_, not, cond}
@@ -9,22 +9,22 @@ use lib.ListN.{length, getD}
 use Rattle.woot.specs.declared.Identifier.{Identifier}
 use Rattle.woot.specs.declared.Site.{Site}
 use Rattle.woot.specs.declared.Insert.{Insert}
-use Rattle.woot.specs.declared.Delete.{Delete}
+use Rattle.woot.specs.declared.Toggle.{Toggle}
 use Rattle.woot.specs.declared.Operation.{Operation}
-use Rattle.woot.specs.declared.Operation.the-variants.{Insert as insert, Delete as delete}
+use Rattle.woot.specs.declared.Operation.the-variants.{Insert as insert, Toggle as toggle}
 use Rattle.woot.specs.declared.Character.{Character}
-use Rattle.woot.specs.declared.Refusal.the-variants.{Range, Form, Position, Clock, Taken, Conflict, Crossed, Unplaceable, SenderFull, DocumentFull}
+use Rattle.woot.specs.declared.Refusal.the-variants.{Range, Form, Position, NotHidden, LastToggle, Clock, Taken, Conflict, Crossed, Unplaceable, SenderFull, DocumentFull}
 use Rattle.woot.specs.declared.Answer.{Answer}
 use Rattle.woot.specs.declared.Answer.the-variants.{Done, Deferred, Duplicate, Refused}
 use Rattle.woot.specs.declared.Sent.{Sent}
 use Rattle.woot.specs.declared.Sent.the-variants.{Done as sentDone, Refused as sentRefused}
-use Rattle.woot.specs.Limits.{lastClock, capacity, share}
+use Rattle.woot.specs.Limits.{lastClock, lastToggles, capacity, share}
 use Rattle.woot.specs.Identifiers.{begin, end, same}
 use Rattle.woot.specs.Operations.{sender, origin, isVisible, sameInsert, sameOperation, inserts}
-use Rattle.woot.specs.Ranges.{codePoint, inRange}
+use Rattle.woot.specs.Ranges.{codePoint, characterId, inRange}
 use Rattle.woot.specs.State.{State}
 use Rattle.woot.specs.Clock.{heardAll}
-use Rattle.woot.specs.Placing.{identifiers, integrateInsert, integrateDelete}
+use Rattle.woot.specs.Placing.{identifiers, integrateInsert, integrateToggle}
 use Rattle.woot.specs.Pending.{executable, crossed, unplaceable, pendingFrom, drain, Drained}
 use Rattle.woot.specs.Form.{presentInserts, wellFormed}
 use Rattle.woot.specs.Answers.{Check, _⇒_, first, decided}
@@ -77,16 +77,18 @@ insertCarried s i = let cs : List Character = integrateInsert (s .characters) i 
 
 -- ---- receiving
 
--- "known": a held or waiting insert equal in every field, a hidden row, an equal waiting erase
+-- "known": a held or waiting insert equal in every field; a row whose turn is as large, "if the line's isn't larger the
+-- answer is known"; an equal waiting erase
 unfoldable pub duplicate : State → Operation → Bool
 duplicate s (insert i) = any (λ c. sameInsert i (origin c)) (s .characters) || any (sameOperation (insert i)) (s .pending)
-duplicate s (delete d) =
-    any (λ c. same (d .target) (c .id) && not (isVisible c)) (s .characters) || any (sameOperation (delete d)) (s .pending)
+duplicate s (toggle t) =
+    any (λ c. same (t .target) (c .id) && leb (t .toggles) (c .toggles)) (s .characters)
+    || any (sameOperation (toggle t)) (s .pending)
 
 -- condition 7: "a received insert's identifier belongs to a row or waiting insert with other fields"
 unfoldable pub conflicting : State → Operation → Bool
 conflicting s (insert i) = any (λ j. same (i .id) (j .id) && not (sameInsert i j)) (presentInserts s)
-conflicting s (delete d) = false
+conflicting s (toggle t) = false
 
 -- condition 10: "the operation must wait and its sender has 32 waiting already"
 unfoldable pub senderFull : State → Operation → Bool
@@ -95,7 +97,7 @@ senderFull s o = not (executable (s .characters) o) && leb share (pendingFrom (s
 -- condition 11: "it is an insert, typed or received, and rows plus waiting inserts are 1,024"
 unfoldable pub documentFull : State → Operation → Bool
 documentFull s (insert i) = leb capacity (length (presentInserts s))
-documentFull s (delete d) = false
+documentFull s (toggle t) = false
 
 -- in checking order; `formed` says whether the replica is in form
 unfoldable pub receiveChecks : Bool → State → Operation → List (Check Answer)
@@ -119,12 +121,12 @@ carryOut done s (insert i) =
       drained = d .integrated;
       discarded = d .discarded;
     }
-carryOut done s (delete d) =
-    let cs : List Character = integrateDelete (s .characters) d in
+carryOut done s (toggle t) =
+    let cs : List Character = integrateToggle (s .characters) t in
     record {
       answer = done 1 0;
       state = withCharacters s cs;
-      own = delete d ∷ [];
+      own = toggle t ∷ [];
       drained = [];
       discarded = [];
     }
@@ -196,7 +198,19 @@ localInsertWhen formed s g n =
 unfoldable pub localInsert : State → ℕ → ℕ → Outcome Sent
 localInsert s g n = localInsertWhen (wellFormed s) s g n
 
--- ---- erasing
+-- ---- erasing and restoring
+
+-- the toggles of the character with the identifier x, 0 where none has it
+unfoldable pub togglesOf : List Character → Identifier → ℕ
+togglesOf [] x = 0
+togglesOf (c ∷ cs) x = cond (same x (c .id)) (c .toggles) (togglesOf cs x)
+
+-- what is made here for the character x: it "raises its turn by one", and "its sender is the laptop"
+unfoldable pub generatedToggle : State → Identifier → Toggle
+generatedToggle s x = record { sender = s .site .number; target = x; toggles = togglesOf (s .characters) x + 1 }
+
+unfoldable pub sendToggle : State → Toggle → Outcome Sent
+sendToggle s t = carryOut (sentDone (toggle t)) s (toggle t)
 
 -- condition 4 for erasing: "the place is 0 or above it"
 unfoldable pub notVisible : State → ℕ → Bool
@@ -205,17 +219,37 @@ notVisible s p = eqb p 0 || beyondVisible s p
 unfoldable pub deleteChecks : Bool → State → ℕ → List (Check Sent)
 deleteChecks formed s p = (not formed ⇒ sentRefused Form) ∷ (notVisible s p ⇒ sentRefused Position) ∷ []
 
--- "its sender is the laptop": the delete of the visible character p, counted from 1
-unfoldable pub generatedDelete : State → ℕ → Delete
-generatedDelete s p = record { sender = s .site .number; target = getD (begin ∷ visibles (s .characters)) p begin }
-
-unfoldable pub sendDelete : State → Delete → Outcome Sent
-sendDelete s d = carryOut (sentDone (delete d)) s (delete d)
+-- "erasing a shown row raises its turn by one": the visible character p, counted from 1
+unfoldable pub generatedDelete : State → ℕ → Toggle
+generatedDelete s p = generatedToggle s (getD (begin ∷ visibles (s .characters)) p begin)
 
 unfoldable pub localDeleteWhen : Bool → State → ℕ → Outcome Sent
 localDeleteWhen formed s p =
-    decided (unchanged s) (first (deleteChecks formed s p)) (sendDelete s (generatedDelete s p))
+    decided (unchanged s) (first (deleteChecks formed s p)) (sendToggle s (generatedDelete s p))
 
 -- erasing the visible character p, counted from 1
 unfoldable pub localDelete : State → ℕ → Outcome Sent
 localDelete s p = localDeleteWhen (wellFormed s) s p
+
+-- condition 13, document 02, Req 05: "the row isn't held or is shown", so no hidden one has the identifier
+unfoldable pub notHidden : State → Identifier → Bool
+notHidden s x = not (any (λ c. same x (c .id) && not (isVisible c)) (s .characters))
+
+-- condition 14: "its turn is 255"
+unfoldable pub lastToggle : State → Identifier → Bool
+lastToggle s x = eqb (togglesOf (s .characters) x) lastToggles
+
+-- "these come after 4, in that order"
+unfoldable pub restoreChecks : Bool → State → Identifier → List (Check Sent)
+restoreChecks formed s x =
+    (not (characterId x) ⇒ sentRefused Range) ∷ (not formed ⇒ sentRefused Form) ∷ (notHidden s x ⇒ sentRefused NotHidden)
+    ∷ (lastToggle s x ⇒ sentRefused LastToggle)
+    ∷ []
+
+unfoldable pub localRestoreWhen : Bool → State → Identifier → Outcome Sent
+localRestoreWhen formed s x =
+    decided (unchanged s) (first (restoreChecks formed s x)) (sendToggle s (generatedToggle s x))
+
+-- "restoring names an identifier and raises a hidden row's turn by one"
+unfoldable pub localRestore : State → Identifier → Outcome Sent
+localRestore s x = localRestoreWhen (wellFormed s) s x

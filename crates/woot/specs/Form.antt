@@ -10,7 +10,7 @@ use Rattle.woot.specs.declared.Site.{Site}
 use Rattle.woot.specs.declared.Replica.{Replica}
 use Rattle.woot.specs.Limits.{lastSite, capacity, share}
 use Rattle.woot.specs.Identifiers.{same}
-use Rattle.woot.specs.Operations.{origin, inserts, deletes, sameDelete}
+use Rattle.woot.specs.Operations.{origin, inserts, togglesAmong, sameToggle}
 use Rattle.woot.specs.Ranges.{siteInRange, characterInRange, inRange}
 use Rattle.woot.specs.State.{State, meaning, counted, tableAgrees}
 use Rattle.woot.specs.Clock.{ownInsert, heardAll}
@@ -43,9 +43,10 @@ capacityKept s = leb (length (presentInserts s)) capacity
 unfoldable pub identifiersDistinct : State → Bool
 identifiersDistinct s = distinct same (map (λ i. i .id) (presentInserts s))
 
--- "no two waiting erases have the same sender and identifier"
-unfoldable pub deletesDistinct : State → Bool
-deletesDistinct s = distinct sameDelete (deletes (s .pending))
+-- "no two waiting erases have the same sender and identifier", read with document 02, Req 05: "two waiting ones are the
+-- same if all four numbers agree"
+unfoldable pub togglesDistinct : State → Bool
+togglesDistinct s = distinct sameToggle (togglesAmong (s .pending))
 
 -- of one row, "previous stands above it and its next below it"
 unfoldable pub ordered : List Character → Character → Bool
@@ -71,7 +72,7 @@ clockKept s = every (clockReaches (s .site)) (presentInserts s)
 -- in form; "the form gains" the last condition
 unfoldable pub wellFormed : State → Bool
 wellFormed s =
-    allInRange s && sharesKept s && capacityKept s && identifiersDistinct s && deletesDistinct s
+    allInRange s && sharesKept s && capacityKept s && identifiersDistinct s && togglesDistinct s
     && neighboursOrdered s
     && noneExecutable s
     && clockKept s

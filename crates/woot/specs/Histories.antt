@@ -1,24 +1,27 @@
 -- Lists of calls, each given the state that the one before left, and what was carried out over them.
-use Prim.Native.Nat.{ℕ, _+_}
+use Prim.Native.Nat.{ℕ, _+_, max}
+use mathlib.Core.Bool.{cond}
 use mathlib.Core.Path.{_≡_}
 use mathlib.Core.List.{List, [], _∷_, _++_, List·Memᴰ}
 use mathlib.Core.Logic.{_↔_}
 use Rattle.woot.specs.declared.Identifier.{Identifier}
 use Rattle.woot.specs.declared.Insert.{Insert}
-use Rattle.woot.specs.declared.Delete.{Delete}
 use Rattle.woot.specs.declared.Operation.{Operation}
-use Rattle.woot.specs.declared.Operation.the-variants.{Insert as insert, Delete as delete}
+use Rattle.woot.specs.declared.Operation.the-variants.{Insert as insert, Toggle as toggle}
 use Rattle.woot.specs.declared.Character.{Character}
 use Rattle.woot.specs.declared.Answer.{Answer}
 use Rattle.woot.specs.declared.Answer.the-variants.{Done, Deferred, Duplicate, Refused}
+use Rattle.woot.specs.Identifiers.{same}
 use Rattle.woot.specs.State.{State, initial}
 use Rattle.woot.specs.Answers.{answerOf}
-use Rattle.woot.specs.Calls.{Outcome, allIntegrated, receive, localInsert, localDelete}
+use Rattle.woot.specs.Calls.{Outcome, allIntegrated, receive, localInsert, localDelete, localRestore}
 
--- the kinds of call, with any arguments: typing at a gap, erasing at a place, receiving
+-- the kinds of call, with any arguments: typing at a gap, erasing at a place, receiving; document 02, Req 05, "restoring
+-- calls, with any identifier, stand in its lists too"
 pub data Call : Type 0 where
   inserting : ℕ → ℕ → Call
   deleting : ℕ → Call
+  restoring : Identifier → Call
   receiving : Operation → Call
 
 abbrev pub withAnswer : {A B : Type 0} → (A → B) → Outcome A → Outcome B
@@ -29,6 +32,7 @@ withAnswer f r =
 unfoldable pub outcome : State → Call → Outcome Answer
 outcome s (inserting g n) = withAnswer answerOf (localInsert s g n)
 outcome s (deleting p) = withAnswer answerOf (localDelete s p)
+outcome s (restoring x) = withAnswer answerOf (localRestore s x)
 outcome s (receiving o) = receive s o
 
 -- "every call gets the sheet, record included, as the call before returned or left it"
@@ -67,9 +71,11 @@ deferredBy s (c ∷ cs) = isDeferred (outcome s c .answer) + deferredBy (outcome
 abbrev pub InsertedIn : Insert → List Operation → Type 0
 InsertedIn i os = List·Memᴰ (insert i) os
 
--- "one is erased once an erase of it is carried out", whoever sent it
-abbrev pub DeletedIn : Identifier → List Operation → Type 0
-DeletedIn x os = (d : Delete) × (d .target ≡ x) × List·Memᴰ (delete d) os
+-- document 02, Req 05, of a character: "the same largest turn carried out, 0 if none was", whoever sent it
+abbrev pub largestIn : Identifier → List Operation → ℕ
+largestIn x [] = 0
+largestIn x (insert i ∷ os) = largestIn x os
+largestIn x (toggle t ∷ os) = cond (same (t .target) x) (max (t .toggles) (largestIn x os)) (largestIn x os)
 
 -- ---- from a beginning
 
@@ -95,6 +101,6 @@ historyOf b cs = beforehand b ++ integratedBy (startOf b) cs
 abbrev pub SameInserted : List Operation → List Operation → Type 0
 SameInserted os ps = (i : Insert) → InsertedIn i os ↔ InsertedIn i ps
 
--- the same ones erased
-abbrev pub SameDeleted : List Operation → List Operation → Type 0
-SameDeleted os ps = (x : Identifier) → DeletedIn x os ↔ DeletedIn x ps
+-- "and, for each, the same largest turn carried out"
+abbrev pub SameToggled : List Operation → List Operation → Type 0
+SameToggled os ps = (i : Insert) → InsertedIn i os → largestIn (i .id) os ≡ largestIn (i .id) ps

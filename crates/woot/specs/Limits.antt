@@ -1,4 +1,4 @@
--- The limits of document 01.
+-- The limits of document 01, and of the toggles of document 02.
 use Prim.Native.Nat.{ℕ}
 
 -- sites are numbered 1 to this
@@ -19,6 +19,10 @@ firstSurrogate = 55296
 
 abbrev pub lastSurrogate : ℕ
 lastSurrogate = 57343
+
+-- document 02, Req 05: a character's toggles run to this
+abbrev pub lastToggles : ℕ
+lastToggles = 255
 
 -- characters, and characters with pending inserts, are at most this many
 abbrev pub capacity : ℕ

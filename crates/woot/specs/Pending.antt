@@ -7,31 +7,32 @@ use lib.Dec.{eqb}
 use lib.ListN.{length}
 use Rattle.woot.specs.declared.Insert.{Insert}
 use Rattle.woot.specs.declared.Operation.{Operation}
-use Rattle.woot.specs.declared.Operation.the-variants.{Insert as insert, Delete as delete}
+use Rattle.woot.specs.declared.Operation.the-variants.{Insert as insert, Toggle as toggle}
 use Rattle.woot.specs.declared.Character.{Character}
 use Rattle.woot.specs.Operations.{sender}
-use Rattle.woot.specs.Placing.{held, above, position, between, integrateInsert, integrateDelete}
+use Rattle.woot.specs.Placing.{held, above, position, between, integrateInsert, integrateToggle}
 use Rattle.lists.specs.Lists.{keep, missing}
 
--- "An insert needs its previous and next held (marks always are). An erase needs its row." (001, isExecutable)
+-- "An insert needs its previous and next held (marks always are). An erase needs its row." (001, isExecutable); and
+-- "an `E` waits as an erase did"
 unfoldable pub executable : List Character → Operation → Bool
 executable cs (insert i) = held cs (i .previous) && held cs (i .next)
-executable cs (delete d) = held cs (d .target)
+executable cs (toggle t) = held cs (t .target)
 
 -- condition 8: "previous and next are both held and previous doesn't stand above next"
 unfoldable pub crossed : List Character → Operation → Bool
 crossed cs (insert i) = executable cs (insert i) && not (above cs (i .previous) (i .next))
-crossed cs (delete d) = false
+crossed cs (toggle t) = false
 
 -- condition 9: "at some step of placing there are rows between and no candidate"
 unfoldable pub unplaceable : List Character → Operation → Bool
 unplaceable cs (insert i) = executable cs (insert i) && missing (position cs (i .id) (between cs i))
-unplaceable cs (delete d) = false
+unplaceable cs (toggle t) = false
 
 -- the characters after an operation is carried out
 unfoldable pub integrate : List Character → Operation → List Character
 integrate cs (insert i) = integrateInsert cs i
-integrate cs (delete d) = integrateDelete cs d
+integrate cs (toggle t) = integrateToggle cs t
 
 -- the operations of one sender
 abbrev pub sentBy : ℕ → List Operation → List Operation

@@ -7,10 +7,10 @@ use lib.Dec.{leb, ltb}
 use lib.ListN.{length}
 use Rattle.woot.specs.declared.Identifier.{Identifier}
 use Rattle.woot.specs.declared.Insert.{Insert}
-use Rattle.woot.specs.declared.Delete.{Delete}
+use Rattle.woot.specs.declared.Toggle.{Toggle}
 use Rattle.woot.specs.declared.Character.{Character}
 use Rattle.woot.specs.Identifiers.{begin, end, same, below}
-use Rattle.woot.specs.Operations.{character, deletedBy}
+use Rattle.woot.specs.Operations.{character, toggledBy}
 use Rattle.lists.specs.Lists.{keep}
 
 abbrev pub identifiers : List Character → List Identifier
@@ -100,6 +100,6 @@ unfoldable pub integrateInsert : List Character → Insert → List Character
 integrateInsert cs i =
     elim (position cs (i .id) (between cs i)) [ none ↦ cs | some k ↦ insertAt k (character i) cs ]
 
--- the characters with the target of a delete hidden (001, IntegrateDel)
-unfoldable pub integrateDelete : List Character → Delete → List Character
-integrateDelete cs d = map (deletedBy d) cs
+-- the characters with the target of a toggle deleted or restored (001, IntegrateDel; document 02, Req 05)
+unfoldable pub integrateToggle : List Character → Toggle → List Character
+integrateToggle cs t = map (toggledBy t) cs

@@ -5,11 +5,11 @@ use lib.Dec.{leb}
 use Rattle.woot.specs.declared.Identifier.{Identifier}
 use Rattle.woot.specs.declared.Site.{Site}
 use Rattle.woot.specs.declared.Insert.{Insert}
-use Rattle.woot.specs.declared.Delete.{Delete}
+use Rattle.woot.specs.declared.Toggle.{Toggle}
 use Rattle.woot.specs.declared.Operation.{Operation}
-use Rattle.woot.specs.declared.Operation.the-variants.{Insert as insert, Delete as delete}
+use Rattle.woot.specs.declared.Operation.the-variants.{Insert as insert, Toggle as toggle}
 use Rattle.woot.specs.declared.Character.{Character}
-use Rattle.woot.specs.Limits.{lastSite, lastClock, lastCodePoint, firstSurrogate, lastSurrogate}
+use Rattle.woot.specs.Limits.{lastSite, lastClock, lastCodePoint, firstSurrogate, lastSurrogate, lastToggles}
 use Rattle.woot.specs.Identifiers.{begin, end, same}
 use Rattle.woot.specs.Operations.{origin}
 
@@ -48,12 +48,14 @@ insertInRange i =
     && not (same (i .id) (i .previous))
     && not (same (i .id) (i .next))
 
-unfoldable pub deleteInRange : Delete → Bool
-deleteInRange d = siteNumber (d .sender) && characterId (d .target)
+-- document 02, Req 05: "with turn 1 to 255"
+unfoldable pub toggleInRange : Toggle → Bool
+toggleInRange t = siteNumber (t .sender) && characterId (t .target) && within 1 lastToggles (t .toggles)
 
 unfoldable pub inRange : Operation → Bool
 inRange (insert i) = insertInRange i
-inRange (delete d) = deleteInRange d
+inRange (toggle t) = toggleInRange t
 
+-- document 02, Req 05: "each row now has a turn, 0 to 255"
 unfoldable pub characterInRange : Character → Bool
-characterInRange c = insertInRange (origin c)
+characterInRange c = insertInRange (origin c) && within 0 lastToggles (c .toggles)

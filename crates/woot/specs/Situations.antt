@@ -7,17 +7,17 @@ use mathlib.Core.List.{List, [], _∷_, map}
 use Rattle.woot.specs.declared.Identifier.{Identifier}
 use Rattle.woot.specs.declared.Insert.{Insert}
 use Rattle.woot.specs.declared.Operation.{Operation}
-use Rattle.woot.specs.declared.Operation.the-variants.{Insert as insert, Delete as delete}
+use Rattle.woot.specs.declared.Operation.the-variants.{Insert as insert, Toggle as toggle}
 use Rattle.woot.specs.Identifiers.{begin, end}
-use Rattle.woot.specs.Operations.{character}
+use Rattle.woot.specs.Operations.{character, withToggles}
 use Rattle.woot.specs.State.{State, initial}
 use Rattle.woot.specs.Placing.{identifiers}
 use Rattle.woot.specs.declared.Answer.{Answer}
 use Rattle.woot.specs.declared.Answer.the-variants.{Done as answerDone, Deferred, Duplicate, Refused as answerRefused}
 use Rattle.woot.specs.declared.Sent.{Sent}
 use Rattle.woot.specs.Answers.{rank, done, waits, known, refused, Reply, reply, answerOf, Check}
-use Rattle.woot.specs.Calls.{receiveChecks, insertChecks, deleteChecks}
-use Rattle.woot.specs.Histories.{Call, inserting, deleting, receiving, outcome, run, integratedBy}
+use Rattle.woot.specs.Calls.{receiveChecks, insertChecks, deleteChecks, restoreChecks}
+use Rattle.woot.specs.Histories.{Call, inserting, deleting, restoring, receiving, outcome, run, integratedBy}
 use Rattle.woot.specs.Text.{text}
 
 infix 90 _at_
@@ -29,7 +29,7 @@ n at t = record { site = n; clock = t }
 abbrev pub put : Identifier → Identifier → Identifier → Insert
 put x p n = record { id = x; «code_point» = 65; previous = p; next = n }
 
--- an insert, and a delete by the site of the number, that arrive
+-- an insert that arrives
 abbrev pub ins : Identifier → Identifier → Identifier → Call
 ins x p n = receiving (insert (put x p n))
 
@@ -37,8 +37,20 @@ ins x p n = receiving (insert (put x p n))
 abbrev pub insAs : ℕ → Identifier → Identifier → Identifier → Call
 insAs n x p q = receiving (insert (record { id = x; «code_point» = n; previous = p; next = q }))
 
+-- a toggle by site n, of so many times
+abbrev pub toggleBy : ℕ → Identifier → ℕ → Operation
+toggleBy n x k = toggle (record { sender = n; target = x; toggles = k })
+
+-- a delete by site n, the first toggle
+abbrev pub deleteBy : ℕ → Identifier → Operation
+deleteBy n x = toggleBy n x 1
+
+-- the two as they arrive
+abbrev pub tog : ℕ → Identifier → ℕ → Call
+tog n x k = receiving (toggleBy n x k)
+
 abbrev pub del : ℕ → Identifier → Call
-del n x = receiving (delete (record { sender = n; target = x }))
+del n x = receiving (deleteBy n x)
 
 -- what is done in a situation: calls on a state, looked at for their replies, for what they carry out, or for the
 -- visible text that they leave
@@ -158,10 +170,6 @@ abbrev pub SituationsHold : Type 0
 SituationsHold = AllHold table
 
 -- ---- cases that tell the rules from slips
-
--- a delete by site n
-abbrev pub deleteBy : ℕ → Identifier → Operation
-deleteBy n x = delete (record { sender = n; target = x })
 
 -- deletes of 4/1 to 4/n by site 2, the last first
 abbrev pub deletesBy2 : ℕ → List Operation
@@ -300,9 +308,60 @@ clockCases =
     gives calls (Done 1 0 ∷ []) (1 at 1 ∷ 2 at 5 ∷ 1 at 2 ∷ []))
     ∷ []
 
+-- a state of site 1 with one character, of so many toggles
+abbrev pub toggledTo : ℕ → State
+toggledTo k =
+    record {
+      site = record { number = 1; clock = 9 };
+      characters = withToggles (character (put (2 at 1) begin end)) k ∷ [];
+      pending = [];
+    }
+
+-- document 02, Req 05: turns taken for shown and hidden, counted wrongly, or compared wrongly
+unfoldable pub toggleCases : List Situation
+toggleCases =
+    -- a turn that is not larger carried out, or a larger one known
+    (after (o1 ∷ tog 3 (1 at 1) 2 ∷ del 3 (1 at 1) ∷ tog 4 (1 at 1) 2 ∷ tog 4 (1 at 1) 3 ∷ [])
+    gives calls (Done 1 0 ∷ Done 1 0 ∷ Known ∷ Known ∷ Done 1 0 ∷ []) (1 at 1 ∷ []))
+    -- the smaller turn stays, or the row takes the one that comes last
+    ∷ (showing (initial 16) (o1 ∷ tog 3 (1 at 1) 2 ∷ del 3 (1 at 1) ∷ []) gives bytes (65 ∷ []))
+    ∷ (showing (initial 16) (tog 3 (1 at 1) 2 ∷ del 5 (1 at 1) ∷ o1 ∷ []) gives bytes (65 ∷ []))
+    ∷ (showing (initial 16) (o1 ∷ tog 3 (1 at 1) 2 ∷ tog 3 (1 at 1) 5 ∷ []) gives bytes [])
+    -- waiting ones compared without their turn; a drained one that is not larger not counted
+    ∷ (after (del 3 (1 at 1) ∷ tog 3 (1 at 1) 1 ∷ tog 3 (1 at 1) 2 ∷ o1 ∷ [])
+    gives calls (Waits ∷ Known ∷ Waits ∷ Done 3 0 ∷ []) (1 at 1 ∷ []))
+    ∷ (after (tog 3 (1 at 1) 2 ∷ del 5 (1 at 1) ∷ o1 ∷ []) gives calls (Waits ∷ Waits ∷ Done 3 0 ∷ []) (1 at 1 ∷ []))
+    -- two turns of one row counted once among a sender's 32
+    ∷ (calling (stateAt 0 [] (deletesBy2 31)) (tog 2 (4 at 1) 2 ∷ tog 2 (4 at 2) 2 ∷ [])
+    gives calls (Waits ∷ Refused 10 ∷ []) [])
+    -- 2 lets pass turn 0, or 256
+    ∷ (after (o1 ∷ tog 3 (1 at 1) 0 ∷ tog 3 (1 at 1) 256 ∷ [])
+    gives calls (Done 1 0 ∷ Refused 2 ∷ Refused 2 ∷ []) (1 at 1 ∷ []))
+    -- 3 passes a row of turn 256 or a waiting one of turn 0, or refuses turn 255 or two turns of one row
+    ∷ (calling (toggledTo 256) (del 3 (5 at 1) ∷ []) gives calls (Refused 3 ∷ []) (2 at 1 ∷ []))
+    ∷ (calling (toggledTo 255) (del 3 (5 at 1) ∷ []) gives calls (Waits ∷ []) (2 at 1 ∷ []))
+    ∷ (calling (stateAt 9 [] (toggleBy 3 (1 at 1) 0 ∷ [])) (o2 ∷ []) gives calls (Refused 3 ∷ []) [])
+    ∷ (calling (stateAt 9 [] (toggleBy 3 (1 at 1) 1 ∷ toggleBy 3 (1 at 1) 2 ∷ [])) (o2 ∷ [])
+    gives calls (Done 1 0 ∷ []) (2 at 1 ∷ []))
+    -- restoring a mark, what is not held, what only waits, what is shown
+    ∷ (after (restoring begin ∷ restoring (1 at 1) ∷ ins (1 at 1) (7 at 7) end ∷ restoring (1 at 1) ∷ [])
+    gives calls (Refused 2 ∷ Refused 13 ∷ Waits ∷ Refused 13 ∷ []) [])
+    ∷ (after (o1 ∷ restoring (1 at 1) ∷ del 3 (1 at 1) ∷ restoring (1 at 1) ∷ restoring (1 at 1) ∷ [])
+    gives calls (Done 1 0 ∷ Refused 13 ∷ Done 1 0 ∷ Done 1 0 ∷ Refused 13 ∷ []) (1 at 1 ∷ []))
+    -- what erasing and restoring send: the next turn, from here
+    ∷ (carrying (initial 16) (o1 ∷ del 3 (1 at 1) ∷ restoring (1 at 1) ∷ deleting 1 ∷ [])
+    gives operations (insert (put (1 at 1) begin end) ∷ deleteBy 3 (1 at 1) ∷ toggleBy 16 (1 at 1) 2
+    ∷ toggleBy 16 (1 at 1) 3 ∷ []))
+    -- 14 one turn early, or a turn that begins anew after the last
+    ∷ (calling (toggledTo 253) (restoring (2 at 1) ∷ deleting 1 ∷ restoring (2 at 1) ∷ [])
+    gives calls (Done 1 0 ∷ Done 1 0 ∷ Refused 14 ∷ []) (2 at 1 ∷ []))
+    -- the user's story: a line is erased, brought back, and stands where it stood
+    ∷ (showing xyz (deleting 2 ∷ restoring (2 at 2) ∷ []) gives bytes (65 ∷ 65 ∷ 65 ∷ []))
+    ∷ []
+
 -- each case tells the rule from the slip that its comment names
 abbrev pub CasesTell : Type 0
-CasesTell = AllHold slipCases × AllHold answerCases × AllHold clockCases
+CasesTell = AllHold slipCases × AllHold answerCases × AllHold clockCases × AllHold toggleCases
 
 -- ---- the checking order
 
@@ -327,13 +386,16 @@ rises [] = true
 rises (n ∷ []) = true
 rises (n ∷ m ∷ ns) = ltb n m && rises (m ∷ ns)
 
--- receiving meets 2, 3, known, 7, 8, 9, 10, 11; typing 2, 3, 4, 5, 6 (reserved), 9, 11; erasing 3, 4: in this order, on
--- any state
+-- receiving meets 2, 3, known, 7, 8, 9, 10, 11; typing 2, 3, 4, 5, 6 (reserved), 9, 11; erasing 3, 4; restoring 2, 3, 13,
+-- 14: in this order, on any state
 pub record CheckingOrder (formed : Bool) (s : State) : Type 0 where
   pub receiving-meets : (o : Operation) → numbersOf (receiveChecks formed s o) ≡ 2 ∷ 3 ∷ 0 ∷ 7 ∷ 8 ∷ 9 ∷ 10 ∷ 11 ∷ []
   pub inserting-meets : (g n : ℕ) → sentNumbersOf (insertChecks formed s g n) ≡ 2 ∷ 3 ∷ 4 ∷ 5 ∷ 6 ∷ 9 ∷ 11 ∷ []
   pub deleting-meets : (p : ℕ) → sentNumbersOf (deleteChecks formed s p) ≡ 3 ∷ 4 ∷ []
+  pub restoring-meets : (x : Identifier) → sentNumbersOf (restoreChecks formed s x) ≡ 2 ∷ 3 ∷ 13 ∷ 14 ∷ []
   -- and by rising rank, so that the first that holds is the lowest
   pub receiving-rises : (o : Operation) → rises (ranksOf (map (λ c. c .answer) (receiveChecks formed s o))) ≡ true
   pub inserting-rises : (g n : ℕ) → rises (ranksOf (map (λ c. answerOf (c .answer)) (insertChecks formed s g n))) ≡ true
   pub deleting-rises : (p : ℕ) → rises (ranksOf (map (λ c. answerOf (c .answer)) (deleteChecks formed s p))) ≡ true
+  pub restoring-rises :
+      (x : Identifier) → rises (ranksOf (map (λ c. answerOf (c .answer)) (restoreChecks formed s x))) ≡ true

@@ -1,6 +1,6 @@
 -- A replica's meaning: its site and two plain lists, on which the rules are written.
 use Prim.Native.Nat.{ℕ}
-use mathlib.Core.Bool.{Bool, false, _&&_}
+use mathlib.Core.Bool.{Bool, _&&_}
 use mathlib.Core.List.{List, [], map}
 use lib.Dec.{leb}
 use lib.ListN.{length, take}
@@ -37,7 +37,7 @@ slotOf o = record { operation = o }
 
 -- what stands in a slot that is not in use
 unfoldable pub blankCharacter : Character
-blankCharacter = record { id = begin; «code_point» = 0; visible = false; previous = begin; next = begin }
+blankCharacter = record { id = begin; «code_point» = 0; toggles = 0; previous = begin; next = begin }
 
 unfoldable pub blankPending : Pending
 blankPending = record { operation = insert (record { id = begin; «code_point» = 0; previous = begin; next = begin }) }

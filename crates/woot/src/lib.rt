@@ -40,33 +40,36 @@ pub struct Insert {
     pub next: Identifier,
 }
 
-// A character to be hidden, and who asks for it. (Document 01: erase.)
-pub struct Delete {
+// A character to be deleted or restored, and who asks for it: the character is to have been deleted and restored this
+// many times. (Document 02: what an `E` line says, and its turn.)
+pub struct Toggle {
     pub sender: u8,
     pub target: Identifier,
+    pub toggles: u8,
 }
 
 // What the sites send each other.
 pub enum Operation {
     Insert(Insert),
-    Delete(Delete),
+    Toggle(Toggle),
 }
 
-// A character in its place. One that is deleted stays, no longer visible. (Document 01: row; shown, hidden.)
+// A character in its place, with the count of its deletions and restorations, its causal length. One that is deleted
+// stays, no longer visible. (Document 01: row; document 02: turn.)
 pub struct Character {
     pub id: Identifier,
     pub code_point: u32,
-    pub visible: bool,
+    pub toggles: u8,
     pub previous: Identifier,
     pub next: Identifier,
 }
 
 impl Character {
-    // Whether it is visible. (Document 01: shown.)
+    // Whether it is visible: restored as often as it was deleted. (Document 01: shown.)
     pub fn is_visible(self) -> bool
         ensures { λ r. ⌜ r ≡ isVisible self ⌝ }
     {
-        self.visible
+        self.toggles % 2 == 0
     }
 }
 
@@ -111,7 +114,7 @@ impl Replica {
         let character = Character {
             id: none,
             code_point: 0,
-            visible: false,
+            toggles: 0,
             previous: none,
             next: none,
         };
@@ -149,6 +152,10 @@ pub enum Refusal {
     Form,
     // 4: no such insertion point or visible character.
     Position,
+    // 13: the character to be restored is not held, or is visible.
+    NotHidden,
+    // 14: the character to be restored has the highest count of toggles.
+    LastToggle,
     // 5: the clock is at its end.
     Clock,
     // 6: the identifier about to be used is taken. Reserved: no call answers it.
@@ -177,6 +184,8 @@ impl Refusal {
             Refusal::Range => 2,
             Refusal::Form => 3,
             Refusal::Position => 4,
+            Refusal::NotHidden => 13,
+            Refusal::LastToggle => 14,
             Refusal::Clock => 5,
             Refusal::Taken => 6,
             Refusal::Conflict => 7,
@@ -197,7 +206,7 @@ pub enum Answer {
     Refused(Refusal),
 }
 
-// What inserting and deleting here answer: the operation to be sent with the counts, or a refusal.
+// What inserting, deleting and restoring here answer: the operation to be sent with the counts, or a refusal.
 pub enum Sent {
     Done {
         operation: Operation,
@@ -213,7 +222,7 @@ pub struct Receipt {
     pub replica: Replica,
 }
 
-// What inserting and deleting here return.
+// What inserting, deleting and restoring here return.
 pub struct Generated {
     pub answer: Sent,
     pub replica: Replica,
