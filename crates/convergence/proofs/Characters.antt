@@ -23,6 +23,7 @@ use Rattle.lists.proofs.Members.{any-none}
 use Rattle.convergence.proofs.Identifiers.{eq-same, same-sym}
 use Rattle.convergence.proofs.Places.{Holding, is-begin, is-character, is-end, holding, index-here, index-later, not-begin, not-end, held-id, held-end, held-place, place-later, place-injective}
 use Rattle.lists.proofs.Tests.{side}
+use Rattle.convergence.proofs.Ranges.{origin-ranged}
 
 -- c at place k
 abbrev pub spot : ℕ → Character → Located
@@ -108,8 +109,8 @@ insert-id-in-range i h =
 
 module _ (cs : List Character) (s : Standing cs) where
   pub id-in-range : {c : Character} → List·Memᴰ c cs → characterId (c .id) ≡ true
-  unfolding characterInRange origin
-  id-in-range {c} m = insert-id-in-range (origin c) (s .ranges c m)
+  unfolding origin
+  id-in-range {c} m = insert-id-in-range (origin c) (origin-ranged c (s .ranges c m))
 
   pub located-place : {l : Located} → List·Memᴰ l (located 1 cs) → placeOf cs (l .at .id) ≡ l .place
   unfolding placeOf sequence

@@ -8,7 +8,7 @@ use lib.ListN.{length}
 use Rattle.woot.specs.declared.Identifier.{Identifier}
 use Rattle.woot.specs.declared.Insert.{Insert}
 use Rattle.woot.specs.declared.Operation.{Operation}
-use Rattle.woot.specs.declared.Operation.the-variants.{Insert as insert, Delete as delete}
+use Rattle.woot.specs.declared.Operation.the-variants.{Insert as insert, Toggle as toggle}
 use Rattle.woot.specs.declared.Character.{Character}
 use Rattle.woot.specs.Operations.{character}
 use Rattle.woot.specs.Ranges.{inRange}
@@ -19,8 +19,8 @@ use Rattle.lists.proofs.Tests.{and-intro}
 use Rattle.lists.proofs.Members.{every-member}
 use Rattle.convergence.proofs.Extract.{Extract, extract-length, extract-itself, extract-front, extract-map, extract-every, every-extract}
 use Rattle.convergence.specs.Invariants.{Sound, pendingIds}
-use Rattle.convergence.proofs.Soundness.{inserts-same, ids-extract, sound-out, out-fresh, out-room, placed-extract, sound-in, sound-hide}
-use Rattle.convergence.proofs.Deletion.{delete-identifiers}
+use Rattle.convergence.proofs.Soundness.{inserts-same, ids-extract, sound-out, out-fresh, out-room, placed-extract, sound-in, sound-toggle}
+use Rattle.convergence.proofs.Toggling.{toggle-identifiers}
 use Rattle.convergence.proofs.Drains.{Draining, stop, discard, carry}
 
 -- carrying out what was pending keeps the lists sound
@@ -28,7 +28,7 @@ pub sound-carry : {cs : List Character} {os ps : List Operation} (o : Operation)
 unfolding integrate inRange
 sound-carry {cs} {os} {ps} (insert i) e s ready uncrossed placeable =
     sound-in i (sound-out e s) (every-member inRange (s .pending-ranges) (extract-itself e)) (out-fresh e s) (out-room e s) ready uncrossed placeable
-sound-carry {cs} {os} {ps} (delete d) e s ready uncrossed placeable = sound-hide d (sound-out e s)
+sound-carry {cs} {os} {ps} (toggle d) e s ready uncrossed placeable = sound-toggle d (every-member inRange (s .pending-ranges) (extract-itself e)) (sound-out e s)
 
 pub drained-sound : {cs : List Character} {ps : List Operation} {d : Drained} → Draining cs ps d → Sound cs ps → Sound (d .characters) (d .pending)
 unfolding drained andDiscarded andIntegrated
@@ -53,7 +53,7 @@ drained-balance (carry {d = d} t f uncrossed placeable r) = omega (arith, extrac
 
 pub out-every : (p : Identifier → Bool) (cs : List Character) (o : Operation) {os ps : List Operation} → Extract o os ps → every p (identifiers cs ++ pendingIds ps) ≡ true → every p (identifiers cs ++ pendingIds os) ≡ true
 out-every p cs (insert i) e h = every-extract p (ids-extract cs e) h
-out-every p cs (delete d) e h = subst (λ (js : List Insert). every p (identifiers cs ++ map (λ j. j .id) js) ≡ true) (inserts-same e) h
+out-every p cs (toggle d) e h = subst (λ (js : List Insert). every p (identifiers cs ++ map (λ j. j .id) js) ≡ true) (inserts-same e) h
 
 -- an insert in its place brings its identifier
 pub in-every : (p : Identifier → Bool) (cs : List Character) (ps : List Operation) (i : Insert) → executable cs (insert i) ≡ true → crossed cs (insert i) ≡ false → unplaceable cs (insert i) ≡ false → p (i .id) ≡ true → every p (identifiers cs ++ pendingIds ps) ≡ true → every p (identifiers (integrateInsert cs i) ++ pendingIds ps) ≡ true
@@ -65,8 +65,8 @@ carry-every : (p : Identifier → Bool) (cs : List Character) (o : Operation) {o
 unfolding integrate
 carry-every p cs (insert i) {os} e ready uncrossed placeable h =
     in-every p cs os i ready uncrossed placeable (every-member p h (extract-itself (ids-extract cs e))) (out-every p cs (insert i) e h)
-carry-every p cs (delete d) {os} e ready uncrossed placeable h =
-    subst (λ xs. every p (xs ++ pendingIds os) ≡ true) (sym (delete-identifiers cs d)) (out-every p cs (delete d) e h)
+carry-every p cs (toggle d) {os} e ready uncrossed placeable h =
+    subst (λ xs. every p (xs ++ pendingIds os) ≡ true) (sym (toggle-identifiers cs d)) (out-every p cs (toggle d) e h)
 
 pub drained-every : (p : Identifier → Bool) {cs : List Character} {ps : List Operation} {d : Drained} → Draining cs ps d → every p (identifiers cs ++ pendingIds ps) ≡ true → every p (identifiers (d .characters) ++ pendingIds (d .pending)) ≡ true
 unfolding drained andDiscarded andIntegrated
@@ -78,7 +78,7 @@ drained-every p {cs} (carry t f uncrossed placeable r) h =
 -- the identifiers of inserts, one more or none more in front
 first-every : (p : Identifier → Bool) (cs : List Character) (o : Operation) (qs : List Operation) {os ps : List Operation} → Extract o os ps → every p (identifiers cs ++ pendingIds ps) ≡ true → every p (pendingIds qs) ≡ true → every p (pendingIds (o ∷ qs)) ≡ true
 first-every p cs (insert i) qs e h k = and-intro (every-member p h (extract-itself (ids-extract cs e))) k
-first-every p cs (delete d) qs e h k = k
+first-every p cs (toggle d) qs e h k = k
 
 pub integrated-every : (p : Identifier → Bool) {cs : List Character} {ps : List Operation} {d : Drained} → Draining cs ps d → every p (identifiers cs ++ pendingIds ps) ≡ true → every p (pendingIds (d .integrated)) ≡ true
 unfolding drained andDiscarded andIntegrated

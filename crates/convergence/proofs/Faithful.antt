@@ -1,40 +1,40 @@
--- The characters are what the operations carried out say: each insert of them and no other, hidden where a delete of it is
--- among them. Nothing is deleted before it is held, so a new character starts visible rightly.
-use Prim.Native.Nat.{ℕ, _+_}
+-- The characters are what the operations carried out say: each insert of them and no other, with the most toggles of it
+-- among them. Nothing is toggled before it is held, so a new character starts with none rightly.
+use Prim.Native.Nat.{ℕ, _+_, max}
 use native.Mathlib.Omega.{arith}
 use mathlib.Core.Path.{_≡_, refl, ap, sym, _∙_, subst}
-use mathlib.Core.Bool.{Bool, true, false, _&&_, not, true≢false}
+use mathlib.Core.Bool.{Bool, true, false, cond}
 use mathlib.Core.Logic.{_↔_, _⊎_, inl, inr, ⊎-elim}
 use mathlib.Core.List.{List, [], _∷_, _++_, map, append-nil, List·Memᴰ, List·Memᴰ·head, List·Memᴰ·not-nil, Memᴰ·append-left, Memᴰ·append-right, List·Memᴰ·append-cases, List·Memᴰ·eq-of-singleton}
 use lib.ListN.{length, length-append}
 use Rattle.woot.specs.declared.Identifier.{Identifier}
 use Rattle.woot.specs.declared.Insert.{Insert}
-use Rattle.woot.specs.declared.Delete.{Delete}
+use Rattle.woot.specs.declared.Toggle.{Toggle}
 use Rattle.woot.specs.declared.Operation.{Operation}
-use Rattle.woot.specs.declared.Operation.the-variants.{Insert as insert, Delete as delete}
+use Rattle.woot.specs.declared.Operation.the-variants.{Insert as insert, Toggle as toggle}
 use Rattle.woot.specs.declared.Character.{Character}
 use Rattle.woot.specs.Identifiers.{same}
-use Rattle.woot.specs.Operations.{character, origin, isVisible, deletedBy, inserts}
-use Rattle.woot.specs.Placing.{held, integrateDelete}
-use Rattle.woot.specs.Histories.{InsertedIn, DeletedIn}
+use Rattle.woot.specs.Operations.{character, origin, toggledBy, inserts}
+use Rattle.woot.specs.Placing.{held, integrateToggle}
+use Rattle.woot.specs.Histories.{InsertedIn, largestIn}
 use Rattle.lists.proofs.Tests.{either, clash}
 use Rattle.convergence.proofs.Extract.{Extract, extract-length, extract-cases, extract-itself, extract-old, extract-map}
-use Rattle.convergence.proofs.Identifiers.{same-eq, eq-same}
-use Rattle.convergence.proofs.Deletion.{marked-id, marked-visible, delete-length, delete-origins, delete-held, delete-member}
+use Rattle.convergence.proofs.Identifiers.{same-eq}
+use Rattle.convergence.proofs.Toggling.{marked-id, marked-toggles, toggle-length, toggle-origins, toggle-held, toggle-member}
 
 pub record Faithful (cs : List Character) (os : List Operation) : Type 0 where
   pub inserted : (i : Insert) → List·Memᴰ i (map origin cs) ↔ InsertedIn i os
   pub counted : length cs ≡ length (inserts os)
-  pub deleted : (c : Character) → List·Memᴰ c cs → (isVisible c ≡ false) ↔ DeletedIn (c .id) os
-  pub targets : (x : Identifier) → DeletedIn x os → held cs x ≡ true
+  pub largest : (c : Character) → List·Memᴰ c cs → c .toggles ≡ largestIn (c .id) os
+  pub untoggled : (x : Identifier) → held cs x ≡ false → largestIn x os ≡ 0
 
 pub faithful-empty : Faithful [] []
 faithful-empty =
     record {
       inserted = λ i. (λ m. absurd (List·Memᴰ·not-nil m), λ m. absurd (List·Memᴰ·not-nil m));
       counted = refl;
-      deleted = λ c m. absurd (List·Memᴰ·not-nil m);
-      targets = λ x w. absurd (List·Memᴰ·not-nil (w .2));
+      largest = λ c m. absurd (List·Memᴰ·not-nil m);
+      untoggled = λ x h. refl;
     }
 
 -- ---- one operation more at the end of a history
@@ -42,40 +42,48 @@ faithful-empty =
 inserts-append : (os ps : List Operation) → inserts (os ++ ps) ≡ inserts os ++ inserts ps
 inserts-append [] ps = refl
 inserts-append (insert i ∷ os) ps = ap (λ js. i ∷ js) (inserts-append os ps)
-inserts-append (delete d ∷ os) ps = inserts-append os ps
+inserts-append (toggle d ∷ os) ps = inserts-append os ps
 
 insert-eq : {i j : Insert} → insert i ≡ insert j → i ≡ j
 insert-eq e = cc
 
-delete-eq : {d f : Delete} → delete d ≡ delete f → d ≡ f
-delete-eq e = cc
+insert-toggle : {i : Insert} {d : Toggle} → insert i ≡ toggle d → ⊥
+insert-toggle e = let z : _≡_ {A = ℕ} 0 1 = cc in omega arith
 
-insert-delete : {i : Insert} {d : Delete} → insert i ≡ delete d → ⊥
-insert-delete e = let z : _≡_ {A = ℕ} 0 1 = cc in omega arith
+largest-insert : (x : Identifier) (os : List Operation) (i : Insert) → largestIn x (os ++ insert i ∷ []) ≡ largestIn x os
+largest-insert x [] i = refl
+largest-insert x (insert j ∷ os) i = largest-insert x os i
+largest-insert x (toggle d ∷ os) i = rw (largest-insert x os i)
 
--- what is deleted with one operation more
-deleted-before : {x : Identifier} {os : List Operation} (o : Operation) → DeletedIn x os → DeletedIn x (os ++ o ∷ [])
-deleted-before o w = (w .0, w .1, Memᴰ·append-left (o ∷ []) (w .2))
-
-deleted-insert : {x : Identifier} (os : List Operation) (i : Insert) → DeletedIn x (os ++ insert i ∷ []) → DeletedIn x os
-deleted-insert os i w = (w .0, w .1, ⊎-elim (λ m. m) (λ m. absurd (insert-delete (sym (List·Memᴰ·eq-of-singleton m)))) (List·Memᴰ·append-cases os (w .2)))
-
-deleted-delete : {x : Identifier} (os : List Operation) (d : Delete) → DeletedIn x (os ++ delete d ∷ []) → DeletedIn x os ⊎ (d .target ≡ x)
-deleted-delete os d w = ⊎-elim (λ m. inl (w .0, w .1, m)) (λ m. inr (ap (λ (f : Delete). f .target) (sym (delete-eq (List·Memᴰ·eq-of-singleton m))) ∙ w .1)) (List·Memᴰ·append-cases os (w .2))
-
-deleted-now : {x : Identifier} (os : List Operation) (d : Delete) → d .target ≡ x → DeletedIn x (os ++ delete d ∷ [])
-deleted-now os d e = (d, e, Memᴰ·append-right os (List·Memᴰ·head refl))
+largest-toggle : (x : Identifier) (os : List Operation) (d : Toggle) → largestIn x (os ++ toggle d ∷ []) ≡ cond (same (d .target) x) (max (largestIn x os) (d .toggles)) (largestIn x os)
+largest-toggle x [] d = go (same (d .target) x)
+  where
+    go : (b : Bool) → cond b (max (d .toggles) 0) 0 ≡ cond b (max 0 (d .toggles)) 0
+    go true = omega arith
+    go false = refl
+largest-toggle x (insert j ∷ os) d = largest-toggle x os d
+largest-toggle x (toggle f ∷ os) d =
+    ap (λ (n : ℕ). cond (same (f .target) x) (max (f .toggles) n) n) (largest-toggle x os d)
+    ∙ go (same (f .target) x) (same (d .target) x) (largestIn x os)
+  where
+    go : (a b : Bool) (n : ℕ) →
+        cond a (max (f .toggles) (cond b (max n (d .toggles)) n)) (cond b (max n (d .toggles)) n)
+        ≡ cond b (max (cond a (max (f .toggles) n) n) (d .toggles)) (cond a (max (f .toggles) n) n)
+    go true true n = omega arith
+    go true false n = refl
+    go false true n = refl
+    go false false n = refl
 
 -- ---- an insert carried out
 
 pub faithful-insert : {cs ds : List Character} {os : List Operation} (i : Insert) → Extract (character i) cs ds → held cs (i .id) ≡ false → ((x : Identifier) → held cs x ≡ true → held ds x ≡ true) → Faithful cs os → Faithful ds (os ++ insert i ∷ [])
-unfolding character origin isVisible
+unfolding character origin
 faithful-insert {cs} {ds} {os} i e fresh grows f =
     record {
       inserted = λ j. (to j, from j);
       counted = omega (arith, extract-length e, f .counted, ap length (inserts-append os (insert i ∷ [])), length-append (inserts os) (i ∷ []));
-      deleted = λ c m. ⊎-elim (λ k. subst (λ (b : Character). (isVisible b ≡ false) ↔ DeletedIn (b .id) (os ++ insert i ∷ [])) (sym k) new) (λ k. (λ h. deleted-before (insert i) (f .deleted c k .0 h), λ w. f .deleted c k .1 (deleted-insert os i w))) (extract-cases e m);
-      targets = λ x w. grows x (f .targets x (deleted-insert os i w));
+      largest = λ c m. ⊎-elim (λ k. subst (λ (b : Character). b .toggles ≡ largestIn (b .id) (os ++ insert i ∷ [])) (sym k) (sym (largest-insert (i .id) os i ∙ f .untoggled (i .id) fresh))) (λ k. f .largest c k ∙ sym (largest-insert (c .id) os i)) (extract-cases e m);
+      untoggled = λ x h. largest-insert x os i ∙ ⊎-elim (λ k. clash (grows x k) h) (λ k. f .untoggled x k) (either (held cs x));
     }
   where
     to : (j : Insert) → List·Memᴰ j (map origin ds) → InsertedIn j (os ++ insert i ∷ [])
@@ -84,39 +92,30 @@ faithful-insert {cs} {ds} {os} i e fresh grows f =
     from : (j : Insert) → InsertedIn j (os ++ insert i ∷ []) → List·Memᴰ j (map origin ds)
     from j m = ⊎-elim (λ k. extract-old (extract-map origin e) (f .inserted j .1 k)) (λ k. subst (λ (l : Insert). List·Memᴰ l (map origin ds)) (sym (insert-eq (List·Memᴰ·eq-of-singleton k))) (extract-itself (extract-map origin e))) (List·Memᴰ·append-cases os m)
 
-    new : (true ≡ false) ↔ DeletedIn (i .id) (os ++ insert i ∷ [])
-    new = (λ h. absurd (true≢false h), λ w. clash (f .targets (i .id) (deleted-insert os i w)) fresh)
+-- ---- a toggle carried out
 
--- ---- a delete carried out
-
-pub faithful-delete : {cs : List Character} {os : List Operation} (d : Delete) → held cs (d .target) ≡ true → Faithful cs os → Faithful (integrateDelete cs d) (os ++ delete d ∷ [])
-unfolding deletedBy
-faithful-delete {cs} {os} d ready f =
+pub faithful-toggle : {cs : List Character} {os : List Operation} (d : Toggle) → held cs (d .target) ≡ true → Faithful cs os → Faithful (integrateToggle cs d) (os ++ toggle d ∷ [])
+faithful-toggle {cs} {os} d ready f =
     record {
       inserted = λ j. (to j, from j);
-      counted = delete-length cs d ∙ f .counted ∙ sym (ap length (inserts-append os (delete d ∷ []) ∙ append-nil (inserts os)));
-      deleted = λ c m. let w = delete-member cs d m in subst (λ (b : Character). (isVisible b ≡ false) ↔ DeletedIn (b .id) (os ++ delete d ∷ [])) (w .2) (each (w .0) (w .1));
-      targets = λ y w. delete-held cs d y ∙ ⊎-elim (λ k. f .targets y k) (λ k. subst (λ (z : Identifier). held cs z ≡ true) k ready) (deleted-delete os d w);
+      counted = toggle-length cs d ∙ f .counted ∙ sym (ap length (inserts-append os (toggle d ∷ []) ∙ append-nil (inserts os)));
+      largest = λ c m. let w = toggle-member cs d m in subst (λ (b : Character). b .toggles ≡ largestIn (b .id) (os ++ toggle d ∷ [])) (w .2) (each (w .0) (w .1));
+      untoggled = λ x h. largest-toggle x os d ∙ elsewhere x (sym (toggle-held cs d x) ∙ h) (either (same (d .target) x));
     }
   where
-    x : Identifier
-    x = d .target
+    to : (j : Insert) → List·Memᴰ j (map origin (integrateToggle cs d)) → InsertedIn j (os ++ toggle d ∷ [])
+    to j m = Memᴰ·append-left (toggle d ∷ []) (f .inserted j .0 (subst (λ (js : List Insert). List·Memᴰ j js) (toggle-origins cs d) m))
 
-    to : (j : Insert) → List·Memᴰ j (map origin (integrateDelete cs d)) → InsertedIn j (os ++ delete d ∷ [])
-    to j m = Memᴰ·append-left (delete d ∷ []) (f .inserted j .0 (subst (λ (js : List Insert). List·Memᴰ j js) (delete-origins cs d) m))
+    from : (j : Insert) → InsertedIn j (os ++ toggle d ∷ []) → List·Memᴰ j (map origin (integrateToggle cs d))
+    from j m = ⊎-elim (λ k. subst (λ (js : List Insert). List·Memᴰ j js) (sym (toggle-origins cs d)) (f .inserted j .1 k)) (λ k. absurd (insert-toggle (List·Memᴰ·eq-of-singleton k))) (List·Memᴰ·append-cases os m)
 
-    from : (j : Insert) → InsertedIn j (os ++ delete d ∷ []) → List·Memᴰ j (map origin (integrateDelete cs d))
-    from j m = ⊎-elim (λ k. subst (λ (js : List Insert). List·Memᴰ j js) (sym (delete-origins cs d)) (f .inserted j .1 k)) (λ k. absurd (insert-delete (List·Memᴰ·eq-of-singleton k))) (List·Memᴰ·append-cases os m)
+    each : (c : Character) → List·Memᴰ c cs → toggledBy d c .toggles ≡ largestIn (toggledBy d c .id) (os ++ toggle d ∷ [])
+    each c m =
+        marked-toggles d c
+        ∙ ap (λ (n : ℕ). cond (same (d .target) (c .id)) (max n (d .toggles)) n) (f .largest c m)
+        ∙ sym (largest-toggle (c .id) os d)
+        ∙ ap (λ (x : Identifier). largestIn x (os ++ toggle d ∷ [])) (sym (marked-id d c))
 
-    hides : (c : Character) → List·Memᴰ c cs → isVisible (deletedBy d c) ≡ false → DeletedIn (c .id) (os ++ delete d ∷ [])
-    hides c m h = ⊎-elim (λ k. deleted-now os d (same-eq x (c .id) k)) (λ k. deleted-before (delete d) (f .deleted c m .0 (rw k at h))) (either (same x (c .id)))
-
-    hidden-by : (c : Character) → List·Memᴰ c cs → DeletedIn (c .id) (os ++ delete d ∷ []) → isVisible (deletedBy d c) ≡ false
-    hidden-by c m w = marked-visible d c ∙ ⊎-elim (λ k. rw (f .deleted c m .1 k)) (λ k. and-not (isVisible c) (eq-same k)) (deleted-delete os d w)
-      where
-        and-not : (b : Bool) {a : Bool} → a ≡ true → (b && not a) ≡ false
-        and-not true {a} e = rw e
-        and-not false e = refl
-
-    each : (c : Character) → List·Memᴰ c cs → (isVisible (deletedBy d c) ≡ false) ↔ DeletedIn (deletedBy d c .id) (os ++ delete d ∷ [])
-    each c m = (λ h. subst (λ (y : Identifier). DeletedIn y (os ++ delete d ∷ [])) (sym (marked-id d c)) (hides c m h), λ w. hidden-by c m (subst (λ (y : Identifier). DeletedIn y (os ++ delete d ∷ [])) (marked-id d c) w))
+    elsewhere : (x : Identifier) → held cs x ≡ false → (same (d .target) x ≡ true) ⊎ (same (d .target) x ≡ false) → cond (same (d .target) x) (max (largestIn x os) (d .toggles)) (largestIn x os) ≡ 0
+    elsewhere x h (inl k) = clash (subst (λ (y : Identifier). held cs y ≡ true) (same-eq (d .target) x k) ready) h
+    elsewhere x h (inr k) = rw k (f .untoggled x h)

@@ -14,7 +14,7 @@ use Rattle.woot.specs.Ranges.{within, siteNumber, siteInRange, characterInRange
 use Rattle.woot.specs.State.{State, initial}
 use Rattle.woot.specs.Placing.{identifiers}
 use Rattle.woot.specs.Pending.{executable, pendingFrom}
-use Rattle.woot.specs.Form.{presentInserts, allInRange, sharesKept, capacityKept, identifiersDistinct, deletesDistinct, neighboursOrdered, noneExecutable, clockReaches, clockKept, wellFormed}
+use Rattle.woot.specs.Form.{presentInserts, allInRange, sharesKept, capacityKept, identifiersDistinct, togglesDistinct, neighboursOrdered, noneExecutable, clockReaches, clockKept, wellFormed}
 use Rattle.convergence.specs.Invariants.{pendingIds, Sound}
 use Rattle.convergence.specs.Theorems.{EmptyFormed}
 use Rattle.lists.specs.Lists.{any, every, distinct}
@@ -49,11 +49,11 @@ pub known-reached : (s : State) → every (clockReaches (s .site)) (presentInser
 known-reached s = reached-ids (s .site) (presentInserts s) ∙ ap (every (reaches (s .site))) (known-ids s)
 
 pub formed : (s : State) → wellFormed s ≡ true → Formed s
-unfolding wellFormed allInRange sharesKept capacityKept identifiersDistinct deletesDistinct neighboursOrdered noneExecutable clockKept
+unfolding wellFormed allInRange sharesKept capacityKept identifiersDistinct togglesDistinct neighboursOrdered noneExecutable clockKept
 formed s h =
-    let lists = allInRange s && sharesKept s && capacityKept s && identifiersDistinct s && deletesDistinct s && neighboursOrdered s && noneExecutable s in
+    let lists = allInRange s && sharesKept s && capacityKept s && identifiersDistinct s && togglesDistinct s && neighboursOrdered s && noneExecutable s in
     let p =
-    seven (allInRange s) (sharesKept s) (capacityKept s) (identifiersDistinct s) (deletesDistinct s)
+    seven (allInRange s) (sharesKept s) (capacityKept s) (identifiersDistinct s) (togglesDistinct s)
     (neighboursOrdered s) (noneExecutable s) (and-left lists (clockKept s) h)
     in
     let q = three (siteInRange (s .site)) (every characterInRange (s .characters)) (every inRange (s .pending)) (p .0) in
@@ -68,20 +68,20 @@ formed s h =
             shares = p .1;
             room = omega (arith, known-length s);
             apart = subst (λ xs. distinct same xs ≡ true) (known-ids s) (p .3);
-            deletes-apart = p .4;
+            toggles-apart = p .4;
           };
       unready = not-true (any (executable (s .characters)) (s .pending)) (p .6);
       reached = sym (known-reached s) ∙ and-right lists (clockKept s) h;
     }
 
 pub reformed : (s : State) → Formed s → wellFormed s ≡ true
-unfolding wellFormed allInRange sharesKept capacityKept identifiersDistinct deletesDistinct neighboursOrdered noneExecutable clockKept
+unfolding wellFormed allInRange sharesKept capacityKept identifiersDistinct togglesDistinct neighboursOrdered noneExecutable clockKept
 reformed s f =
     let held : length (presentInserts s) ≤ capacity = omega (arith, known-length s, f .sound .room) in
-    rw (f .site, f .sound .ranges, f .sound .pending-ranges, f .sound .shares, le-leb (length (presentInserts s)) capacity held, known-ids s, f .sound .apart, f .sound .deletes-apart, f .sound .ordered-all, f .unready, known-reached s, f .reached)
+    rw (f .site, f .sound .ranges, f .sound .pending-ranges, f .sound .shares, le-leb (length (presentInserts s)) capacity held, known-ids s, f .sound .apart, f .sound .toggles-apart, f .sound .ordered-all, f .unready, known-reached s, f .reached)
 
 pub empty-formed : EmptyFormed
-unfolding wellFormed allInRange sharesKept capacityKept identifiersDistinct deletesDistinct neighboursOrdered noneExecutable clockKept initial siteInRange within presentInserts pendingFrom
+unfolding wellFormed allInRange sharesKept capacityKept identifiersDistinct togglesDistinct neighboursOrdered noneExecutable clockKept initial siteInRange within presentInserts pendingFrom
 empty-formed n = go (siteNumber n) refl
   where
     go : (b : Bool) → siteNumber n ≡ b → wellFormed (initial n) ≡ siteNumber n

@@ -5,9 +5,10 @@ use mathlib.Core.Path.{_≡_, refl}
 use mathlib.Core.Bool.{true, false, not}
 use mathlib.Core.List.{List, [], _∷_}
 use borrow.Author.Tests.{not-false}
+use Rattle.woot.specs.declared.Identifier.{Identifier}
 use Rattle.woot.specs.declared.Insert.{Insert}
 use Rattle.woot.specs.declared.Operation.{Operation}
-use Rattle.woot.specs.declared.Operation.the-variants.{Insert as insert, Delete as delete}
+use Rattle.woot.specs.declared.Operation.the-variants.{Insert as insert, Toggle as toggle}
 use Rattle.woot.specs.declared.Character.{Character}
 use Rattle.woot.specs.declared.Refusal.the-variants.{Range, Form, Unplaceable}
 use Rattle.woot.specs.declared.Answer.{Answer}
@@ -18,28 +19,28 @@ use Rattle.woot.specs.State.{State, initial}
 use Rattle.woot.specs.Pending.{executable, crossed, unplaceable, integrate, Drained, andIntegrated, andDiscarded, drained}
 use Rattle.woot.specs.Form.{wellFormed}
 use Rattle.woot.specs.Answers.{Check, Reported, here, number}
-use Rattle.woot.specs.Calls.{Outcome, unchanged, withCharacters, withPending, carryOut, defer, receiveChecks, receive, generatedInsert, insertChecks, localInsert, deleteChecks, localDelete}
-use Rattle.woot.specs.Histories.{Call, Begun, empty, startOf, inserting, deleting, receiving, outcome, run}
+use Rattle.woot.specs.Calls.{Outcome, unchanged, withCharacters, withPending, carryOut, defer, receiveChecks, receive, generatedInsert, insertChecks, localInsert, deleteChecks, localDelete, restoreChecks, localRestore}
+use Rattle.woot.specs.Histories.{Call, Begun, empty, startOf, inserting, deleting, restoring, receiving, outcome, run}
 use Rattle.convergence.specs.Agreement.{Grown}
 use Rattle.convergence.specs.Theorems.{GrownThroughout, NeverUnplaceable}
 use Rattle.lists.proofs.Tests.{clash, and-left}
 use Rattle.lists.proofs.Members.{every-member}
 use Rattle.convergence.proofs.Extract.{Extract, extract-itself}
-use Rattle.convergence.proofs.Growth.{grown-empty, grown-delete, grown-insert, grown-placeable}
+use Rattle.convergence.proofs.Growth.{grown-empty, grown-toggle, grown-insert, grown-placeable}
 use Rattle.convergence.specs.Invariants.{Sound}
 use Rattle.convergence.proofs.Forms.{formed}
 use Rattle.convergence.proofs.Soundness.{fresh-unheld, sound-in, sound-out, out-fresh}
 use Rattle.convergence.proofs.Drains.{Draining, stop, discard, carry}
 use Rattle.convergence.proofs.Draining.{sound-carry}
-use Rattle.convergence.proofs.Steps.{Step, turned, adds, removes, defers, step, generated-uncrossed, after-insert}
-use Rattle.convergence.proofs.Refusals.{skipped, held-there, never, unreported, other, other-sent, receive-refuses, insert-refuses, delete-refuses, answer-refused}
+use Rattle.convergence.proofs.Steps.{Step, turned, adds, raises, defers, step, generated-uncrossed, after-insert}
+use Rattle.convergence.proofs.Refusals.{skipped, held-there, never, unreported, other, other-sent, receive-refuses, insert-refuses, delete-refuses, restore-refuses, answer-refused}
 
 grown-carry : {cs : List Character} {os ps : List Operation} (o : Operation) → Extract o os ps → Sound cs ps → executable cs o ≡ true → crossed cs o ≡ false → Grown cs → Grown (integrate cs o)
 unfolding integrate inRange
 grown-carry {cs} {os} (insert i) e s ready uncrossed g =
     let r = every-member inRange (s .pending-ranges) (extract-itself e) in
     grown-insert cs i g r (fresh-unheld cs os i r (out-fresh e s)) ready uncrossed
-grown-carry {cs} (delete d) e s ready uncrossed g = grown-delete cs d g
+grown-carry {cs} (toggle d) e s ready uncrossed g = grown-toggle cs d (every-member inRange (s .pending-ranges) (extract-itself e)) g
 
 grown-drained : {cs : List Character} {ps : List Operation} {d : Drained} → Draining cs ps d → Sound cs ps → Grown cs → Grown (d .characters)
 unfolding drained andDiscarded andIntegrated
@@ -54,7 +55,7 @@ grown-step s (turned a w) g = g
 grown-step s (adds i a) g =
     grown-drained (after-insert s i) (sound-in i (a .formed .sound) (a .ranged) (a .fresh) (a .space) (a .ready) (a .uncrossed) (a .placeable))
     (grown-insert (s .characters) i g (a .ranged) (fresh-unheld (s .characters) (s .pending) i (a .ranged) (a .fresh)) (a .ready) (a .uncrossed))
-grown-step s (removes d a) g = grown-delete (s .characters) d g
+grown-step s (raises d a) g = grown-toggle (s .characters) d (a .ranged) g
 grown-step s (defers o a) g = g
 
 grown-run : (s : State) (cs : List Call) → Grown (s .characters) → Grown (run s cs .characters)
@@ -74,7 +75,7 @@ grown-throughout b cs = grown-run (startOf b) cs (begun-grown b)
 operation-placeable : (cs : List Character) (o : Operation) → Grown cs → crossed cs o ≡ false → unplaceable cs o ≡ true → ⊥
 unfolding unplaceable
 operation-placeable cs (insert i) g uncrossed u = clash u (grown-placeable cs i g (and-left (executable cs (insert i)) _ u) uncrossed)
-operation-placeable cs (delete d) g uncrossed u = clash u refl
+operation-placeable cs (toggle d) g uncrossed u = clash u refl
 
 receive-placeable : (s : State) (o : Operation) → Grown (s .characters) → Reported (Refused Unplaceable) (receiveChecks (wellFormed s) s o) → ⊥
 unfolding receiveChecks
@@ -102,10 +103,15 @@ delete-placeable : (s : State) (p : ℕ) → Reported (sentRefused Unplaceable) 
 unfolding deleteChecks
 delete-placeable s p = unreported (deleteChecks (wellFormed s) s p) (other-sent (λ h. omega arith), (other-sent (λ h. omega arith), tt))
 
+restore-placeable : (s : State) (x : Identifier) → Reported (sentRefused Unplaceable) (restoreChecks (wellFormed s) s x) → ⊥
+unfolding restoreChecks
+restore-placeable s x = unreported (restoreChecks (wellFormed s) s x) (other-sent (λ h. omega arith), (other-sent (λ h. omega arith), (other-sent (λ h. omega arith), (other-sent (λ h. omega arith), tt))))
+
 placeable : (s : State) (c : Call) → Grown (s .characters) → outcome s c .answer ≡ Refused Unplaceable → ⊥
-unfolding outcome receive localInsert localDelete
+unfolding outcome receive localInsert localDelete localRestore
 placeable s (inserting g n) w e = insert-placeable s g n w (insert-refuses (wellFormed s) s g n Unplaceable .0 (answer-refused _ Unplaceable e))
 placeable s (deleting p) w e = delete-placeable s p (delete-refuses (wellFormed s) s p Unplaceable .0 (answer-refused _ Unplaceable e))
+placeable s (restoring x) w e = restore-placeable s x (restore-refuses (wellFormed s) s x Unplaceable .0 (answer-refused _ Unplaceable e))
 placeable s (receiving o) w e = receive-placeable s o w (receive-refuses (wellFormed s) s o Unplaceable .0 e)
 
 pub never-unplaceable : NeverUnplaceable

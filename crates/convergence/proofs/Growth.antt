@@ -11,15 +11,15 @@ use borrow.Author.Tests.{leb-false}
 use lib.ListN.{length, getD}
 use Rattle.woot.specs.declared.Identifier.{Identifier}
 use Rattle.woot.specs.declared.Insert.{Insert}
-use Rattle.woot.specs.declared.Delete.{Delete}
+use Rattle.woot.specs.declared.Toggle.{Toggle}
 use Rattle.woot.specs.declared.Operation.the-variants.{Insert as insert}
 use Rattle.woot.specs.declared.Character.{Character}
 use Rattle.woot.specs.Identifiers.{same}
 use Rattle.woot.specs.Operations.{character, origin}
-use Rattle.woot.specs.Ranges.{insertInRange}
+use Rattle.woot.specs.Ranges.{insertInRange, toggleInRange}
 use Rattle.woot.specs.State.{blankCharacter}
 use Rattle.lists.specs.Lists.{missing}
-use Rattle.woot.specs.Placing.{placeOf, held, Interval, Located, adjacent, candidate, candidates, narrowed, position, between, integrateInsert, integrateDelete}
+use Rattle.woot.specs.Placing.{placeOf, held, Interval, Located, adjacent, candidate, candidates, narrowed, position, between, integrateInsert, integrateToggle}
 use Rattle.woot.specs.Pending.{executable, crossed, unplaceable}
 use Rattle.convergence.specs.Agreement.{Standing, Births, Grown}
 use Rattle.lists.proofs.Tests.{either}
@@ -28,10 +28,10 @@ use Rattle.lists.proofs.Members.{member-keep}
 use Rattle.convergence.proofs.Places.{held-id, held-place, above-lower, held-apart}
 use Rattle.lists.proofs.Tests.{side}
 use Rattle.convergence.proofs.Characters.{spot, member-located, at-index, between-marks}
-use Rattle.convergence.proofs.Deletion.{delete-each}
+use Rattle.convergence.proofs.Toggling.{toggle-each}
 use Rattle.convergence.proofs.Placing.{Candidate, is-candidate, narrowing, is-adjacent, position-adjacent, position-again}
-use Rattle.convergence.proofs.Standing.{previous-in, next-in, Placement, placement-at, neighbours-ordered, inserted, each, standing-insert-at, standing-empty, standing-delete}
-use Rattle.convergence.proofs.Sorting.{sorted-ascending, ascending-sorted, ascending-insert, ascending-delete, previous-place, next-place, previous-held, next-held}
+use Rattle.convergence.proofs.Standing.{previous-in, next-in, Placement, placement-at, neighbours-ordered, inserted, each, standing-insert-at, standing-empty, standing-toggle}
+use Rattle.convergence.proofs.Sorting.{sorted-ascending, ascending-sorted, ascending-insert, ascending-toggle, previous-place, next-place, previous-held, next-held}
 
 -- there is a candidate
 abbrev Eligible : List Character → Interval → Type 0
@@ -143,13 +143,13 @@ module _ (cs : List Character) (b : Births cs) (s : Standing cs) (i : Insert) (f
             (λ c m. omega (arith, birth-old (c .next) (next-held cs s m), birth-old (c .id) (held-id cs m), b .after-next c m));
       }
 
-births-delete : (cs : List Character) (x : Delete) → Births cs → Births (integrateDelete cs x)
+births-toggle : (cs : List Character) (x : Toggle) → Births cs → Births (integrateToggle cs x)
 unfolding origin
-births-delete cs x b =
+births-toggle cs x b =
     record {
       birth = b .birth;
-      after-previous = delete-each cs x (λ (i : Insert). b .birth (i .previous) < b .birth (i .id)) (b .after-previous);
-      after-next = delete-each cs x (λ (i : Insert). b .birth (i .next) < b .birth (i .id)) (b .after-next);
+      after-previous = toggle-each cs x (λ (i : Insert). b .birth (i .previous) < b .birth (i .id)) (b .after-previous);
+      after-next = toggle-each cs x (λ (i : Insert). b .birth (i .next) < b .birth (i .id)) (b .after-next);
     }
 
 pub grown-empty : Grown []
@@ -165,18 +165,18 @@ grown-empty =
       sorted = λ c d m. absurd (List·Memᴰ·not-nil m);
     }
 
-pub grown-delete : (cs : List Character) (x : Delete) → Grown cs → Grown (integrateDelete cs x)
-grown-delete cs x g =
+pub grown-toggle : (cs : List Character) (x : Toggle) → toggleInRange x ≡ true → Grown cs → Grown (integrateToggle cs x)
+grown-toggle cs x r g =
     record {
       standing = s;
-      births = births-delete cs x (g .births);
+      births = births-toggle cs x (g .births);
       sorted =
-          ascending-sorted (integrateDelete cs x) s
-          (ascending-delete cs x (sorted-ascending cs (g .standing) (g .sorted)));
+          ascending-sorted (integrateToggle cs x) s
+          (ascending-toggle cs x (sorted-ascending cs (g .standing) (g .sorted)));
     }
   where
-    s : Standing (integrateDelete cs x)
-    s = standing-delete cs x (g .standing)
+    s : Standing (integrateToggle cs x)
+    s = standing-toggle cs x r (g .standing)
 
 -- no refusal 9
 pub grown-placeable : (cs : List Character) (i : Insert) → Grown cs → executable cs (insert i) ≡ true → crossed cs (insert i) ≡ false

@@ -7,10 +7,11 @@ use mathlib.Core.Bool.{Bool, true, false, cond}
 use mathlib.Core.Option.{Option, none, some}
 use mathlib.Core.List.{List, [], _∷_, _++_, map}
 use borrow.Author.Tests.{not-false}
+use Rattle.woot.specs.declared.Identifier.{Identifier}
 use Rattle.woot.specs.declared.Site.{Site}
 use Rattle.woot.specs.declared.Insert.{Insert}
 use Rattle.woot.specs.declared.Operation.{Operation}
-use Rattle.woot.specs.declared.Operation.the-variants.{Insert as insert, Delete as delete}
+use Rattle.woot.specs.declared.Operation.the-variants.{Insert as insert, Toggle as toggle}
 use Rattle.woot.specs.declared.Character.{Character}
 use Rattle.woot.specs.declared.Refusal.the-variants.{Taken}
 use Rattle.woot.specs.declared.Answer.{Answer}
@@ -24,18 +25,19 @@ use Rattle.woot.specs.Pending.{executable}
 use Rattle.woot.specs.Clock.{heard, heardAll}
 use Rattle.woot.specs.Form.{presentInserts, allInRange, clockKept, wellFormed, raised}
 use Rattle.woot.specs.Answers.{Reported, first, decided, answerOf}
-use Rattle.woot.specs.Calls.{Outcome, unchanged, allIntegrated, withCharacters, withPending, afterDrain, carryOut, defer, accept, receiveChecks, receiveWhen, receive, generatedInsert, insertChecks, sendInsert, localInsertWhen, localInsert, deleteChecks, generatedDelete, sendDelete, localDeleteWhen, localDelete}
-use Rattle.woot.specs.Histories.{Call, inserting, deleting, receiving, withAnswer, outcome}
+use Rattle.woot.specs.Calls.{Outcome, unchanged, allIntegrated, withCharacters, withPending, afterDrain, carryOut, defer, accept, receiveChecks, receiveWhen, receive, generatedInsert, insertChecks, sendInsert, localInsertWhen, localInsert, deleteChecks, generatedDelete, sendToggle, localDeleteWhen, localDelete, restoreChecks, generatedToggle, localRestoreWhen, localRestore}
+use Rattle.woot.specs.Histories.{Call, inserting, deleting, restoring, receiving, withAnswer, outcome}
 use Rattle.lists.specs.Lists.{every}
 use Rattle.lists.proofs.Tests.{clash, and-left, and-right, and-intro, three}
 use Rattle.lists.proofs.Members.{every-append}
 use Rattle.convergence.specs.Clocks.{NeverTaken, TypingAdvances, putOff, ClockFollows, DrainingRaisesNothing, ClockNeverFalls, Raising}
 use Rattle.convergence.proofs.Clocks.{heard-range, heard-all-number, heard-all-clock, heard-all-still, heard-all-reaches, reached-ids}
 use Rattle.convergence.proofs.Forms.{Formed, formed}
-use Rattle.convergence.proofs.Steps.{Turned, Step, turned, adds, removes, defers, step, first-some, receive-turned, formed-untaken, typed-heard}
+use Rattle.convergence.proofs.Steps.{Turned, Step, turned, adds, raises, defers, step, first-some, receive-turned, formed-untaken, typed-heard}
 use Rattle.convergence.proofs.Kept.{insert-clock}
 use Rattle.convergence.proofs.Replies.{none-first, insert-does}
-use Rattle.convergence.proofs.Refusals.{skipped, held-there, never, unreported, other, other-sent, receive-refuses, insert-refuses, delete-refuses, answer-refused}
+use Rattle.convergence.proofs.Refusals.{skipped, held-there, never, unreported, other, other-sent, receive-refuses, insert-refuses, delete-refuses, restore-refuses, answer-refused}
+use Rattle.convergence.proofs.Ranges.{origin-ranged}
 
 -- ---- refusal 6
 
@@ -55,6 +57,10 @@ delete-untaken : (s : State) (p : ℕ) → Reported (sentRefused Taken) (deleteC
 unfolding deleteChecks
 delete-untaken s p = unreported (deleteChecks (wellFormed s) s p) (other-sent (λ h. omega arith), (other-sent (λ h. omega arith), tt))
 
+restore-untaken : (s : State) (x : Identifier) → Reported (sentRefused Taken) (restoreChecks (wellFormed s) s x) → ⊥
+unfolding restoreChecks
+restore-untaken s x = unreported (restoreChecks (wellFormed s) s x) (other-sent (λ h. omega arith), (other-sent (λ h. omega arith), (other-sent (λ h. omega arith), (other-sent (λ h. omega arith), tt))))
+
 receive-untaken : (s : State) (o : Operation) → Reported (Refused Taken) (receiveChecks (wellFormed s) s o) → ⊥
 unfolding receiveChecks
 receive-untaken s o =
@@ -62,9 +68,10 @@ receive-untaken s o =
     (other (λ h. omega arith), (other (λ h. omega arith), ((λ e. let z : _≡_ {A = ℕ} 0 1 = cc in omega arith), (other (λ h. omega arith), (other (λ h. omega arith), (other (λ h. omega arith), (other (λ h. omega arith), (other (λ h. omega arith), tt))))))))
 
 untaken : (s : State) (c : Call) → outcome s c .answer ≡ Refused Taken → ⊥
-unfolding outcome receive localInsert localDelete
+unfolding outcome receive localInsert localDelete localRestore
 untaken s (inserting g n) e = insert-untaken (wellFormed s) s g n (formed s) (insert-refuses (wellFormed s) s g n Taken .0 (answer-refused _ Taken e))
 untaken s (deleting p) e = delete-untaken s p (delete-refuses (wellFormed s) s p Taken .0 (answer-refused _ Taken e))
+untaken s (restoring x) e = restore-untaken s x (restore-refuses (wellFormed s) s x Taken .0 (answer-refused _ Taken e))
 untaken s (receiving o) e = receive-untaken s o (receive-refuses (wellFormed s) s o Taken .0 e)
 
 pub never-taken : NeverTaken
@@ -80,12 +87,14 @@ Follows s c r = r .state .site ≡ heardAll (s .site) (inserts (putOff c (r .ans
 off-turned : (c : Call) (a : Answer) → Turned a → putOff c a ≡ []
 off-turned (inserting g n) a w = refl
 off-turned (deleting p) a w = refl
+off-turned (restoring x) a w = refl
 off-turned (receiving o) Duplicate w = refl
 off-turned (receiving o) (Refused r) w = refl
 
 off-done : (c : Call) (n m : ℕ) → putOff c (Done n m) ≡ []
 off-done (inserting g k) n m = refl
 off-done (deleting p) n m = refl
+off-done (restoring x) n m = refl
 off-done (receiving o) n m = refl
 
 turned-follows : (s : State) (c : Call) (a : Answer) → Turned a → Follows s c (unchanged s a)
@@ -95,7 +104,7 @@ turned-follows s c a w = rw (off-turned c a w)
 carried-follows : (s : State) (c : Call) (o : Operation) → Follows s c (carryOut Done s o)
 unfolding carryOut afterDrain withCharacters allIntegrated
 carried-follows s c (insert i) = rw (off-done c _ _)
-carried-follows s c (delete d) = rw (off-done c 1 0)
+carried-follows s c (toggle d) = rw (off-done c 1 0)
 
 accept-follows : (s : State) (o : Operation) → Follows s (receiving o) (accept s o)
 unfolding accept defer withPending allIntegrated
@@ -115,15 +124,21 @@ unfolding decided unchanged sendInsert carryOut afterDrain allIntegrated
 insert-follows s g n none = refl
 insert-follows s g n (some a) = refl
 
-delete-follows : (s : State) (p : ℕ) (m : Option Sent) → Follows s (deleting p) (withAnswer answerOf (decided (unchanged s) m (sendDelete s (generatedDelete s p))))
-unfolding decided unchanged sendDelete carryOut withCharacters allIntegrated
+delete-follows : (s : State) (p : ℕ) (m : Option Sent) → Follows s (deleting p) (withAnswer answerOf (decided (unchanged s) m (sendToggle s (generatedDelete s p))))
+unfolding decided unchanged sendToggle carryOut withCharacters allIntegrated
 delete-follows s p none = refl
 delete-follows s p (some a) = refl
 
+restore-follows : (s : State) (x : Identifier) (m : Option Sent) → Follows s (restoring x) (withAnswer answerOf (decided (unchanged s) m (sendToggle s (generatedToggle s x))))
+unfolding decided unchanged sendToggle carryOut withCharacters allIntegrated
+restore-follows s x none = refl
+restore-follows s x (some a) = refl
+
 pub clock-follows : ClockFollows
-unfolding outcome localInsert localInsertWhen localDelete localDeleteWhen receive receiveWhen
+unfolding outcome localInsert localInsertWhen localDelete localDeleteWhen localRestore localRestoreWhen receive receiveWhen
 clock-follows s (inserting g n) = insert-follows s g n (first (insertChecks (wellFormed s) s g n))
 clock-follows s (deleting p) = delete-follows s p (first (deleteChecks (wellFormed s) s p))
+clock-follows s (restoring x) = restore-follows s x (first (restoreChecks (wellFormed s) s x))
 clock-follows s (receiving o) = receive-follows s o (first (receiveChecks (wellFormed s) s o)) refl
 
 -- what a step drained raised nothing
@@ -131,7 +146,7 @@ undrained : (s : State) (c : Call) {r : Outcome Answer} → Step s r → Follows
 unfolding unchanged carryOut defer allIntegrated
 undrained s c (turned a w) f = f
 undrained s c (adds i a) f = rw (off-done c _ _)
-undrained s c (removes d a) f = f
+undrained s c (raises d a) f = f
 undrained s c (defers o a) f = f
 
 pub draining-raises-nothing : DrainingRaisesNothing
@@ -164,16 +179,15 @@ heard-all-range t (i ∷ is) h r =
     heard-all-range (heard t i) is (heard-range t i h (insert-clock i (and-left (insertInRange i) (every insertInRange is) r))) (and-right (insertInRange i) (every insertInRange is) r)
 
 origins-ranged : (cs : List Character) → every characterInRange cs ≡ true → every insertInRange (map origin cs) ≡ true
-unfolding characterInRange
 origins-ranged [] h = refl
 origins-ranged (c ∷ cs) h =
-    and-intro (and-left (characterInRange c) (every characterInRange cs) h) (origins-ranged cs (and-right (characterInRange c) (every characterInRange cs) h))
+    and-intro (origin-ranged c (and-left (characterInRange c) (every characterInRange cs) h)) (origins-ranged cs (and-right (characterInRange c) (every characterInRange cs) h))
 
 inserts-ranged : (ps : List Operation) → every inRange ps ≡ true → every insertInRange (inserts ps) ≡ true
 unfolding inRange
 inserts-ranged [] h = refl
 inserts-ranged (insert i ∷ ps) h = and-intro (and-left (insertInRange i) (every inRange ps) h) (inserts-ranged ps (and-right (insertInRange i) (every inRange ps) h))
-inserts-ranged (delete d ∷ ps) h = inserts-ranged ps (and-right (inRange (delete d)) (every inRange ps) h)
+inserts-ranged (toggle d ∷ ps) h = inserts-ranged ps (and-right (inRange (toggle d)) (every inRange ps) h)
 
 raised-ranged : (s : State) → allInRange s ≡ true → allInRange (raised s) ≡ true
 unfolding raised allInRange presentInserts

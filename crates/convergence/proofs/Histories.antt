@@ -8,7 +8,7 @@ use mathlib.Core.List.{List, [], _∷_, _++_, append-assoc, append-nil}
 use lib.ListN.{length, length-append}
 use Rattle.woot.specs.declared.Insert.{Insert}
 use Rattle.woot.specs.declared.Operation.{Operation}
-use Rattle.woot.specs.declared.Operation.the-variants.{Insert as insert, Delete as delete}
+use Rattle.woot.specs.declared.Operation.the-variants.{Insert as insert, Toggle as toggle}
 use Rattle.woot.specs.declared.Character.{Character}
 use Rattle.woot.specs.declared.Answer.{Answer}
 use Rattle.woot.specs.declared.Answer.the-variants.{Deferred, Duplicate, Refused}
@@ -17,22 +17,22 @@ use Rattle.woot.specs.State.{State, initial}
 use Rattle.woot.specs.Pending.{executable, crossed, unplaceable, integrate, Drained, andIntegrated, andDiscarded, drained}
 use Rattle.woot.specs.Calls.{Outcome, unchanged, allIntegrated, withCharacters, withPending, insertCarried, carryOut, defer}
 use Rattle.woot.specs.Histories.{Call, Begun, empty, startOf, beforehand, outcome, run, integratedBy, drainedBy, discardedBy, isDeferred, deferredBy, historyOf, charactersAfter}
-use Rattle.convergence.specs.Theorems.{HeldAreInserted, HeldCount, HiddenAreDeleted, WaitsBalance}
+use Rattle.convergence.specs.Theorems.{HeldAreInserted, HeldCount, TogglesAreLargest, WaitsBalance}
 use Rattle.lists.proofs.Members.{every-member}
 use Rattle.convergence.proofs.Extract.{Extract, extract-itself}
 use Rattle.convergence.specs.Invariants.{Sound}
 use Rattle.convergence.proofs.Soundness.{placed-extract, placed-held, fresh-unheld, sound-in, sound-out, out-fresh}
 use Rattle.convergence.proofs.Drains.{Draining, stop, discard, carry}
 use Rattle.convergence.proofs.Draining.{sound-carry, drained-balance}
-use Rattle.convergence.proofs.Steps.{Step, turned, adds, removes, defers, step, after-insert}
-use Rattle.convergence.proofs.Faithful.{Faithful, faithful-empty, faithful-insert, faithful-delete}
+use Rattle.convergence.proofs.Steps.{Step, turned, adds, raises, defers, step, after-insert}
+use Rattle.convergence.proofs.Faithful.{Faithful, faithful-empty, faithful-insert, faithful-toggle}
 
 -- a pending operation carried out
 faithful-carry : {cs : List Character} {ps qs os : List Operation} (o : Operation) → Extract o qs ps → Sound cs ps → executable cs o ≡ true → crossed cs o ≡ false → unplaceable cs o ≡ false → Faithful cs os → Faithful (integrate cs o) (os ++ o ∷ [])
 unfolding integrate inRange executable
 faithful-carry {cs} {ps} {qs} (insert i) e s ready uncrossed placeable f =
     faithful-insert i (placed-extract cs i ready uncrossed placeable) (fresh-unheld cs qs i (every-member inRange (s .pending-ranges) (extract-itself e)) (out-fresh e s)) (placed-held cs i ready uncrossed placeable) f
-faithful-carry (delete d) e s ready uncrossed placeable f = faithful-delete d ready f
+faithful-carry (toggle d) e s ready uncrossed placeable f = faithful-toggle d ready f
 
 faithful-drained : {cs : List Character} {ps : List Operation} {d : Drained} (os : List Operation) → Draining cs ps d → Sound cs ps → Faithful cs os → Faithful (d .characters) (os ++ d .integrated)
 unfolding drained andDiscarded andIntegrated
@@ -49,7 +49,7 @@ faithful-step s os (adds i a) f =
     subst (λ qs. Faithful (insertCarried s i .characters) qs) (append-assoc os (insert i ∷ []) (insertCarried s i .integrated))
     (faithful-drained (os ++ insert i ∷ []) (after-insert s i) (sound-in i (a .formed .sound) (a .ranged) (a .fresh) (a .space) (a .ready) (a .uncrossed) (a .placeable))
     (faithful-insert i (placed-extract (s .characters) i (a .ready) (a .uncrossed) (a .placeable)) (fresh-unheld (s .characters) (s .pending) i (a .ranged) (a .fresh)) (placed-held (s .characters) i (a .ready) (a .uncrossed) (a .placeable)) f))
-faithful-step s os (removes d a) f = faithful-delete d (a .ready) f
+faithful-step s os (raises d a) f = faithful-toggle d (a .ready) f
 faithful-step s os (defers o a) f = subst (λ qs. Faithful (s .characters) qs) (sym (append-nil os)) f
 
 faithful-run : (s : State) (os : List Operation) (cs : List Call) → Faithful (s .characters) os → Faithful (run s cs .characters) (os ++ integratedBy s cs)
@@ -72,8 +72,8 @@ held-are-inserted b cs i = faithful b cs .inserted i
 pub held-count : HeldCount
 held-count b cs = faithful b cs .counted
 
-pub hidden-are-deleted : HiddenAreDeleted
-hidden-are-deleted b cs c m = faithful b cs .deleted c m
+pub toggles-are-largest : TogglesAreLargest
+toggles-are-largest b cs c m = faithful b cs .largest c m
 
 -- ---- what was deferred
 
@@ -82,7 +82,7 @@ unfolding unchanged carryOut defer withCharacters withPending
 balance-step s (turned Duplicate w) = omega arith
 balance-step s (turned (Refused r) w) = omega arith
 balance-step s (adds i a) = omega (arith, drained-balance (after-insert s i))
-balance-step s (removes d a) = omega arith
+balance-step s (raises d a) = omega arith
 balance-step s (defers o a) = omega (arith, length-append (s .pending) (o ∷ []))
 
 pub waits-balance : WaitsBalance

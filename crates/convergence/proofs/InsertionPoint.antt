@@ -21,7 +21,7 @@ use Rattle.lists.proofs.Tests.{and-left, and-right, and-intro, not-intro}
 use Rattle.lists.proofs.Members.{get-member, any-none, none-any}
 use Rattle.convergence.proofs.Identifiers.{same-refl, ne-same, same-sym}
 use Rattle.convergence.proofs.Places.{index-here, index-later, held-end, held-member, place-above}
-use Rattle.convergence.proofs.Ranges.{no-mark, in-range}
+use Rattle.convergence.proofs.Ranges.{no-mark, in-range, origin-ranged}
 use Rattle.convergence.proofs.Extract.{extract-last, extract-any, extract-distinct}
 
 -- xs are some of the elements of zs, in their order
@@ -87,8 +87,8 @@ part-ends cs = keeps (part-append (end ∷ []) (part-visible cs))
 
 -- the identifier of a character in range is a character's
 pub member-range : (cs : List Character) → ((c : Character) → List·Memᴰ c cs → characterInRange c ≡ true) → {x : Identifier} → List·Memᴰ x (identifiers cs) → characterId x ≡ true
-unfolding characterInRange origin
-member-range (c ∷ cs) f (List·Memᴰ·head e) = subst (λ (y : Identifier). characterId y ≡ true) (sym e) (in-range (origin c) (f c (List·Memᴰ·head refl)) .id)
+unfolding origin
+member-range (c ∷ cs) f (List·Memᴰ·head e) = subst (λ (y : Identifier). characterId y ≡ true) (sym e) (in-range (origin c) (origin-ranged c (f c (List·Memᴰ·head refl))) .id)
 member-range (c ∷ cs) f (List·Memᴰ·tail m) = member-range cs (λ d n. f d (List·Memᴰ·tail n)) m
 
 -- identifiers of characters in range are other than the marks

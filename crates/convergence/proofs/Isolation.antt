@@ -11,14 +11,14 @@ use lib.Dec.{eqb}
 use borrow.Author.Tests.{eqb-true, eq-eqb}
 use Rattle.woot.specs.declared.Identifier.{Identifier}
 use Rattle.woot.specs.declared.Insert.{Insert}
-use Rattle.woot.specs.declared.Delete.{Delete}
+use Rattle.woot.specs.declared.Toggle.{Toggle}
 use Rattle.woot.specs.declared.Operation.{Operation}
-use Rattle.woot.specs.declared.Operation.the-variants.{Insert as insert, Delete as delete}
+use Rattle.woot.specs.declared.Operation.the-variants.{Insert as insert, Toggle as toggle}
 use Rattle.woot.specs.declared.Refusal.the-variants.{Form, SenderFull, DocumentFull}
 use Rattle.woot.specs.declared.Answer.{Answer}
 use Rattle.woot.specs.declared.Answer.the-variants.{Done, Deferred, Refused}
 use Rattle.woot.specs.Identifiers.{same}
-use Rattle.woot.specs.Operations.{sender, origin, inserts, sameInsert, sameDelete, sameOperation}
+use Rattle.woot.specs.Operations.{sender, origin, inserts, sameInsert, sameToggle, sameOperation}
 use Rattle.woot.specs.State.{State}
 use Rattle.woot.specs.Pending.{executable, crossed, unplaceable, sentBy, pendingFrom}
 use Rattle.woot.specs.Form.{presentInserts, wellFormed}
@@ -26,7 +26,7 @@ use Rattle.woot.specs.Answers.{Check, first, NoneHolds, decided, Reported, here
 use Rattle.woot.specs.Calls.{unchanged, duplicate, conflicting, senderFull, documentFull, receiveChecks, carryOut, defer, accept, receiveWhen, receive}
 use Rattle.convergence.specs.Theorems.{Isolation}
 use Rattle.lists.specs.Lists.{any, keep}
-use Rattle.lists.proofs.Tests.{clash, and-left, four}
+use Rattle.lists.proofs.Tests.{clash, and-left, three, four}
 use Rattle.convergence.proofs.Identifiers.{same-eq}
 use Rattle.convergence.proofs.Refusals.{receive-refuses, skipped, held-there, never, other}
 use Rattle.convergence.proofs.Steps.{first-none, first-some, Turned, receive-turned}
@@ -55,11 +55,11 @@ same-site : (x y : Identifier) → same x y ≡ true → eqb (y .site) (x .site)
 same-site x y h = eq-eqb (y .site) (x .site) (ap (λ (z : Identifier). z .site) (sym (same-eq x y h)))
 
 same-sender : (o p : Operation) → sameOperation o p ≡ true → eqb (sender p) (sender o) ≡ true
-unfolding sameOperation sameInsert sameDelete sender
+unfolding sameOperation sameInsert sameToggle sender
 same-sender (insert i) (insert j) h = same-site (i .id) (j .id) (four (same (i .id) (j .id)) (eqb (i .«code_point») (j .«code_point»)) (same (i .previous) (j .previous)) (same (i .next) (j .next)) h .0)
-same-sender (insert i) (delete e) h = clash h refl
-same-sender (delete d) (insert j) h = clash h refl
-same-sender (delete d) (delete e) h = eq-eqb (e .sender) (d .sender) (sym (eqb-true (d .sender) (e .sender) (and-left (eqb (d .sender) (e .sender)) (same (d .target) (e .target)) h)))
+same-sender (insert i) (toggle e) h = clash h refl
+same-sender (toggle d) (insert j) h = clash h refl
+same-sender (toggle d) (toggle e) h = eq-eqb (e .sender) (d .sender) (sym (eqb-true (d .sender) (e .sender) (three (eqb (d .sender) (e .sender)) (same (d .target) (e .target)) (eqb (d .toggles) (e .toggles)) h .0)))
 
 inserts-kept : (p : Insert → Bool) (n : ℕ) → ((j : Insert) → p j ≡ true → eqb (j .id .site) n ≡ true) → (ps : List Operation) → any p (inserts ps) ≡ any p (inserts (sentBy n ps))
 unfolding sender
@@ -70,9 +70,9 @@ inserts-kept p n f (insert j ∷ ps) = go (eqb (j .id .site) n) refl (p j) refl 
     go true e a d h = rw (e, h)
     go false e true d h = clash (f j d) e
     go false e false d h = rw (e, d, h)
-inserts-kept p n f (delete d ∷ ps) = go (eqb (d .sender) n) (inserts-kept p n f ps)
+inserts-kept p n f (toggle d ∷ ps) = go (eqb (d .sender) n) (inserts-kept p n f ps)
   where
-    go : (b : Bool) → any p (inserts ps) ≡ any p (inserts (sentBy n ps)) → any p (inserts ps) ≡ any p (inserts (cond b (delete d ∷ sentBy n ps) (sentBy n ps)))
+    go : (b : Bool) → any p (inserts ps) ≡ any p (inserts (sentBy n ps)) → any p (inserts ps) ≡ any p (inserts (cond b (toggle d ∷ sentBy n ps) (sentBy n ps)))
     go true h = h
     go false h = h
 
@@ -87,7 +87,7 @@ own-any s t o own =
 same-duplicate : (s t : State) (o : Operation) → s .characters ≡ t .characters → any (sameOperation o) (s .pending) ≡ any (sameOperation o) (t .pending) → duplicate s o ≡ duplicate t o
 unfolding duplicate
 same-duplicate s t (insert i) level own = rw (level, own)
-same-duplicate s t (delete d) level own = rw (level, own)
+same-duplicate s t (toggle d) level own = rw (level, own)
 
 same-conflicting : (s t : State) (o : Operation) → s .characters ≡ t .characters → sentBy (sender o) (s .pending) ≡ sentBy (sender o) (t .pending) → conflicting s o ≡ conflicting t o
 unfolding conflicting presentInserts sender
@@ -102,7 +102,7 @@ same-conflicting s t (insert i) level own =
 
     mine : (j : Insert) → p j ≡ true → eqb (j .id .site) (i .id .site) ≡ true
     mine j h = same-site (i .id) (j .id) (and-left (same (i .id) (j .id)) (not (sameInsert i j)) h)
-same-conflicting s t (delete d) level own = refl
+same-conflicting s t (toggle d) level own = refl
 
 -- the checks of two states that agree, but for the last
 record Level (s t : State) (o : Operation) : Type 0 where
@@ -151,7 +151,7 @@ deferred-checks s o h = go (first (receiveChecks (wellFormed s) s o)) refl h
   where
     carried : (o : Operation) → carryOut Done s o .answer ≡ Deferred → ⊥
     carried (insert i) e = let z : _≡_ {A = ℕ} 0 1 = cc in omega arith
-    carried (delete d) e = let z : _≡_ {A = ℕ} 0 1 = cc in omega arith
+    carried (toggle d) e = let z : _≡_ {A = ℕ} 0 1 = cc in omega arith
 
     lacks : (b : Bool) → cond b (carryOut Done s o) (defer s o) .answer ≡ Deferred → b ≡ false
     lacks true e = absurd (carried o e)

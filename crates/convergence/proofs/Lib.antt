@@ -4,7 +4,7 @@ pub mod Clocks
 pub mod Extract
 pub mod Insertion
 pub mod Places
-pub mod Deletion
+pub mod Toggling
 pub mod Placing
 pub mod Standing
 pub mod Characters
@@ -17,7 +17,9 @@ pub mod Soundness
 pub mod Drains
 pub mod Draining
 pub mod InsertionPoint
+pub mod Toggles
 pub mod Steps
+pub mod Named
 pub mod Shares
 pub mod Kept
 pub mod Hearing

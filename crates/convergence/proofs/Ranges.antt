@@ -8,10 +8,13 @@ use lib.Dec.{leb}
 use Rattle.woot.specs.declared.Identifier.{Identifier}
 use Rattle.woot.specs.declared.Insert.{Insert}
 use Rattle.woot.specs.declared.Site.{Site}
-use Rattle.woot.specs.Limits.{lastSite, lastClock}
+use Rattle.woot.specs.declared.Toggle.{Toggle}
+use Rattle.woot.specs.declared.Character.{Character}
+use Rattle.woot.specs.Limits.{lastSite, lastClock, lastToggles}
 use Rattle.woot.specs.Identifiers.{same}
-use Rattle.woot.specs.Ranges.{within, siteNumber, codePoint, characterId, previousId, nextId, insertInRange}
-use Rattle.lists.proofs.Tests.{and-left, and-right, and-intro, four}
+use Rattle.woot.specs.Operations.{origin}
+use Rattle.woot.specs.Ranges.{within, siteNumber, codePoint, characterId, previousId, nextId, insertInRange, toggleInRange, characterInRange}
+use Rattle.lists.proofs.Tests.{and-left, and-right, and-intro, three, four}
 
 pub within-low : (low high n : ℕ) → within low high n ≡ true → low ≤ n
 unfolding within
@@ -62,3 +65,39 @@ in-range i h =
 pub to-range : (i : Insert) → InRange i → insertInRange i ≡ true
 unfolding insertInRange
 to-range i r = rw (r .id, r .code, r .previous, r .next, r .not-previous, r .not-next)
+
+-- the parts of a toggle that is in range
+pub record ToggleInRange (t : Toggle) : Type 0 where
+  pub sender : siteNumber (t .sender) ≡ true
+  pub target : characterId (t .target) ≡ true
+  pub least : 1 ≤ t .toggles
+  pub most : t .toggles ≤ lastToggles
+
+pub toggle-in-range : (t : Toggle) → toggleInRange t ≡ true → ToggleInRange t
+unfolding toggleInRange
+toggle-in-range t h =
+    let w = three (siteNumber (t .sender)) (characterId (t .target)) (within 1 lastToggles (t .toggles)) h in
+    record {
+      sender = w .0;
+      target = w .1;
+      least = within-low 1 lastToggles (t .toggles) (w .2);
+      most = within-high 1 lastToggles (t .toggles) (w .2);
+    }
+
+pub to-toggle-range : (t : Toggle) → ToggleInRange t → toggleInRange t ≡ true
+unfolding toggleInRange
+to-toggle-range t r = rw (r .sender, r .target, to-within 1 lastToggles (t .toggles) (r .least) (r .most))
+
+-- a character in range came from an insert in range, and its toggles are within their limit
+module _ (c : Character) where
+  pub origin-ranged : characterInRange c ≡ true → insertInRange (origin c) ≡ true
+  unfolding characterInRange
+  origin-ranged h = and-left (insertInRange (origin c)) (within 0 lastToggles (c .toggles)) h
+
+  pub toggles-ranged : characterInRange c ≡ true → c .toggles ≤ lastToggles
+  unfolding characterInRange
+  toggles-ranged h = within-high 0 lastToggles (c .toggles) (and-right (insertInRange (origin c)) (within 0 lastToggles (c .toggles)) h)
+
+  pub to-character-range : insertInRange (origin c) ≡ true → c .toggles ≤ lastToggles → characterInRange c ≡ true
+  unfolding characterInRange
+  to-character-range h k = and-intro h (to-within 0 lastToggles (c .toggles) (omega arith) k)

@@ -8,7 +8,7 @@ use mathlib.Core.Logic.{_↔_}
 use mathlib.Core.List.{List, [], _∷_}
 use native.Mathlib.Omega.{arith}
 use Rattle.woot.specs.declared.Operation.{Operation}
-use Rattle.woot.specs.declared.Operation.the-variants.{Insert as insert, Delete as delete}
+use Rattle.woot.specs.declared.Operation.the-variants.{Insert as insert, Toggle as toggle}
 use Rattle.woot.specs.declared.Refusal.{Refusal}
 use Rattle.woot.specs.declared.Answer.{Answer}
 use Rattle.woot.specs.declared.Answer.the-variants.{Done, Deferred, Duplicate, Refused}
@@ -18,11 +18,11 @@ use Rattle.woot.specs.State.{State}
 use Rattle.woot.specs.Pending.{executable}
 use Rattle.woot.specs.Form.{wellFormed}
 use Rattle.woot.specs.Answers.{Check, first, decided, Reported, here, later, number, answerOf}
-use Rattle.woot.specs.Calls.{Outcome, unchanged, carryOut, defer, accept, receiveChecks, receiveWhen, receive, insertChecks, generatedInsert, sendInsert, localInsertWhen, localInsert, deleteChecks, generatedDelete, sendDelete, localDeleteWhen, localDelete}
-use Rattle.woot.specs.Histories.{inserting, deleting, receiving, withAnswer, outcome}
+use Rattle.woot.specs.Calls.{Outcome, unchanged, carryOut, defer, accept, receiveChecks, receiveWhen, receive, insertChecks, generatedInsert, sendInsert, localInsertWhen, localInsert, deleteChecks, generatedDelete, sendToggle, localDeleteWhen, localDelete, restoreChecks, generatedToggle, localRestoreWhen, localRestore}
+use Rattle.woot.specs.Histories.{inserting, deleting, restoring, receiving, withAnswer, outcome}
 use Rattle.lists.proofs.Tests.{some-eq, no-some}
 use Rattle.convergence.proofs.Steps.{All}
-use Rattle.convergence.specs.Theorems.{ReceiveRefuses, ReceiveKnows, InsertRefuses, DeleteRefuses, RefusedUnchanged, KnownUnchanged}
+use Rattle.convergence.specs.Theorems.{ReceiveRefuses, ReceiveKnows, InsertRefuses, DeleteRefuses, RestoreRefuses, RefusedUnchanged, KnownUnchanged}
 
 module _ {A : Type 0} where
   pub first-reported : (cs : List (Check A)) (a : A) → first cs ≡ some a → Reported a cs
@@ -98,7 +98,7 @@ accept-accepted s o = go (executable (s .characters) o) o
   where
     go : (b : Bool) (o : Operation) → Accepted (cond b (carryOut Done s o) (defer s o) .answer)
     go true (insert i) = tt
-    go true (delete d) = tt
+    go true (toggle d) = tt
     go false o = tt
 
 pub accept-never-refused : (s : State) (o : Operation) (r : Refusal) → accept s o .answer ≡ Refused r → ⊥
@@ -126,8 +126,12 @@ unfolding localInsertWhen sendInsert carryOut
 insert-refuses formed s g n r = answered-exactly s (insertChecks formed s g n) (sendInsert s (generatedInsert s g n)) (sentRefused r) (sent-never-refused r)
 
 pub delete-refuses : DeleteRefuses
-unfolding localDeleteWhen sendDelete carryOut
-delete-refuses formed s p r = answered-exactly s (deleteChecks formed s p) (sendDelete s (generatedDelete s p)) (sentRefused r) (sent-never-refused r)
+unfolding localDeleteWhen sendToggle carryOut
+delete-refuses formed s p r = answered-exactly s (deleteChecks formed s p) (sendToggle s (generatedDelete s p)) (sentRefused r) (sent-never-refused r)
+
+pub restore-refuses : RestoreRefuses
+unfolding localRestoreWhen sendToggle carryOut
+restore-refuses formed s x r = answered-exactly s (restoreChecks formed s x) (sendToggle s (generatedToggle s x)) (sentRefused r) (sent-never-refused r)
 
 -- an answer without its operation is a refusal only of that refusal, and never known
 pub answer-refused : (a : Sent) (r : Refusal) → answerOf a ≡ Refused r → a ≡ sentRefused r
@@ -141,11 +145,13 @@ answer-known (sentDone o n m) e = let z : _≡_ {A = ℕ} 0 1 = cc in omega arit
 answer-known (sentRefused q) e = let z : _≡_ {A = ℕ} 0 1 = cc in omega arith
 
 pub refused-unchanged : RefusedUnchanged
-unfolding outcome localInsert localInsertWhen sendInsert carryOut localDelete localDeleteWhen sendDelete receive receiveWhen answerOf unchanged
+unfolding outcome localInsert localInsertWhen sendInsert carryOut localDelete localDeleteWhen localRestore localRestoreWhen sendToggle receive receiveWhen answerOf unchanged
 refused-unchanged s (inserting g n) r e =
     ap (withAnswer answerOf) (decided-unchanged s (first (insertChecks (wellFormed s) s g n)) (sendInsert s (generatedInsert s g n)) (sentRefused r) (sent-never-refused r) (answer-refused _ r e))
 refused-unchanged s (deleting p) r e =
-    ap (withAnswer answerOf) (decided-unchanged s (first (deleteChecks (wellFormed s) s p)) (sendDelete s (generatedDelete s p)) (sentRefused r) (sent-never-refused r) (answer-refused _ r e))
+    ap (withAnswer answerOf) (decided-unchanged s (first (deleteChecks (wellFormed s) s p)) (sendToggle s (generatedDelete s p)) (sentRefused r) (sent-never-refused r) (answer-refused _ r e))
+refused-unchanged s (restoring x) r e =
+    ap (withAnswer answerOf) (decided-unchanged s (first (restoreChecks (wellFormed s) s x)) (sendToggle s (generatedToggle s x)) (sentRefused r) (sent-never-refused r) (answer-refused _ r e))
 refused-unchanged s (receiving o) r e =
     decided-unchanged s (first (receiveChecks (wellFormed s) s o)) (accept s o) (Refused r) (accept-never-refused s o r) e
 
@@ -153,5 +159,6 @@ pub known-unchanged : KnownUnchanged
 unfolding outcome receive receiveWhen
 known-unchanged s (inserting g n) e = absurd (answer-known _ e)
 known-unchanged s (deleting p) e = absurd (answer-known _ e)
+known-unchanged s (restoring x) e = absurd (answer-known _ e)
 known-unchanged s (receiving o) e =
     decided-unchanged s (first (receiveChecks (wellFormed s) s o)) (accept s o) Duplicate (accept-never-known s o) e

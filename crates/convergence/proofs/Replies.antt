@@ -9,9 +9,9 @@ use mathlib.Core.Logic.{_↔_}
 use mathlib.Core.List.{List, [], _∷_}
 use lib.ListN.{getD}
 use Rattle.woot.specs.declared.Operation.{Operation}
-use Rattle.woot.specs.declared.Operation.the-variants.{Insert as insert, Delete as delete}
+use Rattle.woot.specs.declared.Operation.the-variants.{Insert as insert, Toggle as toggle}
 use Rattle.woot.specs.declared.Refusal.{Refusal}
-use Rattle.woot.specs.declared.Refusal.the-variants.{Layout, Range, Form, Position, Clock, Taken, Conflict, Crossed, Unplaceable, SenderFull, DocumentFull, Output}
+use Rattle.woot.specs.declared.Refusal.the-variants.{Layout, Range, Form, Position, NotHidden, LastToggle, Clock, Taken, Conflict, Crossed, Unplaceable, SenderFull, DocumentFull, Output}
 use Rattle.woot.specs.declared.Answer.{Answer}
 use Rattle.woot.specs.declared.Answer.the-variants.{Done, Deferred, Duplicate, Refused}
 use Rattle.woot.specs.declared.Sent.{Sent}
@@ -19,18 +19,18 @@ use Rattle.woot.specs.declared.Sent.the-variants.{Done as sentDone, Refused as 
 use Rattle.woot.specs.State.{State}
 use Rattle.woot.specs.Pending.{executable}
 use Rattle.woot.specs.Answers.{number, Word, done, waits, known, refused, reply, answerOf, sentOperation, Check, first, NoneHolds, decided}
-use Rattle.woot.specs.Calls.{Outcome, unchanged, carryOut, defer, accept, receiveChecks, receiveWhen, generatedInsert, insertChecks, sendInsert, localInsertWhen, generatedDelete, deleteChecks, sendDelete, localDeleteWhen}
+use Rattle.woot.specs.Calls.{Outcome, unchanged, carryOut, defer, accept, receiveChecks, receiveWhen, generatedInsert, insertChecks, sendInsert, localInsertWhen, generatedDelete, deleteChecks, sendToggle, localDeleteWhen, generatedToggle, restoreChecks, localRestoreWhen}
 use Rattle.lists.proofs.Tests.{some-eq, no-some}
-use Rattle.convergence.specs.Theorems.{NumbersDiffer, ReceiveNumbers, InsertNumbers, DeleteNumbers, ReceiveDoes, ReceiveWaits, InsertDoes, DeleteDoes, InsertSends, DeleteSends}
-use Rattle.convergence.proofs.Refusals.{receive-refuses, insert-refuses, delete-refuses, answer-refused}
-use Rattle.convergence.proofs.Steps.{first-none, All, first-some, Turned, receive-turned, Refusing, insert-turned, delete-turned}
+use Rattle.convergence.specs.Theorems.{NumbersDiffer, ReceiveNumbers, InsertNumbers, DeleteNumbers, RestoreNumbers, ReceiveDoes, ReceiveWaits, InsertDoes, DeleteDoes, RestoreDoes, InsertSends, DeleteSends, RestoreSends}
+use Rattle.convergence.proofs.Refusals.{receive-refuses, insert-refuses, delete-refuses, restore-refuses, answer-refused}
+use Rattle.convergence.proofs.Steps.{first-none, All, first-some, Turned, receive-turned, Refusing, insert-turned, delete-turned, restore-turned}
 
 -- ---- by number
 
 -- the refusal of a number
 refusalOf : ℕ → Refusal
 refusalOf n =
-    getD (Layout ∷ Layout ∷ Range ∷ Form ∷ Position ∷ Clock ∷ Taken ∷ Conflict ∷ Crossed ∷ Unplaceable ∷ SenderFull ∷ DocumentFull ∷ Output ∷ []) n Layout
+    getD (Layout ∷ Layout ∷ Range ∷ Form ∷ Position ∷ Clock ∷ Taken ∷ Conflict ∷ Crossed ∷ Unplaceable ∷ SenderFull ∷ DocumentFull ∷ Output ∷ NotHidden ∷ LastToggle ∷ []) n Layout
 
 refusal-of : (r : Refusal) → refusalOf (number r) ≡ r
 unfolding refusalOf
@@ -38,6 +38,8 @@ refusal-of Layout = refl
 refusal-of Range = refl
 refusal-of Form = refl
 refusal-of Position = refl
+refusal-of NotHidden = refl
+refusal-of LastToggle = refl
 refusal-of Clock = refl
 refusal-of Taken = refl
 refusal-of Conflict = refl
@@ -55,6 +57,8 @@ positive Layout e = omega arith
 positive Range e = omega arith
 positive Form e = omega arith
 positive Position e = omega arith
+positive NotHidden e = omega arith
+positive LastToggle e = omega arith
 positive Clock e = omega arith
 positive Taken e = omega arith
 positive Conflict e = omega arith
@@ -65,11 +69,13 @@ positive DocumentFull e = omega arith
 positive Output e = omega arith
 
 -- the highest
-pub number-few : (q : Refusal) → number q ≤ 12
+pub number-few : (q : Refusal) → number q ≤ 14
 number-few Layout = omega arith
 number-few Range = omega arith
 number-few Form = omega arith
 number-few Position = omega arith
+number-few NotHidden = omega arith
+number-few LastToggle = omega arith
 number-few Clock = omega arith
 number-few Taken = omega arith
 number-few Conflict = omega arith
@@ -101,17 +107,18 @@ receive-numbers formed s o r =
     let b = receive-refuses formed s o r in
     (λ h. b .0 (a .0 h), λ h. a .1 (b .1 h))
 
+-- by what is answered exactly under a condition, so is its number
+sent-numbers : {C : Type 0} (a : Sent) (r : Refusal) → ((a ≡ sentRefused r) ↔ C) → (reply (answerOf a) .refusal ≡ number r) ↔ C
+sent-numbers a r b = let n = sent-number a r in (λ h. b .0 (n .0 h), λ h. n .1 (b .1 h))
+
 pub insert-numbers : InsertNumbers
-insert-numbers formed s g n r =
-    let a = sent-number (localInsertWhen formed s g n .answer) r in
-    let b = insert-refuses formed s g n r in
-    (λ h. b .0 (a .0 h), λ h. a .1 (b .1 h))
+insert-numbers formed s g n r = sent-numbers (localInsertWhen formed s g n .answer) r (insert-refuses formed s g n r)
 
 pub delete-numbers : DeleteNumbers
-delete-numbers formed s p r =
-    let a = sent-number (localDeleteWhen formed s p .answer) r in
-    let b = delete-refuses formed s p r in
-    (λ h. b .0 (a .0 h), λ h. a .1 (b .1 h))
+delete-numbers formed s p r = sent-numbers (localDeleteWhen formed s p .answer) r (delete-refuses formed s p r)
+
+pub restore-numbers : RestoreNumbers
+restore-numbers formed s x r = sent-numbers (localRestoreWhen formed s x .answer) r (restore-refuses formed s x r)
 
 -- ---- by word
 
@@ -139,7 +146,7 @@ accept-word s o = go (executable (s .characters) o) o
   where
     go : (b : Bool) (p : Operation) → wordOf (cond b (carryOut Done s p) (defer s p) .answer) ≡ cond b done waits
     go true (insert i) = refl
-    go true (delete d) = refl
+    go true (toggle d) = refl
     go false p = refl
 
 done-waits : done ≡ waits → ⊥
@@ -181,7 +188,7 @@ receive-waits formed s o =
     let b = rw (← accept-word s o) at (cond-waits (executable (s .characters) o)) in
     (λ h. (w .0 h .0, b .0 (w .0 h .1)), λ h. w .1 (h .0, b .1 (h .1)))
 
--- ---- typing and erasing
+-- ---- the calls that send
 
 abbrev wordSent : Sent → Word
 wordSent a = wordOf (answerOf a)
@@ -204,36 +211,52 @@ not-sent : (o : Operation) (r : Refusal) → sentOperation (sentRefused r) ≡ s
 unfolding sentOperation
 not-sent o r e = no-some e
 
--- what is sent is done
+-- what is sent is done, and is what was made
 sent-done : (s : State) (o : Operation) → wordSent (carryOut (sentDone o) s o .answer) ≡ done
 unfolding carryOut answerOf reply
 sent-done s (insert i) = refl
-sent-done s (delete d) = refl
+sent-done s (toggle d) = refl
+
+sent-itself : (s : State) (o : Operation) → sentOperation (carryOut (sentDone o) s o .answer) ≡ some o
+unfolding carryOut sentOperation
+sent-itself s (insert i) = refl
+sent-itself s (toggle d) = refl
+
+-- a call that sends o where none of its conditions holds
+module _ (s : State) (checks : List (Check Sent)) (refusing : All Refusing checks) (o : Operation) where
+  abbrev sending : Outcome Sent
+  sending = decided (unchanged s) (first checks) (carryOut (sentDone o) s o)
+
+  sent-does : (wordSent (sending .answer) ≡ done) ↔ NoneHolds checks
+  sent-does =
+      let w = done-exactly wordSent done s checks (carryOut (sentDone o) s o) (all-refusing wordSent done not-done checks refusing) in
+      (λ h. w .0 h .0, λ h. w .1 (h, sent-done s o))
+
+  sent-sends : (p : Operation) → (sentOperation (sending .answer) ≡ some p) ↔ (NoneHolds checks × (o ≡ p))
+  sent-sends p =
+      let w = done-exactly sentOperation (some p) s checks (carryOut (sentDone o) s o) (all-refusing sentOperation (some p) (not-sent p) checks refusing) in
+      (λ h. (w .0 h .0, some-eq (sym (sent-itself s o) ∙ w .0 h .1)), λ h. w .1 (h .0, sent-itself s o ∙ ap some (h .1)))
 
 pub insert-does : InsertDoes
 unfolding localInsertWhen sendInsert
-insert-does formed s g n =
-    let w = done-exactly wordSent done s (insertChecks formed s g n) (sendInsert s (generatedInsert s g n)) (all-refusing wordSent done not-done (insertChecks formed s g n) (insert-turned formed s g n)) in
-    (λ h. w .0 h .0, λ h. w .1 (h, sent-done s (insert (generatedInsert s g n))))
+insert-does formed s g n = sent-does s (insertChecks formed s g n) (insert-turned formed s g n) (insert (generatedInsert s g n))
 
 pub delete-does : DeleteDoes
-unfolding localDeleteWhen sendDelete
-delete-does formed s p =
-    let w = done-exactly wordSent done s (deleteChecks formed s p) (sendDelete s (generatedDelete s p)) (all-refusing wordSent done not-done (deleteChecks formed s p) (delete-turned formed s p)) in
-    (λ h. w .0 h .0, λ h. w .1 (h, sent-done s (delete (generatedDelete s p))))
+unfolding localDeleteWhen sendToggle
+delete-does formed s p = sent-does s (deleteChecks formed s p) (delete-turned formed s p) (toggle (generatedDelete s p))
 
--- ---- what is sent
+pub restore-does : RestoreDoes
+unfolding localRestoreWhen sendToggle
+restore-does formed s x = sent-does s (restoreChecks formed s x) (restore-turned formed s x) (toggle (generatedToggle s x))
 
 pub insert-sends : InsertSends
-unfolding localInsertWhen sendInsert carryOut sentOperation
-insert-sends formed s g n o =
-    let checks = insertChecks formed s g n in
-    let w = done-exactly sentOperation (some o) s checks (sendInsert s (generatedInsert s g n)) (all-refusing sentOperation (some o) (not-sent o) checks (insert-turned formed s g n)) in
-    (λ h. (w .0 h .0, some-eq (w .0 h .1)), λ h. w .1 (h .0, ap some (h .1)))
+unfolding localInsertWhen sendInsert
+insert-sends formed s g n = sent-sends s (insertChecks formed s g n) (insert-turned formed s g n) (insert (generatedInsert s g n))
 
 pub delete-sends : DeleteSends
-unfolding localDeleteWhen sendDelete carryOut sentOperation
-delete-sends formed s p o =
-    let checks = deleteChecks formed s p in
-    let w = done-exactly sentOperation (some o) s checks (sendDelete s (generatedDelete s p)) (all-refusing sentOperation (some o) (not-sent o) checks (delete-turned formed s p)) in
-    (λ h. (w .0 h .0, some-eq (w .0 h .1)), λ h. w .1 (h .0, ap some (h .1)))
+unfolding localDeleteWhen sendToggle
+delete-sends formed s p = sent-sends s (deleteChecks formed s p) (delete-turned formed s p) (toggle (generatedDelete s p))
+
+pub restore-sends : RestoreSends
+unfolding localRestoreWhen sendToggle
+restore-sends formed s x = sent-sends s (restoreChecks formed s x) (restore-turned formed s x) (toggle (generatedToggle s x))

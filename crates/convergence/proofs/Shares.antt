@@ -9,11 +9,11 @@ use lib.Dec.{leb, eqb}
 use lib.ListN.{length}
 use borrow.Author.Tests.{leb-true, eq-eqb, eqb-true, eqb-false}
 use Rattle.woot.specs.declared.Operation.{Operation}
-use Rattle.woot.specs.declared.Operation.the-variants.{Insert as insert, Delete as delete}
+use Rattle.woot.specs.declared.Operation.the-variants.{Insert as insert, Toggle as toggle}
 use Rattle.woot.specs.declared.Character.{Character}
 use Rattle.woot.specs.Limits.{lastSite, lastClock, share}
 use Rattle.woot.specs.Operations.{sender}
-use Rattle.woot.specs.Ranges.{within, siteNumber, characterId, deleteInRange, inRange}
+use Rattle.woot.specs.Ranges.{within, siteNumber, characterId, toggleInRange, inRange}
 use Rattle.woot.specs.State.{pendingSlots}
 use Rattle.woot.specs.Pending.{sentBy, pendingFrom}
 use Rattle.woot.specs.Form.{countdown}
@@ -21,7 +21,7 @@ use Rattle.convergence.specs.Theorems.{PendingFit}
 use Rattle.lists.specs.Lists.{every}
 use Rattle.lists.proofs.Tests.{either, and-left, and-right}
 use Rattle.lists.proofs.Members.{every-member}
-use Rattle.convergence.proofs.Ranges.{within-low, within-high, in-range}
+use Rattle.convergence.proofs.Ranges.{within-low, within-high, in-range, toggle-in-range}
 use Rattle.convergence.specs.Invariants.{Sound}
 use Rattle.convergence.proofs.Forms.{formed}
 
@@ -67,9 +67,9 @@ numbered zero k h l = absurd (omega arith)
 numbered (suc n) k h l = ⊎-elim (λ e. List·Memᴰ·head (eqb-true k (suc n) e)) (λ e. List·Memᴰ·tail (numbered n k h (omega (arith, eqb-false k (suc n) e)))) (either (eqb k (suc n)))
 
 sender-number : (o : Operation) → inRange o ≡ true → siteNumber (sender o) ≡ true
-unfolding inRange sender deleteInRange characterId
+unfolding inRange sender characterId
 sender-number (insert i) h = and-left (siteNumber (i .id .site)) (within 1 lastClock (i .id .clock)) (in-range i h .id)
-sender-number (delete d) h = and-left (siteNumber (d .sender)) (characterId (d .target)) h
+sender-number (toggle d) h = toggle-in-range d h .sender
 
 pub pending-bound : {cs : List Character} {ps : List Operation} → Sound cs ps → length ps ≤ pendingSlots
 unfolding siteNumber

@@ -8,11 +8,11 @@ use mathlib.Core.List.{List, List·Memᴰ}
 use mathlib.Core.Logic.{⊎-elim}
 use Rattle.woot.specs.declared.Identifier.{Identifier}
 use Rattle.woot.specs.declared.Insert.{Insert}
-use Rattle.woot.specs.declared.Delete.{Delete}
+use Rattle.woot.specs.declared.Toggle.{Toggle}
 use Rattle.woot.specs.declared.Character.{Character}
 use Rattle.woot.specs.Identifiers.{below}
 use Rattle.woot.specs.Operations.{character, origin}
-use Rattle.woot.specs.Placing.{placeOf, held, above, Interval, Located, located, candidate, candidates, between, integrateDelete}
+use Rattle.woot.specs.Placing.{placeOf, held, above, Interval, Located, located, candidate, candidates, between, integrateToggle}
 use Rattle.convergence.specs.Agreement.{Standing, Concurrent, Sorted}
 use Rattle.lists.proofs.Tests.{fails}
 use Rattle.convergence.proofs.Identifiers.{same-ne, below-irrefl, below-trans, below-asym, below-total}
@@ -20,7 +20,7 @@ use Rattle.lists.proofs.Members.{keep-member}
 use Rattle.convergence.proofs.Places.{held-id, above-place, above-lower, above-upper, place-above, place-injective, held-apart}
 use Rattle.lists.proofs.Tests.{side}
 use Rattle.convergence.proofs.Characters.{located-member, located-place}
-use Rattle.convergence.proofs.Deletion.{delete-place, delete-each}
+use Rattle.convergence.proofs.Toggling.{toggle-place, toggle-each}
 use Rattle.convergence.proofs.Placing.{candidates-are, Narrowing, adjacent-is, Placed, arrived, narrows, placed}
 use Rattle.convergence.proofs.Standing.{Placement, Moved, inserted, previous-in, next-in, new-place, old-place, each}
 
@@ -214,17 +214,17 @@ module _ (cs : List Character) (s : Standing cs) (a : Ascending cs) (i : Insert)
             (old-order (d .previous) (c .id) (previous-held cs s n) (held-id cs m) r)
             (old-order (d .id) (c .next) (held-id cs n) (next-held cs s m) t)
 
-module _ (cs : List Character) (x : Delete) (a : Ascending cs) where
+module _ (cs : List Character) (x : Toggle) (a : Ascending cs) where
   -- by where the two came from
   abbrev Came : Insert → Insert → Type 0
-  Came i j = Ranked (integrateDelete cs x) (i .id) (i .next) (j .previous) (j .id)
+  Came i j = Ranked (integrateToggle cs x) (i .id) (i .next) (j .previous) (j .id)
 
-  as-before : (y z : Identifier) → placeOf (integrateDelete cs x) y < placeOf (integrateDelete cs x) z → placeOf cs y < placeOf cs z
-  as-before y z h = omega (arith, delete-place cs x y, delete-place cs x z)
+  as-before : (y z : Identifier) → placeOf (integrateToggle cs x) y < placeOf (integrateToggle cs x) z → placeOf cs y < placeOf cs z
+  as-before y z h = omega (arith, toggle-place cs x y, toggle-place cs x z)
 
-  pub ascending-delete : Ascending (integrateDelete cs x)
+  pub ascending-toggle : Ascending (integrateToggle cs x)
   unfolding origin
-  ascending-delete c d m n = delete-each cs x (λ i. Came i (origin d)) (λ e k. delete-each cs x (Came (origin e)) (both e k) d n) c m
+  ascending-toggle c d m n = toggle-each cs x (λ i. Came i (origin d)) (λ e k. toggle-each cs x (Came (origin e)) (both e k) d n) c m
     where
       both : (e : Character) → List·Memᴰ e cs → (f : Character) → List·Memᴰ f cs → Came (origin e) (origin f)
       both e k f l p q r = a e f k l (as-before (e .id) (f .id) p) (as-before (f .previous) (e .id) q) (as-before (f .id) (e .next) r)

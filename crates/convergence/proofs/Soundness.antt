@@ -11,15 +11,15 @@ use lib.ListN.{length}
 use borrow.Author.Tests.{leb-true, le-leb, eqb-true, eq-eqb, eqb-false, ne-eqb, not-true}
 use Rattle.woot.specs.declared.Identifier.{Identifier}
 use Rattle.woot.specs.declared.Insert.{Insert}
-use Rattle.woot.specs.declared.Delete.{Delete}
+use Rattle.woot.specs.declared.Toggle.{Toggle}
 use Rattle.woot.specs.declared.Operation.{Operation}
-use Rattle.woot.specs.declared.Operation.the-variants.{Insert as insert, Delete as delete}
+use Rattle.woot.specs.declared.Operation.the-variants.{Insert as insert, Toggle as toggle}
 use Rattle.woot.specs.declared.Character.{Character}
 use Rattle.woot.specs.Limits.{lastSite, capacity, share}
 use Rattle.woot.specs.Identifiers.{begin, end, same}
-use Rattle.woot.specs.Operations.{sender, character, inserts, deletes, sameDelete}
-use Rattle.woot.specs.Ranges.{characterId, insertInRange, characterInRange, inRange}
-use Rattle.woot.specs.Placing.{above, held, identifiers, insertAt, integrateInsert, integrateDelete}
+use Rattle.woot.specs.Operations.{sender, character, inserts, togglesAmong, sameToggle}
+use Rattle.woot.specs.Ranges.{characterId, insertInRange, toggleInRange, characterInRange, inRange}
+use Rattle.woot.specs.Placing.{above, held, identifiers, insertAt, integrateInsert, integrateToggle}
 use Rattle.woot.specs.Pending.{executable, crossed, unplaceable, pendingFrom}
 use Rattle.woot.specs.Form.{countdown, ordered}
 use Rattle.convergence.specs.Agreement.{Standing}
@@ -28,33 +28,33 @@ use Rattle.lists.proofs.Tests.{either, and-left, and-right, and-intro, or-right
 use Rattle.lists.proofs.Members.{every-member, member-every}
 use Rattle.convergence.proofs.Identifiers.{same-sym, ne-same}
 use Rattle.convergence.proofs.Places.{held-parts, held-insert}
-use Rattle.convergence.proofs.Deletion.{delete-length, delete-identifiers}
+use Rattle.convergence.proofs.Toggling.{toggle-length, toggle-identifiers}
 use Rattle.convergence.proofs.Ranges.{no-mark, in-range}
 use Rattle.convergence.proofs.Extract.{Extract, front, past, extract-length, extract-front, extract-append, extract-last, extract-map, extract-every, every-extract, keep-extract, keep-same, distinct-extract, extract-distinct}
 use Rattle.convergence.specs.Invariants.{Sound, pendingIds}
-use Rattle.convergence.proofs.Standing.{standing-insert, integrate-insert, standing-delete}
+use Rattle.convergence.proofs.Standing.{standing-insert, integrate-insert, standing-toggle}
 
 -- ---- one operation taken out of the pending ones
 
 pub inserts-extract : {i : Insert} {os ps : List Operation} → Extract (insert i) os ps → Extract i (inserts os) (inserts ps)
 inserts-extract front = front
 inserts-extract (past {y = insert j} e) = past (inserts-extract e)
-inserts-extract (past {y = delete f} e) = inserts-extract e
+inserts-extract (past {y = toggle f} e) = inserts-extract e
 
-pub inserts-same : {d : Delete} {os ps : List Operation} → Extract (delete d) os ps → inserts ps ≡ inserts os
+pub inserts-same : {d : Toggle} {os ps : List Operation} → Extract (toggle d) os ps → inserts ps ≡ inserts os
 inserts-same front = refl
 inserts-same (past {y = insert j} e) = ap (λ js. j ∷ js) (inserts-same e)
-inserts-same (past {y = delete f} e) = inserts-same e
+inserts-same (past {y = toggle f} e) = inserts-same e
 
-pub deletes-extract : {d : Delete} {os ps : List Operation} → Extract (delete d) os ps → Extract d (deletes os) (deletes ps)
-deletes-extract front = front
-deletes-extract (past {y = insert j} e) = deletes-extract e
-deletes-extract (past {y = delete f} e) = past (deletes-extract e)
+pub toggles-extract : {d : Toggle} {os ps : List Operation} → Extract (toggle d) os ps → Extract d (togglesAmong os) (togglesAmong ps)
+toggles-extract front = front
+toggles-extract (past {y = insert j} e) = toggles-extract e
+toggles-extract (past {y = toggle f} e) = past (toggles-extract e)
 
-pub deletes-same : {i : Insert} {os ps : List Operation} → Extract (insert i) os ps → deletes ps ≡ deletes os
-deletes-same front = refl
-deletes-same (past {y = insert j} e) = deletes-same e
-deletes-same (past {y = delete f} e) = ap (λ fs. f ∷ fs) (deletes-same e)
+pub toggles-same : {i : Insert} {os ps : List Operation} → Extract (insert i) os ps → togglesAmong ps ≡ togglesAmong os
+toggles-same front = refl
+toggles-same (past {y = insert j} e) = toggles-same e
+toggles-same (past {y = toggle f} e) = ap (λ fs. f ∷ fs) (toggles-same e)
 
 -- no sender has more pending without it
 fewer : {o : Operation} {os ps : List Operation} → Extract o os ps → (n : ℕ) → pendingFrom n os ≤ pendingFrom n ps
@@ -75,9 +75,9 @@ eqb-sym m n =
     ⊎-elim (λ h. h ∙ sym (eq-eqb n m (sym (eqb-true m n h)))) (λ h. h ∙ sym (ne-eqb n m (λ e. eqb-false m n h (sym e))))
     (either (eqb m n))
 
-pub sameDelete-sym : (d e : Delete) → sameDelete d e ≡ sameDelete e d
-unfolding sameDelete
-sameDelete-sym d e = rw (same-sym (d .target) (e .target), eqb-sym (d .sender) (e .sender))
+pub sameToggle-sym : (d e : Toggle) → sameToggle d e ≡ sameToggle e d
+unfolding sameToggle
+sameToggle-sym d e = rw (same-sym (d .target) (e .target), eqb-sym (d .sender) (e .sender), eqb-sym (d .toggles) (e .toggles))
 
 -- the pending identifiers with one insert's among them
 pub ids-extract : {i : Insert} {os ps : List Operation} (cs : List Character) → Extract (insert i) os ps → Extract (i .id) (identifiers cs ++ pendingIds os) (identifiers cs ++ pendingIds ps)
@@ -92,9 +92,9 @@ sound-out {cs} {o = insert i} {os} {ps} e s =
       shares = fewer-shares e (countdown lastSite) (s .shares);
       room = omega (arith, extract-length (inserts-extract e), s .room);
       apart = distinct-extract same same-sym (ids-extract cs e) (s .apart) .1;
-      deletes-apart = subst (λ ds. distinct sameDelete ds ≡ true) (deletes-same e) (s .deletes-apart);
+      toggles-apart = subst (λ ds. distinct sameToggle ds ≡ true) (toggles-same e) (s .toggles-apart);
     }
-sound-out {cs} {o = delete d} {os} {ps} e s =
+sound-out {cs} {o = toggle d} {os} {ps} e s =
     record {
       ranges = s .ranges;
       ordered-all = s .ordered-all;
@@ -102,7 +102,7 @@ sound-out {cs} {o = delete d} {os} {ps} e s =
       shares = fewer-shares e (countdown lastSite) (s .shares);
       room = omega (arith, ap length (inserts-same e), s .room);
       apart = subst (λ (js : List Insert). distinct same (identifiers cs ++ map (λ j. j .id) js) ≡ true) (inserts-same e) (s .apart);
-      deletes-apart = distinct-extract sameDelete sameDelete-sym (deletes-extract e) (s .deletes-apart) .1;
+      toggles-apart = distinct-extract sameToggle sameToggle-sym (toggles-extract e) (s .toggles-apart) .1;
     }
 
 -- a pending insert's identifier is used by no character and no other pending insert, and there is room for it
@@ -178,22 +178,22 @@ sound-in {cs} {ps} i s r fresh space ready uncrossed placeable =
       shares = s .shares;
       room = omega (arith, extract-length x);
       apart = extract-distinct same same-sym (extract-front (pendingIds ps) (extract-map (λ c. c .id) x)) fresh (s .apart);
-      deletes-apart = s .deletes-apart;
+      toggles-apart = s .toggles-apart;
     }
 
--- ---- a character hidden
+-- ---- a character toggled
 
-pub sound-hide : {cs : List Character} {ps : List Operation} (x : Delete) → Sound cs ps → Sound (integrateDelete cs x) ps
-sound-hide {cs} {ps} x s =
-    let t = standing-delete cs x (standing s) in
+pub sound-toggle : {cs : List Character} {ps : List Operation} (x : Toggle) → toggleInRange x ≡ true → Sound cs ps → Sound (integrateToggle cs x) ps
+sound-toggle {cs} {ps} x r s =
+    let t = standing-toggle cs x r (standing s) in
     record {
-      ranges = member-every characterInRange (integrateDelete cs x) (t .ranges);
+      ranges = member-every characterInRange (integrateToggle cs x) (t .ranges);
       ordered-all = all-ordered t;
       pending-ranges = s .pending-ranges;
       shares = s .shares;
-      room = omega (arith, delete-length cs x);
-      apart = subst (λ ys. distinct same (ys ++ pendingIds ps) ≡ true) (sym (delete-identifiers cs x)) (s .apart);
-      deletes-apart = s .deletes-apart;
+      room = omega (arith, toggle-length cs x);
+      apart = subst (λ ys. distinct same (ys ++ pendingIds ps) ≡ true) (sym (toggle-identifiers cs x)) (s .apart);
+      toggles-apart = s .toggles-apart;
     }
 
 -- ---- an operation put at the end of the pending ones
@@ -212,7 +212,7 @@ more-shares o ps space ns h =
 -- what an operation brings is not there yet, and there is room for an insert
 abbrev pub Unused : List Character → List Operation → Operation → Type 0
 Unused cs ps (insert i) = (any (same (i .id)) (identifiers cs ++ pendingIds ps) ≡ false) × (length cs + length (inserts ps) < capacity)
-Unused cs ps (delete d) = any (sameDelete d) (deletes ps) ≡ false
+Unused cs ps (toggle d) = any (sameToggle d) (togglesAmong ps) ≡ false
 
 pub sound-defer : {cs : List Character} {ps : List Operation} (o : Operation) → Sound cs ps → inRange o ≡ true → pendingFrom (sender o) ps < share → Unused cs ps o → Sound cs (ps ++ o ∷ [])
 sound-defer {cs} {ps} (insert i) s r space u =
@@ -224,16 +224,16 @@ sound-defer {cs} {ps} (insert i) s r space u =
       shares = more-shares (insert i) ps space (countdown lastSite) (s .shares);
       room = omega (arith, extract-length (inserts-extract e));
       apart = extract-distinct same same-sym (ids-extract cs e) (u .0) (s .apart);
-      deletes-apart = subst (λ ds. distinct sameDelete ds ≡ true) (sym (deletes-same e)) (s .deletes-apart);
+      toggles-apart = subst (λ ds. distinct sameToggle ds ≡ true) (sym (toggles-same e)) (s .toggles-apart);
     }
-sound-defer {cs} {ps} (delete d) s r space u =
-    let e = extract-last (delete d) ps in
+sound-defer {cs} {ps} (toggle d) s r space u =
+    let e = extract-last (toggle d) ps in
     record {
       ranges = s .ranges;
       ordered-all = s .ordered-all;
       pending-ranges = extract-every inRange e r (s .pending-ranges);
-      shares = more-shares (delete d) ps space (countdown lastSite) (s .shares);
+      shares = more-shares (toggle d) ps space (countdown lastSite) (s .shares);
       room = omega (arith, ap length (inserts-same e));
       apart = subst (λ (js : List Insert). distinct same (identifiers cs ++ map (λ j. j .id) js) ≡ true) (sym (inserts-same e)) (s .apart);
-      deletes-apart = extract-distinct sameDelete sameDelete-sym (deletes-extract e) u (s .deletes-apart);
+      toggles-apart = extract-distinct sameToggle sameToggle-sym (toggles-extract e) u (s .toggles-apart);
     }

@@ -1,9 +1,9 @@
 -- Integration keeps each character between its neighbours, on any list that has it: the new one goes in somewhere
 -- strictly between its own neighbours, and the others stand as they stood.
-use Prim.Native.Nat.{ℕ, suc, _≤_, _<_}
+use Prim.Native.Nat.{ℕ, suc, max, _≤_, _<_}
 use native.Mathlib.Omega.{arith}
 use mathlib.Core.Path.{_≡_, refl, ap, sym, _∙_, subst}
-use mathlib.Core.Bool.{true, false}
+use mathlib.Core.Bool.{Bool, true, false, cond}
 use mathlib.Core.List.{List, [], append-nil, List·Memᴰ, List·Memᴰ·not-nil}
 use mathlib.Core.Logic.{_⊎_, inl, inr, ⊎-elim}
 use mathlib.Core.Option.{Option, none, some}
@@ -11,22 +11,24 @@ use borrow.Author.Tests.{not-false}
 use lib.ListN.{length}
 use Rattle.woot.specs.declared.Identifier.{Identifier}
 use Rattle.woot.specs.declared.Insert.{Insert}
-use Rattle.woot.specs.declared.Delete.{Delete}
+use Rattle.woot.specs.declared.Toggle.{Toggle}
 use Rattle.woot.specs.declared.Operation.the-variants.{Insert as insert}
 use Rattle.woot.specs.declared.Character.{Character}
+use Rattle.woot.specs.Limits.{lastToggles}
 use Rattle.woot.specs.Identifiers.{same}
-use Rattle.woot.specs.Operations.{character, origin}
-use Rattle.woot.specs.Ranges.{insertInRange, characterInRange}
+use Rattle.woot.specs.Operations.{character, origin, toggledBy}
+use Rattle.woot.specs.Ranges.{insertInRange, toggleInRange, characterInRange}
 use Rattle.lists.specs.Lists.{distinct, missing}
-use Rattle.woot.specs.Placing.{identifiers, placeOf, held, above, position, between, insertAt, integrateInsert, integrateDelete}
+use Rattle.woot.specs.Placing.{identifiers, placeOf, held, above, position, between, insertAt, integrateInsert, integrateToggle}
 use Rattle.woot.specs.Pending.{executable, crossed, unplaceable}
 use Rattle.convergence.specs.Agreement.{Standing}
 use Rattle.lists.proofs.Tests.{clash, or-left, or-right, and-false}
+use Rattle.convergence.proofs.Ranges.{origin-ranged, toggles-ranged, to-character-range, toggle-in-range}
 use Rattle.convergence.proofs.Identifiers.{same-refl}
 use Rattle.convergence.proofs.Insertion.{insert-member, insert-distinct}
 use Rattle.convergence.proofs.Places.{shift, shift-before, shift-behind, held-place, above-place, above-lower, above-upper, place-above, held-apart, held-insert, not-held, place-insert-old, place-insert-new, above-insert}
 use Rattle.lists.proofs.Tests.{side}
-use Rattle.convergence.proofs.Deletion.{delete-identifiers, delete-above, delete-each}
+use Rattle.convergence.proofs.Toggling.{marked-origin, marked-toggles, toggle-identifiers, toggle-above, toggle-member, toggle-each}
 use Rattle.convergence.proofs.Placing.{position-within}
 
 -- where an insert goes in, strictly between its neighbours
@@ -146,10 +148,10 @@ module _ (cs : List Character) (i : Insert) (fresh : held cs (i .id) ≡ false) 
       (insert-distinct (p .place) (character i) cs [] (not-held cs (i .id) fresh) refl (subst Apart (sym (append-nil (identifiers cs))) d))
 
   pub standing-insert-at : Standing cs → insertInRange i ≡ true → Standing (inserted cs i p)
-  unfolding character origin characterInRange
+  unfolding character origin
   standing-insert-at s h =
       record {
-        ranges = each (λ c. characterInRange c ≡ true) h (s .ranges);
+        ranges = each (λ c. characterInRange c ≡ true) (to-character-range (character i) h (omega arith)) (s .ranges);
         apart = still-apart (s .apart);
         below-previous =
             each (λ c. above (inserted cs i p) (c .previous) (c .id) ≡ true) new-below
@@ -175,16 +177,26 @@ standing-empty =
       above-next = λ c m. absurd (List·Memᴰ·not-nil m);
     }
 
-pub standing-delete : (cs : List Character) (x : Delete) → Standing cs → Standing (integrateDelete cs x)
-unfolding characterInRange origin
-standing-delete cs x s =
+-- a character in range stays so: its toggles are its own or the operation's
+marked-ranged : (x : Toggle) → toggleInRange x ≡ true → (c : Character) → characterInRange c ≡ true → characterInRange (toggledBy x c) ≡ true
+marked-ranged x r c h =
+    to-character-range (toggledBy x c) (subst (λ (i : Insert). insertInRange i ≡ true) (sym (marked-origin x c)) (origin-ranged c h))
+    (subst (λ (n : ℕ). n ≤ lastToggles) (sym (marked-toggles x c)) (go (same (x .target) (c .id))))
+  where
+    go : (b : Bool) → cond b (max (c .toggles) (x .toggles)) (c .toggles) ≤ lastToggles
+    go true = omega (arith, toggles-ranged c h, toggle-in-range x r .most)
+    go false = toggles-ranged c h
+
+pub standing-toggle : (cs : List Character) (x : Toggle) → toggleInRange x ≡ true → Standing cs → Standing (integrateToggle cs x)
+unfolding origin
+standing-toggle cs x r s =
     record {
-      ranges = delete-each cs x (λ i. insertInRange i ≡ true) (s .ranges);
-      apart = rw delete-identifiers (s .apart);
+      ranges = λ c m. let w = toggle-member cs x m in subst (λ (d : Character). characterInRange d ≡ true) (w .2) (marked-ranged x r (w .0) (s .ranges (w .0) (w .1)));
+      apart = rw toggle-identifiers (s .apart);
       below-previous =
-          delete-each cs x (λ i. above (integrateDelete cs x) (i .previous) (i .id) ≡ true)
-          (λ c m. delete-above cs x (c .previous) (c .id) ∙ s .below-previous c m);
+          toggle-each cs x (λ i. above (integrateToggle cs x) (i .previous) (i .id) ≡ true)
+          (λ c m. toggle-above cs x (c .previous) (c .id) ∙ s .below-previous c m);
       above-next =
-          delete-each cs x (λ i. above (integrateDelete cs x) (i .id) (i .next) ≡ true)
-          (λ c m. delete-above cs x (c .id) (c .next) ∙ s .above-next c m);
+          toggle-each cs x (λ i. above (integrateToggle cs x) (i .id) (i .next) ≡ true)
+          (λ c m. toggle-above cs x (c .id) (c .next) ∙ s .above-next c m);
     }

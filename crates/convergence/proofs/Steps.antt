@@ -1,5 +1,5 @@
 -- What a call does, as one of four steps with all that is known where it is taken: nothing, an insert carried out, a
--- delete carried out, an operation deferred. Every theorem about calls goes by these.
+-- toggle carried out, an operation deferred. Every theorem about calls goes by these.
 use Prim.Native.Nat.{ℕ, suc, _+_, _≤_, _<_, max}
 use native.Mathlib.Omega.{arith}
 use mathlib.Core.Path.{_≡_, refl, ap, sym, _∙_, subst}
@@ -13,9 +13,9 @@ use borrow.Author.Tests.{leb-false, ltb-false, not-false, eq-eqb}
 use Rattle.woot.specs.declared.Identifier.{Identifier}
 use Rattle.woot.specs.declared.Site.{Site}
 use Rattle.woot.specs.declared.Insert.{Insert}
-use Rattle.woot.specs.declared.Delete.{Delete}
+use Rattle.woot.specs.declared.Toggle.{Toggle}
 use Rattle.woot.specs.declared.Operation.{Operation}
-use Rattle.woot.specs.declared.Operation.the-variants.{Insert as insert, Delete as delete}
+use Rattle.woot.specs.declared.Operation.the-variants.{Insert as insert, Toggle as toggle}
 use Rattle.woot.specs.declared.Character.{Character}
 use Rattle.woot.specs.declared.Answer.{Answer}
 use Rattle.woot.specs.declared.Answer.the-variants.{Done, Deferred, Duplicate, Refused}
@@ -23,17 +23,17 @@ use Rattle.woot.specs.declared.Sent.{Sent}
 use Rattle.woot.specs.declared.Sent.the-variants.{Done as sentDone, Refused as sentRefused}
 use Rattle.woot.specs.Limits.{lastClock, capacity, share}
 use Rattle.woot.specs.Identifiers.{begin, end, same}
-use Rattle.woot.specs.Operations.{sender, origin, isVisible, inserts, deletes, sameInsert, sameDelete, sameOperation}
+use Rattle.woot.specs.Operations.{sender, origin, inserts, togglesAmong, sameInsert, sameToggle, sameOperation}
 use Rattle.woot.specs.Ranges
-use Rattle.woot.specs.Ranges.{siteNumber, codePoint, characterId, previousId, nextId, siteInRange, insertInRange, inRange}
+use Rattle.woot.specs.Ranges.{siteNumber, codePoint, characterId, previousId, nextId, siteInRange, insertInRange, toggleInRange, inRange}
 use Rattle.woot.specs.State.{State}
 use Rattle.woot.specs.Placing.{identifiers, held, integrateInsert}
 use Rattle.woot.specs.Pending.{executable, crossed, unplaceable, pendingFrom, Drained}
 use Rattle.woot.specs.Clock.{ownInsert, heard, heardAll}
 use Rattle.woot.specs.Form.{presentInserts, wellFormed}
 use Rattle.woot.specs.Answers.{Check, first, NoneHolds, decided, answerOf}
-use Rattle.woot.specs.Calls.{Outcome, unchanged, afterDrain, insertCarried, duplicate, conflicting, senderFull, documentFull, receiveChecks, carryOut, defer, accept, receiveWhen, receive, visibles, nextIdentifier, generatedInsert, beyondVisible, identifierTaken, insertChecks, sendInsert, localInsertWhen, localInsert, notVisible, deleteChecks, generatedDelete, sendDelete, localDeleteWhen, localDelete}
-use Rattle.woot.specs.Histories.{Call, inserting, deleting, receiving, withAnswer, outcome}
+use Rattle.woot.specs.Calls.{Outcome, unchanged, afterDrain, insertCarried, duplicate, conflicting, senderFull, documentFull, receiveChecks, carryOut, defer, accept, receiveWhen, receive, visibles, nextIdentifier, generatedInsert, beyondVisible, identifierTaken, insertChecks, sendInsert, localInsertWhen, localInsert, generatedToggle, deleteChecks, generatedDelete, sendToggle, localDeleteWhen, localDelete, restoreChecks, localRestoreWhen, localRestore}
+use Rattle.woot.specs.Histories.{Call, inserting, deleting, restoring, receiving, withAnswer, outcome}
 use Rattle.lists.specs.Lists.{any, every}
 use Rattle.lists.proofs.Tests.{clash, and-left, and-intro, and-false, or-left, or-right, or-false-left, or-false-right, not-intro, fails}
 use Rattle.lists.proofs.Members.{any-none, none-any, every-member}
@@ -44,6 +44,7 @@ use Rattle.convergence.proofs.Identifiers.{eq-same, ne-same}
 use Rattle.convergence.proofs.Ranges.{InRange, to-range, to-within, no-mark}
 use Rattle.convergence.proofs.Places.{held-begin, held-end}
 use Rattle.convergence.proofs.InsertionPoint.{Marked, mark, inner, leftOf, rightOf, left-marked, right-marked, marked-held, left-above, member-range}
+use Rattle.convergence.proofs.Toggles.{delete-ranged, delete-ready, restore-ranged, restore-ready}
 use Rattle.convergence.proofs.Clocks.{reaches, reaches-clock, heard-reaches, heard-keeps-all, heard-all-still}
 use Rattle.convergence.proofs.Drains.{Draining, draining}
 use Rattle.convergence.proofs.Draining.{in-every, integrated-every}
@@ -66,9 +67,10 @@ pub record Addable (s : State) (i : Insert) : Type 0 where
   pub uncrossed : crossed (s .characters) (insert i) ≡ false
   pub placeable : unplaceable (s .characters) (insert i) ≡ false
 
--- a delete that is carried out
-pub record Removable (s : State) (d : Delete) : Type 0 where
+-- a toggle that is carried out
+pub record Raisable (s : State) (d : Toggle) : Type 0 where
   pub formed : Formed s
+  pub ranged : toggleInRange d ≡ true
   pub ready : held (s .characters) (d .target) ≡ true
 
 -- an operation that is deferred
@@ -94,7 +96,7 @@ added s t i =
 pub data Step (s : State) : Outcome Answer → Type 0 where
   turned : (a : Answer) → Turned a → Step s (unchanged s a)
   adds : (i : Insert) → Addable s i → Step s (added s (heard (s .site) i) i)
-  removes : (d : Delete) → Removable s d → Step s (carryOut Done s (delete d))
+  raises : (d : Toggle) → Raisable s d → Step s (carryOut Done s (toggle d))
   defers : (o : Operation) → Deferrable s o → Step s (defer s o)
 
 -- ---- the clock
@@ -152,13 +154,13 @@ member-map f (x ∷ xs) (List·Memᴰ·tail m) = let w = member-map f xs m in (w
 inserts-member : (ps : List Operation) {i : Insert} → List·Memᴰ i (inserts ps) → List·Memᴰ (insert i) ps
 inserts-member (insert j ∷ ps) (List·Memᴰ·head e) = List·Memᴰ·head (ap insert e)
 inserts-member (insert j ∷ ps) (List·Memᴰ·tail m) = List·Memᴰ·tail (inserts-member ps m)
-inserts-member (delete d ∷ ps) m = List·Memᴰ·tail (inserts-member ps m)
+inserts-member (toggle d ∷ ps) m = List·Memᴰ·tail (inserts-member ps m)
 
-pub any-deletes : (d : Delete) (ps : List Operation) → any (sameDelete d) (deletes ps) ≡ any (sameOperation (delete d)) ps
+pub any-toggles : (d : Toggle) (ps : List Operation) → any (sameToggle d) (togglesAmong ps) ≡ any (sameOperation (toggle d)) ps
 unfolding sameOperation
-any-deletes d [] = refl
-any-deletes d (insert j ∷ ps) = any-deletes d ps
-any-deletes d (delete e ∷ ps) = ap (λ b. sameDelete d e || b) (any-deletes d ps)
+any-toggles d [] = refl
+any-toggles d (insert j ∷ ps) = any-toggles d ps
+any-toggles d (toggle e ∷ ps) = ap (λ b. sameToggle d e || b) (any-toggles d ps)
 
 -- an insert that is neither known nor in conflict has an identifier that is not used
 pub fresh-insert : (s : State) (i : Insert) → duplicate s (insert i) ≡ false → conflicting s (insert i) ≡ false → any (same (i .id)) (identifiers (s .characters) ++ pendingIds (s .pending)) ≡ false
@@ -192,15 +194,15 @@ space-insert s i h = omega (arith, leb-false capacity (length (presentInserts s)
 pub unused : (s : State) (o : Operation) → duplicate s o ≡ false → conflicting s o ≡ false → documentFull s o ≡ false → Unused (s .characters) (s .pending) o
 unfolding duplicate
 unused s (insert i) new sole space = (fresh-insert s i new sole, space-insert s i space)
-unused s (delete d) new sole space =
-    any-deletes d (s .pending)
-    ∙ or-false-right (any (λ c. same (d .target) (c .id) && not (isVisible c)) (s .characters)) (any (sameOperation (delete d)) (s .pending)) new
+unused s (toggle d) new sole space =
+    any-toggles d (s .pending)
+    ∙ or-false-right (any (λ c. same (d .target) (c .id) && leb (d .toggles) (c .toggles)) (s .characters)) (any (sameOperation (toggle d)) (s .pending)) new
 
 carried-step : (s : State) (o : Operation) → Formed s → inRange o ≡ true → Unused (s .characters) (s .pending) o → executable (s .characters) o ≡ true → crossed (s .characters) o ≡ false → unplaceable (s .characters) o ≡ false → Step s (carryOut Done s o)
 unfolding carryOut afterDrain inRange executable
 carried-step s (insert i) f r u e x p =
     drained-added s i (record { formed = f; ranged = r; fresh = u .0; space = u .1; ready = e; uncrossed = x; placeable = p })
-carried-step s (delete d) f r u e x p = removes d (record { formed = f; ready = e })
+carried-step s (toggle d) f r u e x p = raises d (record { formed = f; ranged = r; ready = e })
 
 accept-step : (s : State) (o : Operation) → NoneHolds (receiveChecks (wellFormed s) s o) → Step s (accept s o)
 unfolding receiveChecks accept senderFull
@@ -244,6 +246,10 @@ insert-turned formed s g n = (tt, (tt, (tt, (tt, (tt, (tt, (tt, tt)))))))
 pub delete-turned : (formed : Bool) (s : State) (p : ℕ) → All Refusing (deleteChecks formed s p)
 unfolding deleteChecks
 delete-turned formed s p = (tt, (tt, tt))
+
+pub restore-turned : (formed : Bool) (s : State) (x : Identifier) → All Refusing (restoreChecks formed s x)
+unfolding restoreChecks
+restore-turned formed s x = (tt, (tt, (tt, (tt, tt))))
 
 pub any-map : {A B : Type 0} (p : B → Bool) (f : A → B) (xs : List A) → any p (map f xs) ≡ any (λ x. p (f x)) xs
 any-map p f [] = refl
@@ -366,14 +372,21 @@ unfolding decided unchanged sendInsert carryOut insertCarried answerOf afterDrai
 insert-step s g n none e = drained-added s (generatedInsert s g n) (generated-step s g n (first-none (insertChecks (wellFormed s) s g n) e))
 insert-step s g n (some a) e = turned (answerOf a) (refusing-turned a (first-some Refusing (insertChecks (wellFormed s) s g n) (insert-turned (wellFormed s) s g n) a e))
 
-delete-step : (s : State) (p : ℕ) (m : Option Sent) → first (deleteChecks (wellFormed s) s p) ≡ m → Step s (withAnswer answerOf (decided (unchanged s) m (sendDelete s (generatedDelete s p))))
-unfolding decided unchanged sendDelete answerOf carryOut deleteChecks notVisible beyondVisible generatedDelete
+delete-step : (s : State) (p : ℕ) (m : Option Sent) → first (deleteChecks (wellFormed s) s p) ≡ m → Step s (withAnswer answerOf (decided (unchanged s) m (sendToggle s (generatedDelete s p))))
+unfolding decided unchanged sendToggle answerOf carryOut deleteChecks
 delete-step s p none e =
     let w = first-none (deleteChecks (wellFormed s) s p) e in
     let form = formed s (not-false (wellFormed s) (w .0)) in
-    let visible : p ≤ length (visibles (s .characters)) = ltb-false (length (visibles (s .characters))) p (or-false-right (eqb p 0) (ltb (length (visibles (s .characters))) p) (w .1 .0)) in
-    removes (generatedDelete s p) (record { formed = form; ready = marked-held (left-marked (standing (form .sound)) p visible) (held-begin (s .characters)) })
+    raises (generatedDelete s p) (record { formed = form; ranged = delete-ranged s form p (w .1 .0); ready = delete-ready s form p (w .1 .0) })
 delete-step s p (some a) e = turned (answerOf a) (refusing-turned a (first-some Refusing (deleteChecks (wellFormed s) s p) (delete-turned (wellFormed s) s p) a e))
+
+restore-step : (s : State) (x : Identifier) (m : Option Sent) → first (restoreChecks (wellFormed s) s x) ≡ m → Step s (withAnswer answerOf (decided (unchanged s) m (sendToggle s (generatedToggle s x))))
+unfolding decided unchanged sendToggle answerOf carryOut restoreChecks
+restore-step s x none e =
+    let w = first-none (restoreChecks (wellFormed s) s x) e in
+    let form = formed s (not-false (wellFormed s) (w .1 .0)) in
+    raises (generatedToggle s x) (record { formed = form; ranged = restore-ranged s form x (w .1 .1 .0) (w .1 .1 .1 .0); ready = restore-ready s form x (w .1 .1 .0) })
+restore-step s x (some a) e = turned (answerOf a) (refusing-turned a (first-some Refusing (restoreChecks (wellFormed s) s x) (restore-turned (wellFormed s) s x) a e))
 
 receive-step : (s : State) (o : Operation) (m : Option Answer) → first (receiveChecks (wellFormed s) s o) ≡ m → Step s (decided (unchanged s) m (accept s o))
 unfolding decided
@@ -381,7 +394,8 @@ receive-step s o none e = accept-step s o (first-none (receiveChecks (wellFormed
 receive-step s o (some a) e = turned a (first-some Turned (receiveChecks (wellFormed s) s o) (receive-turned (wellFormed s) s o) a e)
 
 pub step : (s : State) (c : Call) → Step s (outcome s c)
-unfolding outcome localInsert localInsertWhen localDelete localDeleteWhen receive receiveWhen
+unfolding outcome localInsert localInsertWhen localDelete localDeleteWhen localRestore localRestoreWhen receive receiveWhen
 step s (inserting g n) = insert-step s g n (first (insertChecks (wellFormed s) s g n)) refl
 step s (deleting p) = delete-step s p (first (deleteChecks (wellFormed s) s p)) refl
+step s (restoring x) = restore-step s x (first (restoreChecks (wellFormed s) s x)) refl
 step s (receiving o) = receive-step s o (first (receiveChecks (wellFormed s) s o)) refl

@@ -14,7 +14,7 @@ use Rattle.woot.specs.Clock.{heardAll}
 use Rattle.woot.specs.Form.{allInRange, clockKept, wellFormed, raised}
 use Rattle.woot.specs.Answers.{done, reply}
 use Rattle.woot.specs.Calls.{allIntegrated, identifierTaken}
-use Rattle.woot.specs.Histories.{Call, inserting, deleting, receiving, outcome}
+use Rattle.woot.specs.Histories.{Call, inserting, deleting, restoring, receiving, outcome}
 
 -- ---- typing
 
@@ -41,6 +41,7 @@ putOff (receiving o) Duplicate = []
 putOff (receiving o) (Refused r) = []
 putOff (inserting g n) a = []
 putOff (deleting p) a = []
+putOff (restoring x) a = []
 
 -- "when an insert of the laptop's own number is carried out or starts to wait": these raise the clock and nothing else
 -- does, a refused or known one nothing

@@ -10,7 +10,7 @@ use Rattle.woot.specs.declared.Operation.{Operation}
 use Rattle.woot.specs.declared.Character.{Character}
 use Rattle.woot.specs.Limits.{lastSite, capacity, share}
 use Rattle.woot.specs.Identifiers.{same}
-use Rattle.woot.specs.Operations.{inserts, deletes, sameDelete}
+use Rattle.woot.specs.Operations.{inserts, togglesAmong, sameToggle}
 use Rattle.woot.specs.Ranges.{characterInRange, inRange, insertInRange}
 use Rattle.woot.specs.State.{State}
 use Rattle.woot.specs.Placing.{identifiers}
@@ -33,7 +33,7 @@ pub record Sound (cs : List Character) (ps : List Operation) : Type 0 where
   pub shares : every (λ n. leb (pendingFrom n ps) share) (countdown lastSite) ≡ true
   pub room : length cs + length (inserts ps) ≤ capacity
   pub apart : distinct same (identifiers cs ++ pendingIds ps) ≡ true
-  pub deletes-apart : distinct sameDelete (deletes ps) ≡ true
+  pub toggles-apart : distinct sameToggle (togglesAmong ps) ≡ true
 
 -- what typing makes, before it is known whether there is a place and room for it
 pub record Made (s : State) (i : Insert) : Type 0 where

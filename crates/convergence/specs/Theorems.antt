@@ -9,7 +9,7 @@ use lib.ListN.{length}
 use Rattle.woot.specs.declared.Identifier.{Identifier}
 use Rattle.woot.specs.declared.Insert.{Insert}
 use Rattle.woot.specs.declared.Operation.{Operation}
-use Rattle.woot.specs.declared.Operation.the-variants.{Insert as insert, Delete as delete}
+use Rattle.woot.specs.declared.Operation.the-variants.{Insert as insert, Toggle as toggle}
 use Rattle.woot.specs.declared.Character.{Character}
 use Rattle.woot.specs.declared.Refusal.{Refusal}
 use Rattle.woot.specs.declared.Refusal.the-variants.{Unplaceable, SenderFull, DocumentFull}
@@ -18,17 +18,17 @@ use Rattle.woot.specs.declared.Sent.the-variants.{Refused as sentRefused}
 use Rattle.woot.specs.declared.Written.{Written}
 use Rattle.woot.specs.declared.Written.the-variants.{Length, Refused as writtenRefused}
 use Rattle.output.specs.Output.{placed}
-use Rattle.woot.specs.Operations.{sender, origin, isVisible, inserts}
+use Rattle.woot.specs.Operations.{sender, origin, inserts}
 use Rattle.woot.specs.Ranges.{siteNumber}
 use Rattle.woot.specs.State.{State, initial, pendingSlots}
 use Rattle.woot.specs.Placing.{identifiers, above, Interval, adjacent, candidates, narrowed, position}
 use Rattle.woot.specs.Pending.{executable, crossed, unplaceable, integrate, sentBy, Extracted, earliest, Drained, andIntegrated, andDiscarded, drained, drain}
 use Rattle.woot.specs.Form.{wellFormed}
 use Rattle.woot.specs.Answers.{number, done, waits, reply, answerOf, sentOperation, Check, NoneHolds, Reported}
-use Rattle.woot.specs.Calls.{unchanged, allIntegrated, receiveChecks, receiveWhen, receive, insertChecks, generatedInsert, localInsertWhen, deleteChecks, generatedDelete, localDeleteWhen}
+use Rattle.woot.specs.Calls.{unchanged, allIntegrated, receiveChecks, receiveWhen, receive, insertChecks, generatedInsert, localInsertWhen, deleteChecks, generatedDelete, localDeleteWhen, restoreChecks, generatedToggle, localRestoreWhen}
 use Rattle.woot.specs.Writing.{writingChecks, writtenAs, outputAfter, writtenNumber}
 use Rattle.woot.specs.Text.{text}
-use Rattle.woot.specs.Histories.{Call, Begun, startOf, outcome, run, drainedBy, discardedBy, deferredBy, InsertedIn, DeletedIn, charactersAfter, historyOf, SameInserted, SameDeleted}
+use Rattle.woot.specs.Histories.{Call, Begun, startOf, outcome, run, drainedBy, discardedBy, deferredBy, InsertedIn, largestIn, charactersAfter, historyOf, SameInserted, SameToggled}
 use Rattle.convergence.specs.Agreement.{Grown, OneMeaning}
 
 -- ---- the rules as recursions, with no count of steps
@@ -68,7 +68,7 @@ ReceiveKnows =
     (formed : Bool) (s : State) (o : Operation) →
     (receiveWhen formed s o .answer ≡ Duplicate) ↔ Reported Duplicate (receiveChecks formed s o)
 
--- typing and erasing answer refusal r exactly when its condition holds and none before it
+-- typing, erasing and restoring answer refusal r exactly when its condition holds and none before it
 abbrev pub InsertRefuses : Type 0
 InsertRefuses =
     (formed : Bool) (s : State) (g n : ℕ) (r : Refusal) →
@@ -78,6 +78,11 @@ abbrev pub DeleteRefuses : Type 0
 DeleteRefuses =
     (formed : Bool) (s : State) (p : ℕ) (r : Refusal) →
     (localDeleteWhen formed s p .answer ≡ sentRefused r) ↔ Reported (sentRefused r) (deleteChecks formed s p)
+
+abbrev pub RestoreRefuses : Type 0
+RestoreRefuses =
+    (formed : Bool) (s : State) (x : Identifier) (r : Refusal) →
+    (localRestoreWhen formed s x .answer ≡ sentRefused r) ↔ Reported (sentRefused r) (restoreChecks formed s x)
 
 -- no two refusals have one number
 abbrev pub NumbersDiffer : Type 0
@@ -101,6 +106,12 @@ DeleteNumbers =
     (reply (answerOf (localDeleteWhen formed s p .answer)) .refusal ≡ number r)
     ↔ Reported (sentRefused r) (deleteChecks formed s p)
 
+abbrev pub RestoreNumbers : Type 0
+RestoreNumbers =
+    (formed : Bool) (s : State) (x : Identifier) (r : Refusal) →
+    (reply (answerOf (localRestoreWhen formed s x .answer)) .refusal ≡ number r)
+    ↔ Reported (sentRefused r) (restoreChecks formed s x)
+
 -- receiving answers done exactly when no condition holds and everything needed is held
 abbrev pub ReceiveDoes : Type 0
 ReceiveDoes =
@@ -115,7 +126,7 @@ ReceiveWaits =
     (reply (receiveWhen formed s o .answer) .word ≡ waits)
     ↔ (NoneHolds (receiveChecks formed s o) × (executable (s .characters) o ≡ false))
 
--- typing and erasing answer done exactly when no condition holds
+-- typing, erasing and restoring answer done exactly when no condition holds
 abbrev pub InsertDoes : Type 0
 InsertDoes =
     (formed : Bool) (s : State) (g n : ℕ) →
@@ -126,7 +137,13 @@ DeleteDoes =
     (formed : Bool) (s : State) (p : ℕ) →
     (reply (answerOf (localDeleteWhen formed s p .answer)) .word ≡ done) ↔ NoneHolds (deleteChecks formed s p)
 
--- "typing and erasing also return the operation to be sent": the generated one, exactly when no condition holds
+abbrev pub RestoreDoes : Type 0
+RestoreDoes =
+    (formed : Bool) (s : State) (x : Identifier) →
+    (reply (answerOf (localRestoreWhen formed s x .answer)) .word ≡ done) ↔ NoneHolds (restoreChecks formed s x)
+
+-- "typing and erasing also return the operation to be sent", and so does restoring: the generated one, exactly when no
+-- condition holds
 abbrev pub InsertSends : Type 0
 InsertSends =
     (formed : Bool) (s : State) (g n : ℕ) (o : Operation) →
@@ -137,7 +154,13 @@ abbrev pub DeleteSends : Type 0
 DeleteSends =
     (formed : Bool) (s : State) (p : ℕ) (o : Operation) →
     (sentOperation (localDeleteWhen formed s p .answer) ≡ some o)
-    ↔ (NoneHolds (deleteChecks formed s p) × (delete (generatedDelete s p) ≡ o))
+    ↔ (NoneHolds (deleteChecks formed s p) × (toggle (generatedDelete s p) ≡ o))
+
+abbrev pub RestoreSends : Type 0
+RestoreSends =
+    (formed : Bool) (s : State) (x : Identifier) (o : Operation) →
+    (sentOperation (localRestoreWhen formed s x .answer) ≡ some o)
+    ↔ (NoneHolds (restoreChecks formed s x) × (toggle (generatedToggle s x) ≡ o))
 
 -- a refused call changes nothing and carries nothing out
 abbrev pub RefusedUnchanged : Type 0
@@ -220,11 +243,11 @@ HeldAreInserted =
 abbrev pub HeldCount : Type 0
 HeldCount = (b : Begun) (cs : List Call) → length (charactersAfter b cs) ≡ length (inserts (historyOf b cs))
 
--- a character is hidden exactly when a delete of it was carried out
-abbrev pub HiddenAreDeleted : Type 0
-HiddenAreDeleted =
+-- document 02, Req 05: a character's toggles are the most that were carried out of it, 0 if none was
+abbrev pub TogglesAreLargest : Type 0
+TogglesAreLargest =
     (b : Begun) (cs : List Call) (c : Character) → List·Memᴰ c (charactersAfter b cs) →
-    (isVisible c ≡ false) ↔ DeletedIn (c .id) (historyOf b cs)
+    c .toggles ≡ largestIn (c .id) (historyOf b cs)
 
 -- "operations answered waits equal those waiting now, plus those carried out from the list, plus those thrown out"; those
 -- that wait at the start count as answered so
@@ -251,10 +274,11 @@ Agreement =
     List·Memᴰ x (identifiers (charactersAfter b ds)) → List·Memᴰ y (identifiers (charactersAfter b ds)) →
     above (charactersAfter a cs) x y ≡ above (charactersAfter b ds) x y
 
--- Demand 3, "a single claim about two lists of calls": the same inserts carried out, every field counted, and the same
--- characters deleted, by whatever sender, give equal characters and equal visible bytes.
+-- Demand 3, "a single claim about two lists of calls", read with document 02, Req 05: the same inserts carried out, every
+-- field counted, and for each "the same largest turn carried out", by whatever sender, give equal characters and equal
+-- visible bytes.
 abbrev pub Convergence : Type 0
 Convergence =
     (a b : Begun) (cs ds : List Call) →
-    SameInserted (historyOf a cs) (historyOf b ds) → SameDeleted (historyOf a cs) (historyOf b ds) →
+    SameInserted (historyOf a cs) (historyOf b ds) → SameToggled (historyOf a cs) (historyOf b ds) →
     (charactersAfter a cs ≡ charactersAfter b ds) × (text (charactersAfter a cs) ≡ text (charactersAfter b ds))
