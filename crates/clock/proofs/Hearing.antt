@@ -8,7 +8,7 @@ use lib.Seq.{take-suc}
 use Rattle.woot.specs.declared.Site.{Site}
 use Rattle.woot.specs.declared.Insert.{Insert}
 use Rattle.woot.specs.declared.Operation.{Operation}
-use Rattle.woot.specs.declared.Operation.the-variants.{Insert as insert, Delete as delete}
+use Rattle.woot.specs.declared.Operation.the-variants.{Insert as insert, Toggle as toggle}
 use Rattle.woot.specs.declared.Character.{Character}
 use Rattle.woot.specs.declared.Pending.{Pending}
 use Rattle.woot.specs.Operations.{origin, inserts}
@@ -57,4 +57,4 @@ pending-bring (p ∷ ps) = go (p .operation) (pending-bring ps)
   where
     go : (o : Operation) → broughtBy ofPending ps ≡ inserts (map (λ p. p .operation) ps) → inserts (o ∷ []) ++ broughtBy ofPending ps ≡ inserts (o ∷ map (λ p. p .operation) ps)
     go (insert i) e = ap (λ is. i ∷ is) e
-    go (delete d) e = e
+    go (toggle d) e = e

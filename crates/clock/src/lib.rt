@@ -44,13 +44,13 @@ pub fn heard(site: Site, insert: Insert) -> Site
     heard_id(site, id)
 }
 
-// The site that has heard an operation: a delete raises nothing.
+// The site that has heard an operation: a toggle raises nothing.
 pub fn heard_operation(site: Site, operation: Operation) -> Site
     ensures { λ r. ⌜ r ≡ heardAll site (inserts (operation ∷ [])) ⌝ }
 {
     match operation {
         Operation::Insert(i) => heard(site, i),
-        Operation::Delete(_) => site,
+        Operation::Toggle(_) => site,
     }
 }
 

@@ -9,7 +9,7 @@ use mathlib.Core.Option.{none, some}
 use mathlib.Core.List.{List, [], _∷_}
 use lib.ListN.{length, getD}
 use Rattle.woot.specs.declared.Operation.{Operation}
-use Rattle.woot.specs.declared.Operation.the-variants.{Insert as insert, Delete as delete}
+use Rattle.woot.specs.declared.Operation.the-variants.{Insert as insert, Toggle as toggle}
 use Rattle.woot.specs.declared.Character.{Character}
 use Rattle.woot.specs.declared.Pending.{Pending}
 use Rattle.woot.specs.Operations.{inserts}
@@ -47,7 +47,7 @@ workable-bounded k =
 -- a pending insert is among the pending inserts
 one-insert : {o : Operation} {os ps : List Operation} → Extract o os ps → length (inserts (o ∷ [])) ≤ length (inserts ps)
 one-insert {o = insert i} e = omega (arith, extract-length (inserts-extract e))
-one-insert {o = delete d} e = omega arith
+one-insert {o = toggle d} e = omega arith
 
 -- ---- the operation that is due
 

@@ -7,14 +7,14 @@ use mathlib.Core.Bool.{true, false, _||_}
 use mathlib.Core.List.{List, map}
 use lib.ListN.{length, take, length-map}
 use Rattle.woot.specs.declared.Insert.{Insert}
-use Rattle.woot.specs.declared.Delete.{Delete}
+use Rattle.woot.specs.declared.Toggle.{Toggle}
 use Rattle.woot.specs.declared.Operation.{Operation}
-use Rattle.woot.specs.declared.Operation.the-variants.{Insert as insert, Delete as delete}
+use Rattle.woot.specs.declared.Operation.the-variants.{Insert as insert, Toggle as toggle}
 use Rattle.woot.specs.declared.Character.{Character}
 use Rattle.woot.specs.declared.Table.{Table}
 use Rattle.woot.specs.State.{characterSlots, pendingSlots, slotOf, blankCharacter, blankPending, documentOf}
 use Rattle.woot.specs.Operations.{character}
-use Rattle.woot.specs.Placing.{insertAt, integrateDelete}
+use Rattle.woot.specs.Placing.{insertAt, integrateToggle}
 use Rattle.woot.specs.Pending.{executable, crossed, unplaceable, integrate}
 use Rattle.lists.proofs.Tests.{clash, or-left, or-right, or-false}
 use Rattle.convergence.proofs.Extract.{extract-length}
@@ -95,9 +95,9 @@ module _ (cs : List Character) (ps : List Operation) (n m : ℕ) where
   unfolding carried
   carried-integrated o e = rw e
 
-  pub carried-delete : (d : Delete) → carried cs ps n m (delete d) ≡ workOf (integrateDelete cs d) ps (n + 1) m
+  pub carried-toggle : (d : Toggle) → carried cs ps n m (toggle d) ≡ workOf (integrateToggle cs d) ps (n + 1) m
   unfolding crossed unplaceable integrate
-  carried-delete d = carried-integrated (delete d) refl
+  carried-toggle d = carried-integrated (toggle d) refl
 
   -- what becomes of an insert, by what is found for it
   abbrev pub judged : Insert → Placement → Work

@@ -3,15 +3,15 @@
 use integration::Placement;
 use storage::arrays;
 use woot::Character;
-use woot::Delete;
 use woot::Document;
 use woot::Insert;
 use woot::Operation;
+use woot::Toggle;
 ghost use mathlib.Core.Path.{_≡_};
 ghost use Prim.Native.Nat.{_+_, _≤_, _<_, _^_};
 ghost use Rattle.woot.specs.declared.Operation.the-variants.{Insert as ofInsert};
 ghost use Rattle.woot.specs.Operations.{character};
-ghost use Rattle.woot.specs.Placing.{insertAt, integrateDelete};
+ghost use Rattle.woot.specs.Placing.{insertAt, integrateToggle};
 ghost use Rattle.execution.specs.Work.{charactersIn, Tidy, Due, integratedIn, discardedIn, carriedIn};
 
 // The document, and how many operations have been carried out and how many discarded.
@@ -31,7 +31,7 @@ pub fn character(insert: Insert) -> Character
     Character {
         id,
         code_point: insert.code_point,
-        visible: true,
+        toggles: 0,
         previous,
         next,
     }
@@ -63,16 +63,16 @@ fn carry_insert(work: Work, insert: Insert, k: usize) -> Work
     }
 }
 
-// Carries out a delete: the target is hidden.
-fn carry_delete(work: Work, delete: Delete) -> Work
+// Carries out a toggle: the target takes the larger count.
+fn carry_toggle(work: Work, toggle: Toggle) -> Work
     requires { ⌜ Tidy work ⌝ }
     requires { ⌜ work .document .length ≤ 1024 ⌝ }
     requires { ⌜ work .integrated + 1 < 2 ^ 64 ⌝ }
-    ensures { λ r. ⌜ r ≡ integratedIn work (integrateDelete (charactersIn (work .document)) delete) ⌝ }
+    ensures { λ r. ⌜ r ≡ integratedIn work (integrateToggle (charactersIn (work .document)) toggle) ⌝ }
 {
     let d = work.document;
     let cs = d.characters;
-    let characters = arrays::hidden(cs, d.length, delete);
+    let characters = arrays::toggled(cs, d.length, toggle);
     let document = Document { characters, ..d };
     Work {
         document,
@@ -127,6 +127,6 @@ pub fn carry(work: Work, operation: Operation) -> Work
 {
     match operation {
         Operation::Insert(i) => place_insert(work, i),
-        Operation::Delete(d) => carry_delete(work, d),
+        Operation::Toggle(d) => carry_toggle(work, d),
     }
 }

@@ -5,7 +5,7 @@ use mathlib.Core.Bool.{cond}
 use mathlib.Core.List.{List}
 use Rattle.woot.specs.declared.Insert.{Insert}
 use Rattle.woot.specs.declared.Operation.{Operation}
-use Rattle.woot.specs.declared.Operation.the-variants.{Insert as insert, Delete as delete}
+use Rattle.woot.specs.declared.Operation.the-variants.{Insert as insert, Toggle as toggle}
 use Rattle.woot.specs.Operations.{sameInsert}
 use Rattle.index.specs.declared.Found.{Found}
 use Rattle.index.specs.declared.Found.the-variants.{At, Nothing}
@@ -31,4 +31,4 @@ comparedTo i j = cond (sameInsert i j) Same Other
 
 unfoldable pub comparedWith : Insert → Operation → Seen
 comparedWith i (insert j) = comparedTo i j
-comparedWith i (delete d) = New
+comparedWith i (toggle d) = New

@@ -3,16 +3,16 @@ use index::Found;
 use index::table;
 use pending::queue;
 use woot::Character;
-use woot::Delete;
 use woot::Insert;
 use woot::Operation;
+use woot::Toggle;
 ghost use mathlib.Core.Path.{_≡_};
 ghost use Prim.Native.Nat.{_≤_};
 ghost use lib.ListN.{length, take};
 ghost use Rattle.index.specs.Tabled.{Tabled};
 ghost use Rattle.woot.specs.Operations.{origin, sameInsert};
 ghost use Rattle.woot.specs.Table.{key};
-ghost use Rattle.pending.specs.Queue.{hasDelete};
+ghost use Rattle.pending.specs.Queue.{stamp, hasToggle};
 ghost use Rattle.holder.specs.Holder.{holderIn, comparedTo, comparedWith};
 
 // Who has an identifier: the character or the pending insert at an index, or nobody.
@@ -54,29 +54,29 @@ pub fn holder_of<'a>(
     }
 }
 
-// Whether an equal delete is among w pending operations. A step of the calls and not a call: they lend arrays of these
+// Whether an equal toggle is among w pending operations. A step of the calls and not a call: they lend arrays of these
 // sizes.
 pub fn is_pending<'a>(
     own: &'a [u32],
     first: &'a [u32],
-    senders: &'a [u8],
+    stamps: &'a [u16],
     w: usize,
-    delete: Delete,
+    toggle: Toggle,
 ) -> bool
     requires { ⌜ w ≤ length (now own) ⌝ }
     requires { ⌜ w ≤ length (now first) ⌝ }
-    requires { ⌜ w ≤ length (now senders) ⌝ }
+    requires { ⌜ w ≤ length (now stamps) ⌝ }
     ensures { λ r. ⌜ r
-        ≡ hasDelete (key (delete .target)) (delete .sender)
-        (take w (now (own .entry))) (take w (now (first .entry))) (take w (now (senders .entry))) ⌝ }
+        ≡ hasToggle (key (toggle .target)) (stamp (Operation.Toggle toggle))
+        (take w (now (own .entry))) (take w (now (first .entry))) (take w (now (stamps .entry))) ⌝ }
 {
-    let target = delete.target;
-    queue::has_delete(
+    let target = toggle.target;
+    queue::has_toggle(
         &own[..w],
         &first[..w],
-        &senders[..w],
+        &stamps[..w],
         index::key(target),
-        delete.sender,
+        queue::stamp_of(toggle),
     )
 }
 
@@ -118,7 +118,7 @@ pub fn compared_pending(insert: Insert, operation: Operation) -> Seen
 {
     match operation {
         Operation::Insert(j) => compared(insert, j),
-        Operation::Delete(_) => Seen::New,
+        Operation::Toggle(_) => Seen::New,
     }
 }
 

@@ -15,7 +15,7 @@ use Rattle.woot.specs.Operations.{origin}
 use Rattle.woot.specs.Ranges.{siteNumber, characterId, previousId, nextId, characterInRange}
 use Rattle.lists.proofs.Tests.{agree, and-left, and-right, and-intro, or-cases, or-left, or-right, either}
 use Rattle.convergence.proofs.Identifiers.{identifier-path, same-eq, eq-same}
-use Rattle.convergence.proofs.Ranges.{within-high, in-range}
+use Rattle.convergence.proofs.Ranges.{within-high, in-range, origin-ranged}
 use Rattle.woot.specs.Table.{key}
 use Rattle.index.specs.Keys.{Small, SmallParts, AllSmall}
 
@@ -65,9 +65,9 @@ mark-small : (m x : Identifier) → Small m → (same x m || characterId x) ≡ 
 mark-small m x s e = ⊎-elim (λ f. omega (arith, ap (λ (y : Identifier). y .clock) (same-eq x m f))) (character-small x) (or-cases (same x m) _ e)
 
 pub range-small : (c : Character) → characterInRange c ≡ true → SmallParts c
-unfolding characterInRange origin previousId nextId
+unfolding origin previousId nextId
 range-small c h =
-    let r = in-range (origin c) h in
+    let r = in-range (origin c) (origin-ranged c h) in
     record {
       id = character-small (c .id) (r .id);
       previous = mark-small begin (c .previous) (omega arith) (r .previous);

@@ -15,4 +15,5 @@ full-queue g =
       first = simp length-map at (g .1 .1 .1 .0 .1 .0 .1);
       second = simp length-map at (g .1 .1 .1 .1 .0 .1 .0 .1);
       senders = simp length-map at (g .1 .1 .1 .1 .1 .0 .1 .0 .1);
+      stamps = simp length-map at (g .1 .1 .1 .1 .1 .1 .0 .1 .0 .1);
     }

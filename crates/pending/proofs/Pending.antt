@@ -1,36 +1,36 @@
 -- What the searches find in the numbers is what the rules say of the operations: keys are equal as their identifiers are,
--- and the key of an insert is not the 0 of a delete.
-use mathlib.Core.Path.{_≡_, refl, sym, ap, _∙_}
-use mathlib.Core.Bool.{Bool, true, false, _||_, not}
+-- and the key of an insert is not the 0 of a toggle.
+use mathlib.Core.Path.{_≡_, refl, sym, ap, ap₂, _∙_}
+use mathlib.Core.Bool.{Bool, true, false, _&&_, _||_, not}
 use mathlib.Core.List.{List, [], _∷_, map, List·Memᴰ, List·Memᴰ·head, List·Memᴰ·tail}
 use mathlib.Core.Option.{some}
-use Prim.Native.Nat.{ℕ, zero, suc, _<_}
+use Prim.Native.Nat.{ℕ, zero, suc, _+_, _*_, _<_}
 use native.Mathlib.Nat.{not-suc-le-zero, le-of-suc-le-suc}
 use native.Mathlib.Omega.{arith}
-use borrow.Author.Tests.{eqb-true, ne-eqb}
+use borrow.Author.Tests.{eqb-true, eq-eqb, ne-eqb}
 use lib.Dec.{eqb}
 use lib.ListN.{length, getD, take, length-map}
 use Rattle.woot.specs.declared.Identifier.{Identifier}
 use Rattle.woot.specs.declared.Insert.{Insert}
-use Rattle.woot.specs.declared.Delete.{Delete}
+use Rattle.woot.specs.declared.Toggle.{Toggle}
 use Rattle.woot.specs.declared.Operation.{Operation}
-use Rattle.woot.specs.declared.Operation.the-variants.{Insert as insert, Delete as delete}
+use Rattle.woot.specs.declared.Operation.the-variants.{Insert as insert, Toggle as toggle}
 use Rattle.woot.specs.Identifiers.{same}
 use Rattle.lists.specs.Lists.{any, every, keep}
-use Rattle.woot.specs.Operations.{sender, character, origin, inserts, sameDelete, sameOperation}
+use Rattle.woot.specs.Operations.{sender, character, origin, inserts, sameToggle, sameOperation}
 use Rattle.woot.specs.Pending.{sentBy, pendingFrom, earliest, behind}
-use Rattle.woot.specs.Ranges.{inRange, deleteInRange, characterInRange, characterId, siteNumber}
-use Rattle.lists.proofs.Tests.{and-right, clash, or-false, or-false-left, or-false-right}
+use Rattle.woot.specs.Ranges.{inRange, characterId}
+use Rattle.lists.proofs.Tests.{agree, and-intro, and-left, and-right, clash, or-false, or-false-left, or-false-right}
 use Rattle.convergence.proofs.Identifiers.{eq-same}
 use Rattle.lists.proofs.Members.{member-any, every-member, keep-map}
-use Rattle.convergence.proofs.Ranges.{in-range, character-site}
+use Rattle.convergence.proofs.Ranges.{in-range, character-site, toggle-in-range, to-character-range}
 use Rattle.woot.specs.Table.{key}
 use Rattle.index.specs.Keys.{Small, found}
 use Rattle.index.proofs.Keys.{key-same, key-injective, character-small, range-small}
 use Rattle.index.specs.declared.Found.{Found}
 use Rattle.index.specs.declared.Found.the-variants.{At, Nothing}
 use Rattle.storage.specs.Edit.{removed}
-use Rattle.pending.specs.Queue.{ownKey, firstKey, hasDelete}
+use Rattle.pending.specs.Queue.{ownKey, firstKey, stamp, hasToggle}
 use Rattle.index.proofs.Searches.{FoundAt, Says, first-says, first-map}
 
 -- ---- what the numbers are to be
@@ -43,7 +43,7 @@ pub record KeyedInsert (i : Insert) : Type 0 where
 
 abbrev pub Keyed : Operation → Type 0
 Keyed (insert i) = KeyedInsert i
-Keyed (delete d) = Small (d .target)
+Keyed (toggle t) = Small (t .target) × (t .toggles < 256)
 
 abbrev pub AllKeyed : List Operation → Type 0
 AllKeyed os = (o : Operation) → List·Memᴰ o os → Keyed o
@@ -59,11 +59,11 @@ unfolding key
 positive-key x h = omega (arith, character-site x h)
 
 pub range-keyed : (o : Operation) → inRange o ≡ true → Keyed o
-unfolding inRange deleteInRange characterInRange character origin
+unfolding inRange character origin
 range-keyed (insert i) h =
-    let s = range-small (character i) h in
+    let s = range-small (character i) (to-character-range (character i) h (omega arith)) in
     record { id = s .id; previous = s .previous; next = s .next; positive = positive-key (i .id) (in-range i h .id) }
-range-keyed (delete d) h = character-small (d .target) (and-right (siteNumber (d .sender)) _ h)
+range-keyed (toggle t) h = let r = toggle-in-range t h in (character-small (t .target) (r .target), omega (arith, r .most))
 
 pub all-keyed : (os : List Operation) → every inRange os ≡ true → AllKeyed os
 all-keyed os h o m = range-keyed o (every-member inRange h m)
@@ -83,7 +83,7 @@ unfolding ownKey
 count-own [] a = refl
 count-own (insert i ∷ os) a =
     rw (not-zero (key (i .id)) (first-keyed a .positive)) (ap suc (count-own os (others-keyed a)))
-count-own (delete d ∷ os) a = count-own os (others-keyed a)
+count-own (toggle d ∷ os) a = count-own os (others-keyed a)
 
 -- ---- finding
 
@@ -105,8 +105,8 @@ Sought x os Nothing = any (λ j. same x (j .id)) (inserts os) ≡ false
 member-inserts : (os : List Operation) {i : Insert} → List·Memᴰ (insert i) os → List·Memᴰ i (inserts os)
 member-inserts (insert j ∷ os) {i} (List·Memᴰ·head e) = List·Memᴰ·head (let q : i ≡ j = cc in q)
 member-inserts (insert j ∷ os) (List·Memᴰ·tail m) = List·Memᴰ·tail (member-inserts os m)
-member-inserts (delete d ∷ os) (List·Memᴰ·head e) = let z : _≡_ {A = ℕ} 0 1 = cc in absurd (omega arith)
-member-inserts (delete d ∷ os) (List·Memᴰ·tail m) = member-inserts os m
+member-inserts (toggle d ∷ os) (List·Memᴰ·head e) = let z : _≡_ {A = ℕ} 0 1 = cc in absurd (omega arith)
+member-inserts (toggle d ∷ os) (List·Memᴰ·tail m) = member-inserts os m
 
 module _ (x : Identifier) (small : Small x) (positive : 0 < key x) where
   -- the operation has the key of x
@@ -120,7 +120,7 @@ module _ (x : Identifier) (small : Small x) (positive : 0 < key x) where
       go : (o : Operation) → ((d : Operation) → getD os n d ≡ o) → List·Memᴰ o os → owns o ≡ true → InsertAt x os n
       go (insert i) at m e =
           record { here = i; at = at; is = key-injective x (i .id) small (a (insert i) m .id) (eqb-true (key x) (key (i .id)) e); member = member-inserts os m }
-      go (delete d) at m e = clash e (not-zero (key x) positive)
+      go (toggle d) at m e = clash e (not-zero (key x) positive)
 
   no-insert : (os : List Operation) → AllKeyed os → any owns os ≡ false → any (λ j. same x (j .id)) (inserts os) ≡ false
   unfolding ownKey
@@ -128,7 +128,7 @@ module _ (x : Identifier) (small : Small x) (positive : 0 < key x) where
   no-insert (insert i ∷ os) a f =
       or-false (sym (key-same x (i .id) small (first-keyed a .id)) ∙ or-false-left (owns (insert i)) _ f)
       (no-insert os (others-keyed a) (or-false-right (owns (insert i)) _ f))
-  no-insert (delete d ∷ os) a f = no-insert os (others-keyed a) (or-false-right (owns (delete d)) _ f)
+  no-insert (toggle d ∷ os) a f = no-insert os (others-keyed a) (or-false-right (owns (toggle d)) _ f)
 
   -- what the search for x answers
   pub sought : (os : List Operation) → AllKeyed os → {r : Found} → found (key x) (map ownKey os) ≡ r → Sought x os r
@@ -139,18 +139,47 @@ module _ (x : Identifier) (small : Small x) (positive : 0 < key x) where
       go (At n) f = (f .within, insert-at os a n f)
       go Nothing f = no-insert os a f
 
--- ---- a delete
+-- ---- a toggle
 
--- whether an equal delete is pending
-pub delete-found : (d : Delete) → Small (d .target) → (os : List Operation) → AllKeyed os
-    → hasDelete (key (d .target)) (d .sender) (map ownKey os) (map firstKey os) (map sender os) ≡ any (sameOperation (delete d)) os
-unfolding hasDelete ownKey firstKey sender sameOperation sameDelete
-delete-found d p [] a = refl
-delete-found d p (insert i ∷ os) a =
-    rw (not-zero (key (i .id)) (first-keyed a .positive)) (delete-found d p os (others-keyed a))
-delete-found d p (delete e ∷ os) a =
-    rw (key-same (d .target) (e .target) p (first-keyed a))
-    (ap (λ (b : Bool). sameDelete d e || b) (delete-found d p os (others-keyed a)))
+-- stamps are equal as the senders and the counts are
+stamp-same : (a b c d : ℕ) → b < 256 → d < 256 → eqb (a * 256 + b) (c * 256 + d) ≡ (eqb a c && eqb b d)
+stamp-same a b c d p q = agree (eqb (a * 256 + b) (c * 256 + d)) (eqb a c && eqb b d) to from
+  where
+    to : eqb (a * 256 + b) (c * 256 + d) ≡ true → (eqb a c && eqb b d) ≡ true
+    to h =
+        let e : a * 256 + b ≡ c * 256 + d = eqb-true (a * 256 + b) (c * 256 + d) h in
+        and-intro (eq-eqb a c (omega arith)) (eq-eqb b d (omega arith))
+
+    from : (eqb a c && eqb b d) ≡ true → eqb (a * 256 + b) (c * 256 + d) ≡ true
+    from h = eq-eqb (a * 256 + b) (c * 256 + d) (omega (arith, eqb-true a c (and-left (eqb a c) (eqb b d) h), eqb-true b d (and-right (eqb a c) (eqb b d) h)))
+
+-- the last of three tests made second
+third-second : (a b c : Bool) → ((a && c) && b) ≡ (a && b && c)
+third-second true true c = and-true c
+  where
+    and-true : (b : Bool) → b && true ≡ b
+    and-true true = refl
+    and-true false = refl
+third-second true false true = refl
+third-second true false false = refl
+third-second false b c = refl
+
+-- the numbers of an equal toggle
+same-numbers : (t u : Toggle) → Keyed (toggle t) → Keyed (toggle u) → (eqb (stamp (toggle t)) (stamp (toggle u)) && eqb (key (t .target)) (key (u .target))) ≡ sameToggle t u
+unfolding stamp sameToggle
+same-numbers t u p q =
+    rw (stamp-same (t .sender) (t .toggles) (u .sender) (u .toggles) (p .1) (q .1), key-same (t .target) (u .target) (p .0) (q .0))
+    (third-second (eqb (t .sender) (u .sender)) (same (t .target) (u .target)) (eqb (t .toggles) (u .toggles)))
+
+-- whether an equal toggle is pending
+pub toggle-found : (t : Toggle) → Keyed (toggle t) → (os : List Operation) → AllKeyed os
+    → hasToggle (key (t .target)) (stamp (toggle t)) (map ownKey os) (map firstKey os) (map stamp os) ≡ any (sameOperation (toggle t)) os
+unfolding hasToggle ownKey firstKey sameOperation
+toggle-found t p [] a = refl
+toggle-found t p (insert i ∷ os) a =
+    rw (not-zero (key (i .id)) (first-keyed a .positive)) (toggle-found t p os (others-keyed a))
+toggle-found t p (toggle u ∷ os) a =
+    ap₂ (λ (b c : Bool). b || c) (same-numbers t u p (first-keyed a)) (toggle-found t p os (others-keyed a))
 
 -- ---- taking out
 

@@ -9,7 +9,7 @@ use lib.Dec.{eqb}
 use lib.ListN.{length, drop, getD, drop-of-length-le, length-drop}
 use lib.Seq.{drop-cons}
 use Rattle.lists.specs.Lists.{keep}
-use Rattle.pending.specs.Queue.{hasDelete}
+use Rattle.pending.specs.Queue.{hasToggle}
 
 -- ---- counting
 
@@ -27,7 +27,7 @@ module _ {A : Type 0} (p : A → Bool) (xs : List A) (i : ℕ) (d : A) (h : i < 
 pub left-none : {A : Type 0} (p : A → Bool) (xs : List A) (i : ℕ) → length xs ≤ i → left p xs i ≡ 0
 left-none p xs i h = rw (drop-of-length-le xs {i = i} h)
 
--- ---- a delete
+-- ---- a toggle
 
 min-less : (a b i : ℕ) → min (a - i) (b - i) ≡ min a b - i
 min-less a b i = omega arith
@@ -37,32 +37,32 @@ none-left a b i h = omega arith
 
 module _ (k n : ℕ) (os fs ss : List ℕ) where
   -- among the operations from i on
-  abbrev pub deleteLeft : ℕ → Bool
-  deleteLeft i = hasDelete k n (drop i os) (drop i fs) (drop i ss)
+  abbrev pub toggleLeft : ℕ → Bool
+  toggleLeft i = hasToggle k n (drop i os) (drop i fs) (drop i ss)
 
   -- the operation at i
-  abbrev pub deleteAt : ℕ → Bool
-  deleteAt i = eqb (getD os i 0) 0 && (eqb n (getD ss i 0) && eqb k (getD fs i 0))
+  abbrev pub toggleAt : ℕ → Bool
+  toggleAt i = eqb (getD os i 0) 0 && (eqb n (getD ss i 0) && eqb k (getD fs i 0))
 
   module _ (i : ℕ) (p : i < length os) (q : i < length fs) (r : i < length ss) where
-    delete-step : deleteLeft i ≡ (deleteAt i || deleteLeft (i + 1))
-    unfolding hasDelete
-    delete-step = rw (drop-cons os i 0 p, drop-cons fs i 0 q, drop-cons ss i 0 r, add-one i)
+    toggle-step : toggleLeft i ≡ (toggleAt i || toggleLeft (i + 1))
+    unfolding hasToggle
+    toggle-step = rw (drop-cons os i 0 p, drop-cons fs i 0 q, drop-cons ss i 0 r, add-one i)
 
-    pub delete-here : deleteAt i ≡ true → deleteLeft i ≡ true
-    delete-here e = delete-step ∙ rw e
+    pub toggle-here : toggleAt i ≡ true → toggleLeft i ≡ true
+    toggle-here e = toggle-step ∙ rw e
 
-    pub delete-passed : deleteAt i ≡ false → deleteLeft i ≡ deleteLeft (i + 1)
-    delete-passed e = delete-step ∙ rw e
+    pub toggle-passed : toggleAt i ≡ false → toggleLeft i ≡ toggleLeft (i + 1)
+    toggle-passed e = toggle-step ∙ rw e
 
-  short : (xs ys zs : List ℕ) → min (length xs) (min (length ys) (length zs)) ≡ 0 → hasDelete k n xs ys zs ≡ false
-  unfolding hasDelete
+  short : (xs ys zs : List ℕ) → min (length xs) (min (length ys) (length zs)) ≡ 0 → hasToggle k n xs ys zs ≡ false
+  unfolding hasToggle
   short [] ys zs e = refl
   short (x ∷ xs) [] zs e = refl
   short (x ∷ xs) (y ∷ ys) [] e = refl
   short (x ∷ xs) (y ∷ ys) (z ∷ zs) e = absurd (omega arith)
 
-  pub delete-none : (i : ℕ) → min (length os) (min (length fs) (length ss)) ≤ i → deleteLeft i ≡ false
-  delete-none i h =
+  pub toggle-none : (i : ℕ) → min (length os) (min (length fs) (length ss)) ≤ i → toggleLeft i ≡ false
+  toggle-none i h =
       short (drop i os) (drop i fs) (drop i ss)
       (rw (length-drop i os, length-drop i fs, length-drop i ss, min-less (length fs) (length ss) i) (none-left (length os) (min (length fs) (length ss)) i h))

@@ -2,21 +2,23 @@
 // makes.
 use woot::Operation;
 use woot::Pending;
+use woot::Toggle;
 ghost use mathlib.Core.Path.{_≡_};
 ghost use mathlib.Core.Bool.{not, _&&_};
 ghost use lib.Dec.{eqb};
 ghost use lib.ListN.{length, take};
 ghost use Rattle.lists.specs.Lists.{keep};
 ghost use Rattle.storage.specs.Edit.{operations};
-ghost use Rattle.pending.specs.Queue.{entryOf, queueOf, hasDelete};
+ghost use Rattle.pending.specs.Queue.{stamp, entryOf, queueOf, hasToggle};
 
-// A pending operation as numbers: of an insert its own key, its previous's and its next's, of a delete 0, its target's
-// key and 0; and the sender.
+// A pending operation as numbers: of an insert its own key, its previous's and its next's, of a toggle 0, its target's
+// key and 0; the sender; and of a toggle the stamp.
 pub struct Entry {
     pub own: u32,
     pub first: u32,
     pub second: u32,
     pub sender: u8,
+    pub stamp: u16,
 }
 
 // The numbers of the pending operations, each in the slot of its operation.
@@ -25,6 +27,14 @@ pub struct Queue {
     pub first: [u32; 512],
     pub second: [u32; 512],
     pub senders: [u8; 512],
+    pub stamps: [u16; 512],
+}
+
+// Who sends a toggle, and its count, as one number: two toggles of one character are the same where these are.
+pub fn stamp_of(toggle: Toggle) -> u16
+    ensures { λ r. ⌜ r ≡ stamp (Operation.Toggle toggle) ⌝ }
+{
+    toggle.sender as u16 * 256 + toggle.toggles as u16
 }
 
 // The numbers of one operation.
@@ -41,15 +51,17 @@ fn entry_of(operation: Operation) -> Entry
                 first: index::key(previous),
                 second: index::key(next),
                 sender: id.site,
+                stamp: 0,
             }
         }
-        Operation::Delete(d) => {
-            let target = d.target;
+        Operation::Toggle(t) => {
+            let target = t.target;
             Entry {
                 own: 0,
                 first: index::key(target),
                 second: 0,
-                sender: d.sender,
+                sender: t.sender,
+                stamp: stamp_of(t),
             }
         }
     }
@@ -64,6 +76,7 @@ pub fn queue_of(pending: [Pending; 512], n: usize) -> Queue
     let mut first = [0u32; 512];
     let mut second = [0u32; 512];
     let mut senders = [0u8; 512];
+    let mut stamps = [0u16; 512];
     let mut i = 0;
     while i < end {
         let p = pending[i];
@@ -73,6 +86,7 @@ pub fn queue_of(pending: [Pending; 512], n: usize) -> Queue
         first[i] = e.first;
         second[i] = e.second;
         senders[i] = e.sender;
+        stamps[i] = e.stamp;
         i += 1;
     }
     Queue {
@@ -80,6 +94,7 @@ pub fn queue_of(pending: [Pending; 512], n: usize) -> Queue
         first,
         second,
         senders,
+        stamps,
     }
 }
 
@@ -113,33 +128,33 @@ pub fn count_inserts(own: &[u32]) -> usize
     count
 }
 
-// Whether the numbers of an operation are those of a delete of the key by the sender.
-fn is_delete(own: u32, first: u32, sender: u8, key: u32, by: u8) -> bool
-    ensures { λ r. ⌜ r ≡ eqb own 0 && (eqb by sender && eqb key first) ⌝ }
+// Whether the numbers of an operation are those of a toggle of the key with the stamp.
+fn is_toggle(own: u32, first: u32, stamp: u16, key: u32, sought: u16) -> bool
+    ensures { λ r. ⌜ r ≡ eqb own 0 && (eqb sought stamp && eqb key first) ⌝ }
 {
     if own != 0 {
         return false;
     }
-    if by != sender {
+    if sought != stamp {
         return false;
     }
     key == first
 }
 
-// Whether one of the operations is a delete of the key by the sender. There are as many as the shortest slice has.
-pub fn has_delete<'a>(
+// Whether one of the operations is a toggle of the key with the stamp. There are as many as the shortest slice has.
+pub fn has_toggle<'a>(
     own: &'a [u32],
     first: &'a [u32],
-    senders: &'a [u8],
+    stamps: &'a [u16],
     key: u32,
-    sender: u8,
+    stamp: u16,
 ) -> bool
-    ensures { λ r. ⌜ r ≡ hasDelete key sender (now (own .entry)) (now (first .entry)) (now (senders .entry)) ⌝ }
+    ensures { λ r. ⌜ r ≡ hasToggle key stamp (now (own .entry)) (now (first .entry)) (now (stamps .entry)) ⌝ }
 {
-    let end = index::lesser(own.len(), index::lesser(first.len(), senders.len()));
+    let end = index::lesser(own.len(), index::lesser(first.len(), stamps.len()));
     let mut i = 0;
     while i < end {
-        if is_delete(own[i], first[i], senders[i], key, sender) {
+        if is_toggle(own[i], first[i], stamps[i], key, stamp) {
             return true;
         }
         i += 1;

@@ -12,11 +12,11 @@ use lib.ListN.{length, take, getD, length-append, length-map}
 use Rattle.woot.specs.declared.Identifier.{Identifier}
 use Rattle.woot.specs.declared.Insert.{Insert}
 use Rattle.woot.specs.declared.Operation.{Operation}
-use Rattle.woot.specs.declared.Operation.the-variants.{Insert as insert, Delete as delete}
+use Rattle.woot.specs.declared.Operation.the-variants.{Insert as insert, Toggle as toggle}
 use Rattle.woot.specs.declared.Character.{Character}
 use Rattle.woot.specs.Identifiers.{same}
 use Rattle.lists.specs.Lists.{any, every, distinct}
-use Rattle.woot.specs.Operations.{sender, deletes, sameDelete}
+use Rattle.woot.specs.Operations.{sender, togglesAmong, sameToggle}
 use Rattle.woot.specs.Placing.{identifiers}
 use Rattle.woot.specs.Ranges.{characterId, characterInRange, inRange}
 use Rattle.woot.specs.State.{blankPending}
@@ -27,21 +27,21 @@ use Rattle.convergence.proofs.Identifiers.{same-sym}
 use Rattle.convergence.proofs.Extract.{Extract, extract-last, distinct-extract, extract-distinct}
 use Rattle.convergence.proofs.Ranges.{in-range, character-site}
 use Rattle.convergence.specs.Invariants.{pendingIds}
-use Rattle.convergence.proofs.Soundness.{inserts-same, deletes-extract, deletes-same, ids-extract, sameDelete-sym}
-use Rattle.convergence.proofs.Steps.{any-deletes}
+use Rattle.convergence.proofs.Soundness.{inserts-same, toggles-extract, toggles-same, ids-extract, sameToggle-sym}
+use Rattle.convergence.proofs.Steps.{any-toggles}
 use Rattle.index.specs.declared.Found.{Found}
 use Rattle.index.specs.declared.Found.the-variants.{At, Nothing}
 use Rattle.woot.specs.Table.{key, keys}
 use Rattle.index.specs.Keys.{Small, AllSmall, indexIn, placeIn, further, firstIndex}
 use Rattle.index.proofs.Keys.{key-same, character-small, all-range-small}
 use Rattle.index.proofs.Indices.{index-later as key-later, distinct-keys}
-use Rattle.pending.specs.Queue.{ownKey, firstKey, secondKey, hasDelete}
+use Rattle.pending.specs.Queue.{ownKey, firstKey, secondKey, stamp, hasToggle}
 use Rattle.ready.specs.Ready.{heldIn}
 use Rattle.pending_form.specs.Form.{unheldKey, freeAt, keysNew, freshAt, noneRepeated, nothing, noneReady}
 use Rattle.lists.specs.Lists.{throughout}
 use Rattle.lists.proofs.Indices.{take-member, take-map, map-getD, grown}
 use Rattle.ready.proofs.Earliest.{ready-executable}
-use Rattle.pending.proofs.Pending.{Keyed, AllKeyed, all-keyed, delete-found}
+use Rattle.pending.proofs.Pending.{Keyed, AllKeyed, all-keyed, toggle-found}
 
 -- ---- distinct lists
 
@@ -111,7 +111,7 @@ module _ (x : Identifier) (r : characterId x ≡ true) where
       go : (ps : List Operation) → AllKeyed ps → any (eqb (key x)) (map ownKey ps) ≡ any (same x) (pendingIds ps)
       go [] t = refl
       go (insert i ∷ ps) t = ap₂ (λ (a b : Bool). a || b) (key-same x (i .id) small (t (insert i) (List·Memᴰ·head refl) .id)) (go ps (λ o m. t o (List·Memᴰ·tail m)))
-      go (delete d ∷ ps) t = rw (ne-eqb (key x) 0 (λ (e : key x ≡ 0). omega (arith, large))) (go ps (λ o m. t o (List·Memᴰ·tail m)))
+      go (toggle d ∷ ps) t = rw (ne-eqb (key x) 0 (λ (e : key x ≡ 0). omega (arith, large))) (go ps (λ o m. t o (List·Memᴰ·tail m)))
 
 -- ---- the characters' keys
 
@@ -134,9 +134,9 @@ module _ (cs : List Character) (ranges : every characterInRange cs ≡ true) whe
       rw (unheld-characters (i .id) x cs all-small, unheld-pending (i .id) x ps a)
       (distinct-one same same-sym (ids-extract cs (extract-last (insert i) ps))
       ∙ ap (λ (b : Bool). distinct same (identifiers cs ++ pendingIds ps) && b) (ap not (any-append (same (i .id)) (identifiers cs) (pendingIds ps)) ∙ not-or (any (same (i .id)) (identifiers cs)) _))
-  insert-step ps (delete d) a r =
+  insert-step ps (toggle d) a r =
       rw (unheld-zero (keys cs), unheld-zero (map ownKey ps))
-      (ap (λ (js : List Insert). distinct same (identifiers cs ++ map (λ j. j .id) js)) (inserts-same (extract-last (delete d) ps)) ∙ sym (and-true _))
+      (ap (λ (js : List Insert). distinct same (identifiers cs ++ map (λ j. j .id) js)) (inserts-same (extract-last (toggle d) ps)) ∙ sym (and-true _))
 
 -- nothing passes where nothing is found
 none-first : {A : Type 0} (p : A → Bool) (xs : List A) → nothing (firstIndex p xs) ≡ not (any p xs)
@@ -149,17 +149,17 @@ none-first p (x ∷ xs) = go (p x) (firstIndex p xs) (none-first p xs)
     go false (At j) h = h
     go false Nothing h = h
 
--- one delete more is not among those before it
-delete-step : (ps : List Operation) (o : Operation) → AllKeyed ps → Keyed o
-    → distinct sameDelete (deletes (ps ++ o ∷ []))
-    ≡ distinct sameDelete (deletes ps) && not (eqb (ownKey o) 0 && hasDelete (firstKey o) (sender o) (map ownKey ps) (map firstKey ps) (map sender ps))
-unfolding ownKey firstKey sender
-delete-step ps (insert i) a k =
+-- one toggle more is not among those before it
+toggle-step : (ps : List Operation) (o : Operation) → AllKeyed ps → Keyed o
+    → distinct sameToggle (togglesAmong (ps ++ o ∷ []))
+    ≡ distinct sameToggle (togglesAmong ps) && not (eqb (ownKey o) 0 && hasToggle (firstKey o) (stamp o) (map ownKey ps) (map firstKey ps) (map stamp ps))
+unfolding ownKey firstKey
+toggle-step ps (insert i) a k =
     rw (ne-eqb (key (i .id)) 0 (λ (e : key (i .id) ≡ 0). omega (arith, k .positive)))
-    (ap (distinct sameDelete) (deletes-same (extract-last (insert i) ps)) ∙ sym (and-true _))
-delete-step ps (delete d) a k =
-    rw (delete-found d k ps a)
-    (distinct-one sameDelete sameDelete-sym (deletes-extract (extract-last (delete d) ps)) ∙ ap (λ (b : Bool). distinct sameDelete (deletes ps) && not b) (any-deletes d ps))
+    (ap (distinct sameToggle) (toggles-same (extract-last (insert i) ps)) ∙ sym (and-true _))
+toggle-step ps (toggle d) a k =
+    rw (toggle-found d k ps a)
+    (distinct-one sameToggle sameToggle-sym (toggles-extract (extract-last (toggle d) ps)) ∙ ap (λ (b : Bool). distinct sameToggle (togglesAmong ps) && not b) (any-toggles d ps))
 
 module _ (os : List Operation) (ranges : every inRange os ≡ true) where
   pub keyed : AllKeyed os
@@ -178,16 +178,16 @@ module _ (os : List Operation) (ranges : every inRange os ≡ true) where
   number : (f : Operation → ℕ) (j : ℕ) → j < length os → getD (map f os) j 0 ≡ f (operationAt j)
   number f j h = map-getD f os j 0 (blankPending .operation) h
 
-  pub deletes-once : distinct sameDelete (deletes os) ≡ noneRepeated (map ownKey os) (map firstKey os) (map sender os)
+  pub toggles-once : distinct sameToggle (togglesAmong os) ≡ noneRepeated (map ownKey os) (map firstKey os) (map stamp os)
   unfolding freshAt
-  deletes-once =
-      grown (λ ps. distinct sameDelete (deletes ps)) (freshAt (map ownKey os) (map firstKey os) (map sender os)) os (blankPending .operation) step
-      ∙ ap (throughout (freshAt (map ownKey os) (map firstKey os) (map sender os))) (sym (length-map os ownKey))
+  toggles-once =
+      grown (λ ps. distinct sameToggle (togglesAmong ps)) (freshAt (map ownKey os) (map firstKey os) (map stamp os)) os (blankPending .operation) step
+      ∙ ap (throughout (freshAt (map ownKey os) (map firstKey os) (map stamp os))) (sym (length-map os ownKey))
     where
-      step : (j : ℕ) → j < length os → distinct sameDelete (deletes (take j os ++ operationAt j ∷ [])) ≡ distinct sameDelete (deletes (take j os)) && freshAt (map ownKey os) (map firstKey os) (map sender os) j
+      step : (j : ℕ) → j < length os → distinct sameToggle (togglesAmong (take j os ++ operationAt j ∷ [])) ≡ distinct sameToggle (togglesAmong (take j os)) && freshAt (map ownKey os) (map firstKey os) (map stamp os) j
       step j h =
-          rw (number ownKey j h, number firstKey j h, number sender j h, take-map ownKey j os, take-map firstKey j os, take-map sender j os)
-          (delete-step (take j os) (operationAt j) (keyed-before j) (keyed (operationAt j) (member j h)))
+          rw (number ownKey j h, number firstKey j h, number stamp j h, take-map ownKey j os, take-map firstKey j os, take-map stamp j os)
+          (toggle-step (take j os) (operationAt j) (keyed-before j) (keyed (operationAt j) (member j h)))
 
   module _ (cs : List Character) (character-ranges : every characterInRange cs ≡ true) where
     pub ids-distinct : distinct same (identifiers cs ++ pendingIds os) ≡ distinct eqb (keys cs) && keysNew (keys cs) (map ownKey os)

@@ -9,7 +9,7 @@ use Rattle.lists.specs.Lists.{every, keep, throughout}
 use Rattle.woot.specs.Form.{countdown}
 use Rattle.index.specs.declared.Found.{Found}
 use Rattle.index.specs.declared.Found.the-variants.{At, Nothing}
-use Rattle.pending.specs.Queue.{hasDelete}
+use Rattle.pending.specs.Queue.{hasToggle}
 use Rattle.ready.specs.Ready.{heldIn, readyIn}
 
 -- no site has sent more than its share
@@ -23,7 +23,7 @@ sharesIn senders = every (senderWithin senders) (countdown lastSite)
 unfoldable pub roomKept : List ℕ → List ℕ → Bool
 roomKept ids own = leb (length ids + length (keep (λ k. not (eqb k 0)) own)) capacity
 
--- the key is 0, as a delete has it, or not among the others
+-- the key is 0, as a toggle has it, or not among the others
 unfoldable pub unheldKey : List ℕ → ℕ → Bool
 unheldKey ks k = eqb k 0 || not (heldIn ks k)
 
@@ -38,13 +38,13 @@ freeAt ids own j = unheldKey ids (getD own j 0) && newAt own j
 abbrev pub keysNew : List ℕ → List ℕ → Bool
 keysNew ids own = throughout (freeAt ids own) (length own)
 
--- the operation with index j is no delete that stands before it too
+-- the operation with index j is no toggle that stands before it too
 unfoldable pub freshAt : List ℕ → List ℕ → List ℕ → ℕ → Bool
-freshAt own first senders j =
-    not (eqb (getD own j 0) 0 && hasDelete (getD first j 0) (getD senders j 0) (take j own) (take j first) (take j senders))
+freshAt own first stamps j =
+    not (eqb (getD own j 0) 0 && hasToggle (getD first j 0) (getD stamps j 0) (take j own) (take j first) (take j stamps))
 
 abbrev pub noneRepeated : List ℕ → List ℕ → List ℕ → Bool
-noneRepeated own first senders = throughout (freshAt own first senders) (length own)
+noneRepeated own first stamps = throughout (freshAt own first stamps) (length own)
 
 abbrev pub nothing : Found → Bool
 nothing (At j) = false
@@ -55,7 +55,7 @@ abbrev pub noneReady : List ℕ → List ℕ → List ℕ → Bool
 noneReady ids first second = nothing (readyIn ids first second)
 
 -- the conditions on the pending operations, but for the ranges
-unfoldable pub pendingFormed : List ℕ → List ℕ → List ℕ → List ℕ → List ℕ → Bool
-pendingFormed ids own first second senders =
-    sharesIn senders && roomKept ids own && keysNew ids own && noneRepeated own first senders
+unfoldable pub pendingFormed : List ℕ → List ℕ → List ℕ → List ℕ → List ℕ → List ℕ → Bool
+pendingFormed ids own first second senders stamps =
+    sharesIn senders && roomKept ids own && keysNew ids own && noneRepeated own first stamps
     && noneReady ids first second

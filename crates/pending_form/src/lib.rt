@@ -1,5 +1,5 @@
 // The form of the pending operations, but for their ranges: each sender's share, room for the inserts, that no
-// identifier and no delete stands twice, and that none has all it needs. The check of the form has packed their
+// identifier and no toggle stands twice, and that none has all it needs. The check of the form has packed their
 // numbers, and has seen that the replica's table agrees with the keys of the characters.
 use index::Found;
 use pending::queue;
@@ -24,7 +24,7 @@ fn shares_kept(senders: &[u8]) -> bool
     true
 }
 
-// Whether a key is a delete's, or is not among those of the characters nor a mark's.
+// Whether a key is a toggle's, or is not among those of the characters nor a mark's.
 fn unheld<'a>(heads: &'a [u16], links: &'a [u16], ids: &'a [u32], key: u32) -> bool
     requires { ⌜ Tabled (record { heads = now heads; links = now links }) (now ids) ⌝ }
     ensures { λ r. ⌜ r ≡ unheldKey (now (ids .entry)) key ⌝ }
@@ -70,28 +70,28 @@ fn keys_new<'a>(heads: &'a [u16], links: &'a [u16], ids: &'a [u32], own: &'a [u3
     true
 }
 
-// Whether an operation is an insert, or a delete that is not pending before it.
-fn fresh_at<'a>(own: &'a [u32], first: &'a [u32], senders: &'a [u8], j: usize) -> bool
+// Whether an operation is an insert, or a toggle that is not pending before it.
+fn fresh_at<'a>(own: &'a [u32], first: &'a [u32], stamps: &'a [u16], j: usize) -> bool
     requires { ⌜ j < length (now own) ⌝ }
     requires { ⌜ length (now first) ≡ length (now own) ⌝ }
-    requires { ⌜ length (now senders) ≡ length (now own) ⌝ }
-    ensures { λ r. ⌜ r ≡ freshAt (now (own .entry)) (now (first .entry)) (now (senders .entry)) j ⌝ }
+    requires { ⌜ length (now stamps) ≡ length (now own) ⌝ }
+    ensures { λ r. ⌜ r ≡ freshAt (now (own .entry)) (now (first .entry)) (now (stamps .entry)) j ⌝ }
 {
     if own[j] != 0 {
         return true;
     }
-    !queue::has_delete(&own[..j], &first[..j], &senders[..j], first[j], senders[j])
+    !queue::has_toggle(&own[..j], &first[..j], &stamps[..j], first[j], stamps[j])
 }
 
-// Whether no delete is pending twice from one sender.
-fn none_repeated<'a>(own: &'a [u32], first: &'a [u32], senders: &'a [u8]) -> bool
+// Whether no toggle is pending twice.
+fn none_repeated<'a>(own: &'a [u32], first: &'a [u32], stamps: &'a [u16]) -> bool
     requires { ⌜ length (now first) ≡ length (now own) ⌝ }
-    requires { ⌜ length (now senders) ≡ length (now own) ⌝ }
-    ensures { λ r. ⌜ r ≡ noneRepeated (now (own .entry)) (now (first .entry)) (now (senders .entry)) ⌝ }
+    requires { ⌜ length (now stamps) ≡ length (now own) ⌝ }
+    ensures { λ r. ⌜ r ≡ noneRepeated (now (own .entry)) (now (first .entry)) (now (stamps .entry)) ⌝ }
 {
     let mut j = 0;
     while j < own.len() {
-        if !fresh_at(own, first, senders, j) {
+        if !fresh_at(own, first, stamps, j) {
             return false;
         }
         j += 1;
@@ -128,14 +128,15 @@ pub fn pending_formed<'a>(
     first: &'a [u32],
     second: &'a [u32],
     senders: &'a [u8],
+    stamps: &'a [u16],
 ) -> bool
     requires { ⌜ Tabled (record { heads = now heads; links = now links }) (now ids) ⌝ }
     requires { ⌜ length (now first) ≡ length (now own) ⌝ }
     requires { ⌜ length (now second) ≡ length (now own) ⌝ }
-    requires { ⌜ length (now senders) ≡ length (now own) ⌝ }
+    requires { ⌜ length (now stamps) ≡ length (now own) ⌝ }
     ensures { λ r. ⌜ r
         ≡ pendingFormed (now (ids .entry)) (now (own .entry)) (now (first .entry)) (now (second .entry))
-        (now (senders .entry)) ⌝ }
+        (now (senders .entry)) (now (stamps .entry)) ⌝ }
 {
     if !shares_kept(senders) {
         return false;
@@ -146,7 +147,7 @@ pub fn pending_formed<'a>(
     if !keys_new(heads, links, ids, own) {
         return false;
     }
-    if !none_repeated(own, first, senders) {
+    if !none_repeated(own, first, stamps) {
         return false;
     }
     none_ready(heads, links, ids, first, second)

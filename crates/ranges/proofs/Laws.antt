@@ -1,10 +1,14 @@
 -- The tests of a range, and what an answer that is tested says.
 use mathlib.Core.Path.{_≡_, refl}
 use mathlib.Core.Bool.{Bool, true, false, not, _&&_}
-use Prim.Native.Nat.{ℕ, _≤_, _<_}
+use Prim.Native.Nat.{ℕ, _≤_, _<_, zero-le}
 use lib.Dec.{leb, ltb}
 use borrow.Author.Tests.{le-leb, lt-leb, lt-ltb, le-ltb, leb-true, leb-false}
 use Rattle.woot.specs.Ranges.{within}
+
+pub and-true : (b : Bool) → b && true ≡ b
+and-true true = refl
+and-true false = refl
 
 pub within-under : (low high n : ℕ) → n < low → within low high n ≡ false
 unfolding within
@@ -14,10 +18,11 @@ within-under low high n h = rw (lt-leb low n h)
 pub within-below : (low high n : ℕ) → n ≤ high → within low high n ≡ leb low n
 unfolding within
 within-below low high n h = rw (le-leb n high h) (and-true (leb low n))
-  where
-    and-true : (b : Bool) → b && true ≡ b
-    and-true true = refl
-    and-true false = refl
+
+-- every number that is not above a range that begins with 0
+pub within-first : (high n : ℕ) → n ≤ high → within 0 high n ≡ true
+unfolding within
+within-first high n h = rw (le-leb 0 n zero-le, le-leb n high h)
 
 pub within-above : (low high n : ℕ) → high < n → within low high n ≡ false
 unfolding within

@@ -1,17 +1,17 @@
 // What refusal 2 lets pass: the ranges of the numbers, where a mark may stand, and that an insert does not name itself.
 // The rules are in the specs of `woot`.
 use woot::Character;
-use woot::Delete;
 use woot::Identifier;
 use woot::Insert;
 use woot::Operation;
 use woot::Site;
+use woot::Toggle;
 ghost use mathlib.Core.Path.{_≡_};
 ghost use mathlib.Core.Bool.{_||_};
 ghost use Rattle.woot.specs.Limits.{lastClock};
 ghost use Rattle.woot.specs.Identifiers.{same};
 ghost use Rattle.woot.specs.Ranges.{within, siteNumber, codePoint, characterId, previousId};
-ghost use Rattle.woot.specs.Ranges.{nextId, siteInRange, insertInRange, deleteInRange, inRange, characterInRange};
+ghost use Rattle.woot.specs.Ranges.{nextId, siteInRange, insertInRange, toggleInRange, inRange, characterInRange};
 
 // Whether a number is one of a site.
 pub fn site_number(n: u8) -> bool
@@ -112,15 +112,18 @@ pub fn insert_in_range(i: Insert) -> bool
     !same_id(id, next)
 }
 
-// Whether refusal 2 lets a delete pass.
-pub fn delete_in_range(d: Delete) -> bool
-    ensures { λ r. ⌜ r ≡ deleteInRange d ⌝ }
+// Whether refusal 2 lets a toggle pass.
+pub fn toggle_in_range(t: Toggle) -> bool
+    ensures { λ r. ⌜ r ≡ toggleInRange t ⌝ }
 {
-    if !site_number(d.sender) {
+    if !site_number(t.sender) {
         return false;
     }
-    let target = d.target;
-    character_id(target)
+    let target = t.target;
+    if !character_id(target) {
+        return false;
+    }
+    1 <= t.toggles
 }
 
 // Whether refusal 2 lets an operation pass.
@@ -129,11 +132,11 @@ pub fn in_range(o: Operation) -> bool
 {
     match o {
         Operation::Insert(i) => insert_in_range(i),
-        Operation::Delete(d) => delete_in_range(d),
+        Operation::Toggle(t) => toggle_in_range(t),
     }
 }
 
-// Whether refusal 2 lets a character pass.
+// Whether refusal 2 lets a character pass. Every count of toggles of the type does.
 pub fn character_in_range(c: Character) -> bool
     ensures { λ r. ⌜ r ≡ characterInRange c ⌝ }
 {

@@ -12,7 +12,7 @@ use lib.ListN.{length, drop, getD, length-drop, length-map}
 use lib.Seq.{drop-cons}
 use Rattle.woot.specs.declared.Identifier.{Identifier}
 use Rattle.woot.specs.declared.Operation.{Operation}
-use Rattle.woot.specs.declared.Operation.the-variants.{Insert as insert, Delete as delete}
+use Rattle.woot.specs.declared.Operation.the-variants.{Insert as insert, Toggle as toggle}
 use Rattle.woot.specs.declared.Character.{Character}
 use Rattle.lists.specs.Lists.{every}
 use Rattle.woot.specs.Ranges.{inRange}
@@ -76,7 +76,7 @@ module _ (cs : List Character) (s : AllSmall cs) where
   both-held (insert i) h =
       let p = range-keyed (insert i) h in
       rw (held-keys (i .previous) (p .previous), held-keys (i .next) (p .next))
-  both-held (delete d) h = rw (held-begin, held-keys (d .target) (range-keyed (delete d) h), and-true)
+  both-held (toggle d) h = rw (held-begin, held-keys (d .target) (range-keyed (toggle d) h .0), and-true)
 
   pub ready-executable : (ps : List Operation) → every inRange ps ≡ true → readyIn (keys cs) (map firstKey ps) (map secondKey ps) ≡ firstIndex (executable cs) ps
   unfolding readyIn firstIndex

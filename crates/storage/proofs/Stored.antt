@@ -8,7 +8,7 @@ use borrow.Author.Tests.{leb-true}
 use lib.Dec.{leb}
 use lib.ListN.{length, take, length-map, length-append}
 use lib.Seq.{length-take-le}
-use Rattle.woot.specs.declared.Delete.{Delete}
+use Rattle.woot.specs.declared.Toggle.{Toggle}
 use Rattle.woot.specs.declared.Site.{Site}
 use Rattle.woot.specs.declared.Operation.{Operation}
 use Rattle.woot.specs.declared.Character.{Character}
@@ -18,12 +18,12 @@ use Rattle.woot.specs.declared.Document.{Document}
 use Rattle.woot.specs.declared.Replica.{Replica}
 use Rattle.woot.specs.State.{characterSlots, pendingSlots, slotOf, blankCharacter, blankPending, meaning, documentOf, stored, counted, tableAgrees}
 use Rattle.lists.specs.Padding.{pad}
-use Rattle.woot.specs.Placing.{integrateDelete}
-use Rattle.woot.specs.Operations.{hidden}
+use Rattle.woot.specs.Placing.{integrateToggle}
+use Rattle.woot.specs.Operations.{withToggles}
 use Rattle.woot.specs.Table.{key, keys, tableOf}
 use Rattle.woot.specs.Form.{wellFormed, replicaWellFormed}
 use Rattle.lists.proofs.Tests.{and-left, and-right, three}
-use Rattle.convergence.proofs.Deletion.{delete-length, delete-map}
+use Rattle.convergence.proofs.Toggling.{toggle-length, toggle-map}
 use Rattle.storage.proofs.Fullness.{FullDocument}
 use Rattle.storage.proofs.Slots.{waiting-operations, waiting-pushed}
 
@@ -68,10 +68,10 @@ pub stored-path : (t : Site) {d : Document} {cs : List Character} {ps : List Ope
 unfolding stored
 stored-path t p = λ i. record { site = t; document = document-path p i }
 
--- a delete leaves the keys as they were
-pub delete-keys : (x : Delete) (cs : List Character) → keys (integrateDelete cs x) ≡ keys cs
-unfolding hidden
-delete-keys x cs = delete-map (λ (c : Character). key (c .id)) (λ c. refl) x cs
+-- a toggle leaves the keys as they were
+pub toggle-keys : (x : Toggle) (cs : List Character) → keys (integrateToggle cs x) ≡ keys cs
+unfolding withToggles
+toggle-keys x cs = toggle-map (λ (c : Character). key (c .id)) (λ c n. refl) x cs
 
 module _ (r : Replica) (full : FullDocument (r .document)) (few : Counts r) where
   pub character-count : length (meaning r .characters) ≡ r .document .length
@@ -89,20 +89,20 @@ module _ (r : Replica) (full : FullDocument (r .document)) (few : Counts r) wher
   unfolding meaning
   kept-pending ps q = q ∙ ap (pad pendingSlots blankPending) (sym (waiting-operations (take (r .document .waiting) (r .document .pending))))
 
-  -- with a character hidden
-  pub hidden-parts : (x : Delete) (cs : List Character) (ps : List Pending) (t : Table)
-      → cs ≡ pad 1024 blankCharacter (integrateDelete (take (r .document .length) (r .document .characters)) x)
+  -- with a character toggled
+  pub toggled-parts : (x : Toggle) (cs : List Character) (ps : List Pending) (t : Table)
+      → cs ≡ pad 1024 blankCharacter (integrateToggle (take (r .document .length) (r .document .characters)) x)
       → ps ≡ pad 512 blankPending (take (r .document .waiting) (r .document .pending))
       → t ≡ tableOf (keys (meaning r .characters))
-      → Parts (record { characters = cs; length = r .document .length; pending = ps; waiting = r .document .waiting; table = t }) (integrateDelete (meaning r .characters) x) (meaning r .pending)
+      → Parts (record { characters = cs; length = r .document .length; pending = ps; waiting = r .document .waiting; table = t }) (integrateToggle (meaning r .characters) x) (meaning r .pending)
   unfolding meaning
-  hidden-parts x cs ps t p q e =
+  toggled-parts x cs ps t p q e =
       record {
         characters = p;
-        length-is = sym (delete-length (meaning r .characters) x ∙ character-count);
+        length-is = sym (toggle-length (meaning r .characters) x ∙ character-count);
         pending = kept-pending ps q;
         waiting-is = sym pending-count;
-        table = e ∙ ap tableOf (sym (delete-keys x (meaning r .characters)));
+        table = e ∙ ap tableOf (sym (toggle-keys x (meaning r .characters)));
       }
 
   -- with one operation more pending

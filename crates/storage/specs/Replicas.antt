@@ -1,5 +1,6 @@
 -- The calls on replicas as they lie in memory: the rules applied to their meaning, and the struct that comes back.
 use Prim.Native.Nat.{ℕ}
+use Rattle.woot.specs.declared.Identifier.{Identifier}
 use Rattle.woot.specs.declared.Operation.{Operation}
 use Rattle.woot.specs.declared.Replica.{Replica}
 use Rattle.woot.specs.declared.Answer.{Answer}
@@ -10,7 +11,7 @@ use Rattle.woot.specs.declared.Receipt.{Receipt}
 use Rattle.woot.specs.declared.Generated.{Generated}
 use Rattle.woot.specs.State.{State, meaning, stored}
 use Rattle.woot.specs.Form.{replicaWellFormed}
-use Rattle.woot.specs.Calls.{Outcome, receiveWhen, localInsertWhen, localDeleteWhen}
+use Rattle.woot.specs.Calls.{Outcome, receiveWhen, localInsertWhen, localDeleteWhen, localRestoreWhen}
 
 -- the very replica that was passed where nothing is changed, else the new state as it is stored
 unfoldable pub afterAnswer : Replica → State → Answer → Replica
@@ -30,7 +31,7 @@ receipt r w = record { answer = w .answer; replica = afterAnswer r (w .state) (w
 unfoldable pub generated : Replica → Outcome Sent → Generated
 generated r w = record { answer = w .answer; replica = afterSent r (w .state) (w .answer) }
 
--- receiving, typing and erasing on a replica
+-- receiving, typing, erasing and restoring on a replica
 unfoldable pub received : Replica → Operation → Receipt
 received r o = receipt r (receiveWhen (replicaWellFormed r) (meaning r) o)
 
@@ -39,3 +40,6 @@ inserted r g n = generated r (localInsertWhen (replicaWellFormed r) (meaning r) 
 
 unfoldable pub deleted : Replica → ℕ → Generated
 deleted r p = generated r (localDeleteWhen (replicaWellFormed r) (meaning r) p)
+
+unfoldable pub restored : Replica → Identifier → Generated
+restored r x = generated r (localRestoreWhen (replicaWellFormed r) (meaning r) x)

@@ -1,30 +1,30 @@
 // The arrays of a document, built anew from filler, so that what is not in use is filler again. A count above the slots
 // is taken as all of them.
 use woot::Character;
-use woot::Delete;
 use woot::Identifier;
 use woot::Insert;
 use woot::Operation;
 use woot::Pending;
+use woot::Toggle;
 ghost use mathlib.Core.Path.{_≡_};
 ghost use mathlib.Core.List.{_++_, _∷_, []};
-ghost use Prim.Native.Nat.{_+_, _≤_, min};
+ghost use Prim.Native.Nat.{_+_, _≤_, min, max};
 ghost use lib.ListN.{take};
-ghost use Rattle.woot.specs.Operations.{deletedBy};
+ghost use Rattle.woot.specs.Operations.{toggledBy};
 ghost use Rattle.woot.specs.State.{slotOf, blankCharacter, blankPending};
 ghost use Rattle.lists.specs.Padding.{pad};
-ghost use Rattle.woot.specs.Placing.{insertAt, integrateDelete};
+ghost use Rattle.woot.specs.Placing.{insertAt, integrateToggle};
 ghost use Rattle.storage.specs.Edit.{copiedInto, removed};
 
 // What stands in a slot for a character that is not in use.
-fn blank_character() -> Character
+pub fn blank_character() -> Character
     ensures { λ r. ⌜ r ≡ blankCharacter ⌝ }
 {
     let none = Identifier::BEGIN;
     Character {
         id: none,
         code_point: 0,
-        visible: false,
+        toggles: 0,
         previous: none,
         next: none,
     }
@@ -81,19 +81,26 @@ pub fn put_in(
     copied(out, at + 1, characters, at, size - at)
 }
 
-// What a delete makes of a character: hidden, if it is the target.
-fn marked(character: Character, delete: Delete) -> Character
-    ensures { λ r. ⌜ r ≡ deletedBy delete character ⌝ }
+// The larger of two counts of toggles.
+fn larger(a: u8, b: u8) -> u8
+    ensures { λ r. ⌜ r ≡ max a b ⌝ }
+{
+    if a <= b { b } else { a }
+}
+
+// What a toggle makes of a character: one with the larger count of toggles, if it is the target.
+fn marked(character: Character, toggle: Toggle) -> Character
+    ensures { λ r. ⌜ r ≡ toggledBy toggle character ⌝ }
 {
     let id = character.id;
-    let target = delete.target;
+    let target = toggle.target;
     if ranges::same_id(target, id) {
         let previous = character.previous;
         let next = character.next;
         return Character {
             id,
             code_point: character.code_point,
-            visible: false,
+            toggles: larger(character.toggles, toggle.toggles),
             previous,
             next,
         };
@@ -101,16 +108,16 @@ fn marked(character: Character, delete: Delete) -> Character
     character
 }
 
-// The first n characters with the target of a delete hidden.
-pub fn hidden(characters: [Character; 1024], n: usize, delete: Delete) -> [Character; 1024]
-    ensures { λ r. ⌜ r ≡ pad 1024 blankCharacter (integrateDelete (take n characters) delete) ⌝ }
+// The first n characters with the target of a toggle deleted or restored.
+pub fn toggled(characters: [Character; 1024], n: usize, toggle: Toggle) -> [Character; 1024]
+    ensures { λ r. ⌜ r ≡ pad 1024 blankCharacter (integrateToggle (take n characters) toggle) ⌝ }
 {
     let end = index::lesser(n, 1024);
     let mut out = [blank_character(); 1024];
     let mut i = 0;
     while i < end {
         let c = characters[i];
-        out[i] = marked(c, delete);
+        out[i] = marked(c, toggle);
         i += 1;
     }
     out

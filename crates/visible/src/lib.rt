@@ -10,6 +10,8 @@ ghost use Prim.Native.Nat.{_≤_};
 ghost use lib.ListN.{length, take, getD};
 ghost use Rattle.output.specs.Output.{placed, past};
 ghost use Rattle.woot.specs.Identifiers.{begin, end};
+ghost use Rattle.lists.specs.Lists.{keep};
+ghost use Rattle.woot.specs.Operations.{isVisible};
 ghost use Rattle.woot.specs.Calls.{visibles};
 ghost use Rattle.woot.specs.Text.{printed, text};
 ghost use Rattle.woot.specs.Writing.{writtenAs, outputAfter};
@@ -32,9 +34,9 @@ pub fn count(characters: [Character; 1024], n: usize) -> usize
     number
 }
 
-// The identifier of the visible character counted k from 0 among the first n, or the mark where there is none.
-fn identifier(characters: [Character; 1024], n: usize, k: usize, mark: Identifier) -> Identifier
-    ensures { λ r. ⌜ r ≡ getD (visibles (take n characters)) k mark ⌝ }
+// The visible character counted k from 0 among the first n, or the given one where there is none.
+pub fn nth(characters: [Character; 1024], n: usize, k: usize, none: Character) -> Character
+    ensures { λ r. ⌜ r ≡ getD (keep isVisible (take n characters)) k none ⌝ }
 {
     let end = index::lesser(n, 1024);
     let mut rest = k;
@@ -43,13 +45,28 @@ fn identifier(characters: [Character; 1024], n: usize, k: usize, mark: Identifie
         let c = characters[i];
         if c.is_visible() {
             if rest == 0 {
-                return c.id;
+                return c;
             }
             rest -= 1;
         }
         i += 1;
     }
-    mark
+    none
+}
+
+// Its identifier, or the mark where there is none.
+fn identifier(characters: [Character; 1024], n: usize, k: usize, mark: Identifier) -> Identifier
+    ensures { λ r. ⌜ r ≡ getD (visibles (take n characters)) k mark ⌝ }
+{
+    let none = Character {
+        id: mark,
+        code_point: 0,
+        toggles: 0,
+        previous: mark,
+        next: mark,
+    };
+    let c = nth(characters, n, k, none);
+    c.id
 }
 
 // The identifier on the left of the insertion point g among the first n characters: that of the visible character

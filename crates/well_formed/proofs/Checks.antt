@@ -29,7 +29,7 @@ use Rattle.index.specs.Tabled.{Tabled}
 use Rattle.storage.proofs.Fullness.{FullDocument}
 use Rattle.index.proofs.Agreement.{agreeing-apart}
 use Rattle.index.proofs.Indexes.{index-ids, index-above, index-below}
-use Rattle.pending.proofs.Queues.{queue-own, queue-first, queue-second, queue-senders}
+use Rattle.pending.proofs.Queues.{queue-own, queue-first, queue-second, queue-senders, queue-stamps}
 use Rattle.well_formed.proofs.Conditions.{conditions}
 
 pub formed-path : (s : State) {x : Index} {q : Queue} → x ≡ indexOf (s .characters) → q ≡ queueOf (s .pending)
@@ -84,6 +84,7 @@ module _ (r : Replica) where
       pendingFormed (take (r .document .length) (x .ids)) (take (r .document .waiting) (q .own)) (take (r .document .waiting) (q .first))
       (take (r .document .waiting) (q .second))
       (take (r .document .waiting) (q .senders))
+      (take (r .document .waiting) (q .stamps))
       && clockReached (r .site) (take (r .document .length) (x .ids)) (take (r .document .waiting) (q .own))
 
   pub out-of-range : rangesKept r ≡ false → replicaWellFormed r ≡ false
@@ -117,5 +118,5 @@ module _ (r : Replica) where
           let w : length os ≡ r .document .waiting =
           length-map (take (r .document .waiting) (r .document .pending)) (λ (p : Pending). p .operation) ∙ length-take-le _ _ (omega (arith, few-pending))
           in
-          rw (e, f, counts, index-ids cs _ n, index-above cs _ n, index-below cs _ n, queue-own os _ w, queue-first os _ w, queue-second os _ w, queue-senders os _ w)
+          rw (e, f, counts, index-ids cs _ n, index-above cs _ n, index-below cs _ n, queue-own os _ w, queue-first os _ w, queue-second os _ w, queue-senders os _ w, queue-stamps os _ w)
           (ap (λ (b : Bool). b && tableAgrees r) (conditions (meaning r) (and-right (counted r) (allInRange (meaning r)) ranges)) ∙ settled (distinct eqb (keys cs)) _ _ (tableAgrees r) (apart r))

@@ -17,18 +17,18 @@ use Rattle.woot.specs.Operations.{sender, origin}
 use Rattle.woot.specs.Placing.{identifiers, sequence, placeOf, held, above}
 use Rattle.woot.specs.Ranges.{siteInRange, characterId, characterInRange, inRange}
 use Rattle.woot.specs.State.{State, blankCharacter}
-use Rattle.woot.specs.Form.{countdown, wellFormed, allInRange, sharesKept, capacityKept, identifiersDistinct, deletesDistinct, ordered, neighboursOrdered, noneExecutable}
+use Rattle.woot.specs.Form.{countdown, wellFormed, allInRange, sharesKept, capacityKept, identifiersDistinct, togglesDistinct, ordered, neighboursOrdered, noneExecutable}
 use Rattle.lists.proofs.Tests.{three}
 use Rattle.lists.proofs.Members.{get-member, every-member}
-use Rattle.convergence.proofs.Ranges.{in-range}
+use Rattle.convergence.proofs.Ranges.{in-range, origin-ranged}
 use Rattle.convergence.proofs.Forms.{known-ids, known-length}
 use Rattle.convergence.proofs.Places.{index-later, not-begin}
 use Rattle.convergence.proofs.Characters.{located-index, located-at}
 use Rattle.woot.specs.Table.{key, keys}
 use Rattle.index.specs.Packing.{previousPlaces, nextPlaces}
-use Rattle.pending.specs.Queue.{ownKey, firstKey, secondKey}
+use Rattle.pending.specs.Queue.{ownKey, firstKey, secondKey, stamp}
 use Rattle.pending_form.specs.Form.{pendingFormed, sharesIn, roomKept, keysNew, noneRepeated, noneReady}
-use Rattle.pending_form.proofs.Conditions.{characters-distinct, keyed, deletes-once, ids-distinct, none-executable}
+use Rattle.pending_form.proofs.Conditions.{characters-distinct, keyed, toggles-once, ids-distinct, none-executable}
 use Rattle.well_formed.specs.Form.{charactersFormed, orderedAt, placesOrdered, clockReached}
 use Rattle.lists.specs.Lists.{throughout}
 use Rattle.lists.proofs.Throughout.{throughout-cong}
@@ -44,8 +44,8 @@ module _ (cs : List Character) (ranges : every characterInRange cs ≡ true) whe
   at i = getD cs i blankCharacter
 
   id-in-range : (i : ℕ) → i < length cs → characterId (at i .id) ≡ true
-  unfolding characterInRange origin
-  id-in-range i h = in-range (origin (at i)) (every-member characterInRange ranges (get-member cs i blankCharacter h)) .id
+  unfolding origin
+  id-in-range i h = in-range (origin (at i)) (origin-ranged (at i) (every-member characterInRange ranges (get-member cs i blankCharacter h))) .id
 
   module _ (apart : distinct same (identifiers cs) ≡ true) where
     own-place : (i : ℕ) → i < length cs → placeOf cs (at i .id) ≡ i + 1
@@ -96,16 +96,16 @@ module _ (s : State) (ranges : allInRange s ≡ true) where
 
   pub conditions : wellFormed s
       ≡ charactersFormed (keys (s .characters)) (previousPlaces (s .characters)) (nextPlaces (s .characters))
-      && (pendingFormed (keys (s .characters)) (map ownKey (s .pending)) (map firstKey (s .pending)) (map secondKey (s .pending)) (map sender (s .pending))
+      && (pendingFormed (keys (s .characters)) (map ownKey (s .pending)) (map firstKey (s .pending)) (map secondKey (s .pending)) (map sender (s .pending)) (map stamp (s .pending))
       && clockReached (s .site) (keys (s .characters)) (map ownKey (s .pending)))
-  unfolding wellFormed identifiersDistinct deletesDistinct neighboursOrdered noneExecutable charactersFormed pendingFormed
+  unfolding wellFormed identifiersDistinct togglesDistinct neighboursOrdered noneExecutable charactersFormed pendingFormed
   conditions =
       let cs = s .characters in
       let os = s .pending in
       let own = map ownKey os in
-      rw (ranges, shares, room, known-ids s, ids-distinct os (parts .2) cs (parts .1), deletes-once os (parts .2), none-executable os (parts .2) cs (parts .1), clock-reached s ranges)
+      rw (ranges, shares, room, known-ids s, ids-distinct os (parts .2) cs (parts .1), toggles-once os (parts .2), none-executable os (parts .2) cs (parts .1), clock-reached s ranges)
       (arranged (sharesIn (map sender os)) (roomKept (keys cs) own) (distinct eqb (keys cs)) (keysNew (keys cs) own)
-      (noneRepeated own (map firstKey os) (map sender os))
+      (noneRepeated own (map firstKey os) (map stamp os))
       (every (ordered cs) cs)
       (placesOrdered (previousPlaces cs) (nextPlaces cs))
       (noneReady (keys cs) (map firstKey os) (map secondKey os))

@@ -32,7 +32,7 @@ use Rattle.well_formed.specs.declared.Checked.{Checked}
 use Rattle.holder.specs.declared.Holder.{Holder}
 use Rattle.holder.specs.declared.Holder.the-variants.{Character as ofCharacter, Pending as ofPending, Nobody}
 use Rattle.index.specs.Index.{indexOf}
-use Rattle.pending.specs.Queue.{ownKey, firstKey, queueOf}
+use Rattle.pending.specs.Queue.{ownKey, firstKey, queueOf, stamp}
 use Rattle.holder.specs.Holder.{holderIn}
 use Rattle.well_formed.specs.Form.{formedWith, checked}
 use Rattle.well_formed.specs.Examined.{Examined}
@@ -40,7 +40,7 @@ use Rattle.well_formed.proofs.Checks.{checked-true, checked-formed, own
 use Rattle.storage.proofs.Fullness.{FullDocument}
 use Rattle.index.specs.Tabled.{Tabled}
 use Rattle.index.proofs.Indexes.{index-ids}
-use Rattle.pending.proofs.Queues.{queue-own, queue-first, queue-senders}
+use Rattle.pending.proofs.Queues.{queue-own, queue-first, queue-senders, queue-stamps}
 use Rattle.pending.proofs.Pending.{AllKeyed, all-keyed, positive-key, count-senders, count-own}
 use Rattle.holder.proofs.Holders.{CharacterAt, Stands, stands, Holds, holds}
 use Rattle.storage.proofs.Stored.{Counts, counts, form-counted, form-meant, form-table, character-count, pending-count}
@@ -74,6 +74,9 @@ module _ (r : Replica) (f : replicaWellFormed r ≡ true) where
 
     pub senders-used : (q : Queue) → q ≡ queueOf (meaning r .pending) → take (r .document .waiting) (q .senders) ≡ map sender (meaning r .pending)
     senders-used q e = rw e (queue-senders (meaning r .pending) (r .document .waiting) (pending-count r full few))
+
+    pub stamps-used : (q : Queue) → q ≡ queueOf (meaning r .pending) → take (r .document .waiting) (q .stamps) ≡ map stamp (meaning r .pending)
+    stamps-used q e = rw e (queue-stamps (meaning r .pending) (r .document .waiting) (pending-count r full few))
 
     -- the slots in use hold what is meant
     pub character-read : (k : ℕ) (d : Character) → k < r .document .length → getD (meaning r .characters) k d ≡ getD (r .document .characters) k d

@@ -12,7 +12,7 @@ use Rattle.lists.proofs.Members.{every-append}
 use Rattle.woot.specs.declared.Identifier.{Identifier}
 use Rattle.woot.specs.declared.Site.{Site}
 use Rattle.woot.specs.declared.Operation.{Operation}
-use Rattle.woot.specs.declared.Operation.the-variants.{Insert as insert, Delete as delete}
+use Rattle.woot.specs.declared.Operation.the-variants.{Insert as insert, Toggle as toggle}
 use Rattle.woot.specs.declared.Character.{Character}
 use Rattle.woot.specs.Ranges.{siteInRange, insertInRange, characterInRange, inRange}
 use Rattle.woot.specs.Operations.{origin}
@@ -23,7 +23,7 @@ use Rattle.woot.specs.Table.{key, keys}
 use Rattle.convergence.specs.Invariants.{pendingIds}
 use Rattle.convergence.proofs.Clocks.{reaches}
 use Rattle.convergence.proofs.Forms.{known-reached}
-use Rattle.convergence.proofs.Ranges.{in-range}
+use Rattle.convergence.proofs.Ranges.{in-range, origin-ranged}
 use Rattle.index.specs.Keys.{Small}
 use Rattle.index.proofs.Keys.{character-small}
 use Rattle.pending.specs.Queue.{ownKey}
@@ -36,16 +36,16 @@ reaches-key t x small =
     let below : (x .site * 65536 + x .clock) % 65536 ≡ x .clock = omega arith in
     rw (above, below)
 
--- a delete has the key 0, which every clock reaches
+-- a toggle has the key 0, which every clock reaches
 reaches-none : (t : Site) → reachesKey t 0 ≡ true
 unfolding reachesKey
 reaches-none t = or-right (not (eqb 0 (t .number))) (leb 0 (t .clock)) (le-leb 0 (t .clock) (omega arith))
 
 reached-characters : (t : Site) (cs : List Character) → every characterInRange cs ≡ true → every (reachesKey t) (keys cs) ≡ every (reaches t) (identifiers cs)
-unfolding characterInRange origin
+unfolding origin
 reached-characters t [] r = refl
 reached-characters t (c ∷ cs) r =
-    let small = character-small (c .id) (in-range (origin c) (and-left (characterInRange c) (every characterInRange cs) r) .id) in
+    let small = character-small (c .id) (in-range (origin c) (origin-ranged c (and-left (characterInRange c) (every characterInRange cs) r)) .id) in
     ap₂ (λ (a b : Bool). a && b) (reaches-key t (c .id) small) (reached-characters t cs (and-right (characterInRange c) (every characterInRange cs) r))
 
 reached-own : (t : Site) (os : List Operation) → every inRange os ≡ true → every (reachesKey t) (map ownKey os) ≡ every (reaches t) (pendingIds os)
@@ -54,7 +54,7 @@ reached-own t [] r = refl
 reached-own t (insert i ∷ os) r =
     let small = character-small (i .id) (in-range i (and-left (insertInRange i) (every inRange os) r) .id) in
     ap₂ (λ (a b : Bool). a && b) (reaches-key t (i .id) small) (reached-own t os (and-right (insertInRange i) (every inRange os) r))
-reached-own t (delete d ∷ os) r = rw (reaches-none t) (reached-own t os (and-right (inRange (delete d)) (every inRange os) r))
+reached-own t (toggle d ∷ os) r = rw (reaches-none t) (reached-own t os (and-right (inRange (toggle d)) (every inRange os) r))
 
 pub clock-reached : (s : State) → allInRange s ≡ true → clockKept s ≡ clockReached (s .site) (keys (s .characters)) (map ownKey (s .pending))
 unfolding allInRange clockKept

@@ -84,6 +84,7 @@ fn queue_formed<'a>(
     first: &'a [u32],
     second: &'a [u32],
     senders: &'a [u8],
+    stamps: &'a [u16],
     w: usize,
 ) -> bool
     requires { ⌜ n ≤ length (now ids) ⌝ }
@@ -91,10 +92,11 @@ fn queue_formed<'a>(
     requires { ⌜ w ≤ length (now first) ⌝ }
     requires { ⌜ w ≤ length (now second) ⌝ }
     requires { ⌜ w ≤ length (now senders) ⌝ }
+    requires { ⌜ w ≤ length (now stamps) ⌝ }
     requires { ⌜ Tabled (record { heads = now heads; links = now links }) (take n (now ids)) ⌝ }
     ensures { λ r. ⌜ r
         ≡ pendingFormed (take n (now (ids .entry))) (take w (now (own .entry))) (take w (now (first .entry)))
-        (take w (now (second .entry))) (take w (now (senders .entry)))
+        (take w (now (second .entry))) (take w (now (senders .entry))) (take w (now (stamps .entry)))
         && clockReached site (take n (now (ids .entry))) (take w (now (own .entry))) ⌝ }
 {
     if !pending_form::pending_formed(
@@ -105,6 +107,7 @@ fn queue_formed<'a>(
         &first[..w],
         &second[..w],
         &senders[..w],
+        &stamps[..w],
     ) {
         return false;
     }
@@ -137,6 +140,7 @@ fn unformed() -> Checked
             first: [0u32; 512],
             second: [0u32; 512],
             senders: [0u8; 512],
+            stamps: [0u16; 512],
         },
     }
 }
@@ -172,6 +176,7 @@ pub fn check(replica: Replica) -> Checked
         &queue.first,
         &queue.second,
         &queue.senders,
+        &queue.stamps,
         w,
     ) {
         return unformed();

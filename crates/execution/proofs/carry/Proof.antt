@@ -1,6 +1,6 @@
 -- `execution::carry` goes by the kind of the operation.
 use mathlib.Core.Path.{sym, _∙_}
-use Rattle.execution.proofs.Works.{carried-delete}
+use Rattle.execution.proofs.Works.{carried-toggle}
 use borrow.Author.Needs.{needs}
 use Rattle.execution.proofs.carry.Statement.{statement}
 use Rattle.execution.proofs.carry.Tie as tie
@@ -14,14 +14,14 @@ place-insert-requires c κs = rw (c .before .operation .given .1) at (c .before 
 enum-known-operation-2 : tie.Need-enum-known-operation-2
 enum-known-operation-2 c = search needs
 
-carry-delete-requires : tie.Need-carry-delete-requires
-carry-delete-requires c κs = search needs
+carry-toggle-requires : tie.Need-carry-toggle-requires
+carry-toggle-requires c κs = search needs
 
 returns : tie.Need-returns
 returns c = rw (c .before .before .operation .given .1) (c .place-insert .ensures)
 
 returns-2 : tie.Need-returns-2
-returns-2 c = rw (c .before .before .operation2 .given .1) (c .carry-delete .ensures ∙ sym (carried-delete _ _ _ _ _))
+returns-2 c = rw (c .before .before .operation2 .given .1) (c .carry-toggle .ensures ∙ sym (carried-toggle _ _ _ _ _))
 
 pub carry-spec : {M : Type 1} → statement M
 carry-spec =
@@ -30,6 +30,6 @@ carry-spec =
     enum-known-operation
     place-insert-requires
     enum-known-operation-2
-    carry-delete-requires
+    carry-toggle-requires
     returns
     returns-2)

@@ -5,31 +5,35 @@ use borrow.Author.Needs.{needs}
 use Rattle.holder.proofs.is_pending.Statement.{statement}
 use Rattle.holder.proofs.is_pending.Tie as tie
 
-slice-aggregate-has-delete : tie.Need-slice-aggregate-has-delete
-slice-aggregate-has-delete c = simp length-take (omega arith)
+slice-aggregate-has-toggle : tie.Need-slice-aggregate-has-toggle
+slice-aggregate-has-toggle c = simp length-take (omega arith)
 
-slice-aggregate-has-delete-2 : tie.Need-slice-aggregate-has-delete-2
-slice-aggregate-has-delete-2 c = simp length-take (omega arith)
+slice-aggregate-has-toggle-2 : tie.Need-slice-aggregate-has-toggle-2
+slice-aggregate-has-toggle-2 c = simp length-take (omega arith)
 
-slice-aggregate-has-delete-3 : tie.Need-slice-aggregate-has-delete-3
-slice-aggregate-has-delete-3 c = simp length-take (omega arith)
+slice-aggregate-has-toggle-3 : tie.Need-slice-aggregate-has-toggle-3
+slice-aggregate-has-toggle-3 c = simp length-take (omega arith)
 
 key-requires : tie.Need-key-requires
 key-requires c κs = search needs
 
-has-delete-requires : tie.Need-has-delete-requires
-has-delete-requires c κs = search needs
+stamp-of-requires : tie.Need-stamp-of-requires
+stamp-of-requires c κs = search needs
+
+has-toggle-requires : tie.Need-has-toggle-requires
+has-toggle-requires c κs = search needs
 
 returns : tie.Need-returns
-returns c = rw (c .has-delete .ensures, c .before .key .ensures .0)
+returns c = rw (c .has-toggle .ensures, c .before .before .key .ensures .0, c .before .stamp-of .ensures)
 
 pub is-pending-spec : {M : Type 1} → statement M
 is-pending-spec =
     tie.close
     (tie.spec
-    slice-aggregate-has-delete
-    slice-aggregate-has-delete-2
-    slice-aggregate-has-delete-3
+    slice-aggregate-has-toggle
+    slice-aggregate-has-toggle-2
+    slice-aggregate-has-toggle-3
     key-requires
-    has-delete-requires
+    stamp-of-requires
+    has-toggle-requires
     returns)

@@ -19,30 +19,33 @@ returns : tie.Need-returns
 unfolding freshAt
 returns c = rw (ne-eqb _ 0 (c .if1 .taken))
 
-slice-aggregate-has-delete : tie.Need-slice-aggregate-has-delete
-slice-aggregate-has-delete c = simp length-take (omega arith)
+slice-aggregate-has-toggle : tie.Need-slice-aggregate-has-toggle
+slice-aggregate-has-toggle c = simp length-take (omega arith)
 
-slice-aggregate-has-delete-2 : tie.Need-slice-aggregate-has-delete-2
-slice-aggregate-has-delete-2 c = simp length-take (omega arith)
+slice-aggregate-has-toggle-2 : tie.Need-slice-aggregate-has-toggle-2
+slice-aggregate-has-toggle-2 c = simp length-take (omega arith)
 
-slice-aggregate-has-delete-3 : tie.Need-slice-aggregate-has-delete-3
-slice-aggregate-has-delete-3 c = simp length-take (omega arith)
+slice-aggregate-has-toggle-3 : tie.Need-slice-aggregate-has-toggle-3
+slice-aggregate-has-toggle-3 c = simp length-take (omega arith)
 
-mul-has-delete : tie.Need-mul-has-delete
-mul-has-delete c = omega arith
+mul-has-toggle : tie.Need-mul-has-toggle
+mul-has-toggle c = omega arith
 
-shared-slice-read-has-delete : tie.Need-shared-slice-read-has-delete
-shared-slice-read-has-delete c = omega arith
+shared-slice-read-has-toggle : tie.Need-shared-slice-read-has-toggle
+shared-slice-read-has-toggle c = omega arith
 
-shared-slice-read-has-delete-2 : tie.Need-shared-slice-read-has-delete-2
-shared-slice-read-has-delete-2 c = omega arith
+mul-has-toggle-2 : tie.Need-mul-has-toggle-2
+mul-has-toggle-2 c = omega arith
 
-has-delete-requires : tie.Need-has-delete-requires
-has-delete-requires c κs = search needs
+shared-slice-read-has-toggle-2 : tie.Need-shared-slice-read-has-toggle-2
+shared-slice-read-has-toggle-2 c = omega arith
+
+has-toggle-requires : tie.Need-has-toggle-requires
+has-toggle-requires c κs = search needs
 
 returns-2 : tie.Need-returns-2
 unfolding freshAt
-returns-2 c = rw (eq-eqb _ 0 (c .before .before .before .before .before .before .if1 .left)) (ap not (c .has-delete .ensures))
+returns-2 c = rw (eq-eqb _ 0 (c .before .before .before .before .before .before .if1 .left)) (ap not (c .has-toggle .ensures))
 
 pub fresh-at-spec : {M : Type 1} → statement M
 fresh-at-spec =
@@ -51,11 +54,12 @@ fresh-at-spec =
     mul-if1
     shared-slice-read-if1
     returns
-    slice-aggregate-has-delete
-    slice-aggregate-has-delete-2
-    slice-aggregate-has-delete-3
-    mul-has-delete
-    shared-slice-read-has-delete
-    shared-slice-read-has-delete-2
-    has-delete-requires
+    slice-aggregate-has-toggle
+    slice-aggregate-has-toggle-2
+    slice-aggregate-has-toggle-3
+    mul-has-toggle
+    shared-slice-read-has-toggle
+    mul-has-toggle-2
+    shared-slice-read-has-toggle-2
+    has-toggle-requires
     returns-2)

@@ -13,10 +13,10 @@ use Rattle.pending_form.proofs.none_repeated.Statement.{statement}
 use Rattle.pending_form.proofs.none_repeated.Tie as tie
 
 abbrev Inv-loop : tie.InvT-loop
-Inv-loop own first senders j₀ j = (j ≤ length own) × (throughout (freshAt own first senders) j ≡ true)
+Inv-loop own first stamps j₀ j = (j ≤ length own) × (throughout (freshAt own first stamps) j ≡ true)
 
 abbrev μ-loop : tie.MeasureT-loop
-μ-loop own first senders j₀ j = length own - j
+μ-loop own first stamps j₀ j = length own - j
 
 loop-holds : tie.Need-loop-holds Inv-loop μ-loop
 loop-holds c = (omega arith, refl)
@@ -28,7 +28,7 @@ returns : tie.Need-returns Inv-loop μ-loop
 returns c =
     let a = c .before .before .before .before .before .before .before .args in
     let l = c .before .before .before .loop in
-    let test = freshAt (a .own .now) (a .first .now) (a .senders .now) in
+    let test = freshAt (a .own .now) (a .first .now) (a .stamps .now) in
     sym (throughout-fails test (length (a .own .now)) (l .j) (omega arith) (refused {u = test (l .j)} (c .before .fresh-at .ensures) (c .if1 .taken)))
 
 add-j : tie.Need-add-j Inv-loop μ-loop
@@ -41,7 +41,7 @@ loop-again : tie.Need-loop-again Inv-loop μ-loop
 loop-again c =
     let a = c .before .before .before .before .before .before .before .args in
     let l = c .before .before .before .loop in
-    let test = freshAt (a .own .now) (a .first .now) (a .senders .now) in
+    let test = freshAt (a .own .now) (a .first .now) (a .stamps .now) in
     (omega arith, throughout-more test (l .j) (l .inv .1) (passed {u = test (l .j)} (c .before .fresh-at .ensures) (c .if1 .left)))
 
 returns-2 : tie.Need-returns-2 Inv-loop μ-loop

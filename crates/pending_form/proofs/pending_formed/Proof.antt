@@ -16,11 +16,11 @@ use Rattle.pending_form.proofs.pending_formed.Statement.{statement}
 use Rattle.pending_form.proofs.pending_formed.Tie as tie
 
 -- the five tests, as they come out
-reading : (ids own first second senders : List ℕ) {p q r s t : Bool} → sharesIn senders ≡ p → roomKept ids own ≡ q
-    → keysNew ids own ≡ r → noneRepeated own first senders ≡ s → noneReady ids first second ≡ t
-    → pendingFormed ids own first second senders ≡ p && q && r && s && t
+reading : (ids own first second senders stamps : List ℕ) {p q r s t : Bool} → sharesIn senders ≡ p → roomKept ids own ≡ q
+    → keysNew ids own ≡ r → noneRepeated own first stamps ≡ s → noneReady ids first second ≡ t
+    → pendingFormed ids own first second senders stamps ≡ p && q && r && s && t
 unfolding pendingFormed
-reading ids own first second senders e₁ e₂ e₃ e₄ e₅ = λ i. e₁ i && e₂ i && e₃ i && e₄ i && e₅ i
+reading ids own first second senders stamps e₁ e₂ e₃ e₄ e₅ = λ i. e₁ i && e₂ i && e₃ i && e₄ i && e₅ i
 
 -- the number of pending inserts is a length
 abbrev Inserts : List ℕ → ℕ → Type 0
@@ -38,34 +38,34 @@ shares-kept-requires : tie.Need-shares-kept-requires
 shares-kept-requires c κs = search needs
 
 returns : tie.Need-returns
-returns c = sym (reading _ _ _ _ _ (refused (c .before .shares-kept .ensures) (c .if1 .taken)) refl refl refl refl)
+returns c = sym (reading _ _ _ _ _ _ (refused (c .before .shares-kept .ensures) (c .if1 .taken)) refl refl refl refl)
 
 count-inserts-requires : tie.Need-count-inserts-requires
 count-inserts-requires c κs = search needs
 
 add-if2 : tie.Need-add-if2
-add-if2 c = omega (arith, c .count-inserts .ensures, keep-length (λ (k : ℕ). not (eqb k 0)) (c .before .before .before .before .before .before .before .before .before .before .args .own .now))
+add-if2 c = omega (arith, c .count-inserts .ensures, keep-length (λ (k : ℕ). not (eqb k 0)) (c .before .before .before .before .before .before .before .before .before .before .before .args .own .now))
 
 returns-2 : tie.Need-returns-2
-returns-2 c = sym (reading _ _ _ _ _ (passed (c .before .before .before .shares-kept .ensures) (c .before .before .if1 .left)) (no-room _ _ _ (c .before .count-inserts .ensures) (omega (arith, c .if2 .taken))) refl refl refl)
+returns-2 c = sym (reading _ _ _ _ _ _ (passed (c .before .before .before .shares-kept .ensures) (c .before .before .if1 .left)) (no-room _ _ _ (c .before .count-inserts .ensures) (omega (arith, c .if2 .taken))) refl refl refl)
 
 keys-new-requires : tie.Need-keys-new-requires
 keys-new-requires c κs = search needs
 
 returns-3 : tie.Need-returns-3
-returns-3 c = sym (reading _ _ _ _ _ (passed (c .before .before .before .before .before .shares-kept .ensures) (c .before .before .before .before .if1 .left)) (room _ _ _ (c .before .before .before .count-inserts .ensures) (c .before .before .if2 .left)) (refused (c .before .keys-new .ensures) (c .if3 .taken)) refl refl)
+returns-3 c = sym (reading _ _ _ _ _ _ (passed (c .before .before .before .before .before .shares-kept .ensures) (c .before .before .before .before .if1 .left)) (room _ _ _ (c .before .before .before .count-inserts .ensures) (c .before .before .if2 .left)) (refused (c .before .keys-new .ensures) (c .if3 .taken)) refl refl)
 
 none-repeated-requires : tie.Need-none-repeated-requires
 none-repeated-requires c κs = search needs
 
 returns-4 : tie.Need-returns-4
-returns-4 c = sym (reading _ _ _ _ _ (passed (c .before .before .before .before .before .before .before .shares-kept .ensures) (c .before .before .before .before .before .before .if1 .left)) (room _ _ _ (c .before .before .before .before .before .count-inserts .ensures) (c .before .before .before .before .if2 .left)) (passed (c .before .before .before .keys-new .ensures) (c .before .before .if3 .left)) (refused (c .before .none-repeated .ensures) (c .if4 .taken)) refl)
+returns-4 c = sym (reading _ _ _ _ _ _ (passed (c .before .before .before .before .before .before .before .shares-kept .ensures) (c .before .before .before .before .before .before .if1 .left)) (room _ _ _ (c .before .before .before .before .before .count-inserts .ensures) (c .before .before .before .before .if2 .left)) (passed (c .before .before .before .keys-new .ensures) (c .before .before .if3 .left)) (refused (c .before .none-repeated .ensures) (c .if4 .taken)) refl)
 
 none-ready-requires : tie.Need-none-ready-requires
 none-ready-requires c κs = search needs
 
 returns-5 : tie.Need-returns-5
-returns-5 c = sym (reading _ _ _ _ _ (passed (c .before .before .before .before .before .before .before .before .shares-kept .ensures) (c .before .before .before .before .before .before .before .if1 .left)) (room _ _ _ (c .before .before .before .before .before .before .count-inserts .ensures) (c .before .before .before .before .before .if2 .left)) (passed (c .before .before .before .before .keys-new .ensures) (c .before .before .before .if3 .left)) (passed (c .before .before .none-repeated .ensures) (c .before .if4 .left)) (sym (c .none-ready .ensures)))
+returns-5 c = sym (reading _ _ _ _ _ _ (passed (c .before .before .before .before .before .before .before .before .shares-kept .ensures) (c .before .before .before .before .before .before .before .if1 .left)) (room _ _ _ (c .before .before .before .before .before .before .count-inserts .ensures) (c .before .before .before .before .before .if2 .left)) (passed (c .before .before .before .before .keys-new .ensures) (c .before .before .before .if3 .left)) (passed (c .before .before .none-repeated .ensures) (c .before .if4 .left)) (sym (c .none-ready .ensures)))
 
 pub pending-formed-spec : {M : Type 1} → statement M
 pending-formed-spec =

@@ -14,8 +14,8 @@ insert-in-range-requires c κs = search needs
 enum-known-o-2 : tie.Need-enum-known-o-2
 enum-known-o-2 c = search needs
 
-delete-in-range-requires : tie.Need-delete-in-range-requires
-delete-in-range-requires c κs = search needs
+toggle-in-range-requires : tie.Need-toggle-in-range-requires
+toggle-in-range-requires c κs = search needs
 
 returns : tie.Need-returns
 unfolding inRange
@@ -23,7 +23,7 @@ returns c = c .insert-in-range .ensures ∙ sym (ap inRange (c .before .before .
 
 returns-2 : tie.Need-returns-2
 unfolding inRange
-returns-2 c = c .delete-in-range .ensures ∙ sym (ap inRange (c .before .before .o2 .given .1))
+returns-2 c = c .toggle-in-range .ensures ∙ sym (ap inRange (c .before .before .o2 .given .1))
 
 pub in-range-spec : {M : Type 1} → statement M
 in-range-spec =
@@ -32,6 +32,6 @@ in-range-spec =
     enum-known-o
     insert-in-range-requires
     enum-known-o-2
-    delete-in-range-requires
+    toggle-in-range-requires
     returns
     returns-2)

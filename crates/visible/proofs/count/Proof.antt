@@ -4,8 +4,8 @@ use mathlib.Core.Logic.{⊎-elim}
 use Prim.Native.Nat.{_+_, _-_, _≤_}
 use native.Mathlib.Omega.{arith}
 use borrow.Author.Needs.{needs}
-use lib.ListN.{length}
-use Rattle.visible.proofs.Visibility.{visiblesLeft, one-visible, one-hidden, none-left, first-visibles}
+use lib.ListN.{length, take}
+use Rattle.visible.proofs.Visibility.{visiblesLeft, one-visible, one-hidden, none-left, first-visibles, visibles-length}
 use Rattle.visible.proofs.count.Statement.{statement}
 use Rattle.visible.proofs.count.Tie as tie
 
@@ -56,7 +56,7 @@ returns c =
     let a = c .before .before .before .args in
     let end = c .before .before .lesser in
     let l = c .before .loop in
-    omega (arith, ap length (none-left (a .t1) (end .result) (l .i) (omega arith)), ap length (first-visibles (a .t1) (a .n) (end .result) (end .ensures) (l .inv .2)))
+    omega (arith, ap length (none-left (a .t1) (end .result) (l .i) (omega arith)), ap length (first-visibles (a .t1) (a .n) (end .result) (end .ensures) (l .inv .2)), visibles-length (take (a .n) (a .t1)))
 
 pub count-spec : {M : Type 1} → statement M
 count-spec =

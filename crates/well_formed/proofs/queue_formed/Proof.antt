@@ -21,10 +21,13 @@ slice-aggregate-pending-formed-4 c = simp length-take (omega arith)
 slice-aggregate-pending-formed-5 : tie.Need-slice-aggregate-pending-formed-5
 slice-aggregate-pending-formed-5 c = simp length-take (omega arith)
 
+slice-aggregate-pending-formed-6 : tie.Need-slice-aggregate-pending-formed-6
+slice-aggregate-pending-formed-6 c = simp length-take (omega arith)
+
 pending-formed-requires : tie.Need-pending-formed-requires
 pending-formed-requires c κs =
-    let s = c .before .before .before .before .before .before .before .before .before .before .before .before in
-    (s .pre .1 .1 .1 .1 .1, (simp length-take (omega arith), (simp length-take (omega arith), simp length-take (omega arith))))
+    let s = c .before .before .before .before .before .before .before .before .before .before .before .before .before .before in
+    (s .pre .1 .1 .1 .1 .1 .1, (simp length-take (omega arith), (simp length-take (omega arith), simp length-take (omega arith))))
 
 returns : tie.Need-returns
 returns c = rw (refused (c .before .pending-formed .ensures) (c .if1 .taken))
@@ -59,6 +62,7 @@ queue-formed-spec =
     slice-aggregate-pending-formed-3
     slice-aggregate-pending-formed-4
     slice-aggregate-pending-formed-5
+    slice-aggregate-pending-formed-6
     pending-formed-requires
     returns
     slice-aggregate-reaches-all

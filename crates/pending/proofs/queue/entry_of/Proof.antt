@@ -1,7 +1,7 @@
 -- `pending::queue::entry_of` has each number by the kind of the operation.
 use borrow.Author.Needs.{needs}
 use Rattle.woot.specs.Operations.{sender}
-use Rattle.pending.specs.Queue.{entryOf, ownKey, firstKey, secondKey}
+use Rattle.pending.specs.Queue.{entryOf, ownKey, firstKey, secondKey, stamp}
 use Rattle.pending.proofs.queue.entry_of.Statement.{statement}
 use Rattle.pending.proofs.queue.entry_of.Tie as tie
 
@@ -23,8 +23,11 @@ enum-known-operation-2 c = search needs
 key-requires-4 : tie.Need-key-requires-4
 key-requires-4 c κs = search needs
 
+stamp-of-requires : tie.Need-stamp-of-requires
+stamp-of-requires c κs = search needs
+
 returns : tie.Need-returns
-unfolding entryOf ownKey firstKey secondKey sender
+unfolding entryOf ownKey firstKey secondKey stamp sender
 returns c =
     let is = c .before .before .before .before .before .before .before .operation .given .1 in
     rw (is, c .before .before .key .ensures .0, c .before .key2 .ensures .0, c .key3 .ensures .0)
@@ -32,8 +35,8 @@ returns c =
 returns-2 : tie.Need-returns-2
 unfolding entryOf ownKey firstKey secondKey sender
 returns-2 c =
-    let is = c .before .before .before .operation2 .given .1 in
-    rw (is, c .key4 .ensures .0)
+    let is = c .before .before .before .before .operation2 .given .1 in
+    rw (is, c .before .key4 .ensures .0, c .stamp-of .ensures)
 
 pub entry-of-spec : {M : Type 1} → statement M
 entry-of-spec =
@@ -45,5 +48,6 @@ entry-of-spec =
     key-requires-3
     enum-known-operation-2
     key-requires-4
+    stamp-of-requires
     returns
     returns-2)

@@ -10,11 +10,11 @@ use Rattle.pending.proofs.queue.queue_of.Statement.{statement}
 use Rattle.pending.proofs.queue.queue_of.Tie as tie
 
 abbrev Inv-loop : tie.InvT-loop
-Inv-loop n ps end own₀ first₀ second₀ senders₀ i₀ own first second senders i =
-    (length ps ≡ 512) × (i ≤ end) × (end ≤ 512) × Filled ps i own first second senders
+Inv-loop n ps end own₀ first₀ second₀ senders₀ stamps₀ i₀ own first second senders stamps i =
+    (length ps ≡ 512) × (i ≤ end) × (end ≤ 512) × Filled ps i own first second senders stamps
 
 abbrev μ-loop : tie.MeasureT-loop
-μ-loop n ps end own₀ first₀ second₀ senders₀ i₀ own first second senders i = end - i
+μ-loop n ps end own₀ first₀ second₀ senders₀ stamps₀ i₀ own first second senders stamps i = end - i
 
 lesser-requires : tie.Need-lesser-requires Inv-loop μ-loop
 lesser-requires c κs = search needs
@@ -52,6 +52,12 @@ array-write-second c = omega arith
 array-write-senders : tie.Need-array-write-senders Inv-loop μ-loop
 array-write-senders c = omega arith
 
+mul-stamps : tie.Need-mul-stamps Inv-loop μ-loop
+mul-stamps c = omega arith
+
+array-write-stamps : tie.Need-array-write-stamps Inv-loop μ-loop
+array-write-stamps c = omega arith
+
 add-i : tie.Need-add-i Inv-loop μ-loop
 add-i c = omega arith
 
@@ -88,6 +94,8 @@ queue-of-spec =
     mul-second
     array-write-second
     array-write-senders
+    mul-stamps
+    array-write-stamps
     add-i
     loop-less
     loop-again

@@ -1,20 +1,23 @@
--- `storage::arrays::marked` hides the character exactly where the test of the identifiers holds.
+-- `storage::arrays::marked` counts the toggles of the character exactly where the test of the identifiers holds.
 use mathlib.Core.Path.{sym, _∙_}
 use borrow.Author.Needs.{needs}
-use Rattle.woot.specs.Operations.{hidden, deletedBy}
+use Rattle.woot.specs.Operations.{withToggles, toggledBy}
 use Rattle.storage.proofs.arrays.marked.Statement.{statement}
 use Rattle.storage.proofs.arrays.marked.Tie as tie
 
 same-id-requires : tie.Need-same-id-requires
 same-id-requires c κs = search needs
 
+larger-requires : tie.Need-larger-requires
+larger-requires c κs = search needs
+
 returns : tie.Need-returns
-unfolding hidden deletedBy
-returns c = rw (sym (c .before .before .before .same-id .ensures) ∙ c .before .before .if1 .taken)
+unfolding withToggles toggledBy
+returns c = rw (sym (c .before .before .before .before .same-id .ensures) ∙ c .before .before .before .if1 .taken, c .larger .ensures)
 
 returns-2 : tie.Need-returns-2
-unfolding deletedBy
+unfolding toggledBy
 returns-2 c = rw (sym (c .before .same-id .ensures) ∙ c .if1 .left)
 
 pub marked-spec : {M : Type 1} → statement M
-marked-spec = tie.close (tie.spec same-id-requires returns returns-2)
+marked-spec = tie.close (tie.spec same-id-requires larger-requires returns returns-2)

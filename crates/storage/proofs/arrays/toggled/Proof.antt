@@ -1,4 +1,4 @@
--- `storage::arrays::hidden` meets its contract. The loop's invariant: the first i characters are in, the target hidden.
+-- `storage::arrays::toggled` meets its contract. The loop's invariant: the first i characters are in, the target toggled.
 use mathlib.Core.Path.{_≡_, sym, _∙_}
 use Prim.Native.Nat.{_-_, _≤_, min, zero-le}
 use native.Mathlib.Omega.{arith}
@@ -6,18 +6,18 @@ use borrow.Author.Needs.{needs}
 use lib.ListN.{length, take}
 use Rattle.woot.specs.State.{blankCharacter}
 use Rattle.lists.specs.Padding.{pad}
-use Rattle.woot.specs.Operations.{deletedBy}
-use Rattle.woot.specs.Placing.{integrateDelete}
+use Rattle.woot.specs.Operations.{toggledBy}
+use Rattle.woot.specs.Placing.{integrateToggle}
 use Rattle.lists.proofs.Padding.{pad-none, pad-map, first-or-all}
-use Rattle.storage.proofs.arrays.hidden.Statement.{statement}
-use Rattle.storage.proofs.arrays.hidden.Tie as tie
+use Rattle.storage.proofs.arrays.toggled.Statement.{statement}
+use Rattle.storage.proofs.arrays.toggled.Tie as tie
 
 abbrev Inv-loop : tie.InvT-loop
-Inv-loop n delete cs end out₀ i₀ out i =
-    (i ≤ end) × (out ≡ pad 1024 blankCharacter (integrateDelete (take i cs) delete)) × (length cs ≡ 1024)
+Inv-loop n toggle cs end out₀ i₀ out i =
+    (i ≤ end) × (out ≡ pad 1024 blankCharacter (integrateToggle (take i cs) toggle)) × (length cs ≡ 1024)
 
 abbrev μ-loop : tie.MeasureT-loop
-μ-loop n delete cs end out₀ i₀ out i = end - i
+μ-loop n toggle cs end out₀ i₀ out i = end - i
 
 lesser-requires : tie.Need-lesser-requires Inv-loop μ-loop
 lesser-requires c κs = search needs
@@ -26,7 +26,7 @@ blank-character-requires : tie.Need-blank-character-requires Inv-loop μ-loop
 blank-character-requires c κs = search needs
 
 loop-holds : tie.Need-loop-holds Inv-loop μ-loop
-unfolding integrateDelete
+unfolding integrateToggle
 loop-holds c = (zero-le, rw (c .blank-character .ensures) (sym (pad-none 1024 blankCharacter)), c .before .before .good .0 .1 .0 .1)
 
 mul-c : tie.Need-mul-c Inv-loop μ-loop
@@ -51,11 +51,11 @@ loop-less : tie.Need-loop-less Inv-loop μ-loop
 loop-less c = omega arith
 
 loop-again : tie.Need-loop-again Inv-loop μ-loop
-unfolding integrateDelete
+unfolding integrateToggle
 loop-again c =
     let l = c .before .before .before .loop in
     let a = c .before .before .before .before .before .before .args in
-    (omega arith, rw (l .inv .1, c .marked .ensures) (pad-map 1024 blankCharacter (deletedBy (a .delete)) _ (a .t1) (l .i) (omega arith) (omega arith)), l .inv .2)
+    (omega arith, rw (l .inv .1, c .marked .ensures) (pad-map 1024 blankCharacter (toggledBy (a .toggle)) _ (a .t1) (l .i) (omega arith) (omega arith)), l .inv .2)
 
 returns : tie.Need-returns Inv-loop μ-loop
 returns c =
@@ -64,8 +64,8 @@ returns c =
     let all : l .i ≡ min (a .n) 1024 = omega (arith, c .before .before .before .lesser .ensures) in
     l .inv .1 ∙ rw (all, first-or-all (a .t1) (a .n) 1024 (l .inv .2))
 
-pub hidden-spec : {M : Type 1} → statement M
-hidden-spec =
+pub toggled-spec : {M : Type 1} → statement M
+toggled-spec =
     tie.close
     (tie.spec
     Inv-loop

@@ -1,7 +1,7 @@
--- `pending::queue::is_delete` makes the three tests one after the other.
+-- `pending::queue::is_toggle` makes the three tests one after the other.
 use borrow.Author.Tests.{eq-eqb, ne-eqb}
-use Rattle.pending.proofs.queue.is_delete.Statement.{statement}
-use Rattle.pending.proofs.queue.is_delete.Tie as tie
+use Rattle.pending.proofs.queue.is_toggle.Statement.{statement}
+use Rattle.pending.proofs.queue.is_toggle.Tie as tie
 
 returns : tie.Need-returns
 returns c = rw (ne-eqb _ _ (c .if1 .taken))
@@ -12,5 +12,5 @@ returns-2 c = rw (eq-eqb _ _ (c .before .if1 .left), ne-eqb _ _ (c .if2 .taken))
 returns-3 : tie.Need-returns-3
 returns-3 c = rw (eq-eqb _ _ (c .before .if1 .left), eq-eqb _ _ (c .if2 .left))
 
-pub is-delete-spec : {M : Type 1} → statement M
-is-delete-spec = tie.close (tie.spec returns returns-2 returns-3)
+pub is-toggle-spec : {M : Type 1} → statement M
+is-toggle-spec = tie.close (tie.spec returns returns-2 returns-3)
