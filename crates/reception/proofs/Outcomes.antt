@@ -4,10 +4,10 @@ use Prim.Native.Nat.{suc}
 use mathlib.Core.Path.{_≡_}
 use mathlib.Core.Bool.{true, false}
 use lib.ListN.{length}
-use Rattle.woot.specs.declared.Delete.{Delete}
+use Rattle.woot.specs.declared.Toggle.{Toggle}
 use Rattle.woot.specs.declared.Insert.{Insert}
 use Rattle.woot.specs.declared.Operation.{Operation}
-use Rattle.woot.specs.declared.Operation.the-variants.{Insert as insert, Delete as delete}
+use Rattle.woot.specs.declared.Operation.the-variants.{Insert as insert, Toggle as toggle}
 use Rattle.woot.specs.declared.Replica.{Replica}
 use Rattle.woot.specs.declared.Refusal.the-variants.{Range, Form, Conflict, Crossed, Unplaceable, SenderFull, DocumentFull}
 use Rattle.woot.specs.declared.Answer.{Answer}
@@ -15,7 +15,7 @@ use Rattle.woot.specs.declared.Answer.the-variants.{Done, Deferred, Duplicate, 
 use Rattle.woot.specs.declared.Receipt.{Receipt}
 use Rattle.woot.specs.Ranges.{inRange}
 use Rattle.woot.specs.State.{meaning, stored}
-use Rattle.woot.specs.Placing.{integrateDelete}
+use Rattle.woot.specs.Placing.{integrateToggle}
 use Rattle.woot.specs.Pending.{executable, crossed, unplaceable}
 use Rattle.woot.specs.Form.{replicaWellFormed}
 use Rattle.woot.specs.Answers.{decided}
@@ -80,6 +80,6 @@ pub carried-insert : (r : Replica) (i : Insert) → executable (meaning r .chara
 unfolding receipt afterAnswer accept carryOut
 carried-insert r i e = rw e
 
-pub carried-delete : (r : Replica) (d : Delete) → executable (meaning r .characters) (delete d) ≡ true → receipt r (accept (meaning r) (delete d)) ≡ record { answer = Done 1 0; replica = stored (withCharacters (meaning r) (integrateDelete (meaning r .characters) d)) }
+pub carried-toggle : (r : Replica) (d : Toggle) → executable (meaning r .characters) (toggle d) ≡ true → receipt r (accept (meaning r) (toggle d)) ≡ record { answer = Done 1 0; replica = stored (withCharacters (meaning r) (integrateToggle (meaning r .characters) d)) }
 unfolding receipt afterAnswer accept carryOut
-carried-delete r d e = rw e
+carried-toggle r d e = rw e

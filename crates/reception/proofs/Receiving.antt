@@ -8,7 +8,7 @@ use borrow.Author.Tests.{leb-false}
 use lib.Dec.{leb}
 use lib.ListN.{take, length-append}
 use Rattle.woot.specs.declared.Operation.{Operation}
-use Rattle.woot.specs.declared.Operation.the-variants.{Insert as insert, Delete as delete}
+use Rattle.woot.specs.declared.Operation.the-variants.{Insert as insert, Toggle as toggle}
 use Rattle.woot.specs.declared.Character.{Character}
 use Rattle.woot.specs.declared.Replica.{Replica}
 use Rattle.woot.specs.declared.Refusal.the-variants.{SenderFull, DocumentFull}
@@ -37,19 +37,19 @@ pub full-with : (r : Replica) → replicaWellFormed r ≡ true → FullDocument 
     → fullWith (r .document .length) (take (r .document .waiting) (q .own)) o ≡ documentFull (meaning r) o
 unfolding fullWith documentFull
 full-with r f full q e (insert i) = room-counted r f full q e
-full-with r f full q e (delete d) = refl
+full-with r f full q e (toggle d) = refl
 
 -- ---- an operation that lacks something
 
 unready-straight : (cs : List Character) (o : Operation) → executable cs o ≡ false → crossed cs o ≡ false
 unfolding crossed
 unready-straight cs (insert i) u = rw u
-unready-straight cs (delete d) u = refl
+unready-straight cs (toggle d) u = refl
 
 unready-placed : (cs : List Character) (o : Operation) → executable cs o ≡ false → unplaceable cs o ≡ false
 unfolding unplaceable
 unready-placed cs (insert i) u = rw u
-unready-placed cs (delete d) u = refl
+unready-placed cs (toggle d) u = refl
 
 module _ (r : Replica) (o : Operation) (n : New r o) (u : executable (meaning r .characters) o ≡ false) where
   straight : crossed (meaning r .characters) o ≡ false

@@ -15,7 +15,7 @@ use Rattle.woot.specs.Ranges.{inRange}
 use Rattle.woot.specs.State.{meaning, State}
 use Rattle.woot.specs.Form.{replicaWellFormed}
 use Rattle.woot.specs.Calls.{duplicate, conflicting}
-use Rattle.woot.specs.declared.Operation.the-variants.{Insert as insert, Delete as delete}
+use Rattle.woot.specs.declared.Operation.the-variants.{Insert as insert, Toggle as toggle}
 use Rattle.holder.specs.declared.Seen.{Seen}
 use Rattle.holder.specs.declared.Seen.the-variants.{New as unseen, Same, Other}
 
@@ -29,7 +29,7 @@ pub record New (r : Replica) (o : Operation) : Type 0 where
 -- condition 11 on the keys of the pending operations
 unfoldable pub fullWith : ℕ → List ℕ → Operation → Bool
 fullWith n own (insert i) = leb capacity (n + length (keep (λ k. not (eqb k 0)) own))
-fullWith n own (delete d) = false
+fullWith n own (toggle d) = false
 
 -- what a received insert is: known, in conflict (condition 7), or neither
 unfoldable pub seenOf : State → Insert → Seen

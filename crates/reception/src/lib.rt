@@ -1,5 +1,5 @@
 // What a received insert is to a replica that is well formed, and the answers that need no work on its characters: the
-// replica as it was, or the operation put off. Receiving an insert and receiving a delete stand on it, each in a crate.
+// replica as it was, or the operation put off. Receiving an insert and receiving a toggle stand on it, each in a crate.
 use holder::Holder;
 use holder::Seen;
 use index::Index;
@@ -44,7 +44,7 @@ fn sender(operation: Operation) -> u8
 {
     match operation {
         Operation::Insert(i) => i.id.site,
-        Operation::Delete(d) => d.sender,
+        Operation::Toggle(d) => d.sender,
     }
 }
 
@@ -56,7 +56,7 @@ pub fn is_full(n: usize, own: &[u32], w: usize, operation: Operation) -> bool
 {
     match operation {
         Operation::Insert(_) => room::document_full(n, own, w),
-        Operation::Delete(_) => false,
+        Operation::Toggle(_) => false,
     }
 }
 

@@ -1,18 +1,18 @@
--- `delete_reception::receive_absent` looks for an equal delete, and defers it where there is none.
+-- `toggle_reception::receive_absent` looks for an equal toggle, and defers it where there is none.
 use native.Mathlib.Omega.{arith}
 use mathlib.Core.Path.{_≡_, sym, _∙_}
-use Rattle.woot.specs.declared.Operation.the-variants.{Delete as delete}
+use Rattle.woot.specs.declared.Operation.the-variants.{Toggle as toggle}
 use Rattle.woot.specs.State.{meaning}
 use Rattle.woot.specs.Calls.{duplicate}
 use Rattle.storage.proofs.Fullness.{full-replica}
 use Rattle.well_formed.proofs.Examining.{few}
-use Rattle.delete_reception.proofs.Deleting.{absent-found, absent-again, absent-new, absent-unready}
+use Rattle.toggle_reception.proofs.Toggling.{absent-found, absent-again, absent-new, absent-unready}
 use borrow.Author.Needs.{needs}
-use Rattle.delete_reception.proofs.receive_absent.Statement.{statement}
-use Rattle.delete_reception.proofs.receive_absent.Tie as tie
+use Rattle.toggle_reception.proofs.receive_absent.Statement.{statement}
+use Rattle.toggle_reception.proofs.receive_absent.Tie as tie
 
--- whether an equal delete is pending
-tested : (c : tie.After-is-pending) → let a = c .before .before .before .before .before .before .before .before .before .args in c .is-pending .result ≡ duplicate (meaning (a .replica)) (delete (a .delete))
+-- whether an equal toggle is pending
+tested : (c : tie.After-is-pending) → let a = c .before .before .before .before .before .before .before .before .before .args in c .is-pending .result ≡ duplicate (meaning (a .replica)) (toggle (a .toggle))
 tested c = let s = c .before .before .before .before .before .before .before .before .before in c .is-pending .ensures ∙ absent-found _ _ (s .pre .1) (full-replica (s .good .0)) _ (s .pre .0 .queue)
 
 is-pending-requires : tie.Need-is-pending-requires

@@ -1,28 +1,27 @@
--- `delete_reception::receive_delete` goes by the character that has the target.
+-- `toggle_reception::receive_toggle` goes by the character that has the target.
 use Prim.Native.Nat.{_<_}
 use native.Mathlib.Omega.{arith}
 use mathlib.Core.Path.{_≡_, sym, _∙_}
 use mathlib.Core.Bool.{true}
-use borrow.Author.Tests.{not-true, not-false}
 use Rattle.woot.specs.Ranges.{characterId}
 use Rattle.woot.specs.State.{meaning}
 use Rattle.storage.proofs.Fullness.{FullDocument, full-replica}
 use Rattle.storage.proofs.Stored.{form-counted}
 use Rattle.holder.proofs.Holders.{CharacterAt}
 use Rattle.well_formed.proofs.Examining.{few, stands-at, character-within, character-member, character-named, ids-used, examined-tabled}
-use Rattle.delete_reception.proofs.Deleting.{target-ranged, delete-again, delete-done}
+use Rattle.toggle_reception.proofs.Toggling.{target-ranged, toggle-again, toggle-done}
 use borrow.Author.Needs.{needs}
-use Rattle.delete_reception.proofs.receive_delete.Statement.{statement}
-use Rattle.delete_reception.proofs.receive_delete.Tie as tie
+use Rattle.toggle_reception.proofs.receive_toggle.Statement.{statement}
+use Rattle.toggle_reception.proofs.receive_toggle.Tie as tie
 
 full : (c : tie.Start) → FullDocument (c .args .replica .document)
 full c = full-replica (c .good .0)
 
-ranged : (c : tie.Start) → characterId (c .args .delete .target) ≡ true
+ranged : (c : tie.Start) → characterId (c .args .toggle .target) ≡ true
 ranged c = target-ranged _ (c .pre .1)
 
 -- the character at the index found
-at : (c : tie.After-known-told) → let a = c .before .before .before .before .before .before .before .before .before .before .before .before .before .before .before .args in CharacterAt (a .delete .target) (meaning (a .replica) .characters) (c .before .k .given .0 .0)
+at : (c : tie.After-known-told) → let a = c .before .before .before .before .before .before .before .before .before .before .before .before .before .before .before .args in CharacterAt (a .toggle .target) (meaning (a .replica) .characters) (c .before .k .given .0 .0)
 at c = let s = c .before .before .before .before .before .before .before .before .before .before .before .before .before .before .before in stands-at _ _ _ (full s) (s .pre .0) _ (ranged s) (rw (c .before .before .before .before .key .ensures .0) at (c .before .before .before .find-among .ensures)) (c .before .k .given .1)
 
 within : (c : tie.After-known-told) → c .before .k .given .0 .0 < 1024
@@ -50,22 +49,19 @@ mul-c c = omega (arith, within c)
 element-copy-out-c : tie.Need-element-copy-out-c
 element-copy-out-c c = within c
 
-is-visible-requires : tie.Need-is-visible-requires
-is-visible-requires c κs = search needs
-
 answered-requires : tie.Need-answered-requires
 answered-requires c κs = search needs
 
 returns : tie.Need-returns
 returns c =
-    let s = c .before .before .before .before .before .before .before .before .before .before .before .before .before .before .before .before .before .before .before in
-    let h = at (c .before .before .before .before) in
+    let s = c .before .before .before .before .before .before .before .before .before .before .before .before .before .before .before .before .before .before .before .before in
+    let h = at (c .before .before .before .before .before) in
     c .answered .ensures
-    ∙ sym (delete-again _ (s .pre .0 .form) _ (s .pre .1) _ (character-member _ _ _ (full s) (s .pre .0) _ (ranged s) _ h _) (character-named _ _ _ (full s) (s .pre .0) _ (ranged s) _ h _) (sym (c .before .before .is-visible .ensures) ∙ not-true _ (c .before .if1 .taken)))
+    ∙ sym (toggle-again _ (s .pre .0 .form) _ (s .pre .1) _ (character-member _ _ _ (full s) (s .pre .0) _ (ranged s) _ h _) (character-named _ _ _ (full s) (s .pre .0) _ (ranged s) _ h _) (c .before .if1 .taken))
 
-hidden-requires : tie.Need-hidden-requires
-hidden-requires c κs =
-    let s = c .before .before .before .before .before .before .before .before .before .before .before .before .before .before .before .before .before .before .before .before .before in
+toggled-requires : tie.Need-toggled-requires
+toggled-requires c κs =
+    let s = c .before .before .before .before .before .before .before .before .before .before .before .before .before .before .before .before .before .before .before .before .before .before in
     let n = few _ (s .pre .0 .form) in
     (form-counted _ (s .pre .0 .form), (omega arith, ids-used _ (s .pre .0 .form) (full s) _ (s .pre .0 .index)))
 
@@ -85,16 +81,16 @@ receive-absent-requires c κs =
 
 returns-2 : tie.Need-returns-2
 returns-2 c =
-    let s = c .before .before .before .before .before .before .before .before .before .before .before .before .before .before .before .before .before .before .before .before .before .before in
-    let h = at (c .before .before .before .before .before .before .before) in
-    rw (c .hidden .ensures)
-    (sym (delete-done _ (s .pre .0 .form) _ (s .pre .1) _ (character-member _ _ _ (full s) (s .pre .0) _ (ranged s) _ h _) (character-named _ _ _ (full s) (s .pre .0) _ (ranged s) _ h _) (sym (c .before .before .before .before .before .is-visible .ensures) ∙ not-false _ (c .before .before .before .before .if1 .left))))
+    let s = c .before .before .before .before .before .before .before .before .before .before .before .before .before .before .before .before .before .before .before .before .before .before .before in
+    let h = at (c .before .before .before .before .before .before .before .before) in
+    rw (c .toggled .ensures)
+    (sym (toggle-done _ (s .pre .0 .form) _ (s .pre .1) _ (character-member _ _ _ (full s) (s .pre .0) _ (ranged s) _ h _) (character-named _ _ _ (full s) (s .pre .0) _ (ranged s) _ h _) (c .before .before .before .before .if1 .left)))
 
 returns-3 : tie.Need-returns-3
 returns-3 c = search needs
 
-pub receive-delete-spec : {M : Type 1} → statement M
-receive-delete-spec =
+pub receive-toggle-spec : {M : Type 1} → statement M
+receive-toggle-spec =
     tie.close
     (tie.spec
     key-requires
@@ -102,10 +98,9 @@ receive-delete-spec =
     enum-known-k
     mul-c
     element-copy-out-c
-    is-visible-requires
     answered-requires
     returns
-    hidden-requires
+    toggled-requires
     enum-told
     receive-absent-requires
     returns-2
