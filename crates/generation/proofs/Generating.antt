@@ -1,39 +1,38 @@
--- What inserting and deleting here test and make is what the rules say.
+-- What inserting here tests and makes is what the rules say.
 use Prim.Native.Nat.{ℕ, _≤_, _<_}
 use mathlib.Core.Path.{_≡_, sym, _∙_}
 use mathlib.Core.Bool.{true, false}
 use mathlib.Core.List.{_∷_}
-use borrow.Author.Tests.{eq-eqb, ne-eqb, lt-ltb, le-ltb}
+use borrow.Author.Tests.{lt-ltb, le-ltb}
 use lib.Dec.{leb}
 use lib.ListN.{length, take, getD}
 use Rattle.woot.specs.declared.Identifier.{Identifier}
 use Rattle.woot.specs.declared.Site.{Site}
 use Rattle.woot.specs.declared.Insert.{Insert}
-use Rattle.woot.specs.declared.Operation.the-variants.{Insert as insert, Delete as delete}
+use Rattle.woot.specs.declared.Operation.the-variants.{Insert as insert}
 use Rattle.woot.specs.declared.Replica.{Replica}
 use Rattle.woot.specs.declared.Sent.the-variants.{Done as sentDone, Refused as sentRefused}
-use Rattle.woot.specs.declared.Refusal.the-variants.{Position, Unplaceable as placeless, DocumentFull}
+use Rattle.woot.specs.declared.Refusal.the-variants.{Unplaceable as placeless, DocumentFull}
 use Rattle.woot.specs.declared.Generated.{Generated}
 use Rattle.woot.specs.Limits.{capacity}
 use Rattle.woot.specs.Identifiers.{begin}
 use Rattle.woot.specs.State.{meaning, stored}
 use Rattle.woot.specs.Clock.{heard}
-use Rattle.woot.specs.Placing.{integrateInsert, integrateDelete}
+use Rattle.woot.specs.Placing.{integrateInsert}
 use Rattle.woot.specs.Pending.{unplaceable}
 use Rattle.woot.specs.Form.{presentInserts, replicaWellFormed}
-use Rattle.woot.specs.Calls.{visibles, withCharacters, afterDrain, insertCarried, documentFull, beyondVisible, notVisible, generatedDelete}
+use Rattle.woot.specs.Calls.{visibles, afterDrain, insertCarried, documentFull, beyondVisible}
 use Rattle.lists.proofs.Tests.{clash}
 use Rattle.convergence.proofs.Steps.{Addable, drained-still, space-insert}
 use Rattle.execution.specs.declared.Work.{Work}
 use Rattle.integration.specs.declared.Placement.the-variants.{Missing, Crossed, Unplaceable, Below}
-use Rattle.storage.specs.Replicas.{deleted}
 use Rattle.integration.specs.Placements.{placementOf}
 use Rattle.delivery.specs.Work.{finished, Placed}
 use Rattle.generation.specs.Sending.{Sendable, sentInsert}
 use Rattle.integration.proofs.Placements.{says}
 use Rattle.delivery.proofs.Carrying.{finished-integrated, finished-discarded, finished-stored, addable-placed}
 use Rattle.well_formed.proofs.Examining.{form}
-use Rattle.generation.proofs.Outcomes.{sent-placeless, sent-full, sent-done, delete-nowhere, delete-done}
+use Rattle.generation.proofs.Outcomes.{sent-placeless, sent-full, sent-done}
 
 -- whether there are so many visible characters, by their count
 module _ (r : Replica) (k g : ℕ) (e : k ≡ length (visibles (take (r .document .length) (r .document .characters)))) where
@@ -90,22 +89,3 @@ module _ (r : Replica) (i : Insert) (a : Sendable r i) where
           let cs = integrateInsert (meaning r .characters) i in
           rw (finished-integrated cs (meaning r .pending) e, finished-discarded cs (meaning r .pending) e, finished-stored cs (meaning r .pending) e t, f ∙ sym (drained-still (meaning r) i addable))
           (sym (sent-done r i placeable space))
-
--- ---- deleting
-
-module _ (r : Replica) (p : ℕ) (form : replicaWellFormed r ≡ true) where
-  pub delete-zero : p ≡ 0 → deleted r p ≡ record { answer = sentRefused Position; replica = r }
-  unfolding notVisible
-  delete-zero e = delete-nowhere r p form (rw (eq-eqb p 0 e))
-
-  module _ (later : p ≡ 0 → ⊥) where
-    pub delete-beyond : beyondVisible (meaning r) p ≡ true → deleted r p ≡ record { answer = sentRefused Position; replica = r }
-    unfolding notVisible
-    delete-beyond e = delete-nowhere r p form (rw (ne-eqb p 0 later, e))
-
-    pub delete-within : beyondVisible (meaning r) p ≡ false → (x : Identifier) (q : Replica)
-        → x ≡ getD (begin ∷ visibles (meaning r .characters)) p begin
-        → q ≡ stored (withCharacters (meaning r) (integrateDelete (meaning r .characters) (record { sender = r .site .number; target = x })))
-        → _≡_ {A = Generated} (record { answer = sentDone (delete (record { sender = r .site .number; target = x })) 1 0; replica = q }) (deleted r p)
-    unfolding notVisible generatedDelete meaning
-    delete-within e x q t h = rw (h, t) (sym (delete-done r p form (rw (ne-eqb p 0 later, e))))

@@ -1,12 +1,12 @@
--- What inserting and deleting here return, by the conditions of their lists: each law is for the condition that decides,
--- below those that do not hold.
+-- What inserting here returns, by the conditions of its list: each law is for the condition that decides, below those that
+-- do not hold.
 use Prim.Native.Nat.{ℕ, suc}
 use mathlib.Core.Path.{_≡_}
 use mathlib.Core.Bool.{true, false}
 use lib.Dec.{leb}
 use lib.ListN.{length}
 use Rattle.woot.specs.declared.Insert.{Insert}
-use Rattle.woot.specs.declared.Operation.the-variants.{Insert as insert, Delete as delete}
+use Rattle.woot.specs.declared.Operation.the-variants.{Insert as insert}
 use Rattle.woot.specs.declared.Replica.{Replica}
 use Rattle.woot.specs.declared.Refusal.{Refusal}
 use Rattle.woot.specs.declared.Refusal.the-variants.{Range, Form, Position, Clock, Unplaceable, DocumentFull}
@@ -15,17 +15,14 @@ use Rattle.woot.specs.declared.Generated.{Generated}
 use Rattle.woot.specs.Limits.{lastClock}
 use Rattle.woot.specs.Ranges.{codePoint}
 use Rattle.woot.specs.State.{meaning, stored}
-use Rattle.woot.specs.Placing.{integrateDelete}
 use Rattle.woot.specs.Pending.{unplaceable}
 use Rattle.woot.specs.Form.{replicaWellFormed}
 use Rattle.woot.specs.Answers.{decided}
-use Rattle.woot.specs.Calls.{unchanged, withCharacters, afterDrain, insertCarried, documentFull, generatedInsert, beyondVisible, insertChecks, carryOut, sendInsert, localInsertWhen, notVisible, deleteChecks, generatedDelete, sendDelete, localDeleteWhen}
+use Rattle.woot.specs.Calls.{unchanged, afterDrain, insertCarried, documentFull, generatedInsert, beyondVisible, insertChecks, carryOut, sendInsert, localInsertWhen}
 use Rattle.convergence.proofs.Steps.{formed-untaken}
 use Rattle.well_formed.proofs.Examining.{form as form-facts}
 use Rattle.generation.specs.Sending.{sendChecks, sentInsert}
-use Rattle.storage.specs.Replicas.{afterSent, generated, inserted, deleted}
-
--- ---- inserting
+use Rattle.storage.specs.Replicas.{afterSent, generated, inserted}
 
 module _ (r : Replica) (g n : ℕ) where
   -- the replica as it was, with a refusal
@@ -72,20 +69,3 @@ module _ (r : Replica) (i : Insert) where
         → sentInsert r i ≡ record { answer = sentDone (insert i) (suc (length (insertCarried (meaning r) i .integrated))) (length (insertCarried (meaning r) i .discarded)); replica = stored (afterDrain (meaning r) i (insertCarried (meaning r) i)) }
     unfolding sentInsert sendChecks generated afterSent decided sendInsert carryOut insertCarried
     sent-done e = rw (placed, e)
-
--- ---- deleting
-
-module _ (r : Replica) (p : ℕ) where
-  pub delete-unformed : replicaWellFormed r ≡ false → deleted r p ≡ record { answer = sentRefused Form; replica = r }
-  unfolding deleted generated afterSent localDeleteWhen deleteChecks decided unchanged
-  delete-unformed e = rw e
-
-  module _ (form : replicaWellFormed r ≡ true) where
-    pub delete-nowhere : notVisible (meaning r) p ≡ true → deleted r p ≡ record { answer = sentRefused Position; replica = r }
-    unfolding deleted generated afterSent localDeleteWhen deleteChecks decided unchanged
-    delete-nowhere e = rw (form, e)
-
-    module _ (visible : notVisible (meaning r) p ≡ false) where
-      pub delete-done : deleted r p ≡ record { answer = sentDone (delete (generatedDelete (meaning r) p)) 1 0; replica = stored (withCharacters (meaning r) (integrateDelete (meaning r .characters) (generatedDelete (meaning r) p))) }
-      unfolding deleted generated afterSent localDeleteWhen deleteChecks decided sendDelete carryOut
-      delete-done = rw (form, visible)

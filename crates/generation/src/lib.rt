@@ -1,10 +1,9 @@
-// Inserting and deleting here, on a replica that is well formed. (Document 01: typing and erasing.) The public
-// functions are steps of the calls and not calls: the calls have checked the range and the form.
+// Inserting here, on a replica that is well formed. (Document 01: typing.) The public functions are steps of the calls
+// and not calls: the calls have checked the range and the form.
 use index::Index;
 use integration::Placement;
 use pending::queue::Queue;
 use pending::room;
-use woot::Delete;
 use woot::Generated;
 use woot::Identifier;
 use woot::Insert;
@@ -14,17 +13,14 @@ use woot::Replica;
 use woot::Sent;
 ghost use mathlib.Core.Path.{_≡_};
 ghost use mathlib.Core.Bool.{true};
-ghost use Prim.Native.Nat.{_<_, _≤_};
-ghost use lib.ListN.{length, take};
+ghost use Prim.Native.Nat.{_<_};
 ghost use Rattle.woot.specs.declared.Sent.the-variants.{Refused as sentRefused};
 ghost use Rattle.woot.specs.Limits.{lastClock};
 ghost use Rattle.woot.specs.Ranges.{codePoint};
-ghost use Rattle.woot.specs.Table.{keys};
 ghost use Rattle.woot.specs.State.{meaning};
-ghost use Rattle.woot.specs.Form.{replicaWellFormed};
 ghost use Rattle.woot.specs.Calls.{generatedInsert};
 ghost use Rattle.integration.specs.declared.Placement.the-variants.{Below};
-ghost use Rattle.storage.specs.Replicas.{inserted, deleted};
+ghost use Rattle.storage.specs.Replicas.{inserted};
 ghost use Rattle.pending.specs.Queue.{queueOf};
 ghost use Rattle.integration.specs.Placements.{placementOf};
 ghost use Rattle.well_formed.specs.Examined.{Examined};
@@ -133,37 +129,4 @@ pub fn insert_visible(
     }
     let i = generated_insert(replica, point, code_point);
     send_placed(replica, index, queue, i)
-}
-
-// Deletes the visible character at the index, counted from 1. A step of the calls and not a call: they have checked the
-// replica, and lend the characters' keys.
-pub fn delete_visible(replica: Replica, ids: &[u32], index: usize) -> Generated
-    requires { ⌜ replicaWellFormed replica ≡ true ⌝ }
-    requires { ⌜ replica .document .length ≤ length (now ids) ⌝ }
-    requires { ⌜ take (replica .document .length) (now ids) ≡ keys (meaning replica .characters) ⌝ }
-    ensures { λ r. ⌜ r ≡ deleted replica index ⌝ }
-{
-    if index == 0 {
-        return refused(replica, Refusal::Position);
-    }
-    let d = replica.document;
-    let n = d.length;
-    let cs = d.characters;
-    if visible::count(cs, n) < index {
-        return refused(replica, Refusal::Position);
-    }
-    let target = visible::left(cs, n, index);
-    let site = replica.site;
-    let delete = Delete {
-        sender: site.number,
-        target,
-    };
-    Generated {
-        answer: Sent::Done {
-            operation: Operation::Delete(delete),
-            integrated: 1,
-            discarded: 0,
-        },
-        replica: storage::hidden(replica, ids, delete),
-    }
 }

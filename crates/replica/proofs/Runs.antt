@@ -23,16 +23,16 @@ use Rattle.index.proofs.Sound.{sound-tabled}
 use Rattle.lists.specs.Padding.{pad}
 use Rattle.woot.specs.Form.{wellFormed, replicaWellFormed}
 use Rattle.woot.specs.Answers.{answerOf}
-use Rattle.woot.specs.Calls.{Outcome, unchanged, receive, localInsert, localDelete}
-use Rattle.woot.specs.Histories.{Begun, empty, startOf, Call, inserting, deleting, receiving, outcome, run}
+use Rattle.woot.specs.Calls.{Outcome, unchanged, receive, localInsert, localDelete, localRestore}
+use Rattle.woot.specs.Histories.{Begun, empty, startOf, Call, inserting, deleting, restoring, receiving, outcome, run}
 use Rattle.lists.proofs.Tests.{either, clash}
 use Rattle.convergence.proofs.Forms.{formed, reformed}
 use Rattle.convergence.proofs.Shares.{pending-bound}
-use Rattle.convergence.proofs.Steps.{Step, turned, adds, removes, defers, step}
+use Rattle.convergence.proofs.Steps.{Step, turned, adds, raises, defers, step}
 use Rattle.convergence.proofs.Kept.{form-kept}
 use Rattle.convergence.proofs.Refusals.{refused-unchanged, known-unchanged}
 use Rattle.convergence.proofs.Convergence.{convergence}
-use Rattle.storage.specs.Replicas.{afterAnswer, afterSent, receipt, generated, received, inserted, deleted}
+use Rattle.storage.specs.Replicas.{afterAnswer, afterSent, receipt, generated, received, inserted, deleted, restored}
 use Rattle.replica.specs.Texts.{textOf}
 use Rattle.replica.specs.Theorems.{called, ran, ReplicasFollow, ReplicasConverge}
 
@@ -113,13 +113,16 @@ unfolding unchanged
 known-state s c e = ap (λ w. w .state) (known-unchanged s c e)
 
 pub called-stored : (s : State) (c : Call) → Within s → called (stored s) c ≡ stored (outcome s c .state)
-unfolding called received inserted deleted receipt generated outcome localInsert localDelete receive answerOf
+unfolding called received inserted deleted restored receipt generated outcome localInsert localDelete localRestore receive answerOf
 called-stored s (inserting g n) w =
     rw (form-stored s w, meaning-stored s)
     (sent-stored s (localInsert s g n .state) (localInsert s g n .answer) (λ r e. refused-state s (inserting g n) r (ap answerOf e)))
 called-stored s (deleting p) w =
     rw (form-stored s w, meaning-stored s)
     (sent-stored s (localDelete s p .state) (localDelete s p .answer) (λ r e. refused-state s (deleting p) r (ap answerOf e)))
+called-stored s (restoring x) w =
+    rw (form-stored s w, meaning-stored s)
+    (sent-stored s (localRestore s x .state) (localRestore s x .answer) (λ r e. refused-state s (restoring x) r (ap answerOf e)))
 called-stored s (receiving o) w =
     rw (form-stored s w, meaning-stored s)
     (answer-stored s (receive s o .state) (receive s o .answer) (known-state s (receiving o)) (refused-state s (receiving o)))
@@ -131,7 +134,7 @@ unformed-step : (s : State) {r : Outcome Answer} → Step s r → wellFormed s �
 unfolding unchanged
 unformed-step s (turned a w) h = refl
 unformed-step s (adds i a) h = clash (reformed s (a .formed)) h
-unformed-step s (removes d a) h = clash (reformed s (a .formed)) h
+unformed-step s (raises d a) h = clash (reformed s (a .formed)) h
 unformed-step s (defers o a) h = clash (reformed s (a .formed)) h
 
 pub within-kept : (s : State) (c : Call) → Within s → Within (outcome s c .state)
@@ -156,6 +159,6 @@ replicas-follow b cs = ran-stored (startOf b) cs (begun-within b)
 
 pub replicas-converge : ReplicasConverge
 unfolding textOf
-replicas-converge a b cs ds inserted deleted =
+replicas-converge a b cs ds inserted toggled =
     rw (replicas-follow a cs, replicas-follow b ds, meaning-stored (run (startOf a) cs), meaning-stored (run (startOf b) ds))
-    (convergence a b cs ds inserted deleted)
+    (convergence a b cs ds inserted toggled)

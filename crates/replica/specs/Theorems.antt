@@ -1,4 +1,5 @@
--- Demand 3 for replicas in memory: lists of the calls whose contracts cite `received`, `inserted` and `deleted`.
+-- Demand 3 for replicas in memory: lists of the calls whose contracts cite `received`, `inserted`, `deleted` and
+-- `restored`.
 use Prim.Native.Nat.{ℕ}
 use mathlib.Core.Path.{_≡_}
 use mathlib.Core.Bool.{true}
@@ -11,14 +12,15 @@ use Rattle.woot.specs.State.{initial, meaning, stored}
 use Rattle.woot.specs.Ranges.{siteNumber}
 use Rattle.woot.specs.Form.{replicaWellFormed}
 use Rattle.woot.specs.Answers.{changes, answerOf}
-use Rattle.woot.specs.Histories.{Call, Begun, startOf, inserting, deleting, receiving, run, historyOf, SameInserted, SameDeleted}
-use Rattle.storage.specs.Replicas.{received, inserted, deleted}
+use Rattle.woot.specs.Histories.{Call, Begun, startOf, inserting, deleting, restoring, receiving, run, historyOf, SameInserted, SameToggled}
+use Rattle.storage.specs.Replicas.{received, inserted, deleted, restored}
 use Rattle.replica.specs.Texts.{textOf}
 
--- the replica that a call returns: `replica::insert`, `replica::delete` and `replica::receive`
+-- the replica that a call returns: `replica::insert`, `replica::delete`, `replica::restore` and `replica::receive`
 unfoldable pub called : Replica → Call → Replica
 called r (inserting g n) = inserted r g n .replica
 called r (deleting p) = deleted r p .replica
+called r (restoring x) = restored r x .replica
 called r (receiving o) = received r o .replica
 
 -- "every call gets the sheet, record included, as the call before returned or left it"
@@ -30,6 +32,7 @@ ran r (c ∷ cs) = ran (called r c) cs
 unfoldable pub answerTo : Replica → Call → Answer
 answerTo r (inserting g n) = answerOf (inserted r g n .answer)
 answerTo r (deleting p) = answerOf (deleted r p .answer)
+answerTo r (restoring x) = answerOf (restored r x .answer)
 answerTo r (receiving o) = received r o .answer
 
 -- "every call keeps the form", of what runs: a replica in form comes back in form
@@ -52,10 +55,11 @@ ReplicasFollow = (b : Begun) (cs : List Call) → ran (stored (startOf b)) cs �
 abbrev pub InsertNeverTaken : Type 0
 InsertNeverTaken = (r : Replica) (g n : ℕ) → inserted r g n .answer ≡ sentRefused Taken → ⊥
 
--- demand 3: the same inserts carried out and the same characters deleted give equal characters and equal visible bytes
+-- demand 3: the same inserts carried out and for each the same largest count of toggles give equal characters and equal
+-- visible bytes
 abbrev pub ReplicasConverge : Type 0
 ReplicasConverge =
     (a b : Begun) (cs ds : List Call) →
-    SameInserted (historyOf a cs) (historyOf b ds) → SameDeleted (historyOf a cs) (historyOf b ds) →
+    SameInserted (historyOf a cs) (historyOf b ds) → SameToggled (historyOf a cs) (historyOf b ds) →
     (meaning (ran (stored (startOf a)) cs) .characters ≡ meaning (ran (stored (startOf b)) ds) .characters)
     × (textOf (ran (stored (startOf a)) cs) ≡ textOf (ran (stored (startOf b)) ds))

@@ -1,5 +1,6 @@
-// The calls on a replica: receiving, inserting, deleting, the check of its form and the visible text.
+// The calls on a replica: receiving, inserting, deleting, restoring, the check of its form and the visible text.
 use woot::Generated;
+use woot::Identifier;
 use woot::Operation;
 use woot::Receipt;
 use woot::Refusal;
@@ -7,7 +8,7 @@ use woot::Replica;
 use woot::Written;
 ghost use mathlib.Core.Path.{_≡_};
 ghost use Rattle.woot.specs.Form.{replicaWellFormed};
-ghost use Rattle.storage.specs.Replicas.{received, inserted, deleted};
+ghost use Rattle.storage.specs.Replicas.{received, inserted, deleted, restored};
 ghost use Rattle.replica.specs.Texts.{textWritten, textOut};
 
 // Whether a replica is well formed. (Document 01: in form.)
@@ -33,7 +34,7 @@ pub fn receive(replica: Replica, operation: Operation) -> Receipt
     let queue = checked.queue;
     match operation {
         Operation::Insert(i) => insert_reception::receive_insert(replica, index, queue, i),
-        Operation::Delete(d) => delete_reception::receive_delete(replica, index, queue, d),
+        Operation::Toggle(t) => toggle_reception::receive_toggle(replica, index, queue, t),
     }
 }
 
@@ -54,16 +55,35 @@ pub fn insert(replica: Replica, point: usize, code_point: u32) -> Generated
     generation::insert_visible(replica, index, queue, point, code_point)
 }
 
-// Deletes the visible character at the index, counted from 1, and answers the operation to be sent. (Document 01:
+// Deletes the visible character at the place, counted from 1, and answers the operation to be sent. (Document 01:
 // erasing.)
-pub fn delete(replica: Replica, index: usize) -> Generated
-    ensures { λ r. ⌜ r ≡ deleted replica index ⌝ }
+pub fn delete(replica: Replica, place: usize) -> Generated
+    ensures { λ r. ⌜ r ≡ deleted replica place ⌝ }
 {
     let checked = well_formed::check(replica);
     if !checked.formed {
         return generation::refused(replica, Refusal::Form);
     }
-    generation::delete_visible(replica, &checked.index.ids, index)
+    let index = checked.index;
+    let queue = checked.queue;
+    toggle_generation::delete_visible(replica, index, queue, place)
+}
+
+// Restores the hidden character with the identifier, and answers the operation to be sent. (Document 02, Req 05:
+// restoring.)
+pub fn restore(replica: Replica, id: Identifier) -> Generated
+    ensures { λ r. ⌜ r ≡ restored replica id ⌝ }
+{
+    if !ranges::character_id(id) {
+        return generation::refused(replica, Refusal::Range);
+    }
+    let checked = well_formed::check(replica);
+    if !checked.formed {
+        return generation::refused(replica, Refusal::Form);
+    }
+    let index = checked.index;
+    let queue = checked.queue;
+    toggle_generation::restore_hidden(replica, index, queue, id)
 }
 
 // The visible text of a replica as UTF-8 into the slice: its length, or refusal 3 or 12, and then no byte is changed.

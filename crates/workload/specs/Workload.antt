@@ -7,7 +7,7 @@ use lib.Dec.{eqb, ltb}
 use Rattle.woot.specs.declared.Identifier.{Identifier}
 use Rattle.woot.specs.declared.Replica.{Replica}
 use Rattle.woot.specs.declared.Operation.{Operation}
-use Rattle.woot.specs.declared.Operation.the-variants.{Insert, Delete}
+use Rattle.woot.specs.declared.Operation.the-variants.{Insert, Toggle}
 use Rattle.woot.specs.declared.Answer.{Answer}
 use Rattle.woot.specs.declared.Answer.the-variants.{Done, Deferred, Duplicate, Refused}
 use Rattle.woot.specs.Identifiers.{begin, end}
@@ -28,8 +28,9 @@ unfoldable pub insertOf : ℕ → Operation
 insertOf k =
     Insert (record { id = identifierOf k; «code_point» = 97 + k % 26; previous = previousOf k; next = end })
 
+-- the first toggle of the k-th character, from the site that typed it
 unfoldable pub deleteOf : ℕ → Operation
-deleteOf k = Delete (record { sender = k % 16 + 1; target = identifierOf k })
+deleteOf k = Toggle (record { sender = k % 16 + 1; target = identifierOf k; toggles = 1 })
 
 -- the k-th operation on n characters, from 0: their inserts, and then their deletes
 unfoldable pub operationOf : ℕ → ℕ → Operation

@@ -1,11 +1,11 @@
 // The operations that bench/ times, received on an empty replica: inserts of sixteen sites in turn, and then a delete
 // of each character.
 use woot::Answer;
-use woot::Delete;
 use woot::Identifier;
 use woot::Insert;
 use woot::Operation;
 use woot::Replica;
+use woot::Toggle;
 ghost use mathlib.Core.Path.{_≡_};
 ghost use Prim.Native.Nat.{_+_, _≤_, _<_, min};
 ghost use Rattle.workload.specs.Workload.{
@@ -50,14 +50,15 @@ fn insert(k: u16) -> Operation
     })
 }
 
-// The delete of the k-th character.
+// The delete of the k-th character: its first toggle.
 fn delete(k: u16) -> Operation
     requires { ⌜ k < 1024 ⌝ }
     ensures { λ r. ⌜ r ≡ deleteOf k ⌝ }
 {
-    Operation::Delete(Delete {
+    Operation::Toggle(Toggle {
         sender: (k % 16 + 1) as u8,
         target: identifier(k),
+        toggles: 1,
     })
 }
 

@@ -47,15 +47,15 @@ receive-insert-requires c κs = (examined (c .before .before .before .before .be
 enum-known-operation-2 : tie.Need-enum-known-operation-2
 enum-known-operation-2 c = search needs
 
-receive-delete-requires : tie.Need-receive-delete-requires
+receive-toggle-requires : tie.Need-receive-toggle-requires
 unfolding inRange
-receive-delete-requires c κs = (examined (c .before .before .before .before .before), rw (c .before .operation2 .given .1) at (ranged (c .before .before .before .before .before .before)))
+receive-toggle-requires c κs = (examined (c .before .before .before .before .before), rw (c .before .operation2 .given .1) at (ranged (c .before .before .before .before .before .before)))
 
 returns-3 : tie.Need-returns-3
 returns-3 c = rw (c .before .before .operation .given .1) (c .receive-insert .ensures)
 
 returns-4 : tie.Need-returns-4
-returns-4 c = rw (c .before .before .operation2 .given .1) (c .receive-delete .ensures)
+returns-4 c = rw (c .before .before .operation2 .given .1) (c .receive-toggle .ensures)
 
 pub receive-spec : {M : Type 1} → statement M
 receive-spec =
@@ -70,6 +70,6 @@ receive-spec =
     enum-known-operation
     receive-insert-requires
     enum-known-operation-2
-    receive-delete-requires
+    receive-toggle-requires
     returns-3
     returns-4)
