@@ -11,7 +11,7 @@ use borrow.Author.Tests.{ne-eqb}
 use Rattle.output.specs.Output.{placed, past}
 use Rattle.output.proofs.Laws.{placed-short, past-room, past-short, length-placed}
 use Rattle.woot.specs.declared.Operation.{Operation}
-use Rattle.woot.specs.declared.Operation.the-variants.{Insert as insert, Delete as delete}
+use Rattle.woot.specs.declared.Operation.the-variants.{Insert as insert, Toggle as toggle}
 use Rattle.woot.specs.declared.Refusal.the-variants.{Range, Output}
 use Rattle.woot.specs.declared.Written.{Written}
 use Rattle.woot.specs.declared.Written.the-variants.{Length, Refused as writtenRefused}
@@ -25,7 +25,7 @@ use Rattle.lines.specs.Lines.{ended, firstLine}
 use Rattle.lines.specs.Fields.{fields}
 use Rattle.lines.specs.Answers.{roomFor}
 use Rattle.lines.proofs.Writing.{line-some, until-tells, short-tells}
-use Rattle.codec.specs.Operations.{insertHead, deleteHead, insertNumbers, deleteNumbers, operationOf, operationLine}
+use Rattle.codec.specs.Operations.{insertHead, toggleHead, insertNumbers, toggleNumbers, operationOf, operationLine}
 use Rattle.codec.specs.Calls.{lineLaidOut, laidOut, readAs, saidBy, readLine, readOperation, writeChecks, written, writtenOut}
 use Rattle.codec.proofs.Judging.{read-layout}
 use Rattle.codec.proofs.Letters.{empty-line}
@@ -46,7 +46,7 @@ by-first s = go (ended s)
 pub operation-some : (o : Operation) → 1 ≤ length (operationLine o)
 unfolding operationLine
 operation-some (insert i) = line-some insertHead (insertNumbers i)
-operation-some (delete d) = line-some deleteHead (deleteNumbers d)
+operation-some (toggle d) = line-some toggleHead (toggleNumbers d)
 
 -- ---- bytes at the front of a slice, all or none
 

@@ -9,15 +9,16 @@ use lib.Dec.{leb}
 use borrow.Author.Tests.{leb-true}
 use Rattle.woot.specs.declared.Identifier.{Identifier}
 use Rattle.woot.specs.declared.Insert.{Insert}
-use Rattle.woot.specs.declared.Delete.{Delete}
-use Rattle.woot.specs.declared.Operation.the-variants.{Insert as insert, Delete as delete}
-use Rattle.woot.specs.Limits.{lastSite, lastClock, lastCodePoint, firstSurrogate, lastSurrogate}
+use Rattle.woot.specs.declared.Toggle.{Toggle}
+use Rattle.woot.specs.declared.Operation.the-variants.{Insert as insert, Toggle as toggle}
+use Rattle.woot.specs.Limits.{lastSite, lastClock, lastCodePoint, firstSurrogate, lastSurrogate, lastToggles}
 use Rattle.woot.specs.Identifiers.{begin, end, same}
-use Rattle.woot.specs.Ranges.{within, siteNumber, codePoint, characterId, previousId, nextId, insertInRange, deleteInRange, inRange}
+use Rattle.woot.specs.Ranges.{within, siteNumber, codePoint, characterId, previousId, nextId, insertInRange, toggleInRange, inRange}
 use Rattle.lists.proofs.Tests.{and-left, and-right, or-cases}
 use Rattle.convergence.proofs.Identifiers.{same-eq}
+use Rattle.convergence.proofs.Ranges.{toggle-in-range}
 use Rattle.lines.specs.Fields.{atMost}
-use Rattle.codec.specs.Operations.{insertLimits, deleteLimits, identifierAt, insertOf, deleteOf}
+use Rattle.codec.specs.Operations.{insertLimits, toggleLimits, deleteLimits, identifierAt, insertOf, toggleOf, deleteOf}
 use Rattle.lines.proofs.Values.{at-most-from}
 
 upper : (low high n : ℕ) → within low high n ≡ true → n ≤ high
@@ -59,9 +60,10 @@ pub record InsertBounds (i : Insert) : Type 0 where
   pub previous-bounds : Bounded (i .previous)
   pub next-bounds : Bounded (i .next)
 
-pub record DeleteBounds (d : Delete) : Type 0 where
+pub record ToggleBounds (d : Toggle) : Type 0 where
   pub sender-bound : d .sender ≤ lastSite
   pub target-bounds : Bounded (d .target)
+  pub toggles-bound : d .toggles ≤ lastToggles
 
 pub insert-bounds : (i : Insert) → insertInRange i ≡ true → InsertBounds i
 unfolding insertInRange previousId nextId
@@ -79,12 +81,14 @@ insert-bounds i e =
       next-bounds = neighbour-bounds (i .next) end (record { site-le = omega arith; clock-le = omega arith }) (and-right (p && q && r) s four);
     }
 
-pub delete-bounds : (d : Delete) → deleteInRange d ≡ true → DeleteBounds d
-unfolding deleteInRange
-delete-bounds d e = record {
-  sender-bound = site-bound (d .sender) (and-left (siteNumber (d .sender)) (characterId (d .target)) e);
-  target-bounds = character-bounds (d .target) (and-right (siteNumber (d .sender)) (characterId (d .target)) e);
-}
+pub toggle-bounds : (d : Toggle) → toggleInRange d ≡ true → ToggleBounds d
+toggle-bounds d e =
+    let r = toggle-in-range d e in
+    record {
+      sender-bound = site-bound (d .sender) (r .sender);
+      target-bounds = character-bounds (d .target) (r .target);
+      toggles-bound = r .most;
+    }
 
 -- so numbers that say an operation in range are within the limits of its line
 pub insert-at-most : (ns : List ℕ) → inRange (insert (insertOf ns)) ≡ true → atMost insertLimits ns ≡ true
@@ -98,9 +102,17 @@ insert-at-most ns e =
     (at-most-from 4 insertLimits ns (b .previous-bounds .clock-le)
     (at-most-from 5 insertLimits ns (b .next-bounds .site-le) (at-most-from 6 insertLimits ns (b .next-bounds .clock-le) refl))))))
 
-pub delete-at-most : (ns : List ℕ) → inRange (delete (deleteOf ns)) ≡ true → atMost deleteLimits ns ≡ true
+pub toggle-at-most : (ns : List ℕ) → inRange (toggle (toggleOf ns)) ≡ true → atMost toggleLimits ns ≡ true
+unfolding inRange toggleOf identifierAt
+toggle-at-most ns e =
+    let b = toggle-bounds (toggleOf ns) e in
+    at-most-from 0 toggleLimits ns (b .sender-bound)
+    (at-most-from 1 toggleLimits ns (b .target-bounds .site-le)
+    (at-most-from 2 toggleLimits ns (b .target-bounds .clock-le) (at-most-from 3 toggleLimits ns (b .toggles-bound) refl)))
+
+pub delete-at-most : (ns : List ℕ) → inRange (toggle (deleteOf ns)) ≡ true → atMost deleteLimits ns ≡ true
 unfolding inRange deleteOf identifierAt
 delete-at-most ns e =
-    let b = delete-bounds (deleteOf ns) e in
+    let b = toggle-bounds (deleteOf ns) e in
     at-most-from 0 deleteLimits ns (b .sender-bound)
     (at-most-from 1 deleteLimits ns (b .target-bounds .site-le) (at-most-from 2 deleteLimits ns (b .target-bounds .clock-le) refl))

@@ -1,4 +1,4 @@
--- From the verdict on the numbers of a line to what the line is read as: one argument for both kinds of line, over the
+-- From the verdict on the numbers of a line to what the line is read as: one argument for every kind of line, over the
 -- operation that numbers say and over their limits.
 use mathlib.Core.Path.{_≡_, refl, sym, ap, _∙_}
 use mathlib.Core.List.{List, _++_}
@@ -6,7 +6,7 @@ use mathlib.Core.Bool.{Bool, true, false, cond}
 use Prim.Native.Nat.{ℕ, _+_}
 use lib.ListN.{replicate}
 use Rattle.woot.specs.declared.Operation.{Operation}
-use Rattle.woot.specs.declared.Operation.the-variants.{Insert as insert, Delete as delete}
+use Rattle.woot.specs.declared.Operation.the-variants.{Insert as insert, Toggle as toggle}
 use Rattle.woot.specs.declared.Refusal.the-variants.{Layout, Range}
 use Rattle.woot.specs.Answers.{decided}
 use Rattle.woot.specs.Ranges.{inRange}
@@ -19,7 +19,7 @@ use Rattle.lines.proofs.Values.{at-padded}
 use Rattle.lines.proofs.Verdicts.{verdict-says}
 use Rattle.codec.specs.declared.Read.{Read}
 use Rattle.codec.specs.declared.Read.the-variants.{Operation as readsAs, Refused as readRefused}
-use Rattle.codec.specs.Operations.{identifierAt, insertOf, deleteOf}
+use Rattle.codec.specs.Operations.{identifierAt, insertOf, toggleOf, deleteOf}
 use Rattle.codec.specs.Calls.{readChecks, readAs}
 
 -- ---- the answers, by their conditions
@@ -65,6 +65,10 @@ insert-padded m ns = λ j. insert (record {
   next = identifier-padded 5 m ns j;
 })
 
-pub delete-padded : (m : ℕ) (ns : List ℕ) → delete (deleteOf (ns ++ replicate m 0)) ≡ delete (deleteOf ns)
+pub toggle-padded : (m : ℕ) (ns : List ℕ) → toggle (toggleOf (ns ++ replicate m 0)) ≡ toggle (toggleOf ns)
+unfolding toggleOf
+toggle-padded m ns = λ j. toggle (record { sender = at-padded m ns 0 j; target = identifier-padded 1 m ns j; toggles = at-padded m ns 3 j })
+
+pub delete-padded : (m : ℕ) (ns : List ℕ) → toggle (deleteOf (ns ++ replicate m 0)) ≡ toggle (deleteOf ns)
 unfolding deleteOf
-delete-padded m ns = λ j. delete (record { sender = at-padded m ns 0 j; target = identifier-padded 1 m ns j })
+delete-padded m ns = λ j. toggle (record { sender = at-padded m ns 0 j; target = identifier-padded 1 m ns j; toggles = 1 })

@@ -5,36 +5,61 @@ use mathlib.Core.Bool.{Bool, true, false, _||_, cond}
 use Prim.Native.Nat.{ℕ}
 use lib.ListN.{getD}
 use borrow.Author.Tests.{eqb-false}
-use Rattle.woot.specs.declared.Operation.the-variants.{Insert as insert, Delete as delete}
+use Rattle.woot.specs.declared.Toggle.{Toggle}
+use Rattle.woot.specs.declared.Operation.the-variants.{Insert as insert, Toggle as toggle}
 use Rattle.woot.specs.declared.Refusal.the-variants.{Layout}
 use Rattle.lines.specs.Fields.{fields, hasLayout, valuesOf}
 use Rattle.lines.proofs.Spelling.{other-letter}
 use Rattle.codec.specs.declared.Read.the-variants.{Refused as readRefused}
-use Rattle.codec.specs.Operations.{insertHead, deleteHead, insertOf, deleteOf, isInsert, isDelete, operationOf}
-use Rattle.codec.specs.Calls.{lineLaidOut, readAs, readLine}
+use Rattle.codec.specs.Operations.{insertHead, toggleHead, deleteHead, insertOf, toggleOf, deleteOf, isInsert, isToggle, isDelete, operationOf}
+use Rattle.codec.specs.Calls.{asWritten, lineLaidOut, readAs, readWritten, readLine}
 use Rattle.codec.proofs.Judging.{read-layout}
 
 pub empty-line : readLine [] ≡ readRefused Layout
-unfolding readLine lineLaidOut isInsert isDelete hasLayout
+unfolding readLine lineLaidOut asWritten isInsert isToggle isDelete hasLayout
 empty-line = read-layout _
+
+pub empty-written : readWritten [] ≡ readRefused Layout
+unfolding readWritten asWritten isInsert isToggle hasLayout
+empty-written = read-layout _
 
 module _ (line : List ℕ) where
   no-insert : (getD line 0 0 ≡ 73 → ⊥) → isInsert (fields line) ≡ false
   unfolding isInsert
   no-insert h = other-letter 73 7 line h
 
+  no-toggle : (getD line 0 0 ≡ 69 → ⊥) → isToggle (fields line) ≡ false
+  unfolding isToggle
+  no-toggle h = other-letter 69 4 line h
+
   no-delete : (getD line 0 0 ≡ 68 → ⊥) → isDelete (fields line) ≡ false
   unfolding isDelete
   no-delete h = other-letter 68 3 line h
 
-  pub insert-line : getD line 0 0 ≡ 73 → readAs (isInsert (fields line)) (insert (insertOf (valuesOf (fields line)))) ≡ readLine line
-  unfolding readLine lineLaidOut operationOf
-  insert-line e = rw (no-delete (λ q. eqb-false 73 68 refl (sym e ∙ q))) (go (isInsert (fields line)))
+  pub insert-line : getD line 0 0 ≡ 73 → readAs (isInsert (fields line)) (insert (insertOf (valuesOf (fields line)))) ≡ readWritten line
+  unfolding readWritten asWritten operationOf
+  insert-line e = rw (no-toggle (λ q. eqb-false 73 69 refl (sym e ∙ q))) (go (isInsert (fields line)) _)
     where
-      go : (t : Bool) → readAs t (insert (insertOf (valuesOf (fields line)))) ≡ readAs (t || false) (cond t (insert (insertOf (valuesOf (fields line)))) (delete (deleteOf (valuesOf (fields line)))))
+      go : (t : Bool) (u : Toggle) → readAs t (insert (insertOf (valuesOf (fields line)))) ≡ readAs (t || false) (cond t (insert (insertOf (valuesOf (fields line)))) (toggle u))
+      go true u = refl
+      go false u = read-layout _ ∙ sym (read-layout _)
+
+  pub toggle-line : (getD line 0 0 ≡ 73 → ⊥) → readAs (isToggle (fields line)) (toggle (toggleOf (valuesOf (fields line)))) ≡ readWritten line
+  unfolding readWritten asWritten operationOf
+  toggle-line h = rw (no-insert h) (go (isToggle (fields line)))
+    where
+      go : (t : Bool) → readAs t (toggle (toggleOf (valuesOf (fields line)))) ≡ readAs t (toggle (cond t (toggleOf (valuesOf (fields line))) (deleteOf (valuesOf (fields line)))))
       go true = refl
       go false = read-layout _ ∙ sym (read-layout _)
 
-  pub delete-line : (getD line 0 0 ≡ 73 → ⊥) → readAs (isDelete (fields line)) (delete (deleteOf (valuesOf (fields line)))) ≡ readLine line
-  unfolding readLine lineLaidOut operationOf
-  delete-line h = rw (no-insert h)
+  pub delete-line : getD line 0 0 ≡ 68 → readAs (isDelete (fields line)) (toggle (deleteOf (valuesOf (fields line)))) ≡ readLine line
+  unfolding readLine lineLaidOut asWritten operationOf
+  delete-line e = rw (no-insert (λ q. eqb-false 68 73 refl (sym e ∙ q)), no-toggle (λ q. eqb-false 68 69 refl (sym e ∙ q)))
+
+  pub written-line : (getD line 0 0 ≡ 68 → ⊥) → readWritten line ≡ readLine line
+  unfolding readWritten readLine lineLaidOut
+  written-line h = rw (no-delete h) (go (asWritten line))
+    where
+      go : (t : Bool) → readAs t (operationOf (fields line)) ≡ readAs (t || false) (operationOf (fields line))
+      go true = refl
+      go false = refl

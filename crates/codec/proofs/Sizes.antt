@@ -2,37 +2,37 @@
 use mathlib.Core.Path.{_≡_, refl}
 use native.Mathlib.Omega.{arith}
 use lib.ListN.{length}
-use Rattle.woot.specs.declared.Operation.the-variants.{Insert as insert, Delete as delete}
+use Rattle.woot.specs.declared.Operation.the-variants.{Insert as insert, Toggle as toggle}
 use Rattle.woot.specs.Identifiers.{same}
-use Rattle.woot.specs.Ranges.{inRange, insertInRange, deleteInRange, characterId, previousId, nextId, siteNumber, codePoint, within}
+use Rattle.woot.specs.Ranges.{inRange, insertInRange, toggleInRange, characterId, previousId, nextId, siteNumber, codePoint, within}
 use Rattle.decimal.specs.Numeral.{digitsIn, digits}
 use Rattle.lines.specs.Fields.{lineOf}
 use Rattle.lines.proofs.Sizes.{line-le, line-bytes as bytes-of-line}
-use Rattle.codec.specs.Operations.{insertHead, deleteHead, insertNumbers, insertLimits, deleteNumbers, deleteLimits, identifierAt, insertOf, deleteOf, operationLine}
+use Rattle.codec.specs.Operations.{insertHead, toggleHead, insertNumbers, insertLimits, toggleNumbers, toggleLimits, identifierAt, insertOf, toggleOf, operationLine}
 use Rattle.codec.specs.Theorems.{LineLengths, LongestLines, LineBytes}
-use Rattle.codec.proofs.Bounds.{insert-at-most, delete-at-most}
+use Rattle.codec.proofs.Bounds.{insert-at-most, toggle-at-most}
 
 -- the lines of the limits
 insert-limits : length (lineOf insertHead insertLimits) ≡ 37
 unfolding lineOf digits digitsIn
 insert-limits = refl
 
-delete-limits : length (lineOf deleteHead deleteLimits) ≡ 14
+toggle-limits : length (lineOf toggleHead toggleLimits) ≡ 18
 unfolding lineOf digits digitsIn
-delete-limits = refl
+toggle-limits = refl
 
 pub line-lengths : LineLengths
-unfolding operationLine insertNumbers insertOf deleteNumbers deleteOf identifierAt
+unfolding operationLine insertNumbers insertOf toggleNumbers toggleOf identifierAt
 line-lengths = (
   λ i e. rw insert-limits at (line-le insertHead insertLimits (insertNumbers i) (omega arith) (insert-at-most (insertNumbers i) e)),
-  λ d e. rw delete-limits at (line-le deleteHead deleteLimits (deleteNumbers d) (omega arith) (delete-at-most (deleteNumbers d) e)),
+  λ d e. rw toggle-limits at (line-le toggleHead toggleLimits (toggleNumbers d) (omega arith) (toggle-at-most (toggleNumbers d) e)),
 )
 
 pub longest-lines : LongestLines
-unfolding inRange insertInRange deleteInRange characterId previousId nextId siteNumber codePoint within same operationLine lineOf insertNumbers deleteNumbers digits digitsIn
+unfolding inRange insertInRange toggleInRange characterId previousId nextId siteNumber codePoint within same operationLine lineOf insertNumbers toggleNumbers digits digitsIn
 longest-lines = ((refl, refl), (refl, refl))
 
 pub line-bytes : LineBytes
 unfolding operationLine
 line-bytes (insert i) k h = bytes-of-line insertHead (insertNumbers i) refl refl k h
-line-bytes (delete d) k h = bytes-of-line deleteHead (deleteNumbers d) refl refl k h
+line-bytes (toggle d) k h = bytes-of-line toggleHead (toggleNumbers d) refl refl k h

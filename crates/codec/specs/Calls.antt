@@ -15,13 +15,17 @@ use Rattle.woot.specs.declared.Written.{Written}
 use Rattle.woot.specs.declared.Written.the-variants.{Refused as writtenRefused}
 use Rattle.lines.specs.Lines.{ended, firstLine}
 use Rattle.lines.specs.Fields.{fields}
-use Rattle.codec.specs.Operations.{isInsert, isDelete, operationOf, operationLine}
+use Rattle.codec.specs.Operations.{isInsert, isToggle, isDelete, operationOf, operationLine}
 
 -- ---- reading
 
--- the fields are those of an insert or of a delete
+-- the fields are those of an insert or of a toggle, as these are written
+unfoldable pub asWritten : List ℕ → Bool
+asWritten line = isInsert (fields line) || isToggle (fields line)
+
+-- or those of a delete, which is read alone
 unfoldable pub lineLaidOut : List ℕ → Bool
-lineLaidOut line = isInsert (fields line) || isDelete (fields line)
+lineLaidOut line = asWritten line || isDelete (fields line)
 
 -- condition 1: a line "lacks the layout"; a first line that no line feed ends lacks it too
 unfoldable pub laidOut : List ℕ → Bool
@@ -37,6 +41,10 @@ readAs laid o = decided (λ a. a) (first (readChecks laid o)) (readsAs o)
 -- what a line without its line feed is read as
 unfoldable pub readLine : List ℕ → Read
 readLine line = readAs (lineLaidOut line) (operationOf (fields line))
+
+-- the same, of a line as it is written
+unfoldable pub readWritten : List ℕ → Read
+readWritten line = readAs (asWritten line) (operationOf (fields line))
 
 -- the operation that the first line of the bytes says
 unfoldable pub saidBy : List ℕ → Operation

@@ -5,17 +5,21 @@ use mathlib.Core.Bool.{Bool, cond}
 use lib.ListN.{getD}
 use Rattle.woot.specs.declared.Identifier.{Identifier}
 use Rattle.woot.specs.declared.Insert.{Insert}
-use Rattle.woot.specs.declared.Delete.{Delete}
+use Rattle.woot.specs.declared.Toggle.{Toggle}
 use Rattle.woot.specs.declared.Operation.{Operation}
-use Rattle.woot.specs.declared.Operation.the-variants.{Insert as insert, Delete as delete}
-use Rattle.woot.specs.Limits.{lastSite, lastClock, lastCodePoint}
+use Rattle.woot.specs.declared.Operation.the-variants.{Insert as insert, Toggle as toggle}
+use Rattle.woot.specs.Limits.{lastSite, lastClock, lastCodePoint, lastToggles}
 use Rattle.lines.specs.Fields.{hasLayout, valuesOf, lineOf}
 
 -- `I`
 abbrev pub insertHead : List ℕ
 insertHead = 73 ∷ []
 
--- `D`
+-- document 02, Req 05: `E`
+abbrev pub toggleHead : List ℕ
+toggleHead = 69 ∷ []
+
+-- `D`, which "is written no more"
 abbrev pub deleteHead : List ℕ
 deleteHead = 68 ∷ []
 
@@ -28,11 +32,15 @@ insertNumbers i =
 abbrev pub insertLimits : List ℕ
 insertLimits = lastSite ∷ lastClock ∷ lastCodePoint ∷ lastSite ∷ lastClock ∷ lastSite ∷ lastClock ∷ []
 
--- "sender laptop clock"
-unfoldable pub deleteNumbers : Delete → List ℕ
-deleteNumbers d = d .sender ∷ d .target .site ∷ d .target .clock ∷ []
+-- "sender laptop clock turn"
+unfoldable pub toggleNumbers : Toggle → List ℕ
+toggleNumbers t = t .sender ∷ t .target .site ∷ t .target .clock ∷ t .toggles ∷ []
 
 -- the limits of those numbers
+abbrev pub toggleLimits : List ℕ
+toggleLimits = lastSite ∷ lastSite ∷ lastClock ∷ lastToggles ∷ []
+
+-- the limits of "sender laptop clock"
 abbrev pub deleteLimits : List ℕ
 deleteLimits = lastSite ∷ lastSite ∷ lastClock ∷ []
 
@@ -45,21 +53,30 @@ unfoldable pub insertOf : List ℕ → Insert
 insertOf ns =
     record { id = identifierAt 0 ns; «code_point» = getD ns 2 0; previous = identifierAt 3 ns; next = identifierAt 5 ns }
 
--- what the numbers of a delete's line say
-unfoldable pub deleteOf : List ℕ → Delete
-deleteOf ns = record { sender = getD ns 0 0; target = identifierAt 1 ns }
+-- what the numbers of a toggle's line say
+unfoldable pub toggleOf : List ℕ → Toggle
+toggleOf ns = record { sender = getD ns 0 0; target = identifierAt 1 ns; toggles = getD ns 3 0 }
+
+-- "a `D` line is read as turn 1"
+unfoldable pub deleteOf : List ℕ → Toggle
+deleteOf ns = record { sender = getD ns 0 0; target = identifierAt 1 ns; toggles = 1 }
 
 unfoldable pub isInsert : List (List ℕ) → Bool
 isInsert fs = hasLayout insertHead 7 fs
+
+unfoldable pub isToggle : List (List ℕ) → Bool
+isToggle fs = hasLayout toggleHead 4 fs
 
 unfoldable pub isDelete : List (List ℕ) → Bool
 isDelete fs = hasLayout deleteHead 3 fs
 
 -- the operation that fields with the layout say, whatever numbers they have
 unfoldable pub operationOf : List (List ℕ) → Operation
-operationOf fs = cond (isInsert fs) (insert (insertOf (valuesOf fs))) (delete (deleteOf (valuesOf fs)))
+operationOf fs =
+    cond (isInsert fs) (insert (insertOf (valuesOf fs)))
+    (toggle (cond (isToggle fs) (toggleOf (valuesOf fs)) (deleteOf (valuesOf fs))))
 
 -- the line of an operation, with its line feed
 unfoldable pub operationLine : Operation → List ℕ
 operationLine (insert i) = lineOf insertHead (insertNumbers i)
-operationLine (delete d) = lineOf deleteHead (deleteNumbers d)
+operationLine (toggle t) = lineOf toggleHead (toggleNumbers t)

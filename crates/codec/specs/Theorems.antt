@@ -3,21 +3,23 @@ use Prim.Native.Nat.{ℕ, suc, _≤_, _<_}
 use mathlib.Core.Path.{_≡_}
 use mathlib.Core.Logic.{_↔_}
 use mathlib.Core.Bool.{true, false}
-use mathlib.Core.List.{List, _++_}
+use mathlib.Core.List.{List, [], _∷_, _++_}
 use mathlib.Core.Option.{some}
 use lib.ListN.{length, getD}
+use Rattle.woot.specs.declared.Identifier.{Identifier}
 use Rattle.woot.specs.declared.Insert.{Insert}
-use Rattle.woot.specs.declared.Delete.{Delete}
+use Rattle.woot.specs.declared.Toggle.{Toggle}
 use Rattle.woot.specs.declared.Operation.{Operation}
-use Rattle.woot.specs.declared.Operation.the-variants.{Insert as insert, Delete as delete}
+use Rattle.woot.specs.declared.Operation.the-variants.{Insert as insert, Toggle as toggle}
 use Rattle.woot.specs.declared.Refusal.{Refusal}
 use Rattle.woot.specs.Answers.{Reported}
 use Rattle.woot.specs.Ranges.{inRange}
 use Rattle.woot.specs.Writing.{writingChecks, writtenNumber, writtenLength}
 use Rattle.codec.specs.declared.Read.the-variants.{Operation as readsAs, Refused as readRefused}
 use Rattle.woot.specs.declared.Written.the-variants.{Refused as writtenRefused}
-use Rattle.lines.specs.Lines.{lineFeed, rest}
-use Rattle.codec.specs.Operations.{operationLine}
+use Rattle.lines.specs.Lines.{lineFeed, firstLine, rest}
+use Rattle.lines.specs.Fields.{fields, lineOf}
+use Rattle.codec.specs.Operations.{deleteHead, isDelete, operationLine}
 use Rattle.codec.specs.Calls.{laidOut, saidBy, readChecks, readAs, readOperation, readNumber, readValue, writeChecks, written, writtenOut}
 
 -- ---- round trips
@@ -26,15 +28,25 @@ use Rattle.codec.specs.Calls.{laidOut, saidBy, readChecks, readAs, readO
 abbrev pub LineSays : Type 0
 LineSays = (o : Operation) (bytes : List ℕ) → readOperation (operationLine o ++ bytes) ≡ readAs true o
 
+-- document 02, Req 05: "a `D` line is read as turn 1"
+abbrev pub DeleteSays : Type 0
+DeleteSays =
+    (n : ℕ) (x : Identifier) (bytes : List ℕ) →
+    readOperation (lineOf deleteHead (n ∷ x .site ∷ x .clock ∷ []) ++ bytes)
+    ≡ readAs true (toggle (record { sender = n; target = x; toggles = 1 }))
+
 -- so what is written is read as it was, and the bytes that follow are the rest
 abbrev pub WrittenReadsBack : Type 0
 WrittenReadsBack =
     (o : Operation) → inRange o ≡ true → (bytes : List ℕ) →
     (readOperation (operationLine o ++ bytes) ≡ readsAs o) × (rest (operationLine o ++ bytes) ≡ bytes)
 
--- and what is read was written so: the first line with its line feed is the operation's
+-- and what is read was written so: the first line with its line feed is the operation's. A `D` line "is written no more,
+-- so the same-bytes claim leaves it out"
 abbrev pub ReadWritesBack : Type 0
-ReadWritesBack = (s : List ℕ) (o : Operation) → readOperation s ≡ readsAs o → s ≡ operationLine o ++ rest s
+ReadWritesBack =
+    (s : List ℕ) (o : Operation) → readOperation s ≡ readsAs o → isDelete (fields (firstLine s)) ≡ false →
+    s ≡ operationLine o ++ rest s
 
 -- ---- sizes
 
@@ -47,28 +59,28 @@ longestInsert =
       next = record { site = 16; clock = 65533 };
     })
 
-abbrev pub longestDelete : Operation
-longestDelete = delete (record { sender = 16; target = record { site = 16; clock = 65535 } })
+abbrev pub longestToggle : Operation
+longestToggle = toggle (record { sender = 16; target = record { site = 16; clock = 65535 }; toggles = 255 })
 
 -- "at most 37 bytes"
 abbrev pub insertMost : ℕ
 insertMost = 37
 
--- "at most 14 bytes"
-abbrev pub deleteMost : ℕ
-deleteMost = 14
+-- an `E` line is at most as long as this
+abbrev pub toggleMost : ℕ
+toggleMost = 18
 
 -- no line of an operation in range is longer
 abbrev pub LineLengths : Type 0
 LineLengths =
     ((i : Insert) → inRange (insert i) ≡ true → length (operationLine (insert i)) ≤ insertMost)
-    × ((d : Delete) → inRange (delete d) ≡ true → length (operationLine (delete d)) ≤ deleteMost)
+    × ((t : Toggle) → inRange (toggle t) ≡ true → length (operationLine (toggle t)) ≤ toggleMost)
 
--- and some have that many: `I 16 65535 1114111 16 65534 16 65533` and `D 16 16 65535`
+-- and some have that many: `I 16 65535 1114111 16 65534 16 65533` and `E 16 16 65535 255`
 abbrev pub LongestLines : Type 0
 LongestLines =
     ((inRange longestInsert ≡ true) × (length (operationLine longestInsert) ≡ insertMost))
-    × ((inRange longestDelete ≡ true) × (length (operationLine longestDelete) ≡ deleteMost))
+    × ((inRange longestToggle ≡ true) × (length (operationLine longestToggle) ≡ toggleMost))
 
 -- each byte is a byte, and the last alone is a line feed
 abbrev pub LineBytes : Type 0

@@ -1,11 +1,11 @@
 // Operations as lines of text: read from bytes, and written into a lent slice.
 use lines::Room;
 use lines::Verdict;
-use woot::Delete;
 use woot::Identifier;
 use woot::Insert;
 use woot::Operation;
 use woot::Refusal;
+use woot::Toggle;
 use woot::Written;
 ghost use mathlib.Core.Path.{_≡_};
 ghost use mathlib.Core.Bool.{true, cond};
@@ -16,11 +16,14 @@ ghost use Rattle.lines.specs.Lines.{rest};
 ghost use Rattle.lines.specs.Fields.{fields, valuesOf, atMost};
 ghost use Rattle.lines.specs.Answers.{byVerdict, roomFor};
 ghost use Rattle.codec.specs.Operations.{insertNumbers, insertLimits, insertOf, isInsert};
-ghost use Rattle.codec.specs.Operations.{deleteNumbers, deleteLimits, deleteOf, isDelete, operationLine};
-ghost use Rattle.codec.specs.Calls.{readAs, readLine, readOperation, written, writtenOut};
+ghost use Rattle.codec.specs.Operations.{toggleNumbers, toggleLimits, toggleOf, isToggle, operationLine};
+ghost use Rattle.codec.specs.Operations.{deleteLimits, deleteOf, isDelete};
+ghost use Rattle.codec.specs.Calls.{readAs, readWritten, readLine, readOperation, written, writtenOut};
 
 // The head words of the lines.
 const INSERT: u8 = 73;
+
+const TOGGLE: u8 = 69;
 
 const DELETE: u8 = 68;
 
@@ -51,14 +54,27 @@ fn insert_of(values: [u64; 9]) -> Insert
     }
 }
 
-// The delete that numbers within their limits say.
-fn delete_of(values: [u64; 9]) -> Delete
+// The toggle that numbers within their limits say.
+fn toggle_of(values: [u64; 9]) -> Toggle
+    requires { ⌜ atMost toggleLimits values ≡ true ⌝ }
+    ensures { λ r. ⌜ r ≡ toggleOf values ⌝ }
+{
+    Toggle {
+        sender: values[0] as u8,
+        target: identifier(values[1], values[2]),
+        toggles: values[3] as u8,
+    }
+}
+
+// The toggle that the numbers of a delete's line say, within their limits: the first.
+fn delete_of(values: [u64; 9]) -> Toggle
     requires { ⌜ atMost deleteLimits values ≡ true ⌝ }
     ensures { λ r. ⌜ r ≡ deleteOf values ⌝ }
 {
-    Delete {
+    Toggle {
         sender: values[0] as u8,
         target: identifier(values[1], values[2]),
+        toggles: 1,
     }
 }
 
@@ -93,18 +109,46 @@ fn read_insert(line: &[u8]) -> Read
     judged(verdict, Operation::Insert(insert_of(values)))
 }
 
+// Reads a line as a toggle's.
+fn read_toggle(line: &[u8]) -> Read
+    ensures { λ r. ⌜ r
+        ≡ readAs (isToggle (fields (now (line .entry))))
+        (Operation.Toggle (toggleOf (valuesOf (fields (now (line .entry)))))) ⌝ }
+{
+    let head = [TOGGLE];
+    let limits = [16u64, 16, 65535, 255];
+    let numbers = lines::read(line, &head, &limits);
+    let verdict = numbers.verdict;
+    let values = numbers.values;
+    judged(verdict, Operation::Toggle(toggle_of(values)))
+}
+
 // Reads a line as a delete's.
 fn read_delete(line: &[u8]) -> Read
     ensures { λ r. ⌜ r
         ≡ readAs (isDelete (fields (now (line .entry))))
-        (Operation.Delete (deleteOf (valuesOf (fields (now (line .entry)))))) ⌝ }
+        (Operation.Toggle (deleteOf (valuesOf (fields (now (line .entry)))))) ⌝ }
 {
     let head = [DELETE];
     let limits = [16u64, 16, 65535];
     let numbers = lines::read(line, &head, &limits);
     let verdict = numbers.verdict;
     let values = numbers.values;
-    judged(verdict, Operation::Delete(delete_of(values)))
+    judged(verdict, Operation::Toggle(delete_of(values)))
+}
+
+// Reads a line that is without its line feed, as operations are written: a delete's line, which is written no more,
+// lacks the layout.
+pub fn read_written(line: &[u8]) -> Read
+    ensures { λ r. ⌜ r ≡ readWritten (now (line .entry)) ⌝ }
+{
+    if line.len() == 0 {
+        return Read::Refused(Refusal::Layout);
+    }
+    if line[0] == INSERT {
+        return read_insert(line);
+    }
+    read_toggle(line)
 }
 
 // Reads a line that is without its line feed.
@@ -114,10 +158,10 @@ pub fn read_line(line: &[u8]) -> Read
     if line.len() == 0 {
         return Read::Refused(Refusal::Layout);
     }
-    if line[0] == INSERT {
-        return read_insert(line);
+    if line[0] == DELETE {
+        return read_delete(line);
     }
-    read_delete(line)
+    read_written(line)
 }
 
 // Reads the first line of the bytes as an operation. What follows the line feed is left to `rest`.
@@ -149,14 +193,15 @@ fn insert_numbers(insert: Insert) -> [u64; 7]
     ]
 }
 
-// The numbers of a delete's line.
-fn delete_numbers(delete: Delete) -> [u64; 3]
-    ensures { λ r. ⌜ r ≡ deleteNumbers delete ⌝ }
+// The numbers of a toggle's line.
+fn toggle_numbers(toggle: Toggle) -> [u64; 4]
+    ensures { λ r. ⌜ r ≡ toggleNumbers toggle ⌝ }
 {
     [
-        delete.sender as u64,
-        delete.target.site as u64,
-        delete.target.clock as u64,
+        toggle.sender as u64,
+        toggle.target.site as u64,
+        toggle.target.clock as u64,
+        toggle.toggles as u64,
     ]
 }
 
@@ -170,9 +215,9 @@ pub fn measure(operation: Operation, size: usize, at: usize) -> Room
             let numbers = insert_numbers(insert);
             lines::measure(&head, &numbers, size, at)
         }
-        Operation::Delete(delete) => {
-            let head = [DELETE];
-            let numbers = delete_numbers(delete);
+        Operation::Toggle(toggle) => {
+            let head = [TOGGLE];
+            let numbers = toggle_numbers(toggle);
             lines::measure(&head, &numbers, size, at)
         }
     }
@@ -190,9 +235,9 @@ pub fn put_operation(operation: Operation, out: &mut [u8], at: usize) -> usize
             let numbers = insert_numbers(insert);
             lines::put(&head, &numbers, out, at)
         }
-        Operation::Delete(delete) => {
-            let head = [DELETE];
-            let numbers = delete_numbers(delete);
+        Operation::Toggle(toggle) => {
+            let head = [TOGGLE];
+            let numbers = toggle_numbers(toggle);
             lines::put(&head, &numbers, out, at)
         }
     }

@@ -15,6 +15,7 @@ use Rattle.woot.specs.Ranges.{characterInRange}
 use Rattle.woot.specs.State.{meaning, counted}
 use Rattle.woot.specs.Form.{wellFormed, replicaWellFormed}
 use Rattle.lists.proofs.Tests.{and-left, and-right}
+use Rattle.convergence.proofs.Ranges.{origin-ranged}
 use Rattle.convergence.proofs.Forms.{formed}
 use Rattle.convergence.proofs.Replies.{number-few}
 use Rattle.decimal.specs.Numeral.{digits}
@@ -62,8 +63,8 @@ report-fits n a h p q = go a p q
 -- ---- the text
 
 point-few : (c : Character) → characterInRange c ≡ true → length (digits (c .«code_point»)) ≤ 7
-unfolding characterInRange origin
-point-few c e = width-by-power (c .«code_point») 7 (omega arith) .1 (omega (arith, insert-bounds (origin c) e .code-bound))
+unfolding origin
+point-few c e = width-by-power (c .«code_point») 7 (omega arith) .1 (omega (arith, insert-bounds (origin c) (origin-ranged c e) .code-bound))
 
 pub points-le : (cs : List Character) → length (codePoints cs) ≤ length cs
 unfolding codePoints

@@ -63,3 +63,23 @@ exampleOutput =
 
 abbrev pub Example : Type 0
 Example = wholeOutput exampleInput ≡ exampleOutput
+
+-- document 02, Req 05: an `E` line with turn 2 brings back a character that a `D` line hid, and a second `D` line,
+-- "read as turn 1", is known then and hides nothing
+abbrev pub restoredInput : List ℕ
+restoredInput =
+    73 ∷ 9 ∷ 49 ∷ 9 ∷ 49 ∷ 9 ∷ 54 ∷ 53 ∷ 9 ∷ 48 ∷ 9 ∷ 48 ∷ 9 ∷ 48 ∷ 9 ∷ 49 ∷ 10 ∷
+    68 ∷ 9 ∷ 51 ∷ 9 ∷ 49 ∷ 9 ∷ 49 ∷ 10 ∷
+    69 ∷ 9 ∷ 52 ∷ 9 ∷ 49 ∷ 9 ∷ 49 ∷ 9 ∷ 50 ∷ 10 ∷
+    68 ∷ 9 ∷ 53 ∷ 9 ∷ 49 ∷ 9 ∷ 49 ∷ 10 ∷ []
+
+abbrev pub restoredOutput : List ℕ
+restoredOutput =
+    49 ∷ 9 ∷ 100 ∷ 111 ∷ 110 ∷ 101 ∷ 9 ∷ 49 ∷ 9 ∷ 48 ∷ 9 ∷ 48 ∷ 10 ∷
+    50 ∷ 9 ∷ 100 ∷ 111 ∷ 110 ∷ 101 ∷ 9 ∷ 49 ∷ 9 ∷ 48 ∷ 9 ∷ 48 ∷ 10 ∷
+    51 ∷ 9 ∷ 100 ∷ 111 ∷ 110 ∷ 101 ∷ 9 ∷ 49 ∷ 9 ∷ 48 ∷ 9 ∷ 48 ∷ 10 ∷
+    52 ∷ 9 ∷ 107 ∷ 110 ∷ 111 ∷ 119 ∷ 110 ∷ 9 ∷ 48 ∷ 9 ∷ 48 ∷ 9 ∷ 48 ∷ 10 ∷
+    84 ∷ 9 ∷ 49 ∷ 9 ∷ 54 ∷ 53 ∷ 10 ∷ []
+
+abbrev pub RestoredExample : Type 0
+RestoredExample = wholeOutput restoredInput ≡ restoredOutput

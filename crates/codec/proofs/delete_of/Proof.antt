@@ -24,7 +24,7 @@ identifier-requires c κs = let b = at-most-at deleteLimits (c .args .t1) (c .pr
 
 returns : tie.Need-returns
 unfolding deleteOf identifierAt
-returns c = λ j. record { sender = getD (c .before .args .t1) 0 0; target = c .identifier .ensures j }
+returns c = λ j. record { sender = getD (c .before .args .t1) 0 0; target = c .identifier .ensures j; toggles = 1 }
 
 pub delete-of-spec : {M : Type 1} → statement M
 delete-of-spec =

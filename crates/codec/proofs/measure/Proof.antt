@@ -4,7 +4,7 @@ use borrow.Author.Needs.{needs}
 use Rattle.output.specs.Output.{placed, past}
 use Rattle.lines.specs.Fields.{lineOf}
 use Rattle.lines.specs.Answers.{roomFor}
-use Rattle.codec.specs.Operations.{insertHead, deleteHead, operationLine}
+use Rattle.codec.specs.Operations.{insertHead, toggleHead, operationLine}
 use Rattle.codec.proofs.measure.Statement.{statement}
 use Rattle.codec.proofs.measure.Tie as tie
 
@@ -26,8 +26,8 @@ measure-requires c κs = search needs
 enum-known-operation-2 : tie.Need-enum-known-operation-2
 enum-known-operation-2 c = search needs
 
-delete-numbers-requires : tie.Need-delete-numbers-requires
-delete-numbers-requires c κs = search needs
+toggle-numbers-requires : tie.Need-toggle-numbers-requires
+toggle-numbers-requires c κs = search needs
 
 slice-aggregate-measure-3 : tie.Need-slice-aggregate-measure-3
 slice-aggregate-measure-3 c = search needs
@@ -47,7 +47,7 @@ returns c =
 returns-2 : tie.Need-returns-2
 unfolding operationLine
 returns-2 c =
-    let e = ap (lineOf deleteHead) (c .before .before .before .delete-numbers .ensures) ∙ sym (ap operationLine (c .before .before .before .before .before .operation2 .given .1)) in
+    let e = ap (lineOf toggleHead) (c .before .before .before .toggle-numbers .ensures) ∙ sym (ap operationLine (c .before .before .before .before .before .operation2 .given .1)) in
     c .measure2 .ensures ∙ ap (roomFor _ _) e
 
 pub measure-spec : {M : Type 1} → statement M
@@ -60,7 +60,7 @@ measure-spec =
     slice-aggregate-measure-2
     measure-requires
     enum-known-operation-2
-    delete-numbers-requires
+    toggle-numbers-requires
     slice-aggregate-measure-3
     slice-aggregate-measure-4
     measure-requires-2

@@ -4,7 +4,7 @@ use borrow.Author.Needs.{needs}
 use Rattle.output.specs.Output.{placed, past}
 use Rattle.lines.specs.Fields.{lineOf}
 use Rattle.lines.specs.Answers.{roomFor}
-use Rattle.codec.specs.Operations.{insertHead, deleteHead, operationLine}
+use Rattle.codec.specs.Operations.{insertHead, toggleHead, operationLine}
 use Rattle.codec.proofs.put_operation.Statement.{statement}
 use Rattle.codec.proofs.put_operation.Tie as tie
 
@@ -26,8 +26,8 @@ put-requires c κs = search needs
 enum-known-operation-2 : tie.Need-enum-known-operation-2
 enum-known-operation-2 c = search needs
 
-delete-numbers-requires : tie.Need-delete-numbers-requires
-delete-numbers-requires c κs = search needs
+toggle-numbers-requires : tie.Need-toggle-numbers-requires
+toggle-numbers-requires c κs = search needs
 
 slice-aggregate-put-3 : tie.Need-slice-aggregate-put-3
 slice-aggregate-put-3 c = search needs
@@ -55,7 +55,7 @@ returns-2 : tie.Need-returns-2
 unfolding operationLine
 returns-2 c =
     let p = c .before .before .put2 .ensures in
-    let e = ap (lineOf deleteHead) (c .before .before .before .before .before .before .delete-numbers .ensures) ∙ sym (ap operationLine (c .before .before .before .before .before .before .before .before .operation2 .given .1)) in
+    let e = ap (lineOf toggleHead) (c .before .before .before .before .before .before .toggle-numbers .ensures) ∙ sym (ap operationLine (c .before .before .before .before .before .before .before .before .operation2 .given .1)) in
     (p .0 ∙ ap (past _ _) e, p .1 ∙ ap (placed _ _) e)
 
 pub put-operation-spec : {M : Type 1} → statement M
@@ -68,7 +68,7 @@ put-operation-spec =
     slice-aggregate-put-2
     put-requires
     enum-known-operation-2
-    delete-numbers-requires
+    toggle-numbers-requires
     slice-aggregate-put-3
     slice-aggregate-put-4
     put-requires-2

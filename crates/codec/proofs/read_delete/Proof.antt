@@ -4,7 +4,7 @@ use mathlib.Core.List.{List}
 use Prim.Native.Nat.{ℕ}
 use borrow.Author.Needs.{needs}
 use Rattle.woot.specs.declared.Operation.{Operation}
-use Rattle.woot.specs.declared.Operation.the-variants.{Delete as delete}
+use Rattle.woot.specs.declared.Operation.the-variants.{Toggle as toggle}
 use Rattle.lines.specs.Answers.{numbersOf}
 use Rattle.lines.proofs.Verdicts.{values-at-most}
 use Rattle.codec.specs.Operations.{deleteLimits, deleteOf, isDelete}
@@ -14,7 +14,7 @@ use Rattle.codec.proofs.read_delete.Statement.{statement}
 use Rattle.codec.proofs.read_delete.Tie as tie
 
 abbrev say : List ℕ → Operation
-say ns = delete (deleteOf ns)
+say ns = toggle (deleteOf ns)
 
 slice-aggregate-read : tie.Need-slice-aggregate-read
 slice-aggregate-read c = search needs
@@ -35,7 +35,7 @@ judged-requires c κs = search needs
 returns : tie.Need-returns
 unfolding numbersOf isDelete
 returns c =
-    read-says say _ deleteLimits _ _ (c .before .before .before .read .ensures) delete-padded (delete-at-most _) (ap delete (c .before .delete-of .ensures)) (c .judged .ensures)
+    read-says say _ deleteLimits _ _ (c .before .before .before .read .ensures) delete-padded (delete-at-most _) (ap toggle (c .before .delete-of .ensures)) (c .judged .ensures)
 
 pub read-delete-spec : {M : Type 1} → statement M
 read-delete-spec =

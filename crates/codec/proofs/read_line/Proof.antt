@@ -1,4 +1,4 @@
--- `codec::read_line` meets its contract: the first byte is the insert's head word or not.
+-- `codec::read_line` meets its contract: the first byte is the delete's head word or not.
 use mathlib.Core.Path.{_≡_, refl, sym, ap, _∙_}
 use mathlib.Core.List.{List, [], _∷_}
 use Prim.Native.Nat.{ℕ}
@@ -6,7 +6,7 @@ use native.Mathlib.Omega.{arith}
 use lib.ListN.{length}
 use borrow.Author.Needs.{needs}
 use Rattle.codec.specs.Calls.{readLine}
-use Rattle.codec.proofs.Letters.{empty-line, insert-line, delete-line}
+use Rattle.codec.proofs.Letters.{empty-line, delete-line, written-line}
 use Rattle.codec.proofs.read_line.Statement.{statement}
 use Rattle.codec.proofs.read_line.Tie as tie
 
@@ -20,17 +20,17 @@ returns c = sym (ap readLine (none _ (omega arith)) ∙ empty-line)
 shared-slice-read-if2 : tie.Need-shared-slice-read-if2
 shared-slice-read-if2 c = search needs
 
-read-insert-requires : tie.Need-read-insert-requires
-read-insert-requires c κs = search needs
-
-returns-2 : tie.Need-returns-2
-returns-2 c = c .read-insert .ensures ∙ insert-line _ (c .before .if2 .taken)
-
 read-delete-requires : tie.Need-read-delete-requires
 read-delete-requires c κs = search needs
 
+returns-2 : tie.Need-returns-2
+returns-2 c = c .read-delete .ensures ∙ delete-line _ (c .before .if2 .taken)
+
+read-written-requires : tie.Need-read-written-requires
+read-written-requires c κs = search needs
+
 returns-3 : tie.Need-returns-3
-returns-3 c = c .read-delete .ensures ∙ delete-line _ (c .before .if2 .left)
+returns-3 c = c .read-written .ensures ∙ written-line _ (c .before .if2 .left)
 
 pub read-line-spec : {M : Type 1} → statement M
 read-line-spec =
@@ -38,7 +38,7 @@ read-line-spec =
     (tie.spec
     returns
     shared-slice-read-if2
-    read-insert-requires
-    returns-2
     read-delete-requires
+    returns-2
+    read-written-requires
     returns-3)
