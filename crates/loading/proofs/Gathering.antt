@@ -18,8 +18,8 @@ use Rattle.lists.proofs.Members.{every-append}
 use Rattle.lists.proofs.Padding.{pad-push, pad-take, pad-length}
 use Rattle.lines.specs.Lines.{ended, firstLine, rest, lines, closed, leading}
 use Rattle.lines.specs.Fields.{hasLayout}
-use Rattle.codec.specs.Operations.{isInsert, isDelete}
-use Rattle.codec.specs.Calls.{lineLaidOut}
+use Rattle.codec.specs.Operations.{isInsert, isToggle}
+use Rattle.codec.specs.Calls.{asWritten}
 use Rattle.saved_lines.specs.declared.CharacterLine.{CharacterLine}
 use Rattle.saved_lines.specs.declared.OperationLine.{OperationLine}
 use Rattle.loading.specs.declared.reading.Characters.{Characters}
@@ -103,7 +103,7 @@ unfolding isCharacter hasLayout
 no-character = refl
 
 no-operation : isOperation [] ≡ false
-unfolding isOperation lineLaidOut isInsert isDelete hasLayout
+unfolding isOperation asWritten isInsert isToggle hasLayout
 no-operation = refl
 
 -- a line that has a layout stands there, and a line feed ends it

@@ -21,7 +21,7 @@ use Rattle.saved.specs.declared.Loaded.{Loaded}
 use Rattle.saved_lines.specs.declared.SiteLine.{SiteLine}
 use Rattle.loading.specs.declared.reading.Characters.{Characters}
 use Rattle.loading.specs.declared.reading.Operations.{Operations}
-use Rattle.saved.specs.Format.{isSite, siteSaid, isCharacter, characterSaid, visibleInRange, isOperation, operationSaid, headLine, characterLines, operationLines, savedLaidOut, savedState, savedInRange}
+use Rattle.saved.specs.Format.{isSite, siteSaid, isCharacter, characterSaid, isOperation, operationSaid, headLine, characterLines, operationLines, savedLaidOut, savedState, savedInRange}
 use Rattle.saved.specs.Calls.{loadedState, unread, inArrays, held, readingChecks, savedRead, loaded}
 use Rattle.clock.specs.Raising.{raisedReplica}
 use Rattle.saved_lines.specs.Judging.{siteRead}
@@ -37,17 +37,10 @@ use Rattle.saved.proofs.Refusals.{load-layout, load-range, load-form, load-done
 
 -- ---- lines that have the layout
 
-both-and : (a b c d : Bool) → (a && b) && (c && d) ≡ (a && c) && (b && d)
-both-and true true c d = refl
-both-and true false true d = refl
-both-and true false false d = refl
-both-and false b c d = refl
-
-characters-pass : (ls : List (List ℕ)) → every isCharacter ls ≡ true → every characterPasses ls ≡ every characterInRange (map characterSaid ls) && every visibleInRange ls
+characters-pass : (ls : List (List ℕ)) → every isCharacter ls ≡ true → every characterPasses ls ≡ every characterInRange (map characterSaid ls)
 characters-pass [] e = refl
 characters-pass (l ∷ ls) e =
     ap₂ (λ (a b : Bool). a && b) (character-passes l (and-left (isCharacter l) (every isCharacter ls) e)) (characters-pass ls (and-right (isCharacter l) (every isCharacter ls) e))
-    ∙ both-and (characterInRange (characterSaid l)) (visibleInRange l) (every characterInRange (map characterSaid ls)) (every visibleInRange ls)
 
 operations-pass : (ls : List (List ℕ)) → every isOperation ls ≡ true → every operationPasses ls ≡ every inRange (map operationSaid ls)
 operations-pass [] e = refl
@@ -82,20 +75,6 @@ operations-laid s = go (closed s && every isOperation (lines s)) refl
 skipped : (a b : Bool) → a && true && b ≡ a && b
 skipped true b = refl
 skipped false b = refl
-
-sorted : (a b c d : Bool) → a && b && c && d ≡ a && (b && d) && c
-sorted true true true d = go d
-  where
-    go : (d : Bool) → d ≡ d && true
-    go true = refl
-    go false = refl
-sorted true true false d = go d
-  where
-    go : (d : Bool) → false ≡ d && false
-    go true = refl
-    go false = refl
-sorted true false c d = refl
-sorted false b c d = refl
 
 -- what is read, by its conditions
 module _ (s : List ℕ) where
@@ -185,14 +164,12 @@ module _ (s : List ℕ) (first : SiteLine) (f : first ≡ siteRead (getD (lines 
 
         range-so : savedInRange s ≡ first .judged .«in_range» && cs .«in_range» && ps .«in_range»
         unfolding savedInRange allInRange savedState charactersRead headLine
-        range-so =
-            sorted (siteInRange (siteSaid (headLine s))) (every characterInRange (map characterSaid (characterLines s))) (every inRange (map operationSaid (operationLines s))) (every visibleInRange (characterLines s))
-            ∙ (λ j. site j && characters j && operations j)
+        range-so = λ j. site j && characters j && operations j
           where
             site : siteInRange (siteSaid (headLine s)) ≡ first .judged .«in_range»
             site = sym (ap (λ x. x .judged .«in_range») f ∙ site-passes (headLine s) (sym is-site ∙ l))
 
-            characters : every characterInRange (map characterSaid (characterLines s)) && every visibleInRange (characterLines s) ≡ cs .«in_range»
+            characters : every characterInRange (map characterSaid (characterLines s)) ≡ cs .«in_range»
             characters = sym (ap (λ x. x .«in_range») read-characters ∙ characters-pass (characterLines s) characters-good)
 
             operations : every inRange (map operationSaid (operationLines s)) ≡ ps .«in_range»

@@ -10,6 +10,7 @@ use Rattle.woot.specs.Limits.{lastSite, lastClock}
 use Rattle.woot.specs.Operations.{origin}
 use Rattle.woot.specs.Ranges.{within, siteNumber, siteInRange, characterInRange}
 use Rattle.lists.proofs.Tests.{and-left, and-right}
+use Rattle.convergence.proofs.Ranges.{origin-ranged, toggles-ranged}
 use Rattle.lines.specs.Fields.{atMost}
 use Rattle.codec.specs.Operations.{identifierAt}
 use Rattle.lines.proofs.Values.{at-most-from}
@@ -29,15 +30,15 @@ site-at-most ns e =
     at-most-from 0 siteLimits ns (top 1 lastSite (getD ns 0 0) (and-left p q e))
     (at-most-from 1 siteLimits ns (top 0 lastClock (getD ns 1 0) (and-right p q e)) refl)
 
--- numbers that say a character in range, with shown in its own
-pub character-at-most : (ns : List ℕ) → characterInRange (characterOf ns) ≡ true → getD ns 3 0 ≤ 1 → atMost characterLimits ns ≡ true
-unfolding characterInRange origin characterOf identifierAt
-character-at-most ns e v =
-    let b = insert-bounds (origin (characterOf ns)) e in
+-- numbers that say a character in range
+pub character-at-most : (ns : List ℕ) → characterInRange (characterOf ns) ≡ true → atMost characterLimits ns ≡ true
+unfolding origin characterOf identifierAt
+character-at-most ns e =
+    let b = insert-bounds (origin (characterOf ns)) (origin-ranged (characterOf ns) e) in
     at-most-from 0 characterLimits ns (b .id-bounds .site-le)
     (at-most-from 1 characterLimits ns (b .id-bounds .clock-le)
     (at-most-from 2 characterLimits ns (b .code-bound)
-    (at-most-from 3 characterLimits ns v
+    (at-most-from 3 characterLimits ns (toggles-ranged (characterOf ns) e)
     (at-most-from 4 characterLimits ns (b .previous-bounds .site-le)
     (at-most-from 5 characterLimits ns (b .previous-bounds .clock-le)
     (at-most-from 6 characterLimits ns (b .next-bounds .site-le) (at-most-from 7 characterLimits ns (b .next-bounds .clock-le) refl)))))))

@@ -7,7 +7,7 @@ use Prim.Native.Nat.{ℕ}
 use lib.ListN.{drop}
 use Rattle.lists.specs.Lists.{every}
 use Rattle.woot.specs.State.{State, meaning, stored}
-use Rattle.woot.specs.Form.{allInRange, sharesKept, capacityKept, identifiersDistinct, deletesDistinct, neighboursOrdered, noneExecutable, clockKept, wellFormed, raised}
+use Rattle.woot.specs.Form.{allInRange, sharesKept, capacityKept, identifiersDistinct, togglesDistinct, neighboursOrdered, noneExecutable, clockKept, wellFormed, raised}
 use Rattle.convergence.proofs.Hearing.{raising}
 use borrow.Author.Tests.{not-false}
 use Rattle.lists.proofs.Tests.{and-left, and-right, three, seven}
@@ -16,7 +16,7 @@ use Rattle.lines.specs.Fields.{hasLayout}
 use Rattle.codec.specs.Operations.{operationLine}
 use Rattle.replica.proofs.Runs.{meaning-stored}
 use Rattle.saved.specs.declared.LoadAnswer.the-variants.{Done}
-use Rattle.saved.specs.Format.{siteHead, siteNumbers, siteLine, isSite, characterLine, isCharacter, characterSaid, visibleInRange, isOperation, operationSaid, headLine, characterLines, operationLines, savedLaidOut, savedState, savedInRange, savedBytes}
+use Rattle.saved.specs.Format.{siteHead, siteNumbers, siteLine, isSite, characterLine, isCharacter, characterSaid, isOperation, operationSaid, headLine, characterLines, operationLines, savedLaidOut, savedState, savedInRange, savedBytes}
 use Rattle.saved.specs.Calls.{loadedState, needsRaising, loaded, loadNumber, bytesOf}
 use Rattle.replica.specs.Tables.{Searches}
 use Rattle.replica.proofs.Tables.{stored-searches}
@@ -24,7 +24,7 @@ use Rattle.storage.proofs.Stored.{form-meant}
 use Rattle.saved.specs.declared.Loaded.{Loaded}
 use Rattle.saved.specs.Theorems.{SavedReadsBack, LoadedWritesBack, RaisedWritesBack, LoadedFormed, LoadedSearches, TableAloneDiffers}
 use Rattle.lines.proofs.Lines.{line-rest, whole, rejoined, apart, concatenated-append, head-first}
-use Rattle.saved.proofs.Spelling.{bareSite, bareCharacter, bareOperation, site-lines, site-closed, character-lines, character-closed, operation-lines, operation-closed, site-laid, site-back, character-laid, character-back, character-fits, operation-laid, operation-back, operation-other, site-again, character-again, operation-again}
+use Rattle.saved.proofs.Spelling.{bareSite, bareCharacter, bareOperation, site-lines, site-closed, character-lines, character-closed, operation-lines, operation-closed, site-laid, site-back, character-laid, character-back, operation-laid, operation-back, operation-other, site-again, character-again, operation-again}
 use Rattle.saved.proofs.Refusals.{load-done, load-numbers}
 
 -- ---- lists of lines
@@ -157,12 +157,7 @@ module _ (s : State) where
 
   pub saved-in-range : savedInRange (savedBytes s) ≡ allInRange s
   unfolding savedInRange
-  saved-in-range =
-      rw (saved-says, saved-characters, every-map visibleInRange bareCharacter character-fits (s .characters)) (and-true (allInRange s))
-    where
-      and-true : (b : Bool) → b && true ≡ b
-      and-true true = refl
-      and-true false = refl
+  saved-in-range = rw saved-says
 
 formed-ranges : (s : State) → wellFormed s ≡ true → allInRange s ≡ true
 unfolding wellFormed
@@ -171,7 +166,7 @@ formed-ranges s h = seven (allInRange s) _ _ _ _ _ _ (and-left _ (clockKept s) h
 formed-clock : (s : State) → wellFormed s ≡ true → clockKept s ≡ true
 unfolding wellFormed
 formed-clock s h =
-    let lists = allInRange s && sharesKept s && capacityKept s && identifiersDistinct s && deletesDistinct s && neighboursOrdered s && noneExecutable s in
+    let lists = allInRange s && sharesKept s && capacityKept s && identifiersDistinct s && togglesDistinct s && neighboursOrdered s && noneExecutable s in
     and-right lists (clockKept s) h
 
 -- a state in form needs no raising
@@ -197,12 +192,6 @@ joined-again line say p each [] e = refl
 joined-again line say p each (l ∷ ls) e =
     ap₂ (λ (a b : List ℕ). a ++ b) (each l (and-left (p l) (every p ls) e)) (joined-again line say p each ls (and-right (p l) (every p ls) e))
 
-every-and : {A : Type 0} (p q : A → Bool) (xs : List A) → every p xs ≡ true → every q xs ≡ true → every (λ x. p x && q x) xs ≡ true
-every-and p q [] e f = refl
-every-and p q (x ∷ xs) e f =
-    rw (and-left (p x) (every p xs) e, and-left (q x) (every q xs) f)
-    (every-and p q xs (and-right (p x) (every p xs) e) (and-right (q x) (every q xs) f))
-
 pub no-site : isSite [] ≡ false
 unfolding isSite hasLayout
 no-site = refl
@@ -216,14 +205,11 @@ module _ (s : List ℕ) (l : savedLaidOut s ≡ true) where
   unfolding headLine characterLines operationLines
   all-lines = head-first isSite no-site (lines s) (parts .1) ∙ ap (λ (ls : List (List ℕ)). headLine s ∷ ls) (apart isCharacter (drop 1 (lines s)))
 
-  pub says-saved : every visibleInRange (characterLines s) ≡ true → savedBytes (savedState s) ≡ s
+  pub says-saved : savedBytes (savedState s) ≡ s
   unfolding savedBytes savedState characterLines
-  says-saved v =
-      let laid : every isCharacter (characterLines s) ≡ true = characters-laid in
+  says-saved =
       let cs : concatenated characterLine (map characterSaid (characterLines s)) ≡ concatenated whole (characterLines s) =
-      joined-again characterLine characterSaid (λ x. isCharacter x && visibleInRange x)
-      (λ x e. character-again x (and-left (isCharacter x) (visibleInRange x) e) (and-right (isCharacter x) (visibleInRange x) e)) (characterLines s)
-      (every-and isCharacter visibleInRange (characterLines s) laid v)
+      joined-again characterLine characterSaid isCharacter character-again (characterLines s) characters-laid
       in
       let os : concatenated operationLine (map operationSaid (operationLines s)) ≡ concatenated whole (operationLines s) =
       joined-again operationLine operationSaid isOperation operation-again (operationLines s) (parts .2)
@@ -248,8 +234,7 @@ module _ (s : List ℕ) (e : loaded s .answer ≡ Done) where
 
   -- the bytes are those of what they say
   read-again : savedBytes (savedState s) ≡ s
-  unfolding savedInRange
-  read-again = says-saved s (was-read .0) (and-right (allInRange (savedState s)) (every visibleInRange (characterLines s)) (was-read .1))
+  read-again = says-saved s (was-read .0)
 
 pub loaded-writes-back : LoadedWritesBack
 unfolding needsRaising loadedState

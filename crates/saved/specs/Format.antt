@@ -1,29 +1,28 @@
--- Saved replicas as lines. (Document 01: "first `S` laptop clock; then for each row from the top `C` laptop clock codepoint
--- shown (1 or 0) prevlaptop prevclock nextlaptop nextclock; then the waiting operations, earliest first, as `I` and `D`
--- lines".)
+-- Saved replicas as lines. (Document 01: "then for each row from the top `C` laptop clock codepoint shown (1 or 0)
+-- prevlaptop prevclock nextlaptop nextclock; then the waiting operations, earliest first"; document 02, Req 05, the second
+-- form: "it begins `S2` laptop clock, has the turn where shown stood, and has `E` lines where waiting `D` lines stood".)
 use Prim.Native.Nat.{ℕ}
 use mathlib.Core.List.{List, [], _∷_, _++_, map}
-use mathlib.Core.Bool.{Bool, _&&_, cond}
-use lib.Dec.{leb, eqb}
+use mathlib.Core.Bool.{Bool, _&&_}
 use lib.ListN.{getD, drop}
 use Rattle.woot.specs.declared.Site.{Site}
 use Rattle.woot.specs.declared.Operation.{Operation}
 use Rattle.woot.specs.declared.Character.{Character}
 use Rattle.woot.specs.declared.Pending.{Pending}
-use Rattle.woot.specs.Limits.{lastSite, lastClock, lastCodePoint}
+use Rattle.woot.specs.Limits.{lastSite, lastClock, lastCodePoint, lastToggles}
 use Rattle.lists.specs.Lists.{every}
 use Rattle.woot.specs.State.{State}
 use Rattle.woot.specs.Form.{allInRange}
 use Rattle.lines.specs.Lines.{lines, closed, leading, trailing, concatenated}
 use Rattle.lines.specs.Fields.{fields, hasLayout, valuesOf, lineOf}
 use Rattle.codec.specs.Operations.{identifierAt, operationOf, operationLine}
-use Rattle.codec.specs.Calls.{lineLaidOut}
+use Rattle.codec.specs.Calls.{asWritten}
 
 -- ---- the site's line
 
--- `S`
+-- `S2`
 abbrev pub siteHead : List ℕ
-siteHead = 83 ∷ []
+siteHead = 83 ∷ 50 ∷ []
 
 -- "laptop clock"
 unfoldable pub siteNumbers : Site → List ℕ
@@ -52,26 +51,17 @@ siteLine s = lineOf siteHead (siteNumbers s)
 abbrev pub characterHead : List ℕ
 characterHead = 67 ∷ []
 
--- "shown (1 or 0)"
-abbrev pub visibleNumber : Bool → ℕ
-visibleNumber v = cond v 1 0
-
--- its range ends here
-abbrev pub lastVisible : ℕ
-lastVisible = 1
-
--- "laptop clock codepoint shown (1 or 0) prevlaptop prevclock nextlaptop nextclock"
+-- "laptop clock codepoint" turn "prevlaptop prevclock nextlaptop nextclock"
 unfoldable pub characterNumbers : Character → List ℕ
 characterNumbers c =
-    c .id .site ∷ c .id .clock ∷ c .«code_point» ∷ visibleNumber (c .visible) ∷ c .previous .site ∷ c .previous .clock
-    ∷ c .next .site
+    c .id .site ∷ c .id .clock ∷ c .«code_point» ∷ c .toggles ∷ c .previous .site ∷ c .previous .clock ∷ c .next .site
     ∷ c .next .clock
     ∷ []
 
 -- the limits of those numbers
 abbrev pub characterLimits : List ℕ
 characterLimits =
-    lastSite ∷ lastClock ∷ lastCodePoint ∷ lastVisible ∷ lastSite ∷ lastClock ∷ lastSite ∷ lastClock ∷ []
+    lastSite ∷ lastClock ∷ lastCodePoint ∷ lastToggles ∷ lastSite ∷ lastClock ∷ lastSite ∷ lastClock ∷ []
 
 -- what those numbers say
 unfoldable pub characterOf : List ℕ → Character
@@ -79,7 +69,7 @@ characterOf ns =
     record {
       id = identifierAt 0 ns;
       «code_point» = getD ns 2 0;
-      visible = eqb (getD ns 3 0) 1;
+      toggles = getD ns 3 0;
       previous = identifierAt 4 ns;
       next = identifierAt 6 ns;
     }
@@ -90,17 +80,14 @@ isCharacter line = hasLayout characterHead 8 (fields line)
 unfoldable pub characterSaid : List ℕ → Character
 characterSaid line = characterOf (valuesOf (fields line))
 
--- shown is in its range, which the character that is said does not tell
-unfoldable pub visibleInRange : List ℕ → Bool
-visibleInRange line = leb (getD (valuesOf (fields line)) 3 0) lastVisible
-
 unfoldable pub characterLine : Character → List ℕ
 characterLine c = lineOf characterHead (characterNumbers c)
 
 -- ---- a pending operation's line
 
+-- an insert's or a toggle's, as they are written: "a `D` there is refusal 1"
 unfoldable pub isOperation : List ℕ → Bool
-isOperation line = lineLaidOut line
+isOperation line = asWritten line
 
 unfoldable pub operationSaid : List ℕ → Operation
 operationSaid line = operationOf (fields line)
@@ -136,7 +123,7 @@ savedState s =
 
 -- refusal 2 lets every number, mark and neighbour pass
 unfoldable pub savedInRange : List ℕ → Bool
-savedInRange s = allInRange (savedState s) && every visibleInRange (characterLines s)
+savedInRange s = allInRange (savedState s)
 
 -- the bytes of a state
 unfoldable pub savedBytes : State → List ℕ

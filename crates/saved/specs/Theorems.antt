@@ -6,7 +6,7 @@ use mathlib.Core.Bool.{true, false}
 use mathlib.Core.List.{List, [], _∷_, _++_}
 use mathlib.Core.Option.{some}
 use lib.ListN.{length}
-use Rattle.woot.specs.declared.Operation.the-variants.{Insert as insert, Delete as delete}
+use Rattle.woot.specs.declared.Operation.the-variants.{Insert as insert, Toggle as toggle}
 use Rattle.woot.specs.declared.Replica.{Replica}
 use Rattle.woot.specs.declared.Refusal.{Refusal}
 use Rattle.woot.specs.declared.Written.the-variants.{Refused as writtenRefused}
@@ -71,17 +71,17 @@ TableAloneDiffers =
 
 -- ---- the layout, on lines of every kind: the round trips would hold of any order of fields
 
--- laptop 3 at clock 7; 2/1 shown and 1/4 hidden behind it; an insert of 5/2 and an erase by 6 wait
+-- laptop 3 at clock 7; 2/1 brought back once and 1/4 hidden behind it; an insert of 5/2 and a fifth turn by 6 wait
 abbrev pub exampleState : State
 exampleState =
     record {
       site = record { number = 3; clock = 7 };
       characters =
-          record { id = record { site = 2; clock = 1 }; «code_point» = 66; visible = true; previous = begin; next = end }
+          record { id = record { site = 2; clock = 1 }; «code_point» = 66; toggles = 2; previous = begin; next = end }
           ∷ record {
             id = record { site = 1; clock = 4 };
             «code_point» = 65;
-            visible = false;
+            toggles = 1;
             previous = record { site = 2; clock = 1 };
             next = end;
           }
@@ -93,27 +93,35 @@ exampleState =
             previous = record { site = 4; clock = 1 };
             next = end;
           })
-          ∷ delete (record { sender = 6; target = record { site = 4; clock = 9 } })
+          ∷ toggle (record { sender = 6; target = record { site = 4; clock = 9 }; toggles = 5 })
           ∷ [];
     }
 
--- `S 3 7`, `C 2 1 66 1 0 0 0 1`, `C 1 4 65 0 2 1 0 1`, `I 5 2 8364 4 1 0 1`, `D 6 4 9`, with tabs for the spaces
+-- `S2 3 7`, `C 2 1 66 2 0 0 0 1`, `C 1 4 65 1 2 1 0 1`, `I 5 2 8364 4 1 0 1`, `E 6 4 9 5`, with tabs for the spaces
 abbrev pub exampleBytes : List ℕ
 exampleBytes =
-    83 ∷ 9 ∷ 51 ∷ 9 ∷ 55 ∷ 10
-    ∷ 67 ∷ 9 ∷ 50 ∷ 9 ∷ 49 ∷ 9 ∷ 54 ∷ 54 ∷ 9 ∷ 49 ∷ 9 ∷ 48 ∷ 9 ∷ 48 ∷ 9 ∷ 48 ∷ 9 ∷ 49 ∷ 10
-    ∷ 67 ∷ 9 ∷ 49 ∷ 9 ∷ 52 ∷ 9 ∷ 54 ∷ 53 ∷ 9 ∷ 48 ∷ 9 ∷ 50 ∷ 9 ∷ 49 ∷ 9 ∷ 48 ∷ 9 ∷ 49 ∷ 10
+    83 ∷ 50 ∷ 9 ∷ 51 ∷ 9 ∷ 55 ∷ 10
+    ∷ 67 ∷ 9 ∷ 50 ∷ 9 ∷ 49 ∷ 9 ∷ 54 ∷ 54 ∷ 9 ∷ 50 ∷ 9 ∷ 48 ∷ 9 ∷ 48 ∷ 9 ∷ 48 ∷ 9 ∷ 49 ∷ 10
+    ∷ 67 ∷ 9 ∷ 49 ∷ 9 ∷ 52 ∷ 9 ∷ 54 ∷ 53 ∷ 9 ∷ 49 ∷ 9 ∷ 50 ∷ 9 ∷ 49 ∷ 9 ∷ 48 ∷ 9 ∷ 49 ∷ 10
     ∷ 73 ∷ 9 ∷ 53 ∷ 9 ∷ 50 ∷ 9 ∷ 56 ∷ 51 ∷ 54 ∷ 52 ∷ 9 ∷ 52 ∷ 9 ∷ 49 ∷ 9 ∷ 48 ∷ 9 ∷ 49 ∷ 10
-    ∷ 68 ∷ 9 ∷ 54 ∷ 9 ∷ 52 ∷ 9 ∷ 57 ∷ 10 ∷ []
+    ∷ 69 ∷ 9 ∷ 54 ∷ 9 ∷ 52 ∷ 9 ∷ 57 ∷ 9 ∷ 53 ∷ 10 ∷ []
 
 abbrev pub SavedExample : Type 0
 SavedExample = savedBytes exampleState ≡ exampleBytes
 
+-- document 02, Req 05: what is read "in a second form only": `S 3 7`, the first, and `S2 3 7` with a waiting `D 6 4 9`,
+-- lack the layout, as that line with `E 6 4 9 1` does not
+abbrev pub SecondFormOnly : Type 0
+SecondFormOnly =
+    (savedLaidOut (83 ∷ 9 ∷ 51 ∷ 9 ∷ 55 ∷ 10 ∷ []) ≡ false)
+    × (savedLaidOut (83 ∷ 50 ∷ 9 ∷ 51 ∷ 9 ∷ 55 ∷ 10 ∷ 68 ∷ 9 ∷ 54 ∷ 9 ∷ 52 ∷ 9 ∷ 57 ∷ 10 ∷ []) ≡ false)
+    × (savedLaidOut (83 ∷ 50 ∷ 9 ∷ 51 ∷ 9 ∷ 55 ∷ 10 ∷ 69 ∷ 9 ∷ 54 ∷ 9 ∷ 52 ∷ 9 ∷ 57 ∷ 9 ∷ 49 ∷ 10 ∷ []) ≡ true)
+
 -- ---- sizes
 
--- "at most 47,115 bytes"
+-- document 02, Req 05: "it is at most 51,212 bytes"
 abbrev pub savedMost : ℕ
-savedMost = 47115
+savedMost = 51212
 
 abbrev pub SavedLength : Type 0
 SavedLength = (s : State) → wellFormed s ≡ true → length (savedBytes s) ≤ savedMost

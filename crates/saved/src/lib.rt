@@ -4,7 +4,7 @@ use woot::Refusal;
 use woot::Replica;
 
 // The head words of the lines of a site and of a character.
-pub const SITE: u8 = 83;
+pub const SITE: [u8; 2] = [83, 50];
 
 pub const CHARACTER: u8 = 67;
 

@@ -3,10 +3,7 @@ use mathlib.Core.Path.{_≡_, refl, sym, ap, _∙_}
 use mathlib.Core.List.{List, [], _++_}
 use mathlib.Core.Bool.{Bool, true, false, _&&_, cond}
 use Prim.Native.Nat.{ℕ, _-_}
-use lib.Dec.{eqb, leb}
-use lib.ListN.{length, getD, replicate}
-use borrow.Author.Tests.{leb-true, le-leb}
-use native.Mathlib.Omega.{arith}
+use lib.ListN.{length, replicate}
 use Rattle.woot.specs.declared.Site.{Site}
 use Rattle.woot.specs.declared.Character.{Character}
 use Rattle.woot.specs.declared.Operation.{Operation}
@@ -14,20 +11,20 @@ use Rattle.woot.specs.declared.Refusal.{Refusal}
 use Rattle.woot.specs.declared.Refusal.the-variants.{Layout, Range}
 use Rattle.woot.specs.Ranges.{siteInRange, characterInRange, inRange}
 use Rattle.lists.specs.Padding.{pad}
-use Rattle.lists.proofs.Tests.{agree, clash, and-left, and-right, and-intro}
+use Rattle.lists.proofs.Tests.{agree, clash, and-right, and-intro}
 use Rattle.lines.specs.declared.Verdict.the-variants.{Malformed, Above, Within}
 use Rattle.lines.specs.declared.Numbers.{Numbers}
 use Rattle.lines.specs.Fields.{fields, valuesOf, atMost}
 use Rattle.lines.specs.Answers.{slots, holding, verdictOn, numbersOf}
-use Rattle.lines.proofs.Values.{at-padded, at-most-at}
+use Rattle.lines.proofs.Values.{at-padded}
 use Rattle.codec.specs.declared.Read.the-variants.{Operation as readsAs, Refused as readRefused}
-use Rattle.codec.specs.Calls.{readAs, readLine}
+use Rattle.codec.specs.Calls.{readAs, readWritten}
 use Rattle.codec.proofs.Judging.{identifier-padded, read-layout, read-range, read-operation}
 use Rattle.saved_lines.specs.declared.Judged.{Judged}
 use Rattle.saved_lines.specs.declared.SiteLine.{SiteLine}
 use Rattle.saved_lines.specs.declared.CharacterLine.{CharacterLine}
 use Rattle.saved_lines.specs.declared.OperationLine.{OperationLine}
-use Rattle.saved.specs.Format.{siteHead, siteLimits, siteOf, isSite, siteSaid, characterHead, characterLimits, characterOf, isCharacter, characterSaid, visibleInRange, isOperation, operationSaid}
+use Rattle.saved.specs.Format.{siteHead, siteLimits, siteOf, isSite, siteSaid, characterHead, characterLimits, characterOf, isCharacter, characterSaid, isOperation, operationSaid}
 use Rattle.saved_lines.specs.Judging.{judgement, judgedAs, siteRead, characterRead, noOperation, operationJudged, operationRead}
 use Rattle.saved.proofs.Bounds.{site-at-most, character-at-most}
 
@@ -68,6 +65,12 @@ module _ {A : Type 0} (say : List ℕ → A) (passes : A → Bool) (laid : Bool)
         go true false q = cc
         go false c q = cc
 
+-- numbers that say what is in range are within their limits
+within-limits : {A : Type 0} (say : List ℕ → A) (passes : A → Bool) (limits : List ℕ) → ((ns : List ℕ) → passes (say ns) ≡ true → atMost limits ns ≡ true)
+    → (ns : List ℕ) → (atMost limits ns && passes (say ns)) ≡ passes (say ns)
+within-limits say passes limits bounds ns =
+    agree (atMost limits ns && passes (say ns)) (passes (say ns)) (and-right (atMost limits ns) (passes (say ns))) (λ p. and-intro (bounds ns p) p)
+
 -- ---- a site's line
 
 site-padded : (m : ℕ) (ns : List ℕ) → siteOf (ns ++ replicate m 0) ≡ siteOf ns
@@ -98,7 +101,7 @@ module _ (line : List ℕ) where
   unfolding siteRead numbersOf isSite siteSaid
   site-passes l =
       passes-so siteOf siteInRange (isSite line) siteLimits (ns line) site-padded l
-      ∙ agree (atMost siteLimits (ns line) && siteInRange (siteOf (ns line))) (siteInRange (siteOf (ns line))) (and-right (atMost siteLimits (ns line)) (siteInRange (siteOf (ns line)))) (λ p. and-intro (site-at-most (ns line) p) p)
+      ∙ within-limits siteOf siteInRange siteLimits site-at-most (ns line)
 
   pub site-says : siteRead line .judged .«in_range» ≡ true → siteRead line .site ≡ siteSaid line
   unfolding siteRead numbersOf isSite siteSaid
@@ -111,20 +114,10 @@ unfolding characterOf
 character-padded m ns = λ j. record {
   id = identifier-padded 0 m ns j;
   «code_point» = at-padded m ns 2 j;
-  visible = eqb (at-padded m ns 3 j) 1;
+  toggles = at-padded m ns 3 j;
   previous = identifier-padded 4 m ns j;
   next = identifier-padded 6 m ns j;
 }
-
--- the limit of shown is the range that the character does not tell
-visible-limited : (ns : List ℕ) → atMost characterLimits ns && characterInRange (characterOf ns) ≡ characterInRange (characterOf ns) && leb (getD ns 3 0) 1
-visible-limited ns =
-    let w = atMost characterLimits ns in
-    let r = characterInRange (characterOf ns) in
-    let v = leb (getD ns 3 0) 1 in
-    agree (w && r) (r && v)
-    (λ p. and-intro (and-right w r p) (le-leb (getD ns 3 0) 1 (at-most-at characterLimits ns (and-left w r p) 3 (omega arith))))
-    (λ p. and-intro (character-at-most ns (and-left r v p) (leb-true (getD ns 3 0) 1 (and-right r v p))) (and-left r v p))
 
 module _ (line : List ℕ) where
   -- as the code makes it of the numbers
@@ -142,10 +135,11 @@ module _ (line : List ℕ) where
   unfolding characterRead numbersOf isCharacter
   character-laid = laid-so characterOf characterInRange (isCharacter line) characterLimits (ns line)
 
-  pub character-passes : isCharacter line ≡ true → characterRead line .judged .«in_range» ≡ characterInRange (characterSaid line) && visibleInRange line
-  unfolding characterRead numbersOf isCharacter characterSaid visibleInRange
+  pub character-passes : isCharacter line ≡ true → characterRead line .judged .«in_range» ≡ characterInRange (characterSaid line)
+  unfolding characterRead numbersOf isCharacter characterSaid
   character-passes l =
-      passes-so characterOf characterInRange (isCharacter line) characterLimits (ns line) character-padded l ∙ visible-limited (ns line)
+      passes-so characterOf characterInRange (isCharacter line) characterLimits (ns line) character-padded l
+      ∙ within-limits characterOf characterInRange characterLimits character-at-most (ns line)
 
   pub character-says : characterRead line .judged .«in_range» ≡ true → characterRead line .character ≡ characterSaid line
   unfolding characterRead numbersOf isCharacter characterSaid
@@ -154,11 +148,11 @@ module _ (line : List ℕ) where
 -- ---- an operation's line, by what `codec` answers
 
 module _ (line : List ℕ) where
-  by-checks : readLine line ≡ readAs (isOperation line) (operationSaid line)
-  unfolding readLine isOperation operationSaid
+  by-checks : readWritten line ≡ readAs (isOperation line) (operationSaid line)
+  unfolding readWritten isOperation operationSaid
   by-checks = refl
 
-  pub operation-done : (o : Operation) → readLine line ≡ readsAs o
+  pub operation-done : (o : Operation) → readWritten line ≡ readsAs o
       → _≡_ {A = OperationLine} (record { judged = judgement true true; operation = o }) (operationRead line)
   unfolding operationRead operationJudged
   operation-done o e = go (isOperation line) (inRange (operationSaid line)) refl refl
@@ -172,7 +166,7 @@ module _ (line : List ℕ) where
           let same : operationSaid line ≡ o = cc in
           rw (p, q) (λ j. record { judged = judgement true true; operation = sym same j })
 
-  module _ (r : Refusal) (e : readLine line ≡ readRefused r) where
+  module _ (r : Refusal) (e : readWritten line ≡ readRefused r) where
     pub operation-range : r ≡ Range → noOperation true ≡ operationRead line
     unfolding operationRead operationJudged
     operation-range h = go (isOperation line) (inRange (operationSaid line)) refl refl

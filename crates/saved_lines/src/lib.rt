@@ -75,7 +75,7 @@ fn site_of(values: [u64; 9]) -> Site
 pub fn read_site(line: &[u8]) -> SiteLine
     ensures { λ r. ⌜ r ≡ siteRead (now (line .entry)) ⌝ }
 {
-    let head = [SITE];
+    let head = SITE;
     let limits = [16u64, 65535];
     let numbers = lines::read(line, &head, &limits);
     let verdict = numbers.verdict;
@@ -93,7 +93,7 @@ fn character_of(values: [u64; 9]) -> Character
     Character {
         id: codec::identifier(values[0], values[1]),
         code_point: values[2] as u32,
-        visible: values[3] == 1,
+        toggles: values[3] as u8,
         previous: codec::identifier(values[4], values[5]),
         next: codec::identifier(values[6], values[7]),
     }
@@ -104,7 +104,7 @@ pub fn read_character(line: &[u8]) -> CharacterLine
     ensures { λ r. ⌜ r ≡ characterRead (now (line .entry)) ⌝ }
 {
     let head = [CHARACTER];
-    let limits = [16u64, 65535, 1114111, 1, 16, 65535, 16, 65535];
+    let limits = [16u64, 65535, 1114111, 255, 16, 65535, 16, 65535];
     let numbers = lines::read(line, &head, &limits);
     let verdict = numbers.verdict;
     let values = numbers.values;
@@ -137,7 +137,7 @@ fn no_operation(laid_out: bool) -> OperationLine
 pub fn read_operation(line: &[u8]) -> OperationLine
     ensures { λ r. ⌜ r ≡ operationRead (now (line .entry)) ⌝ }
 {
-    let read = codec::read_line(line);
+    let read = codec::read_written(line);
     match read {
         Read::Operation(operation) => {
             let judged = Judged {

@@ -12,7 +12,7 @@ ghost use lib.ListN.{length, take};
 ghost use Rattle.output.specs.Output.{placed, past};
 ghost use Rattle.lines.specs.Lines.{concatenated};
 ghost use Rattle.lines.specs.Answers.{roomFor};
-ghost use Rattle.saved.specs.Format.{siteNumbers, visibleNumber, characterNumbers, characterLine, pendingLine};
+ghost use Rattle.saved.specs.Format.{siteNumbers, characterNumbers, characterLine, pendingLine};
 ghost use Rattle.saved.specs.Calls.{bytesOf};
 
 // The numbers of a site's line.
@@ -20,16 +20,6 @@ fn site_numbers(site: Site) -> [u64; 2]
     ensures { λ r. ⌜ r ≡ siteNumbers site ⌝ }
 {
     [site.number as u64, site.clock as u64]
-}
-
-// The number that says whether a character is visible.
-fn visible_number(visible: bool) -> u64
-    ensures { λ r. ⌜ r ≡ visibleNumber visible ⌝ }
-{
-    if visible {
-        return 1;
-    }
-    0
 }
 
 // The numbers of a character's line.
@@ -40,7 +30,7 @@ fn character_numbers(character: Character) -> [u64; 8]
         character.id.site as u64,
         character.id.clock as u64,
         character.code_point as u64,
-        visible_number(character.visible),
+        character.toggles as u64,
         character.previous.site as u64,
         character.previous.clock as u64,
         character.next.site as u64,
@@ -99,7 +89,7 @@ pub(crate) fn measure(replica: Replica, size: usize) -> Room
     let document = replica.document;
     let characters = document.characters;
     let pending = document.pending;
-    let head = [SITE];
+    let head = SITE;
     let numbers = site_numbers(site);
     let first = lines::measure(&head, &numbers, size, 0);
     let Room::Until(second) = first else {
@@ -163,7 +153,7 @@ pub(crate) fn put_all(replica: Replica, out: &mut [u8])
     let document = replica.document;
     let characters = document.characters;
     let pending = document.pending;
-    let head = [SITE];
+    let head = SITE;
     let numbers = site_numbers(site);
     let first = lines::put(&head, &numbers, out, 0);
     let second = put_characters(characters, index::lesser(1024, document.length), out, first);

@@ -1,6 +1,5 @@
 -- `saved_lines::character_of` meets its contract: each number fits its field, since its limit does.
 use native.Mathlib.Omega.{arith}
-use lib.Dec.{eqb}
 use lib.ListN.{getD}
 use Rattle.codec.specs.Operations.{identifierAt}
 use Rattle.lines.proofs.Values.{at-most-at}
@@ -27,6 +26,9 @@ cast-t13 c = let b = at-most-at characterLimits (c .before .args .t1) (c .before
 array-read-t16 : tie.Need-array-read-t16
 array-read-t16 c = search needs
 
+cast-t17 : tie.Need-cast-t17
+cast-t17 c = let b = at-most-at characterLimits (c .before .args .t1) (c .before .pre) in omega (arith, b 3 (omega arith))
+
 array-read-identifier-3 : tie.Need-array-read-identifier-3
 array-read-identifier-3 c = search needs
 
@@ -52,7 +54,7 @@ returns c =
     λ j. record {
       id = c .before .before .identifier .ensures j;
       «code_point» = getD n 2 0;
-      visible = eqb (getD n 3 0) 1;
+      toggles = getD n 3 0;
       previous = c .before .identifier2 .ensures j;
       next = c .identifier3 .ensures j;
     }
@@ -67,6 +69,7 @@ character-of-spec =
     array-read-t12
     cast-t13
     array-read-t16
+    cast-t17
     array-read-identifier-3
     array-read-identifier-4
     identifier-requires-2

@@ -1,4 +1,5 @@
 -- `saving::writing::character_numbers` meets its contract: the array is written as the definition is.
+use mathlib.Core.Path.{refl}
 use Rattle.saved.specs.Format.{characterNumbers}
 use borrow.Author.Needs.{needs}
 use Rattle.saving.proofs.writing.character_numbers.Statement.{statement}
@@ -13,8 +14,8 @@ cast-t3 c = search needs
 cast-t4 : tie.Need-cast-t4
 cast-t4 c = search needs
 
-visible-number-requires : tie.Need-visible-number-requires
-visible-number-requires c κs = search needs
+cast-t5 : tie.Need-cast-t5
+cast-t5 c = search needs
 
 cast-t6 : tie.Need-cast-t6
 cast-t6 c = search needs
@@ -30,7 +31,7 @@ cast-t9 c = search needs
 
 returns : tie.Need-returns
 unfolding characterNumbers
-returns c = rw (c .before .before .before .before .visible-number .ensures)
+returns c = refl
 
 pub character-numbers-spec : {M : Type 1} → statement M
 character-numbers-spec =
@@ -39,7 +40,7 @@ character-numbers-spec =
     cast-t2
     cast-t3
     cast-t4
-    visible-number-requires
+    cast-t5
     cast-t6
     cast-t7
     cast-t8
