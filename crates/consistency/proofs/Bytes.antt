@@ -20,8 +20,8 @@ use Rattle.woot.specs.declared.Sent.the-variants.{Done as sentDone, Refused as 
 use Rattle.woot.specs.State.{State, initial}
 use Rattle.woot.specs.Form.{wellFormed}
 use Rattle.woot.specs.Answers.{reply, changes, answerOf, _⇒_, first, decided}
-use Rattle.woot.specs.Calls.{receive, localInsert, localDelete}
-use Rattle.woot.specs.Histories.{inserting, deleting, receiving, outcome}
+use Rattle.woot.specs.Calls.{receive, localInsert, localDelete, localRestore}
+use Rattle.woot.specs.Histories.{inserting, deleting, restoring, receiving, outcome}
 use Rattle.woot.specs.Histories.{Call as RuleCall}
 use Rattle.replica.proofs.Runs.{formed-within}
 use Rattle.lines.specs.Lines.{closed}
@@ -34,10 +34,10 @@ use Rattle.saved.specs.Calls.{loadChecks, unread, loaded}
 use Rattle.saved.proofs.Trips.{saved-loads, saved-reads-back}
 use Rattle.results.specs.Results.{result, silent, inBits, numberOf}
 use Rattle.effects.specs.Effects.{Effect, quiet, turned, writing, writingBoth, afterReceiving, sending, afterSending}
-use Rattle.wimtaze.specs.Calls.{inputChecks, receivingLine, insertingHere, deletingHere}
+use Rattle.wimtaze.specs.Calls.{inputChecks, receivingLine, insertingHere, deletingHere, named, restoringHere}
 use Rattle.wimtaze.specs.Theorems.{Fits}
 use Rattle.wimtaze.proofs.Fitting.{results-fit}
-use Rattle.consistency.specs.Copies.{BytesCall, load, receiveLine, type, erase, bytesCall, asBytes, bytesAfter, wordRead, writtenRead, wordOf, keptBytes, afterLoading, whenDone, byEffect, onBytes, stepOn}
+use Rattle.consistency.specs.Copies.{BytesCall, load, receiveLine, type, erase, restore, bytesCall, asBytes, bytesAfter, wordRead, writtenRead, wordOf, keptBytes, afterLoading, whenDone, byEffect, onBytes, stepOn}
 use Rattle.consistency.proofs.Holding.{Holds, memory, bytes, nothing, Step, left, made, Steps, carries, changed-formed}
 use Rattle.consistency.proofs.Returned.{kept, word-returned, effect-returned}
 use Rattle.wimtaze.proofs.Kept.{front}
@@ -133,6 +133,12 @@ module _ (s : State) (h : wellFormed s ≡ true) where
   erase-step p out line =
       handed-away (bytes s h) _ out line _ _ (rw (saved-loads s h) (sent-step s h (deleting p) (localDelete s p .answer) refl out line))
 
+  restore-step : (n t : ℕ) (out line : List ℕ) →
+      Follows s (savedBytes s) (restoring (named n t)) (restoringHere (savedBytes s) n t out line)
+  unfolding restoringHere afterSending outcome
+  restore-step n t out line =
+      handed-away (bytes s h) _ out line _ _ (rw (saved-loads s h) (sent-step s h (restoring (named n t)) (localRestore s (named n t) .answer) refl out line))
+
   load-step : Steps s (asBytes (savedBytes s)) (bytesCall load)
   unfolding stepOn onBytes afterLoading
   load-step =
@@ -157,6 +163,9 @@ module _ (s : State) (h : wellFormed s ≡ true) where
   bytes-step (erase p out line) =
       let b = savedBytes s in
       read (deletingHere b p out line) (results-fit .3 b p out line) (omega arith) (omega arith) _ (erase-step p out line)
+  bytes-step (restore n t out line) =
+      let b = savedBytes s in
+      read (restoringHere b n t out line) (results-fit .4 b n t out line) (omega arith) (omega arith) _ (restore-step n t out line)
 
 -- no bytes lack the layout, whatever else is handed
 no-bytes : savedLaidOut [] ≡ false
@@ -164,9 +173,10 @@ unfolding savedLaidOut closed headLine isSite hasLayout
 no-bytes = refl
 
 pub nothing-step : (c : BytesCall) → Steps (initial 0) (asBytes []) (bytesCall c)
-unfolding stepOn onBytes byEffect afterLoading loaded loadChecks unread receivingLine insertingHere deletingHere inputChecks decided
+unfolding stepOn onBytes byEffect afterLoading loaded loadChecks unread receivingLine insertingHere deletingHere restoringHere inputChecks decided
     turned quiet silent result keptBytes wordOf wordRead writtenRead numberOf inBits bytesAfter reply whenDone
 nothing-step load = rw no-bytes (left nothing refl)
 nothing-step (receiveLine line out) = rw no-bytes (left nothing refl)
 nothing-step (type g n out line) = rw no-bytes (left nothing refl)
 nothing-step (erase p out line) = rw no-bytes (left nothing refl)
+nothing-step (restore n t out line) = rw no-bytes (left nothing refl)

@@ -90,9 +90,9 @@ copies-follow a cs =
 
 pub copies-converge : CopiesConverge
 unfolding charactersOf textOf
-copies-converge a b cs ds inserted deleted =
+copies-converge a b cs ds inserted toggled =
     let f = copies-follow a cs in
     let g = copies-follow b ds in
-    let same = convergence (f .0) (g .0) (f .1) (g .1) (rw (f .3, g .3) at inserted) (rw (f .3, g .3) at deleted) .0 in
+    let same = convergence (f .0) (g .0) (f .1) (g .1) (rw (f .3, g .3) at inserted) (rw (f .3, g .3) at toggled) .0 in
     let e = ap (λ (s : State). s .characters) (f .2) ∙ same ∙ sym (ap (λ (s : State). s .characters) (g .2)) in
     (e, ap text e)

@@ -14,7 +14,7 @@ use Rattle.woot.specs.Answers.{changes, reply}
 use Rattle.woot.specs.Calls.{Outcome, unchanged, allIntegrated}
 use Rattle.woot.specs.Histories.{outcome, Call as RuleCall}
 use Rattle.convergence.proofs.Forms.{reformed}
-use Rattle.convergence.proofs.Steps.{turned, adds, removes, defers, step, Step as RuleStep}
+use Rattle.convergence.proofs.Steps.{turned, adds, raises, defers, step, Step as RuleStep}
 use Rattle.convergence.proofs.Kept.{form-kept, counts-true}
 use Rattle.lines.specs.Fields.{valuesOf}
 use Rattle.replica.proofs.Runs.{Within, meaning-stored}
@@ -66,7 +66,7 @@ unfolding changes unchanged
 changes-formed s (turned Duplicate w) h = absurd (false≢true h)
 changes-formed s (turned (Refused q) w) h = absurd (false≢true h)
 changes-formed s (adds i a) h = reformed s (a .formed)
-changes-formed s (removes d a) h = reformed s (a .formed)
+changes-formed s (raises d a) h = reformed s (a .formed)
 changes-formed s (defers o a) h = reformed s (a .formed)
 
 pub changed-formed : (s : State) (c : RuleCall) → changes (outcome s c .answer) ≡ true →

@@ -4,6 +4,7 @@ use Prim.Native.Nat.{ℕ}
 use mathlib.Core.Path.{_≡_, refl, ap, _∙_}
 use mathlib.Core.Bool.{Bool, true, false}
 use mathlib.Core.List.{List}
+use Rattle.woot.specs.declared.Identifier.{Identifier}
 use Rattle.woot.specs.declared.Operation.{Operation}
 use Rattle.woot.specs.declared.Replica.{Replica}
 use Rattle.woot.specs.declared.Answer.{Answer}
@@ -13,9 +14,9 @@ use Rattle.woot.specs.declared.Sent.the-variants.{Done as sentDone, Refused as 
 use Rattle.woot.specs.Ranges.{inRange}
 use Rattle.woot.specs.State.{State, stored}
 use Rattle.woot.specs.Answers.{reply, changes, answerOf}
-use Rattle.woot.specs.Calls.{receive, localInsert, localDelete}
-use Rattle.woot.specs.Histories.{inserting, deleting, receiving, outcome, Call as RuleCall}
-use Rattle.storage.specs.Replicas.{afterAnswer, afterSent, receipt, generated, received, inserted, deleted}
+use Rattle.woot.specs.Calls.{receive, localInsert, localDelete, localRestore}
+use Rattle.woot.specs.Histories.{inserting, deleting, restoring, receiving, outcome, Call as RuleCall}
+use Rattle.storage.specs.Replicas.{afterAnswer, afterSent, receipt, generated, received, inserted, deleted, restored}
 use Rattle.replica.specs.Theorems.{called, answerTo}
 use Rattle.replica.proofs.Runs.{Within, formed-within, meaning-stored, form-stored}
 use Rattle.lent.specs.Lent.{returned}
@@ -42,6 +43,10 @@ module _ (s : State) (w : Within s) where
   unfolding deleted localDelete
   deleted-stored p = rw (form-stored s w, meaning-stored s)
 
+  pub restored-stored : (x : Identifier) → restored (stored s) x ≡ generated (stored s) (localRestore s x)
+  unfolding restored localRestore
+  restored-stored x = rw (form-stored s w, meaning-stored s)
+
 -- the replica depends on the answer alone, whatever was sent
 sent-answer : (r : Replica) (s : State) (a : Sent) → afterSent r s a ≡ afterAnswer r s (answerOf a)
 unfolding afterSent afterAnswer answerOf
@@ -62,6 +67,11 @@ module _ (s : State) (w : Within s) where
       let e = deleted-stored s w p in (
         ap (λ x. x .replica) e ∙ sent-answer (stored s) (localDelete s p .state) (localDelete s p .answer),
         ap (λ x. answerOf (x .answer)) e,
+      )
+  called-stored (restoring x) =
+      let e = restored-stored s w x in (
+        ap (λ y. y .replica) e ∙ sent-answer (stored s) (localRestore s x .state) (localRestore s x .answer),
+        ap (λ y. answerOf (y .answer)) e,
       )
   called-stored (receiving o) =
       let e = received-stored s w o in

@@ -13,7 +13,7 @@ use Rattle.woot.specs.State.{State, initial, meaning, stored}
 use Rattle.woot.specs.Answers.{Word, done, waits, known, refused, reply, answerOf}
 use Rattle.woot.specs.Calls.{allIntegrated}
 use Rattle.woot.specs.Text.{text}
-use Rattle.woot.specs.Histories.{inserting, deleting, receiving, outcome, Call as RuleCall}
+use Rattle.woot.specs.Histories.{inserting, deleting, restoring, receiving, outcome, Call as RuleCall}
 use Rattle.replica.specs.Theorems.{called, answerTo}
 use Rattle.lent.specs.declared.Returned.{Returned}
 use Rattle.lent.specs.Lent.{together, returned, siteAfter}
@@ -25,7 +25,7 @@ use Rattle.saved.specs.Format.{savedState}
 use Rattle.saved.specs.Calls.{loadedState, loaded, saved, savedOut}
 use Rattle.results.specs.Results.{numberOf}
 use Rattle.effects.specs.Effects.{Effect}
-use Rattle.wimtaze.specs.Calls.{beginning, receivingLine, insertingHere, deletingHere}
+use Rattle.wimtaze.specs.Calls.{beginning, receivingLine, insertingHere, deletingHere, named, restoringHere}
 
 -- a replica in memory, or the bytes of a saved one
 pub data Copy : Type 0 where
@@ -34,7 +34,7 @@ pub data Copy : Type 0 where
 
 -- the calls on a replica in memory, with any arguments, and with whatever the lent slices hold before the call
 pub data MemoryCall : Type 0 where
-  -- `replica::insert`, `replica::delete`, `replica::receive`
+  -- `replica::insert`, `replica::delete`, `replica::restore`, `replica::receive`
   onReplica : RuleCall → MemoryCall
   -- `site_record::insert_on`: an insertion point and a code point
   onRecord : ℕ → ℕ → MemoryCall
@@ -53,6 +53,8 @@ pub data BytesCall : Type 0 where
   type : ℕ → ℕ → List ℕ → List ℕ → BytesCall
   -- `wimtaze_erase`: a place; both outputs
   erase : ℕ → List ℕ → List ℕ → BytesCall
+  -- `wimtaze_restore`: the two numbers of an identifier; both outputs
+  restore : ℕ → ℕ → List ℕ → List ℕ → BytesCall
 
 -- every kind of call
 pub data Call : Type 0 where
@@ -142,6 +144,7 @@ onBytes b load = record { copy = afterLoading b (loaded b .replica) (loaded b .a
 onBytes b (receiveLine line out) = byEffect b (receivingLine b line out) (receiving (saidBy line))
 onBytes b (type g n out line) = byEffect b (insertingHere b g n out line) (inserting g n)
 onBytes b (erase p out line) = byEffect b (deletingHere b p out line) (deleting p)
+onBytes b (restore n t out line) = byEffect b (restoringHere b n t out line) (restoring (named n t))
 
 -- a call that takes the other kind of copy is not made on it
 unfoldable pub stepOn : Copy → Call → Stepped

@@ -5,6 +5,7 @@ use mathlib.Core.Path.{_≡_, refl, sym, ap, _∙_}
 use mathlib.Core.Bool.{Bool, true, false, not, cond}
 use mathlib.Core.List.{List, [], _∷_}
 use mathlib.Core.Option.{Option, none, some}
+use Rattle.woot.specs.declared.Identifier.{Identifier}
 use Rattle.woot.specs.declared.Operation.{Operation}
 use Rattle.woot.specs.declared.Replica.{Replica}
 use Rattle.woot.specs.declared.Refusal.{Refusal}
@@ -15,13 +16,13 @@ use Rattle.woot.specs.declared.Sent.{Sent}
 use Rattle.woot.specs.declared.Sent.the-variants.{Done as sentDone, Refused as sentRefused}
 use Rattle.woot.specs.declared.Receipt.{Receipt}
 use Rattle.woot.specs.declared.Generated.{Generated}
-use Rattle.woot.specs.Ranges.{codePoint, inRange}
+use Rattle.woot.specs.Ranges.{codePoint, characterId, inRange}
 use Rattle.woot.specs.State.{State, meaning, stored}
 use Rattle.woot.specs.Form.{wellFormed, replicaWellFormed}
 use Rattle.woot.specs.Answers.{changes, _⇒_, first, decided}
-use Rattle.woot.specs.Calls.{Outcome, unchanged, receiveChecks, receiveWhen, receive, insertChecks, localInsertWhen, localInsert, deleteChecks, localDeleteWhen, localDelete}
+use Rattle.woot.specs.Calls.{Outcome, unchanged, receiveChecks, receiveWhen, receive, insertChecks, localInsertWhen, localInsert, deleteChecks, localDeleteWhen, localDelete, restoreChecks, localRestoreWhen, localRestore}
 use Rattle.woot.specs.Text.{text}
-use Rattle.storage.specs.Replicas.{afterAnswer, afterSent, receipt, generated, received, inserted, deleted}
+use Rattle.storage.specs.Replicas.{afterAnswer, afterSent, receipt, generated, received, inserted, deleted, restored}
 use Rattle.replica.specs.Texts.{textOf}
 use Rattle.replica.proofs.Runs.{meaning-stored}
 use Rattle.codec.specs.Operations.{operationLine}
@@ -93,6 +94,10 @@ module _ (u : State) (h : wellFormed (raised u) ≡ true) where
   unfolding deleted localDelete
   deleted-held p = rw (held-form u .0, held-form u .1 h .1)
 
+  restored-held : (x : Identifier) → restored (held u) x ≡ generated (held u) (localRestore (raised u) x)
+  unfolding restored localRestore
+  restored-held x = rw (held-form u .0, held-form u .1 h .1)
+
 -- a replica out of form is refused with 3
 module _ (r : Replica) (f : replicaWellFormed r ≡ false) where
   received-off : (o : Operation) → inRange o ≡ true → received r o ≡ record { answer = Refused Form; replica = r }
@@ -106,6 +111,10 @@ module _ (r : Replica) (f : replicaWellFormed r ≡ false) where
   deleted-off : (p : ℕ) → deleted r p ≡ record { answer = sentRefused Form; replica = r }
   unfolding deleted generated localDeleteWhen deleteChecks decided unchanged afterSent
   deleted-off p = rw f
+
+  restored-off : (x : Identifier) → characterId x ≡ true → restored r x ≡ record { answer = sentRefused Form; replica = r }
+  unfolding restored generated localRestoreWhen restoreChecks decided unchanged afterSent
+  restored-off x ranged = rw (ranged, f)
 
 unformed : (r : Replica) (out : List ℕ) → replicaWellFormed r ≡ false → textLeft r out ≡ turned out [] Form
 unfolding textLeft decided
@@ -131,21 +140,27 @@ module _ (u : State) (out : List ℕ) where
       go false e = formed-off (raised u) out [] _ e ∙ sym (unformed (held u) out (held-form u .0 ∙ e))
 
   module _ (line : List ℕ) where
-    pub type-bridge : (g n : ℕ) → codePoint n ≡ true → formed-first (raised u) out line (afterSending (localInsert (raised u) g n) out line) ≡ generatedLeft (inserted (held u) g n) out line
+    -- a call that sends goes on as its rule does, and is refused with 3 where the form lacks
+    bridge : (w : Outcome Sent) (x : Generated) → (wellFormed (raised u) ≡ true → x ≡ generated (held u) w)
+        → (wellFormed (raised u) ≡ false → x ≡ record { answer = sentRefused Form; replica = held u })
+        → formed-first (raised u) out line (afterSending w out line) ≡ generatedLeft x out line
     unfolding generatedLeft sentLeft
-    type-bridge g n ranged = go (wellFormed (raised u)) refl
+    bridge w x on off = go (wellFormed (raised u)) refl
       where
-        go : (b : Bool) → wellFormed (raised u) ≡ b → formed-first (raised u) out line (afterSending (localInsert (raised u) g n) out line) ≡ generatedLeft (inserted (held u) g n) out line
-        go true e = formed-on (raised u) out line _ e ∙ sym (sent-saved (held u) (localInsert (raised u) g n) out line) ∙ ap (λ (x : Generated). generatedLeft x out line) (sym (inserted-held u e g n))
-        go false e = formed-off (raised u) out line _ e ∙ ap (λ (x : Generated). generatedLeft x out line) (sym (inserted-off (held u) (held-form u .0 ∙ e) g n ranged))
+        go : (b : Bool) → wellFormed (raised u) ≡ b → formed-first (raised u) out line (afterSending w out line) ≡ generatedLeft x out line
+        go true e = formed-on (raised u) out line _ e ∙ sym (sent-saved (held u) w out line) ∙ ap (λ (y : Generated). generatedLeft y out line) (sym (on e))
+        go false e = formed-off (raised u) out line _ e ∙ ap (λ (y : Generated). generatedLeft y out line) (sym (off e))
+
+    pub type-bridge : (g n : ℕ) → codePoint n ≡ true → formed-first (raised u) out line (afterSending (localInsert (raised u) g n) out line) ≡ generatedLeft (inserted (held u) g n) out line
+    type-bridge g n ranged =
+        bridge (localInsert (raised u) g n) (inserted (held u) g n) (λ e. inserted-held u e g n) (λ e. inserted-off (held u) (held-form u .0 ∙ e) g n ranged)
 
     pub erase-bridge : (p : ℕ) → formed-first (raised u) out line (afterSending (localDelete (raised u) p) out line) ≡ generatedLeft (deleted (held u) p) out line
-    unfolding generatedLeft sentLeft
-    erase-bridge p = go (wellFormed (raised u)) refl
-      where
-        go : (b : Bool) → wellFormed (raised u) ≡ b → formed-first (raised u) out line (afterSending (localDelete (raised u) p) out line) ≡ generatedLeft (deleted (held u) p) out line
-        go true e = formed-on (raised u) out line _ e ∙ sym (sent-saved (held u) (localDelete (raised u) p) out line) ∙ ap (λ (x : Generated). generatedLeft x out line) (sym (deleted-held u e p))
-        go false e = formed-off (raised u) out line _ e ∙ ap (λ (x : Generated). generatedLeft x out line) (sym (deleted-off (held u) (held-form u .0 ∙ e) p))
+    erase-bridge p = bridge (localDelete (raised u) p) (deleted (held u) p) (λ e. deleted-held u e p) (λ e. deleted-off (held u) (held-form u .0 ∙ e) p)
+
+    pub restore-bridge : (x : Identifier) → characterId x ≡ true → formed-first (raised u) out line (afterSending (localRestore (raised u) x) out line) ≡ generatedLeft (restored (held u) x) out line
+    restore-bridge x ranged =
+        bridge (localRestore (raised u) x) (restored (held u) x) (λ e. restored-held u e x) (λ e. restored-off (held u) (held-form u .0 ∙ e) x ranged)
 
 -- ---- the counts, which write nothing
 

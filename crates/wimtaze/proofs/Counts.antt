@@ -1,45 +1,38 @@
 -- What is answered on a state in form: no check is the one of a short output, what an insert releases was pending, of
 -- which there are at most 512, and what is sent is in range, so that its line is no longer than the longest.
-use Prim.Native.Nat.{ℕ, zero, suc, _≤_, _<_}
+use Prim.Native.Nat.{ℕ, suc, _≤_}
 use native.Mathlib.Omega.{arith}
-use mathlib.Core.Path.{_≡_, refl, subst}
+use mathlib.Core.Path.{_≡_, refl}
 use mathlib.Core.Bool.{Bool, true, false, not, cond}
 use mathlib.Core.Option.{Option, none, some}
-use mathlib.Core.List.{List, _∷_, Memᴰ·map, Memᴰ·of-map}
-use lib.Dec.{ltb, eqb}
-use lib.ListN.{length, getD}
-use borrow.Author.Tests.{not-false, ltb-false, eqb-false}
+use mathlib.Core.List.{List}
+use lib.Dec.{eqb}
+use lib.ListN.{length}
+use borrow.Author.Tests.{not-false}
 use Rattle.woot.specs.declared.Identifier.{Identifier}
 use Rattle.woot.specs.declared.Insert.{Insert}
 use Rattle.woot.specs.declared.Operation.{Operation}
-use Rattle.woot.specs.declared.Operation.the-variants.{Insert as insert, Delete as delete}
+use Rattle.woot.specs.declared.Operation.the-variants.{Insert as insert, Toggle as toggle}
 use Rattle.woot.specs.declared.Refusal.{Refusal}
 use Rattle.woot.specs.declared.Answer.{Answer}
 use Rattle.woot.specs.declared.Answer.the-variants.{Done, Deferred, Duplicate, Refused}
 use Rattle.woot.specs.declared.Sent.{Sent}
 use Rattle.woot.specs.declared.Sent.the-variants.{Done as sentDone, Refused as sentRefused}
-use Rattle.woot.specs.Limits.{lastClock}
-use Rattle.woot.specs.Identifiers.{begin}
-use Rattle.woot.specs.Ranges.{within, siteNumber, siteInRange, codePoint, characterId, deleteInRange, inRange}
+use Rattle.woot.specs.Ranges.{codePoint, inRange}
 use Rattle.woot.specs.State.{State}
 use Rattle.woot.specs.Form.{wellFormed}
 use Rattle.woot.specs.Pending.{executable}
 use Rattle.woot.specs.Answers.{number, Check, first, NoneHolds, decided}
-use Rattle.woot.specs.Calls.{Outcome, unchanged, insertCarried, receiveChecks, carryOut, defer, accept, receiveWhen, receive, visibles, generatedInsert, beyondVisible, insertChecks, sendInsert, localInsertWhen, localInsert, notVisible, generatedDelete, deleteChecks, sendDelete, localDeleteWhen, localDelete}
-use Rattle.lists.specs.Lists.{keep}
-use Rattle.woot.specs.Operations.{isVisible}
-use Rattle.lists.proofs.Members.{get-member, keep-member}
-use Rattle.lists.proofs.Tests.{and-left, and-intro, or-false-left, or-false-right}
+use Rattle.woot.specs.Calls.{Outcome, unchanged, insertCarried, receiveChecks, carryOut, defer, accept, receiveWhen, receive, generatedInsert, insertChecks, sendInsert, localInsertWhen, localInsert, generatedDelete, deleteChecks, sendToggle, localDeleteWhen, localDelete, generatedToggle, restoreChecks, localRestoreWhen, localRestore}
 use Rattle.convergence.proofs.Forms.{formed}
 use Rattle.convergence.proofs.Shares.{pending-fit}
 use Rattle.convergence.proofs.Draining.{drained-balance}
-use Rattle.convergence.proofs.Soundness.{standing}
-use Rattle.convergence.proofs.InsertionPoint.{member-range}
+use Rattle.convergence.proofs.Toggles.{delete-ranged, restore-ranged}
 use Rattle.convergence.proofs.Steps.{All, first-none, first-some, generated-made}
 use Rattle.convergence.proofs.Steps.{after-insert}
 use Rattle.codec.specs.Operations.{operationLine}
 use Rattle.codec.proofs.Sizes.{line-lengths}
-use Rattle.codec.specs.Theorems.{insertMost, deleteMost}
+use Rattle.codec.specs.Theorems.{insertMost, toggleMost}
 
 -- the refusal is not the one of a short output
 abbrev pub Other : Refusal → Type 0
@@ -70,7 +63,7 @@ accept-fine s o h = go (executable (s .characters) o) o
   where
     go : (b : Bool) (p : Operation) → Fine (cond b (carryOut Done s p) (defer s p) .answer)
     go true (insert i) = insert-fine s i h
-    go true (delete d) = (omega arith, omega arith)
+    go true (toggle d) = (omega arith, omega arith)
     go false p = tt
 
 -- what holds of each check's answer, and of what is done where none holds, holds of the answer
@@ -83,28 +76,6 @@ module _ {A : Type 0} (P : A → Type 0) where
       go : (m : Option A) → first cs ≡ m → P (decided (unchanged s) m w .answer)
       go none e = otherwise (first-none cs e)
       go (some a) e = first-some P cs each a e
-
--- a visible character's identifier is one of a character
-visible-range : (s : State) → wellFormed s ≡ true → (k : ℕ) → k < length (visibles (s .characters)) → characterId (getD (visibles (s .characters)) k begin) ≡ true
-unfolding visibles
-visible-range s h k low =
-    let shown = keep isVisible (s .characters) in
-    let m = Memᴰ·of-map (λ c. c .id) shown (get-member (visibles (s .characters)) k begin low) in
-    let held = keep-member isVisible (s .characters) (m .1) in
-    subst (λ (x : Identifier). characterId x ≡ true) (m .2) (member-range (s .characters) (standing (formed s h .sound) .ranges) (Memᴰ·map (λ c. c .id) (held .0)))
-
--- what erasing sends is in range
-delete-ranged : (s : State) (p : ℕ) → wellFormed s ≡ true → notVisible s p ≡ false → inRange (delete (generatedDelete s p)) ≡ true
-unfolding inRange deleteInRange generatedDelete notVisible beyondVisible siteInRange
-delete-ranged s p h v =
-    let sited = and-left (siteNumber (s .site .number)) (within 0 lastClock (s .site .clock)) (formed s h .site) in
-    let later : p ≡ 0 → ⊥ = eqb-false p 0 (or-false-left (eqb p 0) (ltb (length (visibles (s .characters))) p) v) in
-    let low : p ≤ length (visibles (s .characters)) = ltb-false (length (visibles (s .characters))) p (or-false-right (eqb p 0) (ltb (length (visibles (s .characters))) p) v) in
-    and-intro sited (target p later low)
-  where
-    target : (q : ℕ) → (q ≡ 0 → ⊥) → q ≤ length (visibles (s .characters)) → characterId (getD (begin ∷ visibles (s .characters)) q begin) ≡ true
-    target zero later low = absurd (later refl)
-    target (suc k) later low = visible-range s h k (omega arith)
 
 module _ (s : State) (h : wellFormed s ≡ true) where
   pub receive-fine : (o : Operation) → Fine (receive s o .answer)
@@ -124,9 +95,16 @@ module _ (s : State) (h : wellFormed s ≡ true) where
       let made = generated-made s g n (formed s h) (not-false (codePoint n) (w .0)) (w .1 .1 .0) (w .1 .1 .1 .0) (w .1 .1 .1 .1 .0) in
       (insert-fine s i h, line-lengths .0 i (made .ranged)))
 
-  pub delete-sends : (p : ℕ) → Sends deleteMost (localDelete s p .answer)
-  unfolding localDelete localDeleteWhen deleteChecks sendDelete carryOut
+  pub delete-sends : (p : ℕ) → Sends toggleMost (localDelete s p .answer)
+  unfolding localDelete localDeleteWhen deleteChecks sendToggle carryOut inRange
   delete-sends p =
-      by-checks (Sends deleteMost) s (deleteChecks (wellFormed s) s p) (sendDelete s (generatedDelete s p))
+      by-checks (Sends toggleMost) s (deleteChecks (wellFormed s) s p) (sendToggle s (generatedDelete s p))
       (refl, (refl, tt))
-      (λ w. ((omega arith, omega arith), line-lengths .1 (generatedDelete s p) (delete-ranged s p h (w .1 .0))))
+      (λ w. ((omega arith, omega arith), line-lengths .1 (generatedDelete s p) (delete-ranged s (formed s h) p (w .1 .0))))
+
+  pub restore-sends : (x : Identifier) → Sends toggleMost (localRestore s x .answer)
+  unfolding localRestore localRestoreWhen restoreChecks sendToggle carryOut inRange
+  restore-sends x =
+      by-checks (Sends toggleMost) s (restoreChecks (wellFormed s) s x) (sendToggle s (generatedToggle s x))
+      (refl, (refl, (refl, (refl, tt))))
+      (λ w. ((omega arith, omega arith), line-lengths .1 (generatedToggle s x) (restore-ranged s (formed s h) x (w .1 .1 .0) (w .1 .1 .1 .0))))

@@ -17,14 +17,14 @@ use Rattle.woot.specs.declared.Answer.{Answer}
 use Rattle.woot.specs.declared.Answer.the-variants.{Done, Deferred, Duplicate, Refused}
 use Rattle.woot.specs.declared.Sent.{Sent}
 use Rattle.woot.specs.declared.Sent.the-variants.{Done as sentDone, Refused as sentRefused}
-use Rattle.woot.specs.Ranges.{siteNumber, codePoint, inRange}
+use Rattle.woot.specs.Ranges.{siteNumber, codePoint, characterId, inRange}
 use Rattle.woot.specs.State.{State, initial}
 use Rattle.woot.specs.Form.{wellFormed}
 use Rattle.woot.specs.Answers.{number, reply, changes, Check, _⇒_, first, NoneHolds, decided}
 use Rattle.woot.specs.declared.Character.{Character}
 use Rattle.woot.specs.Operations.{isVisible}
-use Rattle.woot.specs.Calls.{receive, visibles, localInsert, localDelete}
-use Rattle.woot.specs.Histories.{inserting, deleting, receiving, outcome}
+use Rattle.woot.specs.Calls.{receive, visibles, localInsert, localDelete, localRestore}
+use Rattle.woot.specs.Histories.{inserting, deleting, restoring, receiving, outcome}
 use Rattle.woot.specs.Text.{text}
 use Rattle.lists.specs.Lists.{keep}
 use Rattle.lists.proofs.Members.{keep-length}
@@ -37,21 +37,21 @@ use Rattle.codec.specs.Operations.{operationLine}
 use Rattle.codec.specs.Calls.{saidBy}
 use Rattle.saved.specs.Format.{savedBytes}
 use Rattle.saved.specs.Calls.{loadedState}
-use Rattle.codec.specs.Theorems.{insertMost, deleteMost}
+use Rattle.codec.specs.Theorems.{insertMost, toggleMost}
 use Rattle.saved.specs.Theorems.{savedMost}
 use Rattle.saved.proofs.Sizes.{saved-length}
 use Rattle.results.specs.Results.{Result, result, silent}
 use Rattle.effects.specs.Effects.{Effect, quiet, turned, writing, writingBoth, afterReceiving, sending, afterSending, countsOf}
-use Rattle.wimtaze.specs.Calls.{inputChecks, oneLine, beginning, receivingLine, insertingHere, deletingHere, showingText, counting}
+use Rattle.wimtaze.specs.Calls.{inputChecks, oneLine, beginning, receivingLine, insertingHere, deletingHere, named, restoringHere, showingText, counting}
 use Rattle.wimtaze.specs.Theorems.{textMost, Fits, ResultsFit, CountsWithin, CountsFit, HasRoom, BuffersSuffice}
 use Rattle.wimtaze.proofs.Sizes.{text-length}
 use Rattle.effects.proofs.Counting.{known-few}
-use Rattle.wimtaze.proofs.Counts.{Other, Fine, Sends, receive-fine, insert-sends, delete-sends}
+use Rattle.wimtaze.proofs.Counts.{Other, Fine, Sends, receive-fine, insert-sends, delete-sends, restore-sends}
 
 -- ---- what is returned
 
 reply-few : (a : Answer) → Fine a
-    → (reply a .refusal ≤ 12) × (reply a .integrated ≤ 513) × (reply a .discarded ≤ 512) × (reply a .refusal ≡ 12 → ⊥)
+    → (reply a .refusal ≤ 14) × (reply a .integrated ≤ 513) × (reply a .discarded ≤ 512) × (reply a .refusal ≡ 12 → ⊥)
 unfolding reply
 reply-few (Done n m) f = (omega arith, f .0, f .1, λ e. omega arith)
 reply-few Deferred f = (omega arith, omega arith, omega arith, λ e. omega arith)
@@ -164,11 +164,19 @@ module _ (bytes : List ℕ) where
       (λ h. send-good (loadedState bytes) h insertMost (localInsert (loadedState bytes) point n .state) (localInsert (loadedState bytes) point n .answer) out line (form-kept (loadedState bytes) (inserting point n) h) (insert-sends (loadedState bytes) h point n))
 
   delete-good : (index : ℕ) (out line : List ℕ)
-      → Good savedMost deleteMost (Room deleteMost out line) (deletingHere bytes index out line .result)
+      → Good savedMost toggleMost (Room toggleMost out line) (deletingHere bytes index out line .result)
   unfolding deletingHere afterSending outcome
   delete-good index out line =
       input-good true true out line _
-      (λ h. send-good (loadedState bytes) h deleteMost (localDelete (loadedState bytes) index .state) (localDelete (loadedState bytes) index .answer) out line (form-kept (loadedState bytes) (deleting index) h) (delete-sends (loadedState bytes) h index))
+      (λ h. send-good (loadedState bytes) h toggleMost (localDelete (loadedState bytes) index .state) (localDelete (loadedState bytes) index .answer) out line (form-kept (loadedState bytes) (deleting index) h) (delete-sends (loadedState bytes) h index))
+
+  restore-good : (site clock : ℕ) (out line : List ℕ)
+      → Good savedMost toggleMost (Room toggleMost out line) (restoringHere bytes site clock out line .result)
+  unfolding restoringHere afterSending outcome
+  restore-good site clock out line =
+      let x = named site clock in
+      input-good true (characterId x) out line _
+      (λ h. send-good (loadedState bytes) h toggleMost (localRestore (loadedState bytes) x .state) (localRestore (loadedState bytes) x .answer) out line (form-kept (loadedState bytes) (restoring x) h) (restore-sends (loadedState bytes) h x))
 
   show-good : (out : List ℕ) → Good textMost 0 (textMost ≤ length out) (showingText bytes out .result)
   unfolding showingText
@@ -182,6 +190,7 @@ results-fit = (
   λ bytes line out. receive-line-good bytes line out .0,
   λ bytes point n out line. insert-good bytes point n out line .0,
   λ bytes index out line. delete-good bytes index out line .0,
+  λ bytes site clock out line. restore-good bytes site clock out line .0,
   λ bytes out. show-good bytes out .0,
 )
 
@@ -191,6 +200,7 @@ buffers-suffice = (
   λ bytes line out. receive-line-good bytes line out .1,
   λ bytes point n out line h g. insert-good bytes point n out line .1 (h, g),
   λ bytes index out line h g. delete-good bytes index out line .1 (h, g),
+  λ bytes site clock out line h g. restore-good bytes site clock out line .1 (h, g),
   λ bytes out. show-good bytes out .1,
 )
 

@@ -19,12 +19,12 @@ use Rattle.woot.specs.declared.Answer.{Answer}
 use Rattle.woot.specs.declared.Answer.the-variants.{Done, Deferred, Duplicate, Refused}
 use Rattle.woot.specs.declared.Sent.{Sent}
 use Rattle.woot.specs.declared.Sent.the-variants.{Done as sentDone, Refused as sentRefused}
-use Rattle.woot.specs.Ranges.{siteNumber, codePoint, inRange}
+use Rattle.woot.specs.Ranges.{siteNumber, codePoint, characterId, inRange}
 use Rattle.woot.specs.State.{State, initial}
 use Rattle.woot.specs.Form.{wellFormed}
 use Rattle.woot.specs.Answers.{reply, changes, Check, _⇒_, first, NoneHolds, decided}
-use Rattle.woot.specs.Calls.{receive, localInsert, localDelete}
-use Rattle.woot.specs.Histories.{inserting, deleting, receiving, outcome}
+use Rattle.woot.specs.Calls.{receive, localInsert, localDelete, localRestore}
+use Rattle.woot.specs.Histories.{inserting, deleting, restoring, receiving, outcome}
 use Rattle.convergence.proofs.Forms.{empty-formed}
 use Rattle.convergence.proofs.Kept.{form-kept}
 use Rattle.convergence.proofs.Steps.{first-none}
@@ -36,7 +36,7 @@ use Rattle.saved.specs.Calls.{loadedState, loaded}
 use Rattle.saved.proofs.Trips.{saved-reads-back}
 use Rattle.results.specs.Results.{result, silent}
 use Rattle.effects.specs.Effects.{Effect, quiet, turned, writing, writingBoth, afterReceiving, sending, afterSending}
-use Rattle.wimtaze.specs.Calls.{inputChecks, oneLine, beginning, receivingLine, insertingHere, deletingHere}
+use Rattle.wimtaze.specs.Calls.{inputChecks, oneLine, beginning, receivingLine, insertingHere, deletingHere, named, restoringHere}
 use Rattle.wimtaze.specs.Theorems.{Formed, Loads, WrittenLoads}
 
 turned-loads : (out line : List ℕ) (q : Refusal) → Loads (turned out line q)
@@ -125,6 +125,13 @@ module _ (bytes : List ℕ) where
       input-loads true true out line _
       (λ h. sent-loads (localDelete said index .state) (localDelete said index .answer) out line (form-kept said (deleting index) h))
 
+  restore-loads : (site clock : ℕ) (out line : List ℕ) → Loads (restoringHere bytes site clock out line)
+  unfolding restoringHere afterSending outcome
+  restore-loads site clock out line =
+      let x = named site clock in
+      input-loads true (characterId x) out line _
+      (λ h. sent-loads (localRestore said x .state) (localRestore said x .answer) out line (form-kept said (restoring x) h))
+
 begin-loads : (number : ℕ) (out : List ℕ) → Loads (beginning number out)
 unfolding beginning
 begin-loads number out =
@@ -132,4 +139,4 @@ begin-loads number out =
     (λ w. writing-loads (initial number) (empty-formed number ∙ not-false (siteNumber number) (w .0)) (Done 0 0) out)
 
 pub written-loads : WrittenLoads
-written-loads = (begin-loads, receive-loads, type-loads, erase-loads)
+written-loads = (begin-loads, receive-loads, type-loads, erase-loads, restore-loads)

@@ -5,14 +5,15 @@ use mathlib.Core.Bool.{Bool, true, _&&_, not}
 use mathlib.Core.List.{List, [], _∷_}
 use lib.Dec.{eqb}
 use lib.ListN.{length}
+use Rattle.woot.specs.declared.Identifier.{Identifier}
 use Rattle.woot.specs.declared.Refusal.{Refusal}
 use Rattle.woot.specs.declared.Refusal.the-variants.{Layout, Range, Form}
 use Rattle.woot.specs.declared.Answer.the-variants.{Done, Refused}
-use Rattle.woot.specs.Ranges.{siteNumber, codePoint, inRange}
+use Rattle.woot.specs.Ranges.{siteNumber, codePoint, characterId, inRange}
 use Rattle.woot.specs.State.{State, initial}
 use Rattle.woot.specs.Form.{wellFormed}
 use Rattle.woot.specs.Answers.{Check, _⇒_, first, decided}
-use Rattle.woot.specs.Calls.{receive, localInsert, localDelete}
+use Rattle.woot.specs.Calls.{receive, localInsert, localDelete, localRestore}
 use Rattle.woot.specs.Text.{text}
 use Rattle.lines.specs.Lines.{rest}
 use Rattle.codec.specs.Calls.{laidOut, saidBy}
@@ -56,6 +57,16 @@ unfoldable pub deletingHere : List ℕ → ℕ → List ℕ → List ℕ → Eff
 deletingHere bytes index out line =
     decided (turned out line) (first (inputChecks bytes true true))
     (afterSending (localDelete (loadedState bytes) index) out line)
+
+-- the identifier that two numbers name
+abbrev pub named : ℕ → ℕ → Identifier
+named site clock = record { site = site; clock = clock }
+
+-- `wimtaze_restore`
+unfoldable pub restoringHere : List ℕ → ℕ → ℕ → List ℕ → List ℕ → Effect
+restoringHere bytes site clock out line =
+    decided (turned out line) (first (inputChecks bytes true (characterId (named site clock))))
+    (afterSending (localRestore (loadedState bytes) (named site clock)) out line)
 
 -- `wimtaze_text`
 unfoldable pub showingText : List ℕ → List ℕ → Effect

@@ -12,10 +12,10 @@ use Rattle.effects.specs.Effects.{Effect}
 use Rattle.woot.specs.State.{State}
 use Rattle.woot.specs.Form.{wellFormed}
 use Rattle.woot.specs.Text.{text}
-use Rattle.codec.specs.Theorems.{insertMost, deleteMost}
+use Rattle.codec.specs.Theorems.{insertMost, toggleMost}
 use Rattle.saved.specs.Theorems.{savedMost}
 use Rattle.results.specs.Results.{Result, wordNumber, inBits, numberOf}
-use Rattle.wimtaze.specs.Calls.{beginning, receivingLine, insertingHere, deletingHere, showingText, counting}
+use Rattle.wimtaze.specs.Calls.{beginning, receivingLine, insertingHere, deletingHere, restoringHere, showingText, counting}
 
 -- ---- sizes: the header's WIMTAZE_SHEET_MAX, WIMTAZE_INSERT_MAX, WIMTAZE_ERASE_MAX and WIMTAZE_TEXT_MAX
 
@@ -39,7 +39,7 @@ TypeNeverTaken =
 
 -- the bounds of a result, with at most m bytes written to the first output and k to the second
 pub record Fits (m k : ℕ) (x : Result) : Type 0 where
-  pub refusal-fits : x .reply .refusal ≤ 12
+  pub refusal-fits : x .reply .refusal ≤ 14
   pub integrated-fits : x .reply .integrated ≤ 513
   pub discarded-fits : x .reply .discarded ≤ 512
   pub written-fits : x .written ≤ m
@@ -53,7 +53,9 @@ ResultsFit =
     × ((bytes : List ℕ) (point n : ℕ) (out line : List ℕ) →
     Fits savedMost insertMost (insertingHere bytes point n out line .result))
     × ((bytes : List ℕ) (index : ℕ) (out line : List ℕ) →
-    Fits savedMost deleteMost (deletingHere bytes index out line .result))
+    Fits savedMost toggleMost (deletingHere bytes index out line .result))
+    × ((bytes : List ℕ) (site clock : ℕ) (out line : List ℕ) →
+    Fits savedMost toggleMost (restoringHere bytes site clock out line .result))
     × ((bytes out : List ℕ) → Fits textMost 0 (showingText bytes out .result))
 
 -- each part is read back from its bits, whatever the parts are
@@ -81,7 +83,7 @@ ReturnedReadsBack = (m k : ℕ) (x : Result) → m < 65536 → k < 65536 → Fit
 
 -- the bounds of the counts: the visible characters are as many as all of them at most, and those as the capacity
 pub record CountsWithin (x : Result) : Type 0 where
-  pub refusal-fits : x .reply .refusal ≤ 12
+  pub refusal-fits : x .reply .refusal ≤ 14
   pub visible-fits : x .reply .integrated ≤ x .written
   pub pending-fits : x .reply .discarded ≤ 512
   pub full-fits : x .written + x .line ≤ 1024
@@ -113,6 +115,7 @@ WrittenLoads =
     × ((bytes line out : List ℕ) → Loads (receivingLine bytes line out))
     × ((bytes : List ℕ) (point n : ℕ) (out line : List ℕ) → Loads (insertingHere bytes point n out line))
     × ((bytes : List ℕ) (index : ℕ) (out line : List ℕ) → Loads (deletingHere bytes index out line))
+    × ((bytes : List ℕ) (site clock : ℕ) (out line : List ℕ) → Loads (restoringHere bytes site clock out line))
 
 -- ---- outputs of the header's sizes
 
@@ -127,6 +130,8 @@ BuffersSuffice =
     × ((bytes line out : List ℕ) → savedMost ≤ length out → HasRoom (receivingLine bytes line out .result))
     × ((bytes : List ℕ) (point n : ℕ) (out line : List ℕ) → savedMost ≤ length out → insertMost ≤ length line →
     HasRoom (insertingHere bytes point n out line .result))
-    × ((bytes : List ℕ) (index : ℕ) (out line : List ℕ) → savedMost ≤ length out → deleteMost ≤ length line →
+    × ((bytes : List ℕ) (index : ℕ) (out line : List ℕ) → savedMost ≤ length out → toggleMost ≤ length line →
     HasRoom (deletingHere bytes index out line .result))
+    × ((bytes : List ℕ) (site clock : ℕ) (out line : List ℕ) → savedMost ≤ length out → toggleMost ≤ length line →
+    HasRoom (restoringHere bytes site clock out line .result))
     × ((bytes out : List ℕ) → textMost ≤ length out → HasRoom (showingText bytes out .result))

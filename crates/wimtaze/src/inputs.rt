@@ -4,7 +4,8 @@ use saved::LoadAnswer;
 use woot::Refusal;
 ghost use mathlib.Core.Path.{_≡_};
 ghost use Rattle.codec.specs.Calls.{readAs, saidBy};
-ghost use Rattle.wimtaze.specs.Calls.{oneLine};
+ghost use Rattle.woot.specs.Ranges.{characterId};
+ghost use Rattle.wimtaze.specs.Calls.{oneLine, named};
 ghost use Rattle.wimtaze.specs.Inputs.{layoutFirst, firstOf};
 
 // Reads one line, after which no byte may follow.
@@ -16,6 +17,22 @@ pub(crate) fn read_one(line: &[u8]) -> Read
         return Read::Refused(Refusal::Layout);
     }
     codec::read_operation(line)
+}
+
+// Whether two numbers name a character.
+pub(crate) fn is_character(site: u64, clock: u64) -> bool
+    ensures { λ r. ⌜ r ≡ characterId (named site clock) ⌝ }
+{
+    if site < 1 {
+        return false;
+    }
+    if 16 < site {
+        return false;
+    }
+    if clock < 1 {
+        return false;
+    }
+    clock <= 65535
 }
 
 // Of two refusals of what was handed, 1 comes first.

@@ -11,7 +11,7 @@ ghost use mathlib.Core.Path.{_≡_};
 ghost use mathlib.Core.List.{[]};
 ghost use Rattle.results.specs.Results.{numberOf};
 ghost use Rattle.effects.specs.Effects.{Leaves};
-ghost use Rattle.wimtaze.specs.Calls.{beginning, receivingLine, insertingHere, deletingHere};
+ghost use Rattle.wimtaze.specs.Calls.{beginning, receivingLine, insertingHere, deletingHere, restoringHere};
 ghost use Rattle.wimtaze.specs.Calls.{showingText, counting};
 
 // Writes the empty replica of a site.
@@ -135,6 +135,34 @@ pub extern "C" fn wimtaze_type(
                 out,
                 line_out,
             )
+        }
+    }
+}
+
+// Restores the hidden character that two numbers name, and writes the new saved replica and the line to be sent.
+#[no_mangle]
+pub extern "C" fn wimtaze_restore(
+    bytes: &[u8],
+    site: u64,
+    clock: u64,
+    out: &mut [u8],
+    line_out: &mut [u8],
+) -> u64
+    ensures { λ r. ⌜ Leaves (restoringHere (now (bytes .entry)) site clock
+        (now (out .entry)) (now («line_out» .entry)))
+        r (now (out .exit)) (now («line_out» .exit)) ⌝ }
+{
+    let loaded = loading::read(bytes);
+    let answer = loaded.answer;
+    if !inputs::is_character(site, clock) {
+        return results::refused(inputs::first_of(answer, Refusal::Range));
+    }
+    match answer {
+        LoadAnswer::Refused(q) => results::refused(q),
+        LoadAnswer::Done => {
+            let replica = loaded.replica;
+            let id = codec::identifier(site, clock);
+            effects::send(replica::restore(replica, id), out, line_out)
         }
     }
 }
