@@ -69,6 +69,23 @@ fn answer_of(s: Sent) -> Answer
     }
 }
 
+// Erases the first visible character.
+pub(crate) fn erase_first(r: Replica) -> Replica {
+    let generated = replica::delete(r, 1);
+    let answer = generated.answer;
+    print::step(b"erasing place", 1, answer_of(answer));
+    generated.replica
+}
+
+// Restores a character.
+pub(crate) fn restore(r: Replica, id: Identifier) -> Replica {
+    let clock = id.clock;
+    let generated = replica::restore(r, id);
+    let answer = generated.answer;
+    print::step(b"restoring, at clock", clock, answer_of(answer));
+    generated.replica
+}
+
 // Types a character before all others.
 pub(crate) fn type_first(r: Replica) -> Replica {
     let clock = r.site.clock;

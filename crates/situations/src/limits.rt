@@ -58,7 +58,7 @@ pub(crate) fn document_full() -> Replica {
 // A site types its last character.
 pub(crate) fn last_clock() {
     print::text(b"Clock 65,534: typing succeeds; 65,535: refusal 5.\n");
-    let loaded = loading::load(b"S\t3\t65534\n");
+    let loaded = loading::load(b"S2\t3\t65534\n");
     let mut r = loaded.replica;
     r = calls::type_first(r);
     r = calls::type_first(r);

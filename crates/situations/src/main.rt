@@ -1,10 +1,11 @@
-// The test program: runs the situations of document 01 that are not computed from the written rules, RFC 3629's
-// examples and the largest lines, and prints under each sentence what came of it.
+// The test program: runs the situations of document 01 that are not computed from the written rules, those of restoring,
+// RFC 3629's examples and the largest lines, and prints under each sentence what came of it.
 mod calls;
 mod encoding;
 mod limits;
 mod print;
 mod trips;
+mod turns;
 
 fn main() {
     limits::sender_full();
@@ -12,6 +13,8 @@ fn main() {
     trips::save_twice(full);
     limits::last_clock();
     limits::drained();
+    turns::brought_back();
+    turns::last_turn();
     trips::largest();
     encoding::examples();
     encoding::boundaries();

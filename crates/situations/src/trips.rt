@@ -21,11 +21,13 @@ fn round_trip(label: &[u8], line: &[u8]) {
     }
 }
 
-// The longest lines of both kinds.
+// The longest lines of both kinds, and one that is read and written no more.
 pub(crate) fn largest() {
-    print::text(b"Insert: at most 37 bytes. Erase: at most 14 bytes.\n");
+    print::text(b"Insert: at most 37 bytes. Erase and restore: at most 18 bytes.\n");
     round_trip(b"insert", b"I\t16\t65535\t1114111\t16\t65534\t16\t65533\n");
-    round_trip(b"erase", b"D\t16\t16\t65535\n");
+    round_trip(b"erase", b"E\t16\t16\t65535\t255\n");
+    print::text(b"A D line is read as turn 1 and is written no more.\n");
+    round_trip(b"D line", b"D\t16\t16\t65535\n");
 }
 
 // Prints the lengths of two saved replicas and whether they are the same bytes.
