@@ -9,7 +9,7 @@ mod reference;
 mod table;
 mod tabled;
 
-use reference::{Erase, Id, Insert, Operation, Reply, Sheet, BEGIN, END};
+use reference::{Id, Insert, Operation, Reply, Sheet, Turn, BEGIN, END};
 use std::time::{Duration, Instant};
 use tabled::Tabled;
 
@@ -33,7 +33,7 @@ fn insert(k: u64) -> Operation {
 }
 
 fn erase(k: u64) -> Operation {
-    Operation::Erase(Erase { sender: (k % 16 + 1) as u8, id: id(k) })
+    Operation::Turn(Turn { sender: (k % 16 + 1) as u8, id: id(k), turn: 1 })
 }
 
 /// Receives the operations, and counts those carried out.

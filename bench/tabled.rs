@@ -2,7 +2,7 @@
 //! form and the table among them, rows found through the chains of a table that is kept beside them and made anew after
 //! an insert, the sheet changed in place.
 
-use crate::reference::{is_code_point, Id, Insert, Operation, Reply, Row, BEGIN, END};
+use crate::reference::{is_code_point, Id, Insert, Operation, Reply, Row, Turn, BEGIN, END};
 
 const ROWS: usize = 1024;
 const CHAINS: usize = 2048;
@@ -42,21 +42,21 @@ fn insert_passes(i: &Insert) -> bool {
 fn passes(o: &Operation) -> bool {
     match o {
         Operation::Insert(i) => insert_passes(i),
-        Operation::Erase(e) => is_laptop(e.sender) && is_character(e.id),
+        Operation::Turn(t) => is_laptop(t.sender) && is_character(t.id) && t.turn >= 1,
     }
 }
 
 fn sender(o: &Operation) -> u8 {
     match o {
         Operation::Insert(i) => i.id.laptop,
-        Operation::Erase(e) => e.sender,
+        Operation::Turn(t) => t.sender,
     }
 }
 
 fn insert_of(o: &Operation) -> Option<&Insert> {
     match o {
         Operation::Insert(i) => Some(i),
-        Operation::Erase(_) => None,
+        Operation::Turn(_) => None,
     }
 }
 
@@ -92,7 +92,7 @@ impl Tabled {
     fn has_all(&self, o: &Operation) -> bool {
         match o {
             Operation::Insert(i) => self.place(i.previous).is_some() && self.place(i.next).is_some(),
-            Operation::Erase(e) => self.row(e.id).is_some(),
+            Operation::Turn(t) => self.row(t.id).is_some(),
         }
     }
 
@@ -135,7 +135,7 @@ impl Tabled {
                         || self.row(i.id).is_some()
                         || before.iter().filter_map(insert_of).any(|j| j.id == i.id)
                 }
-                Operation::Erase(_) => before.contains(o),
+                Operation::Turn(_) => before.contains(o),
             };
             if !passes(o) || faulty || self.has_all(o) {
                 return false;
@@ -175,7 +175,7 @@ impl Tabled {
 
     fn put(&mut self, insert: Insert, k: usize) {
         self.hear(&insert);
-        self.rows.insert(k, Row { insert, shown: true });
+        self.rows.insert(k, Row { insert, turn: 0 });
         self.heads = [0; CHAINS];
         for (k, r) in self.rows.iter().enumerate() {
             let c = chain(r.insert.id);
@@ -184,9 +184,9 @@ impl Tabled {
         }
     }
 
-    fn hide(&mut self, id: Id) {
-        if let Some(k) = self.row(id) {
-            self.rows[k].shown = false;
+    fn turn(&mut self, t: &Turn) {
+        if let Some(k) = self.row(t.id) {
+            self.rows[k].turn = self.rows[k].turn.max(t.turn);
         }
     }
 
@@ -198,8 +198,8 @@ impl Tabled {
                 let other = held.or_else(|| self.waiting.iter().filter_map(insert_of).find(|j| j.id == i.id))?;
                 Some(if other == i { Reply::Known } else { Reply::Refused(7) })
             }
-            Operation::Erase(e) => match self.row(e.id) {
-                Some(k) => (!self.rows[k].shown).then_some(Reply::Known),
+            Operation::Turn(t) => match self.row(t.id) {
+                Some(k) => (t.turn <= self.rows[k].turn).then_some(Reply::Known),
                 None => self.waiting.contains(o).then_some(Reply::Known),
             },
         }
@@ -210,7 +210,7 @@ impl Tabled {
         let (mut carried, mut thrown) = (1, 0);
         while let Some(j) = self.waiting.iter().position(|o| self.has_all(o)) {
             match self.waiting.remove(j) {
-                Operation::Erase(e) => self.hide(e.id),
+                Operation::Turn(t) => self.turn(&t),
                 Operation::Insert(i) => match self.find_place(&i) {
                     Ok(k) => self.put(i, k),
                     Err(_) => {
@@ -250,8 +250,8 @@ impl Tabled {
         }
         match (ready, o) {
             (true, Operation::Insert(i)) => self.carry_insert(*i, place),
-            (true, Operation::Erase(e)) => {
-                self.hide(e.id);
+            (true, Operation::Turn(t)) => {
+                self.turn(t);
                 Reply::Done { carried: 1, thrown: 0 }
             }
             (false, _) => {

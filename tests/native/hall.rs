@@ -1,4 +1,4 @@
-//! The hall program on the plain reading of document 01, for comparison with the one that is built from the library:
+//! The hall program on the plain reading of the papers, for comparison with the one that is built from the library:
 //! reads standard input and prints what that one must print.
 
 #[allow(dead_code)]
@@ -27,7 +27,7 @@ fn printed(input: &[u8]) -> String {
         };
         out += &format!("{}\t{}\n", k + 1, report(reply));
     }
-    let shown: Vec<_> = sheet.rows.iter().filter(|r| r.shown).collect();
+    let shown: Vec<_> = sheet.rows.iter().filter(|r| r.shown()).collect();
     out += &format!("T\t{}", shown.len());
     for r in shown {
         out += &format!("\t{}", r.insert.code);

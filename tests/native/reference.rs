@@ -19,22 +19,31 @@ pub struct Insert {
     pub next: Id,
 }
 
+/// What erasing and restoring send (Req 05).
 #[derive(Clone, Copy, PartialEq, Eq, Debug)]
-pub struct Erase {
+pub struct Turn {
     pub sender: u8,
     pub id: Id,
+    pub turn: u8,
 }
 
 #[derive(Clone, Copy, PartialEq, Eq, Debug)]
 pub enum Operation {
     Insert(Insert),
-    Erase(Erase),
+    Turn(Turn),
 }
 
 #[derive(Clone, Copy, PartialEq, Eq, Debug)]
 pub struct Row {
     pub insert: Insert,
-    pub shown: bool,
+    pub turn: u8,
+}
+
+impl Row {
+    /// A row is shown when its turn is even.
+    pub fn shown(&self) -> bool {
+        self.turn % 2 == 0
+    }
 }
 
 #[derive(Clone, PartialEq, Eq, Debug)]
@@ -91,14 +100,14 @@ impl Operation {
     pub fn passes(&self) -> bool {
         match self {
             Operation::Insert(i) => i.passes(),
-            Operation::Erase(e) => is_laptop(e.sender) && is_character(e.id),
+            Operation::Turn(t) => is_laptop(t.sender) && is_character(t.id) && t.turn >= 1,
         }
     }
 
     fn sender(&self) -> u8 {
         match self {
             Operation::Insert(i) => i.id.laptop,
-            Operation::Erase(e) => e.sender,
+            Operation::Turn(t) => t.sender,
         }
     }
 }
@@ -128,14 +137,14 @@ impl Sheet {
     fn has_all(&self, o: &Operation) -> bool {
         match o {
             Operation::Insert(i) => self.place(i.previous).is_some() && self.place(i.next).is_some(),
-            Operation::Erase(e) => self.place(e.id).is_some(),
+            Operation::Turn(t) => self.place(t.id).is_some(),
         }
     }
 
     fn waiting_inserts(&self) -> impl Iterator<Item = &Insert> {
         self.waiting.iter().filter_map(|o| match o {
             Operation::Insert(i) => Some(i),
-            Operation::Erase(_) => None,
+            Operation::Turn(_) => None,
         })
     }
 
@@ -196,7 +205,7 @@ impl Sheet {
                     self.place(i.id).is_some()
                         || before.iter().any(|p| matches!(p, Operation::Insert(j) if j.id == i.id))
                 }
-                Operation::Erase(_) => before.contains(o),
+                Operation::Turn(_) => before.contains(o),
             };
             if twice || self.has_all(o) {
                 return false;
@@ -246,26 +255,31 @@ impl Sheet {
         }
     }
 
-    fn hide(&mut self, id: Id) {
-        for r in self.rows.iter_mut().filter(|r| r.insert.id == id) {
-            r.shown = false;
+    fn row(&self, id: Id) -> Option<&Row> {
+        self.rows.iter().find(|r| r.insert.id == id)
+    }
+
+    /// The row takes the larger of its turn and the operation's.
+    fn turn(&mut self, t: &Turn) {
+        for r in self.rows.iter_mut().filter(|r| r.insert.id == t.id) {
+            r.turn = r.turn.max(t.turn);
         }
     }
 
     /// Puts the row in, and carries out what that releases.
     fn carry_insert(&mut self, i: Insert, k: usize) -> Reply {
-        self.rows.insert(k, Row { insert: i, shown: true });
+        self.rows.insert(k, Row { insert: i, turn: 0 });
         self.hear(&i);
         let (mut carried, mut thrown) = (1, 0);
         while let Some(j) = self.waiting.iter().position(|o| self.has_all(o)) {
             match self.waiting.remove(j) {
-                Operation::Erase(e) => {
-                    self.hide(e.id);
+                Operation::Turn(t) => {
+                    self.turn(&t);
                     carried += 1;
                 }
                 Operation::Insert(i) => match self.find_place(&i) {
                     Ok(k) => {
-                        self.rows.insert(k, Row { insert: i, shown: true });
+                        self.rows.insert(k, Row { insert: i, turn: 0 });
                         self.hear(&i);
                         carried += 1;
                     }
@@ -279,7 +293,7 @@ impl Sheet {
     fn known(&self, o: &Operation) -> bool {
         let held = match o {
             Operation::Insert(i) => self.rows.iter().any(|r| r.insert == *i),
-            Operation::Erase(e) => self.rows.iter().any(|r| r.insert.id == e.id && !r.shown),
+            Operation::Turn(t) => self.row(t.id).is_some_and(|r| t.turn <= r.turn),
         };
         held || self.waiting.contains(o)
     }
@@ -315,8 +329,8 @@ impl Sheet {
         }
         match (ready, o) {
             (true, Operation::Insert(i)) => self.carry_insert(*i, place),
-            (true, Operation::Erase(e)) => {
-                self.hide(e.id);
+            (true, Operation::Turn(t)) => {
+                self.turn(t);
                 Reply::Done { carried: 1, thrown: 0 }
             }
             (false, _) => {
@@ -330,7 +344,7 @@ impl Sheet {
     }
 
     fn shown(&self) -> Vec<Id> {
-        self.rows.iter().filter(|r| r.shown).map(|r| r.insert.id).collect()
+        self.rows.iter().filter(|r| r.shown()).map(|r| r.insert.id).collect()
     }
 
     /// Typing at a gap: the reply, and the operation to be sent.
@@ -377,10 +391,31 @@ impl Sheet {
         if place == 0 || place > shown.len() as u64 {
             return (Reply::Refused(4), None);
         }
-        let id = shown[place as usize - 1];
-        self.hide(id);
-        let e = Operation::Erase(Erase { sender: self.laptop, id });
-        (Reply::Done { carried: 1, thrown: 0 }, Some(e))
+        self.raise(shown[place as usize - 1])
+    }
+
+    /// Restoring the row of an identifier: 13 and then 14 come where 4 would.
+    pub fn restore(&mut self, id: Id) -> (Reply, Option<Operation>) {
+        if !is_character(id) {
+            return (Reply::Refused(2), None);
+        }
+        if !self.in_form() {
+            return (Reply::Refused(3), None);
+        }
+        match self.row(id) {
+            None => (Reply::Refused(13), None),
+            Some(r) if r.shown() => (Reply::Refused(13), None),
+            Some(r) if r.turn == 255 => (Reply::Refused(14), None),
+            Some(_) => self.raise(id),
+        }
+    }
+
+    /// Raises a row's turn by one, and sends it.
+    fn raise(&mut self, id: Id) -> (Reply, Option<Operation>) {
+        let turn = self.row(id).unwrap().turn + 1;
+        let t = Turn { sender: self.laptop, id, turn };
+        self.turn(&t);
+        (Reply::Done { carried: 1, thrown: 0 }, Some(Operation::Turn(t)))
     }
 
     /// The visible text, if the sheet is in form.
@@ -391,7 +426,7 @@ impl Sheet {
         let text: String = self
             .rows
             .iter()
-            .filter(|r| r.shown)
+            .filter(|r| r.shown())
             .map(|r| printed(r.insert.code))
             .collect();
         Ok(text.into_bytes())
@@ -415,9 +450,9 @@ fn number(field: &[u8]) -> Option<u64> {
     Some(n)
 }
 
-fn numbers(line: &[u8], letter: u8, count: usize) -> Option<Vec<u64>> {
+fn numbers(line: &[u8], word: &str, count: usize) -> Option<Vec<u64>> {
     let mut fields = line.split(|b| *b == b'\t');
-    if fields.next() != Some(&[letter][..]) {
+    if fields.next() != Some(word.as_bytes()) {
         return None;
     }
     let all: Option<Vec<u64>> = fields.map(number).collect();
@@ -438,17 +473,25 @@ fn insert_of(ns: &[u64]) -> Option<Insert> {
     Some(i).filter(Insert::passes)
 }
 
-fn erase_of(ns: &[u64]) -> Option<Operation> {
-    let e = Operation::Erase(Erase { sender: u8::try_from(ns[0]).ok()?, id: id(ns[1], ns[2])? });
-    Some(e).filter(Operation::passes)
+fn turn_of(ns: &[u64]) -> Option<Operation> {
+    let t = Turn { sender: u8::try_from(ns[0]).ok()?, id: id(ns[1], ns[2])?, turn: u8::try_from(ns[3]).ok()? };
+    Some(Operation::Turn(t)).filter(Operation::passes)
 }
 
-/// A line without its line feed: no layout, or the operation if its numbers pass.
-fn operation_of(line: &[u8]) -> Option<Option<Operation>> {
-    if let Some(ns) = numbers(line, b'I', 7) {
+/// A line, without its line feed, as it waits in a saved sheet: no layout, or the operation if its numbers pass.
+fn waiting_of(line: &[u8]) -> Option<Option<Operation>> {
+    if let Some(ns) = numbers(line, "I", 7) {
         return Some(insert_of(&ns).map(Operation::Insert));
     }
-    numbers(line, b'D', 3).map(|ns| erase_of(&ns))
+    numbers(line, "E", 4).map(|ns| turn_of(&ns))
+}
+
+/// The same of a line that was sent, where a `D` line is read as turn 1.
+fn operation_of(line: &[u8]) -> Option<Option<Operation>> {
+    match numbers(line, "D", 3) {
+        Some(ns) => Some(turn_of(&[ns[0], ns[1], ns[2], 1])),
+        None => waiting_of(line),
+    }
 }
 
 /// The operation of the first line, whatever follows it.
@@ -463,35 +506,36 @@ pub fn operation_line(o: &Operation) -> Vec<u8> {
             "I\t{}\t{}\t{}\t{}\t{}\t{}\t{}\n",
             i.id.laptop, i.id.clock, i.code, i.previous.laptop, i.previous.clock, i.next.laptop, i.next.clock
         ),
-        Operation::Erase(e) => format!("D\t{}\t{}\t{}\n", e.sender, e.id.laptop, e.id.clock),
+        Operation::Turn(t) => format!("E\t{}\t{}\t{}\t{}\n", t.sender, t.id.laptop, t.id.clock, t.turn),
     };
     line.into_bytes()
 }
 
-/// A saved sheet: refusals 1, 2 and 3 over the whole of it, in this order. Loading raises a clock that is too low.
+/// A saved sheet of the second form: refusals 1, 2 and 3 over the whole of it, in this order. Loading raises a clock
+/// that is too low.
 pub fn read_sheet(bytes: &[u8]) -> Result<Sheet, u8> {
     if bytes.last() != Some(&b'\n') {
         return Err(1);
     }
     let mut lines = bytes[..bytes.len() - 1].split(|b| *b == b'\n');
-    let head = numbers(lines.next().unwrap(), b'S', 2).ok_or(1)?;
+    let head = numbers(lines.next().unwrap(), "S2", 2).ok_or(1)?;
     let mut passes = (1..=16).contains(&head[0]) && head[1] <= 65_535;
     let mut sheet = Sheet::empty(head[0].min(255) as u8);
     sheet.clock = head[1].min(65_535) as u16;
     let mut rows_over = false;
     for line in lines {
-        if let Some(ns) = numbers(line, b'C', 8) {
+        if let Some(ns) = numbers(line, "C", 8) {
             if rows_over {
                 return Err(1);
             }
             let fields = [ns[0], ns[1], ns[2], ns[4], ns[5], ns[6], ns[7]];
-            match insert_of(&fields) {
-                Some(insert) if ns[3] <= 1 => sheet.rows.push(Row { insert, shown: ns[3] == 1 }),
+            match (insert_of(&fields), u8::try_from(ns[3])) {
+                (Some(insert), Ok(turn)) => sheet.rows.push(Row { insert, turn }),
                 _ => passes = false,
             }
         } else {
             rows_over = true;
-            match operation_of(line).ok_or(1)? {
+            match waiting_of(line).ok_or(1)? {
                 Some(o) => sheet.waiting.push(o),
                 None => passes = false,
             }
@@ -508,7 +552,7 @@ pub fn read_sheet(bytes: &[u8]) -> Result<Sheet, u8> {
 }
 
 pub fn sheet_bytes(s: &Sheet) -> Vec<u8> {
-    let mut out = format!("S\t{}\t{}\n", s.laptop, s.clock).into_bytes();
+    let mut out = format!("S2\t{}\t{}\n", s.laptop, s.clock).into_bytes();
     for r in &s.rows {
         let i = &r.insert;
         out.extend(
@@ -517,7 +561,7 @@ pub fn sheet_bytes(s: &Sheet) -> Vec<u8> {
                 i.id.laptop,
                 i.id.clock,
                 i.code,
-                u8::from(r.shown),
+                r.turn,
                 i.previous.laptop,
                 i.previous.clock,
                 i.next.laptop,
@@ -651,6 +695,17 @@ pub fn erase_call(sheet: &[u8], place: u64) -> Outcome {
     match read_sheet(sheet) {
         Ok(mut sheet) => {
             let (reply, sent) = sheet.erase_at(place);
+            Outcome::of(reply, &sheet, sent)
+        }
+        Err(n) => Outcome::refused(n),
+    }
+}
+
+pub fn restore_call(sheet: &[u8], laptop: u64, clock: u64) -> Outcome {
+    let named = id(laptop, clock).filter(|named| is_character(*named)).ok_or(2);
+    match both(read_sheet(sheet), named) {
+        Ok((mut sheet, named)) => {
+            let (reply, sent) = sheet.restore(named);
             Outcome::of(reply, &sheet, sent)
         }
         Err(n) => Outcome::refused(n),
