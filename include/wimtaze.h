@@ -4,9 +4,9 @@
  * Each laptop keeps a sheet: the characters typed so far, those erased among them, and the edits that came before
  * something that they need. Your program holds a sheet as bytes, the saved sheet. A call takes a saved sheet and
  * writes a new one; the library keeps nothing between calls, allocates nothing, and opens no file or connection.
- * Typing and erasing also write a line, which ends in a line feed, its only one. Send it to the other laptops in any
- * way you like: lines may be lost and sent again, come twice, or come in another order. Laptops that have carried
- * out the same edits show the same text.
+ * Typing, erasing and restoring also write a line, which ends in a line feed, its only one. Send it to the other
+ * laptops in any way you like: lines may be lost and sent again, come twice, or come in another order. Laptops that
+ * have carried out the same edits show the same text.
  *
  *     static uint8_t sheet[WIMTAZE_SHEET_MAX], after[WIMTAZE_SHEET_MAX];
  *     uint8_t line[WIMTAZE_LINE_MAX];
@@ -23,6 +23,11 @@
  * On the other laptops, give each line that comes to wimtaze_receive. If its word is WIMTAZE_DONE or WIMTAZE_WAITS,
  * keep and save the new sheet as above. If it is WIMTAZE_KNOWN the edit is there already: keep the sheet you have. If
  * it is WIMTAZE_REFUSED, wimtaze_refusal says why, and the sheet you have stands. Link with -lwimtaze.
+ *
+ * An erased character stays on the sheet, hidden, and any laptop can bring it back with wimtaze_restore, by its
+ * identifier. For that the program remembers what it erased, from the lines that wimtaze_erase wrote, or looks through
+ * the saved sheet, which has what others erased too: see the layouts. A whole line of text is brought back character by
+ * character, and in the place where it was.
  *
  *
  * What your program must do
@@ -56,8 +61,9 @@
  * What to do after a refusal:
  *
  *   1, 2  Receiving: the line was damaged on the way, or is no line of this library; drop it, and its sender, who gets
- *         no acknowledgement, sends it again. If wimtaze_counts refuses the sheet too, the file is damaged: rule 1.
- *         Typing, and 2: what was given is no code point.
+ *         no acknowledgement, sends it again. If wimtaze_counts refuses the sheet too, the file is damaged: rule 1; or
+ *         it is, with 1, of an older version: see the layouts. Typing, and 2: what was given is no code point.
+ *         Restoring, and 2: what was given is no identifier.
  *   3     The file is damaged: rule 1.
  *   4     Typing, erasing: the text is shorter than you thought. It may change with every line that comes.
  *   5     Typing: this laptop has typed 65,535 characters, or a line with its number and that clock came. Rule 6 or 7
@@ -72,6 +78,10 @@
  *   11    Typing: the sheet is full, and erasing makes no room. Receiving: rule 6 was broken, and the copies differ for
  *         good. Begin a new sheet on every laptop.
  *   12    The output is too short. With the sizes below it never is.
+ *   13    Restoring: the character is shown already, or has not come. Nothing is wrong: look at the sheet again. It may
+ *         change with every line that comes.
+ *   14    Restoring: the character was erased for the 128th time, or a line said so and rule 7 was broken. It stays
+ *         hidden for good: type it anew.
  *
  * If wimtaze_thrown is not 0, an edit that waited has met 8 or 9. The file laptop.h, which is installed with the
  * examples, keeps all these rules and can be copied, with anew.h for a laptop that lost its sheet; playing_hall.c there
@@ -83,24 +93,34 @@
  * Lines and saved sheets are text, to be sent and kept in files as they are. Fields are parted by one tab, each line
  * ends in one line feed, and numbers are decimal digits without sign or leading zero. Here a space stands for the tab.
  *
- *     I laptop clock codepoint prevlaptop prevclock nextlaptop nextclock          the line of a typed character
- *     D sender laptop clock                                                       the line of an erased character
+ *     I laptop clock codepoint prevlaptop prevclock nextlaptop nextclock         the line of a typed character
+ *     E sender laptop clock turn                                                 the line of an erased or restored one
  *
  * A saved sheet has, in this order:
  *
- *     S laptop clock                                                              whose it is, how many it has typed
- *     C laptop clock codepoint shown prevlaptop prevclock nextlaptop nextclock    each character, from the top
- *     I and D lines                                                               the edits that wait, earliest first
+ *     S2 laptop clock                                                            whose it is, how many it has typed
+ *     C laptop clock codepoint turn prevlaptop prevclock nextlaptop nextclock    each character, from the top
+ *     I and E lines                                                              the edits that wait, earliest first
  *
  * A character's laptop and clock are its identifier: the laptop that typed it, and how many that laptop had typed then,
  * this one counted. Prev and next are the identifiers of the two that it was typed between; 0 0 is the beginning of the
- * text and 0 1 its end. Shown is 1, or 0 once the character is erased. Laptops are 1 to 16, clocks 1 to 65,535 (after S
- * from 0), and code points 0 to 1,114,111 without 55,296 to 57,343. A clock after S that is below that of one of the
- * laptop's own characters on the sheet, waiting ones among them, is taken as that one's.
+ * text and 0 1 its end. Turn is how many times the character was erased and restored, both counted: it is shown when
+ * its turn is even. Laptops are 1 to 16, clocks 1 to 65,535 (after S2 from 0), turns 0 to 255 (after E from 1), and
+ * code points 0 to 1,114,111 without 55,296 to 57,343. A clock after S2 that is below that of one of the laptop's own
+ * characters on the sheet, waiting ones among them, is taken as that one's.
  *
- * The lines can be made again from a sheet. A C line without its shown and with I for C is the line of that character.
- * Where shown is 0, D with your own number and the character's laptop and clock is a line that erases it. So a laptop
- * can send everything that it holds, whoever typed it. What the other has already is known to it.
+ * A character takes the highest turn that comes for it, in whatever order the lines come; a line whose turn is not
+ * higher than the character's is known. Two laptops that erase one character at once both make its turn 1, and it is
+ * erased once. Where one erases it while another erases it and brings it back, it is shown.
+ *
+ * The lines can be made again from a sheet. A C line without its turn and with I for C is the line of that character.
+ * Where the turn is above 0, E with your own number and the character's laptop, clock and turn is the line of what
+ * became of it since. So a laptop can send everything that it holds, whoever typed it. What the other has already is
+ * known to it.
+ *
+ * Versions before 0.5 wrote D sender laptop clock for an erased character. Such a line is read still, as E with turn 1,
+ * but not in a saved sheet; their sheets begin with S and are refused with 1, and they refuse E lines. So let all
+ * laptops of a sheet change to this version together, and begin a new sheet.
  *
  *
  * The calls
@@ -131,9 +151,9 @@ extern "C" {
 #endif
 
 /* The version of this header and of the library that it came with. */
-#define WIMTAZE_VERSION "0.4.0"
+#define WIMTAZE_VERSION "0.5.0"
 #define WIMTAZE_VERSION_MAJOR 0
-#define WIMTAZE_VERSION_MINOR 4
+#define WIMTAZE_VERSION_MINOR 5
 #define WIMTAZE_VERSION_PATCH 0
 
 /* The limits of a sheet. */
@@ -141,9 +161,9 @@ extern "C" {
 #define WIMTAZE_CHARACTER_MAX 1024 /* characters in its life, erased and waiting ones counted */
 
 /* The most bytes that a call writes. */
-#define WIMTAZE_SHEET_MAX 47115 /* a saved sheet */
+#define WIMTAZE_SHEET_MAX 51212 /* a saved sheet */
 #define WIMTAZE_INSERT_MAX 37   /* the line of a typed character */
-#define WIMTAZE_ERASE_MAX 14    /* the line of an erased character */
+#define WIMTAZE_ERASE_MAX 18    /* the line of an erased or restored character */
 #define WIMTAZE_LINE_MAX 37     /* either line */
 #define WIMTAZE_TEXT_MAX 4096   /* the text */
 
@@ -158,11 +178,11 @@ extern "C" {
 enum wimtaze_words {
     WIMTAZE_DONE = 0,   /* carried out; the outputs are written */
     WIMTAZE_WAITS = 1,  /* the edit waits for one that has not come; the new sheet is written, and holds it */
-    WIMTAZE_KNOWN = 2,  /* the edit is on the sheet already; nothing is written */
+    WIMTAZE_KNOWN = 2,  /* the edit is on the sheet already, or a later turn; nothing is written */
     WIMTAZE_REFUSED = 3 /* turned away; nothing is written */
 };
 
-/* Why a call is turned away. Where several hold, the lowest is told. */
+/* Why a call is turned away. Where several hold, the first is told, in this order: 1 to 4, 13, 14, 5 to 12. */
 enum wimtaze_refusals {
     WIMTAZE_REFUSAL_NONE = 0,           /* not refused */
     WIMTAZE_REFUSAL_LAYOUT = 1,         /* the line or the saved sheet lacks its layout */
@@ -176,7 +196,9 @@ enum wimtaze_refusals {
     WIMTAZE_REFUSAL_UNPLACEABLE = 9,    /* the sheet gives the insert no place between its neighbours */
     WIMTAZE_REFUSAL_SENDER_FULL = 10,   /* the edit would wait, and its sender has 32 waiting: try it again later */
     WIMTAZE_REFUSAL_DOCUMENT_FULL = 11, /* the sheet has its 1,024 characters, erased and waiting ones counted */
-    WIMTAZE_REFUSAL_OUTPUT = 12         /* an output is too short for its result */
+    WIMTAZE_REFUSAL_OUTPUT = 12,        /* an output is too short for its result */
+    WIMTAZE_REFUSAL_NOT_HIDDEN = 13,    /* the character to be restored is shown, or is not on the sheet */
+    WIMTAZE_REFUSAL_LAST_TURN = 14      /* the turn of the character to be restored is 255: it stays hidden */
 };
 
 /*
@@ -207,6 +229,15 @@ uint64_t wimtaze_type(const uint8_t *sheet, size_t sheet_length, uint64_t gap, u
  */
 uint64_t wimtaze_erase(const uint8_t *sheet, size_t sheet_length, uint64_t place, uint8_t *sheet_out,
                        size_t sheet_out_length, uint8_t *line_out, size_t line_out_length);
+
+/*
+ * Brings back the erased character with this identifier, laptop 1 to 16 and clock 1 to 65,535, in the place where it
+ * was, and writes the new sheet and the line to send. The identifier stands in the line that erased it and in the saved
+ * sheet; whoever typed or erased the character, any laptop may bring it back. One that waits is not on the sheet yet.
+ * Refusals: 1, 2, 3, 13, 14, 12 (if either output is short, neither is written).
+ */
+uint64_t wimtaze_restore(const uint8_t *sheet, size_t sheet_length, uint64_t laptop, uint64_t clock, uint8_t *sheet_out,
+                         size_t sheet_out_length, uint8_t *line_out, size_t line_out_length);
 
 /*
  * Writes the text that the sheet shows, in UTF-8. It is for showing and printing, and not the characters themselves:
@@ -242,13 +273,16 @@ static inline enum wimtaze_refusals wimtaze_refusal(uint64_t reply)
     return (enum wimtaze_refusals)(reply >> 2 & 63);
 }
 
-/* How many edits the call carried out, its own and those that waited for it: at most 513; 0 unless the word is done. */
+/*
+ * How many edits the call carried out, its own and those that waited for it: at most 513, and 1 by erasing and by
+ * restoring; 0 unless the word is done.
+ */
 static inline unsigned wimtaze_carried(uint64_t reply)
 {
     return (unsigned)(reply >> 8 & 4095);
 }
 
-/* How many waiting edits the call threw out, since they met refusal 8 or 9 when their turn came: at most 512. */
+/* How many waiting edits the call threw out, which met refusal 8 or 9 when they had all they needed: at most 512. */
 static inline unsigned wimtaze_thrown(uint64_t reply)
 {
     return (unsigned)(reply >> 20 & 4095);
@@ -272,7 +306,7 @@ static inline unsigned wimtaze_shown_count(uint64_t counts)
     return (unsigned)(counts >> 8 & 4095);
 }
 
-/* Of wimtaze_counts: how many edits wait on the sheet for one that has not come, typed and erased characters alike. */
+/* Of wimtaze_counts: how many edits wait on the sheet for one that has not come, whatever they do. */
 static inline unsigned wimtaze_waiting_count(uint64_t counts)
 {
     return (unsigned)(counts >> 20 & 4095);

@@ -29,6 +29,16 @@ extern "C" {
         line_out: *mut u8,
         line_out_length: usize,
     ) -> u64;
+    pub fn wimtaze_restore(
+        sheet: *const u8,
+        sheet_length: usize,
+        laptop: u64,
+        clock: u64,
+        sheet_out: *mut u8,
+        sheet_out_length: usize,
+        line_out: *mut u8,
+        line_out_length: usize,
+    ) -> u64;
     pub fn wimtaze_text(sheet: *const u8, sheet_length: usize, text_out: *mut u8, text_out_length: usize) -> u64;
     pub fn wimtaze_counts(sheet: *const u8, sheet_length: usize) -> u64;
 }
