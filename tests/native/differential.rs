@@ -10,7 +10,9 @@ mod library;
 #[allow(dead_code)]
 mod reference;
 
-use library::{wimtaze_counts, wimtaze_empty, wimtaze_erase, wimtaze_receive, wimtaze_text, wimtaze_type};
+use library::{
+    wimtaze_counts, wimtaze_empty, wimtaze_erase, wimtaze_receive, wimtaze_restore, wimtaze_text, wimtaze_type,
+};
 use reference::{Outcome, Reply};
 use std::collections::BTreeMap;
 use std::time::{Duration, Instant};
@@ -59,6 +61,7 @@ enum Call<'a> {
     Receive(&'a [u8], &'a [u8]),
     Type(&'a [u8], u64, u32),
     Erase(&'a [u8], u64),
+    Restore(&'a [u8], u64, u64),
     Text(&'a [u8]),
     Counts(&'a [u8]),
 }
@@ -70,6 +73,7 @@ impl Call<'_> {
             Call::Receive(..) => "receive",
             Call::Type(..) => "type",
             Call::Erase(..) => "erase",
+            Call::Restore(..) => "restore",
             Call::Text(..) => "text",
             Call::Counts(..) => "counts",
         }
@@ -80,7 +84,8 @@ impl Call<'_> {
         match self {
             Call::Empty(_) => (&[], &[]),
             Call::Receive(sheet, line) => (sheet, line),
-            Call::Type(sheet, ..) | Call::Erase(sheet, _) | Call::Text(sheet) | Call::Counts(sheet) => (sheet, &[]),
+            Call::Type(sheet, ..) | Call::Erase(sheet, _) | Call::Restore(sheet, ..) => (sheet, &[]),
+            Call::Text(sheet) | Call::Counts(sheet) => (sheet, &[]),
         }
     }
 
@@ -90,6 +95,7 @@ impl Call<'_> {
             Call::Receive(sheet, line) => reference::receive_call(sheet, line),
             Call::Type(sheet, gap, code) => reference::type_call(sheet, gap, code),
             Call::Erase(sheet, place) => reference::erase_call(sheet, place),
+            Call::Restore(sheet, laptop, clock) => reference::restore_call(sheet, laptop, clock),
             Call::Text(sheet) => reference::text_call(sheet),
             Call::Counts(sheet) => reference::counts_call(sheet),
         }
@@ -105,6 +111,7 @@ impl Call<'_> {
                 Call::Receive(..) => wimtaze_receive(s, s_len, l, l_len, f, f_len),
                 Call::Type(_, gap, code) => wimtaze_type(s, s_len, gap, code, f, f_len, o, o_len),
                 Call::Erase(_, place) => wimtaze_erase(s, s_len, place, f, f_len, o, o_len),
+                Call::Restore(_, laptop, clock) => wimtaze_restore(s, s_len, laptop, clock, f, f_len, o, o_len),
                 Call::Text(_) => wimtaze_text(s, s_len, f, f_len),
                 Call::Counts(_) => wimtaze_counts(s, s_len),
             }
@@ -140,14 +147,14 @@ impl Lent {
 
 // ---- made-up bytes
 
-const NUMBERS: [&str; 34] = [
-    "0", "1", "2", "3", "4", "5", "15", "16", "17", "127", "128", "255", "256", "257", "2047", "2048", "55295",
-    "55296", "57343", "57344", "65534", "65535", "65536", "65537", "1114111", "1114112", "4294967295", "4294967296",
-    "4294967297", "18446744073709551615", "18446744073709551616", "18446744073709551617",
+const NUMBERS: [&str; 36] = [
+    "0", "1", "2", "3", "4", "5", "15", "16", "17", "127", "128", "253", "254", "255", "256", "257", "2047", "2048",
+    "55295", "55296", "57343", "57344", "65534", "65535", "65536", "65537", "1114111", "1114112", "4294967295",
+    "4294967296", "4294967297", "18446744073709551615", "18446744073709551616", "18446744073709551617",
     "340282366920938463463374607431768211457", "9999999999999999999999999999999999999999",
 ];
 const MALFORMED: [&str; 8] = ["", "00", "01", "-1", "+1", " 1", "1\t", "a"];
-const LETTERS: &[u8] = b"IDCSidcs0123456789\t\t\n\n\r .-";
+const LETTERS: &[u8] = b"IDECSidecs0123456789\t\t\n\n\r .-";
 const CODE_POINTS: [u32; 22] = [
     0, 8, 9, 10, 11, 13, 31, 32, 126, 127, 128, 159, 2047, 2048, 55_295, 57_344, 65_533, 65_535, 65_536, 1_114_111, 97,
     0x265e,
@@ -186,11 +193,29 @@ impl Random {
         (1 + self.below(of.laptops), 1 + self.below(of.clocks))
     }
 
+    /// The turn of a made-up line: mostly a small one, so that several of one row meet.
+    fn turn(&mut self) -> usize {
+        match self.below(40) {
+            0 => self.pick(&[0, 256]),
+            1..=5 => self.pick(&[127, 253, 254, 255]),
+            _ => 1 + self.below(4),
+        }
+    }
+
+    /// The turn of a made-up row, hidden once in so many times.
+    fn row_turn(&mut self, hidden: usize) -> usize {
+        let turns = if self.one_in(hidden) { [1, 1, 1, 3, 253, 255] } else { [0, 0, 0, 0, 2, 254] };
+        self.pick(&turns)
+    }
+
     /// A made-up operation line whose numbers are mostly in range.
     fn line(&mut self, of: Universe) -> Vec<u8> {
         let (laptop, clock) = self.id(of);
-        if self.one_in(4) {
-            return format!("D\t{}\t{laptop}\t{clock}\n", 1 + self.below(of.laptops)).into_bytes();
+        let sender = 1 + self.below(of.laptops);
+        match self.below(12) {
+            0 => return format!("D\t{sender}\t{laptop}\t{clock}\n").into_bytes(),
+            1..=3 => return format!("E\t{sender}\t{laptop}\t{clock}\t{}\n", self.turn()).into_bytes(),
+            _ => {}
         }
         let previous = if self.one_in(4) { BEGIN } else { self.id(of) };
         let next = if self.one_in(4) { END } else { self.id(of) };
@@ -204,7 +229,7 @@ impl Random {
             1 => 30_000 + self.below(10_000),
             _ => self.below(of.clocks + 1),
         };
-        let mut sheet = format!("S\t{}\t{clock}\n", 1 + self.below(of.laptops)).into_bytes();
+        let mut sheet = format!("S2\t{}\t{clock}\n", 1 + self.below(of.laptops)).into_bytes();
         let mut ids: Vec<Id> = (1..=of.laptops).flat_map(|l| (1..=of.clocks).map(move |c| (l, c))).collect();
         for k in (1..ids.len()).rev() {
             ids.swap(k, self.below(k + 1));
@@ -214,14 +239,15 @@ impl Random {
             ids.sort();
         }
         let (up, down, hidden) = (self.pick(&REACHES), self.pick(&REACHES), 2 + self.below(6));
+        let beyond = if self.one_in(60) { self.below(rows + 1) } else { rows };
         for (k, id) in ids.iter().enumerate() {
             let up = self.below(up.min(k) + 1);
             let down = self.below(down.min(ids.len() - 1 - k) + 1);
             let previous = if up == 0 { BEGIN } else { ids[k - up] };
             let next = if down == 0 { END } else { ids[k + down] };
-            let (code, shown) = (self.pick(&CODE_POINTS), u8::from(!self.one_in(hidden)));
+            let (code, turn) = (self.pick(&CODE_POINTS), if k == beyond { 256 } else { self.row_turn(hidden) });
             let ends = ends(previous, next);
-            sheet.extend(format!("C\t{}\t{}\t{code}\t{shown}\t{ends}\n", id.0, id.1).into_bytes());
+            sheet.extend(format!("C\t{}\t{}\t{code}\t{turn}\t{ends}\n", id.0, id.1).into_bytes());
         }
         for _ in 0..waiting {
             let line = self.line(of);
@@ -245,7 +271,7 @@ impl Random {
             let needed = if self.one_in(3) { (7, 1 + self.below(count)) } else { (6, 1) };
             let other = if self.one_in(4) { needed } else { self.pick(rows) };
             let line = match self.below(5) {
-                0 => format!("D\t{}\t{}\t{}\n", 1 + self.below(16), needed.0, needed.1),
+                0 => format!("E\t{}\t{}\t{}\t{}\n", 1 + self.below(16), needed.0, needed.1, self.turn()),
                 1 => format!("I\t7\t{k}\t97\t{}\n", ends(BEGIN, needed)),
                 2 => format!("I\t7\t{k}\t97\t{}\n", ends(needed, END)),
                 3 => format!("I\t7\t{k}\t97\t{}\n", ends(needed, other)),
@@ -263,7 +289,7 @@ impl Random {
                 inserts += 1;
                 format!("I\t{sender}\t{}\t97\t{sender}\t60000\t0\t1\n", 30_000 + k)
             } else {
-                format!("D\t{sender}\t16\t{}\n", 40_000 + k)
+                format!("E\t{sender}\t16\t{}\t{}\n", 40_000 + k / 2, 1 + k % 2)
             };
             crowd.extend(line.into_bytes());
         }
@@ -301,6 +327,28 @@ impl Random {
         parts.concat()
     }
 
+    /// A saved sheet, or some of its lines, as the first form had them.
+    fn in_first_form(&mut self, sheet: &[u8]) -> Vec<u8> {
+        let (head, rows, waiting) = (!self.one_in(4), self.one_in(2), self.one_in(2));
+        let mut lines = Vec::new();
+        for line in String::from_utf8_lossy(sheet).lines() {
+            let mut fields: Vec<&str> = line.split('\t').collect();
+            match fields[0] {
+                "S2" if head => fields[0] = "S",
+                "C" if rows && fields.len() == 9 => {
+                    fields[4] = if fields[4].ends_with(['0', '2', '4', '6', '8']) { "1" } else { "0" };
+                }
+                "E" if waiting && fields.len() == 5 => {
+                    fields[0] = "D";
+                    fields.pop();
+                }
+                _ => {}
+            }
+            lines.push(fields.join("\t") + "\n");
+        }
+        lines.concat().into_bytes()
+    }
+
     fn with_lines_moved(&mut self, bytes: &[u8]) -> Vec<u8> {
         let mut lines: Vec<Vec<u8>> = bytes.split_inclusive(|b| *b == b'\n').map(<[u8]>::to_vec).collect();
         if lines.is_empty() {
@@ -317,10 +365,21 @@ impl Random {
     }
 }
 
+/// The numbers of the lines with this letter, as far as they can be read.
+fn numbers(bytes: &[u8], letter: &str) -> Vec<Vec<u64>> {
+    let text = String::from_utf8_lossy(bytes);
+    let lines = text.lines().filter_map(|line| line.strip_prefix(letter)?.strip_prefix('\t'));
+    lines.map(|fields| fields.split('\t').map(|f| f.parse().unwrap_or(0)).collect()).collect()
+}
+
+/// The rows of a saved sheet with at least an identifier, a code point and a turn.
+fn rows(sheet: &[u8]) -> Vec<Vec<u64>> {
+    numbers(sheet, "C").into_iter().filter(|row| row.len() > 3).collect()
+}
+
 /// How many rows a saved sheet shows, as far as it can be read.
 fn shown(sheet: &[u8]) -> usize {
-    let is_shown = |line: &[u8]| line.starts_with(b"C") && line.split(|b| *b == b'\t').nth(4) == Some(b"1");
-    sheet.split(|b| *b == b'\n').filter(|line| is_shown(line)).count()
+    rows(sheet).iter().filter(|row| row[3] % 2 == 0).count()
 }
 
 // ---- the comparison
@@ -333,6 +392,8 @@ struct Tester {
     seed: u64,
     calls: u64,
     failed: u64,
+    /// What the last call answered.
+    last: Reply,
     met: BTreeMap<(&'static str, String), u64>,
     start: Instant,
     told: Duration,
@@ -342,9 +403,25 @@ struct Tester {
 fn raises(call: &Call, outcome: &Outcome) -> bool {
     let first_line = |bytes: &[u8]| bytes.split(|b| *b == b'\n').next().map(<[u8]>::to_vec);
     let (sheet, _) = call.inputs();
-    matches!(call, Call::Receive(..) | Call::Erase(..))
+    matches!(call, Call::Receive(..) | Call::Erase(..) | Call::Restore(..))
         && !outcome.first.is_empty()
         && first_line(&outcome.first) != first_line(sheet)
+}
+
+/// What a received turn does to its row: hides or shows it, or comes behind a larger one that the row has already.
+fn turns(call: &Call, outcome: &Outcome) -> Option<&'static str> {
+    let Call::Receive(sheet, line) = call else { return None };
+    let sent = numbers(line, "E").pop().filter(|sent| sent.len() == 4)?;
+    let (before, after) = (shown(sheet), shown(&outcome.first));
+    match outcome.reply {
+        Reply::Done { .. } if after < before => Some("hiding"),
+        Reply::Done { .. } if after > before => Some("showing"),
+        Reply::Known => {
+            let behind = |row: &Vec<u64>| row[..2] == sent[1..3] && row[3] > sent[3];
+            rows(sheet).iter().any(behind).then_some("behind")
+        }
+        _ => None,
+    }
 }
 
 /// The parts of the number that a call returned.
@@ -366,7 +443,7 @@ impl Tester {
             0 => 0,
             1 => self.random.below(result + 1),
             2..=4 => result.saturating_sub(1),
-            5 => 47_115,
+            5 => 51_212,
             6..=12 => result,
             13..=17 => result.max(input) + self.random.below(64),
             _ => result + self.random.below(64),
@@ -376,6 +453,9 @@ impl Tester {
     fn note(&mut self, call: &Call, outcome: &Outcome) {
         if raises(call, outcome) {
             *self.met.entry((call.name(), "raising".into())).or_default() += 1;
+        }
+        if let Some(turned) = turns(call, outcome) {
+            *self.met.entry((call.name(), turned.into())).or_default() += 1;
         }
         let word = match outcome.reply {
             Reply::Done { carried, thrown } => {
@@ -418,6 +498,7 @@ impl Tester {
                 self.explain(call, number, &outcome, &used, &wanted);
             }
         }
+        self.last = outcome.reply;
         match outcome.reply {
             Reply::Done { .. } | Reply::Waits => Some((outcome.first, outcome.line)),
             _ => None,
@@ -439,6 +520,7 @@ impl Tester {
             Call::Empty(number) => println!("  number {number}"),
             Call::Type(_, gap, code) => println!("  gap {gap}, code point {code}"),
             Call::Erase(_, place) => println!("  place {place}"),
+            Call::Restore(_, laptop, clock) => println!("  laptop {laptop}, clock {clock}"),
             Call::Receive(..) => println!("  line {:?}", String::from_utf8_lossy(line)),
             Call::Text(_) | Call::Counts(_) => {}
         }
@@ -469,12 +551,49 @@ impl Tester {
         self.call(&Call::Erase(sheet, place))
     }
 
+    /// An identifier, mostly that of a hidden row, or else of any row, of a waiting insert or of nothing; or a mark or
+    /// numbers of any size, those among them whose lowest bits are an identifier's.
+    fn identifier(&mut self, sheet: &[u8]) -> (u64, u64) {
+        let random = &mut self.random;
+        let mut from = match random.below(10) {
+            0 => numbers(sheet, "I"),
+            _ => rows(sheet),
+        };
+        if random.below(10) < 7 {
+            from.retain(|row| row.len() < 4 || row[3] % 2 == 1);
+        }
+        from.retain(|row| row.len() > 1);
+        let (laptop, clock) = match from.len() {
+            0 => (1 + random.below(17) as u64, 1 + random.below(4) as u64),
+            n => {
+                let row = &from[random.below(n)];
+                (row[0], row[1])
+            }
+        };
+        match random.below(40) {
+            0 => (laptop.wrapping_add(256), clock),
+            1 => (laptop, clock.wrapping_add(65_536)),
+            2 => (laptop.wrapping_add(1 << 32), clock),
+            3 => (laptop, clock.wrapping_add(1 << 32)),
+            4 => (0, random.below(2) as u64),
+            5 => (laptop, 0),
+            6 => (random.next() >> random.below(64), random.next() >> random.below(64)),
+            _ => (laptop, clock),
+        }
+    }
+
+    fn restore_somewhere(&mut self, sheet: &[u8]) -> Written {
+        let (laptop, clock) = self.identifier(sheet);
+        self.call(&Call::Restore(sheet, laptop, clock))
+    }
+
     /// Any call on the sheet.
     fn anything(&mut self, sheet: &[u8], line: &[u8]) -> Written {
-        match self.random.below(11) {
+        match self.random.below(13) {
             0..=4 => self.call(&Call::Receive(sheet, line)),
             5..=7 => self.type_somewhere(sheet),
             8 => self.erase_somewhere(sheet),
+            9 | 10 => self.restore_somewhere(sheet),
             _ => self.look(sheet),
         }
     }
@@ -504,7 +623,7 @@ struct Laptop {
 }
 
 impl Tester {
-    /// Laptops that type and erase, with their lines lost, repeated, reordered and damaged on the way.
+    /// Laptops that type, erase and restore, with their lines lost, repeated, reordered and damaged on the way.
     fn history(&mut self) {
         let count = 1 + self.random.below(16);
         let first = self.random.below(16);
@@ -524,6 +643,7 @@ impl Tester {
             let written = match self.random.below(100) {
                 n if n < typing => self.type_somewhere(&sheet),
                 n if n < typing + 8 => self.erase_somewhere(&sheet),
+                n if n < typing + 14 => self.restore_somewhere(&sheet),
                 n if n < 86 => self.receive_next(&mut laptops[k]),
                 n if n < 91 && !sent.is_empty() => {
                     let line = &sent[self.random.below(sent.len())];
@@ -543,6 +663,48 @@ impl Tester {
                 sent.push(line);
             }
         }
+        if self.random.one_in(2) {
+            self.gather(&sent);
+        }
+    }
+
+    /// Two laptops get what was sent, each in an order of its own, and one of them of the turns of a character only the
+    /// largest. Where all of it could be carried out their rows must be equal.
+    fn gather(&mut self, sent: &[Vec<u8>]) {
+        let largest = |line: &Vec<u8>| {
+            let of = |line: &[u8]| numbers(line, "E").pop().map(|ns| (ns[1], ns[2], ns[3]));
+            let Some((laptop, clock, turn)) = of(line) else { return true };
+            !sent.iter().filter_map(|other| of(other)).any(|o| (o.0, o.1) == (laptop, clock) && o.2 > turn)
+        };
+        let fewer: Vec<Vec<u8>> = sent.iter().filter(|line| largest(line)).cloned().collect();
+        let Some(all) = self.gathered(sent) else { return };
+        let Some(few) = self.gathered(&fewer) else { return };
+        *self.met.entry(("receive", "equal".into())).or_default() += 1;
+        if rows(&all) != rows(&few) {
+            self.failed += 1;
+            println!("seed {}: two laptops that have the same edits hold different rows", self.seed);
+        }
+    }
+
+    /// The sheet of a laptop that gets these lines, each again until it is taken in; none if one is turned away for
+    /// good or waits in the end.
+    fn gathered(&mut self, lines: &[Vec<u8>]) -> Option<Vec<u8>> {
+        let number = 1 + self.random.below(16) as u64;
+        let (mut sheet, mut left) = (self.begin(number), lines.to_vec());
+        for _ in 0..20 * lines.len() {
+            if left.is_empty() {
+                break;
+            }
+            let line = left.swap_remove(self.random.below(left.len()));
+            let written = self.call(&Call::Receive(&sheet, &line));
+            match self.last {
+                Reply::Refused(10 | 12) => left.push(line),
+                Reply::Refused(_) => return None,
+                _ => sheet = written.map_or(sheet, |(new, _)| new),
+            }
+        }
+        let waits = reference::read_sheet(&sheet).map_or(true, |read| !read.waiting.is_empty());
+        (left.is_empty() && !waits).then_some(sheet)
     }
 
     /// A laptop that lost its sheet begins with an empty one of its number, and all that was sent comes to it again.
@@ -567,7 +729,7 @@ impl Tester {
         written
     }
 
-    /// A damaged or made-up line, a damaged sheet that nobody keeps, the text or the counts, or a new sheet.
+    /// A damaged or made-up line, a damaged or old sheet that nobody keeps, the text or the counts, or a new sheet.
     fn mishap(&mut self, n: usize, sheet: &[u8], sent: &[Vec<u8>]) -> Written {
         let of = Universe { laptops: 16, clocks: 4 };
         let line = if sent.is_empty() { self.random.line(of) } else { sent[self.random.below(sent.len())].clone() };
@@ -581,7 +743,8 @@ impl Tester {
                 self.call(&Call::Receive(sheet, &line))
             }
             95..=97 => {
-                let mut sheet = self.random.damaged(sheet);
+                let old = self.random.one_in(6);
+                let mut sheet = if old { self.random.in_first_form(sheet) } else { self.random.damaged(sheet) };
                 if self.random.one_in(3) {
                     sheet = self.random.damaged(&sheet);
                 }
@@ -609,9 +772,10 @@ impl Tester {
                 sheet = new;
             }
         }
-        let damaged = self.random.damaged(&sheet);
+        let (damaged, old) = (self.random.damaged(&sheet), self.random.in_first_form(&sheet));
         let line = self.random.line(of);
         self.anything(&damaged, &line);
+        self.anything(&old, &line);
     }
 
     /// Operations that all wait, one way or another, for one insert; then it comes.
@@ -641,8 +805,9 @@ impl Tester {
         let mut sheet = self.random.sheet(of, rows, 0);
         sheet.extend(self.random.crowd(sender, count).0);
         for k in 0..12 {
-            let line = match self.random.below(4) {
-                0 => format!("D\t{sender}\t15\t{}\n", 100 + k).into_bytes(),
+            let line = match self.random.below(5) {
+                0 => format!("D\t{sender}\t15\t{}\n", 100 + k / 4).into_bytes(),
+                4 => format!("E\t{sender}\t15\t{}\t{}\n", 100 + k / 4, self.random.turn()).into_bytes(),
                 1 => format!("I\t{sender}\t{}\t97\t15\t99\t0\t1\n", 200 + k).into_bytes(),
                 2 if k > 8 => format!("I\t{sender}\t60000\t97\t0\t0\t0\t1\n").into_bytes(),
                 _ => self.random.line(of),
@@ -679,11 +844,12 @@ impl Tester {
 }
 
 /// Every reply that each call can give, and waiting operations carried and thrown out.
-const TO_MEET: [(&str, &str); 6] = [
+const TO_MEET: [(&str, &str); 7] = [
     ("empty", "done 2 12"),
-    ("receive", "done waits known releasing throwing raising anew 1 2 3 7 8 9 10 11 12"),
+    ("receive", "done waits known releasing throwing raising anew hiding showing behind equal 1 2 3 7 8 9 10 11 12"),
     ("type", "done releasing throwing 1 2 3 4 5 9 11 12"),
     ("erase", "done raising 1 2 3 4 12"),
+    ("restore", "done raising 1 2 3 13 14 12"),
     ("text", "done 1 2 3 12"),
     ("counts", "done 1 2 3"),
 ];
@@ -691,7 +857,7 @@ const TO_MEET: [(&str, &str); 6] = [
 impl Tester {
     fn new() -> Tester {
         let (met, start, told) = (BTreeMap::new(), Instant::now(), Duration::ZERO);
-        Tester { random: Random(0), seed: 0, calls: 0, failed: 0, met, start, told }
+        Tester { random: Random(0), seed: 0, calls: 0, failed: 0, last: Reply::Known, met, start, told }
     }
 
     /// Says now and then how far it is.
