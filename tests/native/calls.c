@@ -1,5 +1,5 @@
 /*
- * Document 01's situations, each refusal and the limits of the outputs, through the C calls.
+ * Document 01's situations, the requests, each refusal and the limits of the outputs, through the C calls.
  * Lines and sheets are written with spaces for tabs. Every call is made on outputs between guard bytes.
  */
 #include "wimtaze.h"
@@ -182,6 +182,20 @@ static uint64_t erase(uint64_t place)
     return erase_in(place, ROOM, LINE_ROOM);
 }
 
+static uint64_t restore_in(uint64_t laptop, uint64_t clock, size_t room, size_t line_room)
+{
+    before();
+    uint64_t reply =
+        wimtaze_restore(sheet, sheet_length, laptop, clock, first + GUARD, room, second + GUARD, line_room);
+    keep(after(reply, room, line_room));
+    return reply;
+}
+
+static uint64_t restore(uint64_t laptop, uint64_t clock)
+{
+    return restore_in(laptop, clock, ROOM, LINE_ROOM);
+}
+
 static uint64_t text_in(size_t room)
 {
     before();
@@ -237,11 +251,11 @@ static int counted(unsigned shown, unsigned waiting, unsigned characters, unsign
 
 /* ---- the situations marked P */
 
-static const char *const FOUR_ROWS = "S 16 0\n"
-                                     "C 3 1 67 1 0 0 1 1\n"
-                                     "C 1 1 65 1 0 0 0 1\n"
-                                     "C 2 1 66 1 0 0 0 1\n"
-                                     "C 3 2 68 1 1 1 0 1\n";
+static const char *const FOUR_ROWS = "S2 16 0\n"
+                                     "C 3 1 67 0 0 0 1 1\n"
+                                     "C 1 1 65 0 0 0 0 1\n"
+                                     "C 2 1 66 0 0 0 0 1\n"
+                                     "C 3 2 68 0 1 1 0 1\n";
 
 static void p1(void)
 {
@@ -269,12 +283,12 @@ static void p3(void)
     CHECK(done(receive("I 1 1 65 0 0 0 1\n"), 1, 0));
     CHECK(done(receive("I 3 1 67 0 0 1 1\n"), 1, 0));
     CHECK(done(receive("I 2 1 66 0 0 0 1\n"), 1, 0));
-    CHECK(sheet_is("S 16 0\nC 3 1 67 1 0 0 1 1\nC 1 1 65 1 0 0 0 1\nC 2 1 66 1 0 0 0 1\n"));
+    CHECK(sheet_is("S2 16 0\nC 3 1 67 0 0 0 1 1\nC 1 1 65 0 0 0 0 1\nC 2 1 66 0 0 0 0 1\n"));
 }
 
 static void p4(void)
 {
-    static const char *const both = "S 16 0\nC 1 1 65 1 0 0 0 1\nC 2 1 66 1 0 0 0 1\n";
+    static const char *const both = "S2 16 0\nC 1 1 65 0 0 0 0 1\nC 2 1 66 0 0 0 0 1\n";
     empty(16, ROOM);
     CHECK(done(receive("I 1 1 65 0 0 0 1\n"), 1, 0));
     CHECK(done(receive("I 2 1 66 0 0 0 1\n"), 1, 0));
@@ -287,20 +301,20 @@ static void p4(void)
 
 static void p5(void)
 {
-    load("S 16 0\nC 1 1 65 0 0 0 0 1\n");
+    load("S2 16 0\nC 1 1 65 1 0 0 0 1\n");
     CHECK(done(receive("I 2 1 66 1 1 0 1\n"), 1, 0));
-    CHECK(sheet_is("S 16 0\nC 1 1 65 0 0 0 0 1\nC 2 1 66 1 1 1 0 1\n"));
+    CHECK(sheet_is("S2 16 0\nC 1 1 65 1 0 0 0 1\nC 2 1 66 0 1 1 0 1\n"));
 }
 
 static void p6(void)
 {
-    load("S 16 0\nC 1 1 65 1 0 0 0 1\nC 2 1 66 1 0 0 0 1\n");
+    load("S2 16 0\nC 1 1 65 0 0 0 0 1\nC 2 1 66 0 0 0 0 1\n");
     CHECK(refused(receive("I 3 1 67 2 1 1 1\n"), WIMTAZE_REFUSAL_CROSSED));
 }
 
 static void p7(void)
 {
-    load("S 16 0\nC 1 1 65 1 0 0 2 1\nC 2 1 66 1 1 1 0 1\n");
+    load("S2 16 0\nC 1 1 65 0 0 0 2 1\nC 2 1 66 0 1 1 0 1\n");
     CHECK(refused(receive("I 3 1 67 0 0 0 1\n"), WIMTAZE_REFUSAL_UNPLACEABLE));
 }
 
@@ -315,7 +329,7 @@ static void p8(void)
     reply = type(1, 'w');
     CHECK(done(reply, 1, 0));
     CHECK(line_is(reply, "I 5 4 119 5 1 5 2\n"));
-    CHECK(sheet_is("S 5 4\nC 5 1 120 1 0 0 0 1\nC 5 4 119 1 5 1 5 2\nC 5 2 121 1 5 1 0 1\nC 5 3 122 1 5 2 0 1\n"));
+    CHECK(sheet_is("S2 5 4\nC 5 1 120 0 0 0 0 1\nC 5 4 119 0 5 1 5 2\nC 5 2 121 0 5 1 0 1\nC 5 3 122 0 5 2 0 1\n"));
     CHECK(first_is(text(), "xwyz"));
 }
 
@@ -346,12 +360,12 @@ static void controls(void)
     CHECK(wimtaze_written(reply) == sizeof shown - 1 && memcmp(first + GUARD, shown, sizeof shown - 1) == 0);
     empty(1, ROOM);
     CHECK(line_is(type(0, 127), "I 1 1 127 0 0 0 1\n"));
-    CHECK(sheet_is("S 1 1\nC 1 1 127 1 0 0 0 1\n"));
+    CHECK(sheet_is("S2 1 1\nC 1 1 127 0 0 0 0 1\n"));
     CHECK(refused(text_in(2), WIMTAZE_REFUSAL_OUTPUT));
     reply = text_in(3);
     CHECK(done(reply, 0, 0) && wimtaze_written(reply) == 3);
     CHECK(done(receive("I 2 1 13 1 1 0 1\n"), 1, 0));
-    CHECK(sheet_is("S 1 1\nC 1 1 127 1 0 0 0 1\nC 2 1 13 1 1 1 0 1\n"));
+    CHECK(sheet_is("S2 1 1\nC 1 1 127 0 0 0 0 1\nC 2 1 13 0 1 1 0 1\n"));
 }
 
 /* ---- the other situations */
@@ -376,9 +390,9 @@ static void thirty_one_waiting(void)
 static void load_rows(int count)
 {
     char line[64];
-    load("S 4 0\n");
+    load("S2 4 0\n");
     for (int k = 1; k <= count; k++) {
-        sprintf(line, k == 1 ? "C 1 1 97 1 0 0 0 1\n" : "C 1 %d 97 1 1 %d 0 1\n", k, k - 1);
+        sprintf(line, k == 1 ? "C 1 1 97 0 0 0 0 1\n" : "C 1 %d 97 0 1 %d 0 1\n", k, k - 1);
         append(line);
     }
 }
@@ -414,11 +428,11 @@ static void full(void)
 
 static void clocks(void)
 {
-    load("S 7 65534\n");
+    load("S2 7 65534\n");
     uint64_t reply = type(0, 'x');
     CHECK(done(reply, 1, 0));
     CHECK(line_is(reply, "I 7 65535 120 0 0 0 1\n"));
-    CHECK(sheet_is("S 7 65535\nC 7 65535 120 1 0 0 0 1\n"));
+    CHECK(sheet_is("S2 7 65535\nC 7 65535 120 0 0 0 0 1\n"));
     CHECK(refused(type(0, 'y'), WIMTAZE_REFUSAL_CLOCK));
     CHECK(refused(type(2, 'y'), WIMTAZE_REFUSAL_POSITION));
     CHECK(done(erase(1), 1, 0));
@@ -460,7 +474,7 @@ static void set_up_anew(void)
     }
     empty(2, ROOM);
     CHECK(waits(receive(lines[2])));
-    CHECK(sheet_is("S 2 3\nI 2 3 99 2 2 0 1\n"));
+    CHECK(sheet_is("S2 2 3\nI 2 3 99 2 2 0 1\n"));
     CHECK(line_is(type(0, 'x'), "I 2 4 120 0 0 0 1\n"));
 }
 
@@ -471,14 +485,14 @@ static void clock_follows(void)
     CHECK(done(receive("I 3 9 65 0 0 0 1\n"), 1, 0));
     CHECK(done(receive("I 1 1 66 0 0 0 1\n"), 1, 0));
     CHECK(refused(receive("I 2 9 67 3 9 1 1\n"), WIMTAZE_REFUSAL_CROSSED));
-    CHECK(sheet_is("S 2 0\nC 1 1 66 1 0 0 0 1\nC 3 9 65 1 0 0 0 1\n"));
+    CHECK(sheet_is("S2 2 0\nC 1 1 66 0 0 0 0 1\nC 3 9 65 0 0 0 0 1\n"));
     CHECK(done(receive("I 2 5 68 3 9 0 1\n"), 1, 0));
     CHECK(done(receive("I 2 2 69 2 5 0 1\n"), 1, 0));
     CHECK(line_is(type(4, 'x'), "I 2 6 120 2 2 0 1\n"));
     empty(2, ROOM);
     CHECK(waits(receive("I 2 9 65 1 1 1 1\n")));
     CHECK(done(receive("I 1 1 66 0 0 0 1\n"), 1, 1));
-    CHECK(sheet_is("S 2 9\nC 1 1 66 1 0 0 0 1\n"));
+    CHECK(sheet_is("S2 2 9\nC 1 1 66 0 0 0 0 1\n"));
     CHECK(done(receive("I 2 65535 65 0 0 0 1\n"), 1, 0));
     CHECK(refused(type(0, 'x'), WIMTAZE_REFUSAL_CLOCK));
 }
@@ -487,9 +501,9 @@ static void clock_follows(void)
 static void clock_stays(void)
 {
     char line[64];
-    load("S 2 0\n");
+    load("S2 2 0\n");
     for (int k = 1; k <= 32; k++) {
-        sprintf(line, "D 2 9 %d\n", k);
+        sprintf(line, "E 2 9 %d 1\n", k);
         append(line);
     }
     CHECK(refused(receive("I 2 99 65 9 9 0 1\n"), WIMTAZE_REFUSAL_SENDER_FULL));
@@ -497,26 +511,26 @@ static void clock_stays(void)
     load_rows(1024);
     CHECK(refused(receive("I 4 9 98 0 0 0 1\n"), WIMTAZE_REFUSAL_DOCUMENT_FULL));
     CHECK(done(erase(1), 1, 0));
-    CHECK(memcmp(sheet, "S\t4\t0\n", 6) == 0);
+    CHECK(memcmp(sheet, "S2\t4\t0\n", 7) == 0);
 }
 
 /* A saved clock that is too low is raised by loading, which shows only where a sheet is written. */
 static void clock_raised(void)
 {
-    load("S 2 0\nC 2 5 65 1 0 0 0 1\n");
+    load("S2 2 0\nC 2 5 65 0 0 0 0 1\n");
     CHECK(known(receive("I 2 5 65 0 0 0 1\n")));
     CHECK(refused(type(2, 'x'), WIMTAZE_REFUSAL_POSITION));
-    CHECK(sheet_is("S 2 0\nC 2 5 65 1 0 0 0 1\n"));
+    CHECK(sheet_is("S2 2 0\nC 2 5 65 0 0 0 0 1\n"));
     CHECK(done(text(), 0, 0));
     CHECK(counted(1, 0, 1, 1023));
     CHECK(done(erase(1), 1, 0));
-    CHECK(sheet_is("S 2 5\nC 2 5 65 0 0 0 0 1\n"));
-    load("S 2 1\nC 2 3 65 1 0 0 0 1\nC 1 9 66 1 0 0 0 1\nI 2 7 67 3 1 0 1\nI 4 8 67 3 1 0 1\n");
+    CHECK(sheet_is("S2 2 5\nC 2 5 65 1 0 0 0 1\n"));
+    load("S2 2 1\nC 2 3 65 0 0 0 0 1\nC 1 9 66 0 0 0 0 1\nI 2 7 67 3 1 0 1\nI 4 8 67 3 1 0 1\n");
     CHECK(line_is(type(0, 'x'), "I 2 8 120 0 0 2 3\n"));
-    load("S 2 9\nC 2 5 65 1 0 0 0 1\n");
+    load("S2 2 9\nC 2 5 65 0 0 0 0 1\n");
     CHECK(waits(receive("D 1 3 3\n")));
-    CHECK(sheet_is("S 2 9\nC 2 5 65 1 0 0 0 1\nD 1 3 3\n"));
-    load("S 2 0\nC 2 65535 65 1 0 0 0 1\n");
+    CHECK(sheet_is("S2 2 9\nC 2 5 65 0 0 0 0 1\nE 1 3 3 1\n"));
+    load("S2 2 0\nC 2 65535 65 0 0 0 0 1\n");
     CHECK(refused(type(0, 'x'), WIMTAZE_REFUSAL_CLOCK));
 }
 
@@ -524,13 +538,200 @@ static void hall(void)
 {
     empty(16, ROOM);
     CHECK(waits(receive("I 2 1 66 1 1 0 1\n")));
-    CHECK(sheet_is("S 16 0\nI 2 1 66 1 1 0 1\n"));
+    CHECK(sheet_is("S2 16 0\nI 2 1 66 1 1 0 1\n"));
     CHECK(done(receive("I 1 1 65 0 0 0 1\n"), 2, 0));
     CHECK(done(receive("D 3 1 1\n"), 1, 0));
     CHECK(known(receive("I 1 1 65 0 0 0 1\n")));
     CHECK(refused(receive("I 1 1 67 0 0 0 1\n"), WIMTAZE_REFUSAL_CONFLICT));
-    CHECK(sheet_is("S 16 0\nC 1 1 65 0 0 0 0 1\nC 2 1 66 1 1 1 0 1\n"));
+    CHECK(sheet_is("S2 16 0\nC 1 1 65 1 0 0 0 1\nC 2 1 66 0 1 1 0 1\n"));
     CHECK(first_is(text(), "B"));
+}
+
+/* ---- Req 05: turns */
+
+/*
+ * Laptop 1 types a bye request and erases it, the wrong one; laptop 2, which took all that in, brings it back. On a
+ * third the six lines come in every order, and on each of the three the request stands as it was typed.
+ */
+static void brought_back(void)
+{
+    static const char *const rows = "C 1 1 79 2 0 0 0 1\nC 1 2 75 2 1 1 0 1\n";
+    static char lines[6][LINE_ROOM];
+    char want[128];
+    empty(1, ROOM);
+    line_written(type(0, 'O'), lines[0]);
+    line_written(type(1, 'K'), lines[1]);
+    line_written(erase(1), lines[2]);
+    line_written(erase(1), lines[3]);
+    CHECK(first_is(text(), ""));
+    CHECK(sheet_is("S2 1 2\nC 1 1 79 1 0 0 0 1\nC 1 2 75 1 1 1 0 1\n"));
+    empty(2, ROOM);
+    for (size_t k = 0; k < 4; k++)
+        CHECK(done(receive(lines[k]), 1, 0));
+    CHECK(counted(0, 0, 2, 1022));
+    line_written(restore(1, 2), lines[4]);
+    line_written(restore(1, 1), lines[5]);
+    CHECK(strcmp(lines[2], "E 1 1 1 1\n") == 0 && strcmp(lines[3], "E 1 1 2 1\n") == 0);
+    CHECK(strcmp(lines[4], "E 2 1 2 2\n") == 0 && strcmp(lines[5], "E 2 1 1 2\n") == 0);
+    CHECK(first_is(text(), "OK"));
+    CHECK(counted(2, 0, 2, 1022));
+    load("S2 1 2\nC 1 1 79 1 0 0 0 1\nC 1 2 75 1 1 1 0 1\n");
+    CHECK(done(receive(lines[5]), 1, 0));
+    CHECK(first_is(text(), "O"));
+    CHECK(done(receive(lines[4]), 1, 0));
+    sprintf(want, "S2 1 2\n%s", rows);
+    CHECK(sheet_is(want));
+    sprintf(want, "S2 3 0\n%s", rows);
+    for (int number = 0; number < 720; number++) {
+        unsigned left[6] = {0, 1, 2, 3, 4, 5};
+        empty(3, ROOM);
+        for (int k = 6, code = number; k > 0; code /= k, k--) {
+            int j = code % k;
+            CHECK(wimtaze_word(receive(lines[left[j]])) != WIMTAZE_REFUSED);
+            left[j] = left[k - 1];
+        }
+        CHECK(sheet_is(want));
+    }
+    CHECK(first_is(text(), "OK"));
+}
+
+/* The row takes the larger turn, and what is not larger is known. */
+static void larger_turn(void)
+{
+    load("S2 9 0\nC 1 1 65 2 0 0 0 1\n");
+    CHECK(known(receive_in("D 3 1 1\n", 0)));
+    CHECK(known(receive_in("E 3 1 1 1\n", 0)));
+    CHECK(known(receive_in("E 3 1 1 2\n", 0)));
+    CHECK(first_is(text(), "A"));
+    CHECK(done(receive("E 3 1 1 3\n"), 1, 0));
+    CHECK(sheet_is("S2 9 0\nC 1 1 65 3 0 0 0 1\n"));
+    CHECK(first_is(text(), ""));
+    CHECK(known(receive("E 4 1 1 2\n")));
+    CHECK(done(receive("E 4 1 1 5\n"), 1, 0));
+    CHECK(done(receive("E 4 1 1 100\n"), 1, 0));
+    CHECK(first_is(text(), "A"));
+    CHECK(known(receive("I 1 1 65 0 0 0 1\n")));
+    CHECK(done(receive("E 4 1 1 255\n"), 1, 0));
+    CHECK(known(receive("E 4 1 1 255\n")));
+    CHECK(known(receive("E 16 1 1 254\n")));
+    CHECK(sheet_is("S2 9 0\nC 1 1 65 255 0 0 0 1\n"));
+    /* Erased on two laptops at once; and on one while another erased it and brought it back. */
+    load("S2 9 0\nC 1 1 65 0 0 0 0 1\n");
+    CHECK(line_is(erase(1), "E 9 1 1 1\n"));
+    CHECK(known(receive("E 3 1 1 1\n")));
+    CHECK(known(receive("D 4 1 1\n")));
+    CHECK(done(receive("E 5 1 1 2\n"), 1, 0));
+    CHECK(known(receive("D 6 1 1\n")));
+    CHECK(first_is(text(), "A"));
+    CHECK(line_is(erase(1), "E 9 1 1 3\n"));
+}
+
+/* What waits is told apart by all four numbers, and each counts towards its sender's 32. */
+static void waiting_turns(void)
+{
+    char line[64];
+    empty(9, ROOM);
+    CHECK(waits(receive("E 3 1 1 2\n")));
+    CHECK(waits(receive("D 3 1 1\n")));
+    CHECK(known(receive("D 3 1 1\n")));
+    CHECK(known(receive("E 3 1 1 1\n")));
+    CHECK(known(receive("E 3 1 1 2\n")));
+    CHECK(waits(receive("E 4 1 1 2\n")));
+    CHECK(waits(receive("E 3 2 1 2\n")));
+    CHECK(waits(receive("E 3 1 2 2\n")));
+    CHECK(sheet_is("S2 9 0\nE 3 1 1 2\nE 3 1 1 1\nE 4 1 1 2\nE 3 2 1 2\nE 3 1 2 2\n"));
+    CHECK(counted(0, 5, 0, 1024));
+    CHECK(refused(restore(1, 1), WIMTAZE_REFUSAL_NOT_HIDDEN));
+    CHECK(done(receive("I 1 1 65 0 0 0 1\n"), 4, 0));
+    CHECK(sheet_is("S2 9 0\nC 1 1 65 2 0 0 0 1\nE 3 2 1 2\nE 3 1 2 2\n"));
+    empty(9, ROOM);
+    for (int k = 1; k <= 32; k++) {
+        sprintf(line, "E 3 1 1 %d\n", k);
+        CHECK(waits(receive(line)));
+    }
+    CHECK(refused(receive("E 3 1 1 33\n"), WIMTAZE_REFUSAL_SENDER_FULL));
+    CHECK(refused(receive("D 3 1 2\n"), WIMTAZE_REFUSAL_SENDER_FULL));
+    CHECK(known(receive("D 3 1 1\n")));
+    CHECK(waits(receive("E 4 1 1 33\n")));
+    CHECK(done(receive("I 1 1 65 0 0 0 1\n"), 34, 0));
+    CHECK(sheet_is("S2 9 0\nC 1 1 65 33 0 0 0 1\n"));
+    /* Typing releases them too. */
+    load("S2 9 4\nE 1 9 5 2\nE 2 9 5 1\n");
+    CHECK(done(type(0, 'x'), 3, 0));
+    CHECK(sheet_is("S2 9 5\nC 9 5 120 2 0 0 0 1\n"));
+}
+
+static void restoring(void)
+{
+    uint64_t reply;
+    load("S2 9 0\nC 1 1 65 0 0 0 0 1\nC 1 2 66 1 1 1 0 1\nC 2 7 67 0 1 2 0 1\n");
+    reply = restore(1, 2);
+    CHECK(done(reply, 1, 0));
+    CHECK(line_is(reply, "E 9 1 2 2\n"));
+    CHECK(sheet_is("S2 9 0\nC 1 1 65 0 0 0 0 1\nC 1 2 66 2 1 1 0 1\nC 2 7 67 0 1 2 0 1\n"));
+    CHECK(first_is(text(), "ABC"));
+    CHECK(refused(restore(1, 2), WIMTAZE_REFUSAL_NOT_HIDDEN));
+    CHECK(line_is(erase(2), "E 9 1 2 3\n"));
+    CHECK(line_is(restore(1, 2), "E 9 1 2 4\n"));
+    /* To the last turn: 254 is shown, and 255 is hidden for good. */
+    load("S2 9 0\nC 1 1 65 253 0 0 0 1\n");
+    CHECK(line_is(restore(1, 1), "E 9 1 1 254\n"));
+    CHECK(refused(restore(1, 1), WIMTAZE_REFUSAL_NOT_HIDDEN));
+    CHECK(line_is(erase(1), "E 9 1 1 255\n"));
+    CHECK(sheet_is("S2 9 0\nC 1 1 65 255 0 0 0 1\n"));
+    CHECK(refused(restore(1, 1), WIMTAZE_REFUSAL_LAST_TURN));
+    CHECK(refused(erase(1), WIMTAZE_REFUSAL_POSITION));
+    /* Every turn there is, from the first. */
+    empty(9, ROOM);
+    type(0, 'x');
+    for (int k = 0; k < 127; k++) {
+        CHECK(done(erase(1), 1, 0));
+        CHECK(done(restore(9, 1), 1, 0));
+    }
+    CHECK(done(erase(1), 1, 0));
+    CHECK(refused(restore(9, 1), WIMTAZE_REFUSAL_LAST_TURN));
+    CHECK(sheet_is("S2 9 1\nC 9 1 120 255 0 0 0 1\n"));
+    /* What waits is kept, and a clock that is too low is raised. */
+    load("S2 2 0\nC 2 5 65 1 0 0 0 1\nI 3 1 67 4 1 0 1\nE 5 4 1 1\n");
+    CHECK(line_is(restore(2, 5), "E 2 2 5 2\n"));
+    CHECK(sheet_is("S2 2 5\nC 2 5 65 2 0 0 0 1\nI 3 1 67 4 1 0 1\nE 5 4 1 1\n"));
+}
+
+/* Refusals 2, 13 and 14 of restoring, and all six in their order. */
+static void not_restored(void)
+{
+    static const uint64_t numbers[][2] = {{0, 0}, {0, 1}, {0, 2}, {1, 0}, {17, 1}, {1, 65536}, {257, 1}, {1, 65537},
+        {65537, 1}, {4294967297u, 1}, {1, 4294967297u}, {UINT64_MAX - 254, 1}, {1, UINT64_MAX - 65534},
+        {UINT64_MAX, UINT64_MAX}};
+    static const char *const hidden = "S2 9 0\nC 1 1 65 1 0 0 0 1\n";
+    for (size_t k = 0; k < sizeof numbers / sizeof *numbers; k++) {
+        load(hidden);
+        CHECK(refused(restore(numbers[k][0], numbers[k][1]), WIMTAZE_REFUSAL_RANGE));
+    }
+    empty(9, ROOM);
+    CHECK(refused(restore(1, 1), WIMTAZE_REFUSAL_NOT_HIDDEN));
+    load("S2 9 0\nC 1 1 65 0 0 0 0 1\nC 1 2 65 2 0 0 0 1\nC 1 3 65 254 0 0 0 1\nI 2 1 66 3 1 0 1\nE 5 4 1 1\n");
+    for (unsigned clock = 1; clock <= 4; clock++)
+        CHECK(refused(restore(1, clock), WIMTAZE_REFUSAL_NOT_HIDDEN));
+    CHECK(refused(restore(2, 1), WIMTAZE_REFUSAL_NOT_HIDDEN));
+    CHECK(refused(restore(4, 1), WIMTAZE_REFUSAL_NOT_HIDDEN));
+    CHECK(refused(restore(16, 65535), WIMTAZE_REFUSAL_NOT_HIDDEN));
+    CHECK(refused(restore_in(1, 1, 0, 0), WIMTAZE_REFUSAL_NOT_HIDDEN));
+    load("S2 9 0\nC 1 1 65 255 0 0 0 1\n");
+    CHECK(refused(restore(1, 1), WIMTAZE_REFUSAL_LAST_TURN));
+    CHECK(refused(restore_in(1, 1, 0, 0), WIMTAZE_REFUSAL_LAST_TURN));
+    CHECK(refused(restore(1, 2), WIMTAZE_REFUSAL_NOT_HIDDEN));
+    load(hidden);
+    CHECK(refused(restore_in(0, 0, 0, 0), WIMTAZE_REFUSAL_RANGE));
+    CHECK(refused(restore_in(1, 1, 0, 0), WIMTAZE_REFUSAL_OUTPUT));
+    append("I 2 1 66 0 0 0 1\n");
+    CHECK(refused(restore(0, 0), WIMTAZE_REFUSAL_RANGE));
+    CHECK(refused(restore_in(1, 1, 0, 0), WIMTAZE_REFUSAL_FORM));
+    CHECK(refused(restore(1, 2), WIMTAZE_REFUSAL_FORM));
+    append("E 1 1 1 256\n");
+    CHECK(refused(restore(1, 2), WIMTAZE_REFUSAL_RANGE));
+    append("D 1 1 1\n");
+    CHECK(refused(restore_in(0, 0, 0, 0), WIMTAZE_REFUSAL_LAYOUT));
 }
 
 /* ---- waiting, throwing out, and what releases it */
@@ -546,43 +747,43 @@ static void released(void)
     CHECK(waits(receive("D 3 1 1\n")));
     CHECK(waits(receive("D 5 1 1\n")));
     CHECK(done(receive("I 1 1 65 0 0 0 1\n"), 3, 0));
-    CHECK(sheet_is("S 9 0\nC 1 1 65 0 0 0 0 1\n"));
+    CHECK(sheet_is("S2 9 0\nC 1 1 65 1 0 0 0 1\n"));
     /* The later in the list is ready first, and releases the earlier. */
     empty(9, ROOM);
     CHECK(waits(receive("D 1 3 1\n")));
     CHECK(waits(receive("I 3 1 67 2 1 0 1\n")));
     CHECK(waits(receive("I 2 1 66 1 1 0 1\n")));
     CHECK(done(receive("I 1 1 65 0 0 0 1\n"), 4, 0));
-    CHECK(sheet_is("S 9 0\nC 1 1 65 1 0 0 0 1\nC 2 1 66 1 1 1 0 1\nC 3 1 67 0 2 1 0 1\n"));
+    CHECK(sheet_is("S2 9 0\nC 1 1 65 0 0 0 0 1\nC 2 1 66 0 1 1 0 1\nC 3 1 67 1 2 1 0 1\n"));
     /* Typing releases what waited for the new identifier. */
-    load("S 9 4\nD 1 9 5\nI 2 1 66 9 5 0 1\n");
+    load("S2 9 4\nE 1 9 5 1\nI 2 1 66 9 5 0 1\n");
     uint64_t reply = type(0, 'x');
     CHECK(done(reply, 3, 0));
     CHECK(line_is(reply, "I 9 5 120 0 0 0 1\n"));
-    CHECK(sheet_is("S 9 5\nC 9 5 120 0 0 0 0 1\nC 2 1 66 1 9 5 0 1\n"));
+    CHECK(sheet_is("S2 9 5\nC 9 5 120 1 0 0 0 1\nC 2 1 66 0 9 5 0 1\n"));
     /* Thrown out by condition 9. */
-    load("S 9 0\nC 1 1 65 1 0 0 2 1\nC 2 1 66 1 1 1 0 1\nI 3 1 67 0 0 4 1\n");
+    load("S2 9 0\nC 1 1 65 0 0 0 2 1\nC 2 1 66 0 1 1 0 1\nI 3 1 67 0 0 4 1\n");
     CHECK(done(receive("I 4 1 68 2 1 0 1\n"), 1, 1));
 }
 
 /* Passing stops at the first not below, candidates are taken afresh, the clock counts, hidden rows stand between. */
 static void placing(void)
 {
-    load("S 9 0\nC 1 1 65 1 0 0 0 1\nC 5 1 66 1 0 0 0 1\nC 2 1 67 1 0 0 0 1\n");
+    load("S2 9 0\nC 1 1 65 0 0 0 0 1\nC 5 1 66 0 0 0 0 1\nC 2 1 67 0 0 0 0 1\n");
     CHECK(done(receive("I 3 1 68 0 0 0 1\n"), 1, 0));
-    CHECK(sheet_is("S 9 0\nC 1 1 65 1 0 0 0 1\nC 3 1 68 1 0 0 0 1\nC 5 1 66 1 0 0 0 1\nC 2 1 67 1 0 0 0 1\n"));
-    load("S 9 0\nC 1 1 65 1 0 0 0 1\nC 2 5 66 1 1 1 0 1\nC 4 1 67 1 2 5 0 1\n");
+    CHECK(sheet_is("S2 9 0\nC 1 1 65 0 0 0 0 1\nC 3 1 68 0 0 0 0 1\nC 5 1 66 0 0 0 0 1\nC 2 1 67 0 0 0 0 1\n"));
+    load("S2 9 0\nC 1 1 65 0 0 0 0 1\nC 2 5 66 0 1 1 0 1\nC 4 1 67 0 2 5 0 1\n");
     CHECK(done(receive("I 3 1 68 0 0 0 1\n"), 1, 0));
-    CHECK(sheet_is("S 9 0\nC 1 1 65 1 0 0 0 1\nC 2 5 66 1 1 1 0 1\nC 3 1 68 1 0 0 0 1\nC 4 1 67 1 2 5 0 1\n"));
-    load("S 9 0\nC 3 2 65 1 0 0 0 1\nC 3 12 66 1 0 0 0 1\n");
+    CHECK(sheet_is("S2 9 0\nC 1 1 65 0 0 0 0 1\nC 2 5 66 0 1 1 0 1\nC 3 1 68 0 0 0 0 1\nC 4 1 67 0 2 5 0 1\n"));
+    load("S2 9 0\nC 3 2 65 0 0 0 0 1\nC 3 12 66 0 0 0 0 1\n");
     CHECK(done(receive("I 3 9 67 0 0 0 1\n"), 1, 0));
     CHECK(done(receive("I 2 13 68 0 0 0 1\n"), 1, 0));
-    CHECK(sheet_is("S 9 0\nC 2 13 68 1 0 0 0 1\nC 3 2 65 1 0 0 0 1\nC 3 9 67 1 0 0 0 1\nC 3 12 66 1 0 0 0 1\n"));
-    load("S 9 0\nC 1 1 65 0 0 0 0 1\nC 2 1 66 0 0 0 0 1\n");
+    CHECK(sheet_is("S2 9 0\nC 2 13 68 0 0 0 0 1\nC 3 2 65 0 0 0 0 1\nC 3 9 67 0 0 0 0 1\nC 3 12 66 0 0 0 0 1\n"));
+    load("S2 9 0\nC 1 1 65 1 0 0 0 1\nC 2 1 66 1 0 0 0 1\n");
     uint64_t reply = type(0, 'x');
     CHECK(done(reply, 1, 0));
     CHECK(line_is(reply, "I 9 1 120 0 0 0 1\n"));
-    CHECK(sheet_is("S 9 1\nC 1 1 65 0 0 0 0 1\nC 2 1 66 0 0 0 0 1\nC 9 1 120 1 0 0 0 1\n"));
+    CHECK(sheet_is("S2 9 1\nC 1 1 65 1 0 0 0 1\nC 2 1 66 1 0 0 0 1\nC 9 1 120 0 0 0 0 1\n"));
 }
 
 /* ---- refusals */
@@ -591,12 +792,17 @@ static void layout(void)
 {
     static const char *const lines[] = {"", "\n", "I 1 1 65 0 0 0 1", "I 1 1 65 0 0 0 1\n\n", "I 1 1 65 0 0 0 1\nx",
         "D 1 1 1\nD 1 1 1\n", "D 1 1\n", "D 1 1 1 1\n", "D 1 1 01\n", "D 1  1\n", "D 1 1 1 \n", "D 1 1 1\r\n",
-        "D 1 1 -1\n", "d 1 1 1\n", "S 1 0\n", "C 1 1 65 1 0 0 0 1\n", " D 1 1 1\n", "D 1 1 +1\n", "DD 1 1 1\n"};
-    static const char *const sheets[] = {"", "\n", "S 1 0", "S 1\n", "S 01 0\n", "S 1 0\n\n", "S 1 0\nS 1 0\n",
-        "S 1 0\nC 1 1 65 01 0 0 0 1\n", "S 1 0\nD 1 1 1\nC 1 1 65 1 0 0 0 1\n", "C 1 1 65 1 0 0 0 1\n",
-        "S 1 0\nC 1 1 65 0 0 0 1\n", "S 1 0\r\n", "S 1 0 \n"};
+        "D 1 1 -1\n", "d 1 1 1\n", "S2 1 0\n", "C 1 1 65 0 0 0 0 1\n", " D 1 1 1\n", "D 1 1 +1\n", "DD 1 1 1\n",
+        "E 1 1 1\n", "E 1 1 1 1 1\n", "E 1 1 1 01\n", "E 1 1 1 \n", "E 1 1 1 -1\n", "e 1 1 1 1\n", "E 1 1 1 1",
+        "E 1 1 1 1\n\n", "E1 1 1 1\n", "S 1 0\n"};
+    static const char *const sheets[] = {"", "\n", "S2 1 0", "S2 1\n", "S2 01 0\n", "S2 1 0\n\n", "S2 1 0\nS2 1 0\n",
+        "S2 1 0\nC 1 1 65 01 0 0 0 1\n", "S2 1 0\nE 1 1 1 1\nC 1 1 65 0 0 0 0 1\n", "C 1 1 65 0 0 0 0 1\n",
+        "S2 1 0\nC 1 1 65 1 0 0 1\n", "S2 1 0\r\n", "S2 1 0 \n", "S 1 0\n", "S 1 0\nC 2 1 65 1 0 0 0 1\n",
+        "S 1 0\nD 1 1 1\n", "S2 1 0\nD 1 1 1\n", "S2 1 0\nE 1 1 1\n", "S2 1 0\nE 1 2 1 1\nD 1 1 1\n",
+        "S2 1 0\nC 1 1 65 0 0 0 0 1\nD 1 2 1\n", "S1 1 0\n", "S3 1 0\n", "S 2 1 0\n", "s2 1 0\n", "S2 2 1 0\n",
+        "S02 1 0\n", "S21 0\n", "S2 1 0\nC 1 1 65 0 0 0 0 0 1\n"};
     for (size_t k = 0; k < sizeof lines / sizeof *lines; k++) {
-        load("S 1 0\n");
+        load("S2 1 0\n");
         CHECK(refused(receive(lines[k]), WIMTAZE_REFUSAL_LAYOUT));
     }
     for (size_t k = 0; k < sizeof sheets / sizeof *sheets; k++) {
@@ -604,11 +810,12 @@ static void layout(void)
         CHECK(refused(receive("D 1 1 1\n"), WIMTAZE_REFUSAL_LAYOUT));
         CHECK(refused(type(0, 'x'), WIMTAZE_REFUSAL_LAYOUT));
         CHECK(refused(erase(1), WIMTAZE_REFUSAL_LAYOUT));
+        CHECK(refused(restore(1, 1), WIMTAZE_REFUSAL_LAYOUT));
         CHECK(refused(text(), WIMTAZE_REFUSAL_LAYOUT));
         CHECK(refused(counts(), WIMTAZE_REFUSAL_LAYOUT));
     }
     /* A line that ends where the given length does, although a line feed stands in memory behind it. */
-    load("S 1 0\n");
+    load("S2 1 0\n");
     CHECK(refused(receive_bytes((const uint8_t *)"D\t1\t1\t1\n", 7, ROOM), WIMTAZE_REFUSAL_LAYOUT));
 }
 
@@ -619,14 +826,17 @@ static void ranges(void)
         "I 1 1 65 0 1 0 1\n", "I 1 1 65 0 5 0 1\n", "I 1 1 65 3 0 0 1\n", "I 1 1 65 0 0 0 0\n", "I 1 1 65 1 1 0 1\n",
         "I 1 1 65 0 0 1 1\n", "D 0 1 1\n", "D 17 1 1\n", "D 1 0 1\n", "D 1 0 0\n", "D 1 1 0\n", "D 257 1 1\n",
         "D 1 1 65537\n", "D 4294967297 1 1\n", "D 18446744073709551617 1 1\n",
-        "D 1 1 9999999999999999999999999999999999999999\n"};
-    static const char *const sheets[] = {"S 0 0\n", "S 17 0\n", "S 1 65536\n", "S 1 0\nC 1 1 65 2 0 0 0 1\n",
-        "S 1 0\nC 1 1 65 1 1 1 0 1\n", "S 1 0\nC 1 1 65 1 0 1 0 1\n", "S 1 0\nC 1 0 65 1 0 0 0 1\n", "S 1 0\nD 1 0 1\n",
-        "S 257 0\n", "S 1 18446744073709551616\n"};
+        "D 1 1 9999999999999999999999999999999999999999\n", "E 1 1 1 0\n", "E 1 1 1 256\n", "E 1 1 1 257\n",
+        "E 1 1 1 65537\n", "E 1 1 1 4294967297\n", "E 1 1 1 18446744073709551617\n", "E 0 1 1 1\n", "E 17 1 1 1\n",
+        "E 1 0 0 1\n", "E 1 0 1 1\n", "E 1 17 1 1\n", "E 1 1 0 1\n", "E 1 1 65536 1\n"};
+    static const char *const sheets[] = {"S2 0 0\n", "S2 17 0\n", "S2 1 65536\n", "S2 1 0\nC 1 1 65 256 0 0 0 1\n",
+        "S2 1 0\nC 1 1 65 0 1 1 0 1\n", "S2 1 0\nC 1 1 65 0 0 1 0 1\n", "S2 1 0\nC 1 0 65 0 0 0 0 1\n",
+        "S2 1 0\nE 1 0 1 1\n", "S2 257 0\n", "S2 1 18446744073709551616\n", "S2 1 0\nC 1 1 65 257 0 0 0 1\n",
+        "S2 1 0\nC 1 1 65 18446744073709551617 0 0 0 1\n", "S2 1 0\nE 1 1 1 0\n", "S2 1 0\nE 1 1 1 256\n"};
     static const uint32_t code_points[] = {55296, 57343, 1114112, 4294967295u};
     static const uint64_t numbers[] = {0, 17, 257, 4294967297u, UINT64_MAX};
     for (size_t k = 0; k < sizeof lines / sizeof *lines; k++) {
-        load("S 1 0\n");
+        load("S2 1 0\n");
         CHECK(refused(receive(lines[k]), WIMTAZE_REFUSAL_RANGE));
     }
     for (size_t k = 0; k < sizeof sheets / sizeof *sheets; k++) {
@@ -634,11 +844,12 @@ static void ranges(void)
         CHECK(refused(receive("D 1 1 1\n"), WIMTAZE_REFUSAL_RANGE));
         CHECK(refused(type(0, 'x'), WIMTAZE_REFUSAL_RANGE));
         CHECK(refused(erase(1), WIMTAZE_REFUSAL_RANGE));
+        CHECK(refused(restore(1, 1), WIMTAZE_REFUSAL_RANGE));
         CHECK(refused(text(), WIMTAZE_REFUSAL_RANGE));
         CHECK(refused(counts(), WIMTAZE_REFUSAL_RANGE));
     }
     for (size_t k = 0; k < sizeof code_points / sizeof *code_points; k++) {
-        load("S 1 0\n");
+        load("S2 1 0\n");
         CHECK(refused(type(0, code_points[k]), WIMTAZE_REFUSAL_RANGE));
     }
     for (size_t k = 0; k < sizeof numbers / sizeof *numbers; k++)
@@ -647,26 +858,29 @@ static void ranges(void)
 
 static void form(void)
 {
-    static const char *const sheets[] = {"S 1 0\nI 1 1 65 0 0 0 1\n", "S 1 0\nC 1 1 65 1 0 0 0 1\nD 2 1 1\n",
-        "S 1 0\nC 1 1 65 1 0 0 0 1\nC 1 1 65 1 0 0 0 1\n", "S 1 0\nC 1 1 65 1 0 0 0 1\nI 1 1 65 2 1 0 1\n",
-        "S 1 0\nI 1 1 65 2 1 0 1\nI 1 1 66 2 1 0 1\n", "S 1 0\nD 1 1 1\nD 1 1 1\n", "S 1 0\nC 1 1 65 1 2 1 0 1\n",
-        "S 1 0\nC 1 1 65 1 2 1 0 1\nC 2 1 66 1 0 0 0 1\n", "S 1 0\nC 1 1 65 1 0 0 0 1\nC 2 1 66 1 0 0 1 1\n"};
+    static const char *const sheets[] = {"S2 1 0\nI 1 1 65 0 0 0 1\n", "S2 1 0\nC 1 1 65 0 0 0 0 1\nE 2 1 1 1\n",
+        "S2 1 0\nC 1 1 65 0 0 0 0 1\nC 1 1 65 0 0 0 0 1\n", "S2 1 0\nC 1 1 65 0 0 0 0 1\nI 1 1 65 2 1 0 1\n",
+        "S2 1 0\nI 1 1 65 2 1 0 1\nI 1 1 66 2 1 0 1\n", "S2 1 0\nE 1 1 1 1\nE 1 1 1 1\n",
+        "S2 1 0\nC 1 1 65 0 2 1 0 1\n", "S2 1 0\nC 1 1 65 0 2 1 0 1\nC 2 1 66 0 0 0 0 1\n",
+        "S2 1 0\nC 1 1 65 0 0 0 0 1\nC 2 1 66 0 0 0 1 1\n", "S2 1 0\nC 1 1 65 3 0 0 0 1\nE 2 1 1 2\n",
+        "S2 1 0\nE 1 1 1 7\nE 1 1 1 1\nE 1 1 1 7\n"};
     for (size_t k = 0; k < sizeof sheets / sizeof *sheets; k++) {
         load(sheets[k]);
         CHECK(refused(receive("D 1 9 9\n"), WIMTAZE_REFUSAL_FORM));
         CHECK(refused(type(0, 'x'), WIMTAZE_REFUSAL_FORM));
         CHECK(refused(erase(1), WIMTAZE_REFUSAL_FORM));
+        CHECK(refused(restore(1, 1), WIMTAZE_REFUSAL_FORM));
         CHECK(refused(text(), WIMTAZE_REFUSAL_FORM));
         CHECK(refused(counts(), WIMTAZE_REFUSAL_FORM));
     }
-    load("S 1 0\nD 1 2 1\nD 3 2 1\n");
+    load("S2 1 0\nE 1 2 1 1\nE 3 2 1 1\nE 1 2 1 2\nE 1 2 2 1\n");
     CHECK(done(text(), 0, 0));
 }
 
 /* Positions, and an identifier that is taken. */
 static void positions(void)
 {
-    load("S 1 0\nC 2 1 65 1 0 0 0 1\nC 2 2 66 0 2 1 0 1\n");
+    load("S2 1 0\nC 2 1 65 0 0 0 0 1\nC 2 2 66 1 2 1 0 1\n");
     CHECK(refused(type(2, 'x'), WIMTAZE_REFUSAL_POSITION));
     CHECK(refused(type(UINT64_MAX, 'x'), WIMTAZE_REFUSAL_POSITION));
     CHECK(refused(erase(0), WIMTAZE_REFUSAL_POSITION));
@@ -674,33 +888,33 @@ static void positions(void)
     CHECK(refused(erase(UINT64_MAX), WIMTAZE_REFUSAL_POSITION));
     uint64_t reply = erase(1);
     CHECK(done(reply, 1, 0));
-    CHECK(line_is(reply, "D 1 2 1\n"));
-    CHECK(sheet_is("S 1 0\nC 2 1 65 0 0 0 0 1\nC 2 2 66 0 2 1 0 1\n"));
-    load("S 2 0\nI 2 1 65 3 1 0 1\n");
+    CHECK(line_is(reply, "E 1 2 1 1\n"));
+    CHECK(sheet_is("S2 1 0\nC 2 1 65 1 0 0 0 1\nC 2 2 66 1 2 1 0 1\n"));
+    load("S2 2 0\nI 2 1 65 3 1 0 1\n");
     CHECK(refused(receive("I 2 1 66 3 1 0 1\n"), WIMTAZE_REFUSAL_CONFLICT));
-    load("S 9 0\nC 1 1 65 0 0 0 2 1\nC 2 1 66 0 1 1 0 1\n");
+    load("S2 9 0\nC 1 1 65 1 0 0 2 1\nC 2 1 66 1 1 1 0 1\n");
     CHECK(refused(type(0, 'x'), WIMTAZE_REFUSAL_UNPLACEABLE));
 }
 
-/* Where several grounds hold, the lowest is told. */
+/* Where several grounds hold, the first in checking order is told. */
 static void order(void)
 {
-    load("S 1 0\nI 1 1 65 0 0 0 1\n");
+    load("S2 1 0\nI 1 1 65 0 0 0 1\n");
     CHECK(refused(receive("D 1 1\n"), WIMTAZE_REFUSAL_LAYOUT));
     CHECK(refused(receive("D 1 1 0\n"), WIMTAZE_REFUSAL_RANGE));
     CHECK(refused(receive("D 1 1 1\n"), WIMTAZE_REFUSAL_FORM));
     CHECK(refused(type(9, 55296), WIMTAZE_REFUSAL_RANGE));
     CHECK(refused(type_in(9, 'x', 0, 0), WIMTAZE_REFUSAL_FORM));
     CHECK(refused(counts(), WIMTAZE_REFUSAL_FORM));
-    append("D 1 0 1\n");
+    append("E 1 0 1 1\n");
     CHECK(refused(receive("D 1 1\n"), WIMTAZE_REFUSAL_LAYOUT));
     CHECK(refused(text_in(0), WIMTAZE_REFUSAL_RANGE));
     CHECK(refused(counts(), WIMTAZE_REFUSAL_RANGE));
-    append("C 1 1 65 1 0 0 0 1\n");
+    append("C 1 1 65 0 0 0 0 1\n");
     CHECK(refused(receive("D 1 1 0\n"), WIMTAZE_REFUSAL_LAYOUT));
     CHECK(refused(counts(), WIMTAZE_REFUSAL_LAYOUT));
     CHECK(refused(type(9, 55296), WIMTAZE_REFUSAL_LAYOUT));
-    load("S 1 65535\n");
+    load("S2 1 65535\n");
     CHECK(refused(type_in(0, 'x', 0, 0), WIMTAZE_REFUSAL_CLOCK));
     CHECK(refused(empty(0, 0), WIMTAZE_REFUSAL_RANGE));
 }
@@ -735,15 +949,15 @@ static void rooms(void)
 static void waiting(void)
 {
     char line[64];
-    load("S 4 0\n");
+    load("S2 4 0\n");
     CHECK(counts() == (uint64_t)1024 << 48);
     for (int sender = 1; sender <= 16; sender++)
         for (int k = 1; k <= 32; k++) {
-            sprintf(line, k % 2 ? "D %d 9 %d\n" : "I %d %d 98 9 9 0 1\n", sender, 100 + k);
+            sprintf(line, k % 2 ? "E %d 9 %d 1\n" : "I %d %d 98 9 9 0 1\n", sender, 100 + k);
             append(line);
         }
     CHECK(counted(0, 512, 0, 768));
-    append("D 4 9 9\n");
+    append("E 4 9 9 1\n");
     CHECK(refused(counts(), WIMTAZE_REFUSAL_FORM));
 }
 
@@ -775,7 +989,7 @@ static void counting(void)
 
 static void known_needs_no_output(void)
 {
-    load("S 1 0\nC 1 1 65 1 0 0 0 1\nC 2 1 66 0 0 0 0 1\nI 3 1 67 4 1 0 1\nD 5 4 1\n");
+    load("S2 1 0\nC 1 1 65 0 0 0 0 1\nC 2 1 66 1 0 0 0 1\nI 3 1 67 4 1 0 1\nE 5 4 1 1\n");
     CHECK(known(receive_in("I 1 1 65 0 0 0 1\n", 0)));
     CHECK(known(receive_in("I 2 1 66 0 0 0 1\n", 0)));
     CHECK(known(receive_in("I 3 1 67 4 1 0 1\n", 0)));
@@ -788,9 +1002,9 @@ static void known_needs_no_output(void)
 
 static void short_outputs(void)
 {
-    static const char *const start = "S 3 1\nC 3 1 120 1 0 0 0 1\n";
-    static const char *const typed = "S 3 2\nC 3 1 120 1 0 0 0 1\nC 3 2 1114111 1 3 1 0 1\n";
-    static const char *const erased = "S 3 1\nC 3 1 120 0 0 0 0 1\n";
+    static const char *const start = "S2 3 1\nC 3 1 120 0 0 0 0 1\n";
+    static const char *const typed = "S2 3 2\nC 3 1 120 0 0 0 0 1\nC 3 2 1114111 0 3 1 0 1\n";
+    static const char *const erased = "S2 3 1\nC 3 1 120 1 0 0 0 1\n";
     static const char *const insert = "I 3 2 1114111 3 1 0 1\n";
     load(start);
     CHECK(refused(type_in(1, 1114111, strlen(typed) - 1, LINE_ROOM), WIMTAZE_REFUSAL_OUTPUT));
@@ -801,36 +1015,45 @@ static void short_outputs(void)
     CHECK(sheet_is(typed));
     load(start);
     CHECK(refused(erase_in(1, strlen(erased) - 1, LINE_ROOM), WIMTAZE_REFUSAL_OUTPUT));
-    CHECK(refused(erase_in(1, ROOM, strlen("D 3 3 1\n") - 1), WIMTAZE_REFUSAL_OUTPUT));
+    CHECK(refused(erase_in(1, ROOM, strlen("E 3 3 1 1\n") - 1), WIMTAZE_REFUSAL_OUTPUT));
     CHECK(refused(erase_in(1, 0, 0), WIMTAZE_REFUSAL_OUTPUT));
-    CHECK(done(erase_in(1, strlen(erased), strlen("D 3 3 1\n")), 1, 0));
+    CHECK(done(erase_in(1, strlen(erased), strlen("E 3 3 1 1\n")), 1, 0));
     CHECK(sheet_is(erased));
+    CHECK(refused(restore_in(3, 1, strlen(erased) - 1, LINE_ROOM), WIMTAZE_REFUSAL_OUTPUT));
+    CHECK(refused(restore_in(3, 1, ROOM, strlen("E 3 3 1 2\n") - 1), WIMTAZE_REFUSAL_OUTPUT));
+    CHECK(refused(restore_in(3, 1, 0, LINE_ROOM), WIMTAZE_REFUSAL_OUTPUT));
+    CHECK(refused(restore_in(3, 1, ROOM, 0), WIMTAZE_REFUSAL_OUTPUT));
+    CHECK(done(restore_in(3, 1, strlen(erased), strlen("E 3 3 1 2\n")), 1, 0));
+    CHECK(sheet_is("S2 3 1\nC 3 1 120 2 0 0 0 1\n"));
     load(start);
     CHECK(refused(receive_in("D 1 3 1\n", strlen(erased) - 1), WIMTAZE_REFUSAL_OUTPUT));
     CHECK(done(receive_in("D 1 3 1\n", strlen(erased)), 1, 0));
     load(start);
     CHECK(refused(text_in(0), WIMTAZE_REFUSAL_OUTPUT));
     CHECK(done(text_in(1), 0, 0));
-    CHECK(refused(empty(16, 6), WIMTAZE_REFUSAL_OUTPUT));
-    CHECK(done(empty(16, 7), 0, 0));
-    CHECK(sheet_is("S 16 0\n"));
+    CHECK(refused(empty(16, 7), WIMTAZE_REFUSAL_OUTPUT));
+    CHECK(done(empty(16, 8), 0, 0));
+    CHECK(sheet_is("S2 16 0\n"));
     CHECK(done(text_in(0), 0, 0));
 }
 
 /* The longest lines and text, in outputs of just the sizes that the header names. */
 static void longest(void)
 {
-    load("S 16 65534\nC 16 65533 65 1 0 0 0 1\nC 16 65534 66 1 0 0 0 1\n");
-    uint64_t reply = type_in(1, 1114111, WIMTAZE_SHEET_MAX, WIMTAZE_INSERT_MAX);
+    load("S2 16 65534\nC 16 65533 65 253 0 0 0 1\nC 16 65534 66 0 0 0 0 1\n");
+    uint64_t reply = restore_in(16, 65533, WIMTAZE_SHEET_MAX, WIMTAZE_ERASE_MAX);
+    CHECK(done(reply, 1, 0));
+    CHECK(line_is(reply, "E 16 16 65533 254\n") && wimtaze_line_written(reply) == WIMTAZE_ERASE_MAX);
+    reply = type_in(1, 1114111, WIMTAZE_SHEET_MAX, WIMTAZE_INSERT_MAX);
     CHECK(done(reply, 1, 0));
     CHECK(wimtaze_line_written(reply) == WIMTAZE_INSERT_MAX);
-    reply = erase_in(2, WIMTAZE_SHEET_MAX, WIMTAZE_ERASE_MAX);
+    reply = erase_in(1, WIMTAZE_SHEET_MAX, WIMTAZE_ERASE_MAX);
     CHECK(done(reply, 1, 0));
-    CHECK(wimtaze_line_written(reply) == WIMTAZE_ERASE_MAX);
-    load("S 16 65535\n");
+    CHECK(line_is(reply, "E 16 16 65533 255\n") && wimtaze_line_written(reply) == WIMTAZE_ERASE_MAX);
+    load("S2 16 65535\n");
     for (int k = 0; k < 1024; k++) {
         char line[64];
-        sprintf(line, "C 16 %d 1114111 1 0 0 0 1\n", 64000 + k);
+        sprintf(line, "C 16 %d 1114111 0 0 0 0 1\n", 64000 + k);
         append(line);
     }
     CHECK(refused(text_in(WIMTAZE_TEXT_MAX - 1), WIMTAZE_REFUSAL_OUTPUT));
@@ -838,6 +1061,32 @@ static void longest(void)
     CHECK(done(reply, 0, 0));
     CHECK(wimtaze_written(reply) == WIMTAZE_TEXT_MAX);
     CHECK(done(erase_in(1024, WIMTAZE_SHEET_MAX, WIMTAZE_LINE_MAX), 1, 0));
+    CHECK(done(restore_in(16, 64000 + 1023, WIMTAZE_SHEET_MAX, WIMTAZE_LINE_MAX), 1, 0));
+}
+
+/* The largest sheet there is: only the marks, and senders of one digit, keep it below what the header names. */
+static void largest(void)
+{
+    char line[64];
+    load("S2 16 65535\n");
+    for (int k = 0; k < 1024; k++) {
+        int n = sprintf(line, "C 16 %d 1114111 %d ", 64000 + k, k == 500 ? 254 : 255);
+        n += sprintf(line + n, k == 0 ? "0 0 " : "16 %d ", 64000 + k - 1);
+        sprintf(line + n, k == 1023 ? "0 1\n" : "16 %d\n", 64000 + k + 1);
+        append(line);
+    }
+    for (int k = 0; k < 512; k++) {
+        sprintf(line, "E %d 15 %d 255\n", 1 + k / 32, 10000 + k % 32);
+        append(line);
+    }
+    CHECK(sheet_length == WIMTAZE_SHEET_MAX - 10 - 9 * 32);
+    CHECK(counted(1, 512, 1024, 0));
+    CHECK(refused(erase_in(1, sheet_length - 1, WIMTAZE_LINE_MAX), WIMTAZE_REFUSAL_OUTPUT));
+    uint64_t reply = erase_in(1, sheet_length, WIMTAZE_ERASE_MAX);
+    CHECK(done(reply, 1, 0));
+    CHECK(line_is(reply, "E 16 16 64500 255\n"));
+    CHECK(counted(0, 512, 1024, 0));
+    CHECK(refused(restore(16, 64500), WIMTAZE_REFUSAL_LAST_TURN));
 }
 
 static void version(void)
@@ -849,9 +1098,9 @@ static void version(void)
 
 static void every_refusal(void)
 {
-    for (unsigned n = 1; n <= 12; n++)
+    for (unsigned n = 1; n <= 14; n++)
         CHECK((refusals_seen >> n & 1) == (n != WIMTAZE_REFUSAL_TAKEN));
-    CHECK(refusals_seen >> 13 == 0);
+    CHECK(refusals_seen >> 15 == 0);
 }
 
 /* ---- */
@@ -878,19 +1127,25 @@ static const struct {
     {"Req 04: a refusal raises no clock", clock_stays},
     {"Req 04: a saved clock that is too low", clock_raised},
     {"the hall's example", hall},
+    {"Req 05: a request that was erased is brought back", brought_back},
+    {"Req 05: the larger turn", larger_turn},
+    {"Req 05: turns that wait", waiting_turns},
+    {"Req 05: restoring", restoring},
+    {"Req 05: refusals of restoring", not_restored},
     {"what an insert releases", released},
     {"placing", placing},
     {"layout of lines and sheets", layout},
     {"ranges", ranges},
     {"form", form},
     {"positions, and a taken identifier", positions},
-    {"the lowest ground is told", order},
+    {"the first ground is told", order},
     {"counts after each call", counting},
     {"counts and room at the limit", rooms},
     {"counts of 512 waiting edits", waiting},
     {"known with an output of length 0", known_needs_no_output},
     {"short outputs are left untouched", short_outputs},
     {"the longest lines and text", longest},
+    {"the largest sheet", largest},
     {"the version and its parts", version},
     {"each refusal was met, and 6 never", every_refusal},
 };
