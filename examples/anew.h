@@ -1,10 +1,10 @@
 /*
  * A laptop that lost its sheet and keeps its number, by rule 1 of wimtaze.h: it begins with an empty sheet and asks
  * each of the others for everything, again and again, until each has told it that it has all. Its clock follows its own
- * characters as they come back. Until it has all it neither types nor erases, and no sheet of it is on the disk to go
- * on from: a file "laptop-<number>.anew" says so, with which laptop_open refuses. If it ends before that, it is opened
- * anew again. It never has all if more than 32 of its own edits wait on the others for one that was lost, or if one of
- * the others is gone for good: then it takes a number that nobody has had.
+ * characters as they come back. Until it has all it makes no edits, and no sheet of it is on the disk to go on from: a
+ * file "laptop-<number>.anew" says so, with which laptop_open refuses. If it ends before that, it is opened anew again.
+ * It never has all if more than 32 of its own edits wait on the others for one that was lost, or if one of the others
+ * is gone for good: then it takes a number that nobody has had.
  *
  *     laptop that was opened anew     send laptop->anew to each laptop in laptop->awaited, from time to time;
  *                                     laptop_told, when one answers

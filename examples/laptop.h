@@ -4,7 +4,7 @@
  * memory, playing_hall.c sixteen processes that send datagrams. Both go round and round in this order:
  *
  *     take in what has come     laptop_receive, laptop_acknowledged
- *     type and erase            laptop_type, laptop_erase
+ *     type, erase, restore      laptop_type, laptop_erase, laptop_restore
  *     save                      laptop_save
  *     send                      an acknowledgement for each line that was taken in, and the outbox
  *
@@ -13,8 +13,8 @@
  * An acknowledgement is the line itself, sent back. (If lines were numbered for this, they would be numbered anew after
  * a crash, and a late acknowledgement be taken for that of another line.)
  *
- * (A laptop that lost its sheet and keeps its number is opened by anew.h. Until it has all it saves, types and erases
- * nothing; if it ends before that, everything is sent to it again.)
+ * (A laptop that lost its sheet and keeps its number is opened by anew.h. Until it has all it saves nothing and makes
+ * no edits; if it ends before that, everything is sent to it again.)
  *
  * The laptops are 1 to some count, at most 16, and share out the sheet's 1,024 characters evenly. Include this file
  * before any other, in one file of a program.
@@ -101,6 +101,12 @@ static const uint8_t *laptop_first_row(const struct laptop *laptop)
     return laptop_row_after(laptop, laptop->sheet);
 }
 
+/* Whether the character of this line of the sheet is shown. */
+static int laptop_is_shown(const uint8_t *row)
+{
+    return laptop_field(row, 4) % 2 == 0;
+}
+
 /*
  * How many characters this laptop may still type: what is left of its share, if the sheet can take so many; none as
  * long as some of its own characters may not have come back.
@@ -143,19 +149,19 @@ static uint32_t laptop_others(const struct laptop *laptop)
     return (2u << laptop->count) - 2 - (1u << laptop->number);
 }
 
-/* Makes the lines of the sheet's characters again: of its own or of all, and of every erased one. */
+/* Makes the lines of the sheet's characters again: of its own or of all, and of every one erased or restored. */
 static void laptop_post_rows(struct laptop *laptop, int all, uint32_t to)
 {
     for (const uint8_t *row = laptop_first_row(laptop); row != NULL; row = laptop_row_after(laptop, row)) {
         char line[WIMTAZE_LINE_MAX + 1];
-        unsigned by = laptop_field(row, 1), clock = laptop_field(row, 2);
+        unsigned by = laptop_field(row, 1), clock = laptop_field(row, 2), turn = laptop_field(row, 4);
         if (all || by == laptop->number) {
             int n = sprintf(line, "I\t%u\t%u\t%u\t%u\t%u\t%u\t%u\n", by, clock, laptop_field(row, 3),
                             laptop_field(row, 5), laptop_field(row, 6), laptop_field(row, 7), laptop_field(row, 8));
             laptop_post(laptop, line, (size_t)n, to);
         }
-        if (laptop_field(row, 4) == 0) {
-            int n = sprintf(line, "D\t%u\t%u\t%u\n", laptop->number, by, clock);
+        if (turn > 0) {
+            int n = sprintf(line, "E\t%u\t%u\t%u\t%u\n", laptop->number, by, clock, turn);
             laptop_post(laptop, line, (size_t)n, to);
         }
     }
@@ -167,7 +173,7 @@ static void laptop_post_waiting(struct laptop *laptop, int all, uint32_t to)
     const uint8_t *end = laptop->sheet + laptop->length;
     for (const uint8_t *line = laptop->sheet; line < end;) {
         const uint8_t *next = (const uint8_t *)memchr(line, '\n', (size_t)(end - line)) + 1;
-        if ((*line == 'I' || *line == 'D') && (all || laptop_field(line, 1) == laptop->number))
+        if ((*line == 'I' || *line == 'E') && (all || laptop_field(line, 1) == laptop->number))
             laptop_post(laptop, line, (size_t)(next - line), to);
         line = next;
     }
@@ -223,6 +229,15 @@ static void laptop_save(struct laptop *laptop)
     laptop->saved = 1;
 }
 
+/* Takes the new sheet of an edit that was made here, and posts its line. */
+static enum wimtaze_refusals laptop_made(struct laptop *laptop, uint64_t reply, const uint8_t *line)
+{
+    laptop_keep(laptop, reply);
+    if (wimtaze_word(reply) == WIMTAZE_DONE)
+        laptop_post(laptop, line, wimtaze_line_written(reply), laptop_others(laptop));
+    return wimtaze_refusal(reply);
+}
+
 /* Types a character; refused with 11 also at the end of the laptop's share, and as long as it awaits others. */
 static enum wimtaze_refusals laptop_type(struct laptop *laptop, uint64_t gap, uint32_t code_point)
 {
@@ -231,10 +246,7 @@ static enum wimtaze_refusals laptop_type(struct laptop *laptop, uint64_t gap, ui
         return WIMTAZE_REFUSAL_DOCUMENT_FULL;
     uint64_t reply = wimtaze_type(laptop->sheet, laptop->length, gap, code_point, laptop->after, sizeof laptop->after,
                                   line, sizeof line);
-    laptop_keep(laptop, reply);
-    if (wimtaze_word(reply) == WIMTAZE_DONE)
-        laptop_post(laptop, line, wimtaze_line_written(reply), laptop_others(laptop));
-    return wimtaze_refusal(reply);
+    return laptop_made(laptop, reply, line);
 }
 
 /* Erases a character; refused with 4 also as long as the laptop awaits others. */
@@ -245,10 +257,18 @@ static enum wimtaze_refusals laptop_erase(struct laptop *laptop, uint64_t place)
         return WIMTAZE_REFUSAL_POSITION;
     uint64_t reply = wimtaze_erase(laptop->sheet, laptop->length, place, laptop->after, sizeof laptop->after, line,
                                    sizeof line);
-    laptop_keep(laptop, reply);
-    if (wimtaze_word(reply) == WIMTAZE_DONE)
-        laptop_post(laptop, line, wimtaze_line_written(reply), laptop_others(laptop));
-    return wimtaze_refusal(reply);
+    return laptop_made(laptop, reply, line);
+}
+
+/* Brings back an erased character, by its identifier; refused with 13 also as long as the laptop awaits others. */
+static enum wimtaze_refusals laptop_restore(struct laptop *laptop, unsigned by, unsigned clock)
+{
+    uint8_t line[WIMTAZE_LINE_MAX];
+    if (laptop->awaited != 0)
+        return WIMTAZE_REFUSAL_NOT_HIDDEN;
+    uint64_t reply = wimtaze_restore(laptop->sheet, laptop->length, by, clock, laptop->after, sizeof laptop->after,
+                                     line, sizeof line);
+    return laptop_made(laptop, reply, line);
 }
 
 /* ---- receiving */

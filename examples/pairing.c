@@ -1,12 +1,12 @@
 /*
  * Two laptops of a playing hall keep one note together, over a network that loses every third packet, delivers every
  * fifth twice, and the last one first. Each types without waiting for the other; one is switched off and on again in
- * between. Both end with the same note.
+ * between. Then it erases what the other typed, by mistake, and the other brings it back. Both end with the same note.
  *
  *     pairing [DIRECTORY]     keeps the two sheets there, and goes on from them when it is run again
  *
- * What a laptop must see to is in laptop.h. `turn` is one round of a program's loop; in yours, send_packet and
- * next_packet are the network, and type, correct and show are the screen.
+ * What a laptop must see to is in laptop.h. `go_round` is one round of a program's loop; in yours, send_packet and
+ * next_packet are the network, and type, correct, erase, bring_back and show are the screen.
  */
 #include "laptop.h"
 
@@ -85,7 +85,7 @@ static void send_outbox(const struct laptop *laptop)
     }
 }
 
-static void turn(struct laptop *laptop)
+static void go_round(struct laptop *laptop)
 {
     static struct packet due[PACKETS];
     size_t count = take_in(laptop, due);
@@ -116,6 +116,25 @@ static void correct(struct laptop *laptop, uint64_t place, char character)
         laptop_erase(laptop, place);
 }
 
+/* Erases so many characters, the first of them at a place. */
+static void erase(struct laptop *laptop, uint64_t place, size_t count)
+{
+    for (; count > 0; count--)
+        laptop_erase(laptop, place);
+}
+
+/* Brings back what was typed here and erased anywhere. After each call the sheet is another one. */
+static void bring_back(struct laptop *laptop)
+{
+    for (const uint8_t *row = laptop_first_row(laptop); row != NULL;)
+        if (laptop_field(row, 1) != laptop->number || laptop_is_shown(row))
+            row = laptop_row_after(laptop, row);
+        else if (laptop_restore(laptop, laptop->number, laptop_field(row, 2)) == WIMTAZE_REFUSAL_NONE)
+            row = laptop_first_row(laptop);
+        else
+            return;
+}
+
 static size_t show(const struct laptop *laptop, uint8_t *text)
 {
     size_t length = wimtaze_written(wimtaze_text(laptop->sheet, laptop->length, text, WIMTAZE_TEXT_MAX));
@@ -123,8 +142,20 @@ static size_t show(const struct laptop *laptop, uint8_t *text)
     return length;
 }
 
+/* Rounds of both laptops until every line is delivered; answers how many. */
+static unsigned exchange(struct laptop *desk, struct laptop *hall)
+{
+    unsigned rounds = 0;
+    for (; desk->outbox_count + hall->outbox_count > 0 && rounds < 1000; rounds++) {
+        go_round(hall);
+        go_round(desk);
+    }
+    return rounds;
+}
+
 int main(int argc, char **argv)
 {
+    static const char results[] = "Board 4: 1-0. Board 9 was adjourned. ", bye[] = "Bye: Novak. ";
     const char *directory = argc > 1 ? argv[1] : ".";
     static struct laptop desk, hall;
     static uint8_t desk_text[WIMTAZE_TEXT_MAX], hall_text[WIMTAZE_TEXT_MAX];
@@ -132,19 +163,21 @@ int main(int argc, char **argv)
     laptop_open(&desk, directory, 1, LAPTOPS);
     laptop_open(&hall, directory, 2, LAPTOPS);
 
-    type(&desk, 0, "Board 4: 1-0. Board 9 was adjourned. ");
-    type(&hall, 0, "Bye: Novak. ");
+    type(&desk, 0, results);
+    type(&hall, 0, bye);
     correct(&desk, 7, '7');
-    turn(&desk);
+    go_round(&desk);
     laptop_close(&desk);
     laptop_open(&desk, directory, 1, LAPTOPS);
 
-    unsigned turns = 0;
-    for (; desk.outbox_count + hall.outbox_count > 0 && turns < 1000; turns++) {
-        turn(&hall);
-        turn(&desk);
-    }
-    printf("%u turns: %u lines done, %u had to wait, %u known, %u refused with 10 and tried again\n", turns,
+    unsigned rounds = exchange(&desk, &hall);
+    erase(&desk, strlen(results) + 1, strlen(bye));
+    rounds += exchange(&desk, &hall);
+    puts("the bye request is erased by mistake:");
+    show(&hall, hall_text);
+    bring_back(&hall);
+    rounds += exchange(&desk, &hall);
+    printf("%u rounds: %u lines done, %u had to wait, %u known, %u refused with 10 and tried again\n", rounds,
            answers[WIMTAZE_DONE], answers[WIMTAZE_WAITS], answers[WIMTAZE_KNOWN], put_off);
 
     size_t length = show(&desk, desk_text);

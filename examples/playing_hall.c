@@ -4,8 +4,9 @@
  * interface, all through one relay. It loses one in five, delivers one in eight twice, and holds each back for some
  * time, so that they overtake each other. For a while it cuts laptops 13 to 16 off from the others; in that time laptop
  * 5 is killed, and started again from its file, and laptop 9 is killed, loses its file, and is set up anew under its
- * number: the others send it everything, its own characters among it, and it types on. At the end the sixteen files
- * must show the same text.
+ * number: the others send it everything, its own characters among it, and it types on. When all is typed, laptop 11
+ * erases the note of laptop 2 by mistake, and laptop 2 brings it back. At the end the sixteen files must show the same
+ * text.
  *
  *     playing_hall [SECONDS [SEED]]     types for so long, 2 to 60 seconds; 20 if nothing is said
  *
@@ -27,6 +28,8 @@ enum {
     SECTION = 13,       /* the first laptop of the section that is cut off */
     KILLED = 5,         /* the laptop that is killed */
     RENEWED = 9,        /* the laptop that loses its file too */
+    CARELESS = 11,      /* the laptop that erases a note by mistake, */
+    AUTHOR = 2,         /* and the one that typed it and brings it back */
     EDITS = 30,         /* of a laptop in the time of the typing */
     RESEND = 200,       /* milliseconds until a line is sent again, */
     RESEND_EACH = 30,   /* and so many more for each line that all others lack: with many, they are busy or away */
@@ -64,7 +67,7 @@ struct datagram {
 
 /* What a laptop tells the referee about itself. */
 struct status {
-    uint32_t characters, waiting, unacknowledged, finished;
+    uint32_t characters, waiting, unacknowledged, erased, finished;
 };
 
 static uint64_t milliseconds(void)
@@ -92,35 +95,73 @@ static const char *note;
 
 /* Where the laptop is with its note, read off the sheet, which is all that is left after a crash. */
 struct desk {
-    size_t typed;  /* characters of the note */
-    unsigned gap;  /* the gap behind the last of them */
-    unsigned slip; /* the place of the first slip that is shown, or 0 */
+    size_t typed;       /* characters of the note */
+    unsigned gap;       /* the gap behind the last of them */
+    unsigned slip;      /* the place of the first slip that is shown, or 0 */
+    size_t all_typed;   /* characters of all notes */
+    unsigned untouched; /* the place of the first character of laptop 2's note that was never erased, or 0 */
+    unsigned erased;    /* the clock of the first that is erased, or 0 */
 };
 
 static struct desk look(void)
 {
-    struct desk desk = {0, 0, 0};
+    struct desk desk = {0, 0, 0, 0, 0, 0};
     unsigned shown = 0;
     const uint8_t *row = laptop_first_row(&laptop);
     for (; row != NULL; row = laptop_row_after(&laptop, row)) {
-        int is_slip = laptop_field(row, 3) == (unsigned)SLIP;
-        shown += laptop_field(row, 4);
-        if (is_slip && laptop_field(row, 4) == 1 && desk.slip == 0)
-            desk.slip = shown;
-        if (!is_slip && laptop_field(row, 1) == laptop.number) {
+        unsigned by = laptop_field(row, 1), turn = laptop_field(row, 4);
+        shown += laptop_is_shown(row) ? 1 : 0;
+        if (laptop_field(row, 3) == (unsigned)SLIP) {
+            if (laptop_is_shown(row) && desk.slip == 0)
+                desk.slip = shown;
+            continue;
+        }
+        desk.all_typed++;
+        if (by == laptop.number) {
             desk.typed++;
             desk.gap = shown;
         }
+        if (by == AUTHOR && turn == 0 && desk.untouched == 0)
+            desk.untouched = shown;
+        if (by == AUTHOR && turn == 1 && desk.erased == 0)
+            desk.erased = laptop_field(row, 2);
     }
     return desk;
 }
 
-/* Erases a slip, makes one, or types the next character of the note. */
+static size_t notes_length(void)
+{
+    size_t length = 0;
+    for (unsigned k = 0; k < LAPTOPS; k++)
+        length += strlen(NOTES[k]);
+    return length;
+}
+
+/* The mistake: the whole note of laptop 2. It waits until nobody types any more, so that no note comes between it. */
+static void erase_note(void)
+{
+    for (struct desk desk = look(); desk.untouched != 0; desk = look())
+        if (laptop_erase(&laptop, desk.untouched) != WIMTAZE_REFUSAL_NONE)
+            return;
+}
+
+static void bring_back_note(void)
+{
+    for (struct desk desk = look(); desk.erased != 0; desk = look())
+        if (laptop_restore(&laptop, AUTHOR, desk.erased) != WIMTAZE_REFUSAL_NONE)
+            return;
+}
+
+/* Erases a slip, makes one, or types the next character of the note; or makes the mistake, or mends it. */
 static void edit(void)
 {
     struct desk desk = look();
     size_t left = strlen(note) - desk.typed;
-    if (desk.slip != 0 && below(4) == 0)
+    if (laptop.number == CARELESS && desk.all_typed == notes_length() && desk.untouched != 0)
+        erase_note();
+    else if (laptop.number == AUTHOR && desk.erased != 0)
+        bring_back_note();
+    else if (desk.slip != 0 && below(4) == 0)
         laptop_erase(&laptop, desk.slip);
     else if (left > 0 && below(12) == 0 && laptop_room(&laptop) > left)
         laptop_type(&laptop, desk.gap, (uint32_t)SLIP);
@@ -210,13 +251,15 @@ static void send_status(int net)
         .characters = wimtaze_character_count(counts),
         .waiting = wimtaze_waiting_count(counts),
         .unacknowledged = (uint32_t)laptop.outbox_count,
-        .finished = desk.typed == strlen(note) && desk.slip == 0 && laptop.outbox_count == 0 && laptop.awaited == 0,
+        .erased = desk.erased != 0,
+        .finished = desk.typed == strlen(note) && desk.slip == 0 && desk.untouched == 0 && desk.erased == 0 &&
+                    laptop.outbox_count == 0 && laptop.awaited == 0,
     };
     send_datagram(net, addressed(0, STATUS, &status, sizeof status));
 }
 
 /* One round of the laptop's loop: nothing is sent before the sheet is saved. */
-static void turn(int net, uint64_t now, int may_edit)
+static void go_round(int net, uint64_t now, int may_edit)
 {
     static struct datagram due[BATCH];
     size_t count = take_in(net, due);
@@ -235,7 +278,7 @@ static void run_laptop(int net, int life, unsigned pace)
     uint64_t next_edit = milliseconds() + below(pace), next_status = 0;
     while (poll(ready, 2, 20) >= 0 && ready[1].revents == 0) {
         uint64_t now = milliseconds();
-        turn(net, now, now >= next_edit);
+        go_round(net, now, now >= next_edit);
         if (now >= next_edit)
             next_edit = now + pace / 2 + below(pace);
         if (now >= next_status) {
@@ -419,17 +462,18 @@ static int is_dead(const struct hall *hall, uint64_t elapsed)
 
 static void report(const struct hall *hall, uint64_t elapsed)
 {
-    unsigned least = WIMTAZE_CHARACTER_MAX, most = 0, waiting = 0, unacknowledged = 0;
+    unsigned least = WIMTAZE_CHARACTER_MAX, most = 0, waiting = 0, unacknowledged = 0, erased = 0;
     for (unsigned k = 1; k <= LAPTOPS; k++) {
         const struct status *status = &hall->status[k];
         least = status->characters < least ? status->characters : least;
         most = status->characters > most ? status->characters : most;
         waiting += status->waiting;
         unacknowledged += status->unacknowledged;
+        erased += status->erased;
     }
     printf("%3u s %8u to %4u %8u %10u %11lu %8lu %8lu %8lu  %s%s\n", (unsigned)(elapsed / 1000), least, most, waiting,
            unacknowledged, passed, lost, doubled, cut, is_cut(hall, elapsed) ? "13 to 16 are cut off" : "",
-           is_dead(hall, elapsed) ? ", 5 and 9 are dead" : "");
+           is_dead(hall, elapsed) ? ", 5 and 9 are dead" : erased > 0 ? "the bye request is erased" : "");
     fflush(stdout);
 }
 
