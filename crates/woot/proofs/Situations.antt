@@ -13,7 +13,7 @@ use Rattle.woot.specs.Pending.{executable, crossed, unplaceable, integra
 use Rattle.woot.specs.Form.{presentInserts, allInRange, sharesKept, capacityKept, identifiersDistinct, togglesDistinct, ordered, neighboursOrdered, noneExecutable, clockReaches, clockKept, wellFormed}
 use Rattle.woot.specs.Clock.{ownInsert, heard}
 use Rattle.woot.specs.Answers.{number, reply, answerOf, decided}
-use Rattle.woot.specs.Calls.{unchanged, allIntegrated, withCharacters, withPending, afterDrain, insertCarried, duplicate, conflicting, senderFull, documentFull, receiveChecks, carryOut, defer, accept, receiveWhen, receive, visibles, nextIdentifier, generatedInsert, beyondVisible, identifierTaken, insertChecks, sendInsert, localInsertWhen, localInsert, togglesOf, generatedToggle, sendToggle, notVisible, deleteChecks, generatedDelete, localDeleteWhen, localDelete, notHidden, lastToggle, restoreChecks, localRestoreWhen, localRestore}
+use Rattle.woot.specs.Calls.{unchanged, allIntegrated, withCharacters, withPending, afterDrain, insertCarried, duplicate, conflicting, senderFull, documentFull, receiveChecks, carryOut, defer, accept, receiveWhen, receive, visibles, nextIdentifier, generatedInsert, beyondVisible, identifierTaken, insertChecks, sendInsert, localInsertWhen, localInsert, togglesOf, generatedToggle, sendToggle, notVisible, deleteChecks, generatedDelete, localDeleteWhen, localDelete, notHidden, exhausted, restoreChecks, localRestoreWhen, localRestore}
 use Rattle.woot.specs.Text.{unprintable, printed, encoded, text}
 use Rattle.woot.specs.Histories.{outcome}
 use Rattle.woot.specs.declared.Identifier.{Identifier}
@@ -23,7 +23,7 @@ use Rattle.woot.specs.State.{State}
 use Rattle.woot.specs.Placing.{identifiers}
 use Rattle.woot.specs.Answers.{Reply}
 use Rattle.woot.specs.Histories.{Call, run, integratedBy}
-use Rattle.woot.specs.Situations.{Given, calling, carrying, showing, Seen, calls, operations, bytes, replies, seen, Situation, table, slipCases, answerCases, clockCases, toggleCases, SituationsHold, CasesTell, CheckingOrder}
+use Rattle.woot.specs.Situations.{Given, calling, carrying, showing, Seen, calls, operations, bytes, replies, seen, Situation, table, slipCases, answerCases, clockCases, toggleCases, SituationsHold, CasesTell, LargestTells, CheckingOrder}
 
 -- k at xs, whose cells are computed first
 whole : {A B : Type 0} → List A → (List A → B) → B
@@ -85,7 +85,7 @@ all-computed [] = refl
 all-computed (t ∷ ts) = ap₂ (λ a bs. a ∷ bs) (sym (computed-same (t .given))) (all-computed ts)
 
 both : SituationsHold × CasesTell
-unfolding table carriedIn slipCases answerCases clockCases toggleCases whole settled stepped computed _to_ encodedLength continuation oneByte twoBytes threeBytes fourBytes encode unprintable printed encoded text same below sender character origin isVisible withToggles toggledBy sameInsert sameToggle sameOperation within siteNumber codePoint characterId previousId nextId siteInRange insertInRange toggleInRange inRange characterInRange initial sequence indexOf placeOf held above adjacent candidate candidates narrowed search position between insertAt integrateInsert integrateToggle executable crossed unplaceable integrate pendingFrom earliest andIntegrated andDiscarded drained drainSteps drain presentInserts allInRange sharesKept capacityKept identifiersDistinct togglesDistinct ordered neighboursOrdered noneExecutable clockReaches clockKept ownInsert heard wellFormed reply answerOf unchanged decided allIntegrated withCharacters withPending afterDrain insertCarried duplicate conflicting senderFull documentFull receiveChecks carryOut defer accept receiveWhen receive visibles nextIdentifier generatedInsert beyondVisible identifierTaken insertChecks sendInsert localInsertWhen localInsert togglesOf generatedToggle sendToggle notVisible deleteChecks generatedDelete localDeleteWhen localDelete notHidden lastToggle restoreChecks localRestoreWhen localRestore outcome
+unfolding table carriedIn slipCases answerCases clockCases toggleCases whole settled stepped computed _to_ encodedLength continuation oneByte twoBytes threeBytes fourBytes encode unprintable printed encoded text same below sender character origin isVisible withToggles toggledBy sameInsert sameToggle sameOperation within siteNumber codePoint characterId previousId nextId siteInRange insertInRange toggleInRange inRange characterInRange initial sequence indexOf placeOf held above adjacent candidate candidates narrowed search position between insertAt integrateInsert integrateToggle executable crossed unplaceable integrate pendingFrom earliest andIntegrated andDiscarded drained drainSteps drain presentInserts allInRange sharesKept capacityKept identifiersDistinct togglesDistinct ordered neighboursOrdered noneExecutable clockReaches clockKept ownInsert heard wellFormed reply answerOf unchanged decided allIntegrated withCharacters withPending afterDrain insertCarried duplicate conflicting senderFull documentFull receiveChecks carryOut defer accept receiveWhen receive visibles nextIdentifier generatedInsert beyondVisible identifierTaken insertChecks sendInsert localInsertWhen localInsert togglesOf generatedToggle sendToggle notVisible deleteChecks generatedDelete localDeleteWhen localDelete notHidden exhausted restoreChecks localRestoreWhen localRestore outcome
 both = (all-computed table ∙ refl, (all-computed slipCases ∙ refl, all-computed answerCases ∙ refl, all-computed clockCases ∙ refl, all-computed toggleCases ∙ refl))
 
 pub situations-hold : SituationsHold
@@ -93,6 +93,10 @@ situations-hold = both .0
 
 pub cases-tell : CasesTell
 cases-tell = both .1
+
+pub largest-tells : LargestTells
+unfolding same
+largest-tells = (refl, refl, refl)
 
 pub checking-order : (formed : Bool) (s : State) → CheckingOrder formed s
 unfolding receiveChecks insertChecks deleteChecks restoreChecks reply answerOf

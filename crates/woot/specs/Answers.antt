@@ -94,7 +94,7 @@ module _ {A : Type 0} where
   abbrev pub _⇒_ : Bool → A → Check A
   b ⇒ a = record { holds = b; answer = a }
 
-  -- "a call meets those that fit it, and the lowest is reported": the first in checking order
+  -- document 02, Req 05: "the first that fits is reported", in checking order
   abbrev pub first : List (Check A) → Option A
   first [] = none
   first (c ∷ cs) = cond (c .holds) (some (c .answer)) (first cs)

@@ -1,5 +1,5 @@
--- The four calls: typing, erasing, restoring and receiving. Each has its conditions in checking order; where none holds, what is
--- done stands below them.
+-- The four calls: typing, erasing, restoring and receiving. Each has its conditions in checking order; where none holds,
+-- what is done stands below them.
 use Prim.Native.Nat.{ℕ, suc, _+_}
 use mathlib.Core.Bool.{Bool, false, _&&_, _||_, not, cond}
 use mathlib.Core.List.{List, [], _∷_, _++_}
@@ -236,14 +236,14 @@ unfoldable pub notHidden : State → Identifier → Bool
 notHidden s x = not (any (λ c. same x (c .id) && not (isVisible c)) (s .characters))
 
 -- condition 14: "its turn is 255"
-unfoldable pub lastToggle : State → Identifier → Bool
-lastToggle s x = eqb (togglesOf (s .characters) x) lastToggles
+unfoldable pub exhausted : State → Identifier → Bool
+exhausted s x = eqb (togglesOf (s .characters) x) lastToggles
 
 -- "these come after 4, in that order"
 unfoldable pub restoreChecks : Bool → State → Identifier → List (Check Sent)
 restoreChecks formed s x =
     (not (characterId x) ⇒ sentRefused Range) ∷ (not formed ⇒ sentRefused Form) ∷ (notHidden s x ⇒ sentRefused NotHidden)
-    ∷ (lastToggle s x ⇒ sentRefused LastToggle)
+    ∷ (exhausted s x ⇒ sentRefused LastToggle)
     ∷ []
 
 unfoldable pub localRestoreWhen : Bool → State → Identifier → Outcome Sent

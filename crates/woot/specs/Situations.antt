@@ -17,7 +17,7 @@ use Rattle.woot.specs.declared.Answer.the-variants.{Done as answerDone, 
 use Rattle.woot.specs.declared.Sent.{Sent}
 use Rattle.woot.specs.Answers.{rank, done, waits, known, refused, Reply, reply, answerOf, Check}
 use Rattle.woot.specs.Calls.{receiveChecks, insertChecks, deleteChecks, restoreChecks}
-use Rattle.woot.specs.Histories.{Call, inserting, deleting, restoring, receiving, outcome, run, integratedBy}
+use Rattle.woot.specs.Histories.{Call, inserting, deleting, restoring, receiving, outcome, run, integratedBy, largestIn}
 use Rattle.woot.specs.Text.{text}
 
 infix 90 _at_
@@ -355,13 +355,29 @@ toggleCases =
     -- 14 one turn early, or a turn that begins anew after the last
     ∷ (calling (toggledTo 253) (restoring (2 at 1) ∷ deleting 1 ∷ restoring (2 at 1) ∷ [])
     gives calls (Done 1 0 ∷ Done 1 0 ∷ Refused 14 ∷ []) (2 at 1 ∷ []))
-    -- the user's story: a line is erased, brought back, and stands where it stood
-    ∷ (showing xyz (deleting 2 ∷ restoring (2 at 2) ∷ []) gives bytes (65 ∷ 65 ∷ 65 ∷ []))
+    -- a hidden row takes no turn, as a deleted one took no second delete
+    ∷ (after (o1 ∷ del 3 (1 at 1) ∷ tog 4 (1 at 1) 2 ∷ tog 5 (1 at 1) 3 ∷ tog 6 (1 at 1) 5 ∷ [])
+    gives calls (Done 1 0 ∷ Done 1 0 ∷ Done 1 0 ∷ Done 1 0 ∷ Done 1 0 ∷ []) (1 at 1 ∷ []))
+    -- 2 lets pass an identifier that is no character's
+    ∷ (after (restoring end ∷ restoring (0 at 5) ∷ restoring (17 at 1) ∷ restoring (1 at 0) ∷ restoring (1 at 65536) ∷ [])
+    gives calls (Refused 2 ∷ Refused 2 ∷ Refused 2 ∷ Refused 2 ∷ Refused 2 ∷ []) [])
+    -- the user's story: what was erased is brought back, and stands where it stood
+    ∷ (showing (initial 16)
+    (inserting 0 120 ∷ inserting 1 121 ∷ inserting 2 122 ∷ deleting 2 ∷ restoring (16 at 2) ∷ [])
+    gives bytes (120 ∷ 121 ∷ 122 ∷ []))
     ∷ []
 
 -- each case tells the rule from the slip that its comment names
 abbrev pub CasesTell : Type 0
 CasesTell = AllHold slipCases × AllHold answerCases × AllHold clockCases × AllHold toggleCases
+
+-- the largest turn is of all that were carried out of that character, whoever sent them and in whatever order; and of what
+-- was carried out, whatever turn its row has
+abbrev pub LargestTells : Type 0
+LargestTells =
+    (largestIn (1 at 1) (deleteBy 3 (1 at 1) ∷ toggleBy 4 (1 at 1) 2 ∷ toggleBy 5 (2 at 1) 9 ∷ []) ≡ 2)
+    × (largestIn (1 at 1) (toggleBy 3 (1 at 1) 2 ∷ deleteBy 5 (1 at 1) ∷ insert (put (1 at 1) begin end) ∷ []) ≡ 2)
+    × (largestIn (2 at 1) (integratedBy (toggledTo 4) []) ≡ 0)
 
 -- ---- the checking order
 

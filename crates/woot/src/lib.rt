@@ -175,7 +175,7 @@ pub enum Refusal {
 }
 
 impl Refusal {
-    // The number that document 01 gives it.
+    // The number that the papers give it.
     pub fn number(self) -> u64
         ensures { λ r. ⌜ r ≡ number self ⌝ }
     {
