@@ -20,7 +20,7 @@ use Rattle.woot.specs.Histories.{InsertedIn, largestIn}
 use Rattle.lists.proofs.Tests.{either, clash}
 use Rattle.convergence.proofs.Extract.{Extract, extract-length, extract-cases, extract-itself, extract-old, extract-map}
 use Rattle.convergence.proofs.Identifiers.{same-eq}
-use Rattle.convergence.proofs.Toggling.{marked-id, marked-toggles, toggle-length, toggle-origins, toggle-held, toggle-member}
+use Rattle.convergence.proofs.Toggling.{toggled-id, toggled-toggles, toggle-length, toggle-origins, toggle-held, toggle-member}
 
 pub record Faithful (cs : List Character) (os : List Operation) : Type 0 where
   pub inserted : (i : Insert) → List·Memᴰ i (map origin cs) ↔ InsertedIn i os
@@ -111,10 +111,10 @@ faithful-toggle {cs} {os} d ready f =
 
     each : (c : Character) → List·Memᴰ c cs → toggledBy d c .toggles ≡ largestIn (toggledBy d c .id) (os ++ toggle d ∷ [])
     each c m =
-        marked-toggles d c
+        toggled-toggles d c
         ∙ ap (λ (n : ℕ). cond (same (d .target) (c .id)) (max n (d .toggles)) n) (f .largest c m)
         ∙ sym (largest-toggle (c .id) os d)
-        ∙ ap (λ (x : Identifier). largestIn x (os ++ toggle d ∷ [])) (sym (marked-id d c))
+        ∙ ap (λ (x : Identifier). largestIn x (os ++ toggle d ∷ [])) (sym (toggled-id d c))
 
     elsewhere : (x : Identifier) → held cs x ≡ false → (same (d .target) x ≡ true) ⊎ (same (d .target) x ≡ false) → cond (same (d .target) x) (max (largestIn x os) (d .toggles)) (largestIn x os) ≡ 0
     elsewhere x h (inl k) = clash (subst (λ (y : Identifier). held cs y ≡ true) (same-eq (d .target) x k) ready) h

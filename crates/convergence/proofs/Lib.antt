@@ -30,4 +30,5 @@ pub mod Grown
 pub mod Convergence
 pub mod Isolation
 pub mod Replies
+pub mod Sending
 pub mod Writing

@@ -1,5 +1,5 @@
 -- What draining and the calls do to the two lists keeps them sound: one operation taken out, an insert put in its place,
--- a character hidden, an operation put at the end of the pending ones.
+-- a character toggled, an operation put at the end of the pending ones.
 use Prim.Native.Nat.{ℕ, zero, suc, _+_, _≤_, _<_}
 use native.Mathlib.Omega.{arith}
 use mathlib.Core.Path.{_≡_, refl, ap, sym, _∙_, subst}

@@ -28,7 +28,7 @@ use Rattle.convergence.proofs.Identifiers.{same-refl}
 use Rattle.convergence.proofs.Insertion.{insert-member, insert-distinct}
 use Rattle.convergence.proofs.Places.{shift, shift-before, shift-behind, held-place, above-place, above-lower, above-upper, place-above, held-apart, held-insert, not-held, place-insert-old, place-insert-new, above-insert}
 use Rattle.lists.proofs.Tests.{side}
-use Rattle.convergence.proofs.Toggling.{marked-origin, marked-toggles, toggle-identifiers, toggle-above, toggle-member, toggle-each}
+use Rattle.convergence.proofs.Toggling.{toggled-origin, toggled-toggles, toggle-identifiers, toggle-above, toggle-member, toggle-each}
 use Rattle.convergence.proofs.Placing.{position-within}
 
 -- where an insert goes in, strictly between its neighbours
@@ -180,8 +180,8 @@ standing-empty =
 -- a character in range stays so: its toggles are its own or the operation's
 marked-ranged : (x : Toggle) → toggleInRange x ≡ true → (c : Character) → characterInRange c ≡ true → characterInRange (toggledBy x c) ≡ true
 marked-ranged x r c h =
-    to-character-range (toggledBy x c) (subst (λ (i : Insert). insertInRange i ≡ true) (sym (marked-origin x c)) (origin-ranged c h))
-    (subst (λ (n : ℕ). n ≤ lastToggles) (sym (marked-toggles x c)) (go (same (x .target) (c .id))))
+    to-character-range (toggledBy x c) (subst (λ (i : Insert). insertInRange i ≡ true) (sym (toggled-origin x c)) (origin-ranged c h))
+    (subst (λ (n : ℕ). n ≤ lastToggles) (sym (toggled-toggles x c)) (go (same (x .target) (c .id))))
   where
     go : (b : Bool) → cond b (max (c .toggles) (x .toggles)) (c .toggles) ≤ lastToggles
     go true = omega (arith, toggles-ranged c h, toggle-in-range x r .most)

@@ -16,7 +16,7 @@ use Rattle.woot.specs.Operations.{isVisible}
 use Rattle.woot.specs.Ranges.{within, siteNumber, siteInRange, characterId, toggleInRange}
 use Rattle.woot.specs.State.{State}
 use Rattle.woot.specs.Placing.{identifiers, held}
-use Rattle.woot.specs.Calls.{visibles, beyondVisible, togglesOf, generatedToggle, notVisible, generatedDelete, notHidden, lastToggle}
+use Rattle.woot.specs.Calls.{visibles, beyondVisible, togglesOf, generatedToggle, notVisible, generatedDelete, notHidden, exhausted}
 use Rattle.lists.specs.Lists.{any, keep, distinct}
 use Rattle.lists.proofs.Tests.{and-left, and-right, or-false-left, or-false-right, clash}
 use Rattle.lists.proofs.Members.{get-member, any-member, any-none, keep-member}
@@ -24,9 +24,9 @@ use Rattle.convergence.specs.Agreement.{Standing}
 use Rattle.convergence.proofs.Identifiers.{same-refl, same-eq, same-sym}
 use Rattle.convergence.proofs.Ranges.{toggles-ranged, to-toggle-range}
 use Rattle.convergence.proofs.Forms.{Formed}
-use Rattle.convergence.proofs.InsertionPoint.{inner, marked-held, member-range}
+use Rattle.convergence.proofs.InsertionPoint.{member-range}
 use Rattle.convergence.proofs.Soundness.{standing}
-use Rattle.convergence.proofs.Places.{held-begin}
+use Rattle.convergence.proofs.Places.{held-id}
 
 -- the toggles under an identifier are those of the character that has it
 pub toggles-found : (cs : List Character) → distinct same (identifiers cs) ≡ true → {c : Character} → List·Memᴰ c cs → togglesOf cs (c .id) ≡ c .toggles
@@ -43,7 +43,7 @@ unfolding isVisible
 visible-below c v h = omega (arith, eqb-true (c .toggles % 2) 0 v)
 
 module _ (s : State) (f : Formed s) where
-  std : Standing (s .characters)
+  pub std : Standing (s .characters)
   std = standing (f .sound)
 
   -- the next toggle of a character of which there is one more
@@ -75,12 +75,9 @@ module _ (s : State) (f : Formed s) where
       subst (λ (x : Identifier). toggleInRange (generatedToggle s x) ≡ true) (sym (w .3))
       (raised-ranged (w .1) (visible-below (w .0) (w .2) (toggles-ranged (w .0) (std .ranges (w .0) (w .1)))))
 
-  member-held : {c : Character} → List·Memᴰ c (s .characters) → held (s .characters) (c .id) ≡ true
-  member-held m = marked-held (inner (Memᴰ·map (λ b. b .id) m)) (held-begin (s .characters))
-
   pub delete-ready : (p : ℕ) → notVisible s p ≡ false → held (s .characters) (generatedDelete s p .target) ≡ true
   unfolding generatedDelete generatedToggle
-  delete-ready p h = let w = visible-at p h in subst (λ (x : Identifier). held (s .characters) x ≡ true) (sym (w .3)) (member-held (w .1))
+  delete-ready p h = let w = visible-at p h in subst (λ (x : Identifier). held (s .characters) x ≡ true) (sym (w .3)) (held-id (s .characters) (w .1))
 
   -- the hidden character that is restored
   pub hidden-at : (x : Identifier) → notHidden s x ≡ false → (c : Character) × List·Memᴰ c (s .characters) × (isVisible c ≡ false) × (x ≡ c .id)
@@ -89,8 +86,8 @@ module _ (s : State) (f : Formed s) where
       let w = any-member (λ c. same x (c .id) && not (isVisible c)) (s .characters) (not-false (any (λ c. same x (c .id) && not (isVisible c)) (s .characters)) h) in
       (w .0, w .1, not-true (isVisible (w .0)) (and-right (same x (w .0 .id)) (not (isVisible (w .0))) (w .2)), same-eq x (w .0 .id) (and-left (same x (w .0 .id)) (not (isVisible (w .0))) (w .2)))
 
-  pub restore-ranged : (x : Identifier) → notHidden s x ≡ false → lastToggle s x ≡ false → toggleInRange (generatedToggle s x) ≡ true
-  unfolding lastToggle
+  pub restore-ranged : (x : Identifier) → notHidden s x ≡ false → exhausted s x ≡ false → toggleInRange (generatedToggle s x) ≡ true
+  unfolding exhausted
   restore-ranged x h l =
       let w = hidden-at x h in
       let few : w .0 .toggles ≤ lastToggles = toggles-ranged (w .0) (std .ranges (w .0) (w .1)) in
@@ -100,4 +97,4 @@ module _ (s : State) (f : Formed s) where
 
   pub restore-ready : (x : Identifier) → notHidden s x ≡ false → held (s .characters) (generatedToggle s x .target) ≡ true
   unfolding generatedToggle
-  restore-ready x h = let w = hidden-at x h in subst (λ (y : Identifier). held (s .characters) y ≡ true) (sym (w .3)) (member-held (w .1))
+  restore-ready x h = let w = hidden-at x h in subst (λ (y : Identifier). held (s .characters) y ≡ true) (sym (w .3)) (held-id (s .characters) (w .1))

@@ -20,9 +20,9 @@ use Rattle.lists.proofs.Members.{keep-map}
 use Rattle.woot.specs.Pending.{executable, crossed, unplaceable}
 
 module _ {B : Type 0} (f : Character → B) (indifferent : (c : Character) (n : ℕ) → f (withToggles c n) ≡ f c) (x : Toggle) where
-  pub marked-same : (c : Character) → f (toggledBy x c) ≡ f c
+  pub toggled-same : (c : Character) → f (toggledBy x c) ≡ f c
   unfolding toggledBy
-  marked-same c = go (same (x .target) (c .id))
+  toggled-same c = go (same (x .target) (c .id))
     where
       go : (b : Bool) → f (cond b (withToggles c (max (c .toggles) (x .toggles))) c) ≡ f c
       go true = indifferent c (max (c .toggles) (x .toggles))
@@ -32,29 +32,29 @@ module _ {B : Type 0} (f : Character → B) (indifferent : (c : Character) (n : 
   pub toggle-map : (cs : List Character) → map f (integrateToggle cs x) ≡ map f cs
   unfolding integrateToggle
   toggle-map [] = refl
-  toggle-map (c ∷ cs) = ap₂ (λ (b : B) (bs : List B). b ∷ bs) (marked-same c) (toggle-map cs)
+  toggle-map (c ∷ cs) = ap₂ (λ (b : B) (bs : List B). b ∷ bs) (toggled-same c) (toggle-map cs)
 
 module _ (x : Toggle) where
-  pub marked-origin : (c : Character) → origin (toggledBy x c) ≡ origin c
+  pub toggled-origin : (c : Character) → origin (toggledBy x c) ≡ origin c
   unfolding origin withToggles
-  marked-origin = marked-same origin (λ c n. refl) x
+  toggled-origin = toggled-same origin (λ c n. refl) x
 
-  pub marked-id : (c : Character) → toggledBy x c .id ≡ c .id
+  pub toggled-id : (c : Character) → toggledBy x c .id ≡ c .id
   unfolding withToggles
-  marked-id = marked-same (λ c. c .id) (λ c n. refl) x
+  toggled-id = toggled-same (λ c. c .id) (λ c n. refl) x
 
-  pub marked-previous : (c : Character) → toggledBy x c .previous ≡ c .previous
+  pub toggled-previous : (c : Character) → toggledBy x c .previous ≡ c .previous
   unfolding withToggles
-  marked-previous = marked-same (λ c. c .previous) (λ c n. refl) x
+  toggled-previous = toggled-same (λ c. c .previous) (λ c n. refl) x
 
-  pub marked-next : (c : Character) → toggledBy x c .next ≡ c .next
+  pub toggled-next : (c : Character) → toggledBy x c .next ≡ c .next
   unfolding withToggles
-  marked-next = marked-same (λ c. c .next) (λ c n. refl) x
+  toggled-next = toggled-same (λ c. c .next) (λ c n. refl) x
 
   -- the target takes the larger of its toggles and the operation's, and every other keeps its own
-  pub marked-toggles : (c : Character) → toggledBy x c .toggles ≡ cond (same (x .target) (c .id)) (max (c .toggles) (x .toggles)) (c .toggles)
+  pub toggled-toggles : (c : Character) → toggledBy x c .toggles ≡ cond (same (x .target) (c .id)) (max (c .toggles) (x .toggles)) (c .toggles)
   unfolding withToggles toggledBy
-  marked-toggles c = go (same (x .target) (c .id))
+  toggled-toggles c = go (same (x .target) (c .id))
     where
       go : (b : Bool) → (cond b (withToggles c (max (c .toggles) (x .toggles))) c) .toggles ≡ cond b (max (c .toggles) (x .toggles)) (c .toggles)
       go true = refl
@@ -100,7 +100,7 @@ module _ (cs : List Character) (x : Toggle) where
   -- what holds of where each character came from
   pub toggle-each : (P : Insert → Type 0) → ((c : Character) → List·Memᴰ c cs → P (origin c))
       → (d : Character) → List·Memᴰ d (integrateToggle cs x) → P (origin d)
-  toggle-each P f d m = let r = toggle-member m in subst P (sym (marked-origin x (r .0)) ∙ ap origin (r .2)) (f (r .0) (r .1))
+  toggle-each P f d m = let r = toggle-member m in subst P (sym (toggled-origin x (r .0)) ∙ ap origin (r .2)) (f (r .0) (r .1))
 
   pub toggle-executable : (o : Operation) → executable (integrateToggle cs x) o ≡ executable cs o
   unfolding executable
@@ -125,7 +125,7 @@ module _ (cs : List Character) (x : Toggle) where
 
   toggle-candidate : (v : Interval) (l : Located) → candidate (integrateToggle cs x) v (relocated l) ≡ candidate cs v l
   unfolding candidate
-  toggle-candidate v l = rw (marked-previous x (l .at), marked-next x (l .at), toggle-place cs x (l .at .previous), toggle-place cs x (l .at .next))
+  toggle-candidate v l = rw (toggled-previous x (l .at), toggled-next x (l .at), toggle-place cs x (l .at .previous), toggle-place cs x (l .at .next))
 
   toggle-candidates : (v : Interval) → candidates (integrateToggle cs x) v ≡ map relocated (candidates cs v)
   unfolding candidates
@@ -138,7 +138,7 @@ module _ (cs : List Character) (x : Toggle) where
   relocated-narrowed y v [] = refl
   relocated-narrowed y v (l ∷ ls) =
       ap₂ (λ (b : Bool) (w : Interval). cond b w (record { upper = v .upper; lower = l .place }))
-      (ap (λ (z : Identifier). below z y) (marked-id x (l .at)))
+      (ap (λ (z : Identifier). below z y) (toggled-id x (l .at)))
       (relocated-narrowed y (record { upper = l .place; lower = v .lower }) ls)
 
   -- the rest of a search, by the candidates that it found

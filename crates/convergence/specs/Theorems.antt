@@ -8,6 +8,7 @@ use mathlib.Core.List.{List, [], _∷_, map, List·Memᴰ}
 use lib.ListN.{length}
 use Rattle.woot.specs.declared.Identifier.{Identifier}
 use Rattle.woot.specs.declared.Insert.{Insert}
+use Rattle.woot.specs.declared.Toggle.{Toggle}
 use Rattle.woot.specs.declared.Operation.{Operation}
 use Rattle.woot.specs.declared.Operation.the-variants.{Insert as insert, Toggle as toggle}
 use Rattle.woot.specs.declared.Character.{Character}
@@ -18,14 +19,15 @@ use Rattle.woot.specs.declared.Sent.the-variants.{Refused as sentRefused}
 use Rattle.woot.specs.declared.Written.{Written}
 use Rattle.woot.specs.declared.Written.the-variants.{Length, Refused as writtenRefused}
 use Rattle.output.specs.Output.{placed}
-use Rattle.woot.specs.Operations.{sender, origin, inserts}
-use Rattle.woot.specs.Ranges.{siteNumber}
+use Rattle.woot.specs.Identifiers.{same}
+use Rattle.woot.specs.Operations.{sender, origin, withToggles, inserts}
+use Rattle.woot.specs.Ranges.{siteNumber, inRange}
 use Rattle.woot.specs.State.{State, initial, pendingSlots}
 use Rattle.woot.specs.Placing.{identifiers, above, Interval, adjacent, candidates, narrowed, position}
 use Rattle.woot.specs.Pending.{executable, crossed, unplaceable, integrate, sentBy, Extracted, earliest, Drained, andIntegrated, andDiscarded, drained, drain}
 use Rattle.woot.specs.Form.{wellFormed}
 use Rattle.woot.specs.Answers.{number, done, waits, reply, answerOf, sentOperation, Check, NoneHolds, Reported}
-use Rattle.woot.specs.Calls.{unchanged, allIntegrated, receiveChecks, receiveWhen, receive, insertChecks, generatedInsert, localInsertWhen, deleteChecks, generatedDelete, localDeleteWhen, restoreChecks, generatedToggle, localRestoreWhen}
+use Rattle.woot.specs.Calls.{unchanged, allIntegrated, receiveChecks, receiveWhen, receive, insertChecks, generatedInsert, localInsertWhen, localInsert, deleteChecks, generatedDelete, localDeleteWhen, localDelete, restoreChecks, generatedToggle, localRestoreWhen, localRestore}
 use Rattle.woot.specs.Writing.{writingChecks, writtenAs, outputAfter, writtenNumber}
 use Rattle.woot.specs.Text.{text}
 use Rattle.woot.specs.Histories.{Call, Begun, startOf, outcome, run, drainedBy, discardedBy, deferredBy, InsertedIn, largestIn, charactersAfter, historyOf, SameInserted, SameToggled}
@@ -161,6 +163,27 @@ RestoreSends =
     (formed : Bool) (s : State) (x : Identifier) (o : Operation) →
     (sentOperation (localRestoreWhen formed s x .answer) ≡ some o)
     ↔ (NoneHolds (restoreChecks formed s x) × (toggle (generatedToggle s x) ≡ o))
+
+-- what they send is in range, so that every laptop takes it in; for a deleted or restored character document 02, Req 05:
+-- "with turn 1 to 255"
+abbrev pub SentInRange : Type 0
+SentInRange =
+    ((s : State) (g n : ℕ) (o : Operation) → sentOperation (localInsert s g n .answer) ≡ some o → inRange o ≡ true)
+    × ((s : State) (p : ℕ) (o : Operation) → sentOperation (localDelete s p .answer) ≡ some o → inRange o ≡ true)
+    × ((s : State) (x : Identifier) (o : Operation) → sentOperation (localRestore s x .answer) ≡ some o → inRange o ≡ true)
+
+-- the turn of one character raised by one, and every other as it was
+abbrev pub raisedAt : Identifier → List Character → List Character
+raisedAt x cs = map (λ c. cond (same x (c .id)) (withToggles c (c .toggles + 1)) c) cs
+
+-- document 02, Req 05: "erasing a shown row raises its turn by one. Restoring names an identifier and raises a hidden row's
+-- turn by one"
+abbrev pub RaisedByOne : Type 0
+RaisedByOne =
+    ((s : State) (p : ℕ) (t : Toggle) → sentOperation (localDelete s p .answer) ≡ some (toggle t) →
+    localDelete s p .state .characters ≡ raisedAt (t .target) (s .characters))
+    × ((s : State) (x : Identifier) (o : Operation) → sentOperation (localRestore s x .answer) ≡ some o →
+    localRestore s x .state .characters ≡ raisedAt x (s .characters))
 
 -- a refused call changes nothing and carries nothing out
 abbrev pub RefusedUnchanged : Type 0
