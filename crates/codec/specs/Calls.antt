@@ -23,7 +23,7 @@ use Rattle.codec.specs.Operations.{isInsert, isToggle, isDelete, operati
 unfoldable pub asWritten : List ℕ → Bool
 asWritten line = isInsert (fields line) || isToggle (fields line)
 
--- or those of a delete, which is read alone
+-- or those of a delete, which is read, and written no more
 unfoldable pub lineLaidOut : List ℕ → Bool
 lineLaidOut line = asWritten line || isDelete (fields line)
 

@@ -33,7 +33,7 @@ pub enum Read {
     Refused(Refusal),
 }
 
-// The identifier of two numbers that fit it: a step of reading a line, and no call.
+// The identifier of two numbers that fit it. A step of the calls and not a call: they have checked the numbers.
 pub fn identifier(site: u64, clock: u64) -> Identifier
     requires { ⌜ (site < 256) × (clock < 65536) ⌝ }
     ensures { λ r. ⌜ r ≡ record { site = site; clock = clock } ⌝ }
@@ -66,7 +66,7 @@ fn toggle_of(values: [u64; 9]) -> Toggle
     }
 }
 
-// The toggle that the numbers of a delete's line say, within their limits: the first.
+// The toggle that the numbers of a delete's line say, within their limits: the character's first.
 fn delete_of(values: [u64; 9]) -> Toggle
     requires { ⌜ atMost deleteLimits values ≡ true ⌝ }
     ensures { λ r. ⌜ r ≡ deleteOf values ⌝ }

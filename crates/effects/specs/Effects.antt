@@ -57,7 +57,7 @@ unfoldable pub afterReceiving : Outcome Answer → List ℕ → Effect
 afterReceiving w out =
     cond (changes (w .answer)) (writing (w .answer) (savedBytes (w .state)) out) (quiet out [] (w .answer))
 
--- what typing and erasing leave: the new state and the line to send
+-- what typing, erasing and restoring leave: the new state and the line to send
 unfoldable pub sending : State → Sent → List ℕ → List ℕ → Effect
 sending s (sentDone o n m) out line = writingBoth (Done n m) (savedBytes s) (operationLine o) out line
 sending s (sentRefused q) out line = turned out line q

@@ -1,5 +1,5 @@
-// The test program: runs the situations of document 01 that are not computed from the written rules, those of restoring,
-// RFC 3629's examples and the largest lines, and prints under each sentence what came of it.
+// The test program: runs the situations of document 01 that are not computed from the written rules, those of
+// restoring, RFC 3629's examples and the largest lines, and prints under each sentence what came of it.
 mod calls;
 mod encoding;
 mod limits;
@@ -14,7 +14,7 @@ fn main() {
     limits::last_clock();
     limits::drained();
     turns::brought_back();
-    turns::last_turn();
+    turns::toggles_used_up();
     trips::largest();
     encoding::examples();
     encoding::boundaries();

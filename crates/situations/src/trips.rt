@@ -21,7 +21,7 @@ fn round_trip(label: &[u8], line: &[u8]) {
     }
 }
 
-// The longest lines of both kinds, and one that is read and written no more.
+// The longest lines of both kinds, and one that is read, and written no more.
 pub(crate) fn largest() {
     print::text(b"Insert: at most 37 bytes. Erase and restore: at most 18 bytes.\n");
     round_trip(b"insert", b"I\t16\t65535\t1114111\t16\t65534\t16\t65533\n");

@@ -22,7 +22,7 @@ pub(crate) fn brought_back() {
 }
 
 // The last turn hides, and nothing comes after it.
-pub(crate) fn last_turn() {
+pub(crate) fn toggles_used_up() {
     print::text(b"Restoring is turned away with 14 if the turn is 255.\n");
     let loaded = loading::load(b"S2\t3\t9\nC\t1\t1\t97\t253\t0\t0\t0\t1\n");
     let mut r = loaded.replica;

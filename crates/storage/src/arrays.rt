@@ -89,7 +89,7 @@ fn larger(a: u8, b: u8) -> u8
 }
 
 // What a toggle makes of a character: one with the larger count of toggles, if it is the target.
-fn marked(character: Character, toggle: Toggle) -> Character
+fn toggled_by(character: Character, toggle: Toggle) -> Character
     ensures { λ r. ⌜ r ≡ toggledBy toggle character ⌝ }
 {
     let id = character.id;
@@ -117,7 +117,7 @@ pub fn toggled(characters: [Character; 1024], n: usize, toggle: Toggle) -> [Char
     let mut i = 0;
     while i < end {
         let c = characters[i];
-        out[i] = marked(c, toggle);
+        out[i] = toggled_by(c, toggle);
         i += 1;
     }
     out

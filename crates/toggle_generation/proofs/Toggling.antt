@@ -25,7 +25,7 @@ use Rattle.woot.specs.State.{blankCharacter, meaning, stored}
 use Rattle.woot.specs.Placing.{identifiers, integrateToggle}
 use Rattle.woot.specs.Form.{replicaWellFormed}
 use Rattle.woot.specs.Answers.{decided}
-use Rattle.woot.specs.Calls.{unchanged, withCharacters, carryOut, visibles, beyondVisible, togglesOf, generatedToggle, sendToggle, notVisible, deleteChecks, generatedDelete, localDeleteWhen, notHidden, lastToggle, restoreChecks, localRestoreWhen}
+use Rattle.woot.specs.Calls.{unchanged, withCharacters, carryOut, visibles, beyondVisible, togglesOf, generatedToggle, sendToggle, notVisible, deleteChecks, generatedDelete, localDeleteWhen, notHidden, exhausted, restoreChecks, localRestoreWhen}
 use Rattle.lists.specs.Lists.{any, keep}
 use Rattle.lists.proofs.Members.{get-member, keep-member}
 use Rattle.convergence.proofs.Ranges.{toggles-ranged}
@@ -42,15 +42,15 @@ use Rattle.toggle_generation.specs.Sending.{sentToggle}
 
 module _ (r : Replica) (form : replicaWellFormed r ≡ true) {c : Character} (m : List·Memᴰ c (meaning r .characters)) where
   -- the toggle of a character is made of what it has
-  pub raised-toggle : generatedToggle (meaning r) (c .id) ≡ record { sender = r .site .number; target = c .id; toggles = c .toggles + 1 }
+  pub next-toggle : generatedToggle (meaning r) (c .id) ≡ record { sender = r .site .number; target = c .id; toggles = c .toggles + 1 }
   unfolding generatedToggle meaning
-  raised-toggle = rw (toggles-found (meaning r .characters) (standing (form-facts r form .sound) .apart) m)
+  next-toggle = rw (toggles-found (meaning r .characters) (standing (form-facts r form .sound) .apart) m)
 
-  pub raised-sent : (t : Toggle) → t ≡ record { sender = r .site .number; target = c .id; toggles = c .toggles + 1 } → (q : Replica)
+  pub toggle-sent : (t : Toggle) → t ≡ record { sender = r .site .number; target = c .id; toggles = c .toggles + 1 } → (q : Replica)
       → q ≡ stored (withCharacters (meaning r) (integrateToggle (meaning r .characters) t))
       → _≡_ {A = Generated} (record { answer = sentDone (toggle t) 1 0; replica = q }) (sentToggle r (c .id))
   unfolding sentToggle generated afterSent sendToggle carryOut
-  raised-sent t e q h = rw (h, e ∙ sym raised-toggle)
+  toggle-sent t e q h = rw (h, e ∙ sym next-toggle)
 
 -- ---- deleting
 
@@ -148,11 +148,11 @@ module _ (r : Replica) (x : Identifier) where
           counted = rw is (toggles-found (meaning r .characters) (standing (form-facts r form .sound) .apart) m)
 
           pub restore-last : c .toggles ≡ lastToggles → restored r x ≡ refused LastToggle
-          unfolding restored generated afterSent localRestoreWhen restoreChecks lastToggle decided unchanged
+          unfolding restored generated afterSent localRestoreWhen restoreChecks exhausted decided unchanged
           restore-last e = rw (ranged, form, hides, v, counted, eq-eqb (c .toggles) lastToggles e)
 
           pub restore-sent : (c .toggles ≡ lastToggles → ⊥) → restored r x ≡ sentToggle r x
-          unfolding restored localRestoreWhen restoreChecks lastToggle decided sentToggle
+          unfolding restored localRestoreWhen restoreChecks exhausted decided sentToggle
           restore-sent e = rw (ranged, form, hides, v, counted, ne-eqb (c .toggles) lastToggles e)
 
           pub restore-below : (c .toggles ≡ lastToggles → ⊥) → c .toggles < lastToggles

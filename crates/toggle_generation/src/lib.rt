@@ -29,7 +29,7 @@ ghost use Rattle.well_formed.specs.Examined.{Examined};
 ghost use Rattle.toggle_generation.specs.Sending.{sentToggle};
 
 // Toggles a character of the replica once more, and sends that.
-fn raise(replica: Replica, ids: &[u32], character: Character) -> Generated
+fn send(replica: Replica, ids: &[u32], character: Character) -> Generated
     requires { ⌜ replicaWellFormed replica ≡ true ⌝ }
     requires { ⌜ replica .document .length ≤ length (now ids) ⌝ }
     requires { ⌜ take (replica .document .length) (now ids) ≡ keys (meaning replica .characters) ⌝ }
@@ -70,7 +70,7 @@ pub fn delete_visible(replica: Replica, index: Index, queue: Queue, place: usize
         return generation::refused(replica, Refusal::Position);
     }
     let c = visible::nth(cs, n, place - 1, arrays::blank_character());
-    raise(replica, &index.ids, c)
+    send(replica, &index.ids, c)
 }
 
 // Restores the hidden character with the identifier. A step of the calls and not a call: they have checked the replica
@@ -96,7 +96,7 @@ pub fn restore_hidden(replica: Replica, index: Index, queue: Queue, id: Identifi
             if c.toggles == 255 {
                 return generation::refused(replica, Refusal::LastToggle);
             }
-            raise(replica, &index.ids, c)
+            send(replica, &index.ids, c)
         }
         Found::Nothing => generation::refused(replica, Refusal::NotHidden),
     }

@@ -20,7 +20,7 @@ pub(crate) fn read_one(line: &[u8]) -> Read
 }
 
 // Whether two numbers name a character.
-pub(crate) fn is_character(site: u64, clock: u64) -> bool
+pub(crate) fn names_character(site: u64, clock: u64) -> bool
     ensures { λ r. ⌜ r ≡ characterId (named site clock) ⌝ }
 {
     if site < 1 {

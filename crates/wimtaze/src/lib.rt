@@ -154,7 +154,7 @@ pub extern "C" fn wimtaze_restore(
 {
     let loaded = loading::read(bytes);
     let answer = loaded.answer;
-    if !inputs::is_character(site, clock) {
+    if !inputs::names_character(site, clock) {
         return results::refused(inputs::first_of(answer, Refusal::Range));
     }
     match answer {

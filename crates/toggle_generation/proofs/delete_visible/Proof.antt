@@ -50,8 +50,8 @@ blank-character-requires c κs = search needs
 nth-requires : tie.Need-nth-requires
 nth-requires c κs = search needs
 
-raise-requires : tie.Need-raise-requires
-raise-requires c κs =
+send-requires : tie.Need-send-requires
+send-requires c κs =
     let s = c .before .before .before .before .before .before .before .before .before .before in
     let n = few _ (s .pre .form) in
     let r = s .args .replica in
@@ -70,7 +70,7 @@ returns-3 c =
     let p = s .args .place in
     let later = c .before .before .before .before .before .before .before .before .before .before .if1 .left in
     let within = counted-within r _ p (c .before .before .before .before .before .before .before .count .ensures) (c .before .before .before .before .before .before .if2 .left) in
-    c .raise .ensures
+    c .send .ensures
     ∙ sym (delete-sent r p (s .pre .form) later _ (c .before .before .before .before .before .before .before .count .ensures) (c .before .before .before .before .before .before .if2 .left)
     ∙ ap (sentToggle r) (taken-named (meaning r .characters) p later within ∙ ap (λ (x : Character). x .id) (sym (found (c .before .before .before .before)))))
 
@@ -86,5 +86,5 @@ delete-visible-spec =
     sub-nth
     blank-character-requires
     nth-requires
-    raise-requires
+    send-requires
     returns-3)

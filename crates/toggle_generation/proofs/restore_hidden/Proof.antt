@@ -67,8 +67,8 @@ returns-2 c =
     c .refused2 .ensures
     ∙ sym (restore-last _ _ (s .pre .1) (s .pre .0 .form) (character-member _ _ _ (full s) (s .pre .0) _ (s .pre .1) _ h _) (character-named _ _ _ (full s) (s .pre .0) _ (s .pre .1) _ h _) (sym (c .before .before .before .before .is-visible .ensures) ∙ c .before .before .before .if1 .left) (c .before .if2 .taken))
 
-raise-requires : tie.Need-raise-requires
-raise-requires c κs =
+send-requires : tie.Need-send-requires
+send-requires c κs =
     let s = c .before .before .before .before .before .before .before .before .before .before .before .before .before .before .before .before .before .before .before .before .before .before in
     let n = few _ (s .pre .0 .form) in
     let h = at (c .before .before .before .before .before .before .before .before) in
@@ -87,7 +87,7 @@ returns-3 c =
     let s = c .before .before .before .before .before .before .before .before .before .before .before .before .before .before .before .before .before .before .before .before .before .before .before in
     let h = at (c .before .before .before .before .before .before .before .before .before) in
     let is = character-named _ _ _ (full s) (s .pre .0) _ (s .pre .1) _ h _ in
-    c .raise .ensures
+    c .send .ensures
     ∙ sym (restore-sent _ _ (s .pre .1) (s .pre .0 .form) (character-member _ _ _ (full s) (s .pre .0) _ (s .pre .1) _ h _) is (sym (c .before .before .before .before .before .before .before .is-visible .ensures) ∙ c .before .before .before .before .before .before .if1 .left) (c .before .before .before .before .if2 .left) ∙ ap (sentToggle _) is)
 
 returns-4 : tie.Need-returns-4
@@ -110,7 +110,7 @@ restore-hidden-spec =
     returns
     refused-requires-2
     returns-2
-    raise-requires
+    send-requires
     enum-told
     refused-requires-3
     returns-3

@@ -35,8 +35,8 @@ named-fits site clock h =
 read-requires : tie.Need-read-requires
 read-requires c κs = search needs
 
-is-character-requires : tie.Need-is-character-requires
-is-character-requires c κs = search needs
+names-character-requires : tie.Need-names-character-requires
+names-character-requires c κs = search needs
 
 first-of-requires : tie.Need-first-of-requires
 first-of-requires c κs = search needs
@@ -48,7 +48,7 @@ returns : tie.Need-returns
 unfolding restoringHere turned quiet
 returns c =
     let s = c .before .before .before .before .before .before .before .before .args .bytes .now in
-    let out-of-range = sym (c .before .before .before .is-character .ensures) ∙ not-true _ (c .before .before .if1 .taken) in
+    let out-of-range = sym (c .before .before .before .names-character .ensures) ∙ not-true _ (c .before .before .if1 .taken) in
     let told = ap (λ (b : Bool). first (inputChecks s true b)) out-of-range ∙ refused-range _ _ (c .before .before .before .before .read .ensures) ∙ ap some (sym (c .before .first-of .ensures)) in
     carried (turned-away _ _ _ told) (c .refused .ensures, refl, refl)
 
@@ -62,7 +62,7 @@ enum-told : tie.Need-enum-told
 enum-told c = search needs
 
 identifier-requires : tie.Need-identifier-requires
-identifier-requires c κs = named-fits _ _ (sym (c .before .before .before .before .is-character .ensures) ∙ not-false _ (c .before .before .before .if1 .left))
+identifier-requires c κs = named-fits _ _ (sym (c .before .before .before .before .names-character .ensures) ∙ not-false _ (c .before .before .before .if1 .left))
 
 restore-requires : tie.Need-restore-requires
 restore-requires c κs = search needs
@@ -74,7 +74,7 @@ returns-2 : tie.Need-returns-2
 unfolding restoringHere turned quiet
 returns-2 c =
     let s = c .before .before .before .before .before .before .before .before .before .before .args .bytes .now in
-    let in-range = sym (c .before .before .before .before .before .is-character .ensures) ∙ not-false _ (c .before .before .before .before .if1 .left) in
+    let in-range = sym (c .before .before .before .before .before .names-character .ensures) ∙ not-false _ (c .before .before .before .before .if1 .left) in
     let told = ap (λ (b : Bool). first (inputChecks s true b)) in-range ∙ refused-alone _ _ (c .before .before .before .before .before .before .read .ensures) _ (c .before .before .answer .given .1) in
     carried (turned-away _ _ _ told) (c .refused2 .ensures, refl, refl)
 
@@ -88,7 +88,7 @@ returns-3 : tie.Need-returns-3
 unfolding restoringHere loadedState
 returns-3 c =
     let a = c .before .before .before .before .before .before .before .before .before .before .before .before .before .before .before .before .before .before .args in
-    let in-range = sym (c .before .before .before .before .before .before .before .before .before .before .before .before .before .is-character .ensures) ∙ not-false _ (c .before .before .before .before .before .before .before .before .before .before .before .before .if1 .left) in
+    let in-range = sym (c .before .before .before .before .before .before .before .before .before .before .before .before .before .names-character .ensures) ∙ not-false _ (c .before .before .before .before .before .before .before .before .before .before .before .before .if1 .left) in
     let p = passed _ _ (c .before .before .before .before .before .before .before .before .before .before .before .before .before .before .read .ensures) (c .before .before .before .before .before .before .before .before .before .before .enum-told .given .1) in
     let g = c .before .before .before .before .before .before .before .restore .ensures ∙ ap (restored _) (c .before .before .before .before .before .before .before .before .identifier .ensures) ∙ ap (λ (r : Replica). restored r (named (a .site) (a .clock))) (p .1) in
     carried
@@ -100,7 +100,7 @@ wimtaze-restore-spec =
     tie.close
     (tie.spec
     read-requires
-    is-character-requires
+    names-character-requires
     first-of-requires
     refused-requires
     returns

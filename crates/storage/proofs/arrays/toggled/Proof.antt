@@ -35,8 +35,8 @@ mul-c c = omega arith
 array-copy-out-c : tie.Need-array-copy-out-c Inv-loop μ-loop
 array-copy-out-c c = omega arith
 
-marked-requires : tie.Need-marked-requires Inv-loop μ-loop
-marked-requires c κs = search needs
+toggled-by-requires : tie.Need-toggled-by-requires Inv-loop μ-loop
+toggled-by-requires c κs = search needs
 
 mul-out : tie.Need-mul-out Inv-loop μ-loop
 mul-out c = omega arith
@@ -55,7 +55,7 @@ unfolding integrateToggle
 loop-again c =
     let l = c .before .before .before .loop in
     let a = c .before .before .before .before .before .before .args in
-    (omega arith, rw (l .inv .1, c .marked .ensures) (pad-map 1024 blankCharacter (toggledBy (a .toggle)) _ (a .t1) (l .i) (omega arith) (omega arith)), l .inv .2)
+    (omega arith, rw (l .inv .1, c .toggled-by .ensures) (pad-map 1024 blankCharacter (toggledBy (a .toggle)) _ (a .t1) (l .i) (omega arith) (omega arith)), l .inv .2)
 
 returns : tie.Need-returns Inv-loop μ-loop
 returns c =
@@ -75,7 +75,7 @@ toggled-spec =
     loop-holds
     mul-c
     array-copy-out-c
-    marked-requires
+    toggled-by-requires
     mul-out
     array-set-from-out
     add-i

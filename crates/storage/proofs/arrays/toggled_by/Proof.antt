@@ -1,9 +1,9 @@
--- `storage::arrays::marked` counts the toggles of the character exactly where the test of the identifiers holds.
+-- `storage::arrays::toggled_by` counts the toggles of the character exactly where the test of the identifiers holds.
 use mathlib.Core.Path.{sym, _∙_}
 use borrow.Author.Needs.{needs}
 use Rattle.woot.specs.Operations.{withToggles, toggledBy}
-use Rattle.storage.proofs.arrays.marked.Statement.{statement}
-use Rattle.storage.proofs.arrays.marked.Tie as tie
+use Rattle.storage.proofs.arrays.toggled_by.Statement.{statement}
+use Rattle.storage.proofs.arrays.toggled_by.Tie as tie
 
 same-id-requires : tie.Need-same-id-requires
 same-id-requires c κs = search needs
@@ -19,5 +19,5 @@ returns-2 : tie.Need-returns-2
 unfolding toggledBy
 returns-2 c = rw (sym (c .before .same-id .ensures) ∙ c .if1 .left)
 
-pub marked-spec : {M : Type 1} → statement M
-marked-spec = tie.close (tie.spec same-id-requires larger-requires returns returns-2)
+pub toggled-by-spec : {M : Type 1} → statement M
+toggled-by-spec = tie.close (tie.spec same-id-requires larger-requires returns returns-2)

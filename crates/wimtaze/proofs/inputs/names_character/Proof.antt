@@ -1,4 +1,4 @@
--- `wimtaze::inputs::is_character` meets its contract: each test is an end of one of the two ranges.
+-- `wimtaze::inputs::names_character` meets its contract: each test is an end of one of the two ranges.
 use Prim.Native.Nat.{ℕ, _≤_, _<_}
 use native.Mathlib.Omega.{arith}
 use mathlib.Core.Path.{_≡_, refl, sym}
@@ -9,8 +9,8 @@ use Rattle.woot.specs.Limits.{lastSite, lastClock}
 use Rattle.woot.specs.Ranges.{within, siteNumber, characterId}
 use Rattle.wimtaze.specs.Calls.{named}
 use Rattle.ranges.proofs.Laws.{within-under, within-above}
-use Rattle.wimtaze.proofs.inputs.is_character.Statement.{statement}
-use Rattle.wimtaze.proofs.inputs.is_character.Tie as tie
+use Rattle.wimtaze.proofs.inputs.names_character.Statement.{statement}
+use Rattle.wimtaze.proofs.inputs.names_character.Tie as tie
 
 reading : (site clock : ℕ) {a b : Bool} → within 1 lastSite site ≡ a → within 1 lastClock clock ≡ b → characterId (named site clock) ≡ a && b
 unfolding characterId siteNumber
@@ -36,5 +36,5 @@ returns-3 c = sym (reading _ _ (inside _ (c .before .before .if1 .left) (c .befo
 returns-4 : tie.Need-returns-4
 returns-4 c = sym (reading _ _ (inside _ (c .before .before .if1 .left) (c .before .if2 .left)) (above _ (c .if3 .left)))
 
-pub is-character-spec : {M : Type 1} → statement M
-is-character-spec = tie.close (tie.spec returns returns-2 returns-3 returns-4)
+pub names-character-spec : {M : Type 1} → statement M
+names-character-spec = tie.close (tie.spec returns returns-2 returns-3 returns-4)
