@@ -19,12 +19,13 @@ use Rattle.woot.specs.Ranges.{inRange}
 use Rattle.woot.specs.Writing.{writtenAs, outputAfter}
 use Rattle.lists.proofs.Tests.{side}
 use Rattle.convergence.proofs.Writing.{own-first, own-none, too-short, has-room, ends-short}
-use Rattle.lines.specs.declared.Room.{Room}
-use Rattle.lines.specs.declared.Room.the-variants.{Until, Short}
+use Rattle.line_output.specs.declared.Room.{Room}
+use Rattle.line_output.specs.declared.Room.the-variants.{Until, Short}
 use Rattle.lines.specs.Lines.{ended, firstLine}
 use Rattle.lines.specs.Fields.{fields}
-use Rattle.lines.specs.Answers.{roomFor}
-use Rattle.lines.proofs.Writing.{line-some, until-tells, short-tells}
+use Rattle.line_output.specs.Room.{roomFor}
+use Rattle.lines.proofs.Sizes.{line-some}
+use Rattle.line_output.proofs.Writing.{until-tells, short-tells}
 use Rattle.codec.specs.Operations.{insertHead, toggleHead, insertNumbers, toggleNumbers, operationOf, operationLine}
 use Rattle.codec.specs.Calls.{lineLaidOut, laidOut, readAs, saidBy, readLine, readOperation, writeChecks, written, writtenOut}
 use Rattle.codec.proofs.Judging.{read-layout}

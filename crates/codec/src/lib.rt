@@ -1,5 +1,5 @@
 // Operations as lines of text: read from bytes, and written into a lent slice.
-use lines::Room;
+use line_output::Room;
 use lines::Verdict;
 use woot::Identifier;
 use woot::Insert;
@@ -14,7 +14,8 @@ ghost use lib.Dec.{eqb};
 ghost use Rattle.output.specs.Output.{placed, past};
 ghost use Rattle.lines.specs.Lines.{rest};
 ghost use Rattle.lines.specs.Fields.{fields, valuesOf, atMost};
-ghost use Rattle.lines.specs.Answers.{byVerdict, roomFor};
+ghost use Rattle.lines.specs.Answers.{byVerdict};
+ghost use Rattle.line_output.specs.Room.{roomFor};
 ghost use Rattle.codec.specs.Operations.{insertNumbers, insertLimits, insertOf, isInsert};
 ghost use Rattle.codec.specs.Operations.{toggleNumbers, toggleLimits, toggleOf, isToggle, operationLine};
 ghost use Rattle.codec.specs.Operations.{deleteLimits, deleteOf, isDelete};
@@ -213,12 +214,12 @@ pub fn measure(operation: Operation, size: usize, at: usize) -> Room
         Operation::Insert(insert) => {
             let head = [INSERT];
             let numbers = insert_numbers(insert);
-            lines::measure(&head, &numbers, size, at)
+            line_output::measure(&head, &numbers, size, at)
         }
         Operation::Toggle(toggle) => {
             let head = [TOGGLE];
             let numbers = toggle_numbers(toggle);
-            lines::measure(&head, &numbers, size, at)
+            line_output::measure(&head, &numbers, size, at)
         }
     }
 }
@@ -233,12 +234,12 @@ pub fn put_operation(operation: Operation, out: &mut [u8], at: usize) -> usize
         Operation::Insert(insert) => {
             let head = [INSERT];
             let numbers = insert_numbers(insert);
-            lines::put(&head, &numbers, out, at)
+            line_output::put(&head, &numbers, out, at)
         }
         Operation::Toggle(toggle) => {
             let head = [TOGGLE];
             let numbers = toggle_numbers(toggle);
-            lines::put(&head, &numbers, out, at)
+            line_output::put(&head, &numbers, out, at)
         }
     }
 }

@@ -25,8 +25,8 @@ use Rattle.woot.specs.Answers.{changes, _⇒_, first, decided}
 use Rattle.woot.specs.Writing.{writingChecks, writtenAs, outputAfter}
 use Rattle.lists.proofs.Tests.{side}
 use Rattle.convergence.proofs.Writing.{length-refused, too-short, has-room}
-use Rattle.lines.specs.declared.Room.the-variants.{Until, Short}
-use Rattle.lines.specs.Answers.{roomFor}
+use Rattle.line_output.specs.declared.Room.the-variants.{Until, Short}
+use Rattle.line_output.specs.Room.{roomFor}
 use Rattle.codec.specs.Operations.{operationLine}
 use Rattle.woot.specs.Form.{replicaWellFormed}
 use Rattle.replica.specs.Texts.{textOf, textChecks, textWritten, textOut}

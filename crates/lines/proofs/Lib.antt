@@ -6,6 +6,4 @@ pub mod Heads
 pub mod Verdicts
 pub mod Spelling
 pub mod Lines
-pub mod Writing
 pub mod Sizes
-pub mod Sequences

@@ -4,10 +4,11 @@ use mathlib.Core.List.{List, [], _∷_, _++_, append-assoc}
 use mathlib.Core.Logic.{_↔_}
 use mathlib.Core.Bool.{Bool, true, false}
 use Prim.Native.Nat.{ℕ, zero, suc, _≤_, _<_, _+_}
+use native.Mathlib.Numerals.{add-one}
 use native.Mathlib.Omega.{arith}
 use lib.Dec.{leb, ltb, eqb}
-use lib.ListN.{length, getD, length-append, List·getD-append}
-use lib.Seq.{getD-append-seam}
+use lib.ListN.{length, drop, getD, length-append, List·getD-append}
+use lib.Seq.{drop-cons, getD-append-seam}
 use borrow.Author.Tests.{leb-true, lt-ltb, ltb-true, ltb-false, eqb-false}
 use Rattle.lists.specs.Lists.{every}
 use Rattle.lists.proofs.Tests.{and-left, and-right, and-intro, or-false-left, or-false-right}
@@ -17,9 +18,22 @@ use Rattle.decimal.proofs.Laws.{width-monotone, digit-range, all-digits}
 use Rattle.lines.specs.Lines.{lineFeed, has}
 use Rattle.lines.specs.Fields.{columns, atMost, lineOf}
 use Rattle.lines.proofs.Lines.{no-feed}
-use Rattle.lines.proofs.Writing.{line-length}
 
 -- ---- lengths
+
+-- the bytes of one number, and of those after it
+pub columns-length : (ns : List ℕ) (i : ℕ) → i < length ns
+    → length (columns (drop i ns)) ≡ 1 + length (digits (getD ns i 0)) + length (columns (drop (i + 1) ns))
+columns-length ns i h = rw (add-one i, drop-cons ns i 0 h) (omega (arith, length-append (digits (getD ns i 0)) (columns (drop (suc i) ns))))
+
+pub line-length : (head ns : List ℕ) → length (lineOf head ns) ≡ length head + (length (columns ns) + 1)
+unfolding lineOf
+line-length head ns =
+    omega (arith, length-append head (columns ns ++ (lineFeed ∷ [])), length-append (columns ns) (lineFeed ∷ []))
+
+-- a line has a byte at least
+pub line-some : (head ns : List ℕ) → 1 ≤ length (lineOf head ns)
+line-some head ns = omega (arith, line-length head ns)
 
 -- numbers within their limits take no more bytes than the limits
 columns-le : (ls ns : List ℕ) → length ns ≤ length ls → atMost ls ns ≡ true → length (columns ns) ≤ length (columns ls)

@@ -1,16 +1,13 @@
--- What reading and measuring a line answer, as values of their types.
-use Prim.Native.Nat.{ℕ, _+_}
+-- What reading a line answers, as values of its types.
+use Prim.Native.Nat.{ℕ}
 use mathlib.Core.List.{List, [], _∷_}
 use mathlib.Core.Bool.{Bool, false, _&&_, cond}
 use lib.Dec.{eqb}
 use lib.ListN.{length}
 use Rattle.lists.specs.Padding.{pad}
-use Rattle.output.specs.Output.{hasRoom}
 use Rattle.lines.specs.declared.Verdict.{Verdict}
 use Rattle.lines.specs.declared.Verdict.the-variants.{Malformed, Above, Within}
 use Rattle.lines.specs.declared.Numbers.{Numbers}
-use Rattle.lines.specs.declared.Room.{Room}
-use Rattle.lines.specs.declared.Room.the-variants.{Until, Short}
 use Rattle.lines.specs.Fields.{numerals, hasLayout, valuesOf, atMost}
 
 -- how many numbers a line that is read can have
@@ -42,7 +39,3 @@ goesOn count (f ∷ fs) = eqb (length f) 0 && numerals count fs
 
 unfoldable pub numbersAfter : List ℕ → List (List ℕ) → Numbers
 numbersAfter limits fs = verdictOn (goesOn (length limits) fs) limits (valuesOf fs)
-
--- the offset just past bytes in a slice of the given size from the offset on, or that they have no room
-unfoldable pub roomFor : ℕ → ℕ → List ℕ → Room
-roomFor size at bytes = cond (hasRoom size at (length bytes)) (Until (at + length bytes)) Short

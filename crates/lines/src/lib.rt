@@ -1,19 +1,18 @@
-// Lines of numbers: a head word, then numerals, each after a tab, and a line feed at the end. One reader, one measure
-// and one writer serve every such line, whatever its head word and its numbers.
+// Lines of numbers: a head word, then numerals, each after a tab, and a line feed at the end. One reader serves every such
+// line, whatever its head word and its numbers; `line_output` writes them.
 use decimal::Field;
 ghost use mathlib.Core.Path.{_≡_};
 ghost use mathlib.Core.Bool.{cond};
 ghost use mathlib.Core.List.{[]};
 ghost use Prim.Native.Nat.{_+_, _≤_};
 ghost use lib.ListN.{length, take, drop};
-ghost use Rattle.output.specs.Output.{placed, past};
 ghost use Rattle.lines.specs.Lines.{before, ended, firstLine, rest};
-ghost use Rattle.lines.specs.Fields.{fields, equal, lineOf};
-ghost use Rattle.lines.specs.Answers.{slots, holding, numbersOf, numbersAfter, roomFor};
+ghost use Rattle.lines.specs.Fields.{fields, equal};
+ghost use Rattle.lines.specs.Answers.{slots, holding, numbersOf, numbersAfter};
 
 pub const TAB: u8 = 9;
 
-const LINE_FEED: u8 = 10;
+pub const LINE_FEED: u8 = 10;
 
 // What the numbers of a line come to.
 pub enum Verdict {
@@ -29,14 +28,6 @@ pub enum Verdict {
 pub struct Numbers {
     pub verdict: Verdict,
     pub values: [u64; 9],
-}
-
-// What is left of a slice for bytes from an offset on.
-pub enum Room {
-    // They end at this offset.
-    Until(usize),
-    // The slice is too short for them.
-    Short,
 }
 
 // The index of the first such byte from the offset on, or the end of the bytes.
@@ -155,48 +146,4 @@ pub fn read(line: &[u8], head: &[u8], limits: &[u64]) -> Numbers
         return read_numbers(line, end, limits);
     }
     read_numbers(line, end, &limits[..9])
-}
-
-// Where a line ends that begins at the offset in a slice of the given size. The line is never measured apart from the
-// slice, so no sum can wrap, however many numbers there are.
-pub fn measure(head: &[u8], numbers: &[u64], size: usize, at: usize) -> Room
-    ensures { λ r. ⌜ r ≡ roomFor size at (lineOf (now (head .entry)) (now (numbers .entry))) ⌝ }
-{
-    if !output::has_room(size, at, head.len()) {
-        return Room::Short;
-    }
-    let mut end = at + head.len();
-    let mut i = 0;
-    while i < numbers.len() {
-        let count = decimal::width(numbers[i]) + 1;
-        if !output::has_room(size, end, count) {
-            return Room::Short;
-        }
-        end += count;
-        i += 1;
-    }
-    if end < size {
-        return Room::Until(end + 1);
-    }
-    Room::Short
-}
-
-// Puts a line into the slice at the offset, all of it or nothing, and answers the offset just past it.
-pub fn put(head: &[u8], numbers: &[u64], out: &mut [u8], at: usize) -> usize
-    ensures { λ r. ⌜ r ≡ past (now (out .entry)) at (lineOf (now (head .entry)) (now (numbers .entry))) ⌝ }
-    ensures { λ r. ⌜ now (out .exit)
-        ≡ placed (now (out .entry)) at (lineOf (now (head .entry)) (now (numbers .entry))) ⌝ }
-{
-    let space = measure(head, numbers, out.len(), at);
-    if let Room::Short = space {
-        return at;
-    }
-    let mut end = output::put_all(out, at, head);
-    let mut i = 0;
-    while i < numbers.len() {
-        end = output::put(out, end, TAB);
-        end = decimal::write(numbers[i], out, end);
-        i += 1;
-    }
-    output::put(out, end, LINE_FEED)
 }

@@ -21,7 +21,7 @@ use Rattle.convergence.proofs.Replies.{number-few}
 use Rattle.decimal.specs.Numeral.{digits}
 use Rattle.decimal.proofs.Laws.{width-by-power, width-le}
 use Rattle.lines.specs.Fields.{tab, columns}
-use Rattle.lines.proofs.Writing.{line-length}
+use Rattle.lines.proofs.Sizes.{line-length}
 use Rattle.codec.proofs.Bounds.{insert-bounds}
 use Rattle.report.specs.Lines.{spelled, replyLine, reportLine, codePoints, textHead, textNumbers, textLine}
 use Rattle.storage.proofs.Stored.{form-meant}

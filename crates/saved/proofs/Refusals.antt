@@ -19,7 +19,7 @@ use Rattle.lists.proofs.Tests.{some-eq, no-some, clash}
 use Rattle.convergence.proofs.Refusals.{decided-exactly}
 use Rattle.convergence.proofs.Writing.{own-first, own-none, writing-refuses}
 use Rattle.lines.specs.Lines.{concatenated}
-use Rattle.lines.proofs.Writing.{line-some}
+use Rattle.lines.proofs.Sizes.{line-some}
 use Rattle.codec.specs.Operations.{operationLine}
 use Rattle.codec.proofs.Refusals.{by-test}
 use Rattle.saved.specs.declared.LoadAnswer.{LoadAnswer}

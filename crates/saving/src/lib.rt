@@ -1,7 +1,7 @@
 // Writing saved replicas into a lent slice.
 mod writing;
 
-use lines::Room;
+use line_output::Room;
 use woot::Refusal;
 use woot::Replica;
 use woot::Written;

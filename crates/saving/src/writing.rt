@@ -1,5 +1,5 @@
 // Writing the lines of a saved replica, one after another: where they end, and then the lines themselves.
-use lines::Room;
+use line_output::Room;
 use saved::CHARACTER;
 use saved::SITE;
 use woot::Character;
@@ -11,7 +11,7 @@ ghost use Prim.Native.Nat.{_+_, _≤_};
 ghost use lib.ListN.{length, take};
 ghost use Rattle.output.specs.Output.{placed, past};
 ghost use Rattle.lines.specs.Lines.{concatenated};
-ghost use Rattle.lines.specs.Answers.{roomFor};
+ghost use Rattle.line_output.specs.Room.{roomFor};
 ghost use Rattle.saved.specs.Format.{siteNumbers, characterNumbers, characterLine, pendingLine};
 ghost use Rattle.saved.specs.Calls.{bytesOf};
 
@@ -50,7 +50,7 @@ fn measure_characters(characters: [Character; 1024], n: usize, size: usize, at: 
     while i < n {
         let character = characters[i];
         let numbers = character_numbers(character);
-        let room = lines::measure(&head, &numbers, size, end);
+        let room = line_output::measure(&head, &numbers, size, end);
         let Room::Until(next) = room else {
             return Room::Short;
         };
@@ -91,7 +91,7 @@ pub(crate) fn measure(replica: Replica, size: usize) -> Room
     let pending = document.pending;
     let head = SITE;
     let numbers = site_numbers(site);
-    let first = lines::measure(&head, &numbers, size, 0);
+    let first = line_output::measure(&head, &numbers, size, 0);
     let Room::Until(second) = first else {
         return Room::Short;
     };
@@ -120,7 +120,7 @@ fn put_characters(characters: [Character; 1024], n: usize, out: &mut [u8], at: u
     while i < n {
         let character = characters[i];
         let numbers = character_numbers(character);
-        end = lines::put(&head, &numbers, out, end);
+        end = line_output::put(&head, &numbers, out, end);
         i += 1;
     }
     end
@@ -155,7 +155,7 @@ pub(crate) fn put_all(replica: Replica, out: &mut [u8])
     let pending = document.pending;
     let head = SITE;
     let numbers = site_numbers(site);
-    let first = lines::put(&head, &numbers, out, 0);
+    let first = line_output::put(&head, &numbers, out, 0);
     let second = put_characters(characters, index::lesser(1024, document.length), out, first);
     put_pending(pending, index::lesser(512, document.waiting), out, second);
 }

@@ -6,7 +6,7 @@ use borrow.Author.Needs.{needs}
 use lib.ListN.{take}
 use lib.Seq.{length-take-le}
 use Rattle.report.specs.Lines.{textNumbers, textLine}
-use Rattle.lines.proofs.Writing.{line-some}
+use Rattle.lines.proofs.Sizes.{line-some}
 use Rattle.codec.proofs.Answers.{put-after, offset-fitted}
 use Rattle.report.proofs.Heads.{Front}
 use Rattle.report.proofs.Listings.{listing-few, listing-front}

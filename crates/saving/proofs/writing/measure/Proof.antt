@@ -7,7 +7,7 @@ use lib.ListN.{length, length-map}
 use borrow.Author.Needs.{needs}
 use Rattle.woot.specs.State.{characterSlots, pendingSlots}
 use Rattle.lines.specs.Fields.{lineOf}
-use Rattle.lines.specs.Answers.{roomFor}
+use Rattle.line_output.specs.Room.{roomFor}
 use Rattle.saved.specs.Format.{siteHead, siteLine}
 use Rattle.saving.proofs.Saving.{site-short, second-fits, characters-short, third-fits, all-measured}
 use Rattle.saving.proofs.writing.measure.Statement.{statement}

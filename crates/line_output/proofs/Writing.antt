@@ -2,20 +2,20 @@
 use mathlib.Core.Path.{_≡_, refl, sym, ap, _∙_}
 use mathlib.Core.List.{List, [], _∷_, _++_, append-nil, append-assoc}
 use mathlib.Core.Bool.{Bool, true, false}
-use Prim.Native.Nat.{ℕ, suc, _+_, _<_, _≤_}
+use Prim.Native.Nat.{ℕ, _+_, _<_, _≤_}
 use native.Mathlib.Nat.{add-zero}
 use native.Mathlib.Numerals.{add-one}
 use native.Mathlib.Omega.{arith}
 use lib.ListN.{length, take, drop, getD, length-append, take-append-drop}
-use lib.Seq.{take-suc, drop-cons, take-all}
+use lib.Seq.{take-suc, take-all}
 use Rattle.output.specs.Output.{hasRoom, placed, past}
 use Rattle.output.proofs.Laws.{room, no-room, has-room, lacks-room, placed-append, placed-room, past-room, length-placed}
 use Rattle.decimal.specs.Numeral.{digits}
-use Rattle.lines.specs.declared.Room.{Room}
-use Rattle.lines.specs.declared.Room.the-variants.{Until, Short}
+use Rattle.line_output.specs.declared.Room.{Room}
+use Rattle.line_output.specs.declared.Room.the-variants.{Until, Short}
 use Rattle.lines.specs.Lines.{lineFeed}
-use Rattle.lines.specs.Fields.{tab, columns, lineOf}
-use Rattle.lines.specs.Answers.{roomFor}
+use Rattle.lines.specs.Fields.{tab, columns}
+use Rattle.line_output.specs.Room.{roomFor}
 
 -- ---- columns
 
@@ -23,20 +23,6 @@ pub columns-append : (ms ns : List ℕ) → columns (ms ++ ns) ≡ columns ms ++
 columns-append [] ns = refl
 columns-append (m ∷ ms) ns =
     ap (λ (l : List ℕ). tab ∷ l) (ap (λ (l : List ℕ). digits m ++ l) (columns-append ms ns) ∙ sym (append-assoc (digits m) (columns ms) (columns ns)))
-
--- the bytes of one number, and of those after it
-pub columns-length : (ns : List ℕ) (i : ℕ) → i < length ns
-    → length (columns (drop i ns)) ≡ 1 + length (digits (getD ns i 0)) + length (columns (drop (i + 1) ns))
-columns-length ns i h = rw (add-one i, drop-cons ns i 0 h) (omega (arith, length-append (digits (getD ns i 0)) (columns (drop (suc i) ns))))
-
-pub line-length : (head ns : List ℕ) → length (lineOf head ns) ≡ length head + (length (columns ns) + 1)
-unfolding lineOf
-line-length head ns =
-    omega (arith, length-append head (columns ns ++ (lineFeed ∷ [])), length-append (columns ns) (lineFeed ∷ []))
-
--- a line has a byte at least
-pub line-some : (head ns : List ℕ) → 1 ≤ length (lineOf head ns)
-line-some head ns = omega (arith, line-length head ns)
 
 -- ---- room
 
