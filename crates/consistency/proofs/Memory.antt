@@ -23,7 +23,7 @@ use Rattle.lent.specs.Lent.{returned}
 use Rattle.lent.proofs.Sites.{lent-follows}
 use Rattle.codec.specs.Calls.{laidOut, saidBy, readOperation}
 use Rattle.codec.proofs.Judging.{read-layout, read-range, read-operation}
-use Rattle.report.specs.Calls.{answeredAs, answered}
+use Rattle.transcript.specs.Calls.{answeredAs, answered}
 use Rattle.consistency.specs.Copies.{MemoryCall, onReplica, onRecord, onLine, save, memoryCall, inMemory, afterRecord, afterSaving, whenDone, onMemory, stepOn}
 use Rattle.consistency.proofs.Holding.{memory, bytes, Step, left, made, Steps, carries, changed-formed}
 use Rattle.consistency.proofs.Saving.{Saving, fits, refuses, saving}

@@ -18,7 +18,7 @@ use Rattle.replica.specs.Theorems.{called, answerTo}
 use Rattle.lent.specs.declared.Returned.{Returned}
 use Rattle.lent.specs.Lent.{together, returned, siteAfter}
 use Rattle.codec.specs.Calls.{saidBy}
-use Rattle.report.specs.Calls.{answered}
+use Rattle.transcript.specs.Calls.{answered}
 use Rattle.saved.specs.declared.LoadAnswer.{LoadAnswer}
 use Rattle.saved.specs.declared.LoadAnswer.the-variants.{Done as loadDone, Refused as loadRefused}
 use Rattle.saved.specs.Format.{savedState}
@@ -38,7 +38,7 @@ pub data MemoryCall : Type 0 where
   onReplica : RuleCall → MemoryCall
   -- `site_record::insert_on`: an insertion point and a code point
   onRecord : ℕ → ℕ → MemoryCall
-  -- `report::answer_line`: the first line of these bytes is read and received
+  -- `transcript::answer_line`: the first line of these bytes is read and received
   onLine : List ℕ → MemoryCall
   -- `saving::save` into a lent slice
   save : List ℕ → MemoryCall

@@ -1,9 +1,9 @@
 // The hall program: reads lines of operations from standard input into an empty replica, prints a report on each, and
-// last the visible characters. What it prints is worked out in `report`; here it is read and printed.
+// last the visible characters. What it prints is worked out in `transcript`; here it is read and printed.
 use woot::Replica;
 use woot::Written;
 ghost use mathlib.Core.Path.{_≡_};
-ghost use Rattle.report.specs.Calls.{answered};
+ghost use Rattle.transcript.specs.Calls.{answered};
 
 const STDIN: i32 = 0;
 
@@ -32,7 +32,7 @@ fn print_line(replica: Replica, number: u64, bytes: &[u8]) -> Printed
     ensures { λ r. ⌜ r .replica ≡ answered replica (now (bytes .entry)) .replica ⌝ }
 {
     let mut line = [0u8; 70];
-    let processed = report::process_line(replica, number, bytes, &mut line);
+    let processed = transcript::process_line(replica, number, bytes, &mut line);
     let written = processed.written;
     let left = processed.replica;
     if let Written::Length(n) = written {

@@ -1,7 +1,3 @@
 pub mod Sizes
 pub mod Heads
 pub mod Listings
-pub mod Printing
-pub mod Writers
-pub mod Looping
-pub mod Examples

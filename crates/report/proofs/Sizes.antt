@@ -101,5 +101,3 @@ text-fits r e =
       points-fit cs (f .ranges),
       width-by-power (length (codePoints cs)) 4 (omega arith) .1 (omega (arith, points-le cs, f .room)),
     )
-
--- ---- what is written

@@ -1,4 +1,2 @@
 pub mod Lines
-pub mod Calls
-pub mod Loop
 pub mod Theorems

@@ -1,9 +1,6 @@
-// What the hall program prints of a text: a line for each line of its input, and last the visible characters. And what
-// it answers to a line.
+// The lines that the hall program prints: one for each line of its input, and last the visible characters.
 use woot::Answer;
 use woot::Character;
-use woot::Receipt;
-use woot::Refusal;
 use woot::Replica;
 use woot::Written;
 ghost use mathlib.Core.Path.{_≡_};
@@ -14,8 +11,6 @@ ghost use Rattle.decimal.specs.Numeral.{digits};
 ghost use Rattle.lines.specs.Fields.{tab, lineOf};
 ghost use Rattle.woot.specs.State.{meaning};
 ghost use Rattle.woot.specs.Writing.{writtenAs, outputAfter};
-ghost use Rattle.report.specs.Calls.{answered};
-ghost use Rattle.report.specs.Loop.{processed, processedOut};
 ghost use Rattle.report.specs.Lines.{reportLine, textLine, listing};
 
 // Writes a line of a number, a word and three numbers at the front of the slice, all of it or nothing.
@@ -115,40 +110,4 @@ pub fn text_line(replica: Replica, out: &mut [u8]) -> Written
     let document = replica.document;
     let characters = document.characters;
     put_text(characters, document.length, out)
-}
-
-// Answers the first line of the bytes: receives the operation that it says, or refuses it and returns the replica as it
-// was.
-pub fn answer_line(replica: Replica, bytes: &[u8]) -> Receipt
-    ensures { λ x. ⌜ x ≡ answered replica (now (bytes .entry)) ⌝ }
-{
-    match codec::read_operation(bytes) {
-        codec::Read::Operation(operation) => replica::receive(replica, operation),
-        codec::Read::Refused(refusal) => Receipt {
-            answer: Answer::Refused(refusal),
-            replica,
-        },
-    }
-}
-
-// What is made of a line of the input: how much of the report was written, and the replica after the line.
-pub struct Processed {
-    pub written: Written,
-    pub replica: Replica,
-}
-
-// Answers the first line of the bytes and writes the report on it, as the line of the given number, at the front of the
-// slice. A slice that is too short keeps every byte. The bytes after the line are `codec::rest` of these.
-pub fn process_line(replica: Replica, number: u64, bytes: &[u8], out: &mut [u8]) -> Processed
-    ensures { λ r. ⌜ r ≡ processed replica number (now (bytes .entry)) (now (out .entry)) ⌝ }
-    ensures { λ _. ⌜ now (out .exit) ≡ processedOut replica number (now (bytes .entry)) (now (out .entry)) ⌝ }
-{
-    let receipt = answer_line(replica, bytes);
-    let answer = receipt.answer;
-    let left = receipt.replica;
-    let written = report_line(number, answer, out);
-    Processed {
-        written,
-        replica: left,
-    }
 }

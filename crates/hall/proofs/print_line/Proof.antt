@@ -2,8 +2,8 @@
 use mathlib.Core.Path.{sym}
 use borrow.Author.Needs.{needs}
 use lib.Seq.{length-take-le}
-use Rattle.report.specs.Loop.{processed}
-use Rattle.report.proofs.Looping.{processed-within}
+use Rattle.transcript.specs.Loop.{processed}
+use Rattle.transcript.proofs.Looping.{processed-within}
 use Rattle.hall.proofs.print_line.Statement.{statement}
 use Rattle.hall.proofs.print_line.Tie as tie
 

@@ -1,8 +1,8 @@
--- `report::answer_line` meets its contract: the arm knows what was read, and the definition goes by it.
+-- `transcript::answer_line` meets its contract: the arm knows what was read, and the definition goes by it.
 use borrow.Author.Needs.{needs}
-use Rattle.report.specs.Calls.{answeredAs, answered}
-use Rattle.report.proofs.answer_line.Statement.{statement}
-use Rattle.report.proofs.answer_line.Tie as tie
+use Rattle.transcript.specs.Calls.{answeredAs, answered}
+use Rattle.transcript.proofs.answer_line.Statement.{statement}
+use Rattle.transcript.proofs.answer_line.Tie as tie
 
 read-operation-requires : tie.Need-read-operation-requires
 read-operation-requires c κs = search needs

@@ -25,14 +25,14 @@ use Rattle.codec.specs.declared.Read.{Read}
 use Rattle.codec.specs.declared.Read.the-variants.{Operation as readsAs, Refused as readRefused}
 use Rattle.codec.specs.Calls.{readOperation}
 use Rattle.storage.proofs.Stored.{form-meant}
-use Rattle.report.specs.declared.Processed.{Processed}
+use Rattle.transcript.specs.declared.Processed.{Processed}
 use Rattle.report.specs.Lines.{reportLine, textLine}
-use Rattle.report.specs.Calls.{answeredAs, answered, printedFrom, wholeOutput, inputMost, hallOutput}
-use Rattle.report.specs.Loop.{reportOn, processed, processedOut, front, textFront, loopFrom, looped}
-use Rattle.report.specs.Theorems.{LoopPrints}
+use Rattle.transcript.specs.Calls.{answeredAs, answered, printedFrom, wholeOutput, inputMost, hallOutput}
+use Rattle.transcript.specs.Loop.{reportOn, processed, processedOut, front, textFront, loopFrom, looped}
+use Rattle.transcript.specs.Theorems.{LoopPrints}
 use Rattle.report.proofs.Sizes.{report-fits, text-fits}
 use Rattle.codec.proofs.Answers.{fitted-within}
-use Rattle.report.proofs.Writers.{front-whole}
+use Rattle.transcript.proofs.Writers.{front-whole}
 
 -- a length that is answered is within the slice
 pub processed-within : (r : Replica) (n : ℕ) (s out : List ℕ) {p : Processed} → p ≡ processed r n s out → {m : ℕ} → p .written ≡ Length m

@@ -10,9 +10,9 @@ use borrow.Author.Tests.{eq-eqb, ne-eqb}
 use Rattle.woot.specs.declared.Replica.{Replica}
 use Rattle.lines.specs.Lines.{rest}
 use Rattle.lines.proofs.Lines.{rest-shorter}
 use Rattle.report.specs.Lines.{reportLine}
-use Rattle.report.specs.Calls.{answered, printedFrom}
-use Rattle.report.specs.Theorems.{PrintedByLines}
+use Rattle.transcript.specs.Calls.{answered, printedFrom}
+use Rattle.transcript.specs.Theorems.{PrintedByLines}
 
 -- what is allowed for more lines than there are makes no difference
 enough : (j k n : ℕ) (r : Replica) (s : List ℕ) → length s ≤ j → length s ≤ k → printedFrom j n r s ≡ printedFrom k n r s

@@ -1,9 +1,9 @@
--- `report::process_line` meets its contract, by those of `answer_line` and `report_line`.
+-- `transcript::process_line` meets its contract, by those of `answer_line` and `report_line`.
 use mathlib.Core.Path.{refl}
 use borrow.Author.Needs.{needs}
-use Rattle.report.specs.Loop.{reportOn, processed, processedOut}
-use Rattle.report.proofs.process_line.Statement.{statement}
-use Rattle.report.proofs.process_line.Tie as tie
+use Rattle.transcript.specs.Loop.{reportOn, processed, processedOut}
+use Rattle.transcript.proofs.process_line.Statement.{statement}
+use Rattle.transcript.proofs.process_line.Tie as tie
 
 answer-line-requires : tie.Need-answer-line-requires
 answer-line-requires c κs = search needs

@@ -9,7 +9,7 @@ use borrow.Author.Tests.{le-ltb}
 use Rattle.output.proofs.Laws.{placed-room}
 use Rattle.woot.specs.Answers.{decided}
 use Rattle.woot.specs.Writing.{writingChecks, writtenAs, outputAfter, writtenLength}
-use Rattle.report.specs.Loop.{front}
+use Rattle.transcript.specs.Loop.{front}
 
 pub front-whole : (bytes out : List ℕ) → length bytes ≤ length out → front (writtenAs [] bytes out) (outputAfter [] bytes out) ≡ bytes
 unfolding front writtenLength writtenAs outputAfter writingChecks decided

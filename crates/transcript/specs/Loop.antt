@@ -1,4 +1,4 @@
--- The hall program as its loop runs: each line by `report::process_line`, the text by `report::text_line`, and of the
+-- The hall program as its loop runs: each line by `transcript::process_line`, the text by `report::text_line`, and of the
 -- slices that it lends them it prints what was written.
 use Prim.Native.Nat.{ℕ, zero, suc, _+_}
 use mathlib.Core.Bool.{cond}
@@ -10,9 +10,9 @@ use Rattle.woot.specs.declared.Written.{Written}
 use Rattle.woot.specs.State.{initial, meaning, stored}
 use Rattle.woot.specs.Writing.{writtenAs, outputAfter, writtenLength}
 use Rattle.lines.specs.Lines.{rest}
-use Rattle.report.specs.declared.Processed.{Processed}
+use Rattle.transcript.specs.declared.Processed.{Processed}
 use Rattle.report.specs.Lines.{reportLine, textLine}
-use Rattle.report.specs.Calls.{answered}
+use Rattle.transcript.specs.Calls.{answered}
 
 -- the report on the first line of the bytes, which is the line n of the input
 unfoldable pub reportOn : Replica → ℕ → List ℕ → List ℕ

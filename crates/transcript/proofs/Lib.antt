@@ -1,0 +1,4 @@
+pub mod Printing
+pub mod Writers
+pub mod Looping
+pub mod Examples
