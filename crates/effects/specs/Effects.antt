@@ -1,5 +1,5 @@
 -- What a call does: the result, and every byte of its outputs afterwards.
-use Prim.Native.Nat.{ℕ, _-_}
+use Prim.Native.Nat.{ℕ}
 use mathlib.Core.Bool.{_||_, cond}
 use mathlib.Core.Path.{_≡_}
 use mathlib.Core.List.{List, [], _∷_}
@@ -12,11 +12,9 @@ use Rattle.woot.specs.declared.Answer.{Answer}
 use Rattle.woot.specs.declared.Answer.the-variants.{Done, Refused}
 use Rattle.woot.specs.declared.Sent.{Sent}
 use Rattle.woot.specs.declared.Sent.the-variants.{Done as sentDone, Refused as sentRefused}
-use Rattle.woot.specs.Limits.{capacity}
 use Rattle.woot.specs.State.{State}
-use Rattle.woot.specs.Form.{presentInserts}
 use Rattle.woot.specs.Answers.{changes, _⇒_, first, decided}
-use Rattle.woot.specs.Calls.{Outcome, visibles}
+use Rattle.woot.specs.Calls.{Outcome}
 use Rattle.codec.specs.Operations.{operationLine}
 use Rattle.saved.specs.Format.{savedBytes}
 use Rattle.results.specs.Results.{Result, result, silent, numberOf}
@@ -64,10 +62,3 @@ sending s (sentRefused q) out line = turned out line q
 
 unfoldable pub afterSending : Outcome Sent → List ℕ → List ℕ → Effect
 afterSending w out line = sending (w .state) (w .answer) out line
-
--- the counts of a state: its visible characters, its pending operations, all its characters, and how many more it has
--- room for
-unfoldable pub countsOf : State → Result
-countsOf s =
-    result (Done (length (visibles (s .characters))) (length (s .pending))) (length (s .characters))
-    (capacity - length (presentInserts s))

@@ -12,14 +12,13 @@ use Rattle.woot.specs.declared.Receipt.{Receipt}
 use Rattle.woot.specs.declared.Generated.{Generated}
 use Rattle.woot.specs.declared.Written.{Written}
 use Rattle.woot.specs.declared.Written.the-variants.{Length, Refused as writtenRefused}
-use Rattle.woot.specs.State.{meaning}
 use Rattle.woot.specs.Form.{replicaWellFormed}
 use Rattle.woot.specs.Answers.{changes, _⇒_, first, decided}
 use Rattle.codec.specs.Operations.{operationLine}
 use Rattle.replica.specs.Texts.{textOf}
 use Rattle.saved.specs.Calls.{bytesOf}
 use Rattle.results.specs.Results.{Result, result, silent}
-use Rattle.effects.specs.Effects.{Effect, quiet, turned, writing, writingBoth, countsOf}
+use Rattle.effects.specs.Effects.{Effect, quiet, turned, writing, writingBoth}
 
 -- an answer with so many bytes written, unless writing was refused
 unfoldable pub afterWriting : Answer → Written → Result
@@ -43,8 +42,3 @@ generatedLeft x out line = sentLeft (x .answer) (x .replica) out line
 unfoldable pub textLeft : Replica → List ℕ → Effect
 textLeft r out =
     decided (turned out []) (first ((not (replicaWellFormed r) ⇒ Form) ∷ [])) (writing (Done 0 0) (textOf r) out)
-
--- the counts of a replica, whose form decides first
-unfoldable pub countsLeft : Replica → Result
-countsLeft r =
-    decided (λ q. silent (Refused q)) (first ((not (replicaWellFormed r) ⇒ Form) ∷ [])) (countsOf (meaning r))

@@ -30,10 +30,12 @@ use Rattle.saved.specs.Format.{savedState, savedBytes}
 use Rattle.saved.specs.Calls.{loadedState, bytesOf, held}
 use Rattle.woot.specs.Form.{raised}
 use Rattle.saved.proofs.Held.{held-form}
-use Rattle.effects.specs.Effects.{Effect, quiet, turned, writing, writingBoth, afterReceiving, sending, afterSending, countsOf}
+use Rattle.effects.specs.Effects.{Effect, quiet, turned, writing, writingBoth, afterReceiving, sending, afterSending}
 use Rattle.results.specs.Results.{Result, silent}
 use Rattle.wimtaze.specs.Calls.{inputChecks, counting}
-use Rattle.effects.specs.Steps.{receiptLeft, sentLeft, generatedLeft, textLeft, countsLeft}
+use Rattle.effects.specs.Steps.{receiptLeft, sentLeft, generatedLeft, textLeft}
+use Rattle.counts.specs.Counts.{countsOf}
+use Rattle.counts.specs.Steps.{countsLeft}
 
 -- the form first, and then the rest
 abbrev pub formed-first : State → List ℕ → List ℕ → Effect → Effect

@@ -41,11 +41,12 @@ use Rattle.codec.specs.Theorems.{insertMost, toggleMost}
 use Rattle.saved.specs.Theorems.{savedMost}
 use Rattle.saved.proofs.Sizes.{saved-length}
 use Rattle.results.specs.Results.{Result, result, silent}
-use Rattle.effects.specs.Effects.{Effect, quiet, turned, writing, writingBoth, afterReceiving, sending, afterSending, countsOf}
+use Rattle.effects.specs.Effects.{Effect, quiet, turned, writing, writingBoth, afterReceiving, sending, afterSending}
+use Rattle.counts.specs.Counts.{countsOf}
 use Rattle.wimtaze.specs.Calls.{inputChecks, oneLine, beginning, receivingLine, insertingHere, deletingHere, named, restoringHere, showingText, counting}
 use Rattle.wimtaze.specs.Theorems.{textMost, Fits, ResultsFit, CountsWithin, CountsFit, HasRoom, BuffersSuffice}
 use Rattle.wimtaze.proofs.Sizes.{text-length}
-use Rattle.effects.proofs.Counting.{known-few}
+use Rattle.counts.proofs.Counting.{known-few}
 use Rattle.wimtaze.proofs.Counts.{Other, Fine, Sends, receive-fine, insert-sends, delete-sends, restore-sends}
 
 -- ---- what is returned

@@ -20,7 +20,8 @@ use Rattle.codec.specs.Calls.{laidOut, saidBy}
 use Rattle.saved.specs.Format.{savedLaidOut, savedInRange, savedBytes}
 use Rattle.saved.specs.Calls.{loadedState}
 use Rattle.results.specs.Results.{Result, silent}
-use Rattle.effects.specs.Effects.{Effect, turned, writing, afterReceiving, afterSending, countsOf}
+use Rattle.effects.specs.Effects.{Effect, turned, writing, afterReceiving, afterSending}
+use Rattle.counts.specs.Counts.{countsOf}
 
 -- conditions 1, 2 and 3 over a saved replica and what else was handed, of which the two Bools say whether it has its
 -- layout and is in range

@@ -60,7 +60,7 @@ pub extern "C" fn wimtaze_counts(bytes: &[u8]) -> u64
         LoadAnswer::Refused(q) => results::refused(q),
         LoadAnswer::Done => {
             let replica = loaded.replica;
-            effects::count(replica)
+            counts::count(replica)
         }
     }
 }

@@ -23,8 +23,8 @@ use Rattle.pending.specs.Queue.{queueOf}
 use Rattle.pending.proofs.Pending.{count-own}
 use Rattle.well_formed.proofs.Examining.{few, keyed, own-used}
 use Rattle.results.specs.Results.{result, silent}
-use Rattle.effects.specs.Effects.{countsOf}
-use Rattle.effects.specs.Steps.{countsLeft}
+use Rattle.counts.specs.Counts.{countsOf}
+use Rattle.counts.specs.Steps.{countsLeft}
 
 pub known-few : (s : State) → wellFormed s ≡ true → length (presentInserts s) ≤ capacity
 known-few s h = omega (arith, known-length s, formed s h .sound .room)

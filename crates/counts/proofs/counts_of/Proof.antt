@@ -1,4 +1,4 @@
--- `effects::counts_of` meets its contract: each number is the length of one of the lists that are meant.
+-- `counts::counts_of` meets its contract: each number is the length of one of the lists that are meant.
 use Prim.Native.Nat.{_+_, _≤_}
 use native.Mathlib.Omega.{arith}
 use mathlib.Core.Path.{ap, _∙_}
@@ -7,9 +7,9 @@ use Rattle.woot.specs.Limits.{capacity}
 use Rattle.woot.specs.State.{meaning}
 use Rattle.storage.proofs.Fullness.{full-replica}
 use Rattle.results.specs.Results.{numberOf}
-use Rattle.effects.proofs.Counting.{held-few, counts-told}
-use Rattle.effects.proofs.counts_of.Statement.{statement}
-use Rattle.effects.proofs.counts_of.Tie as tie
+use Rattle.counts.proofs.Counting.{held-few, counts-told}
+use Rattle.counts.proofs.counts_of.Statement.{statement}
+use Rattle.counts.proofs.counts_of.Tie as tie
 
 -- what is held is within the capacity
 within : (c : tie.After-inserts-among) → c .before .before .before .args .replica .document .length + c .inserts-among .result ≤ capacity

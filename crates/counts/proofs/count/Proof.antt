@@ -1,12 +1,12 @@
--- `effects::count` meets its contract: the form decides first.
+-- `counts::count` meets its contract: the form decides first.
 use mathlib.Core.Path.{sym, ap, _∙_}
 use borrow.Author.Needs.{needs}
 use borrow.Author.Tests.{not-true, not-false}
 use Rattle.well_formed.proofs.Examining.{check-formed, check-examined}
 use Rattle.results.specs.Results.{numberOf}
-use Rattle.effects.proofs.Counting.{counts-unformed, counts-formed}
-use Rattle.effects.proofs.count.Statement.{statement}
-use Rattle.effects.proofs.count.Tie as tie
+use Rattle.counts.proofs.Counting.{counts-unformed, counts-formed}
+use Rattle.counts.proofs.count.Statement.{statement}
+use Rattle.counts.proofs.count.Tie as tie
 
 check-requires : tie.Need-check-requires
 check-requires c κs = search needs

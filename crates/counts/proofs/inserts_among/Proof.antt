@@ -1,4 +1,4 @@
--- `effects::inserts_among` counts on the numbers that are in use.
+-- `counts::inserts_among` counts on the numbers that are in use.
 use native.Mathlib.Omega.{arith}
 use mathlib.Core.Path.{_≡_}
 use lib.ListN.{length-take}
@@ -6,8 +6,8 @@ use Rattle.lists.proofs.Padding.{first-or-all}
 use Rattle.pending.proofs.Fullness.{full-queue}
 use Rattle.pending.proofs.Queues.{FullQueue}
 use borrow.Author.Needs.{needs}
-use Rattle.effects.proofs.inserts_among.Statement.{statement}
-use Rattle.effects.proofs.inserts_among.Tie as tie
+use Rattle.counts.proofs.inserts_among.Statement.{statement}
+use Rattle.counts.proofs.inserts_among.Tie as tie
 
 queued : (c : tie.Start) → FullQueue (c .args .queue)
 queued c = full-queue (c .good .0)
