@@ -1,18 +1,19 @@
 -- A line goes by its first byte: only a line that begins with a head word of one letter can have that layout.
 use mathlib.Core.Path.{_≡_, refl, sym, _∙_}
 use mathlib.Core.List.{List, []}
-use mathlib.Core.Bool.{Bool, true, false, _||_, cond}
+use mathlib.Core.Bool.{Bool, true, false, _&&_, _||_, cond}
 use Prim.Native.Nat.{ℕ}
 use lib.ListN.{getD}
 use borrow.Author.Tests.{eqb-false}
 use Rattle.woot.specs.declared.Toggle.{Toggle}
 use Rattle.woot.specs.declared.Operation.the-variants.{Insert as insert, Toggle as toggle}
 use Rattle.woot.specs.declared.Refusal.the-variants.{Layout}
+use Rattle.lines.specs.Lines.{ended, firstLine}
 use Rattle.lines.specs.Fields.{fields, hasLayout, valuesOf}
 use Rattle.lines.proofs.Spelling.{other-letter}
 use Rattle.codec.specs.declared.Read.the-variants.{Refused as readRefused}
 use Rattle.codec.specs.Operations.{insertHead, toggleHead, deleteHead, insertOf, toggleOf, deleteOf, isInsert, isToggle, isDelete, operationOf}
-use Rattle.codec.specs.Calls.{asWritten, lineLaidOut, readAs, readWritten, readLine}
+use Rattle.codec.specs.Calls.{asWritten, lineLaidOut, laidOut, readAs, saidBy, readWritten, readLine, readOperation}
 use Rattle.codec.proofs.Judging.{read-layout}
 
 pub empty-line : readLine [] ≡ readRefused Layout
@@ -63,3 +64,12 @@ module _ (line : List ℕ) where
       go : (t : Bool) → readAs t (operationOf (fields line)) ≡ readAs (t || false) (operationOf (fields line))
       go true = refl
       go false = refl
+
+-- where no line feed ends the first line nothing is read, and that lacks the layout too
+pub by-first : (s : List ℕ) → readLine (cond (ended s) (firstLine s) []) ≡ readOperation s
+unfolding readOperation laidOut saidBy readLine
+by-first s = go (ended s)
+  where
+    go : (b : Bool) → readAs (lineLaidOut (cond b (firstLine s) [])) (operationOf (fields (cond b (firstLine s) []))) ≡ readAs (b && lineLaidOut (firstLine s)) (operationOf (fields (firstLine s)))
+    go true = refl
+    go false = empty-line ∙ sym (read-layout (operationOf (fields (firstLine s))))

@@ -1,7 +1,6 @@
 pub mod Bounds
 pub mod Judging
 pub mod Letters
-pub mod Answers
 pub mod Trips
 pub mod Sizes
 pub mod Refusals

@@ -24,7 +24,7 @@ use Rattle.codec.specs.Operations.{operationLine}
 use Rattle.codec.specs.Calls.{laidOut, saidBy, readChecks, readAs, readOperation, readNumber, readValue, writeChecks, written, writtenOut}
 use Rattle.codec.specs.Theorems.{ReadRefuses, ReadNumbers, WriteRefuses, WriteNumbers}
 use Rattle.codec.proofs.Judging.{read-layout, read-range, read-operation}
-use Rattle.codec.proofs.Answers.{operation-some}
+use Rattle.codec.proofs.Sizes.{operation-some}
 
 -- ---- reading
 

@@ -86,7 +86,7 @@ fn save_both(
         (now (out .entry)) (now (line .entry)))
         r (now (out .exit)) (now (line .exit)) ⌝ }
 {
-    let space = codec::measure(operation, line.len(), 0);
+    let space = operation_output::measure(operation, line.len(), 0);
     match space {
         Room::Short => results::refused(Refusal::Output),
         Room::Until(length) => {
@@ -94,7 +94,7 @@ fn save_both(
             match written {
                 Written::Refused(refusal) => results::refused(refusal),
                 Written::Length(n) => {
-                    codec::put_operation(operation, line, 0);
+                    operation_output::put_operation(operation, line, 0);
                     results::returned(answer, n, length)
                 }
             }

@@ -71,7 +71,7 @@ fn measure_pending(pending: [Pending; 512], n: usize, size: usize, at: usize) ->
     while i < n {
         let slot = pending[i];
         let operation = slot.operation;
-        let room = codec::measure(operation, size, end);
+        let room = operation_output::measure(operation, size, end);
         let Room::Until(next) = room else {
             return Room::Short;
         };
@@ -138,7 +138,7 @@ fn put_pending(pending: [Pending; 512], n: usize, out: &mut [u8], at: usize) -> 
     while i < n {
         let slot = pending[i];
         let operation = slot.operation;
-        end = codec::put_operation(operation, out, end);
+        end = operation_output::put_operation(operation, out, end);
         i += 1;
     }
     end

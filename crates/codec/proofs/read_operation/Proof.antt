@@ -2,7 +2,7 @@
 use mathlib.Core.Path.{ap, _∙_}
 use borrow.Author.Needs.{needs}
 use Rattle.codec.specs.Calls.{readLine}
-use Rattle.codec.proofs.Answers.{by-first}
+use Rattle.codec.proofs.Letters.{by-first}
 use Rattle.codec.proofs.read_operation.Statement.{statement}
 use Rattle.codec.proofs.read_operation.Tie as tie
 

@@ -1,7 +1,7 @@
--- `codec::fitted` meets its contract: each arm is one of the two answers.
+-- `operation_output::fitted` meets its contract: each arm is one of the two answers.
 use borrow.Author.Tests.{eq-eqb, ne-eqb}
-use Rattle.codec.proofs.fitted.Statement.{statement}
-use Rattle.codec.proofs.fitted.Tie as tie
+use Rattle.operation_output.proofs.fitted.Statement.{statement}
+use Rattle.operation_output.proofs.fitted.Tie as tie
 
 returns : tie.Need-returns
 returns c = rw (eq-eqb (c .before .args .past) 0 (c .if1 .taken))

@@ -1,8 +1,8 @@
--- What the two calls answer, by their conditions.
+-- What writing answers, by its conditions.
 use mathlib.Core.Path.{_≡_, refl, sym, ap, _∙_}
 use mathlib.Core.List.{List, []}
 use mathlib.Core.Logic.{_⊎_, inl, inr}
-use mathlib.Core.Bool.{Bool, true, false, _&&_, cond}
+use mathlib.Core.Bool.{true, false, cond}
 use Prim.Native.Nat.{ℕ, _≤_, _<_}
 use native.Mathlib.Omega.{arith}
 use lib.Dec.{eqb}
@@ -11,7 +11,6 @@ use borrow.Author.Tests.{ne-eqb}
 use Rattle.output.specs.Output.{placed, past}
 use Rattle.output.proofs.Laws.{placed-short, past-room, past-short, length-placed}
 use Rattle.woot.specs.declared.Operation.{Operation}
-use Rattle.woot.specs.declared.Operation.the-variants.{Insert as insert, Toggle as toggle}
 use Rattle.woot.specs.declared.Refusal.the-variants.{Range, Output}
 use Rattle.woot.specs.declared.Written.{Written}
 use Rattle.woot.specs.declared.Written.the-variants.{Length, Refused as writtenRefused}
@@ -21,33 +20,10 @@ use Rattle.lists.proofs.Tests.{side}
 use Rattle.convergence.proofs.Writing.{own-first, own-none, too-short, has-room, ends-short}
 use Rattle.line_output.specs.declared.Room.{Room}
 use Rattle.line_output.specs.declared.Room.the-variants.{Until, Short}
-use Rattle.lines.specs.Lines.{ended, firstLine}
-use Rattle.lines.specs.Fields.{fields}
 use Rattle.line_output.specs.Room.{roomFor}
-use Rattle.lines.proofs.Sizes.{line-some}
 use Rattle.line_output.proofs.Writing.{until-tells, short-tells}
-use Rattle.codec.specs.Operations.{insertHead, toggleHead, insertNumbers, toggleNumbers, operationOf, operationLine}
-use Rattle.codec.specs.Calls.{lineLaidOut, laidOut, readAs, saidBy, readLine, readOperation, writeChecks, written, writtenOut}
-use Rattle.codec.proofs.Judging.{read-layout}
-use Rattle.codec.proofs.Letters.{empty-line}
-
--- ---- reading
-
--- where no line feed ends the first line nothing is read, and that lacks the layout too
-pub by-first : (s : List ℕ) → readLine (cond (ended s) (firstLine s) []) ≡ readOperation s
-unfolding readOperation laidOut saidBy readLine
-by-first s = go (ended s)
-  where
-    go : (b : Bool) → readAs (lineLaidOut (cond b (firstLine s) [])) (operationOf (fields (cond b (firstLine s) []))) ≡ readAs (b && lineLaidOut (firstLine s)) (operationOf (fields (firstLine s)))
-    go true = refl
-    go false = empty-line ∙ sym (read-layout (operationOf (fields (firstLine s))))
-
--- ---- writing
-
-pub operation-some : (o : Operation) → 1 ≤ length (operationLine o)
-unfolding operationLine
-operation-some (insert i) = line-some insertHead (insertNumbers i)
-operation-some (toggle d) = line-some toggleHead (toggleNumbers d)
+use Rattle.codec.specs.Operations.{operationLine}
+use Rattle.codec.specs.Calls.{writeChecks, written, writtenOut}
 
 -- ---- bytes at the front of a slice, all or none
 
