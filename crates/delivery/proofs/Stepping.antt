@@ -25,8 +25,8 @@ use Rattle.convergence.proofs.Draining.{sound-carry}
 use Rattle.index.proofs.Sound.{sound-apart}
 use Rattle.index.specs.declared.Found.the-variants.{At, Nothing}
 use Rattle.execution.specs.declared.Work.{Work}
-use Rattle.storage.specs.Edit.{removed}
-use Rattle.storage.proofs.Slots.{operation-at}
+use Rattle.arrays.specs.Edit.{removed}
+use Rattle.arrays.proofs.Slots.{operation-at}
 use Rattle.execution.specs.Work.{charactersIn, pendingIn, workOf, Due, carried, carriedIn}
 use Rattle.delivery.specs.Work.{Workable, stepped, finished, takenOut, dueIn, takenFrom, steppedIn, finishedIn}
 use Rattle.ready.proofs.Earliest.{takes}

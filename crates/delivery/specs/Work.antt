@@ -15,7 +15,7 @@ use Rattle.woot.specs.Pending.{executable, Extracted, earliest, Drained, drain}
 use Rattle.convergence.specs.Invariants.{Sound}
 use Rattle.index.specs.declared.Found.{Found}
 use Rattle.index.specs.Keys.{firstIndex}
-use Rattle.storage.specs.Edit.{removed}
+use Rattle.arrays.specs.Edit.{removed}
 use Rattle.execution.specs.declared.Work.{Work}
 use Rattle.execution.specs.Work.{charactersIn, pendingIn, workOf, Tidy, carried}
 use Rattle.woot.specs.declared.Replica.{Replica}

@@ -3,7 +3,6 @@
 use execution::Work;
 use index::Found;
 use pending::queue;
-use storage::arrays;
 use woot::Document;
 use woot::Insert;
 use woot::Replica;

@@ -29,7 +29,7 @@ use Rattle.execution.specs.Work.{charactersIn, pendingIn, workOf, Tidy, 
 use Rattle.integration.specs.Placements.{placementOf}
 use Rattle.integration.proofs.Placements.{Says, says}
 use Rattle.storage.proofs.Stored.{Parts, document-path}
-use Rattle.storage.proofs.Slots.{operations-wait}
+use Rattle.arrays.proofs.Slots.{operations-wait}
 
 -- ---- the parts of a tidy document
 pub parts : {w : Work} → Tidy w → Parts (w .document) (charactersIn (w .document)) (pendingIn (w .document))

@@ -1,7 +1,6 @@
 // Executing one operation on a document at work: it is carried out where it has a place, discarded where it has none,
 // and counted.
 use integration::Placement;
-use storage::arrays;
 use woot::Character;
 use woot::Document;
 use woot::Insert;

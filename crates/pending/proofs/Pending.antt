@@ -29,7 +29,7 @@ use Rattle.index.specs.Keys.{Small, found}
 use Rattle.index.proofs.Keys.{key-same, key-injective, character-small, range-small}
 use Rattle.index.specs.declared.Found.{Found}
 use Rattle.index.specs.declared.Found.the-variants.{At, Nothing}
-use Rattle.storage.specs.Edit.{removed}
+use Rattle.arrays.specs.Edit.{removed}
 use Rattle.pending.specs.Queue.{ownKey, firstKey, stamp, hasToggle}
 use Rattle.index.proofs.Searches.{FoundAt, Says, first-says, first-map}
 

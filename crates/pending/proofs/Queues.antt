@@ -13,7 +13,7 @@ use Rattle.lists.specs.Padding.{pad}
 use Rattle.lists.proofs.Padding.{pad-none, pad-length, pad-map, pad-take}
 use Rattle.pending.specs.declared.queue.Queue.{Queue}
 use Rattle.pending.specs.declared.queue.Entry.{Entry}
-use Rattle.storage.specs.Edit.{operations}
+use Rattle.arrays.specs.Edit.{operations}
 use Rattle.pending.specs.Queue.{ownKey, firstKey, secondKey, stamp, entryOf, queueOf}
 
 -- the array holds the numbers of the first i

@@ -8,7 +8,7 @@ ghost use mathlib.Core.Bool.{not, _&&_};
 ghost use lib.Dec.{eqb};
 ghost use lib.ListN.{length, take};
 ghost use Rattle.lists.specs.Lists.{keep};
-ghost use Rattle.storage.specs.Edit.{operations};
+ghost use Rattle.arrays.specs.Edit.{operations};
 ghost use Rattle.pending.specs.Queue.{stamp, entryOf, queueOf, hasToggle};
 
 // A pending operation as numbers: of an insert its own key, its previous's and its next's, of a toggle 0, its target's

@@ -25,7 +25,7 @@ use Rattle.woot.specs.Table.{key, keys}
 use Rattle.index.specs.Keys.{Small, AllSmall, placeIn, further, firstIndex}
 use Rattle.index.proofs.Indices.{index-here, place-keys}
 use Rattle.index.proofs.Searches.{further-none, further-more}
-use Rattle.storage.specs.Edit.{removed}
+use Rattle.arrays.specs.Edit.{removed}
 use Rattle.pending.specs.Queue.{firstKey, secondKey}
 use Rattle.ready.specs.Ready.{heldIn, readyIn}
 use Rattle.pending.proofs.Pending.{range-keyed}

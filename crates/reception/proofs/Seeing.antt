@@ -21,7 +21,7 @@ use Rattle.holder.specs.Holder.{comparedTo, comparedWith}
 use Rattle.reception.specs.Needs.{seenOf}
 use Rattle.well_formed.specs.Examined.{Examined}
 use Rattle.storage.proofs.Fullness.{FullDocument}
-use Rattle.storage.proofs.Slots.{operation-at}
+use Rattle.arrays.proofs.Slots.{operation-at}
 use Rattle.reception.proofs.Named.{seen-held, seen-new}
 use Rattle.well_formed.proofs.Examining.{form, Has, nobody, pending-within, character-member, character-named}
 

@@ -1,4 +1,2 @@
-pub mod Padding
 pub mod Fullness
-pub mod Slots
 pub mod Stored

@@ -25,7 +25,7 @@ use Rattle.woot.specs.Form.{wellFormed, replicaWellFormed}
 use Rattle.lists.proofs.Tests.{and-left, and-right, three}
 use Rattle.convergence.proofs.Toggling.{toggle-length, toggle-map}
 use Rattle.storage.proofs.Fullness.{FullDocument}
-use Rattle.storage.proofs.Slots.{waiting-operations, waiting-pushed}
+use Rattle.arrays.proofs.Slots.{waiting-operations, waiting-pushed}
 
 -- the counts are within the arrays
 pub record Counts (r : Replica) : Type 0 where

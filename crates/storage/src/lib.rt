@@ -1,6 +1,4 @@
 // A replica after a change: stored anew, so that every slot that is not in use is filler.
-pub mod arrays;
-
 use woot::Document;
 use woot::Operation;
 use woot::Replica;

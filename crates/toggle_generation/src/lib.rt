@@ -5,7 +5,6 @@ use index::Found;
 use index::Index;
 use index::table;
 use pending::queue::Queue;
-use storage::arrays;
 use woot::Character;
 use woot::Generated;
 use woot::Identifier;

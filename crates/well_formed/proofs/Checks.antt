@@ -17,7 +17,7 @@ use Rattle.index.specs.declared.Index.{Index}
 use Rattle.pending.specs.declared.queue.Queue.{Queue}
 use Rattle.well_formed.specs.declared.Checked.{Checked}
 use Rattle.index.specs.Index.{indexOf}
-use Rattle.storage.specs.Edit.{operations}
+use Rattle.arrays.specs.Edit.{operations}
 use Rattle.pending.specs.Queue.{queueOf}
 use Rattle.pending_form.specs.Form.{pendingFormed}
 use Rattle.replica_ranges.specs.Ranges.{rangesKept}

@@ -4,7 +4,7 @@ use mathlib.Core.Path.{refl, sym, ap, _∙_}
 use Rattle.woot.specs.State.{blankPending}
 use Rattle.lists.specs.Padding.{pad}
 use Rattle.execution.specs.Work.{pendingIn}
-use Rattle.storage.proofs.Slots.{waiting-removed}
+use Rattle.arrays.proofs.Slots.{waiting-removed}
 use Rattle.execution.proofs.Works.{parts, work-path}
 use Rattle.delivery.proofs.Stepping.{length-removed}
 use borrow.Author.Needs.{needs}
