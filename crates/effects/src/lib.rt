@@ -10,7 +10,6 @@ use woot::Sent;
 use woot::Written;
 ghost use mathlib.Core.Path.{_≡_};
 ghost use mathlib.Core.List.{[]};
-ghost use Rattle.woot.specs.Answers.{changes};
 ghost use Rattle.codec.specs.Operations.{operationLine};
 ghost use Rattle.storage.specs.Replicas.{received};
 ghost use Rattle.saved.specs.Calls.{bytesOf};
@@ -46,28 +45,13 @@ pub fn show(replica: Replica, out: &mut [u8]) -> u64
     after_writing(none, replica::visible_text(replica, out))
 }
 
-// Whether the answer is one that changes the replica.
-fn is_change(answer: Answer) -> bool
-    ensures { λ r. ⌜ r ≡ changes answer ⌝ }
-{
-    match answer {
-        Answer::Done {
-            integrated: _,
-            discarded: _,
-        } => true,
-        Answer::Deferred => true,
-        Answer::Duplicate => false,
-        Answer::Refused(_) => false,
-    }
-}
-
 // Receives the operation, and saves the replica if that changed it.
 pub fn receive(replica: Replica, operation: Operation, out: &mut [u8]) -> u64
     ensures { λ r. ⌜ Leaves (receiptLeft (received replica operation) (now (out .entry))) r (now (out .exit)) [] ⌝ }
 {
     let receipt = replica::receive(replica, operation);
     let answer = receipt.answer;
-    if !is_change(answer) {
+    if !answer.is_change() {
         return results::returned(answer, 0, 0);
     }
     let after = receipt.replica;

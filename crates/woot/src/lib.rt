@@ -3,7 +3,7 @@
 // `convergence` has the theorems about them.
 ghost use mathlib.Core.Path.{_≡_};
 ghost use Rattle.woot.specs.Operations.{isVisible};
-ghost use Rattle.woot.specs.Answers.{number};
+ghost use Rattle.woot.specs.Answers.{number, changes};
 ghost use Rattle.woot.specs.State.{initial, stored};
 
 // The name of a character: the site that typed it and that site's clock then. (Document 01: identifier.)
@@ -204,6 +204,23 @@ pub enum Answer {
     Deferred,
     Duplicate,
     Refused(Refusal),
+}
+
+impl Answer {
+    // Whether it is one that changes the replica.
+    pub fn is_change(self) -> bool
+        ensures { λ r. ⌜ r ≡ changes self ⌝ }
+    {
+        match self {
+            Answer::Done {
+                integrated: _,
+                discarded: _,
+            } => true,
+            Answer::Deferred => true,
+            Answer::Duplicate => false,
+            Answer::Refused(_) => false,
+        }
+    }
 }
 
 // What inserting, deleting and restoring here answer: the operation to be sent with the counts, or a refusal.

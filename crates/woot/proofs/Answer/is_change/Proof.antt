@@ -1,8 +1,8 @@
--- `effects::is_change` meets its contract, variant by variant.
+-- `woot::Answer::is_change` meets its contract, variant by variant.
 use Rattle.woot.specs.Answers.{changes}
 use borrow.Author.Needs.{needs}
-use Rattle.effects.proofs.is_change.Statement.{statement}
-use Rattle.effects.proofs.is_change.Tie as tie
+use Rattle.woot.proofs.Answer.is_change.Statement.{statement}
+use Rattle.woot.proofs.Answer.is_change.Tie as tie
 
 enum-told : tie.Need-enum-told
 enum-told c = search needs
