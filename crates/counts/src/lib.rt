@@ -1,5 +1,5 @@
-// How much a replica holds, as the number that a call for C returns: its visible characters, its pending operations, all
-// its characters, and how many more it has room for.
+// How much a replica holds, as the number that a call for C returns: its visible characters, its pending operations,
+// all its characters, and how many more it has room for.
 use pending::queue;
 use pending::queue::Queue;
 use woot::Answer;

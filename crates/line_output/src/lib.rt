@@ -1,5 +1,5 @@
-// Lines of numbers put into a lent slice: one measure and one writer serve every such line, whatever its head word and its
-// numbers.
+// Lines of numbers put into a lent slice: one measure and one writer serve every such line, whatever its head word and
+// its numbers.
 ghost use mathlib.Core.Path.{_≡_};
 ghost use Rattle.output.specs.Output.{placed, past};
 ghost use Rattle.lines.specs.Fields.{lineOf};
