@@ -1,9 +1,10 @@
 -- A line goes by its first byte: only a line that begins with a head word of one letter can have that layout.
 use mathlib.Core.Path.{_≡_, refl, sym, _∙_}
-use mathlib.Core.List.{List, []}
+use mathlib.Core.List.{List, [], _∷_}
 use mathlib.Core.Bool.{Bool, true, false, _&&_, _||_, cond}
 use Prim.Native.Nat.{ℕ}
-use lib.ListN.{getD}
+use native.Mathlib.Omega.{arith}
+use lib.ListN.{length, getD}
 use borrow.Author.Tests.{eqb-false}
 use Rattle.woot.specs.declared.Toggle.{Toggle}
 use Rattle.woot.specs.declared.Operation.the-variants.{Insert as insert, Toggle as toggle}
@@ -15,6 +16,11 @@ use Rattle.codec.specs.declared.Read.the-variants.{Refused as readRefuse
 use Rattle.codec.specs.Operations.{insertHead, toggleHead, deleteHead, insertOf, toggleOf, deleteOf, isInsert, isToggle, isDelete, operationOf}
 use Rattle.codec.specs.Calls.{asWritten, lineLaidOut, laidOut, readAs, saidBy, readWritten, readLine, readOperation}
 use Rattle.codec.proofs.Judging.{read-layout}
+
+-- a line of no bytes
+pub nothing : (s : List ℕ) → length s ≡ 0 → s ≡ []
+nothing [] e = refl
+nothing (b ∷ s) e = absurd (omega arith)
 
 pub empty-line : readLine [] ≡ readRefused Layout
 unfolding readLine lineLaidOut asWritten isInsert isToggle isDelete hasLayout

@@ -1,21 +1,14 @@
 -- `codec::read_line` meets its contract: the first byte is the delete's head word or not.
-use mathlib.Core.Path.{_≡_, refl, sym, ap, _∙_}
-use mathlib.Core.List.{List, [], _∷_}
-use Prim.Native.Nat.{ℕ}
+use mathlib.Core.Path.{sym, ap, _∙_}
 use native.Mathlib.Omega.{arith}
-use lib.ListN.{length}
 use borrow.Author.Needs.{needs}
 use Rattle.codec.specs.Calls.{readLine}
-use Rattle.codec.proofs.Letters.{empty-line, delete-line, written-line}
+use Rattle.codec.proofs.Letters.{nothing, empty-line, delete-line, written-line}
 use Rattle.codec.proofs.read_line.Statement.{statement}
 use Rattle.codec.proofs.read_line.Tie as tie
 
-none : (s : List ℕ) → length s ≡ 0 → s ≡ []
-none [] e = refl
-none (b ∷ s) e = absurd (omega arith)
-
 returns : tie.Need-returns
-returns c = sym (ap readLine (none _ (omega arith)) ∙ empty-line)
+returns c = sym (ap readLine (nothing _ (omega arith)) ∙ empty-line)
 
 shared-slice-read-if2 : tie.Need-shared-slice-read-if2
 shared-slice-read-if2 c = search needs

@@ -1,21 +1,14 @@
 -- `codec::read_written` meets its contract: the first byte is the insert's head word or not.
-use mathlib.Core.Path.{_≡_, refl, sym, ap, _∙_}
-use mathlib.Core.List.{List, [], _∷_}
-use Prim.Native.Nat.{ℕ}
+use mathlib.Core.Path.{sym, ap, _∙_}
 use native.Mathlib.Omega.{arith}
-use lib.ListN.{length}
 use borrow.Author.Needs.{needs}
 use Rattle.codec.specs.Calls.{readWritten}
-use Rattle.codec.proofs.Letters.{empty-written, insert-line, toggle-line}
+use Rattle.codec.proofs.Letters.{nothing, empty-written, insert-line, toggle-line}
 use Rattle.codec.proofs.read_written.Statement.{statement}
 use Rattle.codec.proofs.read_written.Tie as tie
 
-none : (s : List ℕ) → length s ≡ 0 → s ≡ []
-none [] e = refl
-none (b ∷ s) e = absurd (omega arith)
-
 returns : tie.Need-returns
-returns c = sym (ap readWritten (none _ (omega arith)) ∙ empty-written)
+returns c = sym (ap readWritten (nothing _ (omega arith)) ∙ empty-written)
 
 shared-slice-read-if2 : tie.Need-shared-slice-read-if2
 shared-slice-read-if2 c = search needs
