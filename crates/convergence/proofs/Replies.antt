@@ -11,7 +11,7 @@ use lib.ListN.{getD}
 use Rattle.woot.specs.declared.Operation.{Operation}
 use Rattle.woot.specs.declared.Operation.the-variants.{Insert as insert, Toggle as toggle}
 use Rattle.woot.specs.declared.Refusal.{Refusal}
-use Rattle.woot.specs.declared.Refusal.the-variants.{Layout, Range, Form, Position, NotHidden, LastToggle, Clock, Taken, Conflict, Crossed, Unplaceable, SenderFull, DocumentFull, Output}
+use Rattle.woot.specs.declared.Refusal.the-variants.{Layout, Range, Form, Unrepresentable, Position, NotHidden, LastToggle, Clock, Taken, Conflict, Crossed, Unplaceable, SenderFull, DocumentFull, Output}
 use Rattle.woot.specs.declared.Answer.{Answer}
 use Rattle.woot.specs.declared.Answer.the-variants.{Done, Deferred, Duplicate, Refused}
 use Rattle.woot.specs.declared.Sent.{Sent}
@@ -30,13 +30,14 @@ use Rattle.convergence.proofs.Steps.{first-none, All, first-some, Turne
 -- the refusal of a number
 refusalOf : ℕ → Refusal
 refusalOf n =
-    getD (Layout ∷ Layout ∷ Range ∷ Form ∷ Position ∷ Clock ∷ Taken ∷ Conflict ∷ Crossed ∷ Unplaceable ∷ SenderFull ∷ DocumentFull ∷ Output ∷ NotHidden ∷ LastToggle ∷ []) n Layout
+    getD (Layout ∷ Layout ∷ Range ∷ Form ∷ Position ∷ Clock ∷ Taken ∷ Conflict ∷ Crossed ∷ Unplaceable ∷ SenderFull ∷ DocumentFull ∷ Output ∷ NotHidden ∷ LastToggle ∷ Unrepresentable ∷ []) n Layout
 
 refusal-of : (r : Refusal) → refusalOf (number r) ≡ r
 unfolding refusalOf
 refusal-of Layout = refl
 refusal-of Range = refl
 refusal-of Form = refl
+refusal-of Unrepresentable = refl
 refusal-of Position = refl
 refusal-of NotHidden = refl
 refusal-of LastToggle = refl
@@ -56,6 +57,7 @@ pub positive : (r : Refusal) → 0 ≡ number r → ⊥
 positive Layout e = omega arith
 positive Range e = omega arith
 positive Form e = omega arith
+positive Unrepresentable e = omega arith
 positive Position e = omega arith
 positive NotHidden e = omega arith
 positive LastToggle e = omega arith
@@ -69,10 +71,11 @@ positive DocumentFull e = omega arith
 positive Output e = omega arith
 
 -- the highest
-pub number-few : (q : Refusal) → number q ≤ 14
+pub number-few : (q : Refusal) → number q ≤ 15
 number-few Layout = omega arith
 number-few Range = omega arith
 number-few Form = omega arith
+number-few Unrepresentable = omega arith
 number-few Position = omega arith
 number-few NotHidden = omega arith
 number-few LastToggle = omega arith

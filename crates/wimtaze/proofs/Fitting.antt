@@ -52,7 +52,7 @@ use Rattle.wimtaze.proofs.Counts.{Other, Fine, Sends, receive-fine, ins
 -- ---- what is returned
 
 reply-few : (a : Answer) → Fine a
-    → (reply a .refusal ≤ 14) × (reply a .integrated ≤ 513) × (reply a .discarded ≤ 512) × (reply a .refusal ≡ 12 → ⊥)
+    → (reply a .refusal ≤ 15) × (reply a .integrated ≤ 513) × (reply a .discarded ≤ 512) × (reply a .refusal ≡ 12 → ⊥)
 unfolding reply
 reply-few (Done n m) f = (omega arith, f .0, f .1, λ e. omega arith)
 reply-few Deferred f = (omega arith, omega arith, omega arith, λ e. omega arith)

@@ -39,7 +39,7 @@ TypeNeverTaken =
 
 -- the bounds of a result, with at most m bytes written to the first output and k to the second
 pub record Fits (m k : ℕ) (x : Result) : Type 0 where
-  pub refusal-fits : x .reply .refusal ≤ 14
+  pub refusal-fits : x .reply .refusal ≤ 15
   pub integrated-fits : x .reply .integrated ≤ 513
   pub discarded-fits : x .reply .discarded ≤ 512
   pub written-fits : x .written ≤ m
@@ -83,7 +83,7 @@ ReturnedReadsBack = (m k : ℕ) (x : Result) → m < 65536 → k < 65536 → Fit
 
 -- the bounds of the counts: the visible characters are as many as all of them at most, and those as the capacity
 pub record CountsWithin (x : Result) : Type 0 where
-  pub refusal-fits : x .reply .refusal ≤ 14
+  pub refusal-fits : x .reply .refusal ≤ 15
   pub visible-fits : x .reply .integrated ≤ x .written
   pub pending-fits : x .reply .discarded ≤ 512
   pub full-fits : x .written + x .line ≤ 1024

@@ -7,7 +7,7 @@ use mathlib.Core.List.{List, [], _∷_}
 use mathlib.Core.Option.{Option, none, some}
 use Rattle.woot.specs.declared.Operation.{Operation}
 use Rattle.woot.specs.declared.Refusal.{Refusal}
-use Rattle.woot.specs.declared.Refusal.the-variants.{Layout, Range, Form, Position, NotHidden, LastToggle, Clock, Taken, Conflict, Crossed, Unplaceable, SenderFull, DocumentFull, Output}
+use Rattle.woot.specs.declared.Refusal.the-variants.{Layout, Range, Form, Unrepresentable, Position, NotHidden, LastToggle, Clock, Taken, Conflict, Crossed, Unplaceable, SenderFull, DocumentFull, Output}
 use Rattle.woot.specs.declared.Answer.{Answer}
 use Rattle.woot.specs.declared.Answer.the-variants.{Done, Deferred, Duplicate, Refused}
 use Rattle.woot.specs.declared.Sent.{Sent}
@@ -18,6 +18,7 @@ abbrev pub number : Refusal → ℕ
 number Layout = 1
 number Range = 2
 number Form = 3
+number Unrepresentable = 15
 number Position = 4
 number NotHidden = 13
 number LastToggle = 14
@@ -31,22 +32,23 @@ number DocumentFull = 11
 number Output = 12
 
 -- the place of a refusal in the checking order: what compares two refusals compares these, since a later number may be
--- checked earlier; 13 and 14 "come after 4, in that order"
+-- checked earlier; 13 and 14 "come after 4, in that order", and 15 comes "after 3"
 abbrev pub rank : Refusal → ℕ
 rank Layout = 1
 rank Range = 2
 rank Form = 3
-rank Position = 4
-rank NotHidden = 5
-rank LastToggle = 6
-rank Clock = 7
-rank Taken = 8
-rank Conflict = 9
-rank Crossed = 10
-rank Unplaceable = 11
-rank SenderFull = 12
-rank DocumentFull = 13
-rank Output = 14
+rank Unrepresentable = 4
+rank Position = 5
+rank NotHidden = 6
+rank LastToggle = 7
+rank Clock = 8
+rank Taken = 9
+rank Conflict = 10
+rank Crossed = 11
+rank Unplaceable = 12
+rank SenderFull = 13
+rank DocumentFull = 14
+rank Output = 15
 
 -- the words of document 01's replies
 pub data Word : Type 0 where

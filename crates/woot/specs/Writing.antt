@@ -1,13 +1,18 @@
 -- Bytes written into a lent slice, all of them or none: the shape of every writer.
 use Prim.Native.Nat.{ℕ}
-use mathlib.Core.List.{List, [], _∷_, _++_}
+use mathlib.Core.List.{List, [], _∷_, _++_, map}
 use lib.Dec.{ltb}
 use lib.ListN.{length}
 use Rattle.output.specs.Output.{placed}
+use Rattle.woot.specs.declared.Refusal.{Refusal}
 use Rattle.woot.specs.declared.Refusal.the-variants.{Output}
 use Rattle.woot.specs.declared.Written.{Written}
 use Rattle.woot.specs.declared.Written.the-variants.{Length, Refused}
 use Rattle.woot.specs.Answers.{number, Check, _⇒_, first, decided}
+
+-- refusals as a writer answers them
+abbrev pub refusing : List (Check Refusal) → List (Check Written)
+refusing cs = map (λ c. c .holds ⇒ Refused (c .answer)) cs
 
 -- the conditions that a writer has of its own, and last 12: "the lent output is shorter than the result"
 unfoldable pub writingChecks : List (Check Written) → List ℕ → List ℕ → List (Check Written)

@@ -150,6 +150,8 @@ pub enum Refusal {
     Range,
     // 3: the replica is not well formed.
     Form,
+    // 15: toggles above 1, which the first form of a saved replica cannot say.
+    Unrepresentable,
     // 4: no such insertion point or visible character.
     Position,
     // 13: the character to be restored is not held, or is visible.
@@ -183,6 +185,7 @@ impl Refusal {
             Refusal::Layout => 1,
             Refusal::Range => 2,
             Refusal::Form => 3,
+            Refusal::Unrepresentable => 15,
             Refusal::Position => 4,
             Refusal::NotHidden => 13,
             Refusal::LastToggle => 14,
