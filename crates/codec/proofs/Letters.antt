@@ -1,5 +1,5 @@
 -- A line goes by its first byte: only a line that begins with a head word of one letter can have that layout.
-use mathlib.Core.Path.{_≡_, refl, sym, _∙_}
+use mathlib.Core.Path.{_≡_, refl, sym, ap, _∙_}
 use mathlib.Core.List.{List, [], _∷_}
 use mathlib.Core.Bool.{Bool, true, false, _&&_, _||_, cond}
 use Prim.Native.Nat.{ℕ}
@@ -11,10 +11,10 @@ use Rattle.woot.specs.declared.Operation.the-variants.{Insert as insert, Toggle
 use Rattle.woot.specs.declared.Refusal.the-variants.{Layout}
 use Rattle.lines.specs.Lines.{ended, firstLine}
 use Rattle.lines.specs.Fields.{fields, hasLayout, valuesOf}
-use Rattle.lines.proofs.Spelling.{other-letter}
+use Rattle.lines.proofs.Spelling.{spelled, other-letter}
 use Rattle.codec.specs.declared.Read.the-variants.{Refused as readRefused}
-use Rattle.codec.specs.Operations.{insertHead, toggleHead, deleteHead, insertOf, toggleOf, deleteOf, isInsert, isToggle, isDelete, operationOf}
-use Rattle.codec.specs.Calls.{asWritten, lineLaidOut, laidOut, readAs, saidBy, readWritten, readLine, readOperation}
+use Rattle.codec.specs.Operations.{deleteHead, insertOf, toggleOf, deleteOf, isInsert, isToggle, isDelete, operationOf}
+use Rattle.codec.specs.Calls.{asWritten, asWrittenFirst, lineLaidOut, laidOut, readAs, saidBy, readWritten, readWrittenFirst, readLine, readOperation}
 use Rattle.codec.proofs.Judging.{read-layout}
 
 -- a line of no bytes
@@ -25,6 +25,10 @@ nothing (b ∷ s) e = absurd (omega arith)
 pub empty-line : readLine [] ≡ readRefused Layout
 unfolding readLine lineLaidOut asWritten isInsert isToggle isDelete hasLayout
 empty-line = read-layout _
+
+pub empty-first : readWrittenFirst [] ≡ readRefused Layout
+unfolding readWrittenFirst asWrittenFirst isInsert isDelete hasLayout
+empty-first = read-layout _
 
 pub empty-written : readWritten [] ≡ readRefused Layout
 unfolding readWritten asWritten isInsert isToggle hasLayout
@@ -58,6 +62,24 @@ module _ (line : List ℕ) where
       go : (t : Bool) → readAs t (toggle (toggleOf (valuesOf (fields line)))) ≡ readAs t (toggle (cond t (toggleOf (valuesOf (fields line))) (deleteOf (valuesOf (fields line)))))
       go true = refl
       go false = read-layout _ ∙ sym (read-layout _)
+
+  -- as it was written first, an insert's head word is no delete's either
+  pub insert-first : getD line 0 0 ≡ 73 → readWritten line ≡ readWrittenFirst line
+  unfolding readWritten asWritten readWrittenFirst asWrittenFirst
+  insert-first e = rw (no-toggle (λ q. eqb-false 73 69 refl (sym e ∙ q)), no-delete (λ q. eqb-false 73 68 refl (sym e ∙ q)))
+
+  -- and a delete's is no toggle's
+  pub delete-alone : isDelete (fields line) ≡ true → isToggle (fields line) ≡ false
+  unfolding isDelete
+  delete-alone d = no-toggle (λ q. eqb-false 68 69 refl (sym (ap (λ (l : List ℕ). getD l 0 0) (spelled deleteHead 3 line d .0)) ∙ q))
+
+  pub delete-first : (getD line 0 0 ≡ 73 → ⊥) → readAs (isDelete (fields line)) (toggle (deleteOf (valuesOf (fields line)))) ≡ readWrittenFirst line
+  unfolding readWrittenFirst asWrittenFirst operationOf
+  delete-first h = rw (no-insert h) (go (isDelete (fields line)) refl)
+    where
+      go : (t : Bool) → isDelete (fields line) ≡ t → readAs t (toggle (deleteOf (valuesOf (fields line)))) ≡ readAs t (toggle (cond (isToggle (fields line)) (toggleOf (valuesOf (fields line))) (deleteOf (valuesOf (fields line)))))
+      go true d = rw (delete-alone d)
+      go false d = read-layout _ ∙ sym (read-layout _)
 
   pub delete-line : getD line 0 0 ≡ 68 → readAs (isDelete (fields line)) (toggle (deleteOf (valuesOf (fields line)))) ≡ readLine line
   unfolding readLine lineLaidOut asWritten operationOf

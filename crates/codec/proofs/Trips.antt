@@ -6,9 +6,8 @@ use mathlib.Core.Bool.{true, false, _||_}
 use Prim.Native.Nat.{ℕ, suc, _<_}
 use native.Mathlib.Omega.{arith}
 use lib.ListN.{length, drop, getD, drop-of-length-le}
-use lib.Seq.{append-snoc, drop-cons}
-use borrow.Author.Tests.{eqb-false, ne-eqb}
-use Rattle.woot.specs.declared.Identifier.{Identifier}
+use lib.Seq.{drop-cons}
+use borrow.Author.Tests.{eqb-false}
 use Rattle.woot.specs.declared.Insert.{Insert}
 use Rattle.woot.specs.declared.Toggle.{Toggle}
 use Rattle.woot.specs.declared.Operation.{Operation}
@@ -17,9 +16,9 @@ use Rattle.woot.specs.declared.Refusal.the-variants.{Layout, Range}
 use Rattle.woot.specs.Ranges.{inRange}
 use Rattle.lists.proofs.Tests.{either, clash, and-left, and-right, or-cases}
 use Rattle.codec.specs.declared.Read.the-variants.{Operation as readsAs, Refused as readRefused}
-use Rattle.lines.specs.Lines.{lineFeed, has, after, ended, firstLine, rest}
-use Rattle.lines.specs.Fields.{tab, fields, valuesOf, columns, lineOf}
-use Rattle.codec.specs.Operations.{insertHead, toggleHead, deleteHead, insertNumbers, toggleNumbers, identifierAt, insertOf, toggleOf, deleteOf, isInsert, isToggle, isDelete, operationOf, operationLine}
+use Rattle.lines.specs.Lines.{ended, firstLine, rest}
+use Rattle.lines.specs.Fields.{fields, valuesOf, columns, lineOf}
+use Rattle.codec.specs.Operations.{insertHead, toggleHead, deleteHead, insertNumbers, toggleNumbers, deleteNumbers, identifierAt, insertOf, toggleOf, deleteOf, isInsert, isToggle, isDelete, operationOf, operationLine}
 use Rattle.codec.specs.Calls.{asWritten, lineLaidOut, laidOut, saidBy, readAs, readLine, readOperation}
 use Rattle.codec.specs.Theorems.{LineSays, DeleteSays, WrittenReadsBack, ReadWritesBack}
 use Rattle.lines.proofs.Lines.{line-ended, line-first, line-rest, whole-line}
@@ -75,7 +74,7 @@ written-reads-back o e bytes = (line-says o bytes ∙ read-operation o e, rest-o
 pub from-place : (ns : List ℕ) (k : ℕ) {t : List ℕ} → k < length ns → drop (suc k) ns ≡ t → drop k ns ≡ getD ns k 0 ∷ t
 from-place ns k h e = drop-cons ns k 0 h ∙ ap (λ (l : List ℕ). getD ns k 0 ∷ l) e
 
--- seven numbers are those of the insert that they say, and four those of the toggle
+-- seven numbers are those of the insert that they say, four those of the toggle, and three those of the delete
 pub insert-numbers-back : (ns : List ℕ) → length ns ≡ 7 → insertNumbers (insertOf ns) ≡ ns
 unfolding insertNumbers insertOf identifierAt
 insert-numbers-back ns e =
@@ -94,6 +93,13 @@ toggle-numbers-back ns e =
     (from-place ns 0 (omega arith)
     (from-place ns 1 (omega arith)
     (from-place ns 2 (omega arith) (from-place ns 3 (omega arith) (drop-of-length-le ns {i = 4} (omega arith))))))
+
+pub delete-numbers-back : (ns : List ℕ) → length ns ≡ 3 → deleteNumbers (deleteOf ns) ≡ ns
+unfolding deleteNumbers deleteOf identifierAt
+delete-numbers-back ns e =
+    sym
+    (from-place ns 0 (omega arith)
+    (from-place ns 1 (omega arith) (from-place ns 2 (omega arith) (drop-of-length-le ns {i = 3} (omega arith)))))
 
 -- an operation that was read was laid out and is the one that the line says
 was-read : (s : List ℕ) (o : Operation) → readOperation s ≡ readsAs o → (laidOut s ≡ true) × (saidBy s ≡ o)

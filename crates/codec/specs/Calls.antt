@@ -23,7 +23,11 @@ use Rattle.codec.specs.Operations.{isInsert, isToggle, isDelete, operati
 unfoldable pub asWritten : List ℕ → Bool
 asWritten line = isInsert (fields line) || isToggle (fields line)
 
--- or those of a delete, which is read, and written no more
+-- the fields are those of an insert or of a delete, as these were written before Req 05 of document 02
+unfoldable pub asWrittenFirst : List ℕ → Bool
+asWrittenFirst line = isInsert (fields line) || isDelete (fields line)
+
+-- the fields are those of any of the three: a delete is read, and written no more
 unfoldable pub lineLaidOut : List ℕ → Bool
 lineLaidOut line = asWritten line || isDelete (fields line)
 
@@ -45,6 +49,10 @@ readLine line = readAs (lineLaidOut line) (operationOf (fields line))
 -- the same, of a line as it is written
 unfoldable pub readWritten : List ℕ → Read
 readWritten line = readAs (asWritten line) (operationOf (fields line))
+
+-- the same, of a line as it was written first
+unfoldable pub readWrittenFirst : List ℕ → Read
+readWrittenFirst line = readAs (asWrittenFirst line) (operationOf (fields line))
 
 -- the operation that the first line of the bytes says
 unfoldable pub saidBy : List ℕ → Operation

@@ -40,7 +40,11 @@ toggleNumbers t = t .sender ∷ t .target .site ∷ t .target .clock ∷ t .togg
 abbrev pub toggleLimits : List ℕ
 toggleLimits = lastSite ∷ lastSite ∷ lastClock ∷ lastToggles ∷ []
 
--- the limits of "sender laptop clock"
+-- "sender laptop clock": the numbers of a `D` line, which does not say the toggles
+unfoldable pub deleteNumbers : Toggle → List ℕ
+deleteNumbers t = t .sender ∷ t .target .site ∷ t .target .clock ∷ []
+
+-- the limits of those numbers
 abbrev pub deleteLimits : List ℕ
 deleteLimits = lastSite ∷ lastSite ∷ lastClock ∷ []
 

@@ -14,14 +14,14 @@ ghost use Rattle.lines.specs.Answers.{byVerdict};
 ghost use Rattle.codec.specs.Operations.{insertLimits, insertOf, isInsert};
 ghost use Rattle.codec.specs.Operations.{toggleLimits, toggleOf, isToggle};
 ghost use Rattle.codec.specs.Operations.{deleteLimits, deleteOf, isDelete};
-ghost use Rattle.codec.specs.Calls.{readAs, readWritten, readLine, readOperation};
+ghost use Rattle.codec.specs.Calls.{readAs, readWritten, readWrittenFirst, readLine, readOperation};
 
 // The head words of the lines.
 pub const INSERT: u8 = 73;
 
 pub const TOGGLE: u8 = 69;
 
-const DELETE: u8 = 68;
+pub const DELETE: u8 = 68;
 
 // What the reader answers. (Document 01: the reader's reply.)
 pub enum Read {
@@ -145,6 +145,19 @@ pub fn read_written(line: &[u8]) -> Read
         return read_insert(line);
     }
     read_toggle(line)
+}
+
+// The same, as operations were written first: a toggle's line lacks the layout.
+pub fn read_written_first(line: &[u8]) -> Read
+    ensures { λ r. ⌜ r ≡ readWrittenFirst (now (line .entry)) ⌝ }
+{
+    if line.len() == 0 {
+        return Read::Refused(Refusal::Layout);
+    }
+    if line[0] == INSERT {
+        return read_insert(line);
+    }
+    read_delete(line)
 }
 
 // Reads a line that is without its line feed.
