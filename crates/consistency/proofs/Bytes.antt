@@ -28,7 +28,7 @@ use Rattle.lines.specs.Lines.{closed}
 use Rattle.lines.specs.Fields.{hasLayout}
 use Rattle.codec.specs.Operations.{operationLine}
 use Rattle.codec.specs.Calls.{saidBy}
-use Rattle.saved.specs.Format.{isSite, headLine, savedLaidOut, savedBytes}
+use Rattle.saved.specs.Format.{isSite, headLine, laidOutAs, savedLaidOut, savedBytes}
 use Rattle.saved.specs.Calls.{loadedState}
 use Rattle.saved.specs.Calls.{loadChecks, unread, loaded}
 use Rattle.saved.proofs.Trips.{saved-loads, saved-reads-back}
@@ -168,8 +168,8 @@ module _ (s : State) (h : wellFormed s ≡ true) where
       read (restoringHere b n t out line) (results-fit .4 b n t out line) (omega arith) (omega arith) _ (restore-step n t out line)
 
 -- no bytes lack the layout, whatever else is handed
-no-bytes : savedLaidOut [] ≡ false
-unfolding savedLaidOut closed headLine isSite hasLayout
+pub no-bytes : savedLaidOut [] ≡ false
+unfolding laidOutAs closed headLine isSite hasLayout
 no-bytes = refl
 
 pub nothing-step : (c : BytesCall) → Steps (initial 0) (asBytes []) (bytesCall c)

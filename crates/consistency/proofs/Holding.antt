@@ -18,8 +18,9 @@ use Rattle.convergence.proofs.Steps.{turned, adds, raises, defers, step, Step a
 use Rattle.convergence.proofs.Kept.{form-kept, counts-true}
 use Rattle.lines.specs.Fields.{valuesOf}
 use Rattle.replica.proofs.Runs.{Within, meaning-stored}
-use Rattle.saved.specs.Format.{siteOf, siteSaid, headLine, characterLines, operationLines, savedState, savedBytes}
-use Rattle.saved.proofs.Trips.{saved-says}
+use Rattle.saved.specs.Format.{siteOf, siteSaid, headLine, characterLines, operationLines, stateAs, savedBytes}
+use Rattle.saved.specs.declared.Version.the-variants.{Second}
+use Rattle.saved.proofs.Trips.{says-back, second-says}
 use Rattle.consistency.specs.Copies.{Copy, inMemory, asBytes, Call, stateOf, whenDone, stepOn}
 
 -- the copy holds the state: in memory, saved, or as no bytes, where `wimtaze_empty` refused to begin one
@@ -38,9 +39,9 @@ abbrev pub Steps : State → Copy → Call → Type 0
 Steps s p c = Step s (stepOn p c .copy) (stepOn p c .carried)
 
 pub says : {s : State} {p : Copy} → Holds s p → stateOf p ≡ s
-unfolding stateOf initial savedState siteSaid siteOf valuesOf headLine characterLines operationLines
+unfolding stateOf initial stateAs siteSaid siteOf valuesOf headLine characterLines operationLines
 says (memory s w) = meaning-stored s
-says (bytes s h) = saved-says s
+says (bytes s h) = says-back Second s h (second-says s)
 says nothing = refl
 
 -- ---- what an answer tells of the call

@@ -25,7 +25,6 @@ pub data Saving (s : State) (out : List ℕ) : Type 0 where
   refuses : {q : Refusal} → saved (stored s) out ≡ Refused q → Saving s out
 
 pub saving : (s : State) → Within s → (out : List ℕ) → Saving s out
-unfolding bytesOf
 saving s w out = go (wellFormed s) refl (side (length (bytesOf (stored s))) (length out))
   where
     go : (f : Bool) → wellFormed s ≡ f → (length (bytesOf (stored s)) ≤ length out) ⊎ (length out < length (bytesOf (stored s))) → Saving s out

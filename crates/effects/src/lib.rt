@@ -1,6 +1,7 @@
 // What the calls do once nothing that was handed is refused for its layout or range: the rule, and then the bytes of
 // what it leaves.
 use line_output::Room;
+use saved::Version;
 use woot::Answer;
 use woot::Generated;
 use woot::Operation;
@@ -31,7 +32,7 @@ fn after_writing(answer: Answer, written: Written) -> u64
 pub fn save(answer: Answer, replica: Replica, out: &mut [u8]) -> u64
     ensures { λ r. ⌜ Leaves (writing answer (bytesOf replica) (now (out .entry))) r (now (out .exit)) [] ⌝ }
 {
-    after_writing(answer, saving::put(replica, out))
+    after_writing(answer, saving::put(Version::Second, replica, out))
 }
 
 // Writes the visible text.
@@ -74,7 +75,7 @@ fn save_both(
     match space {
         Room::Short => results::refused(Refusal::Output),
         Room::Until(length) => {
-            let written = saving::put(replica, out);
+            let written = saving::put(Version::Second, replica, out);
             match written {
                 Written::Refused(refusal) => results::refused(refusal),
                 Written::Length(n) => {

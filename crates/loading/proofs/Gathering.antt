@@ -18,12 +18,14 @@ use Rattle.lists.proofs.Members.{every-append}
 use Rattle.lists.proofs.Padding.{pad-push, pad-take, pad-length}
 use Rattle.lines.specs.Lines.{ended, firstLine, rest, lines, closed, leading}
 use Rattle.lines.specs.Fields.{hasLayout}
-use Rattle.codec.specs.Operations.{isInsert, isToggle}
-use Rattle.codec.specs.Calls.{asWritten}
+use Rattle.codec.specs.Operations.{isInsert, isToggle, isDelete}
+use Rattle.codec.specs.Calls.{asWritten, asWrittenFirst}
 use Rattle.saved_lines.specs.declared.CharacterLine.{CharacterLine}
 use Rattle.saved_lines.specs.declared.OperationLine.{OperationLine}
 use Rattle.loading.specs.declared.reading.Characters.{Characters}
 use Rattle.loading.specs.declared.reading.Operations.{Operations}
+use Rattle.saved.specs.declared.Version.{Version}
+use Rattle.saved.specs.declared.Version.the-variants.{First, Second}
 use Rattle.saved.specs.Format.{isCharacter, isOperation}
 use Rattle.saved_lines.specs.Judging.{characterRead, operationRead}
 use Rattle.loading.specs.Reading.{lineCharacter, characterPasses, charactersRead, linePending, operationPasses, noOperations, operationsRead}
@@ -102,9 +104,10 @@ no-character : isCharacter [] ≡ false
 unfolding isCharacter hasLayout
 no-character = refl
 
-no-operation : isOperation [] ≡ false
-unfolding isOperation asWritten isInsert isToggle hasLayout
-no-operation = refl
+no-operation : (v : Version) → isOperation v [] ≡ false
+unfolding isOperation asWritten asWrittenFirst isInsert isToggle isDelete hasLayout
+no-operation First = refl
+no-operation Second = refl
 
 -- a line that has a layout stands there, and a line feed ends it
 module _ (p : List ℕ → Bool) (none : p [] ≡ false) (left : List ℕ) (h : p (getD (lines left) 0 []) ≡ true) where
@@ -126,23 +129,23 @@ module _ (p : List ℕ → Bool) (none : p [] ≡ false) (left : List ℕ) (h : 
 
 -- ---- the loop of `read_characters`
 
-pub record CharacterLoop (s : List ℕ) (items : List Character) (count : ℕ) (good : Bool) (left : List ℕ) : Type 0 where
+pub record CharacterLoop (v : Version) (s : List ℕ) (items : List Character) (count : ℕ) (good : Bool) (left : List ℕ) : Type 0 where
   pub done : List (List ℕ)
   pub whole : leading isCharacter (lines s) ≡ done ++ leading isCharacter (lines left)
-  pub gathered : Gathered characterSlots blankCharacter lineCharacter characterPasses done items count good
+  pub gathered : Gathered characterSlots blankCharacter (lineCharacter v) (characterPasses v) done items count good
   pub small : count + length left ≤ length s
 
-pub characters-begun : (s : List ℕ) → CharacterLoop s (pad characterSlots blankCharacter []) 0 true s
-characters-begun s = record { done = []; whole = refl; gathered = gathered-none; small = omega arith }
+pub characters-begun : (v : Version) (s : List ℕ) → CharacterLoop v s (pad characterSlots blankCharacter []) 0 true s
+characters-begun v s = record { done = []; whole = refl; gathered = gathered-none; small = omega arith }
 
-module _ {s : List ℕ} {items : List Character} {count : ℕ} {good : Bool} {left : List ℕ} (l : CharacterLoop s items count good left)
-    (w : CharacterLine) (r : w ≡ characterRead (getD (lines left) 0 [])) where
+module _ {v : Version} {s : List ℕ} {items : List Character} {count : ℕ} {good : Bool} {left : List ℕ} (l : CharacterLoop v s items count good left)
+    (w : CharacterLine) (r : w ≡ characterRead v (getD (lines left) 0 [])) where
   read-character : w .judged .«laid_out» ≡ isCharacter (getD (lines left) 0 [])
-  read-character = ap (λ x. x .judged .«laid_out») r ∙ character-laid (getD (lines left) 0 [])
+  read-character = ap (λ x. x .judged .«laid_out») r ∙ character-laid v (getD (lines left) 0 [])
 
   -- the next line is no character's
   pub characters-end : w .judged .«laid_out» ≡ false
-      → _≡_ {A = Characters} (record { items = items; count = count; «in_range» = good }) (charactersRead (leading isCharacter (lines s)))
+      → _≡_ {A = Characters} (record { items = items; count = count; «in_range» = good }) (charactersRead v (leading isCharacter (lines s)))
   unfolding charactersRead
   characters-end e =
       rw (l .whole ∙ ap (λ (ls : List (List ℕ)). l .done ++ ls) (ends (lines left) (sym read-character ∙ e)) ∙ append-nil (l .done))
@@ -162,7 +165,7 @@ module _ {s : List ℕ} {items : List Character} {count : ℕ} {good : Bool} {le
 
     pub characters-more : {items′ : List Character} {good′ : Bool} {left′ : List ℕ}
         → ((count < characterSlots) × (items′ ≡ set items count (w .character))) ⊎ ((characterSlots ≤ count) × (items′ ≡ items))
-        → good′ ≡ good && w .judged .«in_range» → left′ ≡ rest left → CharacterLoop s items′ (count + 1) good′ left′
+        → good′ ≡ good && w .judged .«in_range» → left′ ≡ rest left → CharacterLoop v s items′ (count + 1) good′ left′
     characters-more came q t = record {
       done = l .done ++ getD (lines left) 0 [] ∷ [];
       whole =
@@ -175,21 +178,21 @@ module _ {s : List ℕ} {items : List Character} {count : ℕ} {good : Bool} {le
 
 -- ---- the loop of `read_operations`
 
-pub record OperationLoop (s : List ℕ) (items : List Pending) (count : ℕ) (good : Bool) (left : List ℕ) : Type 0 where
+pub record OperationLoop (v : Version) (s : List ℕ) (items : List Pending) (count : ℕ) (good : Bool) (left : List ℕ) : Type 0 where
   pub done : List (List ℕ)
   pub whole : lines s ≡ done ++ lines left
-  pub laid : every isOperation done ≡ true
+  pub laid : every (isOperation v) done ≡ true
   pub ends : closed left ≡ closed s
-  pub gathered : Gathered pendingSlots blankPending linePending operationPasses done items count good
+  pub gathered : Gathered pendingSlots blankPending (linePending v) (operationPasses v) done items count good
   pub small : count + length left ≤ length s
 
-pub operations-begun : (s : List ℕ) → OperationLoop s (pad pendingSlots blankPending []) 0 true s
-operations-begun s = record { done = []; whole = refl; laid = refl; ends = refl; gathered = gathered-none; small = omega arith }
+pub operations-begun : (v : Version) (s : List ℕ) → OperationLoop v s (pad pendingSlots blankPending []) 0 true s
+operations-begun v s = record { done = []; whole = refl; laid = refl; ends = refl; gathered = gathered-none; small = omega arith }
 
-module _ {s : List ℕ} {items : List Pending} {count : ℕ} {good : Bool} {left : List ℕ} (l : OperationLoop s items count good left) where
+module _ {v : Version} {s : List ℕ} {items : List Pending} {count : ℕ} {good : Bool} {left : List ℕ} (l : OperationLoop v s items count good left) where
   -- no byte is left
   pub operations-end : length left ≤ 0
-      → _≡_ {A = Operations} (record { «laid_out» = true; «in_range» = good; items = items; count = count }) (operationsRead s)
+      → _≡_ {A = Operations} (record { «laid_out» = true; «in_range» = good; items = items; count = count }) (operationsRead v s)
   unfolding operationsRead closed
   operations-end h =
       rw (shut, all, l .laid)
@@ -205,46 +208,46 @@ module _ {s : List ℕ} {items : List Pending} {count : ℕ} {good : Bool} {left
       all : lines s ≡ l .done
       all = l .whole ∙ rw (none left h) (append-nil (l .done))
 
-  module _ (h : 0 < length left) (w : OperationLine) (r : w ≡ operationRead (getD (lines left) 0 [])) where
-    read-operation : w .judged .«laid_out» ≡ isOperation (getD (lines left) 0 [])
-    read-operation = ap (λ x. x .judged .«laid_out») r ∙ operation-laid (getD (lines left) 0 [])
+  module _ (h : 0 < length left) (w : OperationLine) (r : w ≡ operationRead v (getD (lines left) 0 [])) where
+    read-operation : w .judged .«laid_out» ≡ isOperation v (getD (lines left) 0 [])
+    read-operation = ap (λ x. x .judged .«laid_out») r ∙ operation-laid v (getD (lines left) 0 [])
 
     -- the next line lacks the layout, or no line feed ends it
-    pub operations-lack : w .judged .«laid_out» ≡ false → noOperations ≡ operationsRead s
+    pub operations-lack : w .judged .«laid_out» ≡ false → noOperations ≡ operationsRead v s
     unfolding operationsRead
     operations-lack e = rw lacks
       where
-        other : isOperation (getD (lines left) 0 []) ≡ false
+        other : isOperation v (getD (lines left) 0 []) ≡ false
         other = sym read-operation ∙ e
 
-        broken : (ls : List (List ℕ)) → isOperation (getD (firstLine left ∷ ls) 0 []) ≡ false → every isOperation (l .done ++ firstLine left ∷ ls) ≡ false
-        broken ls p = every-append isOperation (l .done) (firstLine left ∷ ls) ∙ rw (l .laid, p)
+        broken : (ls : List (List ℕ)) → isOperation v (getD (firstLine left ∷ ls) 0 []) ≡ false → every (isOperation v) (l .done ++ firstLine left ∷ ls) ≡ false
+        broken ls p = every-append (isOperation v) (l .done) (firstLine left ∷ ls) ∙ rw (l .laid, p)
 
-        go : (b : Bool) → ended left ≡ b → closed s && every isOperation (lines s) ≡ false
+        go : (b : Bool) → ended left ≡ b → closed s && every (isOperation v) (lines s) ≡ false
         go true p =
-            let q : every isOperation (lines s) ≡ false = rw (l .whole, lines-ended left p) (broken (lines (rest left)) (rw (lines-ended left p) at other)) in
+            let q : every (isOperation v) (lines s) ≡ false = rw (l .whole, lines-ended left p) (broken (lines (rest left)) (rw (lines-ended left p) at other)) in
             rw q (and-none (closed s))
         go false p = rw (sym (l .ends) ∙ closed-unended left h p)
 
-        lacks : closed s && every isOperation (lines s) ≡ false
+        lacks : closed s && every (isOperation v) (lines s) ≡ false
         lacks = go (ended left) refl
 
     -- it has the layout
     module _ (e : w .judged .«laid_out» ≡ true) where
-      is-operation : isOperation (getD (lines left) 0 []) ≡ true
+      is-operation : isOperation v (getD (lines left) 0 []) ≡ true
       is-operation = sym read-operation ∙ e
 
       pub operations-more : {items′ : List Pending} {good′ : Bool} {left′ : List ℕ}
           → ((count < pendingSlots) × (items′ ≡ set items count (slotOf (w .operation)))) ⊎ ((pendingSlots ≤ count) × (items′ ≡ items))
-          → good′ ≡ good && w .judged .«in_range» → left′ ≡ rest left → OperationLoop s items′ (count + 1) good′ left′
+          → good′ ≡ good && w .judged .«in_range» → left′ ≡ rest left → OperationLoop v s items′ (count + 1) good′ left′
       operations-more came q t = record {
         done = l .done ++ getD (lines left) 0 [] ∷ [];
         whole =
             l .whole
-            ∙ rw (there isOperation no-operation left is-operation, t)
+            ∙ rw (there (isOperation v) (no-operation v) left is-operation, t)
             (sym (append-snoc (l .done) (getD (lines left) 0 []) (lines (rest left))));
-        laid = every-more isOperation (l .done) (getD (lines left) 0 []) ∙ rw (l .laid, is-operation);
-        ends = ap closed t ∙ closed-rest left (is-ended isOperation no-operation left is-operation) ∙ l .ends;
+        laid = every-more (isOperation v) (l .done) (getD (lines left) 0 []) ∙ rw (l .laid, is-operation);
+        ends = ap closed t ∙ closed-rest left (is-ended (isOperation v) (no-operation v) left is-operation) ∙ l .ends;
         gathered = more (l .gathered) (getD (lines left) 0 []) (rw r at came) (rw r at q);
         small = omega (arith, l .small, rest-shorter left h, ap length t);
       }

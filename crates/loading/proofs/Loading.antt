@@ -3,6 +3,7 @@
 use mathlib.Core.Path.{_≡_, refl, sym, ap, ap₂, _∙_}
 use mathlib.Core.List.{List, [], _∷_, map}
 use mathlib.Core.Bool.{Bool, true, false, _&&_}
+use mathlib.Core.Logic.{_⊎_, inl, inr, ⊎-elim}
 use Prim.Native.Nat.{ℕ, _≤_}
 use native.Mathlib.Omega.{arith}
 use lib.ListN.{length, take, drop, getD, length-map, length-append}
@@ -10,7 +11,7 @@ use Rattle.woot.specs.declared.Refusal.{Refusal}
 use Rattle.woot.specs.declared.Refusal.the-variants.{Layout, Range, Form}
 use Rattle.lists.specs.Lists.{every}
 use Rattle.woot.specs.Ranges.{siteInRange, characterInRange, inRange}
-use Rattle.woot.specs.State.{characterSlots, pendingSlots, slotOf, blankCharacter, blankPending}
+use Rattle.woot.specs.State.{meaning, characterSlots, pendingSlots, slotOf, blankCharacter, blankPending}
 use Rattle.lists.specs.Padding.{pad}
 use Rattle.woot.specs.Form.{allInRange, wellFormed, replicaWellFormed}
 use Rattle.woot.specs.Answers.{decided}
@@ -21,8 +22,10 @@ use Rattle.saved.specs.declared.Loaded.{Loaded}
 use Rattle.saved_lines.specs.declared.SiteLine.{SiteLine}
 use Rattle.loading.specs.declared.reading.Characters.{Characters}
 use Rattle.loading.specs.declared.reading.Operations.{Operations}
-use Rattle.saved.specs.Format.{isSite, siteSaid, isCharacter, characterSaid, isOperation, operationSaid, headLine, characterLines, operationLines, savedLaidOut, savedState, savedInRange}
-use Rattle.saved.specs.Calls.{loadedState, unread, inArrays, held, readingChecks, savedRead, loaded}
+use Rattle.saved.specs.declared.Version.{Version}
+use Rattle.saved.specs.declared.Version.the-variants.{Second}
+use Rattle.saved.specs.Format.{isSite, siteSaid, isCharacter, characterSaid, isOperation, operationSaid, headLine, characterLines, operationLines, laidOutAs, stateAs, characterWithin, inRangeAs, savedLaidOut, savedState, savedInRange}
+use Rattle.saved.specs.Calls.{loadedAs, unread, inArrays, held, readingChecks, savedRead, loaded}
 use Rattle.clock.specs.Raising.{raisedReplica}
 use Rattle.saved_lines.specs.Judging.{siteRead}
 use Rattle.loading.specs.Reading.{lineCharacter, characterPasses, charactersRead, linePending, operationPasses, noOperations, operationsRead, replicaOf}
@@ -37,15 +40,26 @@ use Rattle.saved.proofs.Refusals.{load-layout, load-range, load-form, load-done
 
 -- ---- lines that have the layout
 
-characters-pass : (ls : List (List ℕ)) → every isCharacter ls ≡ true → every characterPasses ls ≡ every characterInRange (map characterSaid ls)
-characters-pass [] e = refl
-characters-pass (l ∷ ls) e =
-    ap₂ (λ (a b : Bool). a && b) (character-passes l (and-left (isCharacter l) (every isCharacter ls) e)) (characters-pass ls (and-right (isCharacter l) (every isCharacter ls) e))
+-- conjunctions as the definitions have them, and as the code goes through them
+four : (a b c d : Bool) → (a && b) && (c && d) ≡ (a && c) && (b && d)
+four true true c d = refl
+four true false true d = refl
+four true false false d = refl
+four false b c d = refl
 
-operations-pass : (ls : List (List ℕ)) → every isOperation ls ≡ true → every operationPasses ls ≡ every inRange (map operationSaid ls)
-operations-pass [] e = refl
-operations-pass (l ∷ ls) e =
-    ap₂ (λ (a b : Bool). a && b) (operation-passes l (and-left (isOperation l) (every isOperation ls) e)) (operations-pass ls (and-right (isOperation l) (every isOperation ls) e))
+characters-pass : (v : Version) (ls : List (List ℕ)) → every isCharacter ls ≡ true
+    → every (characterPasses v) ls ≡ every (characterWithin v) (map (characterSaid v) ls) && every characterInRange (map (characterSaid v) ls)
+characters-pass v [] e = refl
+characters-pass v (l ∷ ls) e =
+    let c = characterSaid v l in
+    let cs = map (characterSaid v) ls in
+    ap₂ (λ (a b : Bool). a && b) (character-passes v l (and-left (isCharacter l) (every isCharacter ls) e)) (characters-pass v ls (and-right (isCharacter l) (every isCharacter ls) e))
+    ∙ four (characterWithin v c) (characterInRange c) (every (characterWithin v) cs) (every characterInRange cs)
+
+operations-pass : (v : Version) (ls : List (List ℕ)) → every (isOperation v) ls ≡ true → every (operationPasses v) ls ≡ every inRange (map operationSaid ls)
+operations-pass v [] e = refl
+operations-pass v (l ∷ ls) e =
+    ap₂ (λ (a b : Bool). a && b) (operation-passes v l (and-left (isOperation v l) (every (isOperation v) ls) e)) (operations-pass v ls (and-right (isOperation v l) (every (isOperation v) ls) e))
 
 -- what lines say that all pass
 all-say : {A B : Type 0} (f : List ℕ → A) (g : List ℕ → B) (h : B → A) (p : List ℕ → Bool) → ((l : List ℕ) → p l ≡ true → f l ≡ h (g l))
@@ -61,57 +75,61 @@ map-same {A} (x ∷ xs) = ap (λ (ys : List A). x ∷ ys) (map-same xs)
 leading-le : {A : Type 0} (p : A → Bool) (xs : List A) → length (leading p xs) ≤ length xs
 leading-le p xs = omega (arith, length-append (leading p xs) (trailing p xs), ap length (apart p xs))
 
-operations-laid : (s : List ℕ) → operationsRead s .«laid_out» ≡ closed s && every isOperation (lines s)
+operations-laid : (v : Version) (s : List ℕ) → operationsRead v s .«laid_out» ≡ closed s && every (isOperation v) (lines s)
 unfolding operationsRead noOperations
-operations-laid s = go (closed s && every isOperation (lines s)) refl
+operations-laid v s = go (closed s && every (isOperation v) (lines s)) refl
   where
-    go : (b : Bool) → closed s && every isOperation (lines s) ≡ b → operationsRead s .«laid_out» ≡ closed s && every isOperation (lines s)
+    go : (b : Bool) → closed s && every (isOperation v) (lines s) ≡ b → operationsRead v s .«laid_out» ≡ closed s && every (isOperation v) (lines s)
     go true e = rw e
     go false e = rw e
 
 -- ---- the whole
 
--- conjunctions as the definitions have them, and as the code goes through them
+around : (r a c o : Bool) → r && (a && c && o) ≡ a && (r && c) && o
+around true a c o = refl
+around false true c o = refl
+around false false c o = refl
+
 skipped : (a b : Bool) → a && true && b ≡ a && b
 skipped true b = refl
 skipped false b = refl
 
 -- what is read, by its conditions
-module _ (s : List ℕ) where
-  read-lacks : savedLaidOut s ≡ false → savedRead s ≡ unread (Refused Layout)
+module _ (v : Version) (s : List ℕ) where
+  read-lacks : laidOutAs v s ≡ false → savedRead v s ≡ unread (Refused Layout)
   unfolding savedRead readingChecks decided
   read-lacks e = rw e
 
-  module _ (l : savedLaidOut s ≡ true) where
-    read-out : savedInRange s ≡ false → savedRead s ≡ unread (Refused Range)
+  module _ (l : laidOutAs v s ≡ true) where
+    read-out : inRangeAs v s ≡ false → savedRead v s ≡ unread (Refused Range)
     unfolding savedRead readingChecks decided
     read-out e = rw (l, e)
 
-    read-done : savedInRange s ≡ true → _≡_ {A = Loaded} (savedRead s) (record { answer = Done; replica = held (savedState s) })
+    read-done : inRangeAs v s ≡ true → _≡_ {A = Loaded} (savedRead v s) (record { answer = Done; replica = held (stateAs v s) })
     unfolding savedRead readingChecks decided
     read-done e = rw (l, e)
 
-module _ (s : List ℕ) (first : SiteLine) (f : first ≡ siteRead (getD (lines s) 0 [])) where
-  is-site : first .judged .«laid_out» ≡ isSite (headLine s)
+module _ (v : Version) (s : List ℕ) (first : SiteLine) (f : first ≡ siteRead v (getD (lines s) 0 [])) where
+  is-site : first .judged .«laid_out» ≡ isSite v (headLine s)
   unfolding headLine
-  is-site = ap (λ x. x .judged .«laid_out») f ∙ site-laid (headLine s)
+  is-site = ap (λ x. x .judged .«laid_out») f ∙ site-laid v (headLine s)
 
   -- the first line is no site's
-  pub no-first : first .judged .«laid_out» ≡ false → unread (Refused Layout) ≡ savedRead s
-  unfolding savedLaidOut
-  no-first e = sym (read-lacks s (rw (sym is-site ∙ e) (none (closed s))))
+  pub no-first : first .judged .«laid_out» ≡ false → unread (Refused Layout) ≡ savedRead v s
+  unfolding laidOutAs
+  no-first e = sym (read-lacks v s (rw (sym is-site ∙ e) (none (closed s))))
     where
-      none : (b : Bool) → b && false && every isOperation (operationLines s) ≡ false
+      none : (b : Bool) → b && false && every (isOperation v) (operationLines s) ≡ false
       none true = refl
       none false = refl
 
-  module _ (l : first .judged .«laid_out» ≡ true) {body : List ℕ} (b : body ≡ rest s) (cs : Characters) (r : cs ≡ charactersRead (leading isCharacter (lines body))) where
+  module _ (l : first .judged .«laid_out» ≡ true) {body : List ℕ} (b : body ≡ rest s) (cs : Characters) (r : cs ≡ charactersRead v (leading isCharacter (lines body))) where
     -- the lines of characters are lines of what is left
     pub skip-fits : cs .count ≤ length (lines body)
     unfolding charactersRead
     skip-fits = omega (arith, ap (λ x. x .count) r, leading-le isCharacter (lines body))
 
-    module _ (later : List ℕ) (k : (lines later ≡ drop (cs .count) (lines body)) × (closed later ≡ closed body)) (ps : Operations) (o : ps ≡ operationsRead later) where
+    module _ (later : List ℕ) (k : (lines later ≡ drop (cs .count) (lines body)) × (closed later ≡ closed body)) (ps : Operations) (o : ps ≡ operationsRead v later) where
       front : lines body ≡ drop 1 (lines s)
       front = ap lines b ∙ lines-rest s
 
@@ -119,8 +137,8 @@ module _ (s : List ℕ) (first : SiteLine) (f : first ≡ siteRead (getD (lines 
       unfolding characterLines
       characters-are = ap (leading isCharacter) front
 
-      read-characters : cs ≡ charactersRead (characterLines s)
-      read-characters = r ∙ ap charactersRead characters-are
+      read-characters : cs ≡ charactersRead v (characterLines s)
+      read-characters = r ∙ ap (charactersRead v) characters-are
 
       operations-are : lines later ≡ operationLines s
       unfolding operationLines charactersRead
@@ -128,25 +146,25 @@ module _ (s : List ℕ) (first : SiteLine) (f : first ≡ siteRead (getD (lines 
 
       ends-so : closed later ≡ closed s
       unfolding headLine
-      ends-so = k .1 ∙ ap closed b ∙ closed-rest s (is-ended isSite no-site s (sym is-site ∙ l))
+      ends-so = k .1 ∙ ap closed b ∙ closed-rest s (is-ended (isSite v) (no-site v) s (sym is-site ∙ l))
 
-      laid-so : savedLaidOut s ≡ ps .«laid_out»
-      unfolding savedLaidOut
+      laid-so : laidOutAs v s ≡ ps .«laid_out»
+      unfolding laidOutAs
       laid-so =
-          rw (sym is-site ∙ l) (skipped (closed s) (every isOperation (operationLines s)))
-          ∙ sym (ap (λ x. x .«laid_out») o ∙ operations-laid later ∙ ap₂ (λ (x : Bool) (ls : List (List ℕ)). x && every isOperation ls) ends-so operations-are)
+          rw (sym is-site ∙ l) (skipped (closed s) (every (isOperation v) (operationLines s)))
+          ∙ sym (ap (λ x. x .«laid_out») o ∙ operations-laid v later ∙ ap₂ (λ (x : Bool) (ls : List (List ℕ)). x && every (isOperation v) ls) ends-so operations-are)
 
       -- a later line lacks the layout
-      pub no-later : ps .«laid_out» ≡ false → unread (Refused Layout) ≡ savedRead s
-      no-later e = sym (read-lacks s (laid-so ∙ e))
+      pub no-later : ps .«laid_out» ≡ false → unread (Refused Layout) ≡ savedRead v s
+      no-later e = sym (read-lacks v s (laid-so ∙ e))
 
       module _ (m : ps .«laid_out» ≡ true) where
-        laid : savedLaidOut s ≡ true
+        laid : laidOutAs v s ≡ true
         laid = laid-so ∙ m
 
-        operations-good : every isOperation (operationLines s) ≡ true
-        unfolding savedLaidOut
-        operations-good = and-right (closed s && isSite (headLine s)) (every isOperation (operationLines s)) laid
+        operations-good : every (isOperation v) (operationLines s) ≡ true
+        unfolding laidOutAs
+        operations-good = and-right (closed s && isSite v (headLine s)) (every (isOperation v) (operationLines s)) laid
 
         characters-good : every isCharacter (characterLines s) ≡ true
         unfolding characterLines
@@ -154,48 +172,50 @@ module _ (s : List ℕ) (first : SiteLine) (f : first ≡ siteRead (getD (lines 
 
         read-operations : _≡_ {A = Operations} ps (record {
           «laid_out» = true;
-          «in_range» = every operationPasses (operationLines s);
-          items = pad pendingSlots blankPending (take pendingSlots (map linePending (operationLines s)));
+          «in_range» = every (operationPasses v) (operationLines s);
+          items = pad pendingSlots blankPending (take pendingSlots (map (linePending v) (operationLines s)));
           count = length (operationLines s);
         })
         unfolding operationsRead
         read-operations =
-            o ∙ rw (sym (operations-laid later) ∙ sym (ap (λ x. x .«laid_out») o) ∙ m, operations-are)
+            o ∙ rw (sym (operations-laid v later) ∙ sym (ap (λ x. x .«laid_out») o) ∙ m, operations-are)
 
-        range-so : savedInRange s ≡ first .judged .«in_range» && cs .«in_range» && ps .«in_range»
-        unfolding savedInRange allInRange savedState charactersRead headLine
-        range-so = λ j. site j && characters j && operations j
+        range-so : inRangeAs v s ≡ first .judged .«in_range» && cs .«in_range» && ps .«in_range»
+        unfolding inRangeAs allInRange stateAs charactersRead headLine
+        range-so =
+            around (every (characterWithin v) (map (characterSaid v) (characterLines s))) (siteInRange (siteSaid (headLine s))) (every characterInRange (map (characterSaid v) (characterLines s))) (every inRange (map operationSaid (operationLines s)))
+            ∙ (λ j. site j && characters j && operations j)
           where
             site : siteInRange (siteSaid (headLine s)) ≡ first .judged .«in_range»
-            site = sym (ap (λ x. x .judged .«in_range») f ∙ site-passes (headLine s) (sym is-site ∙ l))
+            site = sym (ap (λ x. x .judged .«in_range») f ∙ site-passes v (headLine s) (sym is-site ∙ l))
 
-            characters : every characterInRange (map characterSaid (characterLines s)) ≡ cs .«in_range»
-            characters = sym (ap (λ x. x .«in_range») read-characters ∙ characters-pass (characterLines s) characters-good)
+            characters : every (characterWithin v) (map (characterSaid v) (characterLines s)) && every characterInRange (map (characterSaid v) (characterLines s)) ≡ cs .«in_range»
+            characters = sym (ap (λ x. x .«in_range») read-characters ∙ characters-pass v (characterLines s) characters-good)
 
             operations : every inRange (map operationSaid (operationLines s)) ≡ ps .«in_range»
-            operations = sym (ap (λ x. x .«in_range») read-operations ∙ operations-pass (operationLines s) operations-good)
+            operations = sym (ap (λ x. x .«in_range») read-operations ∙ operations-pass v (operationLines s) operations-good)
 
         -- something is out of range
-        pub out-of-range : first .judged .«in_range» && cs .«in_range» && ps .«in_range» ≡ false → unread (Refused Range) ≡ savedRead s
-        out-of-range e = sym (read-out s laid (range-so ∙ e))
+        pub out-of-range : first .judged .«in_range» && cs .«in_range» && ps .«in_range» ≡ false → unread (Refused Range) ≡ savedRead v s
+        out-of-range e = sym (read-out v s laid (range-so ∙ e))
 
         module _ (e₁ : first .judged .«in_range» ≡ true) (e₂ : cs .«in_range» ≡ true) (e₃ : ps .«in_range» ≡ true) where
-          ranges : savedInRange s ≡ true
+          ranges : inRangeAs v s ≡ true
           ranges = range-so ∙ and-intro (and-intro e₁ e₂) e₃
 
-          characters-said : map lineCharacter (characterLines s) ≡ map characterSaid (characterLines s)
+          characters-said : map (lineCharacter v) (characterLines s) ≡ map (characterSaid v) (characterLines s)
           unfolding charactersRead
           characters-said =
-              all-say lineCharacter characterSaid (λ x. x) characterPasses character-says (characterLines s) (sym (ap (λ x. x .«in_range») read-characters) ∙ e₂)
-              ∙ map-same (map characterSaid (characterLines s))
+              all-say (lineCharacter v) (characterSaid v) (λ x. x) (characterPasses v) (character-says v) (characterLines s) (sym (ap (λ x. x .«in_range») read-characters) ∙ e₂)
+              ∙ map-same (map (characterSaid v) (characterLines s))
 
-          operations-said : map linePending (operationLines s) ≡ map slotOf (map operationSaid (operationLines s))
+          operations-said : map (linePending v) (operationLines s) ≡ map slotOf (map operationSaid (operationLines s))
           operations-said =
-              all-say linePending operationSaid slotOf operationPasses (λ x e. ap slotOf (operation-says x e)) (operationLines s) (sym (ap (λ x. x .«in_range») read-operations) ∙ e₃)
+              all-say (linePending v) operationSaid slotOf (operationPasses v) (λ x e. ap slotOf (operation-says v x e)) (operationLines s) (sym (ap (λ x. x .«in_range») read-operations) ∙ e₃)
 
           -- so what is read is what the bytes say
-          pub all-read : _≡_ {A = Loaded} (record { answer = Done; replica = raisedReplica (replicaOf (first .site) cs ps) }) (savedRead s)
-          unfolding replicaOf held inArrays savedState charactersRead headLine
+          pub all-read : _≡_ {A = Loaded} (record { answer = Done; replica = raisedReplica (replicaOf (first .site) cs ps) }) (savedRead v s)
+          unfolding replicaOf held inArrays stateAs charactersRead headLine
           all-read =
               (λ j. record {
                 answer = Done;
@@ -204,19 +224,19 @@ module _ (s : List ℕ) (first : SiteLine) (f : first ≡ siteRead (getD (lines 
                   document = record { characters = characters j; length = count j; pending = pending j; waiting = fewer j; table = table j };
                 });
               })
-              ∙ sym (read-done s laid ranges)
+              ∙ sym (read-done v s laid ranges)
             where
               site : first .site ≡ siteSaid (headLine s)
-              site = ap (λ x. x .site) f ∙ site-says (headLine s) (sym (ap (λ x. x .judged .«in_range») f) ∙ e₁)
+              site = ap (λ x. x .site) f ∙ site-says v (headLine s) (sym (ap (λ x. x .judged .«in_range») f) ∙ e₁)
 
-              characters : cs .items ≡ pad characterSlots blankCharacter (take characterSlots (map characterSaid (characterLines s)))
+              characters : cs .items ≡ pad characterSlots blankCharacter (take characterSlots (map (characterSaid v) (characterLines s)))
               characters = ap (λ x. x .items) read-characters ∙ rw characters-said
 
-              count : cs .count ≡ length (map characterSaid (characterLines s))
-              count = ap (λ x. x .count) read-characters ∙ sym (length-map (characterLines s) characterSaid)
+              count : cs .count ≡ length (map (characterSaid v) (characterLines s))
+              count = ap (λ x. x .count) read-characters ∙ sym (length-map (characterLines s) (characterSaid v))
 
-              table : tableOf (keys (take (cs .count) (cs .items))) ≡ tableOf (keys (take characterSlots (map characterSaid (characterLines s))))
-              table = rw (characters, count) (ap (λ (xs : List Character). tableOf (keys xs)) (slots-used characterSlots blankCharacter (map characterSaid (characterLines s))))
+              table : tableOf (keys (take (cs .count) (cs .items))) ≡ tableOf (keys (take characterSlots (map (characterSaid v) (characterLines s))))
+              table = rw (characters, count) (ap (λ (xs : List Character). tableOf (keys xs)) (slots-used characterSlots blankCharacter (map (characterSaid v) (characterLines s))))
 
               pending : ps .items ≡ pad pendingSlots blankPending (take pendingSlots (map slotOf (map operationSaid (operationLines s))))
               pending = ap (λ x. x .items) read-operations ∙ rw operations-said
@@ -226,45 +246,65 @@ module _ (s : List ℕ) (first : SiteLine) (f : first ≡ siteRead (getD (lines 
 
 -- ---- the form
 
-module _ (s : List ℕ) (x : Loaded) (e : x ≡ savedRead s) where
-  answer-is : x .answer ≡ savedRead s .answer
+module _ (v : Version) (s : List ℕ) (x : Loaded) (e : x ≡ savedRead v s) where
+  answer-is : x .answer ≡ savedRead v s .answer
   answer-is = ap (λ y. y .answer) e
 
-  -- what was refused is refused for the same
-  pub load-refused : (q : Refusal) → x .answer ≡ Refused q → x ≡ loaded s
-  load-refused q h = go (savedLaidOut s) (savedInRange s) refl refl
+  -- what was refused lacks the layout, or else is out of range
+  pub refused-for : (q : Refusal) → x .answer ≡ Refused q
+      → ((laidOutAs v s ≡ false) × (q ≡ Layout)) ⊎ ((laidOutAs v s ≡ true) × (inRangeAs v s ≡ false) × (q ≡ Range))
+  unfolding unread
+  refused-for q h = go (laidOutAs v s) (inRangeAs v s) refl refl
     where
-      go : (a b : Bool) → savedLaidOut s ≡ a → savedInRange s ≡ b → x ≡ loaded s
-      go false b l i = e ∙ read-lacks s l ∙ sym (load-layout s l)
-      go true false l i = e ∙ read-out s l i ∙ sym (load-range s l i)
+      go : (a b : Bool) → laidOutAs v s ≡ a → inRangeAs v s ≡ b
+          → ((laidOutAs v s ≡ false) × (q ≡ Layout)) ⊎ ((laidOutAs v s ≡ true) × (inRangeAs v s ≡ false) × (q ≡ Range))
+      go false b l i = let z : Refused Layout ≡ Refused q = sym (answer-is ∙ ap (λ y. y .answer) (read-lacks v s l)) ∙ h in inl (l, cc)
+      go true false l i = let z : Refused Range ≡ Refused q = sym (answer-is ∙ ap (λ y. y .answer) (read-out v s l i)) ∙ h in inr (l, i, cc)
       go true true l i =
-          let z : Done ≡ Refused q = sym (answer-is ∙ ap (λ y. y .answer) (read-done s l i)) ∙ h in
+          let z : Done ≡ Refused q = sym (answer-is ∙ ap (λ y. y .answer) (read-done v s l i)) ∙ h in
           let w : _≡_ {A = ℕ} 0 1 = cc in
           absurd (omega arith)
 
-  -- else its form decides
+  -- what was not has both, and its form decides
   module _ (h : x .answer ≡ Done) where
-    both : (savedLaidOut s ≡ true) × (savedInRange s ≡ true)
+    pub both : (laidOutAs v s ≡ true) × (inRangeAs v s ≡ true)
     unfolding unread
-    both = go (savedLaidOut s) (savedInRange s) refl refl
+    both = go (laidOutAs v s) (inRangeAs v s) refl refl
       where
-        go : (a b : Bool) → savedLaidOut s ≡ a → savedInRange s ≡ b → (savedLaidOut s ≡ true) × (savedInRange s ≡ true)
+        go : (a b : Bool) → laidOutAs v s ≡ a → inRangeAs v s ≡ b → (laidOutAs v s ≡ true) × (inRangeAs v s ≡ true)
         go true true l i = (l, i)
-        go true false l i = let z : Refused Range ≡ Done = sym (answer-is ∙ ap (λ y. y .answer) (read-out s l i)) ∙ h in (cc, cc)
-        go false b l i = let z : Refused Layout ≡ Done = sym (answer-is ∙ ap (λ y. y .answer) (read-lacks s l)) ∙ h in (cc, cc)
+        go true false l i = let z : Refused Range ≡ Done = sym (answer-is ∙ ap (λ y. y .answer) (read-out v s l i)) ∙ h in (cc, cc)
+        go false b l i = let z : Refused Layout ≡ Done = sym (answer-is ∙ ap (λ y. y .answer) (read-lacks v s l)) ∙ h in (cc, cc)
 
-    is-held : x ≡ record { answer = Done; replica = held (savedState s) }
-    is-held = e ∙ read-done s (both .0) (both .1)
+    is-held : x ≡ record { answer = Done; replica = held (stateAs v s) }
+    is-held = e ∙ read-done v s (both .0) (both .1)
 
-    form-is : replicaWellFormed (x .replica) ≡ wellFormed (loadedState s)
-    unfolding loadedState
-    form-is = ap (λ y. replicaWellFormed (y .replica)) is-held ∙ held-form (savedState s) .0
+    pub form-is : replicaWellFormed (x .replica) ≡ wellFormed (loadedAs v s)
+    unfolding loadedAs
+    form-is = ap (λ y. replicaWellFormed (y .replica)) is-held ∙ held-form (stateAs v s) .0
+
+    pub means-so : replicaWellFormed (x .replica) ≡ true → meaning (x .replica) ≡ loadedAs v s
+    unfolding loadedAs
+    means-so p = ap (λ y. meaning (y .replica)) is-held ∙ held-form (stateAs v s) .1 (sym form-is ∙ p) .1
+
+-- loading reads the second form
+module _ (s : List ℕ) (x : Loaded) (e : x ≡ savedRead Second s) where
+  pub load-refused : (q : Refusal) → x .answer ≡ Refused q → x ≡ loaded s
+  load-refused q h =
+      ⊎-elim (λ w. e ∙ read-lacks Second s (w .0) ∙ sym (load-layout s (w .0)))
+      (λ w. e ∙ read-out Second s (w .0) (w .1) ∙ sym (load-range s (w .0) (w .1)))
+      (refused-for Second s x e q h)
+
+  module _ (h : x .answer ≡ Done) where
+    read-well : (savedLaidOut s ≡ true) × (savedInRange s ≡ true)
+    read-well = both Second s x e h
 
     pub load-unformed : replicaWellFormed (x .replica) ≡ false → unread (Refused Form) ≡ loaded s
-    load-unformed p = sym (load-form s (both .0) (both .1) (sym form-is ∙ p))
+    load-unformed p = sym (load-form s (read-well .0) (read-well .1) (sym (form-is Second s x e h) ∙ p))
 
     pub load-formed : replicaWellFormed (x .replica) ≡ true → x ≡ loaded s
-    unfolding loadedState
+    unfolding loadedAs
     load-formed p =
-        is-held ∙ (λ j. record { answer = Done; replica = held-form (savedState s) .1 (sym form-is ∙ p) .0 j })
-        ∙ sym (load-done s (both .0) (both .1) (sym form-is ∙ p))
+        let f = sym (form-is Second s x e h) ∙ p in
+        is-held Second s x e h ∙ (λ j. record { answer = Done; replica = held-form (savedState s) .1 f .0 j })
+        ∙ sym (load-done s (read-well .0) (read-well .1) f)

@@ -15,41 +15,42 @@ use Rattle.lists.specs.Padding.{pad}
 use Rattle.loading.specs.declared.reading.Characters.{Characters}
 use Rattle.loading.specs.declared.reading.Operations.{Operations}
 use Rattle.lines.specs.Lines.{lines, closed}
+use Rattle.saved.specs.declared.Version.{Version}
 use Rattle.saved.specs.Format.{isOperation}
 use Rattle.saved_lines.specs.Judging.{characterRead, operationRead}
 
-abbrev pub lineCharacter : List ℕ → Character
-lineCharacter line = characterRead line .character
+abbrev pub lineCharacter : Version → List ℕ → Character
+lineCharacter v line = characterRead v line .character
 
-abbrev pub characterPasses : List ℕ → Bool
-characterPasses line = characterRead line .judged .«in_range»
+abbrev pub characterPasses : Version → List ℕ → Bool
+characterPasses v line = characterRead v line .judged .«in_range»
 
-unfoldable pub charactersRead : List (List ℕ) → Characters
-charactersRead ls =
+unfoldable pub charactersRead : Version → List (List ℕ) → Characters
+charactersRead v ls =
     record {
-      items = pad characterSlots blankCharacter (take characterSlots (map lineCharacter ls));
+      items = pad characterSlots blankCharacter (take characterSlots (map (lineCharacter v) ls));
       count = length ls;
-      «in_range» = every characterPasses ls;
+      «in_range» = every (characterPasses v) ls;
     }
 
-abbrev pub linePending : List ℕ → Pending
-linePending line = slotOf (operationRead line .operation)
+abbrev pub linePending : Version → List ℕ → Pending
+linePending v line = slotOf (operationRead v line .operation)
 
-abbrev pub operationPasses : List ℕ → Bool
-operationPasses line = operationRead line .judged .«in_range»
+abbrev pub operationPasses : Version → List ℕ → Bool
+operationPasses v line = operationRead v line .judged .«in_range»
 
 -- with a line that lacks the layout, or bytes after the last line feed, nothing
 unfoldable pub noOperations : Operations
 noOperations =
     record { «laid_out» = false; «in_range» = false; items = pad pendingSlots blankPending []; count = 0 }
 
-unfoldable pub operationsRead : List ℕ → Operations
-operationsRead s =
-    cond (closed s && every isOperation (lines s))
+unfoldable pub operationsRead : Version → List ℕ → Operations
+operationsRead v s =
+    cond (closed s && every (isOperation v) (lines s))
     (record {
       «laid_out» = true;
-      «in_range» = every operationPasses (lines s);
-      items = pad pendingSlots blankPending (take pendingSlots (map linePending (lines s)));
+      «in_range» = every (operationPasses v) (lines s);
+      items = pad pendingSlots blankPending (take pendingSlots (map (linePending v) (lines s)));
       count = length (lines s);
     })
     noOperations

@@ -5,6 +5,7 @@ use reading::Characters;
 use reading::Operations;
 use saved::LoadAnswer;
 use saved::Loaded;
+use saved::Version;
 use woot::Document;
 use woot::Refusal;
 use woot::Replica;
@@ -41,20 +42,20 @@ fn assemble(site: Site, characters: Characters, operations: Operations) -> Repli
     Replica { site, document }
 }
 
-// Reads a saved replica whose form is not checked: its counts may be above its arrays. A clock below that of a
-// character or a pending insert of its own is raised. A fault of the layout comes first, wherever it is, and then a
-// number out of range.
-pub fn read(bytes: &[u8]) -> Loaded
-    ensures { λ r. ⌜ r ≡ savedRead (now (bytes .entry)) ⌝ }
+// Reads a saved replica that is not checked to be well formed: its counts may be above its arrays. A clock below that
+// of a character or a pending insert of its own is raised. A fault of the layout comes first, wherever it is, and then a
+// number out of range. A step of the calls and not a call: `conversion` alone hands it the first form.
+pub fn read(version: Version, bytes: &[u8]) -> Loaded
+    ensures { λ r. ⌜ r ≡ savedRead version (now (bytes .entry)) ⌝ }
 {
-    let first = saved_lines::read_site(reading::head(bytes));
+    let first = saved_lines::read_site(version, reading::head(bytes));
     if !first.judged.laid_out {
         return refuse(Refusal::Layout);
     }
     let body = lines::rest(bytes);
-    let characters = reading::read_characters(body);
+    let characters = reading::read_characters(version, body);
     let count = characters.count;
-    let operations = reading::read_operations(reading::skip(body, count));
+    let operations = reading::read_operations(version, reading::skip(body, count));
     if !operations.laid_out {
         return refuse(Refusal::Layout);
     }
@@ -79,7 +80,7 @@ pub fn read(bytes: &[u8]) -> Loaded
 pub fn load(bytes: &[u8]) -> Loaded
     ensures { λ r. ⌜ r ≡ loaded (now (bytes .entry)) ⌝ }
 {
-    let found = read(bytes);
+    let found = read(Version::Second, bytes);
     let answer = found.answer;
     if let LoadAnswer::Refused(_) = answer {
         return found;

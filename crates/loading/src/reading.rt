@@ -1,5 +1,6 @@
 // Reading the lines of a saved replica that follow each other. A line that is out of range, or has no slot left, does
 // not end the reading: a fault of the layout after it comes first.
+use saved::Version;
 use woot::Character;
 use woot::Pending;
 use woot::Replica;
@@ -45,8 +46,8 @@ pub(crate) fn head(bytes: &[u8]) -> &[u8]
 }
 
 // Reads the lines of characters at the front of the bytes.
-pub(crate) fn read_characters(bytes: &[u8]) -> Characters
-    ensures { λ r. ⌜ r ≡ charactersRead (leading isCharacter (lines (now (bytes .entry)))) ⌝ }
+pub(crate) fn read_characters(version: Version, bytes: &[u8]) -> Characters
+    ensures { λ r. ⌜ r ≡ charactersRead version (leading isCharacter (lines (now (bytes .entry)))) ⌝ }
 {
     let blank = Replica::empty(0);
     let document = blank.document;
@@ -55,7 +56,7 @@ pub(crate) fn read_characters(bytes: &[u8]) -> Characters
     let mut in_range = true;
     let mut left = bytes;
     loop {
-        let line = saved_lines::read_character(head(left));
+        let line = saved_lines::read_character(version, head(left));
         if !line.judged.laid_out {
             return Characters {
                 items,
@@ -106,8 +107,8 @@ fn no_operations() -> Operations
 }
 
 // Reads all lines as pending operations.
-pub(crate) fn read_operations(bytes: &[u8]) -> Operations
-    ensures { λ r. ⌜ r ≡ operationsRead (now (bytes .entry)) ⌝ }
+pub(crate) fn read_operations(version: Version, bytes: &[u8]) -> Operations
+    ensures { λ r. ⌜ r ≡ operationsRead version (now (bytes .entry)) ⌝ }
 {
     let blank = Replica::empty(0);
     let document = blank.document;
@@ -116,7 +117,7 @@ pub(crate) fn read_operations(bytes: &[u8]) -> Operations
     let mut in_range = true;
     let mut left = bytes;
     while 0 < left.len() {
-        let line = saved_lines::read_operation(head(left));
+        let line = saved_lines::read_operation(version, head(left));
         if !line.judged.laid_out {
             return no_operations();
         }

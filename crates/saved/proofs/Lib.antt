@@ -1,7 +1,8 @@
+pub mod Cases
 pub mod Spelling
 pub mod Bounds
 pub mod Trips
 pub mod Refusals
 pub mod Sizes
 pub mod Held
-pub mod Examples
+pub mod Conversions

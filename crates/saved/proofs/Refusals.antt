@@ -11,7 +11,7 @@ use Rattle.woot.specs.declared.Replica.{Replica}
 use Rattle.woot.specs.declared.Refusal.{Refusal}
 use Rattle.woot.specs.declared.Refusal.the-variants.{Layout, Range, Form}
 use Rattle.woot.specs.declared.Written.the-variants.{Refused as writtenRefused}
-use Rattle.woot.specs.State.{meaning, stored}
+use Rattle.woot.specs.State.{State, meaning, stored}
 use Rattle.woot.specs.Form.{wellFormed, replicaWellFormed}
 use Rattle.woot.specs.Answers.{first, decided}
 use Rattle.woot.specs.Writing.{writtenAs, outputAfter}
@@ -20,12 +20,13 @@ use Rattle.convergence.proofs.Refusals.{decided-exactly}
 use Rattle.convergence.proofs.Writing.{own-first, own-none, writing-refuses}
 use Rattle.lines.specs.Lines.{concatenated}
 use Rattle.lines.proofs.Sizes.{line-some}
-use Rattle.codec.specs.Operations.{operationLine}
 use Rattle.codec.proofs.Refusals.{by-test}
 use Rattle.saved.specs.declared.LoadAnswer.{LoadAnswer}
 use Rattle.saved.specs.declared.LoadAnswer.the-variants.{Done, Refused}
 use Rattle.saved.specs.declared.Loaded.{Loaded}
-use Rattle.saved.specs.Format.{siteHead, siteNumbers, siteLine, characterLine, savedLaidOut, savedInRange, savedBytes}
+use Rattle.saved.specs.declared.Version.{Version}
+use Rattle.saved.specs.declared.Version.the-variants.{Second}
+use Rattle.saved.specs.Format.{siteHead, siteNumbers, siteLine, characterLine, savedLine, bytesAs, savedLaidOut, savedInRange}
 use Rattle.saved.specs.Calls.{loadedState, loadChecks, noReplica, unread, loaded, loadNumber, handedOver, loadValue, bytesOf, saveChecks, saved, savedOut}
 use Rattle.saved.specs.Theorems.{LoadRefuses, LoadNumbers, SaveRefuses, SaveNumbers}
 
@@ -134,13 +135,17 @@ pub save-refuses : SaveRefuses
 unfolding saved savedOut
 save-refuses r out q = let w = writing-refuses (saveChecks r) (bytesOf r) out q in (w .0, w .2)
 
+-- there is a byte at least
+pub bytes-some : (v : Version) (s : State) → 1 ≤ length (bytesAs v s)
+unfolding bytesAs siteLine
+bytes-some v s =
+    let first = siteLine v (s .site) in
+    let rows = concatenated (characterLine v) (s .characters) in
+    let waiting = concatenated (savedLine v) (s .pending) in
+    omega (arith, length-append (first ++ rows) waiting, length-append first rows, line-some (siteHead v) (siteNumbers (s .site)))
+
 saved-some : (r : Replica) → 1 ≤ length (bytesOf r)
-unfolding bytesOf savedBytes siteLine
-saved-some r =
-    let first = siteLine (meaning r .site) in
-    let rows = concatenated characterLine (meaning r .characters) in
-    let waiting = concatenated operationLine (meaning r .pending) in
-    omega (arith, length-append (first ++ rows) waiting, length-append first rows, line-some siteHead (siteNumbers (meaning r .site)))
+saved-some r = bytes-some Second (meaning r)
 
 pub save-numbers : SaveNumbers
 unfolding saved saveChecks

@@ -4,27 +4,34 @@ use mathlib.Core.Path.{_≡_, refl, sym, ap, ap₂, _∙_, subst}
 use mathlib.Core.List.{List, [], _∷_, _++_, map, append-nil, append-assoc}
 use mathlib.Core.Bool.{Bool, true, false, _&&_}
 use Prim.Native.Nat.{ℕ}
+use native.Mathlib.Omega.{arith}
 use lib.ListN.{drop}
 use Rattle.lists.specs.Lists.{every}
+use Rattle.woot.specs.declared.Operation.{Operation}
+use Rattle.woot.specs.declared.Operation.the-variants.{Insert as insert, Toggle as toggle}
+use Rattle.woot.specs.Ranges.{siteInRange, characterInRange, inRange}
 use Rattle.woot.specs.State.{State, meaning, stored}
 use Rattle.woot.specs.Form.{allInRange, sharesKept, capacityKept, identifiersDistinct, togglesDistinct, neighboursOrdered, noneExecutable, clockKept, wellFormed, raised}
 use Rattle.convergence.proofs.Hearing.{raising}
-use borrow.Author.Tests.{not-false}
-use Rattle.lists.proofs.Tests.{and-left, and-right, three, seven}
+use Rattle.convergence.proofs.Ranges.{toggle-in-range}
+use borrow.Author.Tests.{eq-eqb, leb-true, not-false}
+use Rattle.lists.proofs.Tests.{and-left, and-right, and-intro, three, seven}
 use Rattle.lines.specs.Lines.{lines, rest, closed, leading, trailing, concatenated}
 use Rattle.lines.specs.Fields.{hasLayout}
-use Rattle.codec.specs.Operations.{operationLine}
 use Rattle.replica.proofs.Runs.{meaning-stored}
 use Rattle.saved.specs.declared.LoadAnswer.the-variants.{Done}
-use Rattle.saved.specs.Format.{siteHead, siteNumbers, siteLine, isSite, characterLine, isCharacter, characterSaid, isOperation, operationSaid, headLine, characterLines, operationLines, savedLaidOut, savedState, savedInRange, savedBytes}
-use Rattle.saved.specs.Calls.{loadedState, needsRaising, loaded, loadNumber, bytesOf}
+use Rattle.saved.specs.declared.Version.{Version}
+use Rattle.saved.specs.declared.Version.the-variants.{First, Second}
+use Rattle.saved.specs.Format.{siteLine, isSite, characterLine, isCharacter, characterSaid, isOperation, operationSaid, savedLine, headLine, characterLines, operationLines, laidOutAs, stateAs, characterWithin, operationWithin, representable, inRangeAs, bytesAs, savedLaidOut, savedInRange, savedBytes}
+use Rattle.saved.specs.Calls.{loadedAs, raisingAs, loadedState, loaded, loadNumber}
 use Rattle.replica.specs.Tables.{Searches}
 use Rattle.replica.proofs.Tables.{stored-searches}
 use Rattle.storage.proofs.Stored.{form-meant}
 use Rattle.saved.specs.declared.Loaded.{Loaded}
+use Rattle.saved.specs.Conversion.{ReadsBackAs}
 use Rattle.saved.specs.Theorems.{SavedReadsBack, LoadedWritesBack, RaisedWritesBack, LoadedFormed, LoadedSearches, TableAloneDiffers}
-use Rattle.lines.proofs.Lines.{line-rest, whole, rejoined, apart, concatenated-append, head-first}
-use Rattle.saved.proofs.Spelling.{bareSite, bareCharacter, bareOperation, site-lines, site-closed, character-lines, character-closed, operation-lines, operation-closed, site-laid, site-back, character-laid, character-back, operation-laid, operation-back, operation-other, site-again, character-again, operation-again}
+use Rattle.lines.proofs.Lines.{whole, rejoined, apart, concatenated-append, head-first}
+use Rattle.saved.proofs.Spelling.{bareSite, bareCharacter, bareOperation, told, site-lines, site-closed, site-rest, character-lines, character-closed, operation-lines, operation-closed, site-laid, site-back, character-laid, character-back, operation-laid, operation-back, operation-other, site-again, character-again, operation-again}
 use Rattle.saved.proofs.Refusals.{load-done, load-numbers}
 
 -- ---- lists of lines
@@ -44,7 +51,16 @@ module _ {A : Type 0} (line bare : A → List ℕ) where
   closed-joined each (x ∷ xs) bytes =
       ap closed (append-assoc (line x) (concatenated line xs) bytes) ∙ each x (concatenated line xs ++ bytes) ∙ closed-joined each xs bytes
 
+every-always : {A : Type 0} (xs : List A) → every (λ x. true) xs ≡ true
+every-always [] = refl
+every-always (x ∷ xs) = every-always xs
+
 module _ {A B : Type 0} where
+  map-told : (f : A → B) (g : B → A) (p : B → Bool) → ((x : B) → p x ≡ true → f (g x) ≡ x) → (xs : List B) → every p xs ≡ true → map f (map g xs) ≡ xs
+  map-told f g p back [] e = refl
+  map-told f g p back (x ∷ xs) e =
+      ap₂ (λ (y : B) (ys : List B). y ∷ ys) (back x (and-left (p x) (every p xs) e)) (map-told f g p back xs (and-right (p x) (every p xs) e))
+
   map-back : (f : A → B) (g : B → A) → ((x : B) → f (g x) ≡ x) → (xs : List B) → map f (map g xs) ≡ xs
   map-back f g back [] = refl
   map-back f g back (x ∷ xs) = ap₂ (λ (y : B) (ys : List B). y ∷ ys) (back x) (map-back f g back xs)
@@ -88,76 +104,75 @@ closed-none : closed [] ≡ true
 unfolding closed
 closed-none = refl
 
-module _ (s : State) where
+module _ (v : Version) (s : State) where
   later : List ℕ
-  later = concatenated characterLine (s .characters) ++ concatenated operationLine (s .pending)
+  later = concatenated (characterLine v) (s .characters) ++ concatenated (savedLine v) (s .pending)
 
-  later-lines : lines later ≡ map bareCharacter (s .characters) ++ map bareOperation (s .pending)
+  later-lines : lines later ≡ map (bareCharacter v) (s .characters) ++ map (bareOperation v) (s .pending)
   unfolding later
   later-lines =
-      lines-joined characterLine bareCharacter (λ c bytes. character-lines bytes c) (s .characters) (concatenated operationLine (s .pending))
-      ∙ ap (λ (ls : List (List ℕ)). map bareCharacter (s .characters) ++ ls)
-      (ap lines (sym (append-nil (concatenated operationLine (s .pending))))
-      ∙ lines-joined operationLine bareOperation (λ o bytes. operation-lines bytes o) (s .pending) []
-      ∙ append-nil (map bareOperation (s .pending)))
+      lines-joined (characterLine v) (bareCharacter v) (λ c bytes. character-lines v bytes c) (s .characters) (concatenated (savedLine v) (s .pending))
+      ∙ ap (λ (ls : List (List ℕ)). map (bareCharacter v) (s .characters) ++ ls)
+      (ap lines (sym (append-nil (concatenated (savedLine v) (s .pending))))
+      ∙ lines-joined (savedLine v) (bareOperation v) (λ o bytes. operation-lines v bytes o) (s .pending) []
+      ∙ append-nil (map (bareOperation v) (s .pending)))
 
-  saved-lines : lines (savedBytes s) ≡ bareSite (s .site) ∷ map bareCharacter (s .characters) ++ map bareOperation (s .pending)
-  unfolding savedBytes later
-  saved-lines =
-      ap lines (append-assoc (siteLine (s .site)) (concatenated characterLine (s .characters)) (concatenated operationLine (s .pending)))
-      ∙ site-lines later (s .site)
-      ∙ ap (λ (ls : List (List ℕ)). bareSite (s .site) ∷ ls) later-lines
+  -- a state's bytes after its first line
+  site-first : bytesAs v s ≡ siteLine v (s .site) ++ later
+  unfolding bytesAs later
+  site-first = append-assoc (siteLine v (s .site)) (concatenated (characterLine v) (s .characters)) (concatenated (savedLine v) (s .pending))
 
-  saved-closed : closed (savedBytes s) ≡ true
-  unfolding savedBytes later
+  saved-lines : lines (bytesAs v s) ≡ bareSite v (s .site) ∷ map (bareCharacter v) (s .characters) ++ map (bareOperation v) (s .pending)
+  saved-lines = ap lines site-first ∙ site-lines v later (s .site) ∙ ap (λ (ls : List (List ℕ)). bareSite v (s .site) ∷ ls) later-lines
+
+  saved-closed : closed (bytesAs v s) ≡ true
+  unfolding later
   saved-closed =
-      ap closed (append-assoc (siteLine (s .site)) (concatenated characterLine (s .characters)) (concatenated operationLine (s .pending)))
-      ∙ site-closed later (s .site)
-      ∙ closed-joined characterLine bareCharacter (λ c bytes. character-closed bytes c) (s .characters) (concatenated operationLine (s .pending))
-      ∙ ap closed (sym (append-nil (concatenated operationLine (s .pending))))
-      ∙ closed-joined operationLine bareOperation (λ o bytes. operation-closed bytes o) (s .pending) []
+      ap closed site-first
+      ∙ site-closed v later (s .site)
+      ∙ closed-joined (characterLine v) (bareCharacter v) (λ c bytes. character-closed v bytes c) (s .characters) (concatenated (savedLine v) (s .pending))
+      ∙ ap closed (sym (append-nil (concatenated (savedLine v) (s .pending))))
+      ∙ closed-joined (savedLine v) (bareOperation v) (λ o bytes. operation-closed v bytes o) (s .pending) []
       ∙ closed-none
 
-  saved-head : headLine (savedBytes s) ≡ bareSite (s .site)
+  saved-head : headLine (bytesAs v s) ≡ bareSite v (s .site)
   unfolding headLine
   saved-head = rw saved-lines
 
-  passed : every isCharacter (map bareCharacter (s .characters)) ≡ true
-  passed = every-map isCharacter bareCharacter character-laid (s .characters)
+  passed : every isCharacter (map (bareCharacter v) (s .characters)) ≡ true
+  passed = every-map isCharacter (bareCharacter v) (character-laid v) (s .characters)
 
-  saved-characters : characterLines (savedBytes s) ≡ map bareCharacter (s .characters)
+  saved-characters : characterLines (bytesAs v s) ≡ map (bareCharacter v) (s .characters)
   unfolding characterLines
   saved-characters =
       rw saved-lines
-      (leading-append isCharacter (map bareCharacter (s .characters)) (map bareOperation (s .pending)) passed
-      ∙ rw (leading-none isCharacter bareOperation operation-other (s .pending)) (append-nil (map bareCharacter (s .characters))))
+      (leading-append isCharacter (map (bareCharacter v) (s .characters)) (map (bareOperation v) (s .pending)) passed
+      ∙ rw (leading-none isCharacter (bareOperation v) (operation-other v) (s .pending)) (append-nil (map (bareCharacter v) (s .characters))))
 
-  saved-operations : operationLines (savedBytes s) ≡ map bareOperation (s .pending)
+  saved-operations : operationLines (bytesAs v s) ≡ map (bareOperation v) (s .pending)
   unfolding operationLines
   saved-operations =
       rw saved-lines
-      (trailing-append isCharacter (map bareCharacter (s .characters)) (map bareOperation (s .pending)) passed
-      ∙ trailing-all isCharacter bareOperation operation-other (s .pending))
+      (trailing-append isCharacter (map (bareCharacter v) (s .characters)) (map (bareOperation v) (s .pending)) passed
+      ∙ trailing-all isCharacter (bareOperation v) (operation-other v) (s .pending))
 
-  pub saved-laid : savedLaidOut (savedBytes s) ≡ true
-  unfolding savedLaidOut
+  pub saved-laid : laidOutAs v (bytesAs v s) ≡ true
+  unfolding laidOutAs
   saved-laid =
-      rw (saved-closed, saved-head, site-laid (s .site), saved-operations)
-      (every-map isOperation bareOperation operation-laid (s .pending))
+      rw (saved-closed, saved-head, site-laid v (s .site), saved-operations)
+      (every-map (isOperation v) (bareOperation v) (operation-laid v) (s .pending))
 
-  pub saved-says : savedState (savedBytes s) ≡ s
-  unfolding savedState
-  saved-says =
-      rw (saved-head, saved-characters, saved-operations)
-      (λ j. record {
-        site = site-back (s .site) j;
-        characters = map-back characterSaid bareCharacter character-back (s .characters) j;
-        pending = map-back operationSaid bareOperation operation-back (s .pending) j;
-      })
-
-  pub saved-in-range : savedInRange (savedBytes s) ≡ allInRange s
-  unfolding savedInRange
-  saved-in-range = rw saved-says
+  -- where the form tells every pending operation wholly
+  module _ (wholly : every (told v) (s .pending) ≡ true) where
+    pub saved-says : stateAs v (bytesAs v s) ≡ s
+    unfolding stateAs
+    saved-says =
+        rw (saved-head, saved-characters, saved-operations)
+        (λ j. record {
+          site = site-back v (s .site) j;
+          characters = map-back (characterSaid v) (bareCharacter v) (character-back v) (s .characters) j;
+          pending = map-told operationSaid (bareOperation v) (told v) (operation-back v) (s .pending) wholly j;
+        })
 
 formed-ranges : (s : State) → wellFormed s ≡ true → allInRange s ≡ true
 unfolding wellFormed
@@ -169,19 +184,60 @@ formed-clock s h =
     let lists = allInRange s && sharesKept s && capacityKept s && identifiersDistinct s && togglesDistinct s && neighboursOrdered s && noneExecutable s in
     and-right lists (clockKept s) h
 
--- a state in form needs no raising
-pub saved-loads : (s : State) → wellFormed s ≡ true → loadedState (savedBytes s) ≡ s
-unfolding loadedState
-saved-loads s h = ap raised (saved-says s) ∙ raising s .still .1 (formed-clock s h)
+-- a pending operation in range that the form can say is told wholly by it
+told-one : (v : Version) (o : Operation) → inRange o ≡ true → operationWithin v o ≡ true → told v o ≡ true
+unfolding inRange operationWithin
+told-one First (insert i) h k = refl
+told-one First (toggle t) h k = eq-eqb (t .toggles) 1 (omega (arith, toggle-in-range t h .least, leb-true (t .toggles) 1 k))
+told-one Second o h k = refl
 
-unraised : (s : State) → wellFormed s ≡ true → needsRaising (savedBytes s) ≡ false
-unfolding needsRaising
-unraised s h = rw (saved-says s, formed-clock s h)
+all-told : (v : Version) (s : State) → wellFormed s ≡ true → every (operationWithin v) (s .pending) ≡ true → every (told v) (s .pending) ≡ true
+unfolding allInRange
+all-told v s h k =
+    let r = three (siteInRange (s .site)) (every characterInRange (s .characters)) (every inRange (s .pending)) (formed-ranges s h) in
+    go (s .pending) (r .2) k
+  where
+    go : (os : List Operation) → every inRange os ≡ true → every (operationWithin v) os ≡ true → every (told v) os ≡ true
+    go [] p q = refl
+    go (o ∷ os) p q =
+        and-intro (told-one v o (and-left (inRange o) (every inRange os) p) (and-left (operationWithin v o) (every (operationWithin v) os) q))
+        (go os (and-right (inRange o) (every inRange os) p) (and-right (operationWithin v o) (every (operationWithin v) os) q))
+
+-- a state in form that the form can say is read back, and needs no raising
+module _ (v : Version) (s : State) (h : wellFormed s ≡ true) (k : representable v s ≡ true) where
+  pub says-back : stateAs v (bytesAs v s) ≡ s
+  unfolding representable
+  says-back = saved-says v s (all-told v s h (and-right (every (characterWithin v) (s .characters)) (every (operationWithin v) (s .pending)) k))
+
+  pub in-range-back : inRangeAs v (bytesAs v s) ≡ true
+  unfolding inRangeAs representable
+  in-range-back =
+      rw (says-back, and-left (every (characterWithin v) (s .characters)) (every (operationWithin v) (s .pending)) k) (formed-ranges s h)
+
+  pub loads-back : loadedAs v (bytesAs v s) ≡ s
+  unfolding loadedAs
+  loads-back = ap raised says-back ∙ raising s .still .1 (formed-clock s h)
+
+  pub unraised : raisingAs v (bytesAs v s) ≡ false
+  unfolding raisingAs
+  unraised = rw (says-back, formed-clock s h)
+
+pub reads-back-as : ReadsBackAs
+reads-back-as v s h k = (saved-laid v s, in-range-back v s h k, loads-back v s h k)
+
+-- the second form says every state
+pub second-says : (s : State) → representable Second s ≡ true
+unfolding representable characterWithin operationWithin
+second-says s = and-intro (every-always (s .characters)) (every-always (s .pending))
+
+pub saved-loads : (s : State) → wellFormed s ≡ true → loadedState (savedBytes s) ≡ s
+saved-loads s h = loads-back Second s h (second-says s)
 
 pub saved-reads-back : SavedReadsBack
 saved-reads-back s h =
-    let d = load-done (savedBytes s) (saved-laid s) (saved-in-range s ∙ formed-ranges s h) (ap wellFormed (saved-loads s h) ∙ h) in
-    (ap (λ w. w .answer) d, ap (λ w. w .replica) d ∙ ap stored (saved-loads s h), unraised s h)
+    let k = second-says s in
+    let d = load-done (savedBytes s) (saved-laid Second s) (in-range-back Second s h k) (ap wellFormed (saved-loads s h) ∙ h) in
+    (ap (λ w. w .answer) d, ap (λ w. w .replica) d ∙ ap stored (saved-loads s h), unraised Second s h k)
 
 -- ---- what is read, written
 
@@ -192,35 +248,48 @@ joined-again line say p each [] e = refl
 joined-again line say p each (l ∷ ls) e =
     ap₂ (λ (a b : List ℕ). a ++ b) (each l (and-left (p l) (every p ls) e)) (joined-again line say p each ls (and-right (p l) (every p ls) e))
 
-pub no-site : isSite [] ≡ false
+pub no-site : (v : Version) → isSite v [] ≡ false
 unfolding isSite hasLayout
-no-site = refl
+no-site First = refl
+no-site Second = refl
 
-module _ (s : List ℕ) (l : savedLaidOut s ≡ true) where
-  parts : (closed s ≡ true) × (isSite (headLine s) ≡ true) × (every isOperation (operationLines s) ≡ true)
-  unfolding savedLaidOut
-  parts = three (closed s) (isSite (headLine s)) (every isOperation (operationLines s)) l
+module _ (v : Version) (s : List ℕ) (l : laidOutAs v s ≡ true) where
+  pub parts : (closed s ≡ true) × (isSite v (headLine s) ≡ true) × (every (isOperation v) (operationLines s) ≡ true)
+  unfolding laidOutAs
+  parts = three (closed s) (isSite v (headLine s)) (every (isOperation v) (operationLines s)) l
 
   all-lines : lines s ≡ headLine s ∷ characterLines s ++ operationLines s
   unfolding headLine characterLines operationLines
-  all-lines = head-first isSite no-site (lines s) (parts .1) ∙ ap (λ (ls : List (List ℕ)). headLine s ∷ ls) (apart isCharacter (drop 1 (lines s)))
+  all-lines = head-first (isSite v) (no-site v) (lines s) (parts .1) ∙ ap (λ (ls : List (List ℕ)). headLine s ∷ ls) (apart isCharacter (drop 1 (lines s)))
 
-  pub says-saved : savedBytes (savedState s) ≡ s
-  unfolding savedBytes savedState characterLines
+  pub says-saved : bytesAs v (stateAs v s) ≡ s
+  unfolding bytesAs stateAs characterLines
   says-saved =
-      let cs : concatenated characterLine (map characterSaid (characterLines s)) ≡ concatenated whole (characterLines s) =
-      joined-again characterLine characterSaid isCharacter character-again (characterLines s) characters-laid
+      let cs : concatenated (characterLine v) (map (characterSaid v) (characterLines s)) ≡ concatenated whole (characterLines s) =
+      joined-again (characterLine v) (characterSaid v) isCharacter (character-again v) (characterLines s) characters-laid
       in
-      let os : concatenated operationLine (map operationSaid (operationLines s)) ≡ concatenated whole (operationLines s) =
-      joined-again operationLine operationSaid isOperation operation-again (operationLines s) (parts .2)
+      let os : concatenated (savedLine v) (map operationSaid (operationLines s)) ≡ concatenated whole (operationLines s) =
+      joined-again (savedLine v) operationSaid (isOperation v) (operation-again v) (operationLines s) (parts .2)
       in
-      rw (site-again (headLine s) (parts .1), cs, os)
+      rw (site-again v (headLine s) (parts .1), cs, os)
       (append-assoc (whole (headLine s)) (concatenated whole (characterLines s)) (concatenated whole (operationLines s))
       ∙ ap (λ (b : List ℕ). whole (headLine s) ++ b) (sym (concatenated-append whole (characterLines s) (operationLines s)))
       ∙ sym (rejoined s (parts .0) ∙ ap (concatenated whole) all-lines))
     where
       characters-laid : every isCharacter (characterLines s) ≡ true
       characters-laid = every-leading isCharacter (drop 1 (lines s))
+
+  -- of what loading makes, the first line alone may differ
+  pub loaded-again : bytesAs v (loadedAs v s) ≡ siteLine v (loadedAs v s .site) ++ rest s
+  unfolding loadedAs raised later
+  loaded-again =
+      let t = stateAs v s in
+      site-first v (loadedAs v s)
+      ∙ ap (λ (b : List ℕ). siteLine v (loadedAs v s .site) ++ b) (sym (ap rest (sym says-saved ∙ site-first v t) ∙ site-rest v (later v t) (t .site)))
+
+  pub unraised-again : raisingAs v s ≡ false → bytesAs v (loadedAs v s) ≡ s
+  unfolding raisingAs loadedAs
+  unraised-again n = ap (bytesAs v) (raising (stateAs v s) .still .1 (not-false (clockKept (stateAs v s)) n)) ∙ says-saved
 
 -- what was read says the state and is in form
 module _ (s : List ℕ) (e : loaded s .answer ≡ Done) where
@@ -232,29 +301,11 @@ module _ (s : List ℕ) (e : loaded s .answer ≡ Done) where
   read-means =
       ap (λ w. meaning (w .replica)) (load-done s (was-read .0) (was-read .1) (was-read .2)) ∙ meaning-stored (loadedState s)
 
-  -- the bytes are those of what they say
-  read-again : savedBytes (savedState s) ≡ s
-  read-again = says-saved s (was-read .0)
-
 pub loaded-writes-back : LoadedWritesBack
-unfolding needsRaising loadedState
-loaded-writes-back s e n =
-    ap savedBytes (read-means s e ∙ raising (savedState s) .still .1 (not-false (clockKept (savedState s)) n)) ∙ read-again s e
-
--- a state's bytes after its first line
-site-first : (t : State) → savedBytes t ≡ siteLine (t .site) ++ (concatenated characterLine (t .characters) ++ concatenated operationLine (t .pending))
-unfolding savedBytes
-site-first t = append-assoc (siteLine (t .site)) (concatenated characterLine (t .characters)) (concatenated operationLine (t .pending))
+loaded-writes-back s e n = ap savedBytes (read-means s e) ∙ unraised-again Second s (was-read s e .0) n
 
 pub raised-writes-back : RaisedWritesBack
-unfolding loadedState raised siteLine
-raised-writes-back s e =
-    let t = savedState s in
-    let others = concatenated characterLine (t .characters) ++ concatenated operationLine (t .pending) in
-    let same : rest s ≡ others = ap rest (sym (read-again s e) ∙ site-first t) ∙ line-rest siteHead (siteNumbers (t .site)) others refl in
-    ap savedBytes (read-means s e)
-    ∙ site-first (loadedState s)
-    ∙ ap (λ (b : List ℕ). siteLine (loadedState s .site) ++ b) (sym same)
+raised-writes-back s e = ap savedBytes (read-means s e) ∙ loaded-again Second s (was-read s e .0)
 
 pub loaded-formed : LoadedFormed
 loaded-formed s e = ap wellFormed (read-means s e) ∙ was-read s e .2
@@ -268,7 +319,6 @@ loaded-searches s e =
     subst Searches (sym (ap (λ (x : Loaded). x .replica) d)) (stored-searches (loadedState s) (w .2))
 
 pub table-alone-differs : TableAloneDiffers
-unfolding bytesOf
 table-alone-differs r f =
     let back = saved-reads-back (meaning r) (form-meant r f) in
     (back .0, ap meaning (back .1) ∙ meaning-stored (meaning r))

@@ -19,17 +19,25 @@ use Rattle.clock.specs.Raising.{raisedReplica}
 use Rattle.saved.specs.declared.LoadAnswer.{LoadAnswer}
 use Rattle.saved.specs.declared.LoadAnswer.the-variants.{Done, Refused}
 use Rattle.saved.specs.declared.Loaded.{Loaded}
-use Rattle.saved.specs.Format.{savedLaidOut, savedState, savedInRange, savedBytes}
+use Rattle.saved.specs.declared.Version.{Version}
+use Rattle.saved.specs.declared.Version.the-variants.{Second}
+use Rattle.saved.specs.Format.{laidOutAs, stateAs, inRangeAs, savedLaidOut, savedInRange, savedBytes}
 
 -- ---- reading
 
 -- document 02, Req 04, "loading a saved sheet raises the clock": the state that loading makes of what the bytes say
-unfoldable pub loadedState : List ℕ → State
-loadedState s = raised (savedState s)
+unfoldable pub loadedAs : Version → List ℕ → State
+loadedAs v s = raised (stateAs v s)
+
+abbrev pub loadedState : List ℕ → State
+loadedState s = loadedAs Second s
 
 -- the clock is below that of some own row or waiting insert
-unfoldable pub needsRaising : List ℕ → Bool
-needsRaising s = not (clockKept (savedState s))
+unfoldable pub raisingAs : Version → List ℕ → Bool
+raisingAs v s = not (clockKept (stateAs v s))
+
+abbrev pub needsRaising : List ℕ → Bool
+needsRaising s = raisingAs Second s
 
 -- conditions 1, 2 and 3, each over all of the bytes
 unfoldable pub loadChecks : List ℕ → List (Check LoadAnswer)
@@ -70,12 +78,12 @@ unfoldable pub held : State → Replica
 held s = raisedReplica (inArrays s)
 
 -- conditions 1 and 2 alone
-unfoldable pub readingChecks : List ℕ → List (Check LoadAnswer)
-readingChecks s = (not (savedLaidOut s) ⇒ Refused Layout) ∷ (not (savedInRange s) ⇒ Refused Range) ∷ []
+unfoldable pub readingChecks : Version → List ℕ → List (Check LoadAnswer)
+readingChecks v s = (not (laidOutAs v s) ⇒ Refused Layout) ∷ (not (inRangeAs v s) ⇒ Refused Range) ∷ []
 
 -- what the bytes say, its clock raised and its form not checked
-unfoldable pub savedRead : List ℕ → Loaded
-savedRead s = decided unread (first (readingChecks s)) (record { answer = Done; replica = held (savedState s) })
+unfoldable pub savedRead : Version → List ℕ → Loaded
+savedRead v s = decided unread (first (readingChecks v s)) (record { answer = Done; replica = held (stateAs v s) })
 
 -- the refusal's number, or 0
 unfoldable pub loadNumber : LoadAnswer → ℕ
@@ -93,7 +101,7 @@ loadValue x = handedOver (x .answer) (x .replica)
 -- ---- writing
 
 -- the bytes of a replica
-unfoldable pub bytesOf : Replica → List ℕ
+abbrev pub bytesOf : Replica → List ℕ
 bytesOf r = savedBytes (meaning r)
 
 -- condition 3; 12 comes after it

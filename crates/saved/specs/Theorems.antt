@@ -18,6 +18,7 @@ use Rattle.woot.specs.Answers.{Reported}
 use Rattle.woot.specs.Writing.{writingChecks, writtenNumber, writtenLength}
 use Rattle.replica.specs.Tables.{Searches}
 use Rattle.saved.specs.declared.LoadAnswer.the-variants.{Done, Refused}
+use Rattle.saved.specs.declared.Version.the-variants.{Second}
 use Rattle.saved.specs.Format.{siteLine, savedLaidOut, savedInRange, savedBytes}
 use Rattle.saved.specs.Calls.{loadedState, needsRaising, loadChecks, noReplica, held, loaded, loadNumber, loadValue, bytesOf, saveChecks, saved, savedOut}
 
@@ -41,7 +42,7 @@ LoadedWritesBack =
 abbrev pub RaisedWritesBack : Type 0
 RaisedWritesBack =
     (bytes : List ℕ) → loaded bytes .answer ≡ Done →
-    savedBytes (meaning (loaded bytes .replica)) ≡ siteLine (loadedState bytes .site) ++ rest bytes
+    savedBytes (meaning (loaded bytes .replica)) ≡ siteLine Second (loadedState bytes .site) ++ rest bytes
 
 -- a replica that is read is in form
 abbrev pub LoadedFormed : Type 0

@@ -2,11 +2,56 @@
 // `saving` writes them.
 use woot::Refusal;
 use woot::Replica;
+ghost use mathlib.Core.Path.{_≡_};
+ghost use Rattle.saved.specs.Format.{lastToggleField, toggleField};
 
-// The head words of the lines of a site and of a character.
+// The head words of the lines of a site, in the first form and in the second, and of a character.
+pub const FIRST_SITE: [u8; 1] = [83];
+
 pub const SITE: [u8; 2] = [83, 50];
 
 pub const CHARACTER: u8 = 67;
+
+// The forms of a saved replica: document 01's, and that of document 02, Req 05.
+pub enum Version {
+    First,
+    Second,
+}
+
+impl Version {
+    // The limit of the number that says a character's toggles.
+    pub fn last_toggle_field(self) -> u64
+        ensures { λ r. ⌜ r ≡ lastToggleField self ⌝ }
+    {
+        match self {
+            Version::First => 1,
+            Version::Second => 255,
+        }
+    }
+
+    // The number that says so many toggles, and the toggles that such a number says.
+    pub fn toggle_field(self, number: u64) -> u64
+        ensures { λ r. ⌜ r ≡ toggleField self number ⌝ }
+    {
+        match self {
+            Version::First => exchanged(number),
+            Version::Second => number,
+        }
+    }
+}
+
+// 0 for 1 and 1 for 0; any other number as it is.
+fn exchanged(number: u64) -> u64
+    ensures { λ r. ⌜ r ≡ toggleField Version.First number ⌝ }
+{
+    if number == 0 {
+        return 1;
+    }
+    if number == 1 {
+        return 0;
+    }
+    number
+}
 
 // What reading answers.
 pub enum LoadAnswer {

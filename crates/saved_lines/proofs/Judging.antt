@@ -1,6 +1,6 @@
 -- What is read of a line is what the line says: one argument for every kind of line, over what is made of its numbers.
 use mathlib.Core.Path.{_≡_, refl, sym, ap, _∙_}
-use mathlib.Core.List.{List, [], _++_}
+use mathlib.Core.List.{List, [], _∷_, _++_}
 use mathlib.Core.Bool.{Bool, true, false, _&&_, cond}
 use Prim.Native.Nat.{ℕ, _-_}
 use lib.ListN.{length, replicate}
@@ -9,24 +9,26 @@ use Rattle.woot.specs.declared.Character.{Character}
 use Rattle.woot.specs.declared.Operation.{Operation}
 use Rattle.woot.specs.declared.Refusal.{Refusal}
 use Rattle.woot.specs.declared.Refusal.the-variants.{Layout, Range}
+use Rattle.woot.specs.Limits.{lastSite, lastClock, lastCodePoint}
 use Rattle.woot.specs.Ranges.{siteInRange, characterInRange, inRange}
 use Rattle.lists.specs.Padding.{pad}
-use Rattle.lists.proofs.Tests.{agree, clash, and-right, and-intro}
+use Rattle.lists.proofs.Tests.{agree, clash, and-left, and-right, and-intro}
 use Rattle.lines.specs.declared.Verdict.the-variants.{Malformed, Above, Within}
 use Rattle.lines.specs.declared.Numbers.{Numbers}
 use Rattle.lines.specs.Fields.{fields, valuesOf, atMost}
 use Rattle.lines.specs.Answers.{slots, holding, verdictOn, numbersOf}
 use Rattle.lines.proofs.Values.{at-padded}
 use Rattle.codec.specs.declared.Read.the-variants.{Operation as readsAs, Refused as readRefused}
-use Rattle.codec.specs.Calls.{readAs, readWritten}
+use Rattle.codec.specs.Calls.{readAs}
 use Rattle.codec.proofs.Judging.{identifier-padded, read-layout, read-range, read-operation}
 use Rattle.saved_lines.specs.declared.Judged.{Judged}
 use Rattle.saved_lines.specs.declared.SiteLine.{SiteLine}
 use Rattle.saved_lines.specs.declared.CharacterLine.{CharacterLine}
 use Rattle.saved_lines.specs.declared.OperationLine.{OperationLine}
-use Rattle.saved.specs.Format.{siteHead, siteLimits, siteOf, isSite, siteSaid, characterHead, characterLimits, characterOf, isCharacter, characterSaid, isOperation, operationSaid}
-use Rattle.saved_lines.specs.Judging.{judgement, judgedAs, siteRead, characterRead, noOperation, operationJudged, operationRead}
-use Rattle.saved.proofs.Bounds.{site-at-most, character-at-most}
+use Rattle.saved.specs.declared.Version.{Version}
+use Rattle.saved.specs.Format.{siteHead, siteLimits, siteOf, isSite, siteSaid, characterHead, toggleField, lastToggleField, characterLimits, characterOf, isCharacter, characterSaid, isOperation, operationSaid, characterWithin}
+use Rattle.saved_lines.specs.Judging.{judgement, judgedAs, siteRead, characterRead, noOperation, operationJudged, operationRead, pendingRead}
+use Rattle.saved.proofs.Bounds.{site-at-most, character-at-most, at-most-within}
 
 module _ {A : Type 0} (say : List ℕ → A) (passes : A → Bool) (laid : Bool) (limits ns : List ℕ) where
   abbrev told : Bool → Bool → Numbers
@@ -81,10 +83,10 @@ site-padded m ns = λ j. record { number = at-padded m ns 0 j; clock = at-padded
 abbrev ns : List ℕ → List ℕ
 ns line = valuesOf (fields line)
 
-module _ (line : List ℕ) where
+module _ (v : Version) (line : List ℕ) where
   -- as the code makes it of the numbers
-  pub site-made : {r : Numbers} → r ≡ numbersOf siteHead siteLimits (fields line) → {x : Site} → x ≡ siteOf (r .values) → {b : Bool} → b ≡ siteInRange x
-      → {j : Judged} → j ≡ judgedAs (r .verdict) b → _≡_ {A = SiteLine} (record { judged = j; site = x }) (siteRead line)
+  pub site-made : {r : Numbers} → r ≡ numbersOf (siteHead v) siteLimits (fields line) → {x : Site} → x ≡ siteOf (r .values) → {b : Bool} → b ≡ siteInRange x
+      → {j : Judged} → j ≡ judgedAs (r .verdict) b → _≡_ {A = SiteLine} (record { judged = j; site = x }) (siteRead v line)
   unfolding siteRead
   site-made {r} e {x} s p {j} q =
       (λ i. record { judged = now i; site = s i })
@@ -93,72 +95,89 @@ module _ (line : List ℕ) where
       now : j ≡ judgedAs (r .verdict) (siteInRange (siteOf (r .values)))
       now = q ∙ ap (judgedAs (r .verdict)) (p ∙ ap siteInRange s)
 
-  pub site-laid : siteRead line .judged .«laid_out» ≡ isSite line
+  pub site-laid : siteRead v line .judged .«laid_out» ≡ isSite v line
   unfolding siteRead numbersOf isSite
-  site-laid = laid-so siteOf siteInRange (isSite line) siteLimits (ns line)
+  site-laid = laid-so siteOf siteInRange (isSite v line) siteLimits (ns line)
 
-  pub site-passes : isSite line ≡ true → siteRead line .judged .«in_range» ≡ siteInRange (siteSaid line)
+  pub site-passes : isSite v line ≡ true → siteRead v line .judged .«in_range» ≡ siteInRange (siteSaid line)
   unfolding siteRead numbersOf isSite siteSaid
   site-passes l =
-      passes-so siteOf siteInRange (isSite line) siteLimits (ns line) site-padded l
+      passes-so siteOf siteInRange (isSite v line) siteLimits (ns line) site-padded l
       ∙ within-limits siteOf siteInRange siteLimits site-at-most (ns line)
 
-  pub site-says : siteRead line .judged .«in_range» ≡ true → siteRead line .site ≡ siteSaid line
+  pub site-says : siteRead v line .judged .«in_range» ≡ true → siteRead v line .site ≡ siteSaid line
   unfolding siteRead numbersOf isSite siteSaid
-  site-says e = says-so siteOf siteInRange (isSite line) siteLimits (ns line) site-padded e
+  site-says e = says-so siteOf siteInRange (isSite v line) siteLimits (ns line) site-padded e
 
 -- ---- a character's line
 
-character-padded : (m : ℕ) (ns : List ℕ) → characterOf (ns ++ replicate m 0) ≡ characterOf ns
+character-padded : (v : Version) (m : ℕ) (ns : List ℕ) → characterOf v (ns ++ replicate m 0) ≡ characterOf v ns
 unfolding characterOf
-character-padded m ns = λ j. record {
+character-padded v m ns = λ j. record {
   id = identifier-padded 0 m ns j;
   «code_point» = at-padded m ns 2 j;
-  toggles = at-padded m ns 3 j;
+  toggles = toggleField v (at-padded m ns 3 j);
   previous = identifier-padded 4 m ns j;
   next = identifier-padded 6 m ns j;
 }
 
-module _ (line : List ℕ) where
+-- the limits as the code has them
+pub as-limits : (v : Version) (line : List ℕ) {n : ℕ} → n ≡ lastToggleField v → {r : Numbers}
+    → r ≡ numbersOf characterHead (lastSite ∷ lastClock ∷ lastCodePoint ∷ n ∷ lastSite ∷ lastClock ∷ lastSite ∷ lastClock ∷ []) (fields line)
+    → r ≡ numbersOf characterHead (characterLimits v) (fields line)
+as-limits v line e {r} h =
+    h ∙ ap (λ (m : ℕ). numbersOf characterHead (lastSite ∷ lastClock ∷ lastCodePoint ∷ m ∷ lastSite ∷ lastClock ∷ lastSite ∷ lastClock ∷ []) (fields line)) e
+
+-- numbers within their limits are those that say what is in range, where the form can say it
+row-limits : (v : Version) (ms : List ℕ)
+    → (atMost (characterLimits v) ms && characterInRange (characterOf v ms)) ≡ (characterWithin v (characterOf v ms) && characterInRange (characterOf v ms))
+row-limits v ms =
+    let c = characterOf v ms in
+    let limits = atMost (characterLimits v) ms in
+    agree (limits && characterInRange c) (characterWithin v c && characterInRange c)
+    (λ p. and-intro (at-most-within v ms (and-left limits (characterInRange c) p)) (and-right limits (characterInRange c) p))
+    (λ p. and-intro (character-at-most v ms (and-left (characterWithin v c) (characterInRange c) p) (and-right (characterWithin v c) (characterInRange c) p)) (and-right (characterWithin v c) (characterInRange c) p))
+
+module _ (v : Version) (line : List ℕ) where
   -- as the code makes it of the numbers
-  pub character-made : {r : Numbers} → r ≡ numbersOf characterHead characterLimits (fields line) → {x : Character} → x ≡ characterOf (r .values) → {b : Bool} → b ≡ characterInRange x
-      → {j : Judged} → j ≡ judgedAs (r .verdict) b → _≡_ {A = CharacterLine} (record { judged = j; character = x }) (characterRead line)
+  pub character-made : {r : Numbers} → r ≡ numbersOf characterHead (characterLimits v) (fields line) → {x : Character} → x ≡ characterOf v (r .values) → {b : Bool} → b ≡ characterInRange x
+      → {j : Judged} → j ≡ judgedAs (r .verdict) b → _≡_ {A = CharacterLine} (record { judged = j; character = x }) (characterRead v line)
   unfolding characterRead
   character-made {r} e {x} s p {j} q =
       (λ i. record { judged = now i; character = s i })
-      ∙ ap (λ (n : Numbers). record { judged = judgedAs (n .verdict) (characterInRange (characterOf (n .values))); character = characterOf (n .values) }) e
+      ∙ ap (λ (n : Numbers). record { judged = judgedAs (n .verdict) (characterInRange (characterOf v (n .values))); character = characterOf v (n .values) }) e
     where
-      now : j ≡ judgedAs (r .verdict) (characterInRange (characterOf (r .values)))
+      now : j ≡ judgedAs (r .verdict) (characterInRange (characterOf v (r .values)))
       now = q ∙ ap (judgedAs (r .verdict)) (p ∙ ap characterInRange s)
 
-  pub character-laid : characterRead line .judged .«laid_out» ≡ isCharacter line
+  pub character-laid : characterRead v line .judged .«laid_out» ≡ isCharacter line
   unfolding characterRead numbersOf isCharacter
-  character-laid = laid-so characterOf characterInRange (isCharacter line) characterLimits (ns line)
+  character-laid = laid-so (characterOf v) characterInRange (isCharacter line) (characterLimits v) (ns line)
 
-  pub character-passes : isCharacter line ≡ true → characterRead line .judged .«in_range» ≡ characterInRange (characterSaid line)
+  pub character-passes : isCharacter line ≡ true → characterRead v line .judged .«in_range» ≡ characterWithin v (characterSaid v line) && characterInRange (characterSaid v line)
   unfolding characterRead numbersOf isCharacter characterSaid
   character-passes l =
-      passes-so characterOf characterInRange (isCharacter line) characterLimits (ns line) character-padded l
-      ∙ within-limits characterOf characterInRange characterLimits character-at-most (ns line)
+      passes-so (characterOf v) characterInRange (isCharacter line) (characterLimits v) (ns line) (character-padded v) l
+      ∙ row-limits v (ns line)
 
-  pub character-says : characterRead line .judged .«in_range» ≡ true → characterRead line .character ≡ characterSaid line
+  pub character-says : characterRead v line .judged .«in_range» ≡ true → characterRead v line .character ≡ characterSaid v line
   unfolding characterRead numbersOf isCharacter characterSaid
-  character-says e = says-so characterOf characterInRange (isCharacter line) characterLimits (ns line) character-padded e
+  character-says e = says-so (characterOf v) characterInRange (isCharacter line) (characterLimits v) (ns line) (character-padded v) e
 
 -- ---- an operation's line, by what `codec` answers
 
-module _ (line : List ℕ) where
-  by-checks : readWritten line ≡ readAs (isOperation line) (operationSaid line)
-  unfolding readWritten isOperation operationSaid
+module _ (v : Version) (line : List ℕ) where
+  by-checks : pendingRead v line ≡ readAs (isOperation v line) (operationSaid line)
+  unfolding pendingRead
   by-checks = refl
 
-  pub operation-done : (o : Operation) → readWritten line ≡ readsAs o
-      → _≡_ {A = OperationLine} (record { judged = judgement true true; operation = o }) (operationRead line)
+  pub operation-done : (o : Operation) → pendingRead v line ≡ readsAs o
+      → _≡_ {A = OperationLine} (record { judged = judgement true true; operation = o }) (operationRead v line)
   unfolding operationRead operationJudged
-  operation-done o e = go (isOperation line) (inRange (operationSaid line)) refl refl
+  operation-done o e = go (isOperation v line) (inRange (operationSaid line)) refl refl
     where
-      go : (a b : Bool) → isOperation line ≡ a → inRange (operationSaid line) ≡ b
-          → _≡_ {A = OperationLine} (record { judged = judgement true true; operation = o }) (operationRead line)
+      go : (a b : Bool) → isOperation v line ≡ a → inRange (operationSaid line) ≡ b
+          → _≡_ {A = OperationLine} (record { judged = judgement true true; operation = o }) (operationRead v line)
       go false b p q = let z : readRefused Layout ≡ readsAs o = sym (read-layout _) ∙ rw (by-checks, p) at e in cc
       go true false p q = let z : readRefused Range ≡ readsAs o = sym (read-range _ q) ∙ rw (by-checks, p) at e in cc
       go true true p q =
@@ -166,21 +185,21 @@ module _ (line : List ℕ) where
           let same : operationSaid line ≡ o = cc in
           rw (p, q) (λ j. record { judged = judgement true true; operation = sym same j })
 
-  module _ (r : Refusal) (e : readWritten line ≡ readRefused r) where
-    pub operation-range : r ≡ Range → noOperation true ≡ operationRead line
+  module _ (r : Refusal) (e : pendingRead v line ≡ readRefused r) where
+    pub operation-range : r ≡ Range → noOperation true ≡ operationRead v line
     unfolding operationRead operationJudged
-    operation-range h = go (isOperation line) (inRange (operationSaid line)) refl refl
+    operation-range h = go (isOperation v line) (inRange (operationSaid line)) refl refl
       where
-        go : (a b : Bool) → isOperation line ≡ a → inRange (operationSaid line) ≡ b → noOperation true ≡ operationRead line
+        go : (a b : Bool) → isOperation v line ≡ a → inRange (operationSaid line) ≡ b → noOperation true ≡ operationRead v line
         go false b p q = let z : readRefused Layout ≡ readRefused Range = sym (read-layout _) ∙ rw (by-checks, p, h) at e in cc
         go true false p q = rw (p, q)
         go true true p q = let z : readsAs (operationSaid line) ≡ readRefused r = sym (read-operation _ q) ∙ rw (by-checks, p) at e in cc
 
-    pub operation-layout : (r ≡ Range → ⊥) → noOperation false ≡ operationRead line
+    pub operation-layout : (r ≡ Range → ⊥) → noOperation false ≡ operationRead v line
     unfolding operationRead operationJudged
-    operation-layout h = go (isOperation line) (inRange (operationSaid line)) refl refl
+    operation-layout h = go (isOperation v line) (inRange (operationSaid line)) refl refl
       where
-        go : (a b : Bool) → isOperation line ≡ a → inRange (operationSaid line) ≡ b → noOperation false ≡ operationRead line
+        go : (a b : Bool) → isOperation v line ≡ a → inRange (operationSaid line) ≡ b → noOperation false ≡ operationRead v line
         go false b p q = rw p
         go true false p q =
             let z : readRefused Range ≡ readRefused r = sym (read-range _ q) ∙ rw (by-checks, p) at e in
@@ -189,28 +208,28 @@ module _ (line : List ℕ) where
         go true true p q = let z : readsAs (operationSaid line) ≡ readRefused r = sym (read-operation _ q) ∙ rw (by-checks, p) at e in cc
 
   -- what is read of it is what the line says
-  pub operation-laid : operationRead line .judged .«laid_out» ≡ isOperation line
+  pub operation-laid : operationRead v line .judged .«laid_out» ≡ isOperation v line
   unfolding operationRead operationJudged noOperation judgement
-  operation-laid = go (isOperation line) (inRange (operationSaid line)) refl refl
+  operation-laid = go (isOperation v line) (inRange (operationSaid line)) refl refl
     where
-      go : (a b : Bool) → isOperation line ≡ a → inRange (operationSaid line) ≡ b → operationRead line .judged .«laid_out» ≡ isOperation line
+      go : (a b : Bool) → isOperation v line ≡ a → inRange (operationSaid line) ≡ b → operationRead v line .judged .«laid_out» ≡ isOperation v line
       go false b p q = rw p
       go true false p q = rw (p, q)
       go true true p q = rw (p, q)
 
-  pub operation-passes : isOperation line ≡ true → operationRead line .judged .«in_range» ≡ inRange (operationSaid line)
+  pub operation-passes : isOperation v line ≡ true → operationRead v line .judged .«in_range» ≡ inRange (operationSaid line)
   unfolding operationRead operationJudged noOperation judgement
   operation-passes p = go (inRange (operationSaid line)) refl
     where
-      go : (b : Bool) → inRange (operationSaid line) ≡ b → operationRead line .judged .«in_range» ≡ inRange (operationSaid line)
+      go : (b : Bool) → inRange (operationSaid line) ≡ b → operationRead v line .judged .«in_range» ≡ inRange (operationSaid line)
       go true q = rw (p, q)
       go false q = rw (p, q)
 
-  pub operation-says : operationRead line .judged .«in_range» ≡ true → operationRead line .operation ≡ operationSaid line
+  pub operation-says : operationRead v line .judged .«in_range» ≡ true → operationRead v line .operation ≡ operationSaid line
   unfolding operationRead operationJudged noOperation judgement
-  operation-says e = go (isOperation line) (inRange (operationSaid line)) refl refl
+  operation-says e = go (isOperation v line) (inRange (operationSaid line)) refl refl
     where
-      go : (a b : Bool) → isOperation line ≡ a → inRange (operationSaid line) ≡ b → operationRead line .operation ≡ operationSaid line
+      go : (a b : Bool) → isOperation v line ≡ a → inRange (operationSaid line) ≡ b → operationRead v line .operation ≡ operationSaid line
       go false b p q = clash e (rw p)
       go true false p q = clash e (rw (p, q))
       go true true p q = rw (p, q)

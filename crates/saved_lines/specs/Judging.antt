@@ -14,6 +14,9 @@ use Rattle.lines.specs.declared.Verdict.{Verdict}
 use Rattle.lines.specs.declared.Numbers.{Numbers}
 use Rattle.lines.specs.Fields.{fields}
 use Rattle.lines.specs.Answers.{byVerdict, numbersOf}
+use Rattle.codec.specs.declared.Read.{Read}
+use Rattle.codec.specs.Calls.{readAs}
+use Rattle.saved.specs.declared.Version.{Version}
 use Rattle.saved.specs.Format.{siteHead, siteLimits, siteOf, characterHead, characterLimits, characterOf, isOperation, operationSaid}
 
 unfoldable pub judgement : Bool → Bool → Judged
@@ -22,15 +25,19 @@ judgement laid passes = record { «laid_out» = laid; «in_range» = passes }
 unfoldable pub judgedAs : Verdict → Bool → Judged
 judgedAs verdict passes = byVerdict verdict (judgement false false) (judgement true false) (judgement true passes)
 
-unfoldable pub siteRead : List ℕ → SiteLine
-siteRead line =
-    let r : Numbers = numbersOf siteHead siteLimits (fields line) in
+unfoldable pub siteRead : Version → List ℕ → SiteLine
+siteRead v line =
+    let r : Numbers = numbersOf (siteHead v) siteLimits (fields line) in
     record { judged = judgedAs (r .verdict) (siteInRange (siteOf (r .values))); site = siteOf (r .values) }
 
-unfoldable pub characterRead : List ℕ → CharacterLine
-characterRead line =
-    let r : Numbers = numbersOf characterHead characterLimits (fields line) in
-    record { judged = judgedAs (r .verdict) (characterInRange (characterOf (r .values))); character = characterOf (r .values) }
+-- numbers within their limits say toggles that the form can say
+unfoldable pub characterRead : Version → List ℕ → CharacterLine
+characterRead v line =
+    let r : Numbers = numbersOf characterHead (characterLimits v) (fields line) in
+    record {
+      judged = judgedAs (r .verdict) (characterInRange (characterOf v (r .values)));
+      character = characterOf v (r .values);
+    }
 
 -- filler where the layout or the range lacks
 unfoldable pub noOperation : Bool → OperationLine
@@ -40,5 +47,9 @@ unfoldable pub operationJudged : Operation → OperationLine
 operationJudged o =
     cond (inRange o) (record { judged = judgement true true; operation = o }) (noOperation true)
 
-unfoldable pub operationRead : List ℕ → OperationLine
-operationRead line = cond (isOperation line) (operationJudged (operationSaid line)) (noOperation false)
+unfoldable pub operationRead : Version → List ℕ → OperationLine
+operationRead v line = cond (isOperation v line) (operationJudged (operationSaid line)) (noOperation false)
+
+-- what `codec` answers for such a line
+unfoldable pub pendingRead : Version → List ℕ → Read
+pendingRead v line = readAs (isOperation v line) (operationSaid line)

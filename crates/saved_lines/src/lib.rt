@@ -1,9 +1,12 @@
 // Reading one line of a saved replica: whether it has the layout of its kind, whether it is in range, and what it says.
 // These are steps of `loading`, and not calls.
 use codec::Read;
+use lines::Numbers;
 use lines::Verdict;
 use saved::CHARACTER;
+use saved::FIRST_SITE;
 use saved::SITE;
+use saved::Version;
 use woot::Character;
 use woot::Identifier;
 use woot::Insert;
@@ -12,9 +15,11 @@ use woot::Refusal;
 use woot::Site;
 ghost use mathlib.Core.Path.{_≡_};
 ghost use mathlib.Core.Bool.{true};
-ghost use Rattle.lines.specs.Fields.{atMost};
-ghost use Rattle.saved.specs.Format.{siteLimits, siteOf, characterLimits, characterOf};
-ghost use Rattle.saved_lines.specs.Judging.{judgedAs, siteRead, characterRead, noOperation, operationRead};
+ghost use Rattle.lines.specs.Fields.{fields, atMost};
+ghost use Rattle.lines.specs.Answers.{numbersOf};
+ghost use Rattle.saved.specs.Format.{siteHead, siteLimits, siteOf, characterLimits, characterOf};
+ghost use Rattle.saved_lines.specs.Judging.{judgedAs, siteRead, characterRead, noOperation};
+ghost use Rattle.saved_lines.specs.Judging.{pendingRead, operationRead};
 
 // Whether a line has the layout of its kind, and whether what it says is in range too.
 pub struct Judged {
@@ -71,13 +76,28 @@ fn site_of(values: [u64; 9]) -> Site
     }
 }
 
-// Reads a line as a site's.
-pub fn read_site(line: &[u8]) -> SiteLine
-    ensures { λ r. ⌜ r ≡ siteRead (now (line .entry)) ⌝ }
+// Reads the numbers of a line that begins with the form's head word of a site.
+fn read_site_numbers(version: Version, line: &[u8]) -> Numbers
+    ensures { λ r. ⌜ r ≡ numbersOf (siteHead version) siteLimits (fields (now (line .entry))) ⌝ }
 {
-    let head = SITE;
     let limits = [16u64, 65535];
-    let numbers = lines::read(line, &head, &limits);
+    match version {
+        Version::First => {
+            let head = FIRST_SITE;
+            lines::read(line, &head, &limits)
+        }
+        Version::Second => {
+            let head = SITE;
+            lines::read(line, &head, &limits)
+        }
+    }
+}
+
+// Reads a line as a site's.
+pub fn read_site(version: Version, line: &[u8]) -> SiteLine
+    ensures { λ r. ⌜ r ≡ siteRead version (now (line .entry)) ⌝ }
+{
+    let numbers = read_site_numbers(version, line);
     let verdict = numbers.verdict;
     let values = numbers.values;
     let site = site_of(values);
@@ -86,29 +106,30 @@ pub fn read_site(line: &[u8]) -> SiteLine
 }
 
 // The character that numbers within their limits say.
-fn character_of(values: [u64; 9]) -> Character
-    requires { ⌜ atMost characterLimits values ≡ true ⌝ }
-    ensures { λ r. ⌜ r ≡ characterOf values ⌝ }
+fn character_of(version: Version, values: [u64; 9]) -> Character
+    requires { ⌜ atMost (characterLimits version) values ≡ true ⌝ }
+    ensures { λ r. ⌜ r ≡ characterOf version values ⌝ }
 {
     Character {
         id: codec::identifier(values[0], values[1]),
         code_point: values[2] as u32,
-        toggles: values[3] as u8,
+        toggles: version.toggle_field(values[3]) as u8,
         previous: codec::identifier(values[4], values[5]),
         next: codec::identifier(values[6], values[7]),
     }
 }
 
 // Reads a line as a character's.
-pub fn read_character(line: &[u8]) -> CharacterLine
-    ensures { λ r. ⌜ r ≡ characterRead (now (line .entry)) ⌝ }
+pub fn read_character(version: Version, line: &[u8]) -> CharacterLine
+    ensures { λ r. ⌜ r ≡ characterRead version (now (line .entry)) ⌝ }
 {
     let head = [CHARACTER];
-    let limits = [16u64, 65535, 1114111, 255, 16, 65535, 16, 65535];
+    let last = version.last_toggle_field();
+    let limits = [16u64, 65535, 1114111, last, 16, 65535, 16, 65535];
     let numbers = lines::read(line, &head, &limits);
     let verdict = numbers.verdict;
     let values = numbers.values;
-    let character = character_of(values);
+    let character = character_of(version, values);
     let judged = judge(verdict, ranges::character_in_range(character));
     CharacterLine { judged, character }
 }
@@ -133,11 +154,21 @@ fn no_operation(laid_out: bool) -> OperationLine
     }
 }
 
-// Reads a line as a pending operation's.
-pub fn read_operation(line: &[u8]) -> OperationLine
-    ensures { λ r. ⌜ r ≡ operationRead (now (line .entry)) ⌝ }
+// Reads a line as the form has those of operations.
+fn read_pending(version: Version, line: &[u8]) -> Read
+    ensures { λ r. ⌜ r ≡ pendingRead version (now (line .entry)) ⌝ }
 {
-    let read = codec::read_written(line);
+    match version {
+        Version::First => codec::read_written_first(line),
+        Version::Second => codec::read_written(line),
+    }
+}
+
+// Reads a line as a pending operation's.
+pub fn read_operation(version: Version, line: &[u8]) -> OperationLine
+    ensures { λ r. ⌜ r ≡ operationRead version (now (line .entry)) ⌝ }
+{
+    let read = read_pending(version, line);
     match read {
         Read::Operation(operation) => {
             let judged = Judged {

@@ -1,25 +1,30 @@
 // Writing saved replicas into a lent slice.
+mod one_line;
 mod writing;
 
 use line_output::Room;
+use saved::Version;
 use woot::Refusal;
 use woot::Replica;
 use woot::Written;
 ghost use mathlib.Core.Path.{_≡_};
 ghost use mathlib.Core.List.{[]};
 ghost use Rattle.woot.specs.Writing.{writtenAs, outputAfter};
-ghost use Rattle.saved.specs.Calls.{bytesOf, saved, savedOut};
+ghost use Rattle.woot.specs.State.{meaning};
+ghost use Rattle.saved.specs.Format.{bytesAs};
+ghost use Rattle.saved.specs.Calls.{saved, savedOut};
 
-// Writes a replica, in form or not, at the front of the slice; of counts above its arrays, what these hold. A refused
-// call leaves every byte as it was.
-pub fn put(replica: Replica, out: &mut [u8]) -> Written
-    ensures { λ r. ⌜ r ≡ writtenAs [] (bytesOf replica) (now (out .entry)) ⌝ }
-    ensures { λ r. ⌜ now (out .exit) ≡ outputAfter [] (bytesOf replica) (now (out .entry)) ⌝ }
+// Writes a replica, well formed or not, at the front of the slice; of counts above its arrays, what these hold. A
+// refused call leaves every byte as it was. A step of the calls and not a call: `conversion` alone hands it the first
+// form, and only what that form can say.
+pub fn put(version: Version, replica: Replica, out: &mut [u8]) -> Written
+    ensures { λ r. ⌜ r ≡ writtenAs [] (bytesAs version (meaning replica)) (now (out .entry)) ⌝ }
+    ensures { λ r. ⌜ now (out .exit) ≡ outputAfter [] (bytesAs version (meaning replica)) (now (out .entry)) ⌝ }
 {
-    let room = writing::measure(replica, out.len());
+    let room = writing::measure(version, replica, out.len());
     match room {
         Room::Until(length) => {
-            writing::put_all(replica, out);
+            writing::put_all(version, replica, out);
             Written::Length(length)
         }
         Room::Short => Written::Refused(Refusal::Output),
@@ -34,5 +39,5 @@ pub fn save(replica: Replica, out: &mut [u8]) -> Written
     if !replica::well_formed(replica) {
         return Written::Refused(Refusal::Form);
     }
-    put(replica, out)
+    put(Version::Second, replica, out)
 }

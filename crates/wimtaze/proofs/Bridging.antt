@@ -4,7 +4,7 @@ use Prim.Native.Nat.{ℕ}
 use mathlib.Core.Path.{_≡_, refl, sym, ap, _∙_}
 use mathlib.Core.Bool.{Bool, true, false, not, cond}
 use mathlib.Core.List.{List, [], _∷_}
-use mathlib.Core.Option.{Option, none, some}
+use mathlib.Core.Option.{Option, some}
 use Rattle.woot.specs.declared.Identifier.{Identifier}
 use Rattle.woot.specs.declared.Operation.{Operation}
 use Rattle.woot.specs.declared.Replica.{Replica}
@@ -17,7 +17,7 @@ use Rattle.woot.specs.declared.Sent.the-variants.{Done as sentDone, Refused as 
 use Rattle.woot.specs.declared.Receipt.{Receipt}
 use Rattle.woot.specs.declared.Generated.{Generated}
 use Rattle.woot.specs.Ranges.{codePoint, characterId, inRange}
-use Rattle.woot.specs.State.{State, meaning, stored}
+use Rattle.woot.specs.State.{State, stored}
 use Rattle.woot.specs.Form.{wellFormed, replicaWellFormed}
 use Rattle.woot.specs.Answers.{changes, _⇒_, first, decided}
 use Rattle.woot.specs.Calls.{Outcome, unchanged, receiveChecks, receiveWhen, receive, insertChecks, localInsertWhen, localInsert, deleteChecks, localDeleteWhen, localDelete, restoreChecks, localRestoreWhen, localRestore}
@@ -27,11 +27,11 @@ use Rattle.replica.specs.Texts.{textOf}
 use Rattle.replica.proofs.Runs.{meaning-stored}
 use Rattle.codec.specs.Operations.{operationLine}
 use Rattle.saved.specs.Format.{savedState, savedBytes}
-use Rattle.saved.specs.Calls.{loadedState, bytesOf, held}
+use Rattle.saved.specs.Calls.{loadedAs, loadedState, bytesOf, held}
 use Rattle.woot.specs.Form.{raised}
 use Rattle.saved.proofs.Held.{held-form}
 use Rattle.effects.specs.Effects.{Effect, quiet, turned, writing, writingBoth, afterReceiving, sending, afterSending}
-use Rattle.results.specs.Results.{Result, silent}
+use Rattle.results.specs.Results.{silent}
 use Rattle.wimtaze.specs.Calls.{inputChecks, counting}
 use Rattle.effects.specs.Steps.{receiptLeft, sentLeft, generatedLeft, textLeft}
 use Rattle.counts.specs.Counts.{countsOf}
@@ -47,7 +47,6 @@ goes-on out line e h = ap (λ (x : Option Refusal). decided (turned out line) x 
 
 -- the bytes of a state as it is stored
 pub stored-bytes : (s : State) → bytesOf (stored s) ≡ savedBytes s
-unfolding bytesOf
 stored-bytes s = ap savedBytes (meaning-stored s)
 
 -- ---- what a rule leaves, saved
@@ -182,7 +181,7 @@ module _ (bytes : List ℕ) where
 
   pub counts-passed : {r : Replica} → first (inputChecks bytes true true) ≡ first ((not (wellFormed (loadedState bytes)) ⇒ Form) ∷ [])
       → r ≡ held (savedState bytes) → counting bytes ≡ countsLeft r
-  unfolding counting loadedState
+  unfolding counting loadedAs
   counts-passed h e =
       ap (λ (o : Option Refusal). decided (λ q. silent (Refused q)) o (countsOf (loadedState bytes))) h
       ∙ counts-bridge (savedState bytes)

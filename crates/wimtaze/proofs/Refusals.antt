@@ -2,7 +2,7 @@
 use mathlib.Core.Path.{_≡_, refl, sym, ap, _∙_}
 use mathlib.Core.Bool.{Bool, true, false, _&&_, not}
 use mathlib.Core.List.{List, [], _∷_}
-use mathlib.Core.Option.{Option, none, some}
+use mathlib.Core.Option.{Option, some}
 use Prim.Native.Nat.{ℕ}
 use lib.ListN.{length}
 use borrow.Author.Tests.{eq-eqb, ne-eqb}
@@ -20,6 +20,7 @@ use Rattle.codec.specs.Calls.{readChecks, readAs, readOperation, saidBy}
 use Rattle.storage.specs.Replicas.{received}
 use Rattle.saved.specs.declared.LoadAnswer.the-variants.{Done, Refused}
 use Rattle.saved.specs.declared.Loaded.{Loaded}
+use Rattle.saved.specs.declared.Version.the-variants.{Second}
 use Rattle.saved.specs.Format.{savedLaidOut, savedInRange, savedState}
 use Rattle.saved.specs.Calls.{loadedState, unread, held, readingChecks, savedRead}
 use Rattle.wimtaze.specs.Calls.{inputChecks, oneLine}
@@ -99,7 +100,7 @@ line-read laid o p h = read laid (inRange o) o p h
 abbrev pub formLeft : List ℕ → Option Refusal
 formLeft s = first ((not (wellFormed (loadedState s)) ⇒ Form) ∷ [])
 
-module _ (s : List ℕ) (x : Loaded) (e : x ≡ savedRead s) where
+module _ (s : List ℕ) (x : Loaded) (e : x ≡ savedRead Second s) where
   -- a saved replica that is refused, and nothing else that could be
   pub refused-alone : (q : Refusal) → x .answer ≡ Refused q → first (inputChecks s true true) ≡ some q
   unfolding inputChecks savedRead readingChecks

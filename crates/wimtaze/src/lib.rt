@@ -4,6 +4,7 @@ mod inputs;
 
 use codec::Read;
 use saved::LoadAnswer;
+use saved::Version;
 use woot::Answer;
 use woot::Refusal;
 use woot::Replica;
@@ -37,7 +38,7 @@ pub extern "C" fn wimtaze_empty(number: u64, out: &mut [u8]) -> u64
 pub extern "C" fn wimtaze_text(bytes: &[u8], out: &mut [u8]) -> u64
     ensures { λ r. ⌜ Leaves (showingText (now (bytes .entry)) (now (out .entry))) r (now (out .exit)) [] ⌝ }
 {
-    let loaded = loading::read(bytes);
+    let loaded = loading::read(Version::Second, bytes);
     let answer = loaded.answer;
     match answer {
         LoadAnswer::Refused(q) => results::refused(q),
@@ -54,7 +55,7 @@ pub extern "C" fn wimtaze_text(bytes: &[u8], out: &mut [u8]) -> u64
 pub extern "C" fn wimtaze_counts(bytes: &[u8]) -> u64
     ensures { λ r. ⌜ r ≡ numberOf (counting (now (bytes .entry))) ⌝ }
 {
-    let loaded = loading::read(bytes);
+    let loaded = loading::read(Version::Second, bytes);
     let answer = loaded.answer;
     match answer {
         LoadAnswer::Refused(q) => results::refused(q),
@@ -71,7 +72,7 @@ pub extern "C" fn wimtaze_receive(bytes: &[u8], line: &[u8], out: &mut [u8]) -> 
     ensures { λ r. ⌜ Leaves (receivingLine (now (bytes .entry)) (now (line .entry)) (now (out .entry)))
         r (now (out .exit)) [] ⌝ }
 {
-    let loaded = loading::read(bytes);
+    let loaded = loading::read(Version::Second, bytes);
     let answer = loaded.answer;
     let said = inputs::read_one(line);
     match said {
@@ -97,7 +98,7 @@ pub extern "C" fn wimtaze_erase(
     ensures { λ r. ⌜ Leaves (deletingHere (now (bytes .entry)) index (now (out .entry)) (now («line_out» .entry)))
         r (now (out .exit)) (now («line_out» .exit)) ⌝ }
 {
-    let loaded = loading::read(bytes);
+    let loaded = loading::read(Version::Second, bytes);
     let answer = loaded.answer;
     match answer {
         LoadAnswer::Refused(q) => results::refused(q),
@@ -121,7 +122,7 @@ pub extern "C" fn wimtaze_type(
         (now (out .entry)) (now («line_out» .entry)))
         r (now (out .exit)) (now («line_out» .exit)) ⌝ }
 {
-    let loaded = loading::read(bytes);
+    let loaded = loading::read(Version::Second, bytes);
     let answer = loaded.answer;
     if !ranges::code_point(code_point) {
         return results::refused(inputs::first_of(answer, Refusal::Range));
@@ -152,7 +153,7 @@ pub extern "C" fn wimtaze_restore(
         (now (out .entry)) (now («line_out» .entry)))
         r (now (out .exit)) (now («line_out» .exit)) ⌝ }
 {
-    let loaded = loading::read(bytes);
+    let loaded = loading::read(Version::Second, bytes);
     let answer = loaded.answer;
     if !inputs::names_character(site, clock) {
         return results::refused(inputs::first_of(answer, Refusal::Range));

@@ -30,34 +30,34 @@ fails-third true true c e = e
 fails-third true false c e = refl
 fails-third false b c e = refl
 
-first-read : (c : tie.After-read-site) → c .read-site .result ≡ siteRead (getD (lines (c .before .before .before .args .bytes .now)) 0 [])
-first-read c = c .read-site .ensures ∙ ap siteRead (c .before .head .ensures)
+first-read : (c : tie.After-read-site) → c .read-site .result ≡ siteRead (c .before .before .before .args .version) (getD (lines (c .before .before .before .args .bytes .now)) 0 [])
+first-read c = c .read-site .ensures ∙ ap (siteRead (c .before .before .before .args .version)) (c .before .head .ensures)
 
 -- what is known once every line is read
 module _ (c : tie.After-read-operations) where
-  lacks : c .read-operations .result .«laid_out» ≡ false → unread (Refused Layout) ≡ savedRead (c .before .before .before .before .before .before .before .before .before .args .bytes .now)
+  lacks : c .read-operations .result .«laid_out» ≡ false → unread (Refused Layout) ≡ savedRead (c .before .before .before .before .before .before .before .before .before .args .version) (c .before .before .before .before .before .before .before .before .before .args .bytes .now)
   lacks e =
-      no-later _ _ (first-read (c .before .before .before .before .before .before)) (not-false _ (c .before .before .before .before .if1 .left)) (c .before .before .before .rest .ensures) _ (c .before .before .read-characters .ensures) _ (c .before .skip .ensures) _ (c .read-operations .ensures) e
+      no-later _ _ _ (first-read (c .before .before .before .before .before .before)) (not-false _ (c .before .before .before .before .if1 .left)) (c .before .before .before .rest .ensures) _ (c .before .before .read-characters .ensures) _ (c .before .skip .ensures) _ (c .read-operations .ensures) e
 
   module _ (l : c .read-operations .result .«laid_out» ≡ true) where
     out : c .before .before .before .before .before .before .read-site .result .judged .«in_range» && c .before .before .read-characters .result .«in_range» && c .read-operations .result .«in_range» ≡ false
-        → unread (Refused Range) ≡ savedRead (c .before .before .before .before .before .before .before .before .before .args .bytes .now)
+        → unread (Refused Range) ≡ savedRead (c .before .before .before .before .before .before .before .before .before .args .version) (c .before .before .before .before .before .before .before .before .before .args .bytes .now)
     out e =
-        out-of-range _ _ (first-read (c .before .before .before .before .before .before)) (not-false _ (c .before .before .before .before .if1 .left)) (c .before .before .before .rest .ensures) _ (c .before .before .read-characters .ensures) _ (c .before .skip .ensures) _ (c .read-operations .ensures) l e
+        out-of-range _ _ _ (first-read (c .before .before .before .before .before .before)) (not-false _ (c .before .before .before .before .if1 .left)) (c .before .before .before .rest .ensures) _ (c .before .before .read-characters .ensures) _ (c .before .skip .ensures) _ (c .read-operations .ensures) l e
 
-    out-site : c .before .before .before .before .before .before .read-site .result .judged .«in_range» ≡ false → unread (Refused Range) ≡ savedRead (c .before .before .before .before .before .before .before .before .before .args .bytes .now)
+    out-site : c .before .before .before .before .before .before .read-site .result .judged .«in_range» ≡ false → unread (Refused Range) ≡ savedRead (c .before .before .before .before .before .before .before .before .before .args .version) (c .before .before .before .before .before .before .before .before .before .args .bytes .now)
     out-site e = out (fails-first (c .before .before .before .before .before .before .read-site .result .judged .«in_range») (c .before .before .read-characters .result .«in_range») (c .read-operations .result .«in_range») e)
 
-    out-characters : c .before .before .read-characters .result .«in_range» ≡ false → unread (Refused Range) ≡ savedRead (c .before .before .before .before .before .before .before .before .before .args .bytes .now)
+    out-characters : c .before .before .read-characters .result .«in_range» ≡ false → unread (Refused Range) ≡ savedRead (c .before .before .before .before .before .before .before .before .before .args .version) (c .before .before .before .before .before .before .before .before .before .args .bytes .now)
     out-characters e = out (fails-second (c .before .before .before .before .before .before .read-site .result .judged .«in_range») (c .before .before .read-characters .result .«in_range») (c .read-operations .result .«in_range») e)
 
-    out-operations : c .read-operations .result .«in_range» ≡ false → unread (Refused Range) ≡ savedRead (c .before .before .before .before .before .before .before .before .before .args .bytes .now)
+    out-operations : c .read-operations .result .«in_range» ≡ false → unread (Refused Range) ≡ savedRead (c .before .before .before .before .before .before .before .before .before .args .version) (c .before .before .before .before .before .before .before .before .before .args .bytes .now)
     out-operations e = out (fails-third (c .before .before .before .before .before .before .read-site .result .judged .«in_range») (c .before .before .read-characters .result .«in_range») (c .read-operations .result .«in_range») e)
 
     inside : c .before .before .before .before .before .before .read-site .result .judged .«in_range» ≡ true → c .before .before .read-characters .result .«in_range» ≡ true → c .read-operations .result .«in_range» ≡ true
-        → _≡_ {A = Loaded} (record { answer = Done; replica = raisedReplica (replicaOf (c .before .before .before .before .before .before .read-site .result .site) (c .before .before .read-characters .result) (c .read-operations .result)) }) (savedRead (c .before .before .before .before .before .before .before .before .before .args .bytes .now))
+        → _≡_ {A = Loaded} (record { answer = Done; replica = raisedReplica (replicaOf (c .before .before .before .before .before .before .read-site .result .site) (c .before .before .read-characters .result) (c .read-operations .result)) }) (savedRead (c .before .before .before .before .before .before .before .before .before .args .version) (c .before .before .before .before .before .before .before .before .before .args .bytes .now))
     inside e₁ e₂ e₃ =
-        all-read _ _ (first-read (c .before .before .before .before .before .before)) (not-false _ (c .before .before .before .before .if1 .left)) (c .before .before .before .rest .ensures) _ (c .before .before .read-characters .ensures) _ (c .before .skip .ensures) _ (c .read-operations .ensures) l e₁ e₂ e₃
+        all-read _ _ _ (first-read (c .before .before .before .before .before .before)) (not-false _ (c .before .before .before .before .if1 .left)) (c .before .before .before .rest .ensures) _ (c .before .before .read-characters .ensures) _ (c .before .skip .ensures) _ (c .read-operations .ensures) l e₁ e₂ e₃
 
 head-requires : tie.Need-head-requires
 head-requires c κs = search needs
@@ -69,7 +69,7 @@ refuse-requires : tie.Need-refuse-requires
 refuse-requires c κs = search needs
 
 returns : tie.Need-returns
-returns c = c .refuse .ensures ∙ no-first _ _ (first-read (c .before .before .before)) (not-true _ (c .before .if1 .taken))
+returns c = c .refuse .ensures ∙ no-first _ _ _ (first-read (c .before .before .before)) (not-true _ (c .before .if1 .taken))
 
 rest-requires : tie.Need-rest-requires
 rest-requires c κs = search needs
@@ -78,7 +78,7 @@ read-characters-requires : tie.Need-read-characters-requires
 read-characters-requires c κs = search needs
 
 skip-requires : tie.Need-skip-requires
-skip-requires c κs = skip-fits _ _ (first-read (c .before .before .before .before)) (not-false _ (c .before .before .if1 .left)) (c .before .rest .ensures) _ (c .read-characters .ensures)
+skip-requires c κs = skip-fits _ _ _ (first-read (c .before .before .before .before)) (not-false _ (c .before .before .if1 .left)) (c .before .rest .ensures) _ (c .read-characters .ensures)
 
 read-operations-requires : tie.Need-read-operations-requires
 read-operations-requires c κs = search needs

@@ -4,6 +4,7 @@ use lib.ListN.{getD}
 use Rattle.codec.specs.Operations.{identifierAt}
 use Rattle.lines.proofs.Values.{at-most-at}
 use Rattle.saved.specs.Format.{characterLimits, characterOf}
+use Rattle.saved.proofs.Bounds.{toggle-field-kept, last-fits}
 use borrow.Author.Needs.{needs}
 use Rattle.saved_lines.proofs.character_of.Statement.{statement}
 use Rattle.saved_lines.proofs.character_of.Tie as tie
@@ -15,19 +16,25 @@ array-read-identifier-2 : tie.Need-array-read-identifier-2
 array-read-identifier-2 c = search needs
 
 identifier-requires : tie.Need-identifier-requires
-identifier-requires c κs = let b = at-most-at characterLimits (c .args .t1) (c .pre) in omega (arith, b 0 (omega arith), b 1 (omega arith))
+identifier-requires c κs = let b = at-most-at (characterLimits (c .args .version)) (c .args .t2) (c .pre) in omega (arith, b 0 (omega arith), b 1 (omega arith))
 
-array-read-t12 : tie.Need-array-read-t12
-array-read-t12 c = search needs
+array-read-t13 : tie.Need-array-read-t13
+array-read-t13 c = search needs
 
-cast-t13 : tie.Need-cast-t13
-cast-t13 c = let b = at-most-at characterLimits (c .before .args .t1) (c .before .pre) in omega (arith, b 2 (omega arith))
+cast-t14 : tie.Need-cast-t14
+cast-t14 c = let b = at-most-at (characterLimits (c .before .args .version)) (c .before .args .t2) (c .before .pre) in omega (arith, b 2 (omega arith))
 
-array-read-t16 : tie.Need-array-read-t16
-array-read-t16 c = search needs
+array-read-toggle-field : tie.Need-array-read-toggle-field
+array-read-toggle-field c = search needs
 
-cast-t17 : tie.Need-cast-t17
-cast-t17 c = let b = at-most-at characterLimits (c .before .args .t1) (c .before .pre) in omega (arith, b 3 (omega arith))
+toggle-field-requires : tie.Need-toggle-field-requires
+toggle-field-requires c κs = search needs
+
+cast-t19 : tie.Need-cast-t19
+cast-t19 c =
+    let v = c .before .before .args .version in
+    let b = at-most-at (characterLimits v) (c .before .before .args .t2) (c .before .before .pre) 3 (omega arith) in
+    omega (arith, c .toggle-field .ensures, toggle-field-kept v _ b, last-fits v)
 
 array-read-identifier-3 : tie.Need-array-read-identifier-3
 array-read-identifier-3 c = search needs
@@ -36,7 +43,7 @@ array-read-identifier-4 : tie.Need-array-read-identifier-4
 array-read-identifier-4 c = search needs
 
 identifier-requires-2 : tie.Need-identifier-requires-2
-identifier-requires-2 c κs = let b = at-most-at characterLimits (c .before .args .t1) (c .before .pre) in omega (arith, b 4 (omega arith), b 5 (omega arith))
+identifier-requires-2 c κs = let b = at-most-at (characterLimits (c .before .before .args .version)) (c .before .before .args .t2) (c .before .before .pre) in omega (arith, b 4 (omega arith), b 5 (omega arith))
 
 array-read-identifier-5 : tie.Need-array-read-identifier-5
 array-read-identifier-5 c = search needs
@@ -45,16 +52,16 @@ array-read-identifier-6 : tie.Need-array-read-identifier-6
 array-read-identifier-6 c = search needs
 
 identifier-requires-3 : tie.Need-identifier-requires-3
-identifier-requires-3 c κs = let b = at-most-at characterLimits (c .before .before .args .t1) (c .before .before .pre) in omega (arith, b 6 (omega arith), b 7 (omega arith))
+identifier-requires-3 c κs = let b = at-most-at (characterLimits (c .before .before .before .args .version)) (c .before .before .before .args .t2) (c .before .before .before .pre) in omega (arith, b 6 (omega arith), b 7 (omega arith))
 
 returns : tie.Need-returns
 unfolding characterOf identifierAt
 returns c =
-    let n = c .before .before .before .args .t1 in
+    let n = c .before .before .before .before .args .t2 in
     λ j. record {
-      id = c .before .before .identifier .ensures j;
+      id = c .before .before .before .identifier .ensures j;
       «code_point» = getD n 2 0;
-      toggles = getD n 3 0;
+      toggles = c .before .before .toggle-field .ensures j;
       previous = c .before .identifier2 .ensures j;
       next = c .identifier3 .ensures j;
     }
@@ -66,10 +73,11 @@ character-of-spec =
     array-read-identifier
     array-read-identifier-2
     identifier-requires
-    array-read-t12
-    cast-t13
-    array-read-t16
-    cast-t17
+    array-read-t13
+    cast-t14
+    array-read-toggle-field
+    toggle-field-requires
+    cast-t19
     array-read-identifier-3
     array-read-identifier-4
     identifier-requires-2

@@ -20,8 +20,8 @@ others = 0 ∷ 2 ∷ 3 ∷ 4 ∷ 5 ∷ 6 ∷ 7 ∷ 8 ∷ 9 ∷ 10 ∷ 11 ∷ 12 
 no-range : (r : Refusal) → OneOf others (tagOf the-type r) → r ≡ Range → ⊥
 no-range r k e = miss others 1 tt (subst (λ (q : Refusal). OneOf others (tagOf the-type q)) e k)
 
-read-written-requires : tie.Need-read-written-requires
-read-written-requires c κs = search needs
+read-pending-requires : tie.Need-read-pending-requires
+read-pending-requires c κs = search needs
 
 enum-known-read : tie.Need-enum-known-read
 enum-known-read c = search needs
@@ -40,19 +40,19 @@ no-operation-requires-2 c κs = search needs
 
 returns : tie.Need-returns
 unfolding judgement
-returns c = operation-done (c .before .before .before .before .before .args .line .now) _ (sym (c .before .before .before .read-written .ensures) ∙ c .before .read .given .1)
+returns c = operation-done _ (c .before .before .before .before .before .args .line .now) _ (sym (c .before .before .before .read-pending .ensures) ∙ c .before .read .given .1)
 
 returns-2 : tie.Need-returns-2
-returns-2 c = c .no-operation .ensures ∙ operation-range (c .before .before .before .before .before .before .before .before .args .line .now) _ (sym (c .before .before .before .before .before .before .read-written .ensures) ∙ c .before .before .before .before .read2 .given .1) (c .before .enum-told .given .1)
+returns-2 c = c .no-operation .ensures ∙ operation-range _ (c .before .before .before .before .before .before .before .before .args .line .now) _ (sym (c .before .before .before .before .before .before .read-pending .ensures) ∙ c .before .before .before .before .read2 .given .1) (c .before .enum-told .given .1)
 
 returns-3 : tie.Need-returns-3
-returns-3 c = c .no-operation2 .ensures ∙ operation-layout (c .before .before .before .before .before .before .before .args .line .now) _ (sym (c .before .before .before .before .before .read-written .ensures) ∙ c .before .before .before .read2 .given .1) (no-range _ (c .before .match2 .keys2))
+returns-3 c = c .no-operation2 .ensures ∙ operation-layout _ (c .before .before .before .before .before .before .before .args .line .now) _ (sym (c .before .before .before .before .before .read-pending .ensures) ∙ c .before .before .before .read2 .given .1) (no-range _ (c .before .match2 .keys2))
 
 pub read-operation-spec : {M : Type 1} → statement M
 read-operation-spec =
     tie.close
     (tie.spec
-    read-written-requires
+    read-pending-requires
     enum-known-read
     enum-known-read-2
     enum-told

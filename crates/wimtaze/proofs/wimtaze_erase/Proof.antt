@@ -5,7 +5,7 @@ use Rattle.woot.specs.declared.Generated.{Generated}
 use Rattle.storage.specs.Replicas.{deleted}
 use Rattle.effects.specs.Effects.{quiet, turned}
 use Rattle.effects.specs.Steps.{generatedLeft}
-use Rattle.saved.specs.Calls.{loadedState}
+use Rattle.saved.specs.Calls.{loadedAs}
 use Rattle.wimtaze.specs.Calls.{deletingHere}
 use Rattle.wimtaze.proofs.Refusals.{refused-alone, passed}
 use Rattle.effects.proofs.Outputs.{carried, turned-away}
@@ -44,7 +44,7 @@ same-length-2 : tie.Need-same-length-2
 same-length-2 c = search needs
 
 returns-2 : tie.Need-returns-2
-unfolding deletingHere loadedState
+unfolding deletingHere loadedAs
 returns-2 c =
     let a = c .before .before .before .before .before .before .before .before .before .before .before .before .before .before .before .args in
     let p = passed _ _ (c .before .before .before .before .before .before .before .before .before .before .before .read .ensures) (c .before .before .before .before .before .before .before .before .before .enum-told .given .1) in

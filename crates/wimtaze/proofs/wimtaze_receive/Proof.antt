@@ -4,7 +4,7 @@ use mathlib.Core.Option.{some}
 use Rattle.woot.specs.declared.Receipt.{Receipt}
 use Rattle.effects.specs.Effects.{quiet, turned}
 use Rattle.effects.specs.Steps.{receiptLeft}
-use Rattle.saved.specs.Calls.{loadedState}
+use Rattle.saved.specs.Calls.{loadedAs}
 use Rattle.wimtaze.specs.Calls.{receivingLine}
 use Rattle.wimtaze.proofs.Refusals.{refused-line, refused-beside, passed-beside}
 use Rattle.effects.proofs.Outputs.{carried, turned-away}
@@ -61,7 +61,7 @@ same-length : tie.Need-same-length
 same-length c = search needs
 
 returns-3 : tie.Need-returns-3
-unfolding receivingLine loadedState
+unfolding receivingLine loadedAs
 returns-3 c =
     let out = c .before .before .before .before .before .before .before .before .before .before .before .before .before .before .before .args .out .now in
     let read = sym (c .before .before .before .before .before .before .before .before .before .before .read-one .ensures) ∙ c .before .before .before .before .before .before .before .before .said2 .given .1 in

@@ -15,7 +15,7 @@ use Rattle.convergence.proofs.Ranges.{within-high}
 use Rattle.storage.specs.Replicas.{restored}
 use Rattle.effects.specs.Effects.{quiet, turned}
 use Rattle.effects.specs.Steps.{generatedLeft}
-use Rattle.saved.specs.Calls.{loadedState}
+use Rattle.saved.specs.Calls.{loadedAs}
 use Rattle.wimtaze.specs.Calls.{inputChecks, named, restoringHere}
 use Rattle.wimtaze.proofs.Refusals.{refused-alone, passed, refused-range}
 use Rattle.effects.proofs.Outputs.{carried, turned-away}
@@ -85,7 +85,7 @@ same-length-2 : tie.Need-same-length-2
 same-length-2 c = search needs
 
 returns-3 : tie.Need-returns-3
-unfolding restoringHere loadedState
+unfolding restoringHere loadedAs
 returns-3 c =
     let a = c .before .before .before .before .before .before .before .before .before .before .before .before .before .before .before .before .before .before .args in
     let in-range = sym (c .before .before .before .before .before .before .before .before .before .before .before .before .before .names-character .ensures) ∙ not-false _ (c .before .before .before .before .before .before .before .before .before .before .before .before .if1 .left) in

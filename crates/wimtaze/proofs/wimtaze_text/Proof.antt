@@ -4,7 +4,7 @@ use mathlib.Core.List.{[]}
 use Rattle.woot.specs.declared.Replica.{Replica}
 use Rattle.effects.specs.Steps.{textLeft}
 use Rattle.effects.specs.Effects.{quiet, turned}
-use Rattle.saved.specs.Calls.{loadedState}
+use Rattle.saved.specs.Calls.{loadedAs}
 use Rattle.wimtaze.specs.Calls.{showingText}
 use Rattle.wimtaze.proofs.Refusals.{refused-alone, passed}
 use Rattle.effects.proofs.Outputs.{carried, turned-away}
@@ -37,7 +37,7 @@ same-length : tie.Need-same-length
 same-length c = search needs
 
 returns-2 : tie.Need-returns-2
-unfolding showingText loadedState
+unfolding showingText loadedAs
 returns-2 c =
     let out = c .before .before .before .before .before .before .before .before .before .before .args .out .now in
     let p = passed _ _ (c .before .before .before .before .before .before .before .read .ensures) (c .before .before .before .before .before .enum-told .given .1) in

@@ -1,39 +1,20 @@
 -- `saving::writing::measure` goes through the parts one after another.
-use mathlib.Core.Path.{_≡_, refl, ap, _∙_}
-use mathlib.Core.List.{List}
-use Prim.Native.Nat.{ℕ}
+use mathlib.Core.Path.{_≡_, refl, _∙_}
 use native.Mathlib.Omega.{arith}
 use lib.ListN.{length, length-map}
 use borrow.Author.Needs.{needs}
 use Rattle.woot.specs.State.{characterSlots, pendingSlots}
-use Rattle.lines.specs.Fields.{lineOf}
-use Rattle.line_output.specs.Room.{roomFor}
-use Rattle.saved.specs.Format.{siteHead, siteLine}
 use Rattle.saving.proofs.Saving.{site-short, second-fits, characters-short, third-fits, all-measured}
 use Rattle.saving.proofs.writing.measure.Statement.{statement}
 use Rattle.saving.proofs.writing.measure.Tie as tie
 
 full : (c : tie.Start) → (length (c .args .replica .document .characters) ≡ characterSlots) × (length (c .args .replica .document .pending) ≡ pendingSlots)
 full c =
-    let g = c .good .0 .1 .1 .1 .0 .1 .1 in
+    let g = c .good .1 .0 .1 .1 .1 .0 .1 .1 in
     (simp length-map at (g .0 .1 .0 .1), simp length-map at (g .1 .1 .0 .1 .0 .1))
 
-site-measured : (c : tie.After-measure) → c .measure .result ≡ roomFor (c .before .before .before .before .before .before .before .before .args .size) 0 (siteLine (c .before .before .before .before .before .before .before .before .args .replica .site))
-unfolding siteLine
-site-measured c =
-    c .measure .ensures ∙ ap (λ (ns : List ℕ). roomFor (c .before .before .before .before .before .before .before .before .args .size) 0 (lineOf siteHead ns)) (c .before .before .before .site-numbers .ensures)
-
-site-numbers-requires : tie.Need-site-numbers-requires
-site-numbers-requires c κs = search needs
-
-slice-aggregate-measure : tie.Need-slice-aggregate-measure
-slice-aggregate-measure c = search needs
-
-slice-aggregate-measure-2 : tie.Need-slice-aggregate-measure-2
-slice-aggregate-measure-2 c = search needs
-
-measure-requires : tie.Need-measure-requires
-measure-requires c κs = search needs
+measure-site-requires : tie.Need-measure-site-requires
+measure-site-requires c κs = search needs
 
 enum-known-first : tie.Need-enum-known-first
 enum-known-first c = search needs
@@ -43,16 +24,16 @@ enum-told c = search needs
 
 returns : tie.Need-returns
 returns c =
-    let f = full (c .before .before .before .before .before .before .before .before .before .before) in
-    site-short (c .before .before .before .before .before .before .before .before .before .before .args .replica) (f .0) (f .1) refl refl _ (site-measured (c .before .before)) (c .enum-told .given .1)
+    let f = full (c .before .before .before .before .before .before .before) in
+    site-short (c .before .before .before .before .before .before .before .args .version) (c .before .before .before .before .before .before .before .args .replica) (f .0) (f .1) refl refl _ (c .before .before .measure-site .ensures) (c .enum-told .given .1)
 
 lesser-requires : tie.Need-lesser-requires
 lesser-requires c κs = search needs
 
 measure-characters-requires : tie.Need-measure-characters-requires
 measure-characters-requires c κs =
-    let f = full (c .before .before .before .before .before .before .before .before .before .before .before .before) in
-    (omega (arith, c .lesser .ensures), second-fits (c .before .before .before .before .before .before .before .before .before .before .before .before .args .replica) (f .0) (f .1) refl refl _ (site-measured (c .before .before .before .before)) (c .before .before .first .given .1))
+    let f = full (c .before .before .before .before .before .before .before .before .before) in
+    (omega (arith, c .lesser .ensures), second-fits (c .before .before .before .before .before .before .before .before .before .args .version) (c .before .before .before .before .before .before .before .before .before .args .replica) (f .0) (f .1) refl refl _ (c .before .before .before .before .measure-site .ensures) (c .before .before .first .given .1))
 
 enum-known-middle : tie.Need-enum-known-middle
 enum-known-middle c = search needs
@@ -62,31 +43,28 @@ enum-told-2 c = search needs
 
 returns-2 : tie.Need-returns-2
 returns-2 c =
-    let f = full (c .before .before .before .before .before .before .before .before .before .before .before .before .before .before .before) in
-    characters-short (c .before .before .before .before .before .before .before .before .before .before .before .before .before .before .before .args .replica) (f .0) (f .1) (c .before .before .before .lesser .ensures) refl _ (site-measured (c .before .before .before .before .before .before .before)) (c .before .before .before .before .before .first .given .1) (c .before .before .measure-characters .ensures) (c .enum-told2 .given .1)
+    let f = full (c .before .before .before .before .before .before .before .before .before .before .before .before) in
+    characters-short (c .before .before .before .before .before .before .before .before .before .before .before .before .args .version) (c .before .before .before .before .before .before .before .before .before .before .before .before .args .replica) (f .0) (f .1) (c .before .before .before .lesser .ensures) refl _ (c .before .before .before .before .before .before .before .measure-site .ensures) (c .before .before .before .before .before .first .given .1) (c .before .before .measure-characters .ensures) (c .enum-told2 .given .1)
 
 lesser-requires-2 : tie.Need-lesser-requires-2
 lesser-requires-2 c κs = search needs
 
 measure-pending-requires : tie.Need-measure-pending-requires
 measure-pending-requires c κs =
-    let f = full (c .before .before .before .before .before .before .before .before .before .before .before .before .before .before .before .before .before) in
-    (omega (arith, c .lesser2 .ensures), third-fits (c .before .before .before .before .before .before .before .before .before .before .before .before .before .before .before .before .before .args .replica) (f .0) (f .1) (c .before .before .before .before .before .lesser .ensures) refl _ (site-measured (c .before .before .before .before .before .before .before .before .before)) (c .before .before .before .before .before .before .before .first .given .1) (c .before .before .before .before .measure-characters .ensures) (c .before .before .middle .given .1))
+    let f = full (c .before .before .before .before .before .before .before .before .before .before .before .before .before .before) in
+    (omega (arith, c .lesser2 .ensures), third-fits (c .before .before .before .before .before .before .before .before .before .before .before .before .before .before .args .version) (c .before .before .before .before .before .before .before .before .before .before .before .before .before .before .args .replica) (f .0) (f .1) (c .before .before .before .before .before .lesser .ensures) refl _ (c .before .before .before .before .before .before .before .before .before .measure-site .ensures) (c .before .before .before .before .before .before .before .first .given .1) (c .before .before .before .before .measure-characters .ensures) (c .before .before .middle .given .1))
 
 returns-3 : tie.Need-returns-3
 returns-3 c =
-    let f = full (c .before .before .before .before .before .before .before .before .before .before .before .before .before .before .before .before .before .before) in
+    let f = full (c .before .before .before .before .before .before .before .before .before .before .before .before .before .before .before) in
     c .measure-pending .ensures
-    ∙ all-measured (c .before .before .before .before .before .before .before .before .before .before .before .before .before .before .before .before .before .before .args .replica) (f .0) (f .1) (c .before .before .before .before .before .before .lesser .ensures) (c .before .lesser2 .ensures) _ (site-measured (c .before .before .before .before .before .before .before .before .before .before)) (c .before .before .before .before .before .before .before .before .first .given .1) (c .before .before .before .before .before .measure-characters .ensures) (c .before .before .before .middle .given .1)
+    ∙ all-measured (c .before .before .before .before .before .before .before .before .before .before .before .before .before .before .before .args .version) (c .before .before .before .before .before .before .before .before .before .before .before .before .before .before .before .args .replica) (f .0) (f .1) (c .before .before .before .before .before .before .lesser .ensures) (c .before .lesser2 .ensures) _ (c .before .before .before .before .before .before .before .before .before .before .measure-site .ensures) (c .before .before .before .before .before .before .before .before .first .given .1) (c .before .before .before .before .before .measure-characters .ensures) (c .before .before .before .middle .given .1)
 
 pub measure-spec : {M : Type 1} → statement M
 measure-spec =
     tie.close
     (tie.spec
-    site-numbers-requires
-    slice-aggregate-measure
-    slice-aggregate-measure-2
-    measure-requires
+    measure-site-requires
     enum-known-first
     enum-told
     returns

@@ -3,7 +3,6 @@ use mathlib.Core.Path.{ap, _∙_}
 use mathlib.Core.List.{List}
 use Prim.Native.Nat.{ℕ, _-_, _≤_}
 use native.Mathlib.Omega.{arith}
-use lib.ListN.{length}
 use borrow.Author.Needs.{needs}
 use Rattle.lines.specs.Fields.{lineOf}
 use Rattle.line_output.specs.Room.{roomFor}
@@ -13,13 +12,13 @@ use Rattle.saving.proofs.writing.measure_characters.Statement.{statemen
 use Rattle.saving.proofs.writing.measure_characters.Tie as tie
 
 abbrev Inv-loop : tie.InvT-loop
-Inv-loop n size at cs head end₀ i₀ end i = Measuring characterLine cs n size at end i × (n ≤ 1024)
+Inv-loop v n size at cs head end₀ i₀ end i = Measuring (characterLine v) cs n size at end i × (n ≤ 1024)
 
 abbrev μ-loop : tie.MeasureT-loop
-μ-loop n size at cs head end₀ i₀ end i = n - i
+μ-loop v n size at cs head end₀ i₀ end i = n - i
 
 loop-holds : tie.Need-loop-holds Inv-loop μ-loop
-loop-holds c = let p = c .pre in (measuring-begun characterLine (c .args .t1) (c .args .n) (c .args .size) (c .args .at) (omega (arith, p .0, c .good .0 .1 .0 .1)) (p .1), p .0)
+loop-holds c = let p = c .pre in (measuring-begun (characterLine (c .args .version)) (c .args .t2) (c .args .n) (c .args .size) (c .args .at) (omega (arith, p .0, c .good .1 .0 .1 .0 .1)) (p .1), p .0)
 
 mul-character : tie.Need-mul-character Inv-loop μ-loop
 mul-character c = omega arith
@@ -49,7 +48,7 @@ returns : tie.Need-returns Inv-loop μ-loop
 unfolding characterLine
 returns c =
     let a = c .before .before .before .before .before .before .before .before .before .args in
-    measuring-short characterLine (a .t1) (a .n) (a .size) (a .at) (c .before .before .before .before .before .before .before .before .loop .inv .0) _ (c .before .before .before .before .before .before .before .loop-test .taken) (c .before .before .measure .ensures ∙ ap (λ (ns : List ℕ). roomFor (a .size) (c .before .before .before .before .before .before .before .before .loop .end) (lineOf characterHead ns)) (c .before .before .before .before .before .character-numbers .ensures)) (c .enum-told .given .1)
+    measuring-short (characterLine (a .version)) (a .t2) (a .n) (a .size) (a .at) (c .before .before .before .before .before .before .before .before .loop .inv .0) _ (c .before .before .before .before .before .before .before .loop-test .taken) (c .before .before .measure .ensures ∙ ap (λ (ns : List ℕ). roomFor (a .size) (c .before .before .before .before .before .before .before .before .loop .end) (lineOf characterHead ns)) (c .before .before .before .before .before .character-numbers .ensures)) (c .enum-told .given .1)
 
 add-i : tie.Need-add-i Inv-loop μ-loop
 add-i c = omega arith
@@ -62,12 +61,12 @@ unfolding characterLine
 loop-again c =
     let a = c .before .before .before .before .before .before .before .before .before .before .args in
     let l = c .before .before .before .before .before .before .before .before .before .loop .inv in
-    (measuring-more characterLine (a .t1) (a .n) (a .size) (a .at) (l .0) _ (c .before .before .before .before .before .before .before .before .loop-test .taken) (c .before .before .before .measure .ensures ∙ ap (λ (ns : List ℕ). roomFor (a .size) (c .before .before .before .before .before .before .before .before .before .loop .end) (lineOf characterHead ns)) (c .before .before .before .before .before .before .character-numbers .ensures)) (c .before .room .given .1), l .1)
+    (measuring-more (characterLine (a .version)) (a .t2) (a .n) (a .size) (a .at) (l .0) _ (c .before .before .before .before .before .before .before .before .loop-test .taken) (c .before .before .before .measure .ensures ∙ ap (λ (ns : List ℕ). roomFor (a .size) (c .before .before .before .before .before .before .before .before .before .loop .end) (lineOf characterHead ns)) (c .before .before .before .before .before .before .character-numbers .ensures)) (c .before .room .given .1), l .1)
 
 returns-2 : tie.Need-returns-2 Inv-loop μ-loop
 returns-2 c =
     let a = c .before .before .args in
-    measuring-end characterLine (a .t1) (a .n) (a .size) (a .at) (c .before .loop .inv .0) (c .loop-test .left)
+    measuring-end (characterLine (a .version)) (a .t2) (a .n) (a .size) (a .at) (c .before .loop .inv .0) (c .loop-test .left)
 
 pub measure-characters-spec : {M : Type 1} → statement M
 measure-characters-spec =

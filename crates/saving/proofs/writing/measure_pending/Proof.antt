@@ -1,7 +1,6 @@
 -- `saving::writing::measure_pending` meets its contract, by the invariant of the loop over the lines of elements.
 use Prim.Native.Nat.{_-_, _≤_}
 use native.Mathlib.Omega.{arith}
-use lib.ListN.{length}
 use borrow.Author.Needs.{needs}
 use Rattle.line_output.proofs.Sequences.{Measuring, measuring-begun, measuring-more, measuring-short, measuring-end}
 use Rattle.saved.specs.Format.{pendingLine}
@@ -9,13 +8,13 @@ use Rattle.saving.proofs.writing.measure_pending.Statement.{statement}
 use Rattle.saving.proofs.writing.measure_pending.Tie as tie
 
 abbrev Inv-loop : tie.InvT-loop
-Inv-loop n size at ps end₀ i₀ end i = Measuring pendingLine ps n size at end i × (n ≤ 512)
+Inv-loop v n size at ps end₀ i₀ end i = Measuring (pendingLine v) ps n size at end i × (n ≤ 512)
 
 abbrev μ-loop : tie.MeasureT-loop
-μ-loop n size at ps end₀ i₀ end i = n - i
+μ-loop v n size at ps end₀ i₀ end i = n - i
 
 loop-holds : tie.Need-loop-holds Inv-loop μ-loop
-loop-holds c = let p = c .pre in (measuring-begun pendingLine (c .args .t1) (c .args .n) (c .args .size) (c .args .at) (omega (arith, p .0, c .good .0 .1 .0 .1)) (p .1), p .0)
+loop-holds c = let p = c .pre in (measuring-begun (pendingLine (c .args .version)) (c .args .t2) (c .args .n) (c .args .size) (c .args .at) (omega (arith, p .0, c .good .1 .0 .1 .0 .1)) (p .1), p .0)
 
 mul-slot : tie.Need-mul-slot Inv-loop μ-loop
 mul-slot c = omega arith
@@ -23,8 +22,8 @@ mul-slot c = omega arith
 array-copy-out-slot : tie.Need-array-copy-out-slot Inv-loop μ-loop
 array-copy-out-slot c = omega arith
 
-measure-requires : tie.Need-measure-requires Inv-loop μ-loop
-measure-requires c κs = search needs
+measure-operation-requires : tie.Need-measure-operation-requires Inv-loop μ-loop
+measure-operation-requires c κs = search needs
 
 enum-known-room : tie.Need-enum-known-room Inv-loop μ-loop
 enum-known-room c = search needs
@@ -35,7 +34,7 @@ enum-told c = search needs
 returns : tie.Need-returns Inv-loop μ-loop
 returns c =
     let a = c .before .before .before .before .before .before .args in
-    measuring-short pendingLine (a .t1) (a .n) (a .size) (a .at) (c .before .before .before .before .before .loop .inv .0) _ (c .before .before .before .before .loop-test .taken) (c .before .before .measure .ensures) (c .enum-told .given .1)
+    measuring-short (pendingLine (a .version)) (a .t2) (a .n) (a .size) (a .at) (c .before .before .before .before .before .loop .inv .0) _ (c .before .before .before .before .loop-test .taken) (c .before .before .measure-operation .ensures) (c .enum-told .given .1)
 
 add-i : tie.Need-add-i Inv-loop μ-loop
 add-i c = omega arith
@@ -47,12 +46,12 @@ loop-again : tie.Need-loop-again Inv-loop μ-loop
 loop-again c =
     let a = c .before .before .before .before .before .before .before .args in
     let l = c .before .before .before .before .before .before .loop .inv in
-    (measuring-more pendingLine (a .t1) (a .n) (a .size) (a .at) (l .0) _ (c .before .before .before .before .before .loop-test .taken) (c .before .before .before .measure .ensures) (c .before .room .given .1), l .1)
+    (measuring-more (pendingLine (a .version)) (a .t2) (a .n) (a .size) (a .at) (l .0) _ (c .before .before .before .before .before .loop-test .taken) (c .before .before .before .measure-operation .ensures) (c .before .room .given .1), l .1)
 
 returns-2 : tie.Need-returns-2 Inv-loop μ-loop
 returns-2 c =
     let a = c .before .before .args in
-    measuring-end pendingLine (a .t1) (a .n) (a .size) (a .at) (c .before .loop .inv .0) (c .loop-test .left)
+    measuring-end (pendingLine (a .version)) (a .t2) (a .n) (a .size) (a .at) (c .before .loop .inv .0) (c .loop-test .left)
 
 pub measure-pending-spec : {M : Type 1} → statement M
 measure-pending-spec =
@@ -63,7 +62,7 @@ measure-pending-spec =
     loop-holds
     mul-slot
     array-copy-out-slot
-    measure-requires
+    measure-operation-requires
     enum-known-room
     enum-told
     returns

@@ -13,16 +13,16 @@ use Rattle.saving.proofs.writing.put_characters.Statement.{statement}
 use Rattle.saving.proofs.writing.put_characters.Tie as tie
 
 abbrev Inv-loop : tie.InvT-loop
-Inv-loop n out₀ at cs head end₀ i₀ out end i = Putting characterLine cs n out₀ at out end i × (n ≤ 1024)
+Inv-loop v n out₀ at cs head end₀ i₀ out end i = Putting (characterLine v) cs n out₀ at out end i × (n ≤ 1024)
 
 abbrev μ-loop : tie.MeasureT-loop
-μ-loop n out₀ at cs head end₀ i₀ out end i = n - i
+μ-loop v n out₀ at cs head end₀ i₀ out end i = n - i
 
 loop-holds : tie.Need-loop-holds Inv-loop μ-loop
 loop-holds c =
     let a = c .before .args in
     let p = c .before .pre in
-    (putting-begun characterLine (a .t1) (a .n) (a .out .now) (a .at) (omega (arith, p .0, c .before .good .0 .1 .0 .1)) (p .1), p .0)
+    (putting-begun (characterLine (a .version)) (a .t2) (a .n) (a .out .now) (a .at) (omega (arith, p .0, c .before .good .1 .0 .1 .0 .1)) (p .1), p .0)
 
 mul-character : tie.Need-mul-character Inv-loop μ-loop
 mul-character c = omega arith
@@ -55,12 +55,12 @@ loop-again c =
     let l = c .before .before .before .before .before .before .before .before .before .loop .inv in
     let p = c .before .before .put .ensures in
     let e = ap (lineOf characterHead) (c .before .before .before .before .before .before .character-numbers .ensures) in
-    (putting-more characterLine (a .t1) (a .n) (a .out .now) (a .at) (l .0) _ (omega arith) (p .0 ∙ ap (past _ _) e, p .1 ∙ ap (placed _ _) e), l .1)
+    (putting-more (characterLine (a .version)) (a .t2) (a .n) (a .out .now) (a .at) (l .0) _ (omega arith) (p .0 ∙ ap (past _ _) e, p .1 ∙ ap (placed _ _) e), l .1)
 
 returns : tie.Need-returns Inv-loop μ-loop
 returns c =
     let a = c .before .before .before .args in
-    putting-end characterLine (a .t1) (a .n) (a .out .now) (a .at) (c .before .loop .inv .0) (c .loop-test .left)
+    putting-end (characterLine (a .version)) (a .t2) (a .n) (a .out .now) (a .at) (c .before .loop .inv .0) (c .loop-test .left)
 
 same-length : tie.Need-same-length Inv-loop μ-loop
 same-length c = ap length (returns c .1) ∙ length-placed _ _ _

@@ -11,16 +11,16 @@ use Rattle.saving.proofs.writing.put_pending.Statement.{statement}
 use Rattle.saving.proofs.writing.put_pending.Tie as tie
 
 abbrev Inv-loop : tie.InvT-loop
-Inv-loop n out₀ at ps end₀ i₀ out end i = Putting pendingLine ps n out₀ at out end i × (n ≤ 512)
+Inv-loop v n out₀ at ps end₀ i₀ out end i = Putting (pendingLine v) ps n out₀ at out end i × (n ≤ 512)
 
 abbrev μ-loop : tie.MeasureT-loop
-μ-loop n out₀ at ps end₀ i₀ out end i = n - i
+μ-loop v n out₀ at ps end₀ i₀ out end i = n - i
 
 loop-holds : tie.Need-loop-holds Inv-loop μ-loop
 loop-holds c =
     let a = c .before .args in
     let p = c .before .pre in
-    (putting-begun pendingLine (a .t1) (a .n) (a .out .now) (a .at) (omega (arith, p .0, c .before .good .0 .1 .0 .1)) (p .1), p .0)
+    (putting-begun (pendingLine (a .version)) (a .t2) (a .n) (a .out .now) (a .at) (omega (arith, p .0, c .before .good .1 .0 .1 .0 .1)) (p .1), p .0)
 
 mul-slot : tie.Need-mul-slot Inv-loop μ-loop
 mul-slot c = omega arith
@@ -41,12 +41,12 @@ loop-again : tie.Need-loop-again Inv-loop μ-loop
 loop-again c =
     let a = c .before .before .before .before .before .before .before .before .args in
     let l = c .before .before .before .before .before .before .loop .inv in
-    (putting-more pendingLine (a .t1) (a .n) (a .out .now) (a .at) (l .0) _ (omega arith) (c .before .before .put-operation .ensures), l .1)
+    (putting-more (pendingLine (a .version)) (a .t2) (a .n) (a .out .now) (a .at) (l .0) _ (omega arith) (c .before .before .put-operation .ensures), l .1)
 
 returns : tie.Need-returns Inv-loop μ-loop
 returns c =
     let a = c .before .before .before .args in
-    putting-end pendingLine (a .t1) (a .n) (a .out .now) (a .at) (c .before .loop .inv .0) (c .loop-test .left)
+    putting-end (pendingLine (a .version)) (a .t2) (a .n) (a .out .now) (a .at) (c .before .loop .inv .0) (c .loop-test .left)
 
 same-length : tie.Need-same-length Inv-loop μ-loop
 same-length c = ap length (returns c .1) ∙ length-placed _ _ _

@@ -1,9 +1,9 @@
--- `saving::writing::site_numbers` meets its contract: the array is written as the definition is.
+-- `saving::one_line::site_numbers` meets its contract: the array is written as the definition is.
 use mathlib.Core.Path.{refl}
 use Rattle.saved.specs.Format.{siteNumbers}
 use borrow.Author.Needs.{needs}
-use Rattle.saving.proofs.writing.site_numbers.Statement.{statement}
-use Rattle.saving.proofs.writing.site_numbers.Tie as tie
+use Rattle.saving.proofs.one_line.site_numbers.Statement.{statement}
+use Rattle.saving.proofs.one_line.site_numbers.Tie as tie
 
 cast-t2 : tie.Need-cast-t2
 cast-t2 c = search needs

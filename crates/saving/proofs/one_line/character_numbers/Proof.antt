@@ -1,15 +1,14 @@
--- `saving::writing::character_numbers` meets its contract: the array is written as the definition is.
-use mathlib.Core.Path.{refl}
+-- `saving::one_line::character_numbers` meets its contract: the array is written as the definition is.
 use Rattle.saved.specs.Format.{characterNumbers}
 use borrow.Author.Needs.{needs}
-use Rattle.saving.proofs.writing.character_numbers.Statement.{statement}
-use Rattle.saving.proofs.writing.character_numbers.Tie as tie
+use Rattle.saving.proofs.one_line.character_numbers.Statement.{statement}
+use Rattle.saving.proofs.one_line.character_numbers.Tie as tie
 
-cast-t2 : tie.Need-cast-t2
-cast-t2 c = search needs
+cast-toggle-field : tie.Need-cast-toggle-field
+cast-toggle-field c = search needs
 
-cast-t3 : tie.Need-cast-t3
-cast-t3 c = search needs
+toggle-field-requires : tie.Need-toggle-field-requires
+toggle-field-requires c κs = search needs
 
 cast-t4 : tie.Need-cast-t4
 cast-t4 c = search needs
@@ -29,20 +28,24 @@ cast-t8 c = search needs
 cast-t9 : tie.Need-cast-t9
 cast-t9 c = search needs
 
+cast-t10 : tie.Need-cast-t10
+cast-t10 c = search needs
+
 returns : tie.Need-returns
 unfolding characterNumbers
-returns c = refl
+returns c = rw (c .before .before .before .before .before .before .before .toggle-field .ensures)
 
 pub character-numbers-spec : {M : Type 1} → statement M
 character-numbers-spec =
     tie.close
     (tie.spec
-    cast-t2
-    cast-t3
+    cast-toggle-field
+    toggle-field-requires
     cast-t4
     cast-t5
     cast-t6
     cast-t7
     cast-t8
     cast-t9
+    cast-t10
     returns)
