@@ -3,7 +3,8 @@
 use Prim.Native.Nat.{ℕ}
 use native.Mathlib.Omega.{arith}
 use mathlib.Core.Path.{_≡_, refl, sym, ap, ap₂, _∙_}
-use mathlib.Core.Bool.{Bool, true, false}
+use mathlib.Core.Bool.{Bool, true, false, false≢true}
+use mathlib.Core.Logic.{_⊎_, inl, inr, ⊎-elim}
 use mathlib.Core.List.{List, [], _∷_, _++_}
 use borrow.Author.Tests.{ltb-false}
 use lib.Dec.{ltb}
@@ -15,19 +16,27 @@ use Rattle.woot.specs.Text.{text}
 use Rattle.woot.specs.Histories.{empty, outcome, run, integratedBy, Call as RuleCall}
 use Rattle.convergence.proofs.Forms.{empty-formed}
 use Rattle.convergence.proofs.Convergence.{convergence}
-use Rattle.saved.specs.Format.{savedBytes}
+use Rattle.woot.specs.Form.{wellFormed}
+use Rattle.lines.specs.Lines.{rest}
+use Rattle.saved.specs.declared.Version.the-variants.{First, Second}
+use Rattle.saved.specs.Format.{siteLine, savedLaidOut, savedBytes}
+use Rattle.saved.specs.Calls.{loadedAs, raisingAs}
+use Rattle.saved.specs.Conversion.{Converts}
+use Rattle.saved.proofs.Sizes.{saved-length}
+use Rattle.saved.proofs.Trips.{loaded-again, unraised-again, unraised, second-says}
 use Rattle.replica.proofs.Runs.{initial-within}
 use Rattle.results.specs.Results.{result, silent}
 use Rattle.effects.specs.Effects.{quiet, turned, writing}
-use Rattle.wimtaze.specs.Calls.{beginning}
+use Rattle.wimtaze.specs.Calls.{beginning, upgrading, downgrading}
+use Rattle.wimtaze.specs.Theorems.{bytesWritten}
 use Rattle.wimtaze.proofs.Fitting.{results-fit}
-use Rattle.consistency.specs.Copies.{Copy, Call, memoryCall, bytesCall, bytesAfter, stepOn, ran, carriedBy, Empty, emptyReplica, emptyBytes, begun, charactersOf, textOf}
-use Rattle.consistency.specs.Theorems.{CopiesFollow, CopiesConverge}
+use Rattle.consistency.specs.Copies.{Copy, asBytes, Call, memoryCall, bytesCall, bytesAfter, stepOn, ran, carriedBy, Empty, emptyReplica, emptyBytes, begun, charactersOf, textOf}
+use Rattle.consistency.specs.Theorems.{CopiesFollow, TripsKeep, CopiesConverge}
 use Rattle.consistency.proofs.Holding.{Holds, memory, bytes, nothing, left, made, Steps, says}
 use Rattle.consistency.proofs.Returned.{kept, effect-returned}
-use Rattle.wimtaze.proofs.Kept.{front}
+use Rattle.wimtaze.proofs.Kept.{front, converted-done, trips-return}
 use Rattle.consistency.proofs.Memory.{memory-step}
-use Rattle.consistency.proofs.Bytes.{bytes-step, nothing-step}
+use Rattle.consistency.proofs.Bytes.{no-bytes, bytes-step, nothing-step}
 
 -- ---- lists of calls
 
@@ -96,3 +105,28 @@ copies-converge a b cs ds inserted toggled =
     let same = convergence (f .0) (g .0) (f .1) (g .1) (rw (f .3, g .3) at inserted) (rw (f .3, g .3) at toggled) .0 in
     let e = ap (λ (s : State). s .characters) (f .2) ∙ same ∙ sym (ap (λ (s : State). s .characters) (g .2)) in
     (e, ap text e)
+
+-- ---- both trips of a copy
+
+-- a copy that is bytes has none, or those of a state in form
+as-saved : {s : State} {p : Copy} → Holds s p → (b : List ℕ) → p ≡ asBytes b → (b ≡ []) ⊎ ((wellFormed s ≡ true) × (b ≡ savedBytes s))
+as-saved (memory s w) b e = let z : _≡_ {A = ℕ} 0 1 = cc in absurd (omega arith)
+as-saved (bytes s h) b e = let same : savedBytes s ≡ b = cc in inr (h, sym same)
+as-saved nothing b e = let same : [] ≡ b = cc in inl (sym same)
+
+pub trips-keep : TripsKeep
+trips-keep a cs b out back e d room =
+    let m = follow (holds-begun a .1) cs in
+    ⊎-elim (λ n. absurd (no-trip n)) (returned (run (initial (holds-begun a .0)) (m .calls))) (as-saved (m .holds) b e)
+  where
+    there : Converts Second First b
+    there = converted-done Second First b out d .0
+
+    no-trip : b ≡ [] → ⊥
+    no-trip n = false≢true (sym (ap savedLaidOut n ∙ no-bytes) ∙ there .0)
+
+    returned : (s : State) → (wellFormed s ≡ true) × (b ≡ savedBytes s) → bytesWritten (upgrading (bytesWritten (downgrading b out)) back) ≡ b
+    returned s w =
+        let still : raisingAs Second b ≡ false = ap (raisingAs Second) (w .1) ∙ unraised Second s (w .0) (second-says s) in
+        let same : siteLine Second (loadedAs Second b .site) ++ rest b ≡ b = sym (loaded-again Second b (there .0)) ∙ unraised-again Second b (there .0) still in
+        trips-return .1 b out back d (omega (arith, ap length same, ap length (w .1), saved-length s (w .0))) .4 still

@@ -3,7 +3,7 @@
 use mathlib.Core.Path.{_≡_, refl, sym, ap, _∙_, subst}
 use mathlib.Core.Bool.{Bool, true, false, _||_, not, cond}
 use mathlib.Core.List.{List, [], _∷_}
-use mathlib.Core.Option.{Option, some}
+use mathlib.Core.Option.{Option, none, some}
 use mathlib.Core.Logic.{_⊎_, inl, inr}
 use Prim.Native.Nat.{ℕ, _+_, _≤_, _<_}
 use native.Mathlib.Omega.{arith}
@@ -21,10 +21,11 @@ use Rattle.woot.specs.declared.Sent.the-variants.{Done as sentDone, Refused as 
 use Rattle.woot.specs.declared.Receipt.{Receipt}
 use Rattle.woot.specs.declared.Generated.{Generated}
 use Rattle.woot.specs.declared.Written.the-variants.{Length, Refused as writtenRefused}
-use Rattle.woot.specs.Answers.{changes, _⇒_, first, decided}
-use Rattle.woot.specs.Writing.{writingChecks, writtenAs, outputAfter}
+use Rattle.woot.specs.declared.Written.{Written}
+use Rattle.woot.specs.Answers.{changes, Check, _⇒_, first, decided}
+use Rattle.woot.specs.Writing.{refusing, writingChecks, writtenAs, outputAfter}
 use Rattle.lists.proofs.Tests.{side}
-use Rattle.convergence.proofs.Writing.{length-refused, too-short, has-room}
+use Rattle.convergence.proofs.Writing.{length-refused, own-first, own-none, too-short, has-room}
 use Rattle.line_output.specs.declared.Room.the-variants.{Until, Short}
 use Rattle.line_output.specs.Room.{roomFor}
 use Rattle.codec.specs.Operations.{operationLine}
@@ -45,6 +46,22 @@ turned-away out line e h = rw h
 
 -- ---- one output
 
+-- the first condition of a writer that holds
+abbrev refusedBy : Option Refusal → Option Written
+refusedBy none = none
+refusedBy (some q) = some (writtenRefused q)
+
+by-first : (cs : List (Check Refusal)) → first (refusing cs) ≡ refusedBy (first cs)
+by-first [] = refl
+by-first (c ∷ cs) = go (c .holds) refl (by-first cs)
+  where
+    go : (b : Bool) → c .holds ≡ b → first (refusing cs) ≡ refusedBy (first cs) → first (refusing (c ∷ cs)) ≡ refusedBy (first (c ∷ cs))
+    go true e others = rw e
+    go false e others = rw e others
+
+first-refusing : (cs : List (Check Refusal)) (o : Option Refusal) → first cs ≡ o → first (refusing cs) ≡ refusedBy o
+first-refusing cs o h = by-first cs ∙ ap refusedBy h
+
 module _ (a : Answer) (bytes out : List ℕ) where
   -- what a writer with no condition of its own does
   pub writing-written : writing a bytes out ≡ record { result = afterWriting a (writtenAs [] bytes out); output = outputAfter [] bytes out; line = [] }
@@ -57,21 +74,23 @@ module _ (a : Answer) (bytes out : List ℕ) where
       go true = refl
       go false = refl
 
+-- what a writer with conditions of its own does
+module _ (cs : List (Check Refusal)) (bytes out : List ℕ) where
+  abbrev afterWriter : Effect
+  afterWriter = record { result = afterWriting (Done 0 0) (writtenAs (refusing cs) bytes out); output = outputAfter (refusing cs) bytes out; line = [] }
+
+  pub checked-written : decided (turned out []) (first cs) (writing (Done 0 0) bytes out) ≡ afterWriter
+  unfolding decided turned quiet afterWriting
+  checked-written = go (first cs) refl
+    where
+      go : (o : Option Refusal) → first cs ≡ o → decided (turned out []) o (writing (Done 0 0) bytes out) ≡ afterWriter
+      go none h = let w = own-none (refusing cs) bytes out (first-refusing cs none h) in writing-written (Done 0 0) bytes out ∙ rw (w .0, w .1)
+      go (some q) h = let w = own-first (refusing cs) (writtenRefused q) bytes out (first-refusing cs (some q) h) in rw (w .0, w .1)
+
 -- the text of a replica, by what its writer answers
 pub text-written : (r : Replica) (out : List ℕ) → textLeft r out ≡ record { result = afterWriting (Done 0 0) (textWritten r out); output = textOut r out; line = [] }
-unfolding textLeft textWritten textOut textChecks writtenAs outputAfter writingChecks decided turned quiet afterWriting writing
-text-written r out = go (replicaWellFormed r) (ltb (length out) (length (textOf r)))
-  where
-    go : (f b : Bool)
-        → decided (turned out []) (first ((not f ⇒ Form) ∷ [])) (decided (turned out []) (first ((b ⇒ Output) ∷ [])) (record { result = result (Done 0 0) (length (textOf r)) 0; output = placed out 0 (textOf r); line = [] }))
-        ≡ record {
-          result = afterWriting (Done 0 0) (decided (λ w. w) (first ((not f ⇒ writtenRefused Form) ∷ (b ⇒ writtenRefused Output) ∷ [])) (Length (length (textOf r))));
-          output = decided (λ w. out) (first ((not f ⇒ writtenRefused Form) ∷ (b ⇒ writtenRefused Output) ∷ [])) (placed out 0 (textOf r));
-          line = [];
-        }
-    go true true = refl
-    go true false = refl
-    go false b = refl
+unfolding textLeft textWritten textOut textChecks
+text-written r out = checked-written ((not (replicaWellFormed r) ⇒ Form) ∷ []) (textOf r) out
 
 -- ---- receiving
 

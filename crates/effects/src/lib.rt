@@ -11,6 +11,7 @@ use woot::Sent;
 use woot::Written;
 ghost use mathlib.Core.Path.{_≡_};
 ghost use mathlib.Core.List.{[]};
+ghost use Rattle.woot.specs.declared.Answer.the-variants.{Done};
 ghost use Rattle.codec.specs.Operations.{operationLine};
 ghost use Rattle.storage.specs.Replicas.{received};
 ghost use Rattle.saved.specs.Calls.{bytesOf};
@@ -28,6 +29,17 @@ fn after_writing(answer: Answer, written: Written) -> u64
     }
 }
 
+// What is returned by a call that writes and does nothing else.
+pub fn written(written: Written) -> u64
+    ensures { λ r. ⌜ r ≡ numberOf (afterWriting (Done 0 0) written) ⌝ }
+{
+    let none = Answer::Done {
+        integrated: 0,
+        discarded: 0,
+    };
+    after_writing(none, written)
+}
+
 // Saves the replica, and answers so.
 pub fn save(answer: Answer, replica: Replica, out: &mut [u8]) -> u64
     ensures { λ r. ⌜ Leaves (writing answer (bytesOf replica) (now (out .entry))) r (now (out .exit)) [] ⌝ }
@@ -39,11 +51,7 @@ pub fn save(answer: Answer, replica: Replica, out: &mut [u8]) -> u64
 pub fn show(replica: Replica, out: &mut [u8]) -> u64
     ensures { λ r. ⌜ Leaves (textLeft replica (now (out .entry))) r (now (out .exit)) [] ⌝ }
 {
-    let none = Answer::Done {
-        integrated: 0,
-        discarded: 0,
-    };
-    after_writing(none, replica::visible_text(replica, out))
+    written(replica::visible_text(replica, out))
 }
 
 // Receives the operation, and saves the replica if that changed it.

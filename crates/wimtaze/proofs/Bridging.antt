@@ -19,21 +19,28 @@ use Rattle.woot.specs.declared.Generated.{Generated}
 use Rattle.woot.specs.Ranges.{codePoint, characterId, inRange}
 use Rattle.woot.specs.State.{State, stored}
 use Rattle.woot.specs.Form.{wellFormed, replicaWellFormed}
-use Rattle.woot.specs.Answers.{changes, _⇒_, first, decided}
+use Rattle.woot.specs.declared.Written.{Written}
+use Rattle.woot.specs.declared.Written.the-variants.{Length, Refused as writtenRefused}
+use Rattle.woot.specs.Answers.{reply, changes, _⇒_, first, decided}
+use Rattle.woot.specs.Writing.{writtenNumber, writtenLength}
 use Rattle.woot.specs.Calls.{Outcome, unchanged, receiveChecks, receiveWhen, receive, insertChecks, localInsertWhen, localInsert, deleteChecks, localDeleteWhen, localDelete, restoreChecks, localRestoreWhen, localRestore}
 use Rattle.woot.specs.Text.{text}
 use Rattle.storage.specs.Replicas.{afterAnswer, afterSent, receipt, generated, received, inserted, deleted, restored}
 use Rattle.replica.specs.Texts.{textOf}
 use Rattle.replica.proofs.Runs.{meaning-stored}
 use Rattle.codec.specs.Operations.{operationLine}
+use Rattle.saved.specs.declared.Version.{Version}
 use Rattle.saved.specs.Format.{savedState, savedBytes}
 use Rattle.saved.specs.Calls.{loadedAs, loadedState, bytesOf, held}
 use Rattle.woot.specs.Form.{raised}
+use Rattle.saved.specs.Conversion.{conversion, conversionRefusals, conversionChecks, converted, convertedOut}
 use Rattle.saved.proofs.Held.{held-form}
 use Rattle.effects.specs.Effects.{Effect, quiet, turned, writing, writingBoth, afterReceiving, sending, afterSending}
-use Rattle.results.specs.Results.{silent}
-use Rattle.wimtaze.specs.Calls.{inputChecks, counting}
-use Rattle.effects.specs.Steps.{receiptLeft, sentLeft, generatedLeft, textLeft}
+use Rattle.results.specs.Results.{silent, result}
+use Rattle.wimtaze.specs.Calls.{inputChecks, counting, converting}
+use Rattle.wimtaze.specs.Theorems.{TripsTell}
+use Rattle.effects.proofs.Outputs.{checked-written}
+use Rattle.effects.specs.Steps.{afterWriting, receiptLeft, sentLeft, generatedLeft, textLeft}
 use Rattle.counts.specs.Counts.{countsOf}
 use Rattle.counts.specs.Steps.{countsLeft}
 
@@ -162,6 +169,22 @@ module _ (u : State) (out : List ℕ) where
     pub restore-bridge : (x : Identifier) → characterId x ≡ true → formed-first (raised u) out line (afterSending (localRestore (raised u) x) out line) ≡ generatedLeft (restored (held u) x) out line
     restore-bridge x ranged =
         bridge (localRestore (raised u) x) (restored (held u) x) (λ e. restored-held u e x) (λ e. restored-off (held u) (held-form u .0 ∙ e) x ranged)
+
+-- ---- between the forms
+
+pub conversion-bridge : (v w : Version) (bytes out : List ℕ)
+    → converting v w bytes out ≡ record { result = afterWriting (Done 0 0) (converted v w bytes out); output = convertedOut v w bytes out; line = [] }
+unfolding converting converted convertedOut conversionChecks
+conversion-bridge v w bytes out = checked-written (conversionRefusals v w bytes) (conversion v w bytes) out
+
+pub trips-tell : TripsTell
+unfolding afterWriting silent result reply writtenNumber writtenLength
+trips-tell v w bytes out = rw (conversion-bridge v w bytes out) (go (converted v w bytes out))
+  where
+    go : (x : Written)
+        → (afterWriting (Done 0 0) x .reply .refusal ≡ writtenNumber x) × (afterWriting (Done 0 0) x .written ≡ writtenLength x) × (convertedOut v w bytes out ≡ convertedOut v w bytes out)
+    go (Length n) = (refl, refl, refl)
+    go (writtenRefused q) = (refl, refl, refl)
 
 -- ---- the counts, which write nothing
 

@@ -35,15 +35,18 @@ use Rattle.convergence.proofs.Kept.{form-kept}
 use Rattle.convergence.proofs.Steps.{All, first-none, first-some}
 use Rattle.codec.specs.Operations.{operationLine}
 use Rattle.codec.specs.Calls.{saidBy}
-use Rattle.saved.specs.Format.{savedBytes}
-use Rattle.saved.specs.Calls.{loadedState}
+use Rattle.saved.specs.Format.{representable, bytesAs, savedBytes}
+use Rattle.saved.specs.Calls.{loadedAs, loadedState}
 use Rattle.codec.specs.Theorems.{insertMost, toggleMost}
 use Rattle.saved.specs.Theorems.{savedMost}
-use Rattle.saved.proofs.Sizes.{saved-length}
+use Rattle.saved.specs.declared.Version.{Version}
+use Rattle.saved.specs.declared.Version.the-variants.{First, Second}
+use Rattle.saved.specs.Conversion.{firstMost, conversion, conversionRefusals}
+use Rattle.saved.proofs.Sizes.{saved-length, first-length}
 use Rattle.results.specs.Results.{Result, result, silent}
 use Rattle.effects.specs.Effects.{Effect, quiet, turned, writing, writingBoth, afterReceiving, sending, afterSending}
 use Rattle.counts.specs.Counts.{countsOf}
-use Rattle.wimtaze.specs.Calls.{inputChecks, oneLine, beginning, receivingLine, insertingHere, deletingHere, named, restoringHere, showingText, counting}
+use Rattle.wimtaze.specs.Calls.{inputChecks, oneLine, beginning, receivingLine, insertingHere, deletingHere, named, restoringHere, showingText, counting, converting, upgrading, downgrading}
 use Rattle.wimtaze.specs.Theorems.{textMost, Fits, ResultsFit, CountsWithin, CountsFit, HasRoom, BuffersSuffice}
 use Rattle.wimtaze.proofs.Sizes.{text-length}
 use Rattle.counts.proofs.Counting.{known-few}
@@ -185,6 +188,21 @@ module _ (bytes : List ℕ) where
       input-good true true out [] _
       (λ h. writing-good (Done 0 0) (text (loadedState bytes .characters)) out (omega arith, omega arith) (text-length (loadedState bytes) h))
 
+-- what is converted is a state in form that the other form can say
+convert-good : {m : ℕ} (v w : Version) → ((s : State) → wellFormed s ≡ true → representable w s ≡ true → length (bytesAs w s) ≤ m)
+    → (bytes out : List ℕ) → Good m 0 (m ≤ length out) (converting v w bytes out .result)
+unfolding converting conversionRefusals conversion
+convert-good v w most bytes out =
+    let s = loadedAs v bytes in
+    handed-good out [] (conversionRefusals v w bytes) _ (refl, (refl, (refl, (refl, tt))))
+    (λ h. writing-good (Done 0 0) (bytesAs w s) out (omega arith, omega arith) (most s (not-false (wellFormed s) (h .1 .1 .0)) (not-false (representable w s) (h .1 .1 .1 .0))))
+
+upgrade-good : (bytes out : List ℕ) → Good savedMost 0 (savedMost ≤ length out) (upgrading bytes out .result)
+upgrade-good = convert-good First Second (λ s h k. saved-length s h)
+
+downgrade-good : (bytes out : List ℕ) → Good firstMost 0 (firstMost ≤ length out) (downgrading bytes out .result)
+downgrade-good = convert-good Second First first-length
+
 pub results-fit : ResultsFit
 results-fit = (
   λ n out. begin-good n out .0,
@@ -193,6 +211,8 @@ results-fit = (
   λ bytes index out line. delete-good bytes index out line .0,
   λ bytes site clock out line. restore-good bytes site clock out line .0,
   λ bytes out. show-good bytes out .0,
+  λ bytes out. upgrade-good bytes out .0,
+  λ bytes out. downgrade-good bytes out .0,
 )
 
 pub buffers-suffice : BuffersSuffice
@@ -203,6 +223,8 @@ buffers-suffice = (
   λ bytes index out line h g. delete-good bytes index out line .1 (h, g),
   λ bytes site clock out line h g. restore-good bytes site clock out line .1 (h, g),
   λ bytes out. show-good bytes out .1,
+  λ bytes out. upgrade-good bytes out .1,
+  λ bytes out. downgrade-good bytes out .1,
 )
 
 -- ---- the counts

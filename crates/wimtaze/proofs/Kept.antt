@@ -6,13 +6,12 @@ use mathlib.Core.Path.{_≡_, refl, ap, _∙_}
 use mathlib.Core.Bool.{Bool, true, false, _||_, not, cond}
 use mathlib.Core.Option.{Option, none, some}
 use mathlib.Core.List.{List, [], _∷_}
-use borrow.Author.Tests.{ltb-false, not-false}
+use borrow.Author.Tests.{ltb-false, le-ltb, not-false}
 use lib.Dec.{ltb}
 use lib.ListN.{length, take}
 use lib.Seq.{take-append-seam}
 use Rattle.output.specs.Output.{placed}
 use Rattle.output.proofs.Laws.{placed-room}
-use Rattle.woot.specs.declared.Operation.{Operation}
 use Rattle.woot.specs.declared.Refusal.{Refusal}
 use Rattle.woot.specs.declared.Refusal.the-variants.{Range, Output}
 use Rattle.woot.specs.declared.Answer.{Answer}
@@ -22,7 +21,7 @@ use Rattle.woot.specs.declared.Sent.the-variants.{Done as sentDone, Refused as 
 use Rattle.woot.specs.Ranges.{siteNumber, codePoint, characterId, inRange}
 use Rattle.woot.specs.State.{State, initial}
 use Rattle.woot.specs.Form.{wellFormed}
-use Rattle.woot.specs.Answers.{reply, changes, Check, _⇒_, first, NoneHolds, decided}
+use Rattle.woot.specs.Answers.{Word, done, refused as wordRefused, reply, changes, Check, _⇒_, first, NoneHolds, decided}
 use Rattle.woot.specs.Calls.{receive, localInsert, localDelete, localRestore}
 use Rattle.woot.specs.Histories.{inserting, deleting, restoring, receiving, outcome}
 use Rattle.convergence.proofs.Forms.{empty-formed}
@@ -30,14 +29,17 @@ use Rattle.convergence.proofs.Kept.{form-kept}
 use Rattle.convergence.proofs.Steps.{first-none}
 use Rattle.codec.specs.Operations.{operationLine}
 use Rattle.codec.specs.Calls.{saidBy}
-use Rattle.saved.specs.declared.LoadAnswer.the-variants.{Done as loadDone}
-use Rattle.saved.specs.Format.{savedBytes}
-use Rattle.saved.specs.Calls.{loadedState, loaded}
+use Rattle.saved.specs.declared.Version.{Version}
+use Rattle.saved.specs.declared.Version.the-variants.{First, Second}
+use Rattle.saved.specs.Format.{laidOutAs, inRangeAs, representable, savedBytes}
+use Rattle.saved.specs.Calls.{loadedAs, loadedState}
+use Rattle.saved.specs.Conversion.{conversion, conversionRefusals, Converts, Returns}
 use Rattle.saved.proofs.Trips.{saved-reads-back}
+use Rattle.saved.proofs.Conversions.{down-after-up, up-after-down}
 use Rattle.results.specs.Results.{result, silent}
 use Rattle.effects.specs.Effects.{Effect, quiet, turned, writing, writingBoth, afterReceiving, sending, afterSending}
-use Rattle.wimtaze.specs.Calls.{inputChecks, oneLine, beginning, receivingLine, insertingHere, deletingHere, named, restoringHere}
-use Rattle.wimtaze.specs.Theorems.{Formed, Loads, WrittenLoads}
+use Rattle.wimtaze.specs.Calls.{inputChecks, oneLine, beginning, receivingLine, insertingHere, deletingHere, named, restoringHere, converting, upgrading}
+use Rattle.wimtaze.specs.Theorems.{Formed, Loads, WrittenLoads, bytesWritten, ReturnsBytes, TripsReturn}
 
 turned-loads : (out line : List ℕ) (q : Refusal) → Loads (turned out line q)
 unfolding turned quiet silent result reply
@@ -138,5 +140,48 @@ begin-loads number out =
     handed-loads out [] ((not (siteNumber number) ⇒ Range) ∷ []) _
     (λ w. writing-loads (initial number) (empty-formed number ∙ not-false (siteNumber number) (w .0)) (Done 0 0) out)
 
+upgrade-loads : (bytes out : List ℕ) → Loads (upgrading bytes out)
+unfolding converting conversionRefusals conversion
+upgrade-loads bytes out =
+    let s = loadedAs First bytes in
+    handed-loads out [] (conversionRefusals First Second bytes) _ (λ w. writing-loads s (not-false (wellFormed s) (w .1 .1 .0)) (Done 0 0) out)
+
 pub written-loads : WrittenLoads
-written-loads = (begin-loads, receive-loads, type-loads, erase-loads, restore-loads)
+written-loads = (begin-loads, receive-loads, type-loads, erase-loads, restore-loads, upgrade-loads)
+
+-- ---- both trips
+
+module _ (v w : Version) (bytes out : List ℕ) where
+  -- where none of the conditions holds and there is room, the bytes are at the front
+  converts : Converts v w bytes → length (conversion v w bytes) ≤ length out
+      → (converting v w bytes out .result .reply .word ≡ done) × (bytesWritten (converting v w bytes out) ≡ conversion v w bytes)
+  unfolding converting conversionRefusals decided writing result reply
+  converts c h = rw (c .0, c .1, c .2, c .3, le-ltb (length out) (length (conversion v w bytes)) h) (refl, front out (conversion v w bytes) h)
+
+  -- and where the word is done it is so
+  pub converted-done : converting v w bytes out .result .reply .word ≡ done → Converts v w bytes × (length (conversion v w bytes) ≤ length out)
+  unfolding converting conversionRefusals decided writing turned quiet silent result reply
+  converted-done e = go (laidOutAs v bytes) (inRangeAs v bytes) (wellFormed (loadedAs v bytes)) (representable w (loadedAs v bytes)) (ltb (length out) (length (conversion v w bytes))) refl refl refl refl refl
+    where
+      turned-not : {A : Type 0} → _≡_ {A = Word} wordRefused done → A
+      turned-not h = let z : _≡_ {A = ℕ} 0 1 = cc in absurd (omega arith)
+
+      go : (a b d r l : Bool) → laidOutAs v bytes ≡ a → inRangeAs v bytes ≡ b → wellFormed (loadedAs v bytes) ≡ d → representable w (loadedAs v bytes) ≡ r
+          → ltb (length out) (length (conversion v w bytes)) ≡ l → Converts v w bytes × (length (conversion v w bytes) ≤ length out)
+      go false b d r l p q f g k = turned-not (rw p at e)
+      go true false d r l p q f g k = turned-not (rw (p, q) at e)
+      go true true false r l p q f g k = turned-not (rw (p, q, f) at e)
+      go true true true false l p q f g k = turned-not (rw (p, q, f, g) at e)
+      go true true true true true p q f g k = turned-not (rw (p, q, f, g, k) at e)
+      go true true true true false p q f g k = ((p, q, f, g), ltb-false (length out) (length (conversion v w bytes)) k)
+
+returns-bytes : (v w : Version) → Returns v w → ReturnsBytes v w
+returns-bytes v w trip bytes out back e room =
+    let d = converted-done v w bytes out e in
+    let t = trip bytes (d .0) in
+    let sent = converts v w bytes out (d .0) (d .1) .1 in
+    let again = converts w v (conversion v w bytes) back (t .1) (omega (arith, ap length (t .2))) in
+    rw sent (t .0, t .4, again .0, again .1 ∙ t .2, λ n. again .1 ∙ t .3 n)
+
+pub trips-return : TripsReturn
+trips-return = (returns-bytes First Second down-after-up, returns-bytes Second First up-after-down)

@@ -10,15 +10,18 @@ use Rattle.woot.specs.declared.Refusal.{Refusal}
 use Rattle.woot.specs.declared.Refusal.the-variants.{Layout, Range, Form}
 use Rattle.woot.specs.declared.Answer.the-variants.{Done, Refused}
 use Rattle.woot.specs.Ranges.{siteNumber, codePoint, characterId, inRange}
-use Rattle.woot.specs.State.{State, initial}
+use Rattle.woot.specs.State.{initial}
 use Rattle.woot.specs.Form.{wellFormed}
 use Rattle.woot.specs.Answers.{Check, _⇒_, first, decided}
 use Rattle.woot.specs.Calls.{receive, localInsert, localDelete, localRestore}
 use Rattle.woot.specs.Text.{text}
 use Rattle.lines.specs.Lines.{rest}
 use Rattle.codec.specs.Calls.{laidOut, saidBy}
+use Rattle.saved.specs.declared.Version.{Version}
+use Rattle.saved.specs.declared.Version.the-variants.{First, Second}
 use Rattle.saved.specs.Format.{savedLaidOut, savedInRange, savedBytes}
 use Rattle.saved.specs.Calls.{loadedState}
+use Rattle.saved.specs.Conversion.{conversion, conversionRefusals}
 use Rattle.results.specs.Results.{Result, silent}
 use Rattle.effects.specs.Effects.{Effect, turned, writing, afterReceiving, afterSending}
 use Rattle.counts.specs.Counts.{countsOf}
@@ -74,6 +77,19 @@ unfoldable pub showingText : List ℕ → List ℕ → Effect
 showingText bytes out =
     decided (turned out []) (first (inputChecks bytes true true))
     (writing (Done 0 0) (text (loadedState bytes .characters)) out)
+
+-- between the two forms
+unfoldable pub converting : Version → Version → List ℕ → List ℕ → Effect
+converting v w bytes out =
+    decided (turned out []) (first (conversionRefusals v w bytes)) (writing (Done 0 0) (conversion v w bytes) out)
+
+-- `wimtaze_upgrade`
+abbrev pub upgrading : List ℕ → List ℕ → Effect
+upgrading bytes out = converting First Second bytes out
+
+-- `wimtaze_downgrade`
+abbrev pub downgrading : List ℕ → List ℕ → Effect
+downgrading bytes out = converting Second First bytes out
 
 -- `wimtaze_counts`
 unfoldable pub counting : List ℕ → Result

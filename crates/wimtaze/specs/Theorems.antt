@@ -2,22 +2,29 @@
 use Prim.Native.Nat.{ℕ, _+_, _%_, _/_, _^_, _≤_, _<_}
 use mathlib.Core.Path.{_≡_}
 use mathlib.Core.Bool.{true, false}
-use mathlib.Core.List.{List}
+use mathlib.Core.List.{List, _++_}
 use lib.ListN.{length, take}
 use Rattle.woot.specs.declared.Refusal.the-variants.{Taken}
-use Rattle.woot.specs.Answers.{number, known, refused}
+use Rattle.woot.specs.Answers.{number, done, known, refused}
 use Rattle.saved.specs.declared.LoadAnswer.the-variants.{Done as loadDone}
-use Rattle.saved.specs.Calls.{needsRaising, loaded}
+use Rattle.saved.specs.declared.Version.{Version}
+use Rattle.saved.specs.declared.Version.the-variants.{First, Second}
+use Rattle.saved.specs.Format.{siteLine}
+use Rattle.saved.specs.Calls.{loadedAs, raisingAs, needsRaising, loaded}
+use Rattle.saved.specs.Conversion.{converted, convertedOut, firstMost}
 use Rattle.effects.specs.Effects.{Effect}
 use Rattle.woot.specs.State.{State}
 use Rattle.woot.specs.Form.{wellFormed}
+use Rattle.woot.specs.Writing.{writtenNumber, writtenLength}
 use Rattle.woot.specs.Text.{text}
+use Rattle.lines.specs.Lines.{rest}
 use Rattle.codec.specs.Theorems.{insertMost, toggleMost}
 use Rattle.saved.specs.Theorems.{savedMost}
 use Rattle.results.specs.Results.{Result, wordNumber, inBits, numberOf}
-use Rattle.wimtaze.specs.Calls.{beginning, receivingLine, insertingHere, deletingHere, restoringHere, showingText, counting}
+use Rattle.wimtaze.specs.Calls.{beginning, receivingLine, insertingHere, deletingHere, restoringHere, showingText, counting, converting, upgrading, downgrading}
 
--- ---- sizes: the header's WIMTAZE_SHEET_MAX, WIMTAZE_INSERT_MAX, WIMTAZE_ERASE_MAX and WIMTAZE_TEXT_MAX
+-- ---- sizes: the header's WIMTAZE_SHEET_MAX, WIMTAZE_OLD_SHEET_MAX, WIMTAZE_INSERT_MAX, WIMTAZE_ERASE_MAX and
+-- WIMTAZE_TEXT_MAX
 
 -- a text: 1,024 characters of 4 bytes each
 abbrev pub textMost : ℕ
@@ -57,6 +64,8 @@ ResultsFit =
     × ((bytes : List ℕ) (site clock : ℕ) (out line : List ℕ) →
     Fits savedMost toggleMost (restoringHere bytes site clock out line .result))
     × ((bytes out : List ℕ) → Fits textMost 0 (showingText bytes out .result))
+    × ((bytes out : List ℕ) → Fits savedMost 0 (upgrading bytes out .result))
+    × ((bytes out : List ℕ) → Fits firstMost 0 (downgrading bytes out .result))
 
 -- each part is read back from its bits, whatever the parts are
 abbrev pub PartsReadBack : Type 0
@@ -102,11 +111,14 @@ CountsReadBack = (bytes : List ℕ) → ReadsBack (counting bytes)
 abbrev pub Formed : List ℕ → Type 0
 Formed bytes = (loaded bytes .answer ≡ loadDone) × (needsRaising bytes ≡ false)
 
--- the bytes that were written, where the word is done or waits, are
+-- the bytes that a call wrote
+abbrev pub bytesWritten : Effect → List ℕ
+bytesWritten e = take (e .result .written) (e .output)
+
+-- where the word is done or waits, they are
 abbrev pub Loads : Effect → Type 0
 Loads e =
-    (e .result .reply .word ≡ known → ⊥) → (e .result .reply .word ≡ refused → ⊥) →
-    Formed (take (e .result .written) (e .output))
+    (e .result .reply .word ≡ known → ⊥) → (e .result .reply .word ≡ refused → ⊥) → Formed (bytesWritten e)
 
 -- "every call keeps the form", of the bytes that a call writes, whatever was handed
 abbrev pub WrittenLoads : Type 0
@@ -116,6 +128,36 @@ WrittenLoads =
     × ((bytes : List ℕ) (point n : ℕ) (out line : List ℕ) → Loads (insertingHere bytes point n out line))
     × ((bytes : List ℕ) (index : ℕ) (out line : List ℕ) → Loads (deletingHere bytes index out line))
     × ((bytes : List ℕ) (site clock : ℕ) (out line : List ℕ) → Loads (restoringHere bytes site clock out line))
+    × ((bytes out : List ℕ) → Loads (upgrading bytes out))
+
+-- ---- document 02, Req 06
+
+-- each way answers as the conversion does, whose refusals `ConversionNumbers` has by number
+abbrev pub TripsTell : Type 0
+TripsTell =
+    (v w : Version) (bytes out : List ℕ) →
+    (converting v w bytes out .result .reply .refusal ≡ writtenNumber (converted v w bytes out))
+    × (converting v w bytes out .result .written ≡ writtenLength (converted v w bytes out))
+    × (converting v w bytes out .output ≡ convertedOut v w bytes out)
+
+-- where the one way wrote its bytes, they say the same state and need no raising, and the other way writes of them
+-- those that were handed, with the raised clock in their first line, if its output is long enough
+abbrev pub ReturnsBytes : Version → Version → Type 0
+ReturnsBytes v w =
+    (bytes out back : List ℕ) →
+    converting v w bytes out .result .reply .word ≡ done →
+    length (siteLine v (loadedAs v bytes .site) ++ rest bytes) ≤ length back →
+    (loadedAs w (bytesWritten (converting v w bytes out)) ≡ loadedAs v bytes)
+    × (raisingAs w (bytesWritten (converting v w bytes out)) ≡ false)
+    × (converting w v (bytesWritten (converting v w bytes out)) back .result .reply .word ≡ done)
+    × (bytesWritten (converting w v (bytesWritten (converting v w bytes out)) back)
+    ≡ siteLine v (loadedAs v bytes .site) ++ rest bytes)
+    × (raisingAs v bytes ≡ false →
+    bytesWritten (converting w v (bytesWritten (converting v w bytes out)) back) ≡ bytes)
+
+-- the way back after the way forward, and the way forward after the way back
+abbrev pub TripsReturn : Type 0
+TripsReturn = ReturnsBytes First Second × ReturnsBytes Second First
 
 -- ---- outputs of the header's sizes
 
@@ -135,3 +177,5 @@ BuffersSuffice =
     × ((bytes : List ℕ) (site clock : ℕ) (out line : List ℕ) → savedMost ≤ length out → toggleMost ≤ length line →
     HasRoom (restoringHere bytes site clock out line .result))
     × ((bytes out : List ℕ) → textMost ≤ length out → HasRoom (showingText bytes out .result))
+    × ((bytes out : List ℕ) → savedMost ≤ length out → HasRoom (upgrading bytes out .result))
+    × ((bytes out : List ℕ) → firstMost ≤ length out → HasRoom (downgrading bytes out .result))

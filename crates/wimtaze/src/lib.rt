@@ -13,7 +13,7 @@ ghost use mathlib.Core.List.{[]};
 ghost use Rattle.results.specs.Results.{numberOf};
 ghost use Rattle.effects.specs.Effects.{Leaves};
 ghost use Rattle.wimtaze.specs.Calls.{beginning, receivingLine, insertingHere, deletingHere, restoringHere};
-ghost use Rattle.wimtaze.specs.Calls.{showingText, counting};
+ghost use Rattle.wimtaze.specs.Calls.{showingText, counting, upgrading, downgrading};
 
 // Writes the empty replica of a site.
 #[no_mangle]
@@ -166,4 +166,20 @@ pub extern "C" fn wimtaze_restore(
             effects::send(replica::restore(replica, id), out, line_out)
         }
     }
+}
+
+// Writes in the second form what is saved in the first.
+#[no_mangle]
+pub extern "C" fn wimtaze_upgrade(bytes: &[u8], out: &mut [u8]) -> u64
+    ensures { λ r. ⌜ Leaves (upgrading (now (bytes .entry)) (now (out .entry))) r (now (out .exit)) [] ⌝ }
+{
+    effects::written(conversion::upgrade(bytes, out))
+}
+
+// Writes in the first form what is saved in the second.
+#[no_mangle]
+pub extern "C" fn wimtaze_downgrade(bytes: &[u8], out: &mut [u8]) -> u64
+    ensures { λ r. ⌜ Leaves (downgrading (now (bytes .entry)) (now (out .entry))) r (now (out .exit)) [] ⌝ }
+{
+    effects::written(conversion::downgrade(bytes, out))
 }

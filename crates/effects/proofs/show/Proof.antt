@@ -11,8 +11,8 @@ use Rattle.effects.proofs.show.Tie as tie
 visible-text-requires : tie.Need-visible-text-requires
 visible-text-requires c κs = search needs
 
-after-writing-requires : tie.Need-after-writing-requires
-after-writing-requires c κs = search needs
+written-requires : tie.Need-written-requires
+written-requires c κs = search needs
 
 same-length : tie.Need-same-length
 same-length c = search needs
@@ -20,7 +20,7 @@ same-length c = search needs
 returns : tie.Need-returns
 returns c =
     let t = c .before .before .before .visible-text .ensures in
-    carried (text-written _ _) (c .after-writing .ensures ∙ ap (λ (w : Written). numberOf (afterWriting _ w)) (t .0), t .1, refl)
+    carried (text-written _ _) (c .written .ensures ∙ ap (λ (w : Written). numberOf (afterWriting _ w)) (t .0), t .1, refl)
 
 pub show-spec : {M : Type 1} → statement M
-show-spec = tie.close (tie.spec visible-text-requires after-writing-requires same-length returns)
+show-spec = tie.close (tie.spec visible-text-requires written-requires same-length returns)
