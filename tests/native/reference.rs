@@ -418,6 +418,12 @@ impl Sheet {
         (Reply::Done { carried: 1, thrown: 0 }, Some(Operation::Turn(t)))
     }
 
+    /// Whether a row or a waiting line has a turn above 1.
+    fn turned_again(&self) -> bool {
+        let waiting = |o: &Operation| matches!(o, Operation::Turn(t) if t.turn > 1);
+        self.rows.iter().any(|r| r.turn > 1) || self.waiting.iter().any(waiting)
+    }
+
     /// The visible text, if the sheet is in form.
     pub fn text(&self) -> Result<Vec<u8>, u8> {
         if !self.in_form() {
@@ -478,20 +484,57 @@ fn turn_of(ns: &[u64]) -> Option<Operation> {
     Some(Operation::Turn(t)).filter(Operation::passes)
 }
 
-/// A line, without its line feed, as it waits in a saved sheet: no layout, or the operation if its numbers pass.
-fn waiting_of(line: &[u8]) -> Option<Option<Operation>> {
+/// The saved forms. Every call reads and writes the second; the way forward alone reads the first, which is document
+/// 01's, and the way back alone writes it (Req 06).
+#[derive(Clone, Copy, PartialEq, Eq, Debug)]
+pub enum Form {
+    First,
+    Second,
+}
+
+impl Form {
+    /// What a saved sheet begins with.
+    fn begins(self) -> &'static str {
+        match self {
+            Form::First => "S",
+            Form::Second => "S2",
+        }
+    }
+
+    /// The turn of a row, from the number after its code point: shown, 1 or 0, in the first form.
+    fn turn(self, number: u64) -> Option<u8> {
+        match (self, number) {
+            (Form::First, 1) => Some(0),
+            (Form::First, 0) => Some(1),
+            (Form::First, _) => None,
+            (Form::Second, turn) => u8::try_from(turn).ok(),
+        }
+    }
+
+    /// The number after the code point of a row with this turn, which in the first form is 0 or 1.
+    fn number(self, turn: u8) -> u8 {
+        match self {
+            Form::First => 1 - turn,
+            Form::Second => turn,
+        }
+    }
+}
+
+/// A line, without its line feed, as it waits in a saved sheet: no layout, or the operation if its numbers pass. Where
+/// the second form has an `E` line the first has a `D` line, which is turn 1.
+fn waiting_of(line: &[u8], form: Form) -> Option<Option<Operation>> {
     if let Some(ns) = numbers(line, "I", 7) {
         return Some(insert_of(&ns).map(Operation::Insert));
     }
-    numbers(line, "E", 4).map(|ns| turn_of(&ns))
+    match form {
+        Form::First => numbers(line, "D", 3).map(|ns| turn_of(&[ns[0], ns[1], ns[2], 1])),
+        Form::Second => numbers(line, "E", 4).map(|ns| turn_of(&ns)),
+    }
 }
 
-/// The same of a line that was sent, where a `D` line is read as turn 1.
+/// The same of a line that was sent, which may be of either form.
 fn operation_of(line: &[u8]) -> Option<Option<Operation>> {
-    match numbers(line, "D", 3) {
-        Some(ns) => Some(turn_of(&[ns[0], ns[1], ns[2], 1])),
-        None => waiting_of(line),
-    }
+    waiting_of(line, Form::Second).or_else(|| waiting_of(line, Form::First))
 }
 
 /// The operation of the first line, whatever follows it.
@@ -511,14 +554,13 @@ pub fn operation_line(o: &Operation) -> Vec<u8> {
     line.into_bytes()
 }
 
-/// A saved sheet of the second form: refusals 1, 2 and 3 over the whole of it, in this order. Loading raises a clock
-/// that is too low.
-pub fn read_sheet(bytes: &[u8]) -> Result<Sheet, u8> {
+/// A saved sheet: refusals 1, 2 and 3 over the whole of it, in this order. Loading raises a clock that is too low.
+pub fn read_saved(bytes: &[u8], form: Form) -> Result<Sheet, u8> {
     if bytes.last() != Some(&b'\n') {
         return Err(1);
     }
     let mut lines = bytes[..bytes.len() - 1].split(|b| *b == b'\n');
-    let head = numbers(lines.next().unwrap(), "S2", 2).ok_or(1)?;
+    let head = numbers(lines.next().unwrap(), form.begins(), 2).ok_or(1)?;
     let mut passes = (1..=16).contains(&head[0]) && head[1] <= 65_535;
     let mut sheet = Sheet::empty(head[0].min(255) as u8);
     sheet.clock = head[1].min(65_535) as u16;
@@ -529,13 +571,13 @@ pub fn read_sheet(bytes: &[u8]) -> Result<Sheet, u8> {
                 return Err(1);
             }
             let fields = [ns[0], ns[1], ns[2], ns[4], ns[5], ns[6], ns[7]];
-            match (insert_of(&fields), u8::try_from(ns[3])) {
-                (Some(insert), Ok(turn)) => sheet.rows.push(Row { insert, turn }),
+            match (insert_of(&fields), form.turn(ns[3])) {
+                (Some(insert), Some(turn)) => sheet.rows.push(Row { insert, turn }),
                 _ => passes = false,
             }
         } else {
             rows_over = true;
-            match waiting_of(line).ok_or(1)? {
+            match waiting_of(line, form).ok_or(1)? {
                 Some(o) => sheet.waiting.push(o),
                 None => passes = false,
             }
@@ -551,8 +593,13 @@ pub fn read_sheet(bytes: &[u8]) -> Result<Sheet, u8> {
     Ok(sheet)
 }
 
-pub fn sheet_bytes(s: &Sheet) -> Vec<u8> {
-    let mut out = format!("S2\t{}\t{}\n", s.laptop, s.clock).into_bytes();
+pub fn read_sheet(bytes: &[u8]) -> Result<Sheet, u8> {
+    read_saved(bytes, Form::Second)
+}
+
+/// A sheet as it is saved; in the first form, one without a turn above 1.
+pub fn saved_bytes(s: &Sheet, form: Form) -> Vec<u8> {
+    let mut out = format!("{}\t{}\t{}\n", form.begins(), s.laptop, s.clock).into_bytes();
     for r in &s.rows {
         let i = &r.insert;
         out.extend(
@@ -561,7 +608,7 @@ pub fn sheet_bytes(s: &Sheet) -> Vec<u8> {
                 i.id.laptop,
                 i.id.clock,
                 i.code,
-                r.turn,
+                form.number(r.turn),
                 i.previous.laptop,
                 i.previous.clock,
                 i.next.laptop,
@@ -571,9 +618,18 @@ pub fn sheet_bytes(s: &Sheet) -> Vec<u8> {
         );
     }
     for o in &s.waiting {
-        out.extend(operation_line(o));
+        match (form, o) {
+            (Form::First, Operation::Turn(t)) => {
+                out.extend(format!("D\t{}\t{}\t{}\n", t.sender, t.id.laptop, t.id.clock).into_bytes());
+            }
+            _ => out.extend(operation_line(o)),
+        }
     }
     out
+}
+
+pub fn sheet_bytes(s: &Sheet) -> Vec<u8> {
+    saved_bytes(s, Form::Second)
 }
 
 // ---- the C calls
@@ -728,6 +784,23 @@ pub fn counts_call(sheet: &[u8]) -> Outcome {
     };
     match read_sheet(sheet) {
         Ok(s) => Outcome { counts: Some(counted(s)), ..Outcome::done(Vec::new()) },
+        Err(n) => Outcome::refused(n),
+    }
+}
+
+/// The way forward, from the first form.
+pub fn upgrade_call(old: &[u8]) -> Outcome {
+    match read_saved(old, Form::First) {
+        Ok(s) => Outcome::done(saved_bytes(&s, Form::Second)),
+        Err(n) => Outcome::refused(n),
+    }
+}
+
+/// The way back, to the first form: 15 comes after 3.
+pub fn downgrade_call(sheet: &[u8]) -> Outcome {
+    match read_saved(sheet, Form::Second) {
+        Ok(s) if s.turned_again() => Outcome::refused(15),
+        Ok(s) => Outcome::done(saved_bytes(&s, Form::First)),
         Err(n) => Outcome::refused(n),
     }
 }
