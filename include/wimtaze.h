@@ -62,8 +62,9 @@
  *
  *   1, 2  Receiving: the line was damaged on the way, or is no line of this library; drop it, and its sender, who gets
  *         no acknowledgement, sends it again. If wimtaze_counts refuses the sheet too, the file is damaged: rule 1; or
- *         it is, with 1, of an older version: see the layouts. Typing, and 2: what was given is no code point.
- *         Restoring, and 2: what was given is no identifier.
+ *         it is, with 1, in the first form: wimtaze_upgrade takes it. Typing, and 2: what was given is no code point.
+ *         Restoring, and 2: what was given is no identifier. Upgrading: the file is damaged, or it is, with 1, not in
+ *         the first form.
  *   3     The file is damaged: rule 1.
  *   4     Typing, erasing: the text is shorter than you thought. It may change with every line that comes.
  *   5     Typing: this laptop has typed 65,535 characters, or a line with its number and that clock came. Rule 6 or 7
@@ -82,6 +83,8 @@
  *         change with every line that comes.
  *   14    Restoring: the character was erased for the 128th time, or a line said so and rule 7 was broken. It stays
  *         hidden for good: type it anew.
+ *   15    Downgrading: a character was brought back, or a line waits that says so, and the first form has no place
+ *         for that. Nothing is wrong: keep the sheet as it is.
  *
  * If wimtaze_thrown is not 0, an edit that waited has met 8 or 9. The file laptop.h, which is installed with the
  * examples, keeps all these rules and can be copied, with anew.h for a laptop that lost its sheet; playing_hall.c there
@@ -118,9 +121,16 @@
  * became of it since. So a laptop can send everything that it holds, whoever typed it. What the other has already is
  * known to it.
  *
- * Versions before 0.5 wrote D sender laptop clock for an erased character. Such a line is read still, as E with turn 1,
- * but not in a saved sheet; their sheets begin with S and are refused with 1, and they refuse E lines. So let all
- * laptops of a sheet change to this version together, and begin a new sheet.
+ * Versions before 0.5 saved sheets in a first form. wimtaze_upgrade alone reads it, and wimtaze_downgrade alone writes
+ * it; every other call refuses it with 1. It has
+ *
+ *     S laptop clock                                                             in place of S2
+ *     C laptop clock codepoint shown prevlaptop prevclock nextlaptop nextclock   shown is 1 for turn 0, 0 for turn 1
+ *     I and D lines                                                              D sender laptop clock: E with turn 1
+ *
+ * Those versions sent D lines too, for erased characters. They are read still when they come, as E with turn 1. But
+ * those versions refuse E lines: let all laptops of a sheet change to this version together, each with its own sheet
+ * upgraded. To go on from a sheet of an archive is to go on from an old one: see rule 1.
  *
  *
  * The calls
@@ -151,9 +161,9 @@ extern "C" {
 #endif
 
 /* The version of this header and of the library that it came with. */
-#define WIMTAZE_VERSION "0.5.0"
+#define WIMTAZE_VERSION "0.6.0"
 #define WIMTAZE_VERSION_MAJOR 0
-#define WIMTAZE_VERSION_MINOR 5
+#define WIMTAZE_VERSION_MINOR 6
 #define WIMTAZE_VERSION_PATCH 0
 
 /* The limits of a sheet. */
@@ -161,11 +171,12 @@ extern "C" {
 #define WIMTAZE_CHARACTER_MAX 1024 /* characters in its life, erased and waiting ones counted */
 
 /* The most bytes that a call writes. */
-#define WIMTAZE_SHEET_MAX 51212 /* a saved sheet */
-#define WIMTAZE_INSERT_MAX 37   /* the line of a typed character */
-#define WIMTAZE_ERASE_MAX 18    /* the line of an erased or restored character */
-#define WIMTAZE_LINE_MAX 37     /* either line */
-#define WIMTAZE_TEXT_MAX 4096   /* the text */
+#define WIMTAZE_SHEET_MAX 51212     /* a saved sheet */
+#define WIMTAZE_OLD_SHEET_MAX 47115 /* a saved sheet in the first form */
+#define WIMTAZE_INSERT_MAX 37       /* the line of a typed character */
+#define WIMTAZE_ERASE_MAX 18        /* the line of an erased or restored character */
+#define WIMTAZE_LINE_MAX 37         /* either line */
+#define WIMTAZE_TEXT_MAX 4096       /* the text */
 
 /*
  * The most bytes of stack that a call takes (less than 500 KiB was measured on x86-64). They must be free when the call
@@ -182,7 +193,7 @@ enum wimtaze_words {
     WIMTAZE_REFUSED = 3 /* turned away; nothing is written */
 };
 
-/* Why a call is turned away. Where several hold, the first is told, in this order: 1 to 4, 13, 14, 5 to 12. */
+/* Why a call is turned away. Where several hold, the first is told, in this order: 1 to 3, 15, 4, 13, 14, 5 to 12. */
 enum wimtaze_refusals {
     WIMTAZE_REFUSAL_NONE = 0,           /* not refused */
     WIMTAZE_REFUSAL_LAYOUT = 1,         /* the line or the saved sheet lacks its layout */
@@ -198,7 +209,8 @@ enum wimtaze_refusals {
     WIMTAZE_REFUSAL_DOCUMENT_FULL = 11, /* the sheet has its 1,024 characters, erased and waiting ones counted */
     WIMTAZE_REFUSAL_OUTPUT = 12,        /* an output is too short for its result */
     WIMTAZE_REFUSAL_NOT_HIDDEN = 13,    /* the character to be restored is shown, or is not on the sheet */
-    WIMTAZE_REFUSAL_LAST_TURN = 14      /* the turn of the character to be restored is 255: it stays hidden */
+    WIMTAZE_REFUSAL_LAST_TURN = 14,     /* the turn of the character to be restored is 255: it stays hidden */
+    WIMTAZE_REFUSAL_HIGH_TURN = 15      /* a turn on the sheet is above 1: the first form has no place for it */
 };
 
 /*
@@ -254,6 +266,21 @@ uint64_t wimtaze_text(const uint8_t *sheet, size_t sheet_length, uint8_t *text_o
 uint64_t wimtaze_counts(const uint8_t *sheet, size_t sheet_length);
 
 /*
+ * Takes a saved sheet in the first form, as versions before 0.5 wrote it, and writes the same sheet as the other calls
+ * read it: see the layouts. wimtaze_downgrade undoes it to the byte, but for a clock in the first line that is too low,
+ * which both calls raise.
+ * Refusals: 1, 2, 3, 12.
+ */
+uint64_t wimtaze_upgrade(const uint8_t *old, size_t old_length, uint8_t *sheet_out, size_t sheet_out_length);
+
+/*
+ * Takes a saved sheet and writes it in the first form, for programs that read that one only. wimtaze_upgrade undoes it
+ * in the same way. A sheet that has a turn above 1, of a character or in a line that waits, cannot be written so: 15.
+ * Refusals: 1, 2, 3, 15, 12.
+ */
+uint64_t wimtaze_downgrade(const uint8_t *sheet, size_t sheet_length, uint8_t *old_out, size_t old_out_length);
+
+/*
  * Every call returns one number, from the lowest bit up: the word (2 bits), the refusal (6), the counts carried and
  * thrown (12 each), and the lengths of what was written to the first output and to line_out (16 each). wimtaze_counts
  * has, in place of these four, the shown characters, the waiting edits, all characters and the room. Each part has room
@@ -288,7 +315,7 @@ static inline unsigned wimtaze_thrown(uint64_t reply)
     return (unsigned)(reply >> 20 & 4095);
 }
 
-/* How many bytes were written to the first output: the saved sheet or the text. */
+/* How many bytes were written to the first output: the saved sheet, in either form, or the text. */
 static inline size_t wimtaze_written(uint64_t reply)
 {
     return (size_t)(reply >> 32 & 65535);

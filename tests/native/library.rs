@@ -41,4 +41,6 @@ extern "C" {
     ) -> u64;
     pub fn wimtaze_text(sheet: *const u8, sheet_length: usize, text_out: *mut u8, text_out_length: usize) -> u64;
     pub fn wimtaze_counts(sheet: *const u8, sheet_length: usize) -> u64;
+    pub fn wimtaze_upgrade(old: *const u8, old_length: usize, sheet_out: *mut u8, sheet_out_length: usize) -> u64;
+    pub fn wimtaze_downgrade(sheet: *const u8, sheet_length: usize, old_out: *mut u8, old_out_length: usize) -> u64;
 }
