@@ -11,7 +11,8 @@ mod library;
 mod reference;
 
 use library::{
-    wimtaze_counts, wimtaze_empty, wimtaze_erase, wimtaze_receive, wimtaze_restore, wimtaze_text, wimtaze_type,
+    wimtaze_counts, wimtaze_downgrade, wimtaze_empty, wimtaze_erase, wimtaze_receive, wimtaze_restore, wimtaze_text,
+    wimtaze_type, wimtaze_upgrade,
 };
 use reference::{Outcome, Reply};
 use std::collections::BTreeMap;
@@ -64,6 +65,8 @@ enum Call<'a> {
     Restore(&'a [u8], u64, u64),
     Text(&'a [u8]),
     Counts(&'a [u8]),
+    Upgrade(&'a [u8]),
+    Downgrade(&'a [u8]),
 }
 
 impl Call<'_> {
@@ -76,6 +79,8 @@ impl Call<'_> {
             Call::Restore(..) => "restore",
             Call::Text(..) => "text",
             Call::Counts(..) => "counts",
+            Call::Upgrade(..) => "upgrade",
+            Call::Downgrade(..) => "downgrade",
         }
     }
 
@@ -86,6 +91,7 @@ impl Call<'_> {
             Call::Receive(sheet, line) => (sheet, line),
             Call::Type(sheet, ..) | Call::Erase(sheet, _) | Call::Restore(sheet, ..) => (sheet, &[]),
             Call::Text(sheet) | Call::Counts(sheet) => (sheet, &[]),
+            Call::Upgrade(sheet) | Call::Downgrade(sheet) => (sheet, &[]),
         }
     }
 
@@ -98,6 +104,8 @@ impl Call<'_> {
             Call::Restore(sheet, laptop, clock) => reference::restore_call(sheet, laptop, clock),
             Call::Text(sheet) => reference::text_call(sheet),
             Call::Counts(sheet) => reference::counts_call(sheet),
+            Call::Upgrade(old) => reference::upgrade_call(old),
+            Call::Downgrade(sheet) => reference::downgrade_call(sheet),
         }
     }
 
@@ -114,6 +122,8 @@ impl Call<'_> {
                 Call::Restore(_, laptop, clock) => wimtaze_restore(s, s_len, laptop, clock, f, f_len, o, o_len),
                 Call::Text(_) => wimtaze_text(s, s_len, f, f_len),
                 Call::Counts(_) => wimtaze_counts(s, s_len),
+                Call::Upgrade(_) => wimtaze_upgrade(s, s_len, f, f_len),
+                Call::Downgrade(_) => wimtaze_downgrade(s, s_len, f, f_len),
             }
         }
     }
@@ -328,25 +338,29 @@ impl Random {
     }
 
     /// A saved sheet, or some of its lines, as the first form had them.
-    fn in_first_form(&mut self, sheet: &[u8]) -> Vec<u8> {
+    fn partly_in_first_form(&mut self, sheet: &[u8]) -> Vec<u8> {
         let (head, rows, waiting) = (!self.one_in(4), self.one_in(2), self.one_in(2));
-        let mut lines = Vec::new();
-        for line in String::from_utf8_lossy(sheet).lines() {
-            let mut fields: Vec<&str> = line.split('\t').collect();
-            match fields[0] {
-                "S2" if head => fields[0] = "S",
-                "C" if rows && fields.len() == 9 => {
-                    fields[4] = if fields[4].ends_with(['0', '2', '4', '6', '8']) { "1" } else { "0" };
-                }
-                "E" if waiting && fields.len() == 5 => {
-                    fields[0] = "D";
-                    fields.pop();
-                }
-                _ => {}
-            }
-            lines.push(fields.join("\t") + "\n");
+        in_first_form(sheet, head, rows, waiting)
+    }
+
+    /// A sheet to take to the other form, or what is nearly one: of either form, or partly of each; its clock may be
+    /// too low, and its lines damaged.
+    fn for_other_form(&mut self, sheet: &[u8]) -> Vec<u8> {
+        let mut whole = if self.one_in(2) { in_first_form(sheet, true, true, true) } else { with_low_turns(sheet) };
+        if self.one_in(5) {
+            let lower = self.below(clock(sheet).unwrap_or(0).min(65_535) as usize + 1);
+            whole = with_clock(&whole, lower as u64);
         }
-        lines.concat().into_bytes()
+        match self.below(8) {
+            0 => sheet.to_vec(),
+            1 => self.partly_in_first_form(sheet),
+            2 => self.damaged(&whole),
+            3 => {
+                let damaged = self.damaged(sheet);
+                self.partly_in_first_form(&damaged)
+            }
+            _ => whole,
+        }
     }
 
     fn with_lines_moved(&mut self, bytes: &[u8]) -> Vec<u8> {
@@ -363,6 +377,65 @@ impl Random {
         }
         lines.concat()
     }
+}
+
+/// A saved sheet with the fields of each of its lines changed, as far as it can be read.
+fn with_fields(sheet: &[u8], change: impl Fn(&mut Vec<String>)) -> Vec<u8> {
+    let mut lines = Vec::new();
+    for line in String::from_utf8_lossy(sheet).lines() {
+        let mut fields: Vec<String> = line.split('\t').map(str::to_string).collect();
+        change(&mut fields);
+        lines.push(fields.join("\t") + "\n");
+    }
+    lines.concat().into_bytes()
+}
+
+fn is_odd(field: &str) -> bool {
+    field.ends_with(['1', '3', '5', '7', '9'])
+}
+
+/// A saved sheet with its first line, its rows or what waits on it as the first form had them.
+fn in_first_form(sheet: &[u8], head: bool, rows: bool, waiting: bool) -> Vec<u8> {
+    with_fields(sheet, |fields| match fields[0].as_str() {
+        "S2" if head => fields[0] = "S".into(),
+        "C" if rows && fields.len() == 9 => fields[4] = if is_odd(&fields[4]) { "0" } else { "1" }.into(),
+        "E" if waiting && fields.len() == 5 => {
+            fields[0] = "D".into();
+            fields.pop();
+        }
+        _ => {}
+    })
+}
+
+/// A saved sheet with no turn above 1 that shows the same.
+fn with_low_turns(sheet: &[u8]) -> Vec<u8> {
+    with_fields(sheet, |fields| match fields[0].as_str() {
+        "C" if fields.len() == 9 => fields[4] = if is_odd(&fields[4]) { "1" } else { "0" }.into(),
+        "E" if fields.len() == 5 => fields[4] = "1".into(),
+        _ => {}
+    })
+}
+
+/// The clock of a saved sheet of either form, in its first line.
+fn clock(sheet: &[u8]) -> Option<u64> {
+    String::from_utf8_lossy(sheet).lines().next()?.split('\t').nth(2)?.parse().ok()
+}
+
+fn with_clock(sheet: &[u8], clock: u64) -> Vec<u8> {
+    with_fields(sheet, |fields| {
+        if fields[0].starts_with('S') && fields.len() == 3 {
+            fields[2] = clock.to_string();
+        }
+    })
+}
+
+/// The same sheet with the clock that loading gives it: the largest of its own and those of its laptop's inserts.
+fn with_raised_clock(sheet: &[u8]) -> Vec<u8> {
+    let heads = numbers(sheet, "S").into_iter().chain(numbers(sheet, "S2"));
+    let inserts = numbers(sheet, "C").into_iter().chain(numbers(sheet, "I"));
+    let laptop = heads.map(|head| head[0]).next();
+    let clocks = inserts.filter(|i| Some(i[0]) == laptop).map(|i| i[1]);
+    with_clock(sheet, clocks.chain(clock(sheet)).max().unwrap_or(0))
 }
 
 /// The numbers of the lines with this letter, as far as they can be read.
@@ -399,13 +472,30 @@ struct Tester {
     told: Duration,
 }
 
-/// Whether a call that does not type leaves another first line, which has the clock.
+/// Whether a call that does not type leaves another clock.
 fn raises(call: &Call, outcome: &Outcome) -> bool {
-    let first_line = |bytes: &[u8]| bytes.split(|b| *b == b'\n').next().map(<[u8]>::to_vec);
     let (sheet, _) = call.inputs();
-    matches!(call, Call::Receive(..) | Call::Erase(..) | Call::Restore(..))
+    !matches!(call, Call::Empty(..) | Call::Type(..) | Call::Text(..) | Call::Counts(..))
         && !outcome.first.is_empty()
-        && first_line(&outcome.first) != first_line(sheet)
+        && clock(&outcome.first) != clock(sheet)
+}
+
+/// Refusals that a reader of the other form would not give: of a waiting line or a number in a row that only that form
+/// has, and of two erases that are equal here; and 15 where no row has a turn above 1.
+fn crosses(call: &Call, outcome: &Outcome) -> Option<&'static str> {
+    let (sheet, _) = call.inputs();
+    let has = |letter, count| numbers(sheet, letter).iter().any(|ns| ns.len() == count);
+    match (call, outcome.reply) {
+        (Call::Upgrade(_), Reply::Refused(1)) if has("S", 2) && has("E", 4) => Some("E"),
+        (Call::Downgrade(_), Reply::Refused(1)) if has("S2", 2) && has("D", 3) => Some("D"),
+        (Call::Upgrade(_), Reply::Refused(2)) => rows(sheet).iter().any(|row| row[3] > 1).then_some("shown"),
+        (Call::Upgrade(_), Reply::Refused(3)) => {
+            let erases = numbers(sheet, "D");
+            (1..erases.len()).any(|k| erases[..k].contains(&erases[k])).then_some("twice")
+        }
+        (Call::Downgrade(_), Reply::Refused(15)) => rows(sheet).iter().all(|row| row[3] < 2).then_some("waiting"),
+        _ => None,
+    }
 }
 
 /// What a received turn does to its row: hides or shows it, or comes behind a larger one that the row has already.
@@ -454,8 +544,8 @@ impl Tester {
         if raises(call, outcome) {
             *self.met.entry((call.name(), "raising".into())).or_default() += 1;
         }
-        if let Some(turned) = turns(call, outcome) {
-            *self.met.entry((call.name(), turned.into())).or_default() += 1;
+        for what in [turns(call, outcome), crosses(call, outcome)].into_iter().flatten() {
+            *self.met.entry((call.name(), what.into())).or_default() += 1;
         }
         let word = match outcome.reply {
             Reply::Done { carried, thrown } => {
@@ -522,7 +612,7 @@ impl Tester {
             Call::Erase(_, place) => println!("  place {place}"),
             Call::Restore(_, laptop, clock) => println!("  laptop {laptop}, clock {clock}"),
             Call::Receive(..) => println!("  line {:?}", String::from_utf8_lossy(line)),
-            Call::Text(_) | Call::Counts(_) => {}
+            Call::Text(_) | Call::Counts(_) | Call::Upgrade(_) | Call::Downgrade(_) => {}
         }
         let shortened: String = String::from_utf8_lossy(sheet).chars().take(2000).collect();
         println!("  sheet {shortened:?}");
@@ -589,13 +679,30 @@ impl Tester {
 
     /// Any call on the sheet.
     fn anything(&mut self, sheet: &[u8], line: &[u8]) -> Written {
-        match self.random.below(13) {
+        match self.random.below(14) {
             0..=4 => self.call(&Call::Receive(sheet, line)),
             5..=7 => self.type_somewhere(sheet),
             8 => self.erase_somewhere(sheet),
             9 | 10 => self.restore_somewhere(sheet),
+            11 => self.change_form(sheet),
             _ => self.look(sheet),
         }
+    }
+
+    /// A sheet on its way to the other form, and back again from where it came to.
+    fn change_form(&mut self, sheet: &[u8]) -> Written {
+        let sheet = self.random.for_other_form(sheet);
+        let forward = sheet.starts_with(b"S\t") != self.random.one_in(16);
+        let there = |sheet| if forward { Call::Upgrade(sheet) } else { Call::Downgrade(sheet) };
+        let back = |sheet| if forward { Call::Downgrade(sheet) } else { Call::Upgrade(sheet) };
+        let (reached, _) = self.call(&there(&sheet))?;
+        let (again, _) = self.call(&back(&reached))?;
+        *self.met.entry((back(&reached).name(), "returning".into())).or_default() += 1;
+        if again != with_raised_clock(&sheet) {
+            self.failed += 1;
+            println!("seed {}: a sheet came back from the other form as another one", self.seed);
+        }
+        None
     }
 
     /// A call that changes nothing.
@@ -644,7 +751,8 @@ impl Tester {
                 n if n < typing => self.type_somewhere(&sheet),
                 n if n < typing + 8 => self.erase_somewhere(&sheet),
                 n if n < typing + 14 => self.restore_somewhere(&sheet),
-                n if n < 86 => self.receive_next(&mut laptops[k]),
+                n if n < 85 => self.receive_next(&mut laptops[k]),
+                85 => self.change_form(&sheet),
                 n if n < 91 && !sent.is_empty() => {
                     let line = &sent[self.random.below(sent.len())];
                     self.call(&Call::Receive(&sheet, line))
@@ -744,7 +852,7 @@ impl Tester {
             }
             95..=97 => {
                 let old = self.random.one_in(6);
-                let mut sheet = if old { self.random.in_first_form(sheet) } else { self.random.damaged(sheet) };
+                let mut sheet = if old { self.random.partly_in_first_form(sheet) } else { self.random.damaged(sheet) };
                 if self.random.one_in(3) {
                     sheet = self.random.damaged(&sheet);
                 }
@@ -772,10 +880,11 @@ impl Tester {
                 sheet = new;
             }
         }
-        let (damaged, old) = (self.random.damaged(&sheet), self.random.in_first_form(&sheet));
+        let (damaged, old) = (self.random.damaged(&sheet), self.random.partly_in_first_form(&sheet));
         let line = self.random.line(of);
         self.anything(&damaged, &line);
         self.anything(&old, &line);
+        self.change_form(&sheet);
     }
 
     /// Operations that all wait, one way or another, for one insert; then it comes.
@@ -844,7 +953,7 @@ impl Tester {
 }
 
 /// Every reply that each call can give, and waiting operations carried and thrown out.
-const TO_MEET: [(&str, &str); 7] = [
+const TO_MEET: [(&str, &str); 9] = [
     ("empty", "done 2 12"),
     ("receive", "done waits known releasing throwing raising anew hiding showing behind equal 1 2 3 7 8 9 10 11 12"),
     ("type", "done releasing throwing 1 2 3 4 5 9 11 12"),
@@ -852,6 +961,8 @@ const TO_MEET: [(&str, &str); 7] = [
     ("restore", "done raising 1 2 3 13 14 12"),
     ("text", "done 1 2 3 12"),
     ("counts", "done 1 2 3"),
+    ("upgrade", "done raising returning E shown twice 1 2 3 12"),
+    ("downgrade", "done raising returning D waiting 1 2 3 15 12"),
 ];
 
 impl Tester {
