@@ -217,6 +217,39 @@ static uint64_t counts(void)
     return reply;
 }
 
+/* Between the forms: a call takes the sheet at hand in the one, which is then there in the other. */
+static uint64_t change_form_in(uint64_t (*call)(const uint8_t *, size_t, uint8_t *, size_t), size_t room)
+{
+    static uint8_t was[ROOM];
+    size_t sheet_was = sheet_length;
+    memcpy(was, sheet, sheet_was);
+    before();
+    uint64_t reply = after(call(sheet, sheet_length, first + GUARD, room), room, 0);
+    CHECK(memcmp(was, sheet, sheet_was) == 0);
+    keep(reply);
+    return reply;
+}
+
+static uint64_t upgrade_in(size_t room)
+{
+    return change_form_in(wimtaze_upgrade, room);
+}
+
+static uint64_t upgrade(void)
+{
+    return upgrade_in(ROOM);
+}
+
+static uint64_t downgrade_in(size_t room)
+{
+    return change_form_in(wimtaze_downgrade, room);
+}
+
+static uint64_t downgrade(void)
+{
+    return downgrade_in(ROOM);
+}
+
 /* ---- replies */
 
 static int done(uint64_t reply, unsigned carried, unsigned thrown)
@@ -734,6 +767,195 @@ static void not_restored(void)
     CHECK(refused(restore_in(0, 0, 0, 0), WIMTAZE_REFUSAL_LAYOUT));
 }
 
+/* ---- Req 06: the first saved form */
+
+/* Whether a call between the forms wrote this, which is then at hand, and told its length and nothing else. */
+static int changed(uint64_t reply, const char *text)
+{
+    return reply == (uint64_t)strlen(text) << 32 && first_is(reply, text) && sheet_is(text);
+}
+
+/*
+ * Last season's note, with a bye request that was erased, comes forward, is read, and goes back to the association as
+ * it was. Brought back in between, the request keeps the sheet from going back.
+ */
+static void last_season(void)
+{
+    static const char *const old = "S 2 4\nC 2 1 66 1 0 0 0 1\nC 1 1 33 1 2 1 2 2\nC 2 2 121 0 2 1 0 1\n"
+                                   "C 2 3 101 0 2 2 0 1\nI 5 2 88 5 1 0 1\nD 6 5 2\nD 6 5 1\nI 2 4 89 5 2 0 1\n";
+    static const char *const now = "S2 2 4\nC 2 1 66 0 0 0 0 1\nC 1 1 33 0 2 1 2 2\nC 2 2 121 1 2 1 0 1\n"
+                                   "C 2 3 101 1 2 2 0 1\nI 5 2 88 5 1 0 1\nE 6 5 2 1\nE 6 5 1 1\nI 2 4 89 5 2 0 1\n";
+    load(old);
+    CHECK(refused(text(), WIMTAZE_REFUSAL_LAYOUT));
+    CHECK(changed(upgrade(), now));
+    CHECK(first_is(text(), "B!"));
+    CHECK(counted(2, 4, 4, 1018));
+    CHECK(changed(downgrade(), old));
+    CHECK(changed(upgrade(), now));
+    CHECK(line_is(restore(2, 2), "E 2 2 2 2\n"));
+    CHECK(first_is(text(), "B!y"));
+    CHECK(refused(downgrade(), WIMTAZE_REFUSAL_HIGH_TURN));
+    CHECK(first_is(text(), "B!y"));
+    load(now);
+    CHECK(waits(receive("D 7 5 2\n")));
+    CHECK(done(downgrade(), 0, 0));
+    CHECK(done(upgrade(), 0, 0));
+    CHECK(waits(receive("E 7 5 2 2\n")));
+    CHECK(refused(downgrade(), WIMTAZE_REFUSAL_HIGH_TURN));
+}
+
+/* Both trips give the same bytes, from either form. */
+static void both_trips(void)
+{
+    static const char *const pairs[][2] = {{"S 1 0\n", "S2 1 0\n"}, {"S 16 65535\n", "S2 16 65535\n"},
+        {"S 2 1\nC 2 1 65 1 0 0 0 1\n", "S2 2 1\nC 2 1 65 0 0 0 0 1\n"},
+        {"S 2 1\nC 2 1 65 0 0 0 0 1\n", "S2 2 1\nC 2 1 65 1 0 0 0 1\n"},
+        {"S 9 7\nD 1 1 1\n", "S2 9 7\nE 1 1 1 1\n"},
+        {"S 9 7\nD 1 1 1\nD 2 1 1\nD 1 1 2\nD 1 2 1\n", "S2 9 7\nE 1 1 1 1\nE 2 1 1 1\nE 1 1 2 1\nE 1 2 1 1\n"},
+        {"S 9 7\nI 9 7 0 1 1 2 2\nD 16 16 65535\n", "S2 9 7\nI 9 7 0 1 1 2 2\nE 16 16 65535 1\n"},
+        {"S 3 2\nC 1 1 0 0 0 0 2 1\nC 2 1 1114111 1 1 1 0 1\n",
+         "S2 3 2\nC 1 1 0 1 0 0 2 1\nC 2 1 1114111 0 1 1 0 1\n"}};
+    for (size_t k = 0; k < sizeof pairs / sizeof *pairs; k++) {
+        load(pairs[k][0]);
+        CHECK(changed(upgrade(), pairs[k][1]));
+        CHECK(changed(downgrade(), pairs[k][0]));
+        CHECK(changed(upgrade(), pairs[k][1]));
+    }
+}
+
+/* A clock that is too low, for a row or for what waits, is raised both ways, and nothing else is changed. */
+static void clock_raised_on_the_way(void)
+{
+    load("S 2 0\nC 2 5 65 1 0 0 0 1\n");
+    CHECK(changed(upgrade(), "S2 2 5\nC 2 5 65 0 0 0 0 1\n"));
+    CHECK(changed(downgrade(), "S 2 5\nC 2 5 65 1 0 0 0 1\n"));
+    load("S2 2 4\nC 2 5 65 1 0 0 0 1\n");
+    CHECK(changed(downgrade(), "S 2 5\nC 2 5 65 0 0 0 0 1\n"));
+    CHECK(changed(upgrade(), "S2 2 5\nC 2 5 65 1 0 0 0 1\n"));
+    load("S 2 6\nC 2 5 65 1 0 0 0 1\nI 2 9 66 3 1 0 1\nI 3 12 66 3 1 0 1\nD 2 2 13\n");
+    CHECK(changed(upgrade(), "S2 2 9\nC 2 5 65 0 0 0 0 1\nI 2 9 66 3 1 0 1\nI 3 12 66 3 1 0 1\nE 2 2 13 1\n"));
+    load("S2 2 6\nC 2 5 65 0 0 0 0 1\nI 2 9 66 3 1 0 1\nI 3 12 66 3 1 0 1\nE 2 2 13 1\n");
+    CHECK(changed(downgrade(), "S 2 9\nC 2 5 65 1 0 0 0 1\nI 2 9 66 3 1 0 1\nI 3 12 66 3 1 0 1\nD 2 2 13\n"));
+    load("S 2 0\nC 2 65535 65 1 0 0 0 1\n");
+    CHECK(changed(upgrade(), "S2 2 65535\nC 2 65535 65 0 0 0 0 1\n"));
+    CHECK(refused(type(0, 'x'), WIMTAZE_REFUSAL_CLOCK));
+    /* The raised clock may be longer, which counts where an output is short. */
+    load("S 2 0\nC 2 5000 65 1 0 0 0 1\n");
+    CHECK(refused(upgrade_in(sheet_length + 3), WIMTAZE_REFUSAL_OUTPUT));
+    CHECK(done(upgrade_in(sheet_length + 4), 0, 0));
+    load("S2 2 0\nC 2 5000 65 1 0 0 0 1\n");
+    CHECK(refused(downgrade_in(sheet_length + 1), WIMTAZE_REFUSAL_OUTPUT));
+    CHECK(done(downgrade_in(sheet_length + 2), 0, 0));
+}
+
+/* Each refusal of the way forward. */
+static void not_upgraded(void)
+{
+    static const char *const layouts[] = {"", "\n", "S2 1 0\n", "S 1 0", "S 1\n", "S 1 0 0\n", "S 01 0\n", "S 1 0\n\n",
+        "S 1 0\r\n", "s 1 0\n", "S1 1 0\n", "S  1 0\n", "S 1 0 \n", "S 2 1 0\n", "D 1 1 1\n", "C 1 1 65 1 0 0 0 1\n",
+        "S 1 0\nE 1 1 1 1\n", "S 1 0\nD 1 1 1\nE 1 2 1 1\n", "S 1 0\nE 1 1 1\n", "S 1 0\nD 1 1 1 1\n",
+        "S 1 0\nD 1 1\n", "S 1 0\nD 1 1 01\n", "S 1 0\nC 1 1 65 01 0 0 0 1\n", "S 1 0\nC 1 1 65 00 0 0 0 1\n",
+        "S 1 0\nC 1 1 65 -1 0 0 0 1\n", "S 1 0\nC 1 1 65  0 0 0 1\n", "S 1 0\nC 1 1 65 1 0 0 1\n",
+        "S 1 0\nD 1 1 1\nC 1 1 65 1 0 0 0 1\n", "S 1 0\nS 1 0\n", "S 1 0\nS2 1 0\n", "S2 1 0\nC 1 1 65 1 0 0 0 1\n",
+        "S2 1 0\nD 1 1 1\n", "S 1 0\nD 1 1 1"};
+    static const char *const numbers[] = {"S 0 0\n", "S 17 0\n", "S 1 65536\n", "S 257 0\n",
+        "S 1 18446744073709551616\n",
+        "S 1 0\nC 2 1 65 2 0 0 0 1\n", "S 1 0\nC 2 1 65 3 0 0 0 1\n", "S 1 0\nC 2 1 65 255 0 0 0 1\n",
+        "S 1 0\nC 2 1 65 256 0 0 0 1\n", "S 1 0\nC 2 1 65 257 0 0 0 1\n", "S 1 0\nC 2 1 65 65537 0 0 0 1\n",
+        "S 1 0\nC 2 1 65 4294967296 0 0 0 1\n", "S 1 0\nC 2 1 65 18446744073709551616 0 0 0 1\n",
+        "S 1 0\nC 2 1 65 18446744073709551617 0 0 0 1\n", "S 1 0\nC 17 1 65 1 0 0 0 1\n",
+        "S 1 0\nC 2 0 65 1 0 0 0 1\n", "S 1 0\nC 2 1 55296 1 0 0 0 1\n", "S 1 0\nC 2 1 65 1 2 1 0 1\n",
+        "S 1 0\nD 0 1 1\n", "S 1 0\nD 17 1 1\n", "S 1 0\nD 1 0 1\n", "S 1 0\nD 1 1 0\n", "S 1 0\nD 1 1 65536\n",
+        "S 1 0\nI 1 1 65 0 1 0 1\n"};
+    static const char *const forms[] = {"S 1 0\nD 1 1 1\nD 1 1 1\n", "S 1 0\nD 1 1 1\nD 2 1 1\nD 1 1 1\n",
+        "S 1 0\nC 1 1 65 0 0 0 0 1\nD 2 1 1\n", "S 1 0\nC 1 1 65 1 0 0 0 1\nC 1 1 65 1 0 0 0 1\n",
+        "S 1 0\nI 1 1 65 0 0 0 1\n", "S 1 0\nC 1 1 65 1 2 1 0 1\n", "S 1 0\nC 1 1 65 1 0 0 0 1\nI 1 1 65 2 1 0 1\n",
+        "S 1 0\nC 1 1 65 1 2 1 0 1\nC 2 1 66 1 0 0 0 1\n"};
+    for (size_t k = 0; k < sizeof layouts / sizeof *layouts; k++) {
+        load(layouts[k]);
+        CHECK(refused(upgrade(), WIMTAZE_REFUSAL_LAYOUT));
+    }
+    for (size_t k = 0; k < sizeof numbers / sizeof *numbers; k++) {
+        load(numbers[k]);
+        CHECK(refused(upgrade(), WIMTAZE_REFUSAL_RANGE));
+    }
+    for (size_t k = 0; k < sizeof forms / sizeof *forms; k++) {
+        load(forms[k]);
+        CHECK(refused(upgrade(), WIMTAZE_REFUSAL_FORM));
+    }
+    load("S 1 0\nC 2 1 65 1 0 0 0 1\nD 1 1 1\n");
+    CHECK(refused(upgrade_in(0), WIMTAZE_REFUSAL_OUTPUT));
+    CHECK(refused(upgrade_in(sheet_length + 2), WIMTAZE_REFUSAL_OUTPUT));
+    CHECK(done(upgrade_in(sheet_length + 3), 0, 0));
+}
+
+/* Each refusal of the way back. */
+static void not_downgraded(void)
+{
+    static const char *const layouts[] = {"", "\n", "S 1 0\n", "S 1 0\nC 2 1 65 1 0 0 0 1\n", "S2 1 0", "S2 1\n",
+        "S2 1 0\nD 1 1 1\n", "S2 1 0\nE 1 2 1 1\nD 1 1 1\n", "S2 1 0\nE 1 1 1\n", "S2 1 0\nC 1 1 65 01 0 0 0 1\n",
+        "S2 1 0\nE 1 1 1 01\n", "S2 1 0\n\n", "S1 1 0\n", "S2 1 0\nE 1 1 1 1"};
+    static const char *const numbers[] = {"S2 0 0\n", "S2 17 0\n", "S2 1 65536\n", "S2 1 0\nC 2 1 65 256 0 0 0 1\n",
+        "S2 1 0\nC 2 1 65 18446744073709551617 0 0 0 1\n", "S2 1 0\nE 1 1 1 0\n", "S2 1 0\nE 1 1 1 256\n",
+        "S2 1 0\nE 1 1 1 257\n", "S2 1 0\nE 17 1 1 1\n", "S2 1 0\nC 2 1 65 0 2 1 0 1\n"};
+    static const char *const forms[] = {"S2 1 0\nE 1 1 1 1\nE 1 1 1 1\n", "S2 1 0\nC 1 1 65 1 0 0 0 1\nE 2 1 1 1\n",
+        "S2 1 0\nC 1 1 65 0 0 0 0 1\nC 1 1 65 0 0 0 0 1\n", "S2 1 0\nI 1 1 65 0 0 0 1\n",
+        "S2 1 0\nC 1 1 65 0 2 1 0 1\n"};
+    static const char *const turns[] = {"S2 1 0\nC 2 1 65 2 0 0 0 1\n", "S2 1 0\nC 2 1 65 3 0 0 0 1\n",
+        "S2 1 0\nC 2 1 65 255 0 0 0 1\n", "S2 1 0\nC 2 1 65 0 0 0 0 1\nC 2 2 65 2 0 0 0 1\n",
+        "S2 1 0\nC 2 1 65 254 0 0 0 1\nC 2 2 65 1 0 0 0 1\n", "S2 1 0\nE 1 1 1 2\n", "S2 1 0\nE 1 1 1 255\n",
+        "S2 1 0\nC 2 1 65 1 0 0 0 1\nE 1 1 1 1\nE 1 1 1 2\n", "S2 1 0\nE 1 1 1 3\nE 1 1 1 1\n",
+        "S2 2 0\nC 2 1 65 2 0 0 0 1\n"};
+    for (size_t k = 0; k < sizeof layouts / sizeof *layouts; k++) {
+        load(layouts[k]);
+        CHECK(refused(downgrade(), WIMTAZE_REFUSAL_LAYOUT));
+    }
+    for (size_t k = 0; k < sizeof numbers / sizeof *numbers; k++) {
+        load(numbers[k]);
+        CHECK(refused(downgrade(), WIMTAZE_REFUSAL_RANGE));
+    }
+    for (size_t k = 0; k < sizeof forms / sizeof *forms; k++) {
+        load(forms[k]);
+        CHECK(refused(downgrade(), WIMTAZE_REFUSAL_FORM));
+    }
+    for (size_t k = 0; k < sizeof turns / sizeof *turns; k++) {
+        load(turns[k]);
+        CHECK(refused(downgrade(), WIMTAZE_REFUSAL_HIGH_TURN));
+    }
+    load("S2 1 0\nC 2 1 65 0 0 0 0 1\nE 1 1 1 1\n");
+    CHECK(refused(downgrade_in(0), WIMTAZE_REFUSAL_OUTPUT));
+    CHECK(refused(downgrade_in(sheet_length - 4), WIMTAZE_REFUSAL_OUTPUT));
+    CHECK(done(downgrade_in(sheet_length - 3), 0, 0));
+}
+
+/* Two grounds that hold at once, every such pair: the first in checking order is told. */
+static void first_of_two(void)
+{
+    static const struct {
+        const char *sheet;
+        int told, other;
+    } forward[] = {{"S 1 0\nD 1 1 0\nE 1 1 1 1\n", 1, 2}, {"S 1 0\nC 2 1 65 2 0 0 0 1\nE 1 1 1 1\n", 1, 2},
+        {"S 1 0\nI 1 1 65 0 0 0 1\nE 1 1 1 1\n", 1, 3}, {"S 1 0\nE 1 1 1 1\n", 1, 12},
+        {"S 1 0\nI 1 1 65 0 0 0 1\nD 1 1 0\n", 2, 3},
+        {"S 1 0\nC 2 1 65 2 0 0 0 1\nC 2 1 65 1 0 0 0 1\n", 2, 3}, {"S 1 0\nC 2 1 65 2 0 0 0 1\n", 2, 12},
+        {"S 1 0\nD 1 1 1\nD 1 1 1\n", 3, 12}},
+      back[] = {{"S2 1 0\nE 1 1 1 0\nD 1 1 1\n", 1, 2}, {"S2 1 0\nI 1 1 65 0 0 0 1\nD 1 1 1\n", 1, 3},
+        {"S2 1 0\nC 2 1 65 2 0 0 0 1\nD 1 1 1\n", 1, 15}, {"S2 1 0\nE 1 1 1 2\nD 1 1 1\n", 1, 15},
+        {"S2 1 0\nD 1 1 1\n", 1, 12}, {"S2 1 0\nI 1 1 65 0 0 0 1\nE 1 1 1 0\n", 2, 3},
+        {"S2 1 0\nC 2 1 65 2 0 0 0 1\nE 1 1 1 256\n", 2, 15}, {"S2 1 0\nE 1 1 1 2\nE 1 1 1 0\n", 2, 15},
+        {"S2 1 0\nE 1 1 1 0\n", 2, 12}, {"S2 1 0\nC 2 1 65 2 0 0 0 1\nE 1 2 1 1\n", 3, 15},
+        {"S2 1 0\nE 1 1 1 2\nE 1 1 1 2\n", 3, 15}, {"S2 1 0\nE 1 1 1 1\nE 1 1 1 1\n", 3, 12},
+        {"S2 1 0\nC 2 1 65 2 0 0 0 1\n", 15, 12}, {"S2 1 0\nE 1 1 1 2\n", 15, 12}};
+    for (size_t k = 0; k < sizeof forward / sizeof *forward; k++) {
+        load(forward[k].sheet);
+        CHECK(refused(upgrade_in(forward[k].other == 12 ? 0 : ROOM), forward[k].told));
+    }
+    for (size_t k = 0; k < sizeof back / sizeof *back; k++) {
+        load(back[k].sheet);
+        CHECK(refused(downgrade_in(back[k].other == 12 ? 0 : ROOM), back[k].told));
+    }
+}
+
 /* ---- waiting, throwing out, and what releases it */
 
 static void released(void)
@@ -1089,6 +1311,36 @@ static void largest(void)
     CHECK(refused(restore(16, 64500), WIMTAZE_REFUSAL_LAST_TURN));
 }
 
+/* The same of the first form; forward, it has a byte more in its first line and two in each waiting line. */
+static void largest_old(void)
+{
+    static uint8_t old[ROOM];
+    char line[64];
+    load("S 16 65535\n");
+    for (int k = 0; k < 1024; k++) {
+        int n = sprintf(line, "C 16 %d 1114111 %d ", 64000 + k, k % 2);
+        n += sprintf(line + n, k == 0 ? "0 0 " : "16 %d ", 64000 + k - 1);
+        sprintf(line + n, k == 1023 ? "0 1\n" : "16 %d\n", 64000 + k + 1);
+        append(line);
+    }
+    for (int k = 0; k < 512; k++) {
+        sprintf(line, "D %d 15 %d\n", 1 + k / 32, 10000 + k % 32);
+        append(line);
+    }
+    size_t length = sheet_length;
+    memcpy(old, sheet, length);
+    CHECK(length == WIMTAZE_OLD_SHEET_MAX - 10 - 9 * 32);
+    CHECK(refused(upgrade_in(length + 1 + 2 * 512 - 1), WIMTAZE_REFUSAL_OUTPUT));
+    CHECK(done(upgrade_in(length + 1 + 2 * 512), 0, 0));
+    CHECK(sheet_length == length + 1 + 2 * 512);
+    CHECK(counted(512, 512, 1024, 0));
+    CHECK(refused(downgrade_in(length - 1), WIMTAZE_REFUSAL_OUTPUT));
+    CHECK(done(downgrade_in(length), 0, 0));
+    CHECK(sheet_length == length && memcmp(sheet, old, length) == 0);
+    append("D 4 9 9\n");
+    CHECK(refused(upgrade(), WIMTAZE_REFUSAL_FORM));
+}
+
 static void version(void)
 {
     char parts[32];
@@ -1098,9 +1350,9 @@ static void version(void)
 
 static void every_refusal(void)
 {
-    for (unsigned n = 1; n <= 14; n++)
+    for (unsigned n = 1; n <= 15; n++)
         CHECK((refusals_seen >> n & 1) == (n != WIMTAZE_REFUSAL_TAKEN));
-    CHECK(refusals_seen >> 15 == 0);
+    CHECK(refusals_seen >> 16 == 0);
 }
 
 /* ---- */
@@ -1132,6 +1384,12 @@ static const struct {
     {"Req 05: turns that wait", waiting_turns},
     {"Req 05: restoring", restoring},
     {"Req 05: refusals of restoring", not_restored},
+    {"Req 06: last season's note, forward and back", last_season},
+    {"Req 06: both trips", both_trips},
+    {"Req 06: a clock that is too low", clock_raised_on_the_way},
+    {"Req 06: refusals of the way forward", not_upgraded},
+    {"Req 06: refusals of the way back", not_downgraded},
+    {"Req 06: the first of two refusals", first_of_two},
     {"what an insert releases", released},
     {"placing", placing},
     {"layout of lines and sheets", layout},
@@ -1146,6 +1404,7 @@ static const struct {
     {"short outputs are left untouched", short_outputs},
     {"the longest lines and text", longest},
     {"the largest sheet", largest},
+    {"the largest sheet of the first form", largest_old},
     {"the version and its parts", version},
     {"each refusal was met, and 6 never", every_refusal},
 };

@@ -55,8 +55,11 @@ static void *calls(void *unused)
     if (wimtaze_character_count(wimtaze_counts(sheet, length)) != 1024)
         failures++;
     keep(wimtaze_erase(sheet, length, 512, after, sizeof after, line, sizeof line), WIMTAZE_DONE);
+    keep(wimtaze_downgrade(sheet, length, after, sizeof after), WIMTAZE_DONE);
+    keep(wimtaze_upgrade(sheet, length, after, sizeof after), WIMTAZE_DONE);
     keep(wimtaze_restore(sheet, length, 1, 512 - 33, after, sizeof after, line, sizeof line), WIMTAZE_DONE);
     keep(wimtaze_restore(sheet, length, 1, 512 - 33, after, sizeof after, line, sizeof line), WIMTAZE_REFUSED);
+    keep(wimtaze_downgrade(sheet, length, after, sizeof after), WIMTAZE_REFUSED);
     keep(wimtaze_receive(sheet, length, (const uint8_t *)"E\t2\t2\t1\t255\n", 12, after, sizeof after), WIMTAZE_DONE);
     return unused;
 }
