@@ -1,7 +1,8 @@
 -- Every state begun empty has grown by integration alone, so placing never fails there.
 use Prim.Native.Nat.{ℕ}
 use native.Mathlib.Omega.{arith}
-use mathlib.Core.Path.{_≡_, refl}
+use mathlib.Core.Path.{_≡_, refl, ap, sym, _∙_}
+use mathlib.Core.Logic.{⊎-elim}
 use mathlib.Core.Bool.{true, false, not}
 use mathlib.Core.List.{List, [], _∷_}
 use borrow.Author.Tests.{not-false}
@@ -10,7 +11,7 @@ use Rattle.woot.specs.declared.Insert.{Insert}
 use Rattle.woot.specs.declared.Operation.{Operation}
 use Rattle.woot.specs.declared.Operation.the-variants.{Insert as insert, Toggle as toggle}
 use Rattle.woot.specs.declared.Character.{Character}
-use Rattle.woot.specs.declared.Refusal.the-variants.{Range, Form, Unplaceable}
+use Rattle.woot.specs.declared.Refusal.the-variants.{Range, Form, Position, Unplaceable}
 use Rattle.woot.specs.declared.Answer.{Answer}
 use Rattle.woot.specs.declared.Answer.the-variants.{Refused}
 use Rattle.woot.specs.declared.Sent.the-variants.{Refused as sentRefused}
@@ -20,7 +21,8 @@ use Rattle.woot.specs.Pending.{executable, crossed, unplaceable, integrate, Dra
 use Rattle.woot.specs.Form.{wellFormed}
 use Rattle.woot.specs.Answers.{Check, Reported, here, number}
 use Rattle.woot.specs.Calls.{Outcome, unchanged, withCharacters, withPending, carryOut, defer, receiveChecks, receive, generatedInsert, insertChecks, localInsert, deleteChecks, localDelete, restoreChecks, localRestore}
-use Rattle.woot.specs.Histories.{Call, Begun, empty, startOf, inserting, deleting, restoring, receiving, outcome, run}
+use Rattle.woot.specs.Cursor.{receiveAt}
+use Rattle.woot.specs.Histories.{Call, Begun, empty, startOf, inserting, deleting, restoring, receiving, receivingAt, outcome, run}
 use Rattle.convergence.specs.Agreement.{Grown}
 use Rattle.convergence.specs.Theorems.{GrownThroughout, NeverUnplaceable}
 use Rattle.lists.proofs.Tests.{clash, and-left}
@@ -33,6 +35,7 @@ use Rattle.convergence.proofs.Soundness.{fresh-unheld, sound-in, sound-
 use Rattle.convergence.proofs.Drains.{Draining, stop, discard, carry}
 use Rattle.convergence.proofs.Draining.{sound-carry}
 use Rattle.convergence.proofs.Steps.{Step, turned, adds, raises, defers, step, generated-uncrossed, after-insert}
+use Rattle.convergence.proofs.Pointing.{receive-at-else}
 use Rattle.convergence.proofs.Refusals.{skipped, held-there, never, unreported, other, other-sent, receive-refuses, insert-refuses, delete-refuses, restore-refuses, answer-refused}
 
 grown-carry : {cs : List Character} {os ps : List Operation} (o : Operation) → Extract o os ps → Sound cs ps → executable cs o ≡ true → crossed cs o ≡ false → Grown cs → Grown (integrate cs o)
@@ -108,11 +111,14 @@ unfolding restoreChecks
 restore-placeable s x = unreported (restoreChecks (wellFormed s) s x) (other-sent (λ h. omega arith), (other-sent (λ h. omega arith), (other-sent (λ h. omega arith), (other-sent (λ h. omega arith), tt))))
 
 placeable : (s : State) (c : Call) → Grown (s .characters) → outcome s c .answer ≡ Refused Unplaceable → ⊥
-unfolding outcome receive localInsert localDelete localRestore
+unfolding outcome receive receiveAt unchanged localInsert localDelete localRestore
 placeable s (inserting g n) w e = insert-placeable s g n w (insert-refuses (wellFormed s) s g n Unplaceable .0 (answer-refused _ Unplaceable e))
 placeable s (deleting p) w e = delete-placeable s p (delete-refuses (wellFormed s) s p Unplaceable .0 (answer-refused _ Unplaceable e))
 placeable s (restoring x) w e = restore-placeable s x (restore-refuses (wellFormed s) s x Unplaceable .0 (answer-refused _ Unplaceable e))
 placeable s (receiving o) w e = receive-placeable s o w (receive-refuses (wellFormed s) s o Unplaceable .0 e)
+placeable s (receivingAt o g) w e =
+    ⊎-elim (λ f. receive-placeable s o w (receive-refuses (wellFormed s) s o Unplaceable .0 (ap (λ r. r .answer) (sym f) ∙ e)))
+    (λ f. other {r = Position} {q = Unplaceable} (λ h. omega arith) (ap (λ r. r .answer) (sym f) ∙ e)) (receive-at-else (wellFormed s) s o g)
 
 pub never-unplaceable : NeverUnplaceable
 never-unplaceable b cs c = placeable (run (startOf b) cs) c (grown-throughout b cs)

@@ -3,6 +3,7 @@
 use Prim.Native.Nat.{ℕ, _+_, _≤_}
 use native.Mathlib.Omega.{arith}
 use mathlib.Core.Path.{_≡_, refl, ap, sym, _∙_, subst}
+use mathlib.Core.Logic.{⊎-elim}
 use mathlib.Core.Bool.{Bool, true, false, cond}
 use mathlib.Core.Option.{Option, none, some}
 use mathlib.Core.List.{List, [], _∷_, _++_, map}
@@ -13,7 +14,7 @@ use Rattle.woot.specs.declared.Insert.{Insert}
 use Rattle.woot.specs.declared.Operation.{Operation}
 use Rattle.woot.specs.declared.Operation.the-variants.{Insert as insert, Toggle as toggle}
 use Rattle.woot.specs.declared.Character.{Character}
-use Rattle.woot.specs.declared.Refusal.the-variants.{Taken}
+use Rattle.woot.specs.declared.Refusal.the-variants.{Position, Taken}
 use Rattle.woot.specs.declared.Answer.{Answer}
 use Rattle.woot.specs.declared.Answer.the-variants.{Done, Duplicate, Refused}
 use Rattle.woot.specs.declared.Sent.{Sent}
@@ -26,7 +27,8 @@ use Rattle.woot.specs.Clock.{heard, heardAll}
 use Rattle.woot.specs.Form.{presentInserts, allInRange, clockKept, wellFormed, raised}
 use Rattle.woot.specs.Answers.{Reported, first, decided, answerOf}
 use Rattle.woot.specs.Calls.{Outcome, unchanged, allIntegrated, withCharacters, withPending, afterDrain, carryOut, defer, accept, receiveChecks, receiveWhen, receive, generatedInsert, insertChecks, sendInsert, localInsertWhen, localInsert, deleteChecks, generatedDelete, sendToggle, localDeleteWhen, localDelete, restoreChecks, generatedToggle, localRestoreWhen, localRestore}
-use Rattle.woot.specs.Histories.{Call, inserting, deleting, restoring, receiving, withAnswer, outcome}
+use Rattle.woot.specs.Cursor.{receiveAt}
+use Rattle.woot.specs.Histories.{Call, inserting, deleting, restoring, receiving, receivingAt, withAnswer, outcome}
 use Rattle.lists.specs.Lists.{every}
 use Rattle.lists.proofs.Tests.{clash, and-left, and-right, and-intro, three}
 use Rattle.lists.proofs.Members.{every-append}
@@ -36,6 +38,7 @@ use Rattle.convergence.proofs.Forms.{Formed, formed}
 use Rattle.convergence.proofs.Steps.{Turned, Step, turned, adds, raises, defers, step, first-some, receive-turned, formed-untaken, typed-heard}
 use Rattle.convergence.proofs.Kept.{insert-clock}
 use Rattle.convergence.proofs.Replies.{none-first, insert-does}
+use Rattle.convergence.proofs.Pointing.{receive-at-else}
 use Rattle.convergence.proofs.Refusals.{skipped, held-there, never, unreported, other, other-sent, receive-refuses, insert-refuses, delete-refuses, restore-refuses, answer-refused}
 use Rattle.convergence.proofs.Ranges.{origin-ranged}
 
@@ -68,11 +71,14 @@ receive-untaken s o =
     (other (λ h. omega arith), (other (λ h. omega arith), ((λ e. let z : _≡_ {A = ℕ} 0 1 = cc in omega arith), (other (λ h. omega arith), (other (λ h. omega arith), (other (λ h. omega arith), (other (λ h. omega arith), (other (λ h. omega arith), tt))))))))
 
 untaken : (s : State) (c : Call) → outcome s c .answer ≡ Refused Taken → ⊥
-unfolding outcome receive localInsert localDelete localRestore
+unfolding outcome receive receiveAt unchanged localInsert localDelete localRestore
 untaken s (inserting g n) e = insert-untaken (wellFormed s) s g n (formed s) (insert-refuses (wellFormed s) s g n Taken .0 (answer-refused _ Taken e))
 untaken s (deleting p) e = delete-untaken s p (delete-refuses (wellFormed s) s p Taken .0 (answer-refused _ Taken e))
 untaken s (restoring x) e = restore-untaken s x (restore-refuses (wellFormed s) s x Taken .0 (answer-refused _ Taken e))
 untaken s (receiving o) e = receive-untaken s o (receive-refuses (wellFormed s) s o Taken .0 e)
+untaken s (receivingAt o g) e =
+    ⊎-elim (λ f. receive-untaken s o (receive-refuses (wellFormed s) s o Taken .0 (ap (λ r. r .answer) (sym f) ∙ e)))
+    (λ f. other {r = Position} {q = Taken} (λ h. omega arith) (ap (λ r. r .answer) (sym f) ∙ e)) (receive-at-else (wellFormed s) s o g)
 
 pub never-taken : NeverTaken
 never-taken = (λ s h. formed-untaken s (formed s h), untaken)
@@ -90,12 +96,15 @@ off-turned (deleting p) a w = refl
 off-turned (restoring x) a w = refl
 off-turned (receiving o) Duplicate w = refl
 off-turned (receiving o) (Refused r) w = refl
+off-turned (receivingAt o g) Duplicate w = refl
+off-turned (receivingAt o g) (Refused r) w = refl
 
 off-done : (c : Call) (n m : ℕ) → putOff c (Done n m) ≡ []
 off-done (inserting g k) n m = refl
 off-done (deleting p) n m = refl
 off-done (restoring x) n m = refl
 off-done (receiving o) n m = refl
+off-done (receivingAt o g) n m = refl
 
 turned-follows : (s : State) (c : Call) (a : Answer) → Turned a → Follows s c (unchanged s a)
 unfolding unchanged allIntegrated
@@ -135,11 +144,14 @@ restore-follows s x none = refl
 restore-follows s x (some a) = refl
 
 pub clock-follows : ClockFollows
-unfolding outcome localInsert localInsertWhen localDelete localDeleteWhen localRestore localRestoreWhen receive receiveWhen
+unfolding outcome localInsert localInsertWhen localDelete localDeleteWhen localRestore localRestoreWhen receive receiveWhen receiveAt
 clock-follows s (inserting g n) = insert-follows s g n (first (insertChecks (wellFormed s) s g n))
 clock-follows s (deleting p) = delete-follows s p (first (deleteChecks (wellFormed s) s p))
 clock-follows s (restoring x) = restore-follows s x (first (restoreChecks (wellFormed s) s x))
 clock-follows s (receiving o) = receive-follows s o (first (receiveChecks (wellFormed s) s o)) refl
+clock-follows s (receivingAt o g) =
+    ⊎-elim (λ e. rw e (receive-follows s o (first (receiveChecks (wellFormed s) s o)) refl)) (λ e. rw e (turned-follows s (receivingAt o g) (Refused Position) tt))
+    (receive-at-else (wellFormed s) s o g)
 
 -- what a step drained raised nothing
 undrained : (s : State) (c : Call) {r : Outcome Answer} → Step s r → Follows s c r → r .state .site ≡ heardAll (s .site) (inserts (putOff c (r .answer) ++ r .own))

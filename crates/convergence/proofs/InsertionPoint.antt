@@ -15,6 +15,7 @@ use Rattle.woot.specs.Operations.{origin, isVisible}
 use Rattle.woot.specs.Ranges.{characterId, characterInRange}
 use Rattle.woot.specs.Placing.{identifiers, sequence, indexOf, placeOf, held, above}
 use Rattle.woot.specs.Calls.{visibles}
+use Rattle.woot.specs.Cursor.{leftOf}
 use Rattle.convergence.specs.Agreement.{Standing}
 use Rattle.lists.specs.Lists.{any, keep, distinct}
 use Rattle.lists.proofs.Tests.{and-left, and-right, and-intro, not-intro}
@@ -22,27 +23,8 @@ use Rattle.lists.proofs.Members.{get-member, any-none, none-any}
 use Rattle.convergence.proofs.Identifiers.{same-refl, ne-same, same-sym}
 use Rattle.convergence.proofs.Places.{index-here, index-later, held-end, held-member, place-above}
 use Rattle.convergence.proofs.Ranges.{no-mark, in-range, origin-ranged}
+use Rattle.convergence.proofs.Part.{Part, none, skip, keeps, part-member, part-append}
 use Rattle.convergence.proofs.Extract.{extract-last, extract-any, extract-distinct}
-
--- xs are some of the elements of zs, in their order
-data Part : List Identifier → List Identifier → Type 0 where
-  none : Part [] []
-  skip : {z : Identifier} {xs zs : List Identifier} → Part xs zs → Part xs (z ∷ zs)
-  keeps : {z : Identifier} {xs zs : List Identifier} → Part xs zs → Part (z ∷ xs) (z ∷ zs)
-
-part-member : {x : Identifier} {xs zs : List Identifier} → Part xs zs → List·Memᴰ x xs → List·Memᴰ x zs
-part-member (skip p) m = List·Memᴰ·tail (part-member p m)
-part-member (keeps p) (List·Memᴰ·head e) = List·Memᴰ·head e
-part-member (keeps p) (List·Memᴰ·tail m) = List·Memᴰ·tail (part-member p m)
-
-part-same : (xs : List Identifier) → Part xs xs
-part-same [] = none
-part-same (x ∷ xs) = keeps (part-same xs)
-
-part-append : {xs zs : List Identifier} (ys : List Identifier) → Part xs zs → Part (xs ++ ys) (zs ++ ys)
-part-append ys none = part-same ys
-part-append ys (skip p) = skip (part-append ys p)
-part-append ys (keeps p) = keeps (part-append ys p)
 
 part-visible : (cs : List Character) → Part (visibles cs) (identifiers cs)
 unfolding visibles
@@ -112,10 +94,7 @@ get-default [] k d e h = absurd (omega arith)
 get-default (x ∷ xs) zero d e h = refl
 get-default (x ∷ xs) (suc k) d e h = get-default xs k d e (omega arith)
 
--- the character on the left of an insertion point, and the one on its right
-abbrev pub leftOf : List Character → ℕ → Identifier
-leftOf cs g = getD (begin ∷ visibles cs) g begin
-
+-- the character on the right of an insertion point
 abbrev pub rightOf : List Character → ℕ → Identifier
 rightOf cs g = getD (visibles cs ++ end ∷ []) g end
 

@@ -60,7 +60,7 @@ waiting-reached s (toggle d) h =
     subst (λ (js : List Insert). every (reaches (s .site)) (identifiers (s .characters) ++ map (λ j. j .id) js) ≡ true) (sym (inserts-same (extract-last (toggle d) (s .pending)))) h
 
 -- a step that changes the state leads from a state in form to one in form
-step-formed : (s : State) {r : Outcome Answer} → Step s r → Formed s → Formed (r .state)
+pub step-formed : (s : State) {r : Outcome Answer} → Step s r → Formed s → Formed (r .state)
 unfolding unchanged carryOut defer withCharacters withPending
 step-formed s (turned a w) f = f
 step-formed s (adds i a) f =

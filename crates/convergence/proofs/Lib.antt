@@ -2,6 +2,7 @@ pub mod Identifiers
 pub mod Ranges
 pub mod Clocks
 pub mod Extract
+pub mod Part
 pub mod Insertion
 pub mod Places
 pub mod Toggling
@@ -17,8 +18,11 @@ pub mod Soundness
 pub mod Drains
 pub mod Draining
 pub mod InsertionPoint
+pub mod Through
 pub mod Toggles
+pub mod Pointing
 pub mod Steps
+pub mod Moving
 pub mod Named
 pub mod Shares
 pub mod Kept
@@ -26,6 +30,8 @@ pub mod Hearing
 pub mod Faithful
 pub mod Histories
 pub mod Refusals
+pub mod Cursors
+pub mod Ends
 pub mod Grown
 pub mod Convergence
 pub mod Isolation

@@ -19,10 +19,12 @@ use Rattle.woot.specs.Pending.{executable}
 use Rattle.woot.specs.Form.{wellFormed}
 use Rattle.woot.specs.Answers.{Check, first, decided, Reported, here, later, number, answerOf}
 use Rattle.woot.specs.Calls.{Outcome, unchanged, carryOut, defer, accept, receiveChecks, receiveWhen, receive, insertChecks, generatedInsert, sendInsert, localInsertWhen, localInsert, deleteChecks, generatedDelete, sendToggle, localDeleteWhen, localDelete, restoreChecks, generatedToggle, localRestoreWhen, localRestore}
-use Rattle.woot.specs.Histories.{inserting, deleting, restoring, receiving, withAnswer, outcome}
+use Rattle.woot.specs.Cursor.{receiveAtChecks, receiveAtWhen, receiveAt}
+use Rattle.woot.specs.Histories.{inserting, deleting, restoring, receiving, receivingAt, withAnswer, outcome}
 use Rattle.lists.proofs.Tests.{some-eq, no-some}
 use Rattle.convergence.proofs.Steps.{All}
 use Rattle.convergence.specs.Theorems.{ReceiveRefuses, ReceiveKnows, InsertRefuses, DeleteRefuses, RestoreRefuses, RefusedUnchanged, KnownUnchanged}
+use Rattle.convergence.specs.Cursors.{ReceiveAtRefuses, ReceiveAtKnows}
 
 module _ {A : Type 0} where
   pub first-reported : (cs : List (Check A)) (a : A) → first cs ≡ some a → Reported a cs
@@ -121,6 +123,14 @@ pub receive-knows : ReceiveKnows
 unfolding receiveWhen
 receive-knows formed s o = answered-exactly s (receiveChecks formed s o) (accept s o) Duplicate (accept-never-known s o)
 
+pub receive-at-refuses : ReceiveAtRefuses
+unfolding receiveAtWhen
+receive-at-refuses formed s o g r = answered-exactly s (receiveAtChecks formed s o g) (accept s o) (Refused r) (accept-never-refused s o r)
+
+pub receive-at-knows : ReceiveAtKnows
+unfolding receiveAtWhen
+receive-at-knows formed s o g = answered-exactly s (receiveAtChecks formed s o g) (accept s o) Duplicate (accept-never-known s o)
+
 pub insert-refuses : InsertRefuses
 unfolding localInsertWhen sendInsert carryOut
 insert-refuses formed s g n r = answered-exactly s (insertChecks formed s g n) (sendInsert s (generatedInsert s g n)) (sentRefused r) (sent-never-refused r)
@@ -145,7 +155,7 @@ answer-known (sentDone o n m) e = let z : _≡_ {A = ℕ} 0 1 = cc in omega arit
 answer-known (sentRefused q) e = let z : _≡_ {A = ℕ} 0 1 = cc in omega arith
 
 pub refused-unchanged : RefusedUnchanged
-unfolding outcome localInsert localInsertWhen sendInsert carryOut localDelete localDeleteWhen localRestore localRestoreWhen sendToggle receive receiveWhen answerOf unchanged
+unfolding outcome localInsert localInsertWhen sendInsert carryOut localDelete localDeleteWhen localRestore localRestoreWhen sendToggle receive receiveWhen receiveAt receiveAtWhen answerOf unchanged
 refused-unchanged s (inserting g n) r e =
     ap (withAnswer answerOf) (decided-unchanged s (first (insertChecks (wellFormed s) s g n)) (sendInsert s (generatedInsert s g n)) (sentRefused r) (sent-never-refused r) (answer-refused _ r e))
 refused-unchanged s (deleting p) r e =
@@ -154,11 +164,15 @@ refused-unchanged s (restoring x) r e =
     ap (withAnswer answerOf) (decided-unchanged s (first (restoreChecks (wellFormed s) s x)) (sendToggle s (generatedToggle s x)) (sentRefused r) (sent-never-refused r) (answer-refused _ r e))
 refused-unchanged s (receiving o) r e =
     decided-unchanged s (first (receiveChecks (wellFormed s) s o)) (accept s o) (Refused r) (accept-never-refused s o r) e
+refused-unchanged s (receivingAt o g) r e =
+    decided-unchanged s (first (receiveAtChecks (wellFormed s) s o g)) (accept s o) (Refused r) (accept-never-refused s o r) e
 
 pub known-unchanged : KnownUnchanged
-unfolding outcome receive receiveWhen
+unfolding outcome receive receiveWhen receiveAt receiveAtWhen
 known-unchanged s (inserting g n) e = absurd (answer-known _ e)
 known-unchanged s (deleting p) e = absurd (answer-known _ e)
 known-unchanged s (restoring x) e = absurd (answer-known _ e)
 known-unchanged s (receiving o) e =
     decided-unchanged s (first (receiveChecks (wellFormed s) s o)) (accept s o) Duplicate (accept-never-known s o) e
+known-unchanged s (receivingAt o g) e =
+    decided-unchanged s (first (receiveAtChecks (wellFormed s) s o g)) (accept s o) Duplicate (accept-never-known s o) e

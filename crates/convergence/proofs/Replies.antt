@@ -20,10 +20,12 @@ use Rattle.woot.specs.State.{State}
 use Rattle.woot.specs.Pending.{executable}
 use Rattle.woot.specs.Answers.{number, Word, done, waits, known, refused, reply, answerOf, sentOperation, Check, first, NoneHolds, decided}
 use Rattle.woot.specs.Calls.{Outcome, unchanged, carryOut, defer, accept, receiveChecks, receiveWhen, generatedInsert, insertChecks, sendInsert, localInsertWhen, generatedDelete, deleteChecks, sendToggle, localDeleteWhen, generatedToggle, restoreChecks, localRestoreWhen}
+use Rattle.woot.specs.Cursor.{receiveAtChecks, receiveAtWhen}
 use Rattle.lists.proofs.Tests.{some-eq, no-some}
 use Rattle.convergence.specs.Theorems.{NumbersDiffer, ReceiveNumbers, InsertNumbers, DeleteNumbers, RestoreNumbers, ReceiveDoes, ReceiveWaits, InsertDoes, DeleteDoes, RestoreDoes, InsertSends, DeleteSends, RestoreSends}
-use Rattle.convergence.proofs.Refusals.{receive-refuses, insert-refuses, delete-refuses, restore-refuses, answer-refused}
-use Rattle.convergence.proofs.Steps.{first-none, All, first-some, Turned, receive-turned, Refusing, insert-turned, delete-turned, restore-turned}
+use Rattle.convergence.specs.Cursors.{ReceiveAtNumbers, ReceiveAtDoes, ReceiveAtWaits}
+use Rattle.convergence.proofs.Refusals.{receive-refuses, receive-at-refuses, insert-refuses, delete-refuses, restore-refuses, answer-refused}
+use Rattle.convergence.proofs.Steps.{first-none, All, first-some, Turned, receive-turned, receive-at-turned, Refusing, insert-turned, delete-turned, restore-turned}
 
 -- ---- by number
 
@@ -104,13 +106,17 @@ sent-number : (a : Sent) (r : Refusal) → (reply (answerOf a) .refusal ≡ numb
 unfolding answerOf
 sent-number a r = (λ e. answer-refused a r (answer-number (answerOf a) r .0 e), λ e. answer-number (answerOf a) r .1 (ap answerOf e))
 
-pub receive-numbers : ReceiveNumbers
-receive-numbers formed s o r =
-    let a = answer-number (receiveWhen formed s o .answer) r in
-    let b = receive-refuses formed s o r in
-    (λ h. b .0 (a .0 h), λ h. a .1 (b .1 h))
-
 -- by what is answered exactly under a condition, so is its number
+answer-numbers : {C : Type 0} (a : Answer) (r : Refusal) → ((a ≡ Refused r) ↔ C) → (reply a .refusal ≡ number r) ↔ C
+answer-numbers a r b = let n = answer-number a r in (λ h. b .0 (n .0 h), λ h. n .1 (b .1 h))
+
+pub receive-numbers : ReceiveNumbers
+receive-numbers formed s o r = answer-numbers (receiveWhen formed s o .answer) r (receive-refuses formed s o r)
+
+pub receive-at-numbers : ReceiveAtNumbers
+receive-at-numbers formed s o g r = answer-numbers (receiveAtWhen formed s o g .answer) r (receive-at-refuses formed s o g r)
+
+-- and so of a sending call
 sent-numbers : {C : Type 0} (a : Sent) (r : Refusal) → ((a ≡ sentRefused r) ↔ C) → (reply (answerOf a) .refusal ≡ number r) ↔ C
 sent-numbers a r b = let n = sent-number a r in (λ h. b .0 (n .0 h), λ h. n .1 (b .1 h))
 
@@ -175,21 +181,40 @@ all-turned : (w : Word) → (w ≡ known → ⊥) → (w ≡ refused → ⊥) �
 all-turned w f g [] t = tt
 all-turned w f g (c ∷ cs) t = (turned-word (c .answer) w f g (t .0), all-turned w f g cs (t .1))
 
+-- what is received where none of the checks holds
+module _ (s : State) (o : Operation) (checks : List (Check Answer)) (turned : All Turned checks) where
+  abbrev receiving : Outcome Answer
+  receiving = decided (unchanged s) (first checks) (accept s o)
+
+  received-does : (wordOf (receiving .answer) ≡ done) ↔ (NoneHolds checks × (executable (s .characters) o ≡ true))
+  received-does =
+      let never = all-turned done (λ e. let z : _≡_ {A = ℕ} 0 1 = cc in omega arith) (λ e. let z : _≡_ {A = ℕ} 0 1 = cc in omega arith) checks turned in
+      let w = done-exactly wordOf done s checks (accept s o) never in
+      let b = rw (← accept-word s o) at (cond-done (executable (s .characters) o)) in
+      (λ h. (w .0 h .0, b .0 (w .0 h .1)), λ h. w .1 (h .0, b .1 (h .1)))
+
+  received-waits : (wordOf (receiving .answer) ≡ waits) ↔ (NoneHolds checks × (executable (s .characters) o ≡ false))
+  received-waits =
+      let never = all-turned waits (λ e. let z : _≡_ {A = ℕ} 0 1 = cc in omega arith) (λ e. let z : _≡_ {A = ℕ} 0 1 = cc in omega arith) checks turned in
+      let w = done-exactly wordOf waits s checks (accept s o) never in
+      let b = rw (← accept-word s o) at (cond-waits (executable (s .characters) o)) in
+      (λ h. (w .0 h .0, b .0 (w .0 h .1)), λ h. w .1 (h .0, b .1 (h .1)))
+
 pub receive-does : ReceiveDoes
 unfolding receiveWhen
-receive-does formed s o =
-    let never = all-turned done (λ e. let z : _≡_ {A = ℕ} 0 1 = cc in omega arith) (λ e. let z : _≡_ {A = ℕ} 0 1 = cc in omega arith) (receiveChecks formed s o) (receive-turned formed s o) in
-    let w = done-exactly wordOf done s (receiveChecks formed s o) (accept s o) never in
-    let b = rw (← accept-word s o) at (cond-done (executable (s .characters) o)) in
-    (λ h. (w .0 h .0, b .0 (w .0 h .1)), λ h. w .1 (h .0, b .1 (h .1)))
+receive-does formed s o = received-does s o (receiveChecks formed s o) (receive-turned formed s o)
 
 pub receive-waits : ReceiveWaits
 unfolding receiveWhen
-receive-waits formed s o =
-    let never = all-turned waits (λ e. let z : _≡_ {A = ℕ} 0 1 = cc in omega arith) (λ e. let z : _≡_ {A = ℕ} 0 1 = cc in omega arith) (receiveChecks formed s o) (receive-turned formed s o) in
-    let w = done-exactly wordOf waits s (receiveChecks formed s o) (accept s o) never in
-    let b = rw (← accept-word s o) at (cond-waits (executable (s .characters) o)) in
-    (λ h. (w .0 h .0, b .0 (w .0 h .1)), λ h. w .1 (h .0, b .1 (h .1)))
+receive-waits formed s o = received-waits s o (receiveChecks formed s o) (receive-turned formed s o)
+
+pub receive-at-does : ReceiveAtDoes
+unfolding receiveAtWhen
+receive-at-does formed s o g = received-does s o (receiveAtChecks formed s o g) (receive-at-turned formed s o g)
+
+pub receive-at-waits : ReceiveAtWaits
+unfolding receiveAtWhen
+receive-at-waits formed s o g = received-waits s o (receiveAtChecks formed s o g) (receive-at-turned formed s o g)
 
 -- ---- the calls that send
 

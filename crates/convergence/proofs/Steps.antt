@@ -17,6 +17,7 @@ use Rattle.woot.specs.declared.Toggle.{Toggle}
 use Rattle.woot.specs.declared.Operation.{Operation}
 use Rattle.woot.specs.declared.Operation.the-variants.{Insert as insert, Toggle as toggle}
 use Rattle.woot.specs.declared.Character.{Character}
+use Rattle.woot.specs.declared.Refusal.the-variants.{Position}
 use Rattle.woot.specs.declared.Answer.{Answer}
 use Rattle.woot.specs.declared.Answer.the-variants.{Done, Deferred, Duplicate, Refused}
 use Rattle.woot.specs.declared.Sent.{Sent}
@@ -33,7 +34,8 @@ use Rattle.woot.specs.Clock.{ownInsert, heard, heardAll}
 use Rattle.woot.specs.Form.{presentInserts, wellFormed}
 use Rattle.woot.specs.Answers.{Check, first, NoneHolds, decided, answerOf}
 use Rattle.woot.specs.Calls.{Outcome, unchanged, afterDrain, insertCarried, duplicate, conflicting, senderFull, documentFull, receiveChecks, carryOut, defer, accept, receiveWhen, receive, visibles, nextIdentifier, generatedInsert, beyondVisible, identifierTaken, insertChecks, sendInsert, localInsertWhen, localInsert, generatedToggle, deleteChecks, generatedDelete, sendToggle, localDeleteWhen, localDelete, restoreChecks, localRestoreWhen, localRestore}
-use Rattle.woot.specs.Histories.{Call, inserting, deleting, restoring, receiving, withAnswer, outcome}
+use Rattle.woot.specs.Cursor.{leftOf, receiveAtChecks, receiveAt}
+use Rattle.woot.specs.Histories.{Call, inserting, deleting, restoring, receiving, receivingAt, withAnswer, outcome}
 use Rattle.lists.specs.Lists.{any, every}
 use Rattle.lists.proofs.Tests.{clash, and-left, and-intro, and-false, or-left, or-right, or-false-left, or-false-right, not-intro, fails}
 use Rattle.lists.proofs.Members.{any-none, none-any, every-member}
@@ -43,12 +45,13 @@ use Rattle.convergence.specs.Agreement.{Standing}
 use Rattle.convergence.proofs.Identifiers.{eq-same, ne-same}
 use Rattle.convergence.proofs.Ranges.{InRange, to-range, to-within, no-mark}
 use Rattle.convergence.proofs.Places.{held-begin, held-end}
-use Rattle.convergence.proofs.InsertionPoint.{Marked, mark, inner, leftOf, rightOf, left-marked, right-marked, marked-held, left-above, member-range}
+use Rattle.convergence.proofs.InsertionPoint.{Marked, mark, inner, rightOf, left-marked, right-marked, marked-held, left-above, member-range}
 use Rattle.convergence.proofs.Toggles.{delete-ranged, delete-ready, restore-ranged, restore-ready}
 use Rattle.convergence.proofs.Clocks.{reaches, reaches-clock, heard-reaches, heard-keeps-all, heard-all-still}
 use Rattle.convergence.proofs.Drains.{Draining, draining}
 use Rattle.convergence.proofs.Draining.{in-every, integrated-every}
 use Rattle.convergence.proofs.Soundness.{Unused, standing, any-left}
+use Rattle.convergence.proofs.Pointing.{receive-at-else}
 
 -- an answer by which nothing is changed
 abbrev pub Turned : Answer → Type 0
@@ -228,6 +231,10 @@ pub receive-turned : (formed : Bool) (s : State) (o : Operation) → All Turned 
 unfolding receiveChecks
 receive-turned formed s o = (tt, (tt, (tt, (tt, (tt, (tt, (tt, (tt, tt))))))))
 
+pub receive-at-turned : (formed : Bool) (s : State) (o : Operation) (g : ℕ) → All Turned (receiveAtChecks formed s o g)
+unfolding receiveAtChecks
+receive-at-turned formed s o g = (tt, (tt, (tt, (tt, (tt, (tt, (tt, (tt, (tt, tt)))))))))
+
 -- ---- typing
 
 -- the answer of a refused call that sends
@@ -394,8 +401,11 @@ receive-step s o none e = accept-step s o (first-none (receiveChecks (wellFormed
 receive-step s o (some a) e = turned a (first-some Turned (receiveChecks (wellFormed s) s o) (receive-turned (wellFormed s) s o) a e)
 
 pub step : (s : State) (c : Call) → Step s (outcome s c)
-unfolding outcome localInsert localInsertWhen localDelete localDeleteWhen localRestore localRestoreWhen receive receiveWhen
+unfolding outcome localInsert localInsertWhen localDelete localDeleteWhen localRestore localRestoreWhen receive receiveWhen receiveAt
 step s (inserting g n) = insert-step s g n (first (insertChecks (wellFormed s) s g n)) refl
 step s (deleting p) = delete-step s p (first (deleteChecks (wellFormed s) s p)) refl
 step s (restoring x) = restore-step s x (first (restoreChecks (wellFormed s) s x)) refl
 step s (receiving o) = receive-step s o (first (receiveChecks (wellFormed s) s o)) refl
+step s (receivingAt o g) =
+    ⊎-elim (λ e. rw e (receive-step s o (first (receiveChecks (wellFormed s) s o)) refl)) (λ e. rw e (turned (Refused Position) tt))
+    (receive-at-else (wellFormed s) s o g)

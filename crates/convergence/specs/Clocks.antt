@@ -14,7 +14,7 @@ use Rattle.woot.specs.Clock.{heardAll}
 use Rattle.woot.specs.Form.{allInRange, clockKept, wellFormed, raised}
 use Rattle.woot.specs.Answers.{done, reply}
 use Rattle.woot.specs.Calls.{allIntegrated, identifierTaken}
-use Rattle.woot.specs.Histories.{Call, inserting, deleting, restoring, receiving, outcome}
+use Rattle.woot.specs.Histories.{Call, inserting, deleting, restoring, receiving, receivingAt, outcome}
 
 -- ---- typing
 
@@ -33,12 +33,17 @@ TypingAdvances =
 
 -- ---- every call, on any state
 
--- the operation that a call put off, with the answer waits
+-- an operation that was put off, with the answer waits
+abbrev pub waited : Operation → Answer → List Operation
+waited o Deferred = o ∷ []
+waited o (Done n m) = []
+waited o Duplicate = []
+waited o (Refused r) = []
+
+-- the operation that a call put off
 abbrev pub putOff : Call → Answer → List Operation
-putOff (receiving o) Deferred = o ∷ []
-putOff (receiving o) (Done n m) = []
-putOff (receiving o) Duplicate = []
-putOff (receiving o) (Refused r) = []
+putOff (receiving o) a = waited o a
+putOff (receivingAt o g) a = waited o a
 putOff (inserting g n) a = []
 putOff (deleting p) a = []
 putOff (restoring x) a = []

@@ -2,3 +2,4 @@ pub mod Agreement
 pub mod Theorems
 pub mod Clocks
 pub mod Invariants
+pub mod Cursors

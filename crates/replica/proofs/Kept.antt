@@ -13,7 +13,8 @@ use Rattle.woot.specs.State.{State, initial, meaning, stored}
 use Rattle.woot.specs.Form.{wellFormed, replicaWellFormed}
 use Rattle.woot.specs.Answers.{done, waits, reply, changes, answerOf}
 use Rattle.woot.specs.Calls.{receiveChecks, receiveWhen, receive, insertChecks, localInsertWhen, localInsert, deleteChecks, localDeleteWhen, localDelete, restoreChecks, localRestoreWhen, localRestore}
-use Rattle.woot.specs.Histories.{Call, inserting, deleting, restoring, receiving, outcome}
+use Rattle.woot.specs.Cursor.{receiveAtChecks, receiveAtWhen, receiveAt}
+use Rattle.woot.specs.Histories.{Call, inserting, deleting, restoring, receiving, receivingAt, outcome}
 use borrow.Author.Tests.{not-false}
 use Rattle.storage.proofs.Stored.{form-meant}
 use Rattle.woot.specs.declared.Refusal.the-variants.{Taken}
@@ -22,8 +23,8 @@ use Rattle.convergence.proofs.Hearing.{insert-untaken}
 use Rattle.convergence.proofs.Forms.{formed}
 use Rattle.convergence.proofs.Forms.{empty-formed}
 use Rattle.convergence.proofs.Kept.{form-kept}
-use Rattle.convergence.proofs.Replies.{receive-does, receive-waits, insert-does, delete-does, restore-does}
-use Rattle.storage.specs.Replicas.{afterAnswer, afterSent, receipt, generated, received, inserted, deleted, restored}
+use Rattle.convergence.proofs.Replies.{receive-does, receive-waits, receive-at-does, receive-at-waits, insert-does, delete-does, restore-does}
+use Rattle.storage.specs.Replicas.{afterAnswer, afterSent, receipt, moved, generated, received, receivedAt, inserted, deleted, restored}
 use Rattle.replica.specs.Theorems.{called, answerTo, ReplicasFormed, AcceptedFormed, EmptyReplicaFormed, InsertNeverTaken}
 use Rattle.replica.proofs.Runs.{formed-within, form-stored, initial-within}
 
@@ -48,7 +49,7 @@ same-form : (r : Replica) → replicaWellFormed r ≡ true → wellFormed (meani
 same-form r f = form-meant r f ∙ sym f
 
 pub replicas-formed : ReplicasFormed
-unfolding called received inserted deleted restored receipt generated outcome localInsert localDelete localRestore receive
+unfolding called received receivedAt inserted deleted restored receipt moved generated outcome localInsert localDelete localRestore receive receiveAt
 replicas-formed r (inserting g n) f =
     sent-formed r _ (inserted r g n .answer) f
     (subst (λ (b : Bool). wellFormed (localInsertWhen b (meaning r) g n .state) ≡ true) (same-form r f) (form-kept (meaning r) (inserting g n) (form-meant r f)))
@@ -61,6 +62,9 @@ replicas-formed r (restoring x) f =
 replicas-formed r (receiving o) f =
     answer-formed r _ (received r o .answer) f
     (subst (λ (b : Bool). wellFormed (receiveWhen b (meaning r) o .state) ≡ true) (same-form r f) (form-kept (meaning r) (receiving o) (form-meant r f)))
+replicas-formed r (receivingAt o g) f =
+    answer-formed r _ (receivedAt r o g .answer) f
+    (subst (λ (b : Bool). wellFormed (receiveAtWhen b (meaning r) o g .state) ≡ true) (same-form r f) (form-kept (meaning r) (receivingAt o g) (form-meant r f)))
 
 -- ---- whatever was handed
 
@@ -80,13 +84,17 @@ sent-changing (sentRefused q) e = absurd (false≢true e)
 
 -- then condition 3 did not hold
 accepted-form : (r : Replica) (c : Call) → changes (answerTo r c) ≡ true → replicaWellFormed r ≡ true
-unfolding answerTo received inserted deleted restored receipt generated receiveChecks insertChecks deleteChecks restoreChecks
+unfolding answerTo received receivedAt inserted deleted restored receipt moved generated receiveChecks receiveAtChecks insertChecks deleteChecks restoreChecks
 accepted-form r (inserting g n) e = not-false _ (insert-does (replicaWellFormed r) (meaning r) g n .0 (sent-changing _ e) .1 .0)
 accepted-form r (deleting p) e = not-false _ (delete-does (replicaWellFormed r) (meaning r) p .0 (sent-changing _ e) .0)
 accepted-form r (restoring x) e = not-false _ (restore-does (replicaWellFormed r) (meaning r) x .0 (sent-changing _ e) .1 .0)
 accepted-form r (receiving o) e =
     ⊎-elim (λ h. not-false _ (receive-does (replicaWellFormed r) (meaning r) o .0 h .0 .1 .0))
     (λ h. not-false _ (receive-waits (replicaWellFormed r) (meaning r) o .0 h .0 .1 .0))
+    (changing _ e)
+accepted-form r (receivingAt o g) e =
+    ⊎-elim (λ h. not-false _ (receive-at-does (replicaWellFormed r) (meaning r) o g .0 h .0 .1 .0))
+    (λ h. not-false _ (receive-at-waits (replicaWellFormed r) (meaning r) o g .0 h .0 .1 .0))
     (changing _ e)
 
 pub accepted-formed : AcceptedFormed

@@ -24,7 +24,8 @@ use Rattle.lists.specs.Padding.{pad}
 use Rattle.woot.specs.Form.{wellFormed, replicaWellFormed}
 use Rattle.woot.specs.Answers.{answerOf}
 use Rattle.woot.specs.Calls.{Outcome, unchanged, receive, localInsert, localDelete, localRestore}
-use Rattle.woot.specs.Histories.{Begun, empty, startOf, Call, inserting, deleting, restoring, receiving, outcome, run}
+use Rattle.woot.specs.Cursor.{receiveAt}
+use Rattle.woot.specs.Histories.{Begun, empty, startOf, Call, inserting, deleting, restoring, receiving, receivingAt, outcome, run}
 use Rattle.lists.proofs.Tests.{either, clash}
 use Rattle.convergence.proofs.Forms.{formed, reformed}
 use Rattle.convergence.proofs.Shares.{pending-bound}
@@ -32,7 +33,7 @@ use Rattle.convergence.proofs.Steps.{Step, turned, adds, raises, defers, step}
 use Rattle.convergence.proofs.Kept.{form-kept}
 use Rattle.convergence.proofs.Refusals.{refused-unchanged, known-unchanged}
 use Rattle.convergence.proofs.Convergence.{convergence}
-use Rattle.storage.specs.Replicas.{afterAnswer, afterSent, receipt, generated, received, inserted, deleted, restored}
+use Rattle.storage.specs.Replicas.{afterAnswer, afterSent, receipt, moved, generated, received, receivedAt, inserted, deleted, restored}
 use Rattle.replica.specs.Texts.{textOf}
 use Rattle.replica.specs.Theorems.{called, ran, ReplicasFollow, ReplicasConverge}
 
@@ -113,7 +114,7 @@ unfolding unchanged
 known-state s c e = ap (λ w. w .state) (known-unchanged s c e)
 
 pub called-stored : (s : State) (c : Call) → Within s → called (stored s) c ≡ stored (outcome s c .state)
-unfolding called received inserted deleted restored receipt generated outcome localInsert localDelete localRestore receive answerOf
+unfolding called received receivedAt inserted deleted restored receipt moved generated outcome localInsert localDelete localRestore receive receiveAt answerOf
 called-stored s (inserting g n) w =
     rw (form-stored s w, meaning-stored s)
     (sent-stored s (localInsert s g n .state) (localInsert s g n .answer) (λ r e. refused-state s (inserting g n) r (ap answerOf e)))
@@ -126,6 +127,9 @@ called-stored s (restoring x) w =
 called-stored s (receiving o) w =
     rw (form-stored s w, meaning-stored s)
     (answer-stored s (receive s o .state) (receive s o .answer) (known-state s (receiving o)) (refused-state s (receiving o)))
+called-stored s (receivingAt o g) w =
+    rw (form-stored s w, meaning-stored s)
+    (answer-stored s (receiveAt s o g .state) (receiveAt s o g .answer) (known-state s (receivingAt o g)) (refused-state s (receivingAt o g)))
 
 -- ---- lists of calls
 

@@ -1,5 +1,5 @@
--- Demand 3 for replicas in memory: lists of the calls whose contracts cite `received`, `inserted`, `deleted` and
--- `restored`.
+-- Demand 3 for replicas in memory: lists of the calls whose contracts cite `received`, `receivedAt`, `inserted`,
+-- `deleted` and `restored`.
 use Prim.Native.Nat.{ℕ}
 use mathlib.Core.Path.{_≡_}
 use mathlib.Core.Bool.{true}
@@ -12,16 +12,18 @@ use Rattle.woot.specs.State.{initial, meaning, stored}
 use Rattle.woot.specs.Ranges.{siteNumber}
 use Rattle.woot.specs.Form.{replicaWellFormed}
 use Rattle.woot.specs.Answers.{changes, answerOf}
-use Rattle.woot.specs.Histories.{Call, Begun, startOf, inserting, deleting, restoring, receiving, run, historyOf, SameInserted, SameToggled}
-use Rattle.storage.specs.Replicas.{received, inserted, deleted, restored}
+use Rattle.woot.specs.Histories.{Call, Begun, startOf, inserting, deleting, restoring, receiving, receivingAt, run, historyOf, SameInserted, SameToggled}
+use Rattle.storage.specs.Replicas.{received, receivedAt, inserted, deleted, restored}
 use Rattle.replica.specs.Texts.{textOf}
 
--- the replica that a call returns: `replica::insert`, `replica::delete`, `replica::restore` and `replica::receive`
+-- the replica that a call returns: `replica::insert`, `replica::delete`, `replica::restore`, `replica::receive` and
+-- `cursor::receive_at`
 unfoldable pub called : Replica → Call → Replica
 called r (inserting g n) = inserted r g n .replica
 called r (deleting p) = deleted r p .replica
 called r (restoring x) = restored r x .replica
 called r (receiving o) = received r o .replica
+called r (receivingAt o g) = receivedAt r o g .replica
 
 -- "every call gets the sheet, record included, as the call before returned or left it"
 abbrev pub ran : Replica → List Call → Replica
@@ -34,6 +36,7 @@ answerTo r (inserting g n) = answerOf (inserted r g n .answer)
 answerTo r (deleting p) = answerOf (deleted r p .answer)
 answerTo r (restoring x) = answerOf (restored r x .answer)
 answerTo r (receiving o) = received r o .answer
+answerTo r (receivingAt o g) = receivedAt r o g .answer
 
 -- "every call keeps the form", of what runs: a replica in form comes back in form
 abbrev pub ReplicasFormed : Type 0

@@ -8,10 +8,12 @@ use Rattle.woot.specs.declared.Answer.the-variants.{Done, Deferred, Duplicate, 
 use Rattle.woot.specs.declared.Sent.{Sent}
 use Rattle.woot.specs.declared.Sent.the-variants.{Done as sentDone, Refused as sentRefused}
 use Rattle.woot.specs.declared.Receipt.{Receipt}
+use Rattle.woot.specs.declared.Moved.{Moved}
 use Rattle.woot.specs.declared.Generated.{Generated}
 use Rattle.woot.specs.State.{State, meaning, stored}
 use Rattle.woot.specs.Form.{replicaWellFormed}
 use Rattle.woot.specs.Calls.{Outcome, receiveWhen, localInsertWhen, localDeleteWhen, localRestoreWhen}
+use Rattle.woot.specs.Cursor.{receiveAtWhen, shiftOf}
 
 -- the very replica that was passed where nothing is changed, else the new state as it is stored
 unfoldable pub afterAnswer : Replica → State → Answer → Replica
@@ -31,9 +33,17 @@ receipt r w = record { answer = w .answer; replica = afterAnswer r (w .state) (w
 unfoldable pub generated : Replica → Outcome Sent → Generated
 generated r w = record { answer = w .answer; replica = afterSent r (w .state) (w .answer) }
 
--- receiving, typing, erasing and restoring on a replica
+-- with a cursor at gap g also the shift
+unfoldable pub moved : Replica → ℕ → Outcome Answer → Moved
+moved r g w =
+    record { answer = w .answer; replica = afterAnswer r (w .state) (w .answer); shift = shiftOf (meaning r) w g }
+
+-- receiving, without and with a cursor, typing, erasing and restoring on a replica
 unfoldable pub received : Replica → Operation → Receipt
 received r o = receipt r (receiveWhen (replicaWellFormed r) (meaning r) o)
+
+unfoldable pub receivedAt : Replica → Operation → ℕ → Moved
+receivedAt r o g = moved r g (receiveAtWhen (replicaWellFormed r) (meaning r) o g)
 
 unfoldable pub inserted : Replica → ℕ → ℕ → Generated
 inserted r g n = generated r (localInsertWhen (replicaWellFormed r) (meaning r) g n)

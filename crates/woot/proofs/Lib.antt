@@ -1,2 +1,3 @@
 pub mod Situations
 pub mod Text
+pub mod Ends

@@ -12,8 +12,9 @@ use Rattle.woot.specs.Placing.{sequence, indexOf, placeOf, held, above, 
 use Rattle.woot.specs.Pending.{executable, crossed, unplaceable, integrate, pendingFrom, earliest, andIntegrated, andDiscarded, drained, drainSteps, drain}
 use Rattle.woot.specs.Form.{presentInserts, allInRange, sharesKept, capacityKept, identifiersDistinct, togglesDistinct, ordered, neighboursOrdered, noneExecutable, clockReaches, clockKept, wellFormed}
 use Rattle.woot.specs.Clock.{ownInsert, heard}
-use Rattle.woot.specs.Answers.{number, reply, answerOf, decided}
+use Rattle.woot.specs.Answers.{number, reply, changes, answerOf, decided}
 use Rattle.woot.specs.Calls.{unchanged, allIntegrated, withCharacters, withPending, afterDrain, insertCarried, duplicate, conflicting, senderFull, documentFull, receiveChecks, carryOut, defer, accept, receiveWhen, receive, visibles, nextIdentifier, generatedInsert, beyondVisible, identifierTaken, insertChecks, sendInsert, localInsertWhen, localInsert, togglesOf, generatedToggle, sendToggle, notVisible, deleteChecks, generatedDelete, localDeleteWhen, localDelete, notHidden, exhausted, restoreChecks, localRestoreWhen, localRestore}
+use Rattle.woot.specs.Cursor.{through, visibleThrough, cursorAfter, receiveAtChecks, receiveAtWhen, receiveAt, newGap, shiftOf, shiftAt}
 use Rattle.woot.specs.Text.{unprintable, printed, encoded, text}
 use Rattle.woot.specs.Histories.{outcome}
 use Rattle.woot.specs.declared.Identifier.{Identifier}
@@ -23,7 +24,7 @@ use Rattle.woot.specs.State.{State}
 use Rattle.woot.specs.Placing.{identifiers}
 use Rattle.woot.specs.Answers.{Reply}
 use Rattle.woot.specs.Histories.{Call, run, integratedBy}
-use Rattle.woot.specs.Situations.{Given, calling, carrying, showing, Seen, calls, operations, bytes, replies, seen, Situation, table, slipCases, answerCases, clockCases, toggleCases, SituationsHold, CasesTell, LargestTells, CheckingOrder}
+use Rattle.woot.specs.Situations.{Given, calling, carrying, showing, pointing, Seen, calls, operations, bytes, moved, replies, seen, Situation, table, slipCases, answerCases, clockCases, toggleCases, cursorCases, SituationsHold, LowestShift, CasesTell, LargestTells, CheckingOrder}
 
 -- k at xs, whose cells are computed first
 whole : {A B : Type 0} → List A → (List A → B) → B
@@ -73,31 +74,36 @@ computed : Given → Seen
 computed (calling s cs) = stepped s cs calls
 computed (carrying s cs) = carriedIn s cs operations
 computed (showing s cs) = bytes (text (run s cs .characters))
+computed (pointing s o g) = moved (reply (receiveAt s o g .answer)) (shiftAt s o g)
 
 computed-same : (g : Given) → computed g ≡ seen g
 unfolding computed seen
 computed-same (calling s cs) = stepped-same s cs calls
 computed-same (carrying s cs) = carried-same s cs operations
 computed-same (showing s cs) = refl
+computed-same (pointing s o g) = refl
 
 all-computed : (ts : List Situation) → map (λ t. seen (t .given)) ts ≡ map (λ t. computed (t .given)) ts
 all-computed [] = refl
 all-computed (t ∷ ts) = ap₂ (λ a bs. a ∷ bs) (sym (computed-same (t .given))) (all-computed ts)
 
-both : SituationsHold × CasesTell
-unfolding table carriedIn slipCases answerCases clockCases toggleCases whole settled stepped computed _to_ encodedLength continuation oneByte twoBytes threeBytes fourBytes encode unprintable printed encoded text same below sender character origin isVisible withToggles toggledBy sameInsert sameToggle sameOperation within siteNumber codePoint characterId previousId nextId siteInRange insertInRange toggleInRange inRange characterInRange initial sequence indexOf placeOf held above adjacent candidate candidates narrowed search position between insertAt integrateInsert integrateToggle executable crossed unplaceable integrate pendingFrom earliest andIntegrated andDiscarded drained drainSteps drain presentInserts allInRange sharesKept capacityKept identifiersDistinct togglesDistinct ordered neighboursOrdered noneExecutable clockReaches clockKept ownInsert heard wellFormed reply answerOf unchanged decided allIntegrated withCharacters withPending afterDrain insertCarried duplicate conflicting senderFull documentFull receiveChecks carryOut defer accept receiveWhen receive visibles nextIdentifier generatedInsert beyondVisible identifierTaken insertChecks sendInsert localInsertWhen localInsert togglesOf generatedToggle sendToggle notVisible deleteChecks generatedDelete localDeleteWhen localDelete notHidden exhausted restoreChecks localRestoreWhen localRestore outcome
-both = (all-computed table ∙ refl, (all-computed slipCases ∙ refl, all-computed answerCases ∙ refl, all-computed clockCases ∙ refl, all-computed toggleCases ∙ refl))
+all : SituationsHold × CasesTell × LowestShift
+unfolding table carriedIn slipCases answerCases clockCases toggleCases cursorCases whole settled stepped computed _to_ encodedLength continuation oneByte twoBytes threeBytes fourBytes encode unprintable printed encoded text same below sender character origin isVisible withToggles toggledBy sameInsert sameToggle sameOperation within siteNumber codePoint characterId previousId nextId siteInRange insertInRange toggleInRange inRange characterInRange initial sequence indexOf placeOf held above adjacent candidate candidates narrowed search position between insertAt integrateInsert integrateToggle executable crossed unplaceable integrate pendingFrom earliest andIntegrated andDiscarded drained drainSteps drain presentInserts allInRange sharesKept capacityKept identifiersDistinct togglesDistinct ordered neighboursOrdered noneExecutable clockReaches clockKept ownInsert heard wellFormed reply answerOf unchanged decided allIntegrated withCharacters withPending afterDrain insertCarried duplicate conflicting senderFull documentFull receiveChecks carryOut defer accept receiveWhen receive visibles nextIdentifier generatedInsert beyondVisible identifierTaken insertChecks sendInsert localInsertWhen localInsert togglesOf generatedToggle sendToggle notVisible deleteChecks generatedDelete localDeleteWhen localDelete notHidden exhausted restoreChecks localRestoreWhen localRestore outcome through visibleThrough cursorAfter changes receiveAtChecks receiveAtWhen receiveAt newGap shiftOf shiftAt
+all = (all-computed table ∙ refl, (all-computed slipCases ∙ refl, all-computed answerCases ∙ refl, all-computed clockCases ∙ refl, all-computed toggleCases ∙ refl, all-computed cursorCases ∙ refl), sym (computed-same _) ∙ refl)
 
 pub situations-hold : SituationsHold
-situations-hold = both .0
+situations-hold = all .0
 
 pub cases-tell : CasesTell
-cases-tell = both .1
+cases-tell = all .1
+
+pub lowest-shift : LowestShift
+lowest-shift = all .2
 
 pub largest-tells : LargestTells
 unfolding same
 largest-tells = (refl, refl, refl)
 
 pub checking-order : (formed : Bool) (s : State) → CheckingOrder formed s
-unfolding receiveChecks insertChecks deleteChecks restoreChecks reply answerOf
-checking-order formed s = record { receiving-meets = λ o. refl; inserting-meets = λ g n. refl; deleting-meets = λ p. refl; restoring-meets = λ x. refl; receiving-rises = λ o. refl; inserting-rises = λ g n. refl; deleting-rises = λ p. refl; restoring-rises = λ x. refl }
+unfolding receiveChecks receiveAtChecks insertChecks deleteChecks restoreChecks reply answerOf
+checking-order formed s = record { receiving-meets = λ o. refl; receiving-at-meets = λ o g. refl; inserting-meets = λ g n. refl; deleting-meets = λ p. refl; restoring-meets = λ x. refl; receiving-rises = λ o. refl; receiving-at-rises = λ o g. refl; inserting-rises = λ g n. refl; deleting-rises = λ p. refl; restoring-rises = λ x. refl }

@@ -99,16 +99,24 @@ unfoldable pub documentFull : State → Operation → Bool
 documentFull s (insert i) = leb capacity (length (presentInserts s))
 documentFull s (toggle t) = false
 
--- in checking order; `formed` says whether the replica is in form
-unfoldable pub receiveChecks : Bool → State → Operation → List (Check Answer)
-receiveChecks formed s o =
-    (not (inRange o) ⇒ Refused Range) ∷ (not formed ⇒ Refused Form) ∷ (duplicate s o ⇒ Duplicate)
-    ∷ (conflicting s o ⇒ Refused Conflict)
+-- conditions 2 and 3 and known, which come before all others; `formed` says whether the replica is in form
+abbrev pub unlessKnown : Bool → State → Operation → List (Check Answer) → List (Check Answer)
+unlessKnown formed s o later =
+    (not (inRange o) ⇒ Refused Range) ∷ (not formed ⇒ Refused Form) ∷ (duplicate s o ⇒ Duplicate) ∷ later
+
+-- what an operation that is not known is turned away for
+abbrev pub newChecks : State → Operation → List (Check Answer)
+newChecks s o =
+    (conflicting s o ⇒ Refused Conflict)
     ∷ (crossed (s .characters) o ⇒ Refused Crossed)
     ∷ (unplaceable (s .characters) o ⇒ Refused Unplaceable)
     ∷ (senderFull s o ⇒ Refused SenderFull)
     ∷ (documentFull s o ⇒ Refused DocumentFull)
     ∷ []
+
+-- in checking order
+unfoldable pub receiveChecks : Bool → State → Operation → List (Check Answer)
+receiveChecks formed s o = unlessKnown formed s o (newChecks s o)
 
 -- "with all needed it is carried out"; `done` makes the answer of the counts
 unfoldable pub carryOut : {A : Type 0} → (ℕ → ℕ → A) → State → Operation → Outcome A

@@ -15,14 +15,16 @@ use Rattle.woot.specs.Identifiers.{same}
 use Rattle.woot.specs.State.{State, initial}
 use Rattle.woot.specs.Answers.{answerOf}
 use Rattle.woot.specs.Calls.{Outcome, allIntegrated, receive, localInsert, localDelete, localRestore}
+use Rattle.woot.specs.Cursor.{receiveAt}
 
 -- the kinds of call, with any arguments: typing at a gap, erasing at a place, receiving; document 02, Req 05, "restoring
--- calls, with any identifier, stand in its lists too"
+-- calls, with any identifier, stand in its lists too"; Req 02, receiving with a cursor at a gap
 pub data Call : Type 0 where
   inserting : ℕ → ℕ → Call
   deleting : ℕ → Call
   restoring : Identifier → Call
   receiving : Operation → Call
+  receivingAt : Operation → ℕ → Call
 
 abbrev pub withAnswer : {A B : Type 0} → (A → B) → Outcome A → Outcome B
 withAnswer f r =
@@ -34,6 +36,7 @@ outcome s (inserting g n) = withAnswer answerOf (localInsert s g n)
 outcome s (deleting p) = withAnswer answerOf (localDelete s p)
 outcome s (restoring x) = withAnswer answerOf (localRestore s x)
 outcome s (receiving o) = receive s o
+outcome s (receivingAt o g) = receiveAt s o g
 
 -- "every call gets the sheet, record included, as the call before returned or left it"
 abbrev pub run : State → List Call → State

@@ -11,6 +11,7 @@ pub mod Form
 pub mod Answers
 pub mod Writing
 pub mod Calls
+pub mod Cursor
 pub mod Text
 pub mod Histories
 pub mod Situations

@@ -1,8 +1,9 @@
 -- Document 01's situations marked P, as one table with one statement, and the cases that tell the slips it lists.
-use Prim.Native.Nat.{ℕ, zero, suc}
+use Prim.Native.Nat.{ℕ, zero, suc, _+_, _/_, _%_}
 use mathlib.Core.Path.{_≡_}
 use mathlib.Core.Bool.{Bool, true, _&&_}
 use lib.Dec.{ltb}
+use lib.IntN.{ℤ, pos, negsuc}
 use mathlib.Core.List.{List, [], _∷_, map}
 use Rattle.woot.specs.declared.Identifier.{Identifier}
 use Rattle.woot.specs.declared.Insert.{Insert}
@@ -17,6 +18,7 @@ use Rattle.woot.specs.declared.Answer.the-variants.{Done as answerDone, 
 use Rattle.woot.specs.declared.Sent.{Sent}
 use Rattle.woot.specs.Answers.{rank, done, waits, known, refused, Reply, reply, answerOf, Check}
 use Rattle.woot.specs.Calls.{receiveChecks, insertChecks, deleteChecks, restoreChecks}
+use Rattle.woot.specs.Cursor.{receiveAtChecks, receiveAt, shiftAt}
 use Rattle.woot.specs.Histories.{Call, inserting, deleting, restoring, receiving, outcome, run, integratedBy, largestIn}
 use Rattle.woot.specs.Text.{text}
 
@@ -53,18 +55,20 @@ abbrev pub del : ℕ → Identifier → Call
 del n x = receiving (deleteBy n x)
 
 -- what is done in a situation: calls on a state, looked at for their replies, for what they carry out, or for the
--- visible text that they leave
+-- visible text that they leave; an operation that arrives with the cursor at a gap
 pub data Given : Type 0 where
   calling : State → List Call → Given
   carrying : State → List Call → Given
   showing : State → List Call → Given
+  pointing : State → Operation → ℕ → Given
 
 -- what is seen: the replies in order with the identifiers of the characters afterwards, what was carried out in order,
--- every field of it, or bytes
+-- every field of it, bytes, or a reply with the shift
 pub data Seen : Type 0 where
   calls : List Reply → List Identifier → Seen
   operations : List Operation → Seen
   bytes : List ℕ → Seen
+  moved : Reply → ℤ → Seen
 
 abbrev pub replies : State → List Call → List Reply
 replies s [] = []
@@ -74,6 +78,7 @@ unfoldable pub seen : Given → Seen
 seen (calling s cs) = calls (replies s cs) (identifiers (run s cs .characters))
 seen (carrying s cs) = operations (integratedBy s cs)
 seen (showing s cs) = bytes (text (run s cs .characters))
+seen (pointing s o g) = moved (reply (receiveAt s o g .answer)) (shiftAt s o g)
 
 -- calls on an empty replica of site 16
 abbrev pub after : List Call → Given
@@ -367,9 +372,86 @@ toggleCases =
     gives bytes (120 ∷ 121 ∷ 122 ∷ []))
     ∷ []
 
+-- rows 2/1, 2/2, 2/3 of these turns, one below the other
+abbrev pub threeRows : ℕ → ℕ → ℕ → State
+threeRows a b c =
+    record {
+      site = record { number = 1; clock = 9 };
+      characters =
+          withToggles (character (put (2 at 1) begin end)) a ∷ withToggles (character (put (2 at 2) (2 at 1) end)) b
+          ∷ withToggles (character (put (2 at 3) (2 at 2) end)) c
+          ∷ [];
+      pending = [];
+    }
+
+-- an insert of 3/1
+abbrev pub new : Identifier → Identifier → Operation
+new p n = insert (put (3 at 1) p n)
+
+-- document 02, Req 02: the cursor moved where it should stay, left behind, or looked at too early or too late
+unfoldable pub cursorCases : List Situation
+cursorCases =
+    -- a row exactly at the cursor moves it, or one below it; one above it does not
+    (pointing xyz (new (2 at 1) (2 at 2)) 1 gives moved (Done 1 0) (pos 0))
+    ∷ (pointing xyz (new begin (2 at 1)) 0 gives moved (Done 1 0) (pos 0))
+    ∷ (pointing xyz (new (2 at 2) (2 at 3)) 1 gives moved (Done 1 0) (pos 0))
+    ∷ (pointing xyz (new begin (2 at 1)) 1 gives moved (Done 1 0) (pos 1))
+    ∷ (pointing (threeRows 0 1 0) (new (2 at 2) (2 at 3)) 1 gives moved (Done 1 0) (pos 0))
+    -- the left row, hidden, still counted; one above it, or one below it
+    ∷ (pointing xyz (deleteBy 3 (2 at 2)) 2 gives moved (Done 1 0) (negsuc 0))
+    ∷ (pointing xyz (deleteBy 3 (2 at 1)) 2 gives moved (Done 1 0) (negsuc 0))
+    ∷ (pointing xyz (deleteBy 3 (2 at 3)) 2 gives moved (Done 1 0) (pos 0))
+    ∷ (pointing (threeRows 0 1 0) (deleteBy 3 (2 at 3)) 2 gives moved (Done 1 0) (negsuc 0))
+    -- a turn taken for an erase: a row above that is shown, the left row from 0 to 2 and from 0 to 3
+    ∷ (pointing (threeRows 1 0 0) (toggleBy 3 (2 at 1) 2) 1 gives moved (Done 1 0) (pos 1))
+    ∷ (pointing xyz (toggleBy 3 (2 at 1) 2) 1 gives moved (Done 1 0) (pos 0))
+    ∷ (pointing xyz (toggleBy 3 (2 at 1) 3) 1 gives moved (Done 1 0) (negsuc 0))
+    -- what is drained not counted, or one that is hidden on the way counted
+    ∷ (pointing (stateAt 9 (put (2 at 1) begin end ∷ []) (insert (put (4 at 1) (3 at 1) (2 at 1)) ∷ []))
+    (new begin (2 at 1)) 1
+    gives moved (Done 2 0) (pos 2))
+    ∷ (pointing (stateAt 9 (put (2 at 1) begin end ∷ []) (deleteBy 4 (3 at 1) ∷ [])) (new begin (2 at 1)) 1
+    gives moved (Done 2 0) (pos 0))
+    -- hidden rows counted in a gap
+    ∷ (pointing (threeRows 0 1 0) (new begin (2 at 1)) 2 gives moved (Done 1 0) (pos 1))
+    ∷ (pointing (threeRows 0 1 0) (new begin (2 at 1)) 3 gives moved (Refused 4) (pos 0))
+    -- 4 before known, before 2 or before 3, or after 7 or waits
+    ∷ (pointing xyz (insert (put (2 at 1) begin end)) 4 gives moved Known (pos 0))
+    ∷ (pointing xyz (new begin begin) 4 gives moved (Refused 2) (pos 0))
+    ∷ (pointing (threeRows 256 0 0) (new begin end) 4 gives moved (Refused 3) (pos 0))
+    ∷ (pointing xyz (insert (put (2 at 1) begin (2 at 2))) 4 gives moved (Refused 4) (pos 0))
+    ∷ (pointing xyz (insert (put (2 at 1) begin (2 at 2))) 3 gives moved (Refused 7) (pos 0))
+    ∷ (pointing xyz (new (7 at 7) end) 4 gives moved (Refused 4) (pos 0))
+    ∷ (pointing xyz (new (7 at 7) end) 3 gives moved Waits (pos 0))
+    ∷ []
+
+-- the identifier counted n from 0 of 512, of which each site has 32
+abbrev pub numbered : ℕ → Identifier
+numbered n = (n / 32 + 1) at (n % 32 + 2)
+
+-- m inserts from the one counted n on, each of which goes to the top, above x and then above the one before
+abbrev pub upward : ℕ → ℕ → Identifier → List Operation
+upward zero n x = []
+upward (suc m) n x = insert (put (numbered n) begin x) ∷ upward m (suc n) (numbered n)
+
+-- a row that stands alone, and 512 inserts that wait for the one below, each above the one before and so above the row
+unfoldable pub crowded : State
+crowded = stateAt 99 (put (1 at 1) begin end ∷ []) (upward 512 0 (1 at 99))
+
+unfoldable pub releasing : Operation
+releasing = insert (put (1 at 99) begin (1 at 1))
+
+-- "the shift lies between -1 and 513": -1 where the left row is hidden
+abbrev pub LowestShift : Type 0
+LowestShift = seen (pointing xyz (deleteBy 3 (2 at 1)) 1) ≡ moved (Done 1 0) (negsuc 0)
+
+-- and 513 where one call puts as many rows above it: too many to compute with, so it is proved in `convergence`
+abbrev pub HighestShift : Type 0
+HighestShift = seen (pointing crowded releasing 1) ≡ moved (Done 513 0) (pos 513)
+
 -- each case tells the rule from the slip that its comment names
 abbrev pub CasesTell : Type 0
-CasesTell = AllHold slipCases × AllHold answerCases × AllHold clockCases × AllHold toggleCases
+CasesTell = AllHold slipCases × AllHold answerCases × AllHold clockCases × AllHold toggleCases × AllHold cursorCases
 
 -- the largest turn is of all that were carried out of that character, whoever sent them and in whatever order; and of what
 -- was carried out, whatever turn its row has
@@ -402,15 +484,19 @@ rises [] = true
 rises (n ∷ []) = true
 rises (n ∷ m ∷ ns) = ltb n m && rises (m ∷ ns)
 
--- receiving meets 2, 3, known, 7, 8, 9, 10, 11; typing 2, 3, 4, 5, 6 (reserved), 9, 11; erasing 3, 4; restoring 2, 3, 13,
--- 14: in this order, on any state
+-- receiving meets 2, 3, known, 7, 8, 9, 10, 11, with a cursor 4 after known; typing 2, 3, 4, 5, 6 (reserved), 9, 11;
+-- erasing 3, 4; restoring 2, 3, 13, 14: in this order, on any state
 pub record CheckingOrder (formed : Bool) (s : State) : Type 0 where
   pub receiving-meets : (o : Operation) → numbersOf (receiveChecks formed s o) ≡ 2 ∷ 3 ∷ 0 ∷ 7 ∷ 8 ∷ 9 ∷ 10 ∷ 11 ∷ []
+  pub receiving-at-meets :
+      (o : Operation) (g : ℕ) → numbersOf (receiveAtChecks formed s o g) ≡ 2 ∷ 3 ∷ 0 ∷ 4 ∷ 7 ∷ 8 ∷ 9 ∷ 10 ∷ 11 ∷ []
   pub inserting-meets : (g n : ℕ) → sentNumbersOf (insertChecks formed s g n) ≡ 2 ∷ 3 ∷ 4 ∷ 5 ∷ 6 ∷ 9 ∷ 11 ∷ []
   pub deleting-meets : (p : ℕ) → sentNumbersOf (deleteChecks formed s p) ≡ 3 ∷ 4 ∷ []
   pub restoring-meets : (x : Identifier) → sentNumbersOf (restoreChecks formed s x) ≡ 2 ∷ 3 ∷ 13 ∷ 14 ∷ []
   -- and by rising rank, so that the first that holds is the lowest
   pub receiving-rises : (o : Operation) → rises (ranksOf (map (λ c. c .answer) (receiveChecks formed s o))) ≡ true
+  pub receiving-at-rises :
+      (o : Operation) (g : ℕ) → rises (ranksOf (map (λ c. c .answer) (receiveAtChecks formed s o g))) ≡ true
   pub inserting-rises : (g n : ℕ) → rises (ranksOf (map (λ c. answerOf (c .answer)) (insertChecks formed s g n))) ≡ true
   pub deleting-rises : (p : ℕ) → rises (ranksOf (map (λ c. answerOf (c .answer)) (deleteChecks formed s p))) ≡ true
   pub restoring-rises :

@@ -242,6 +242,14 @@ pub struct Receipt {
     pub replica: Replica,
 }
 
+// What receiving with a cursor returns: the answer, the replica as it is then, and how far the cursor moves. (Document
+// 02: the shift.)
+pub struct Moved {
+    pub answer: Answer,
+    pub replica: Replica,
+    pub shift: i32,
+}
+
 // What inserting, deleting and restoring here return.
 pub struct Generated {
     pub answer: Sent,
