@@ -21,11 +21,13 @@ use Rattle.woot.specs.State.{State, initial}
 use Rattle.woot.specs.Form.{wellFormed}
 use Rattle.woot.specs.Answers.{reply, changes, answerOf, _⇒_, first, decided}
 use Rattle.woot.specs.Calls.{receive, localInsert, localDelete, localRestore}
-use Rattle.woot.specs.Histories.{inserting, deleting, restoring, receiving, outcome}
+use Rattle.woot.specs.Cursor.{receiveAt, shiftAt}
+use Rattle.woot.specs.Histories.{inserting, deleting, restoring, receiving, receivingAt, outcome}
 use Rattle.woot.specs.Histories.{Call as RuleCall}
 use Rattle.replica.proofs.Runs.{formed-within}
 use Rattle.lines.specs.Lines.{closed}
 use Rattle.lines.specs.Fields.{hasLayout}
+use Rattle.cursor.specs.Bits.{shiftBits}
 use Rattle.codec.specs.Operations.{operationLine}
 use Rattle.codec.specs.Calls.{saidBy}
 use Rattle.saved.specs.Format.{isSite, headLine, laidOutAs, savedLaidOut, savedBytes}
@@ -33,11 +35,11 @@ use Rattle.saved.specs.Calls.{loadedState}
 use Rattle.saved.specs.Calls.{loadChecks, unread, loaded}
 use Rattle.saved.proofs.Trips.{saved-loads, saved-reads-back}
 use Rattle.results.specs.Results.{result, silent, inBits, numberOf}
-use Rattle.effects.specs.Effects.{Effect, quiet, turned, writing, writingBoth, afterReceiving, sending, afterSending}
-use Rattle.wimtaze.specs.Calls.{inputChecks, receivingLine, insertingHere, deletingHere, named, restoringHere}
+use Rattle.effects.specs.Effects.{Effect, quiet, turned, writingNoted, writing, writingBoth, afterReceiving, afterReceivingAt, sending, afterSending}
+use Rattle.wimtaze.specs.Calls.{inputChecks, receivingLine, receivingLineAt, insertingHere, deletingHere, named, restoringHere}
 use Rattle.wimtaze.specs.Theorems.{Fits}
 use Rattle.wimtaze.proofs.Fitting.{results-fit}
-use Rattle.consistency.specs.Copies.{BytesCall, load, receiveLine, type, erase, restore, bytesCall, asBytes, bytesAfter, wordRead, writtenRead, wordOf, keptBytes, afterLoading, whenDone, byEffect, onBytes, stepOn}
+use Rattle.consistency.specs.Copies.{BytesCall, load, receiveLine, receiveLineAt, type, erase, restore, bytesCall, asBytes, bytesAfter, wordRead, writtenRead, wordOf, keptBytes, afterLoading, whenDone, byEffect, onBytes, stepOn}
 use Rattle.consistency.proofs.Holding.{Holds, memory, bytes, nothing, Step, left, made, Steps, carries, changed-formed}
 use Rattle.consistency.proofs.Returned.{kept, word-returned, effect-returned}
 use Rattle.wimtaze.proofs.Kept.{front}
@@ -76,15 +78,15 @@ module _ (s : State) (h : wellFormed s ≡ true) (c : RuleCall) where
   written-step (Refused q) e f n m out line t = absurd (false≢true f)
 
   -- into one output, unless it is short
-  writing-step : (a : Answer) → outcome s c .answer ≡ a → changes a ≡ true → (out : List ℕ) →
-      Follows s (savedBytes s) c (writing a after out)
-  unfolding writing decided
-  writing-step a e f out = go (ltb (length out) (length after)) refl
+  writing-step : (a : Answer) → outcome s c .answer ≡ a → changes a ≡ true → (note : ℕ) (out : List ℕ) →
+      Follows s (savedBytes s) c (writingNoted a note after out)
+  unfolding decided
+  writing-step a e f note out = go (ltb (length out) (length after)) refl
     where
       go : (b : Bool) → ltb (length out) (length after) ≡ b
-          → Follows s (savedBytes s) c (decided (turned out []) (first ((b ⇒ Output) ∷ [])) (record { result = result a (length after) 0; output = placed out 0 after; line = [] }))
+          → Follows s (savedBytes s) c (decided (turned out []) (first ((b ⇒ Output) ∷ [])) (record { result = result a (length after) note; output = placed out 0 after; line = [] }))
       go true k = away (bytes s h) c out [] Output
-      go false k = written-step a e f (length after) 0 (placed out 0 after) [] (front out after (ltb-false (length out) (length after) k))
+      go false k = written-step a e f (length after) note (placed out 0 after) [] (front out after (ltb-false (length out) (length after) k))
 
   -- into both, unless either is short
   both-step : (o : Operation) (i j : ℕ) → outcome s c .answer ≡ Done i j → (out line : List ℕ) →
@@ -98,14 +100,14 @@ module _ (s : State) (h : wellFormed s ≡ true) (c : RuleCall) where
       go false true k = away (bytes s h) c out line Output
       go false false k = written-step (Done i j) e refl (length after) (length (operationLine o)) (placed out 0 after) (placed line 0 (operationLine o)) (front out after (ltb-false (length out) (length after) k))
 
-  -- receiving: known and refused write nothing
-  received-step : (a : Answer) → outcome s c .answer ≡ a → (out : List ℕ) →
-      Follows s (savedBytes s) c (cond (changes a) (writing a after out) (quiet out [] a))
+  -- receiving, with a cursor or without: known and refused write nothing
+  received-step : (a : Answer) → outcome s c .answer ≡ a → (note : ℕ) (out : List ℕ) →
+      Follows s (savedBytes s) c (cond (changes a) (writingNoted a note after out) (quiet out [] a))
   unfolding Follows changes quiet bytesAfter silent result reply whenDone
-  received-step (Done n m) e out = writing-step (Done n m) e refl out
-  received-step Deferred e out = writing-step Deferred e refl out
-  received-step Duplicate e out = left (bytes s h) refl
-  received-step (Refused q) e out = left (bytes s h) refl
+  received-step (Done n m) e note out = writing-step (Done n m) e refl note out
+  received-step Deferred e note out = writing-step Deferred e refl note out
+  received-step Duplicate e note out = left (bytes s h) refl
+  received-step (Refused q) e note out = left (bytes s h) refl
 
   sent-step : (a : Sent) → outcome s c .answer ≡ answerOf a → (out line : List ℕ) →
       Follows s (savedBytes s) c (sending (outcome s c .state) a out line)
@@ -118,9 +120,15 @@ module _ (s : State) (h : wellFormed s ≡ true) (c : RuleCall) where
 module _ (s : State) (h : wellFormed s ≡ true) where
   receive-step : (line out : List ℕ) →
       Follows s (savedBytes s) (receiving (saidBy line)) (receivingLine (savedBytes s) line out)
-  unfolding receivingLine afterReceiving outcome
+  unfolding receivingLine afterReceiving writing outcome
   receive-step line out =
-      handed-away (bytes s h) _ out [] _ _ (rw (saved-loads s h) (received-step s h (receiving (saidBy line)) (receive s (saidBy line) .answer) refl out))
+      handed-away (bytes s h) _ out [] _ _ (rw (saved-loads s h) (received-step s h (receiving (saidBy line)) (receive s (saidBy line) .answer) refl 0 out))
+
+  receive-at-step : (line : List ℕ) (g : ℕ) (out : List ℕ) →
+      Follows s (savedBytes s) (receivingAt (saidBy line) g) (receivingLineAt (savedBytes s) line g out)
+  unfolding receivingLineAt afterReceivingAt outcome
+  receive-at-step line g out =
+      handed-away (bytes s h) _ out [] _ _ (rw (saved-loads s h) (received-step s h (receivingAt (saidBy line) g) (receiveAt s (saidBy line) g .answer) refl (shiftBits (shiftAt s (saidBy line) g)) out))
 
   type-step : (g n : ℕ) (out line : List ℕ) →
       Follows s (savedBytes s) (inserting g n) (insertingHere (savedBytes s) g n out line)
@@ -157,6 +165,9 @@ module _ (s : State) (h : wellFormed s ≡ true) where
   bytes-step (receiveLine line out) =
       let b = savedBytes s in
       read (receivingLine b line out) (results-fit .1 b line out) (omega arith) (omega arith) _ (receive-step line out)
+  bytes-step (receiveLineAt line g out) =
+      let b = savedBytes s in
+      read (receivingLineAt b line g out) (results-fit .6 b line g out) (omega arith) (omega arith) _ (receive-at-step line g out)
   bytes-step (type g n out line) =
       let b = savedBytes s in
       read (insertingHere b g n out line) (results-fit .2 b g n out line) (omega arith) (omega arith) _ (type-step g n out line)
@@ -173,10 +184,11 @@ unfolding laidOutAs closed headLine isSite hasLayout
 no-bytes = refl
 
 pub nothing-step : (c : BytesCall) → Steps (initial 0) (asBytes []) (bytesCall c)
-unfolding stepOn onBytes byEffect afterLoading loaded loadChecks unread receivingLine insertingHere deletingHere restoringHere inputChecks decided
+unfolding stepOn onBytes byEffect afterLoading loaded loadChecks unread receivingLine receivingLineAt insertingHere deletingHere restoringHere inputChecks decided
     turned quiet silent result keptBytes wordOf wordRead writtenRead numberOf inBits bytesAfter reply whenDone
 nothing-step load = rw no-bytes (left nothing refl)
 nothing-step (receiveLine line out) = rw no-bytes (left nothing refl)
+nothing-step (receiveLineAt line g out) = rw no-bytes (left nothing refl)
 nothing-step (type g n out line) = rw no-bytes (left nothing refl)
 nothing-step (erase p out line) = rw no-bytes (left nothing refl)
 nothing-step (restore n t out line) = rw no-bytes (left nothing refl)

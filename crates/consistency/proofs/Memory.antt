@@ -15,8 +15,9 @@ use Rattle.woot.specs.Ranges.{inRange}
 use Rattle.woot.specs.State.{State, stored}
 use Rattle.woot.specs.Answers.{reply, changes, answerOf}
 use Rattle.woot.specs.Calls.{receive, localInsert, localDelete, localRestore}
-use Rattle.woot.specs.Histories.{inserting, deleting, restoring, receiving, outcome, Call as RuleCall}
-use Rattle.storage.specs.Replicas.{afterAnswer, afterSent, receipt, generated, received, inserted, deleted, restored}
+use Rattle.woot.specs.Cursor.{receiveAt}
+use Rattle.woot.specs.Histories.{inserting, deleting, restoring, receiving, receivingAt, outcome, Call as RuleCall}
+use Rattle.storage.specs.Replicas.{afterAnswer, afterSent, receipt, moved, generated, received, receivedAt, inserted, deleted, restored}
 use Rattle.replica.specs.Theorems.{called, answerTo}
 use Rattle.replica.proofs.Runs.{Within, formed-within, meaning-stored, form-stored}
 use Rattle.lent.specs.Lent.{returned}
@@ -34,6 +35,10 @@ module _ (s : State) (w : Within s) where
   pub received-stored : (o : Operation) → received (stored s) o ≡ receipt (stored s) (receive s o)
   unfolding received receive
   received-stored o = rw (form-stored s w, meaning-stored s)
+
+  pub received-at-stored : (o : Operation) (g : ℕ) → receivedAt (stored s) o g ≡ moved (stored s) g (receiveAt s o g)
+  unfolding receivedAt receiveAt
+  received-at-stored o g = rw (form-stored s w, meaning-stored s)
 
   pub inserted-stored : (g n : ℕ) → inserted (stored s) g n ≡ generated (stored s) (localInsert s g n)
   unfolding inserted localInsert
@@ -57,7 +62,7 @@ module _ (s : State) (w : Within s) where
   called-stored : (c : RuleCall) →
       (called (stored s) c ≡ afterAnswer (stored s) (outcome s c .state) (outcome s c .answer))
       × (answerTo (stored s) c ≡ outcome s c .answer)
-  unfolding called answerTo outcome receipt generated
+  unfolding called answerTo outcome receipt moved generated
   called-stored (inserting g n) =
       let e = inserted-stored s w g n in (
         ap (λ x. x .replica) e ∙ sent-answer (stored s) (localInsert s g n .state) (localInsert s g n .answer),
@@ -75,6 +80,9 @@ module _ (s : State) (w : Within s) where
       )
   called-stored (receiving o) =
       let e = received-stored s w o in
+      (ap (λ x. x .replica) e, ap (λ x. x .answer) e)
+  called-stored (receivingAt o g) =
+      let e = received-at-stored s w o g in
       (ap (λ x. x .replica) e, ap (λ x. x .answer) e)
 
   answered-step : (c : RuleCall) (a : Answer) → outcome s c .answer ≡ a →

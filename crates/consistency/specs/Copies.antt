@@ -13,7 +13,7 @@ use Rattle.woot.specs.State.{State, initial, meaning, stored}
 use Rattle.woot.specs.Answers.{Word, done, waits, known, refused, reply, answerOf}
 use Rattle.woot.specs.Calls.{allIntegrated}
 use Rattle.woot.specs.Text.{text}
-use Rattle.woot.specs.Histories.{inserting, deleting, restoring, receiving, outcome, Call as RuleCall}
+use Rattle.woot.specs.Histories.{inserting, deleting, restoring, receiving, receivingAt, outcome, Call as RuleCall}
 use Rattle.replica.specs.Theorems.{called, answerTo}
 use Rattle.lent.specs.declared.Returned.{Returned}
 use Rattle.lent.specs.Lent.{together, returned, siteAfter}
@@ -25,7 +25,7 @@ use Rattle.saved.specs.Format.{savedState}
 use Rattle.saved.specs.Calls.{loadedState, loaded, saved, savedOut}
 use Rattle.results.specs.Results.{numberOf}
 use Rattle.effects.specs.Effects.{Effect}
-use Rattle.wimtaze.specs.Calls.{beginning, receivingLine, insertingHere, deletingHere, named, restoringHere}
+use Rattle.wimtaze.specs.Calls.{beginning, receivingLine, receivingLineAt, insertingHere, deletingHere, named, restoringHere}
 
 -- a replica in memory, or the bytes of a saved one
 pub data Copy : Type 0 where
@@ -34,7 +34,7 @@ pub data Copy : Type 0 where
 
 -- the calls on a replica in memory, with any arguments, and with whatever the lent slices hold before the call
 pub data MemoryCall : Type 0 where
-  -- `replica::insert`, `replica::delete`, `replica::restore`, `replica::receive`
+  -- `replica::insert`, `replica::delete`, `replica::restore`, `replica::receive`, `cursor::receive_at`
   onReplica : RuleCall → MemoryCall
   -- `site_record::insert_on`: an insertion point and a code point
   onRecord : ℕ → ℕ → MemoryCall
@@ -49,6 +49,8 @@ pub data BytesCall : Type 0 where
   load : BytesCall
   -- `wimtaze_receive`: a line; the output
   receiveLine : List ℕ → List ℕ → BytesCall
+  -- `wimtaze_receive_at`: a line, a gap; the output
+  receiveLineAt : List ℕ → ℕ → List ℕ → BytesCall
   -- `wimtaze_type`: a gap, a code point; both outputs
   type : ℕ → ℕ → List ℕ → List ℕ → BytesCall
   -- `wimtaze_erase`: a place; both outputs
@@ -142,6 +144,7 @@ byEffect b e c = record { copy = keptBytes b e; carried = whenDone (wordOf e) (l
 unfoldable pub onBytes : List ℕ → BytesCall → Stepped
 onBytes b load = record { copy = afterLoading b (loaded b .replica) (loaded b .answer); carried = [] }
 onBytes b (receiveLine line out) = byEffect b (receivingLine b line out) (receiving (saidBy line))
+onBytes b (receiveLineAt line g out) = byEffect b (receivingLineAt b line g out) (receivingAt (saidBy line) g)
 onBytes b (type g n out line) = byEffect b (insertingHere b g n out line) (inserting g n)
 onBytes b (erase p out line) = byEffect b (deletingHere b p out line) (deleting p)
 onBytes b (restore n t out line) = byEffect b (restoringHere b n t out line) (restoring (named n t))

@@ -18,7 +18,7 @@ use Rattle.woot.specs.declared.Refusal.the-variants.{Form, Output}
 use Rattle.woot.specs.declared.Answer.{Answer}
 use Rattle.woot.specs.declared.Answer.the-variants.{Done}
 use Rattle.woot.specs.declared.Sent.the-variants.{Done as sentDone, Refused as sentRefused}
-use Rattle.woot.specs.declared.Receipt.{Receipt}
+use Rattle.woot.specs.declared.Moved.{Moved}
 use Rattle.woot.specs.declared.Generated.{Generated}
 use Rattle.woot.specs.declared.Written.the-variants.{Length, Refused as writtenRefused}
 use Rattle.woot.specs.declared.Written.{Written}
@@ -28,13 +28,14 @@ use Rattle.lists.proofs.Tests.{side}
 use Rattle.convergence.proofs.Writing.{length-refused, own-first, own-none, too-short, has-room}
 use Rattle.line_output.specs.declared.Room.the-variants.{Until, Short}
 use Rattle.line_output.specs.Room.{roomFor}
+use Rattle.cursor.specs.Bits.{shiftBits}
 use Rattle.codec.specs.Operations.{operationLine}
 use Rattle.woot.specs.Form.{replicaWellFormed}
 use Rattle.replica.specs.Texts.{textOf, textChecks, textWritten, textOut}
 use Rattle.saved.specs.Calls.{bytesOf}
 use Rattle.results.specs.Results.{result}
-use Rattle.effects.specs.Effects.{Effect, Leaves, quiet, turned, writing, writingBoth}
-use Rattle.effects.specs.Steps.{afterWriting, receiptLeft, sentLeft, generatedLeft, textLeft}
+use Rattle.effects.specs.Effects.{Effect, Leaves, quiet, turned, writingNoted, writing, writingBoth}
+use Rattle.effects.specs.Steps.{afterNoting, afterWriting, movedLeft, sentLeft, generatedLeft, textLeft}
 
 pub carried : {e f : Effect} {r : ℕ} {out line : List ℕ} → e ≡ f → Leaves f r out line → Leaves e r out line
 carried {r = r} {out = out} {line = line} p h = subst (λ (x : Effect). Leaves x r out line) (sym p) h
@@ -62,15 +63,15 @@ by-first (c ∷ cs) = go (c .holds) refl (by-first cs)
 first-refusing : (cs : List (Check Refusal)) (o : Option Refusal) → first cs ≡ o → first (refusing cs) ≡ refusedBy o
 first-refusing cs o h = by-first cs ∙ ap refusedBy h
 
-module _ (a : Answer) (bytes out : List ℕ) where
+module _ (a : Answer) (note : ℕ) (bytes out : List ℕ) where
   -- what a writer with no condition of its own does
-  pub writing-written : writing a bytes out ≡ record { result = afterWriting a (writtenAs [] bytes out); output = outputAfter [] bytes out; line = [] }
-  unfolding writing decided turned quiet writtenAs outputAfter writingChecks afterWriting
-  writing-written = go (ltb (length out) (length bytes))
+  pub noted-written : writingNoted a note bytes out ≡ record { result = afterNoting a note (writtenAs [] bytes out); output = outputAfter [] bytes out; line = [] }
+  unfolding decided turned quiet writtenAs outputAfter writingChecks afterNoting
+  noted-written = go (ltb (length out) (length bytes))
     where
       go : (b : Bool)
-          → decided (turned out []) (first ((b ⇒ Output) ∷ [])) (record { result = result a (length bytes) 0; output = placed out 0 bytes; line = [] })
-          ≡ record { result = afterWriting a (decided (λ w. w) (first ((b ⇒ writtenRefused Output) ∷ [])) (Length (length bytes))); output = decided (λ w. out) (first ((b ⇒ writtenRefused Output) ∷ [])) (placed out 0 bytes); line = [] }
+          → decided (turned out []) (first ((b ⇒ Output) ∷ [])) (record { result = result a (length bytes) note; output = placed out 0 bytes; line = [] })
+          ≡ record { result = afterNoting a note (decided (λ w. w) (first ((b ⇒ writtenRefused Output) ∷ [])) (Length (length bytes))); output = decided (λ w. out) (first ((b ⇒ writtenRefused Output) ∷ [])) (placed out 0 bytes); line = [] }
       go true = refl
       go false = refl
 
@@ -80,11 +81,11 @@ module _ (cs : List (Check Refusal)) (bytes out : List ℕ) where
   afterWriter = record { result = afterWriting (Done 0 0) (writtenAs (refusing cs) bytes out); output = outputAfter (refusing cs) bytes out; line = [] }
 
   pub checked-written : decided (turned out []) (first cs) (writing (Done 0 0) bytes out) ≡ afterWriter
-  unfolding decided turned quiet afterWriting
+  unfolding decided turned quiet afterWriting afterNoting writing
   checked-written = go (first cs) refl
     where
       go : (o : Option Refusal) → first cs ≡ o → decided (turned out []) o (writing (Done 0 0) bytes out) ≡ afterWriter
-      go none h = let w = own-none (refusing cs) bytes out (first-refusing cs none h) in writing-written (Done 0 0) bytes out ∙ rw (w .0, w .1)
+      go none h = let w = own-none (refusing cs) bytes out (first-refusing cs none h) in noted-written (Done 0 0) 0 bytes out ∙ rw (w .0, w .1)
       go (some q) h = let w = own-first (refusing cs) (writtenRefused q) bytes out (first-refusing cs (some q) h) in rw (w .0, w .1)
 
 -- the text of a replica, by what its writer answers
@@ -94,14 +95,14 @@ text-written r out = checked-written ((not (replicaWellFormed r) ⇒ Form) ∷ [
 
 -- ---- receiving
 
-module _ (x y : Receipt) (e : x ≡ y) (out : List ℕ) where
-  pub unchanged : changes (x .answer) ≡ false → receiptLeft y out ≡ quiet out [] (x .answer)
-  unfolding receiptLeft
+module _ (x y : Moved) (e : x ≡ y) (out : List ℕ) where
+  pub unchanged : changes (x .answer) ≡ false → movedLeft y out ≡ quiet out [] (x .answer)
+  unfolding movedLeft
   unchanged h = rw (← e, h)
 
-  pub changed : changes (x .answer) ≡ true → receiptLeft y out ≡ writing (x .answer) (bytesOf (x .replica)) out
-  unfolding receiptLeft
-  changed h = rw (← e, h)
+  pub changed : changes (x .answer) ≡ true → (note : ℕ) → note ≡ shiftBits (x .shift) → movedLeft y out ≡ writingNoted (x .answer) note (bytesOf (x .replica)) out
+  unfolding movedLeft
+  changed h note f = rw (← e, h, f)
 
 -- ---- sending
 

@@ -4,6 +4,7 @@ use mathlib.Core.Bool.{_||_, cond}
 use mathlib.Core.Path.{_≡_}
 use mathlib.Core.List.{List, [], _∷_}
 use lib.Dec.{ltb}
+use lib.IntN.{ℤ}
 use lib.ListN.{length}
 use Rattle.output.specs.Output.{placed}
 use Rattle.woot.specs.declared.Refusal.{Refusal}
@@ -15,6 +16,7 @@ use Rattle.woot.specs.declared.Sent.the-variants.{Done as sentDone, Refused as 
 use Rattle.woot.specs.State.{State}
 use Rattle.woot.specs.Answers.{changes, _⇒_, first, decided}
 use Rattle.woot.specs.Calls.{Outcome}
+use Rattle.cursor.specs.Bits.{shiftBits}
 use Rattle.codec.specs.Operations.{operationLine}
 use Rattle.saved.specs.Format.{savedBytes}
 use Rattle.results.specs.Results.{Result, result, silent, numberOf}
@@ -37,11 +39,15 @@ quiet out line a = record { result = silent a; output = out; line = line }
 unfoldable pub turned : List ℕ → List ℕ → Refusal → Effect
 turned out line q = quiet out line (Refused q)
 
--- bytes into one output; condition 12 comes last
-unfoldable pub writing : Answer → List ℕ → List ℕ → Effect
-writing a bytes out =
+-- bytes into one output, and a note where the length of the second stands; condition 12 comes last
+abbrev pub writingNoted : Answer → ℕ → List ℕ → List ℕ → Effect
+writingNoted a note bytes out =
     decided (turned out []) (first ((ltb (length out) (length bytes) ⇒ Output) ∷ []))
-    (record { result = result a (length bytes) 0; output = placed out 0 bytes; line = [] })
+    (record { result = result a (length bytes) note; output = placed out 0 bytes; line = [] })
+
+-- bytes into one output
+unfoldable pub writing : Answer → List ℕ → List ℕ → Effect
+writing a bytes out = writingNoted a 0 bytes out
 
 -- bytes into both: "refusal 12 if either output is short"
 unfoldable pub writingBoth : Answer → List ℕ → List ℕ → List ℕ → List ℕ → Effect
@@ -54,6 +60,12 @@ writingBoth a bytes sent out line =
 unfoldable pub afterReceiving : Outcome Answer → List ℕ → Effect
 afterReceiving w out =
     cond (changes (w .answer)) (writing (w .answer) (savedBytes (w .state)) out) (quiet out [] (w .answer))
+
+-- what receiving with a cursor leaves: the same, and the shift in its bits where the new state is saved
+unfoldable pub afterReceivingAt : Outcome Answer → ℤ → List ℕ → Effect
+afterReceivingAt w shift out =
+    cond (changes (w .answer)) (writingNoted (w .answer) (shiftBits shift) (savedBytes (w .state)) out)
+    (quiet out [] (w .answer))
 
 -- what typing, erasing and restoring leave: the new state and the line to send
 unfoldable pub sending : State → Sent → List ℕ → List ℕ → Effect

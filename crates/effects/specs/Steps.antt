@@ -8,27 +8,32 @@ use Rattle.woot.specs.declared.Answer.{Answer}
 use Rattle.woot.specs.declared.Answer.the-variants.{Done, Refused}
 use Rattle.woot.specs.declared.Sent.{Sent}
 use Rattle.woot.specs.declared.Sent.the-variants.{Done as sentDone, Refused as sentRefused}
-use Rattle.woot.specs.declared.Receipt.{Receipt}
+use Rattle.woot.specs.declared.Moved.{Moved}
 use Rattle.woot.specs.declared.Generated.{Generated}
 use Rattle.woot.specs.declared.Written.{Written}
 use Rattle.woot.specs.declared.Written.the-variants.{Length, Refused as writtenRefused}
 use Rattle.woot.specs.Form.{replicaWellFormed}
 use Rattle.woot.specs.Answers.{changes, _⇒_, first, decided}
+use Rattle.cursor.specs.Bits.{shiftBits}
 use Rattle.codec.specs.Operations.{operationLine}
 use Rattle.replica.specs.Texts.{textOf}
 use Rattle.saved.specs.Calls.{bytesOf}
 use Rattle.results.specs.Results.{Result, result, silent}
-use Rattle.effects.specs.Effects.{Effect, quiet, turned, writing, writingBoth}
+use Rattle.effects.specs.Effects.{Effect, quiet, turned, writingNoted, writing, writingBoth}
 
--- an answer with so many bytes written, unless writing was refused
+-- an answer with so many bytes written and a note, unless writing was refused
+unfoldable pub afterNoting : Answer → ℕ → Written → Result
+afterNoting a note (Length n) = result a n note
+afterNoting a note (writtenRefused q) = silent (Refused q)
+
 unfoldable pub afterWriting : Answer → Written → Result
-afterWriting a (Length n) = result a n 0
-afterWriting a (writtenRefused q) = silent (Refused q)
+afterWriting a w = afterNoting a 0 w
 
--- what a receipt leaves
-unfoldable pub receiptLeft : Receipt → List ℕ → Effect
-receiptLeft x out =
-    cond (changes (x .answer)) (writing (x .answer) (bytesOf (x .replica)) out) (quiet out [] (x .answer))
+-- what receiving with a cursor leaves
+unfoldable pub movedLeft : Moved → List ℕ → Effect
+movedLeft x out =
+    cond (changes (x .answer)) (writingNoted (x .answer) (shiftBits (x .shift)) (bytesOf (x .replica)) out)
+    (quiet out [] (x .answer))
 
 -- what comes of a call that sends
 unfoldable pub sentLeft : Sent → Replica → List ℕ → List ℕ → Effect

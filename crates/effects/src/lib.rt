@@ -13,20 +13,35 @@ ghost use mathlib.Core.Path.{_≡_};
 ghost use mathlib.Core.List.{[]};
 ghost use Rattle.woot.specs.declared.Answer.the-variants.{Done};
 ghost use Rattle.codec.specs.Operations.{operationLine};
-ghost use Rattle.storage.specs.Replicas.{received};
+ghost use Rattle.storage.specs.Replicas.{receivedAt};
 ghost use Rattle.saved.specs.Calls.{bytesOf};
 ghost use Rattle.results.specs.Results.{numberOf};
-ghost use Rattle.effects.specs.Effects.{Leaves, writing, writingBoth};
-ghost use Rattle.effects.specs.Steps.{afterWriting, receiptLeft, generatedLeft, textLeft};
+ghost use Rattle.effects.specs.Effects.{Leaves, writingNoted, writing, writingBoth};
+ghost use Rattle.effects.specs.Steps.{afterNoting, afterWriting, movedLeft};
+ghost use Rattle.effects.specs.Steps.{generatedLeft, textLeft};
+
+// What is returned once writing was tried, with a note where the length of the second output stands.
+fn after_noting(answer: Answer, note: usize, written: Written) -> u64
+    ensures { λ r. ⌜ r ≡ numberOf (afterNoting answer note written) ⌝ }
+{
+    match written {
+        Written::Length(n) => results::returned(answer, n, note),
+        Written::Refused(refusal) => results::refused(refusal),
+    }
+}
 
 // What is returned once writing was tried.
 fn after_writing(answer: Answer, written: Written) -> u64
     ensures { λ r. ⌜ r ≡ numberOf (afterWriting answer written) ⌝ }
 {
-    match written {
-        Written::Length(n) => results::returned(answer, n, 0),
-        Written::Refused(refusal) => results::refused(refusal),
-    }
+    after_noting(answer, 0, written)
+}
+
+// Saves the replica, and answers so with a note.
+fn save_noted(answer: Answer, note: usize, replica: Replica, out: &mut [u8]) -> u64
+    ensures { λ r. ⌜ Leaves (writingNoted answer note (bytesOf replica) (now (out .entry))) r (now (out .exit)) [] ⌝ }
+{
+    after_noting(answer, note, saving::put(Version::Second, replica, out))
 }
 
 // What is returned by a call that writes and does nothing else.
@@ -44,7 +59,7 @@ pub fn written(written: Written) -> u64
 pub fn save(answer: Answer, replica: Replica, out: &mut [u8]) -> u64
     ensures { λ r. ⌜ Leaves (writing answer (bytesOf replica) (now (out .entry))) r (now (out .exit)) [] ⌝ }
 {
-    after_writing(answer, saving::put(Version::Second, replica, out))
+    save_noted(answer, 0, replica, out)
 }
 
 // Writes the visible text.
@@ -54,17 +69,24 @@ pub fn show(replica: Replica, out: &mut [u8]) -> u64
     written(replica::visible_text(replica, out))
 }
 
-// Receives the operation, and saves the replica if that changed it.
-pub fn receive(replica: Replica, operation: Operation, out: &mut [u8]) -> u64
-    ensures { λ r. ⌜ Leaves (receiptLeft (received replica operation) (now (out .entry))) r (now (out .exit)) [] ⌝ }
+// Receives the operation with a cursor at the insertion point, saves the replica if that changed it, and notes the
+// shift. These are the steps of `cursor::receive_at`: what that returns would be one more replica on the stack.
+pub fn receive_at(replica: Replica, operation: Operation, point: usize, out: &mut [u8]) -> u64
+    ensures { λ r. ⌜ Leaves (movedLeft (receivedAt replica operation point) (now (out .entry)))
+        r (now (out .exit)) [] ⌝ }
 {
+    let d = replica.document;
+    let anchor = cursor::anchored(d, point);
     let receipt = replica::receive(replica, operation);
-    let answer = receipt.answer;
+    let received = receipt.answer;
+    let answer = cursor::answered(received, anchor.beyond);
     if !answer.is_change() {
         return results::returned(answer, 0, 0);
     }
     let after = receipt.replica;
-    save(answer, after, out)
+    let left = anchor.left;
+    let shift = cursor::shift(after, left, point);
+    save_noted(answer, cursor::bits(shift), after, out)
 }
 
 // Saves the replica and writes the line, or neither: the line is measured before anything is written.

@@ -1,4 +1,4 @@
-// The number that a call returns: a reply and two lengths in the bits of one `u64`.
+// The number that a call returns: a reply and two lengths, or a length and a shift, in the bits of one `u64`.
 use woot::Answer;
 use woot::Refusal;
 ghost use mathlib.Core.Path.{_≡_};

@@ -14,18 +14,20 @@ use Rattle.woot.specs.declared.Answer.{Answer}
 use Rattle.woot.specs.declared.Answer.the-variants.{Done, Deferred, Duplicate, Refused}
 use Rattle.woot.specs.declared.Sent.{Sent}
 use Rattle.woot.specs.declared.Sent.the-variants.{Done as sentDone, Refused as sentRefused}
-use Rattle.woot.specs.declared.Receipt.{Receipt}
+use Rattle.woot.specs.declared.Moved.{Moved}
 use Rattle.woot.specs.declared.Generated.{Generated}
 use Rattle.woot.specs.Ranges.{codePoint, characterId, inRange}
-use Rattle.woot.specs.State.{State, stored}
+use Rattle.woot.specs.State.{State, stored, meaning}
 use Rattle.woot.specs.Form.{wellFormed, replicaWellFormed}
 use Rattle.woot.specs.declared.Written.{Written}
 use Rattle.woot.specs.declared.Written.the-variants.{Length, Refused as writtenRefused}
 use Rattle.woot.specs.Answers.{reply, changes, _⇒_, first, decided}
 use Rattle.woot.specs.Writing.{writtenNumber, writtenLength}
-use Rattle.woot.specs.Calls.{Outcome, unchanged, receiveChecks, receiveWhen, receive, insertChecks, localInsertWhen, localInsert, deleteChecks, localDeleteWhen, localDelete, restoreChecks, localRestoreWhen, localRestore}
+use Rattle.woot.specs.Calls.{Outcome, unchanged, insertChecks, localInsertWhen, localInsert, deleteChecks, localDeleteWhen, localDelete, restoreChecks, localRestoreWhen, localRestore}
+use Rattle.woot.specs.Cursor.{receiveAtChecks, receiveAtWhen, receiveAt, shiftOf, shiftAt}
 use Rattle.woot.specs.Text.{text}
-use Rattle.storage.specs.Replicas.{afterAnswer, afterSent, receipt, generated, received, inserted, deleted, restored}
+use Rattle.storage.specs.Replicas.{afterAnswer, afterSent, moved, generated, receivedAt, inserted, deleted, restored}
+use Rattle.cursor.specs.Bits.{shiftBits}
 use Rattle.replica.specs.Texts.{textOf}
 use Rattle.replica.proofs.Runs.{meaning-stored}
 use Rattle.codec.specs.Operations.{operationLine}
@@ -35,12 +37,12 @@ use Rattle.saved.specs.Calls.{loadedAs, loadedState, bytesOf, held}
 use Rattle.woot.specs.Form.{raised}
 use Rattle.saved.specs.Conversion.{conversion, conversionRefusals, conversionChecks, converted, convertedOut}
 use Rattle.saved.proofs.Held.{held-form}
-use Rattle.effects.specs.Effects.{Effect, quiet, turned, writing, writingBoth, afterReceiving, sending, afterSending}
+use Rattle.effects.specs.Effects.{Effect, quiet, turned, writing, writingBoth, sending, afterSending, writingNoted, afterReceivingAt}
 use Rattle.results.specs.Results.{silent, result}
 use Rattle.wimtaze.specs.Calls.{inputChecks, counting, converting}
 use Rattle.wimtaze.specs.Theorems.{TripsTell}
 use Rattle.effects.proofs.Outputs.{checked-written}
-use Rattle.effects.specs.Steps.{afterWriting, receiptLeft, sentLeft, generatedLeft, textLeft}
+use Rattle.effects.specs.Steps.{afterNoting, afterWriting, sentLeft, generatedLeft, textLeft, movedLeft}
 use Rattle.counts.specs.Counts.{countsOf}
 use Rattle.counts.specs.Steps.{countsLeft}
 
@@ -58,15 +60,18 @@ stored-bytes s = ap savedBytes (meaning-stored s)
 
 -- ---- what a rule leaves, saved
 
-receipt-saved : (r : Replica) (w : Outcome Answer) (out : List ℕ) → receiptLeft (receipt r w) out ≡ afterReceiving w out
-unfolding receiptLeft receipt afterReceiving changes afterAnswer
-receipt-saved r w out = go (w .answer)
+moved-saved : (r : Replica) (g : ℕ) (w : Outcome Answer) (out : List ℕ) → movedLeft (moved r g w) out ≡ afterReceivingAt w (shiftOf (meaning r) w g) out
+unfolding movedLeft moved afterReceivingAt changes afterAnswer
+moved-saved r g w out = go (w .answer)
   where
+    note : ℕ
+    note = shiftBits (shiftOf (meaning r) w g)
+
     go : (a : Answer)
-        → cond (changes a) (writing a (bytesOf (afterAnswer r (w .state) a)) out) (quiet out [] a)
-        ≡ cond (changes a) (writing a (savedBytes (w .state)) out) (quiet out [] a)
-    go (Done n m) = ap (λ (bytes : List ℕ). writing (Done n m) bytes out) (stored-bytes (w .state))
-    go Deferred = ap (λ (bytes : List ℕ). writing Deferred bytes out) (stored-bytes (w .state))
+        → cond (changes a) (writingNoted a note (bytesOf (afterAnswer r (w .state) a)) out) (quiet out [] a)
+        ≡ cond (changes a) (writingNoted a note (savedBytes (w .state)) out) (quiet out [] a)
+    go (Done n m) = ap (λ (bytes : List ℕ). writingNoted (Done n m) note bytes out) (stored-bytes (w .state))
+    go Deferred = ap (λ (bytes : List ℕ). writingNoted Deferred note bytes out) (stored-bytes (w .state))
     go Duplicate = refl
     go (Refused q) = refl
 
@@ -90,9 +95,9 @@ module _ (s : State) (out line : List ℕ) (e : Effect) where
   formed-off h = rw h
 
 module _ (u : State) (h : wellFormed (raised u) ≡ true) where
-  received-held : (o : Operation) → received (held u) o ≡ receipt (held u) (receive (raised u) o)
-  unfolding received receive
-  received-held o = rw (held-form u .0, held-form u .1 h .1)
+  received-held : (o : Operation) (g : ℕ) → receivedAt (held u) o g ≡ moved (held u) g (receiveAt (raised u) o g)
+  unfolding receivedAt receiveAt
+  received-held o g = rw (held-form u .0, held-form u .1 h .1)
 
   inserted-held : (g n : ℕ) → inserted (held u) g n ≡ generated (held u) (localInsert (raised u) g n)
   unfolding inserted localInsert
@@ -108,9 +113,9 @@ module _ (u : State) (h : wellFormed (raised u) ≡ true) where
 
 -- a replica out of form is refused with 3
 module _ (r : Replica) (f : replicaWellFormed r ≡ false) where
-  received-off : (o : Operation) → inRange o ≡ true → received r o ≡ record { answer = Refused Form; replica = r }
-  unfolding received receipt receiveWhen receiveChecks decided unchanged afterAnswer
-  received-off o ranged = rw (ranged, f)
+  received-off : (o : Operation) (g : ℕ) (out : List ℕ) → inRange o ≡ true → movedLeft (receivedAt r o g) out ≡ turned out [] Form
+  unfolding receivedAt moved receiveAtWhen receiveAtChecks decided unchanged movedLeft changes turned
+  received-off o g out ranged = rw (ranged, f)
 
   inserted-off : (g n : ℕ) → codePoint n ≡ true → inserted r g n ≡ record { answer = sentRefused Form; replica = r }
   unfolding inserted generated localInsertWhen insertChecks decided unchanged afterSent
@@ -131,13 +136,17 @@ unformed r out f = rw f
 -- ---- the calls
 
 module _ (u : State) (out : List ℕ) where
-  pub receive-bridge : (o : Operation) → inRange o ≡ true → formed-first (raised u) out [] (afterReceiving (receive (raised u) o) out) ≡ receiptLeft (received (held u) o) out
-  unfolding receiptLeft turned changes
-  receive-bridge o ranged = go (wellFormed (raised u)) refl
+  pub receive-bridge : (o : Operation) (g : ℕ) → inRange o ≡ true → formed-first (raised u) out [] (afterReceivingAt (receiveAt (raised u) o g) (shiftAt (raised u) o g) out) ≡ movedLeft (receivedAt (held u) o g) out
+  unfolding shiftAt
+  receive-bridge o g ranged = go (wellFormed (raised u)) refl
     where
-      go : (b : Bool) → wellFormed (raised u) ≡ b → formed-first (raised u) out [] (afterReceiving (receive (raised u) o) out) ≡ receiptLeft (received (held u) o) out
-      go true e = formed-on (raised u) out [] _ e ∙ sym (receipt-saved (held u) (receive (raised u) o) out) ∙ ap (λ (x : Receipt). receiptLeft x out) (sym (received-held u e o))
-      go false e = formed-off (raised u) out [] _ e ∙ ap (λ (x : Receipt). receiptLeft x out) (sym (received-off (held u) (held-form u .0 ∙ e) o ranged))
+      go : (b : Bool) → wellFormed (raised u) ≡ b → formed-first (raised u) out [] (afterReceivingAt (receiveAt (raised u) o g) (shiftAt (raised u) o g) out) ≡ movedLeft (receivedAt (held u) o g) out
+      go true e =
+          formed-on (raised u) out [] _ e
+          ∙ ap (λ (t : State). afterReceivingAt (receiveAt (raised u) o g) (shiftOf t (receiveAt (raised u) o g) g) out) (sym (held-form u .1 e .1))
+          ∙ sym (moved-saved (held u) g (receiveAt (raised u) o g) out)
+          ∙ ap (λ (x : Moved). movedLeft x out) (sym (received-held u e o g))
+      go false e = formed-off (raised u) out [] _ e ∙ sym (received-off (held u) (held-form u .0 ∙ e) o g out ranged)
 
   pub text-bridge : formed-first (raised u) out [] (writing (Done 0 0) (text ((raised u) .characters)) out) ≡ textLeft (held u) out
   unfolding textLeft textOf
@@ -178,7 +187,7 @@ unfolding converting converted convertedOut conversionChecks
 conversion-bridge v w bytes out = checked-written (conversionRefusals v w bytes) (conversion v w bytes) out
 
 pub trips-tell : TripsTell
-unfolding afterWriting silent result reply writtenNumber writtenLength
+unfolding afterWriting afterNoting silent result reply writtenNumber writtenLength
 trips-tell v w bytes out = rw (conversion-bridge v w bytes out) (go (converted v w bytes out))
   where
     go : (x : Written)

@@ -24,6 +24,7 @@ use Rattle.woot.specs.Form.{wellFormed}
 use Rattle.woot.specs.Pending.{executable}
 use Rattle.woot.specs.Answers.{number, Check, first, NoneHolds, decided}
 use Rattle.woot.specs.Calls.{Outcome, unchanged, insertCarried, receiveChecks, carryOut, defer, accept, receiveWhen, receive, generatedInsert, insertChecks, sendInsert, localInsertWhen, localInsert, generatedDelete, deleteChecks, sendToggle, localDeleteWhen, localDelete, generatedToggle, restoreChecks, localRestoreWhen, localRestore}
+use Rattle.woot.specs.Cursor.{receiveAtChecks, receiveAtWhen, receiveAt}
 use Rattle.convergence.proofs.Forms.{formed}
 use Rattle.convergence.proofs.Shares.{pending-fit}
 use Rattle.convergence.proofs.Draining.{drained-balance}
@@ -83,6 +84,13 @@ module _ (s : State) (h : wellFormed s ≡ true) where
   receive-fine o =
       by-checks Fine s (receiveChecks (wellFormed s) s o) (accept s o)
       (refl, (refl, (tt, (refl, (refl, (refl, (refl, (refl, tt))))))))
+      (λ w. accept-fine s o h)
+
+  pub receive-at-fine : (o : Operation) (g : ℕ) → Fine (receiveAt s o g .answer)
+  unfolding receiveAt receiveAtWhen receiveAtChecks
+  receive-at-fine o g =
+      by-checks Fine s (receiveAtChecks (wellFormed s) s o g) (accept s o)
+      (refl, (refl, (tt, (refl, (refl, (refl, (refl, (refl, (refl, tt)))))))))
       (λ w. accept-fine s o h)
 
   pub insert-sends : (g n : ℕ) → Sends insertMost (localInsert s g n .answer)

@@ -7,6 +7,7 @@ use mathlib.Core.Bool.{Bool, true, false, _||_, not, cond}
 use mathlib.Core.Option.{Option, none, some}
 use mathlib.Core.List.{List, [], _∷_}
 use lib.Dec.{ltb}
+use lib.IntN.{ℤ, pos, negsuc}
 use lib.ListN.{length, length-map}
 use borrow.Author.Tests.{eqb-false, ltb-true, not-false}
 use Rattle.output.specs.Output.{placed}
@@ -24,7 +25,8 @@ use Rattle.woot.specs.Answers.{number, reply, changes, Check, _⇒_, first, Non
 use Rattle.woot.specs.declared.Character.{Character}
 use Rattle.woot.specs.Operations.{isVisible}
 use Rattle.woot.specs.Calls.{receive, visibles, localInsert, localDelete, localRestore}
-use Rattle.woot.specs.Histories.{inserting, deleting, restoring, receiving, outcome}
+use Rattle.woot.specs.Cursor.{receiveAt, shiftAt}
+use Rattle.woot.specs.Histories.{inserting, deleting, restoring, receiving, receivingAt, outcome}
 use Rattle.woot.specs.Text.{text}
 use Rattle.lists.specs.Lists.{keep}
 use Rattle.lists.proofs.Members.{keep-length}
@@ -33,6 +35,7 @@ use Rattle.convergence.proofs.Replies.{number-few}
 use Rattle.convergence.proofs.Shares.{pending-fit}
 use Rattle.convergence.proofs.Kept.{form-kept}
 use Rattle.convergence.proofs.Steps.{All, first-none, first-some}
+use Rattle.cursor.specs.Bits.{shiftBits}
 use Rattle.codec.specs.Operations.{operationLine}
 use Rattle.codec.specs.Calls.{saidBy}
 use Rattle.saved.specs.Format.{representable, bytesAs, savedBytes}
@@ -44,13 +47,13 @@ use Rattle.saved.specs.declared.Version.the-variants.{First, Second}
 use Rattle.saved.specs.Conversion.{firstMost, conversion, conversionRefusals}
 use Rattle.saved.proofs.Sizes.{saved-length, first-length}
 use Rattle.results.specs.Results.{Result, result, silent}
-use Rattle.effects.specs.Effects.{Effect, quiet, turned, writing, writingBoth, afterReceiving, sending, afterSending}
+use Rattle.effects.specs.Effects.{Effect, quiet, turned, writingNoted, writing, writingBoth, afterReceiving, afterReceivingAt, sending, afterSending}
 use Rattle.counts.specs.Counts.{countsOf}
-use Rattle.wimtaze.specs.Calls.{inputChecks, oneLine, beginning, receivingLine, insertingHere, deletingHere, named, restoringHere, showingText, counting, converting, upgrading, downgrading}
+use Rattle.wimtaze.specs.Calls.{inputChecks, oneLine, beginning, receivingLine, insertingHere, deletingHere, named, restoringHere, showingText, counting, converting, upgrading, downgrading, receivingLineAt}
 use Rattle.wimtaze.specs.Theorems.{textMost, Fits, ResultsFit, CountsWithin, CountsFit, HasRoom, BuffersSuffice}
 use Rattle.wimtaze.proofs.Sizes.{text-length}
 use Rattle.counts.proofs.Counting.{known-few}
-use Rattle.wimtaze.proofs.Counts.{Other, Fine, Sends, receive-fine, insert-sends, delete-sends, restore-sends}
+use Rattle.wimtaze.proofs.Counts.{Other, Fine, Sends, receive-fine, receive-at-fine, insert-sends, delete-sends, restore-sends}
 
 -- ---- what is returned
 
@@ -98,14 +101,18 @@ module _ {m k : ℕ} {room : Type 0} where
       go none h = good (first-none cs h)
       go (some q) h = turned-good q (λ r. first-some Other cs other q h)
 
-writing-good : {m k : ℕ} (a : Answer) (bytes out : List ℕ) → Fine a → length bytes ≤ m → Good m k (m ≤ length out) (writing a bytes out .result)
-unfolding writing decided turned quiet
-writing-good {m} {k} a bytes out f few = go (ltb (length out) (length bytes)) refl
+noted-good : {m k : ℕ} (a : Answer) (note : ℕ) (bytes out : List ℕ) → Fine a → note ≤ k → length bytes ≤ m → Good m k (m ≤ length out) (writingNoted a note bytes out .result)
+unfolding decided turned quiet
+noted-good {m} {k} a note bytes out f small few = go (ltb (length out) (length bytes)) refl
   where
     go : (b : Bool) → ltb (length out) (length bytes) ≡ b
-        → Good m k (m ≤ length out) (decided (turned out []) (first ((b ⇒ Output) ∷ [])) (record { result = result a (length bytes) 0; output = placed out 0 bytes; line = [] }) .result)
+        → Good m k (m ≤ length out) (decided (turned out []) (first ((b ⇒ Output) ∷ [])) (record { result = result a (length bytes) note; output = placed out 0 bytes; line = [] }) .result)
     go true e = turned-good Output (λ room. absurd (omega (arith, ltb-true (length out) (length bytes) e)))
-    go false e = result-good a (length bytes) 0 f few (omega arith)
+    go false e = result-good a (length bytes) note f few small
+
+writing-good : {m k : ℕ} (a : Answer) (bytes out : List ℕ) → Fine a → length bytes ≤ m → Good m k (m ≤ length out) (writing a bytes out .result)
+unfolding writing
+writing-good a bytes out f few = noted-good a 0 bytes out f (omega arith) few
 
 both-good : {m k : ℕ} (a : Answer) (bytes sent out line : List ℕ) → Fine a → length bytes ≤ m → length sent ≤ k
     → Good m k ((m ≤ length out) × (k ≤ length line)) (writingBoth a bytes sent out line .result)
@@ -118,6 +125,11 @@ both-good {m} {k} a bytes sent out line f few short = go (ltb (length out) (leng
     go false true e g = turned-good Output (λ room. absurd (omega (arith, room .1, ltb-true (length line) (length sent) g)))
     go false false e g = result-good a (length bytes) (length sent) f few short
 
+bits-few : (z : ℤ) → shiftBits z ≤ 65535
+unfolding shiftBits
+bits-few (pos n) = omega arith
+bits-few (negsuc n) = omega arith
+
 -- ---- on a state in form
 
 module _ (s : State) (h : wellFormed s ≡ true) where
@@ -128,6 +140,14 @@ module _ (s : State) (h : wellFormed s ≡ true) where
       go : (b : Bool) → Good savedMost 0 (savedMost ≤ length out) (cond b (writing (receive s o .answer) (savedBytes (receive s o .state)) out) (quiet out [] (receive s o .answer)) .result)
       go true = writing-good (receive s o .answer) (savedBytes (receive s o .state)) out (receive-fine s h o) (saved-length (receive s o .state) (form-kept s (receiving o) h))
       go false = result-good (receive s o .answer) 0 0 (receive-fine s h o) (omega arith) (omega arith)
+
+  receive-at-good : (o : Operation) (g : ℕ) (z : ℤ) (out : List ℕ) → Good savedMost 65535 (savedMost ≤ length out) (afterReceivingAt (receiveAt s o g) z out .result)
+  unfolding afterReceivingAt quiet silent outcome
+  receive-at-good o g z out = go (changes (receiveAt s o g .answer))
+    where
+      go : (b : Bool) → Good savedMost 65535 (savedMost ≤ length out) (cond b (writingNoted (receiveAt s o g .answer) (shiftBits z) (savedBytes (receiveAt s o g .state)) out) (quiet out [] (receiveAt s o g .answer)) .result)
+      go true = noted-good (receiveAt s o g .answer) (shiftBits z) (savedBytes (receiveAt s o g .state)) out (receive-at-fine s h o g) (bits-few z) (saved-length (receiveAt s o g .state) (form-kept s (receivingAt o g) h))
+      go false = result-good (receiveAt s o g .answer) 0 0 (receive-at-fine s h o g) (omega arith) (omega arith)
 
   send-good : (k : ℕ) (t : State) (a : Sent) (out line : List ℕ) → wellFormed t ≡ true → Sends k a
       → Good savedMost k ((savedMost ≤ length out) × (k ≤ length line)) (sending t a out line .result)
@@ -159,6 +179,11 @@ module _ (bytes : List ℕ) where
       → Good savedMost 0 (savedMost ≤ length out) (receivingLine bytes line out .result)
   unfolding receivingLine
   receive-line-good line out = input-good (oneLine line) (inRange (saidBy line)) out [] _ (λ h. receive-good (loadedState bytes) h (saidBy line) out)
+
+  receive-line-at-good : (line : List ℕ) (gap : ℕ) (out : List ℕ)
+      → Good savedMost 65535 (savedMost ≤ length out) (receivingLineAt bytes line gap out .result)
+  unfolding receivingLineAt
+  receive-line-at-good line gap out = input-good (oneLine line) (inRange (saidBy line)) out [] _ (λ h. receive-at-good (loadedState bytes) h (saidBy line) gap (shiftAt (loadedState bytes) (saidBy line) gap) out)
 
   insert-good : (point n : ℕ) (out line : List ℕ)
       → Good savedMost insertMost (Room insertMost out line) (insertingHere bytes point n out line .result)
@@ -211,6 +236,7 @@ results-fit = (
   λ bytes index out line. delete-good bytes index out line .0,
   λ bytes site clock out line. restore-good bytes site clock out line .0,
   λ bytes out. show-good bytes out .0,
+  λ bytes line gap out. receive-line-at-good bytes line gap out .0,
   λ bytes out. upgrade-good bytes out .0,
   λ bytes out. downgrade-good bytes out .0,
 )
@@ -223,6 +249,7 @@ buffers-suffice = (
   λ bytes index out line h g. delete-good bytes index out line .1 (h, g),
   λ bytes site clock out line h g. restore-good bytes site clock out line .1 (h, g),
   λ bytes out. show-good bytes out .1,
+  λ bytes line gap out. receive-line-at-good bytes line gap out .1,
   λ bytes out. upgrade-good bytes out .1,
   λ bytes out. downgrade-good bytes out .1,
 )

@@ -23,10 +23,12 @@ use Rattle.woot.specs.State.{State, initial}
 use Rattle.woot.specs.Form.{wellFormed}
 use Rattle.woot.specs.Answers.{Word, done, refused as wordRefused, reply, changes, Check, _⇒_, first, NoneHolds, decided}
 use Rattle.woot.specs.Calls.{receive, localInsert, localDelete, localRestore}
-use Rattle.woot.specs.Histories.{inserting, deleting, restoring, receiving, outcome}
+use Rattle.woot.specs.Cursor.{receiveAt, shiftAt}
+use Rattle.woot.specs.Histories.{inserting, deleting, restoring, receiving, receivingAt, outcome}
 use Rattle.convergence.proofs.Forms.{empty-formed}
 use Rattle.convergence.proofs.Kept.{form-kept}
 use Rattle.convergence.proofs.Steps.{first-none}
+use Rattle.cursor.specs.Bits.{shiftBits}
 use Rattle.codec.specs.Operations.{operationLine}
 use Rattle.codec.specs.Calls.{saidBy}
 use Rattle.saved.specs.declared.Version.{Version}
@@ -37,8 +39,8 @@ use Rattle.saved.specs.Conversion.{conversion, conversionRefusals, Converts, Re
 use Rattle.saved.proofs.Trips.{saved-reads-back}
 use Rattle.saved.proofs.Conversions.{down-after-up, up-after-down}
 use Rattle.results.specs.Results.{result, silent}
-use Rattle.effects.specs.Effects.{Effect, quiet, turned, writing, writingBoth, afterReceiving, sending, afterSending}
-use Rattle.wimtaze.specs.Calls.{inputChecks, oneLine, beginning, receivingLine, insertingHere, deletingHere, named, restoringHere, converting, upgrading}
+use Rattle.effects.specs.Effects.{Effect, quiet, turned, writing, writingBoth, afterReceiving, sending, afterSending, writingNoted, afterReceivingAt}
+use Rattle.wimtaze.specs.Calls.{inputChecks, oneLine, beginning, receivingLine, insertingHere, deletingHere, named, restoringHere, converting, upgrading, receivingLineAt}
 use Rattle.wimtaze.specs.Theorems.{Formed, Loads, WrittenLoads, bytesWritten, ReturnsBytes, TripsReturn}
 
 turned-loads : (out line : List ℕ) (q : Refusal) → Loads (turned out line q)
@@ -64,14 +66,18 @@ module _ (s : State) (h : wellFormed s ≡ true) where
       let back = saved-reads-back s h in
       rw (front out (savedBytes s) (ltb-false (length out) (length (savedBytes s)) e)) (back .0, back .2)
 
-  writing-loads : (a : Answer) (out : List ℕ) → Loads (writing a (savedBytes s) out)
-  unfolding writing decided result
-  writing-loads a out = go (ltb (length out) (length (savedBytes s))) refl
+  noted-loads : (a : Answer) (note : ℕ) (out : List ℕ) → Loads (writingNoted a note (savedBytes s) out)
+  unfolding decided result
+  noted-loads a note out = go (ltb (length out) (length (savedBytes s))) refl
     where
       go : (b : Bool) → ltb (length out) (length (savedBytes s)) ≡ b
-          → Loads (decided (turned out []) (first ((b ⇒ Output) ∷ [])) (record { result = result a (length (savedBytes s)) 0; output = placed out 0 (savedBytes s); line = [] }))
+          → Loads (decided (turned out []) (first ((b ⇒ Output) ∷ [])) (record { result = result a (length (savedBytes s)) note; output = placed out 0 (savedBytes s); line = [] }))
       go true e = turned-loads out [] Output
       go false e = λ known refused. front-loads out e
+
+  writing-loads : (a : Answer) (out : List ℕ) → Loads (writing a (savedBytes s) out)
+  unfolding writing
+  writing-loads a out = noted-loads a 0 out
 
   both-loads : (a : Answer) (sent out line : List ℕ) → Loads (writingBoth a (savedBytes s) sent out line)
   unfolding writingBoth decided result
@@ -85,12 +91,12 @@ module _ (s : State) (h : wellFormed s ≡ true) where
 
 -- ---- on a state in form
 
-received-loads : (t : State) (a : Answer) (out : List ℕ) → wellFormed t ≡ true → Loads (cond (changes a) (writing a (savedBytes t) out) (quiet out [] a))
+received-loads : (t : State) (a : Answer) (note : ℕ) (out : List ℕ) → wellFormed t ≡ true → Loads (cond (changes a) (writingNoted a note (savedBytes t) out) (quiet out [] a))
 unfolding changes quiet silent result reply
-received-loads t (Done n m) out h = writing-loads t h (Done n m) out
-received-loads t Deferred out h = writing-loads t h Deferred out
-received-loads t Duplicate out h = λ known refused. absurd (known refl)
-received-loads t (Refused q) out h = λ known refused. absurd (refused refl)
+received-loads t (Done n m) note out h = noted-loads t h (Done n m) note out
+received-loads t Deferred note out h = noted-loads t h Deferred note out
+received-loads t Duplicate note out h = λ known refused. absurd (known refl)
+received-loads t (Refused q) note out h = λ known refused. absurd (refused refl)
 
 sent-loads : (t : State) (a : Sent) (out line : List ℕ) → wellFormed t ≡ true → Loads (sending t a out line)
 unfolding sending
@@ -110,10 +116,17 @@ module _ (bytes : List ℕ) where
       handed-loads out line (inputChecks bytes laid ranged) e (λ w. loads (not-false (wellFormed said) (w .1 .1 .0)))
 
   receive-loads : (line out : List ℕ) → Loads (receivingLine bytes line out)
-  unfolding receivingLine afterReceiving outcome
+  unfolding receivingLine afterReceiving writing outcome
   receive-loads line out =
       input-loads (oneLine line) (inRange (saidBy line)) out [] _
-      (λ h. received-loads (receive said (saidBy line) .state) (receive said (saidBy line) .answer) out (form-kept said (receiving (saidBy line)) h))
+      (λ h. received-loads (receive said (saidBy line) .state) (receive said (saidBy line) .answer) 0 out (form-kept said (receiving (saidBy line)) h))
+
+  receive-at-loads : (line : List ℕ) (gap : ℕ) (out : List ℕ) → Loads (receivingLineAt bytes line gap out)
+  unfolding receivingLineAt afterReceivingAt outcome
+  receive-at-loads line gap out =
+      let o = saidBy line in
+      input-loads (oneLine line) (inRange o) out [] _
+      (λ h. received-loads (receiveAt said o gap .state) (receiveAt said o gap .answer) (shiftBits (shiftAt said o gap)) out (form-kept said (receivingAt o gap) h))
 
   type-loads : (point n : ℕ) (out line : List ℕ) → Loads (insertingHere bytes point n out line)
   unfolding insertingHere afterSending outcome
@@ -147,7 +160,7 @@ upgrade-loads bytes out =
     handed-loads out [] (conversionRefusals First Second bytes) _ (λ w. writing-loads s (not-false (wellFormed s) (w .1 .1 .0)) (Done 0 0) out)
 
 pub written-loads : WrittenLoads
-written-loads = (begin-loads, receive-loads, type-loads, erase-loads, restore-loads, upgrade-loads)
+written-loads = (begin-loads, receive-loads, type-loads, erase-loads, restore-loads, receive-at-loads, upgrade-loads)
 
 -- ---- both trips
 

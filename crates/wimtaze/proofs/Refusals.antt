@@ -17,7 +17,7 @@ use Rattle.codec.specs.declared.Read.{Read}
 use Rattle.codec.specs.declared.Read.the-variants.{Operation as readsAs, Refused as readRefused}
 use Rattle.lines.specs.Lines.{rest}
 use Rattle.codec.specs.Calls.{readChecks, readAs, readOperation, saidBy}
-use Rattle.storage.specs.Replicas.{received}
+use Rattle.storage.specs.Replicas.{receivedAt}
 use Rattle.saved.specs.declared.LoadAnswer.the-variants.{Done, Refused}
 use Rattle.saved.specs.declared.Loaded.{Loaded}
 use Rattle.saved.specs.declared.Version.the-variants.{Second}
@@ -136,9 +136,9 @@ module _ (s : List ℕ) (x : Loaded) (e : x ≡ savedRead Second s) where
   refused-beside laid o p h k = let l = line-read laid o p h in rw (l .0, l .1) (refused-alone _ k)
 
   -- both are read: the operation is received by the replica that was read
-  pub passed-beside : (laid : Bool) (o p : Operation) → readAs laid o ≡ readsAs p → x .answer ≡ Done →
-      (first (inputChecks s laid (inRange o)) ≡ formLeft s) × (inRange o ≡ true) × (received (held (savedState s)) o ≡ received (x .replica) p)
-  passed-beside laid o p h k =
+  pub passed-beside : (laid : Bool) (o p : Operation) (g : ℕ) → readAs laid o ≡ readsAs p → x .answer ≡ Done →
+      (first (inputChecks s laid (inRange o)) ≡ formLeft s) × (inRange o ≡ true) × (receivedAt (held (savedState s)) o g ≡ receivedAt (x .replica) p g)
+  passed-beside laid o p g h k =
       let l = line-read laid o p h in
       let d = passed k in
       (rw (l .0, l .1) (d .0), l .1, rw (← d .1, ← l .2) refl)

@@ -14,6 +14,7 @@ use Rattle.woot.specs.State.{initial}
 use Rattle.woot.specs.Form.{wellFormed}
 use Rattle.woot.specs.Answers.{Check, _⇒_, first, decided}
 use Rattle.woot.specs.Calls.{receive, localInsert, localDelete, localRestore}
+use Rattle.woot.specs.Cursor.{receiveAt, shiftAt}
 use Rattle.woot.specs.Text.{text}
 use Rattle.lines.specs.Lines.{rest}
 use Rattle.codec.specs.Calls.{laidOut, saidBy}
@@ -23,7 +24,7 @@ use Rattle.saved.specs.Format.{savedLaidOut, savedInRange, savedBytes}
 use Rattle.saved.specs.Calls.{loadedState}
 use Rattle.saved.specs.Conversion.{conversion, conversionRefusals}
 use Rattle.results.specs.Results.{Result, silent}
-use Rattle.effects.specs.Effects.{Effect, turned, writing, afterReceiving, afterSending}
+use Rattle.effects.specs.Effects.{Effect, turned, writing, afterReceiving, afterReceivingAt, afterSending}
 use Rattle.counts.specs.Counts.{countsOf}
 
 -- conditions 1, 2 and 3 over a saved replica and what else was handed, of which the two Bools say whether it has its
@@ -49,6 +50,13 @@ unfoldable pub receivingLine : List ℕ → List ℕ → List ℕ → Effect
 receivingLine bytes line out =
     decided (turned out []) (first (inputChecks bytes (oneLine line) (inRange (saidBy line))))
     (afterReceiving (receive (loadedState bytes) (saidBy line)) out)
+
+-- `wimtaze_receive_at`: document 02, Req 02
+unfoldable pub receivingLineAt : List ℕ → List ℕ → ℕ → List ℕ → Effect
+receivingLineAt bytes line gap out =
+    decided (turned out []) (first (inputChecks bytes (oneLine line) (inRange (saidBy line))))
+    (afterReceivingAt (receiveAt (loadedState bytes) (saidBy line) gap) (shiftAt (loadedState bytes) (saidBy line) gap)
+    out)
 
 -- `wimtaze_type`
 unfoldable pub insertingHere : List ℕ → ℕ → ℕ → List ℕ → List ℕ → Effect

@@ -5,23 +5,29 @@ use mathlib.Core.Bool.{true, false}
 use mathlib.Core.List.{List, _++_}
 use lib.ListN.{length, take}
 use Rattle.woot.specs.declared.Refusal.the-variants.{Taken}
-use Rattle.woot.specs.Answers.{number, done, known, refused}
+use Rattle.woot.specs.Answers.{number, done, known, refused, Word, waits}
 use Rattle.saved.specs.declared.LoadAnswer.the-variants.{Done as loadDone}
 use Rattle.saved.specs.declared.Version.{Version}
 use Rattle.saved.specs.declared.Version.the-variants.{First, Second}
 use Rattle.saved.specs.Format.{siteLine}
-use Rattle.saved.specs.Calls.{loadedAs, raisingAs, needsRaising, loaded}
+use Rattle.saved.specs.Calls.{loadedAs, raisingAs, needsRaising, loaded, loadedState}
 use Rattle.saved.specs.Conversion.{converted, convertedOut, firstMost}
 use Rattle.effects.specs.Effects.{Effect}
 use Rattle.woot.specs.State.{State}
 use Rattle.woot.specs.Form.{wellFormed}
 use Rattle.woot.specs.Writing.{writtenNumber, writtenLength}
+use lib.IntN.{ℤ, pos, negsuc}
+use lib.Signed.{_≤ℤ_}
+use Rattle.woot.specs.declared.Operation.{Operation}
+use Rattle.codec.specs.Calls.{saidBy}
+use Rattle.cursor.specs.Bits.{shiftRead}
+use Rattle.woot.specs.Cursor.{cursorAfter, shiftAt, lastNumber, movedBy}
 use Rattle.woot.specs.Text.{text}
 use Rattle.lines.specs.Lines.{rest}
 use Rattle.codec.specs.Theorems.{insertMost, toggleMost}
 use Rattle.saved.specs.Theorems.{savedMost}
 use Rattle.results.specs.Results.{Result, wordNumber, inBits, numberOf}
-use Rattle.wimtaze.specs.Calls.{beginning, receivingLine, insertingHere, deletingHere, restoringHere, showingText, counting, converting, upgrading, downgrading}
+use Rattle.wimtaze.specs.Calls.{beginning, receivingLine, insertingHere, deletingHere, restoringHere, showingText, counting, converting, upgrading, downgrading, receivingLineAt}
 
 -- ---- sizes: the header's WIMTAZE_SHEET_MAX, WIMTAZE_OLD_SHEET_MAX, WIMTAZE_INSERT_MAX, WIMTAZE_ERASE_MAX and
 -- WIMTAZE_TEXT_MAX
@@ -44,7 +50,8 @@ TypeNeverTaken =
 
 -- ---- the parts of what is returned
 
--- the bounds of a result, with at most m bytes written to the first output and k to the second
+-- the bounds of a result, with at most m bytes written to the first output and k to the second, or at most k for the
+-- bits of a shift
 pub record Fits (m k : ℕ) (x : Result) : Type 0 where
   pub refusal-fits : x .reply .refusal ≤ 15
   pub integrated-fits : x .reply .integrated ≤ 513
@@ -64,6 +71,8 @@ ResultsFit =
     × ((bytes : List ℕ) (site clock : ℕ) (out line : List ℕ) →
     Fits savedMost toggleMost (restoringHere bytes site clock out line .result))
     × ((bytes out : List ℕ) → Fits textMost 0 (showingText bytes out .result))
+    × ((bytes line : List ℕ) (gap : ℕ) (out : List ℕ) →
+    Fits savedMost 65535 (receivingLineAt bytes line gap out .result))
     × ((bytes out : List ℕ) → Fits savedMost 0 (upgrading bytes out .result))
     × ((bytes out : List ℕ) → Fits firstMost 0 (downgrading bytes out .result))
 
@@ -90,6 +99,53 @@ ReadsBack x =
 abbrev pub ReturnedReadsBack : Type 0
 ReturnedReadsBack = (m k : ℕ) (x : Result) → m < 65536 → k < 65536 → Fits m k x → ReadsBack x
 
+-- ---- document 02, Req 02
+
+-- the bytes that a call wrote
+abbrev pub bytesWritten : Effect → List ℕ
+bytesWritten e = take (e .result .written) (e .output)
+
+-- the shift that a call gives with a word: 0 with all but done
+abbrev pub shiftGiven : State → Operation → ℕ → Word → ℤ
+shiftGiven s o g done = shiftAt s o g
+shiftGiven s o g waits = pos 0
+shiftGiven s o g known = pos 0
+shiftGiven s o g refused = pos 0
+
+-- what the last sixteen bits say of the number that a call returns
+abbrev pub shiftReturned : Effect → ℤ
+shiftReturned e = shiftRead (numberOf (e .result) / 2 ^ 48)
+
+-- it is read back from those of `wimtaze_receive_at`
+abbrev pub ShiftReadsBack : Type 0
+ShiftReadsBack =
+    (bytes line : List ℕ) (gap : ℕ) (out : List ℕ) →
+    shiftReturned (receivingLineAt bytes line gap out)
+    ≡ shiftGiven (loadedState bytes) (saidBy line) gap (receivingLineAt bytes line gap out .result .reply .word)
+
+-- "the shift lies between -1 and 513"
+abbrev pub ReturnedShiftBounds : Type 0
+ReturnedShiftBounds =
+    (bytes line : List ℕ) (gap : ℕ) (out : List ℕ) →
+    (negsuc 0 ≤ℤ shiftReturned (receivingLineAt bytes line gap out))
+    × (shiftReturned (receivingLineAt bytes line gap out) ≤ℤ pos 513)
+
+-- "gap plus shift is the new gap", on the bytes that were written
+abbrev pub CursorReturned : Type 0
+CursorReturned =
+    (bytes line : List ℕ) (gap : ℕ) (out : List ℕ) → gap ≤ lastNumber →
+    receivingLineAt bytes line gap out .result .reply .word ≡ done →
+    movedBy gap (shiftReturned (receivingLineAt bytes line gap out))
+    ≡ cursorAfter (loadedState bytes .characters)
+    (loadedState (bytesWritten (receivingLineAt bytes line gap out)) .characters)
+    gap
+
+-- with the gap at the top `wimtaze_receive_at` is `wimtaze_receive`
+abbrev pub TopReceives : Type 0
+TopReceives = (bytes line out : List ℕ) → receivingLineAt bytes line 0 out ≡ receivingLine bytes line out
+
+-- ---- the counts
+
 -- the bounds of the counts: the visible characters are as many as all of them at most, and those as the capacity
 pub record CountsWithin (x : Result) : Type 0 where
   pub refusal-fits : x .reply .refusal ≤ 15
@@ -111,11 +167,7 @@ CountsReadBack = (bytes : List ℕ) → ReadsBack (counting bytes)
 abbrev pub Formed : List ℕ → Type 0
 Formed bytes = (loaded bytes .answer ≡ loadDone) × (needsRaising bytes ≡ false)
 
--- the bytes that a call wrote
-abbrev pub bytesWritten : Effect → List ℕ
-bytesWritten e = take (e .result .written) (e .output)
-
--- where the word is done or waits, they are
+-- the bytes that a call wrote, where the word is done or waits, are
 abbrev pub Loads : Effect → Type 0
 Loads e =
     (e .result .reply .word ≡ known → ⊥) → (e .result .reply .word ≡ refused → ⊥) → Formed (bytesWritten e)
@@ -128,6 +180,7 @@ WrittenLoads =
     × ((bytes : List ℕ) (point n : ℕ) (out line : List ℕ) → Loads (insertingHere bytes point n out line))
     × ((bytes : List ℕ) (index : ℕ) (out line : List ℕ) → Loads (deletingHere bytes index out line))
     × ((bytes : List ℕ) (site clock : ℕ) (out line : List ℕ) → Loads (restoringHere bytes site clock out line))
+    × ((bytes line : List ℕ) (gap : ℕ) (out : List ℕ) → Loads (receivingLineAt bytes line gap out))
     × ((bytes out : List ℕ) → Loads (upgrading bytes out))
 
 -- ---- document 02, Req 06
@@ -177,5 +230,7 @@ BuffersSuffice =
     × ((bytes : List ℕ) (site clock : ℕ) (out line : List ℕ) → savedMost ≤ length out → toggleMost ≤ length line →
     HasRoom (restoringHere bytes site clock out line .result))
     × ((bytes out : List ℕ) → textMost ≤ length out → HasRoom (showingText bytes out .result))
+    × ((bytes line : List ℕ) (gap : ℕ) (out : List ℕ) → savedMost ≤ length out →
+    HasRoom (receivingLineAt bytes line gap out .result))
     × ((bytes out : List ℕ) → savedMost ≤ length out → HasRoom (upgrading bytes out .result))
     × ((bytes out : List ℕ) → firstMost ≤ length out → HasRoom (downgrading bytes out .result))

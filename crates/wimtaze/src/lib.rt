@@ -12,7 +12,9 @@ ghost use mathlib.Core.Path.{_≡_};
 ghost use mathlib.Core.List.{[]};
 ghost use Rattle.results.specs.Results.{numberOf};
 ghost use Rattle.effects.specs.Effects.{Leaves};
-ghost use Rattle.wimtaze.specs.Calls.{beginning, receivingLine, insertingHere, deletingHere, restoringHere};
+ghost use Rattle.woot.specs.Cursor.{movedBy};
+ghost use Rattle.wimtaze.specs.Calls.{beginning, receivingLine, receivingLineAt, insertingHere, deletingHere};
+ghost use Rattle.wimtaze.specs.Calls.{restoringHere};
 ghost use Rattle.wimtaze.specs.Calls.{showingText, counting, upgrading, downgrading};
 
 // Writes the empty replica of a site.
@@ -66,10 +68,11 @@ pub extern "C" fn wimtaze_counts(bytes: &[u8]) -> u64
     }
 }
 
-// Receives the operation of a line, and writes the new saved replica.
+// Receives the operation of a line with a cursor at an insertion point, and writes the new saved replica. The shift
+// goes into the last sixteen bits of what is returned. (Document 02, Req 02.)
 #[no_mangle]
-pub extern "C" fn wimtaze_receive(bytes: &[u8], line: &[u8], out: &mut [u8]) -> u64
-    ensures { λ r. ⌜ Leaves (receivingLine (now (bytes .entry)) (now (line .entry)) (now (out .entry)))
+pub extern "C" fn wimtaze_receive_at(bytes: &[u8], line: &[u8], point: u64, out: &mut [u8]) -> u64
+    ensures { λ r. ⌜ Leaves (receivingLineAt (now (bytes .entry)) (now (line .entry)) point (now (out .entry)))
         r (now (out .exit)) [] ⌝ }
 {
     let loaded = loading::read(Version::Second, bytes);
@@ -81,10 +84,27 @@ pub extern "C" fn wimtaze_receive(bytes: &[u8], line: &[u8], out: &mut [u8]) -> 
             LoadAnswer::Refused(q) => results::refused(q),
             LoadAnswer::Done => {
                 let replica = loaded.replica;
-                effects::receive(replica, o, out)
+                effects::receive_at(replica, o, point as usize, out)
             }
         },
     }
+}
+
+// Receives the operation of a line, and writes the new saved replica: as with a cursor at the top, which stays there.
+#[no_mangle]
+pub extern "C" fn wimtaze_receive(bytes: &[u8], line: &[u8], out: &mut [u8]) -> u64
+    ensures { λ r. ⌜ Leaves (receivingLine (now (bytes .entry)) (now (line .entry)) (now (out .entry)))
+        r (now (out .exit)) [] ⌝ }
+{
+    wimtaze_receive_at(bytes, line, 0, out)
+}
+
+// An insertion point moved by a shift: 0 where the sum is below 0, and the largest number where it is above that.
+#[no_mangle]
+pub extern "C" fn wimtaze_moved(point: u64, shift: i32) -> u64
+    ensures { λ r. ⌜ r ≡ movedBy point shift ⌝ }
+{
+    cursor::moved(point as usize, shift) as u64
 }
 
 // Deletes a visible character, and writes the new saved replica and the line to be sent.

@@ -1,30 +1,15 @@
--- `effects::after_writing` meets its contract, variant by variant.
+-- `effects::after_writing` meets its contract: there is no note.
 use Rattle.effects.specs.Steps.{afterWriting}
 use borrow.Author.Needs.{needs}
 use Rattle.effects.proofs.after_writing.Statement.{statement}
 use Rattle.effects.proofs.after_writing.Tie as tie
 
-enum-known-written : tie.Need-enum-known-written
-enum-known-written c = search needs
-
-returned-requires : tie.Need-returned-requires
-returned-requires c κs = search needs
-
-enum-known-written-2 : tie.Need-enum-known-written-2
-enum-known-written-2 c = search needs
-
-refused-requires : tie.Need-refused-requires
-refused-requires c κs = search needs
+after-noting-requires : tie.Need-after-noting-requires
+after-noting-requires c κs = search needs
 
 returns : tie.Need-returns
 unfolding afterWriting
-returns c = rw (c .before .before .written .given .1) (c .returned .ensures)
-
-returns-2 : tie.Need-returns-2
-unfolding afterWriting
-returns-2 c = rw (c .before .before .written2 .given .1) (c .refused .ensures)
+returns c = c .after-noting .ensures
 
 pub after-writing-spec : {M : Type 1} → statement M
-after-writing-spec =
-    tie.close
-    (tie.spec enum-known-written returned-requires enum-known-written-2 refused-requires returns returns-2)
+after-writing-spec = tie.close (tie.spec after-noting-requires returns)

@@ -1,88 +1,19 @@
--- `wimtaze::wimtaze_receive` meets its contract: of what the two readers refuse refusal 1 is told first, and what both read is received.
-use mathlib.Core.Path.{refl, sym, ap, _∙_}
-use mathlib.Core.Option.{some}
-use Rattle.woot.specs.declared.Receipt.{Receipt}
-use Rattle.effects.specs.Effects.{quiet, turned}
-use Rattle.effects.specs.Steps.{receiptLeft}
-use Rattle.saved.specs.Calls.{loadedAs}
-use Rattle.wimtaze.specs.Calls.{receivingLine}
-use Rattle.wimtaze.proofs.Refusals.{refused-line, refused-beside, passed-beside}
-use Rattle.effects.proofs.Outputs.{carried, turned-away}
-use Rattle.wimtaze.proofs.Bridging.{goes-on, receive-bridge}
+-- `wimtaze::wimtaze_receive` meets its contract: a cursor at the top stays there.
+use mathlib.Core.Path.{sym}
 use borrow.Author.Needs.{needs}
+use Rattle.effects.proofs.Outputs.{carried}
+use Rattle.wimtaze.proofs.Shifting.{top-receives}
 use Rattle.wimtaze.proofs.wimtaze_receive.Statement.{statement}
 use Rattle.wimtaze.proofs.wimtaze_receive.Tie as tie
 
-read-requires : tie.Need-read-requires
-read-requires c κs = search needs
-
-read-one-requires : tie.Need-read-one-requires
-read-one-requires c κs = search needs
-
-enum-known-said : tie.Need-enum-known-said
-enum-known-said c = search needs
-
-first-of-requires : tie.Need-first-of-requires
-first-of-requires c κs = search needs
-
-refused-requires : tie.Need-refused-requires
-refused-requires c κs = search needs
-
-enum-known-said-2 : tie.Need-enum-known-said-2
-enum-known-said-2 c = search needs
-
-enum-known-answer : tie.Need-enum-known-answer
-enum-known-answer c = search needs
-
-refused-requires-2 : tie.Need-refused-requires-2
-refused-requires-2 c κs = search needs
-
-enum-told : tie.Need-enum-told
-enum-told c = search needs
-
-receive-requires : tie.Need-receive-requires
-receive-requires c κs = search needs
-
-returns : tie.Need-returns
-unfolding receivingLine turned quiet
-returns c =
-    let read = sym (c .before .before .before .before .before .read-one .ensures) ∙ c .before .before .before .said .given .1 in
-    let first = refused-line _ _ (c .before .before .before .before .before .before .read .ensures) _ _ _ read ∙ ap some (sym (c .before .first-of .ensures)) in
-    carried (turned-away _ _ _ first) (c .refused .ensures, refl, refl)
-
-returns-2 : tie.Need-returns-2
-unfolding receivingLine turned quiet
-returns-2 c =
-    let read = sym (c .before .before .before .before .before .before .before .read-one .ensures) ∙ c .before .before .before .before .before .said2 .given .1 in
-    let first = refused-beside _ _ (c .before .before .before .before .before .before .before .before .read .ensures) _ _ _ read (c .before .before .answer .given .1) in
-    carried (turned-away _ _ _ first) (c .refused2 .ensures, refl, refl)
+wimtaze-receive-at-requires : tie.Need-wimtaze-receive-at-requires
+wimtaze-receive-at-requires c κs = search needs
 
 same-length : tie.Need-same-length
 same-length c = search needs
 
-returns-3 : tie.Need-returns-3
-unfolding receivingLine loadedAs
-returns-3 c =
-    let out = c .before .before .before .before .before .before .before .before .before .before .before .before .before .before .before .args .out .now in
-    let read = sym (c .before .before .before .before .before .before .before .before .before .before .read-one .ensures) ∙ c .before .before .before .before .before .before .before .before .said2 .given .1 in
-    let p = passed-beside _ _ (c .before .before .before .before .before .before .before .before .before .before .before .read .ensures) _ _ _ read (c .before .before .before .before .before .enum-told .given .1) in
-    carried (goes-on _ _ _ (p .0) ∙ receive-bridge _ out _ (p .1) ∙ ap (λ (x : Receipt). receiptLeft x out) (p .2)) (c .before .before .receive .ensures)
+returns : tie.Need-returns
+returns c = carried (sym (top-receives _ _ _)) (c .before .before .wimtaze-receive-at .ensures)
 
 pub wimtaze-receive-spec : {M : Type 1} → statement M
-wimtaze-receive-spec =
-    tie.close
-    (tie.spec
-    read-requires
-    read-one-requires
-    enum-known-said
-    first-of-requires
-    refused-requires
-    enum-known-said-2
-    enum-known-answer
-    refused-requires-2
-    enum-told
-    receive-requires
-    returns
-    returns-2
-    same-length
-    returns-3)
+wimtaze-receive-spec = tie.close (tie.spec wimtaze-receive-at-requires same-length returns)
