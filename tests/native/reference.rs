@@ -347,6 +347,30 @@ impl Sheet {
         self.rows.iter().filter(|r| r.shown()).map(|r| r.insert.id).collect()
     }
 
+    /// The gap just below a row that the sheet holds; if the row is hidden, below the nearest shown row above it, or at
+    /// the begin mark (Req 02).
+    fn gap_below(&self, id: Id) -> usize {
+        let place = self.rows.iter().position(|r| r.insert.id == id).unwrap();
+        match self.rows[..=place].iter().rev().find(|r| r.shown()) {
+            Some(nearest) => 1 + self.shown().iter().position(|s| *s == nearest.insert.id).unwrap(),
+            None => 0,
+        }
+    }
+
+    /// Receiving with a gap, the cursor: the reply, and how far the cursor moves to keep to the row on its left.
+    pub fn receive_at(&mut self, o: &Operation, gap: u64) -> (Reply, i32) {
+        let shown = self.shown();
+        if gap > shown.len() as u64 {
+            let answered_before = !o.passes() || !self.in_form() || self.known(o);
+            let reply = if answered_before { self.receive(o) } else { Reply::Refused(4) };
+            return (reply, 0);
+        }
+        let gap = gap as usize;
+        let reply = self.receive(o);
+        let new = if gap == 0 { 0 } else { self.gap_below(shown[gap - 1]) };
+        (reply, new as i32 - gap as i32)
+    }
+
     /// Typing at a gap: the reply, and the operation to be sent.
     pub fn type_at(&mut self, gap: u64, code: u32) -> (Reply, Option<Operation>) {
         let refused = |n| (Reply::Refused(n), None);
@@ -643,19 +667,20 @@ pub struct Counts {
     pub room: usize,
 }
 
-/// What a C call comes to with outputs of any length: the reply, the bytes for its first output and for the line's, and
-/// the counts of the call that counts.
+/// What a C call comes to with outputs of any length: the reply, the bytes for its first output and for the line's, the
+/// shift of the call that takes a cursor, and the counts of the call that counts.
 #[derive(Clone, PartialEq, Eq, Debug)]
 pub struct Outcome {
     pub reply: Reply,
     pub first: Vec<u8>,
     pub line: Vec<u8>,
+    pub shift: i32,
     pub counts: Option<Counts>,
 }
 
 impl Outcome {
     fn silent(reply: Reply) -> Outcome {
-        Outcome { reply, first: Vec::new(), line: Vec::new(), counts: None }
+        Outcome { reply, first: Vec::new(), line: Vec::new(), shift: 0, counts: None }
     }
 
     fn refused(n: u8) -> Outcome {
@@ -686,7 +711,7 @@ impl Outcome {
     }
 
     /// The number that the call returns: word, refusal, carried, thrown and the two lengths, from the lowest bits up,
-    /// or the four counts in place of the last four.
+    /// or the four counts in place of the last four. A shift is in the place of the line's length, in two's complement.
     pub fn number(&self) -> u64 {
         if let Some(c) = self.counts {
             return (c.shown as u64) << 8 | (c.waiting as u64) << 20 | (c.rows as u64) << 32 | (c.room as u64) << 48;
@@ -698,7 +723,8 @@ impl Outcome {
             Reply::Refused(n) => (3, u64::from(n), 0, 0),
         };
         let lengths = (self.first.len() as u64) << 32 | (self.line.len() as u64) << 48;
-        word | refusal << 2 | carried << 8 | thrown << 20 | lengths
+        let shift = (self.shift.rem_euclid(65_536) as u64) << 48;
+        word | refusal << 2 | carried << 8 | thrown << 20 | lengths | shift
     }
 }
 
@@ -734,6 +760,21 @@ pub fn receive_call(sheet: &[u8], line: &[u8]) -> Outcome {
         }
         Err(n) => Outcome::refused(n),
     }
+}
+
+pub fn receive_at_call(sheet: &[u8], line: &[u8], gap: u64) -> Outcome {
+    match both(read_sheet(sheet), read_line(line)) {
+        Ok((mut sheet, operation)) => {
+            let (reply, shift) = sheet.receive_at(&operation, gap);
+            Outcome { shift, ..Outcome::of(reply, &sheet, None) }
+        }
+        Err(n) => Outcome::refused(n),
+    }
+}
+
+/// Gap plus shift, or the nearest number that there is.
+pub fn moved_call(gap: u64, shift: i32) -> u64 {
+    (i128::from(gap) + i128::from(shift)).clamp(0, i128::from(u64::MAX)) as u64
 }
 
 pub fn type_call(sheet: &[u8], gap: u64, code: u32) -> Outcome {
