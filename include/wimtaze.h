@@ -29,6 +29,8 @@
  * the saved sheet, which has what others erased too: see the layouts. A whole line of text is brought back character by
  * character, and in the place where it was.
  *
+ * A program that shows a cursor receives with wimtaze_receive_at, which tells how far to move it: see the cursor.
+ *
  *
  * What your program must do
  *
@@ -47,7 +49,8 @@
  *  3. Keep each line that you made until every other laptop has acknowledged it. Until then send it again from time to
  *     time, the oldest first. After a crash, make the lines again from the saved sheet: see the layouts. If a laptop is
  *     gone for good, the others send each other everything.
- *  4. Acknowledge a line only when wimtaze_receive answered done, waits or known: then the sheet has it.
+ *  4. Acknowledge a line only when wimtaze_receive (or wimtaze_receive_at) answered done, waits or known: then the
+ *     sheet has it.
  *  5. A line refused with 10 comes in later, unless what it waits for was lost with a sheet. Do not acknowledge it.
  *     Hand the same line over again after something was carried out: keep it until then, or drop it and wait until its
  *     sender sends it again.
@@ -66,7 +69,9 @@
  *         Restoring, and 2: what was given is no identifier. Upgrading: the file is damaged, or it is, with 1, not in
  *         the first form.
  *   3     The file is damaged: rule 1.
- *   4     Typing, erasing: the text is shorter than you thought. It may change with every line that comes.
+ *   4     Typing, erasing: the text is shorter than you thought. It may change with every line that comes. Receiving
+ *         with a cursor: the cursor is beyond the text, and the line was not taken in. Set the cursor right, and hand
+ *         the line over again.
  *   5     Typing: this laptop has typed 65,535 characters, or a line with its number and that clock came. Rule 6 or 7
  *         was broken.
  *   6     Reserved. No call answers it.
@@ -89,6 +94,30 @@
  * If wimtaze_thrown is not 0, an edit that waited has met 8 or 9. The file laptop.h, which is installed with the
  * examples, keeps all these rules and can be copied, with anew.h for a laptop that lost its sheet; playing_hall.c there
  * runs sixteen such laptops over a bad network.
+ *
+ *
+ * The cursor
+ *
+ * A program that shows a cursor gives each line that comes to wimtaze_receive_at in place of wimtaze_receive, with the
+ * cursor, and moves it by the shift that the reply tells:
+ *
+ *     uint64_t reply = wimtaze_receive_at(sheet, length, line, line_length, cursor, after, sizeof after);
+ *     cursor = wimtaze_moved(cursor, wimtaze_shift(reply));
+ *
+ * A cursor is a gap, the count of shown characters above it. It keeps to the last of these, the character on its left,
+ * or to the beginning of the text; so what comes in just at the cursor stands below it. If that character is erased the
+ * cursor goes below the nearest shown one above it, or to the beginning. It stays there when the character is brought
+ * back, since the library remembers no cursor. Where nothing changed the shift is 0, so the two lines are right after
+ * any answer. For a second cursor, as the other end of a selection, make the call again with the same sheet and line.
+ *
+ * What is edited here moves the cursor too:
+ *
+ *     typing at the cursor     one further, behind the new character
+ *     erasing                  one back if the place is at most the cursor, and else not
+ *     restoring                one further if the character is above the cursor, and else not
+ *
+ * Whether it is above, and how far any edit made here moves another cursor, is learnt as for a line that comes: hand
+ * the line that the edit wrote to wimtaze_receive_at, with the sheet as it was before. It writes the same new sheet.
  *
  *
  * The layouts
@@ -161,9 +190,9 @@ extern "C" {
 #endif
 
 /* The version of this header and of the library that it came with. */
-#define WIMTAZE_VERSION "0.6.0"
+#define WIMTAZE_VERSION "0.7.0"
 #define WIMTAZE_VERSION_MAJOR 0
-#define WIMTAZE_VERSION_MINOR 6
+#define WIMTAZE_VERSION_MINOR 7
 #define WIMTAZE_VERSION_PATCH 0
 
 /* The limits of a sheet. */
@@ -228,6 +257,21 @@ uint64_t wimtaze_receive(const uint8_t *sheet, size_t sheet_length, const uint8_
                          uint8_t *sheet_out, size_t sheet_out_length);
 
 /*
+ * Does all that wimtaze_receive does, and tells how far to move a cursor, wimtaze_shift of the reply. The gap is the
+ * cursor, the count of shown characters above it. It keeps to the character on its left, or to the beginning of the
+ * text; if the line hides that character it goes below the nearest shown one above, or to the beginning.
+ * Refusals: 1, 2, 3, 4, 7, 8, 9, 10, 11, 12. Known is answered whatever the gap and the output's length.
+ */
+uint64_t wimtaze_receive_at(const uint8_t *sheet, size_t sheet_length, const uint8_t *line, size_t line_length,
+                            uint64_t gap, uint8_t *sheet_out, size_t sheet_out_length);
+
+/*
+ * Adds the shift to the gap: with those of wimtaze_receive_at, the gap of the cursor on the new sheet. Any two numbers
+ * may be given. Where the sum is below 0 the answer is 0, and where it is above 2^64 - 1 it is that.
+ */
+uint64_t wimtaze_moved(uint64_t gap, int32_t shift);
+
+/*
  * Types one character, given as its Unicode code point, and writes the new sheet and the line to send.
  * The gap is the count of shown characters above it: 0 puts it first.
  * Refusals: 1, 2, 3, 4, 5, 9, 11, 12 (if either output is short, neither is written).
@@ -281,11 +325,11 @@ uint64_t wimtaze_upgrade(const uint8_t *old, size_t old_length, uint8_t *sheet_o
 uint64_t wimtaze_downgrade(const uint8_t *sheet, size_t sheet_length, uint8_t *old_out, size_t old_out_length);
 
 /*
- * Every call returns one number, from the lowest bit up: the word (2 bits), the refusal (6), the counts carried and
- * thrown (12 each), and the lengths of what was written to the first output and to line_out (16 each). wimtaze_counts
- * has, in place of these four, the shown characters, the waiting edits, all characters and the room. Each part has room
- * for its largest value, so none is ever cut; what has no meaning for an answer is 0. The functions below take the
- * number apart.
+ * Every call but wimtaze_moved returns one number, from the lowest bit up: the word (2 bits), the refusal (6), the
+ * counts carried and thrown (12 each), and the lengths of what was written to the first output and to line_out (16
+ * each). wimtaze_receive_at has the shift in place of the last, in two's complement. wimtaze_counts has, in place of
+ * these four, the shown characters, the waiting edits, all characters and the room. Each part has room for its largest
+ * value, so none is ever cut; what has no meaning for an answer is 0. The functions below take the number apart.
  */
 
 /* The answer. */
@@ -321,10 +365,17 @@ static inline size_t wimtaze_written(uint64_t reply)
     return (size_t)(reply >> 32 & 65535);
 }
 
-/* How many bytes were written to line_out. */
+/* How many bytes were written to line_out, of a call that has it. */
 static inline size_t wimtaze_line_written(uint64_t reply)
 {
     return (size_t)(reply >> 48 & 65535);
+}
+
+/* Of wimtaze_receive_at: how far to move the cursor, -1 to 513; 0 unless the word is done. */
+static inline int wimtaze_shift(uint64_t reply)
+{
+    unsigned bits = (unsigned)(reply >> 48 & 65535);
+    return bits < 32768 ? (int)bits : -(int)(65535 - bits) - 1;
 }
 
 /* Of wimtaze_counts: how many characters the sheet shows. It is the last gap to type at and the last place to erase. */

@@ -10,6 +10,16 @@ extern "C" {
         sheet_out: *mut u8,
         sheet_out_length: usize,
     ) -> u64;
+    pub fn wimtaze_receive_at(
+        sheet: *const u8,
+        sheet_length: usize,
+        line: *const u8,
+        line_length: usize,
+        gap: u64,
+        sheet_out: *mut u8,
+        sheet_out_length: usize,
+    ) -> u64;
+    pub fn wimtaze_moved(gap: u64, shift: i32) -> u64;
     pub fn wimtaze_type(
         sheet: *const u8,
         sheet_length: usize,
