@@ -11,14 +11,14 @@ mod library;
 mod reference;
 
 use library::{
-    wimtaze_counts, wimtaze_downgrade, wimtaze_empty, wimtaze_erase, wimtaze_receive, wimtaze_restore, wimtaze_text,
-    wimtaze_type, wimtaze_upgrade,
+    wimtaze_counts, wimtaze_downgrade, wimtaze_empty, wimtaze_erase, wimtaze_moved, wimtaze_receive,
+    wimtaze_receive_at, wimtaze_restore, wimtaze_text, wimtaze_type, wimtaze_upgrade,
 };
 use reference::{Outcome, Reply};
 use std::collections::BTreeMap;
 use std::time::{Duration, Instant};
 
-const SMALL_CALLS: u64 = 220_000;
+const SMALL_CALLS: u64 = 400_000;
 const LARGE_SHEETS: u64 = 200;
 const GUARD: usize = 16;
 const BETWEEN_LINES: Duration = Duration::from_secs(5);
@@ -60,6 +60,7 @@ impl Random {
 enum Call<'a> {
     Empty(u64),
     Receive(&'a [u8], &'a [u8]),
+    ReceiveAt(&'a [u8], &'a [u8], u64),
     Type(&'a [u8], u64, u32),
     Erase(&'a [u8], u64),
     Restore(&'a [u8], u64, u64),
@@ -74,6 +75,7 @@ impl Call<'_> {
         match self {
             Call::Empty(..) => "empty",
             Call::Receive(..) => "receive",
+            Call::ReceiveAt(..) => "receive_at",
             Call::Type(..) => "type",
             Call::Erase(..) => "erase",
             Call::Restore(..) => "restore",
@@ -88,7 +90,7 @@ impl Call<'_> {
     fn inputs(&self) -> (&[u8], &[u8]) {
         match self {
             Call::Empty(_) => (&[], &[]),
-            Call::Receive(sheet, line) => (sheet, line),
+            Call::Receive(sheet, line) | Call::ReceiveAt(sheet, line, _) => (sheet, line),
             Call::Type(sheet, ..) | Call::Erase(sheet, _) | Call::Restore(sheet, ..) => (sheet, &[]),
             Call::Text(sheet) | Call::Counts(sheet) => (sheet, &[]),
             Call::Upgrade(sheet) | Call::Downgrade(sheet) => (sheet, &[]),
@@ -99,6 +101,7 @@ impl Call<'_> {
         match *self {
             Call::Empty(number) => reference::empty_call(number),
             Call::Receive(sheet, line) => reference::receive_call(sheet, line),
+            Call::ReceiveAt(sheet, line, gap) => reference::receive_at_call(sheet, line, gap),
             Call::Type(sheet, gap, code) => reference::type_call(sheet, gap, code),
             Call::Erase(sheet, place) => reference::erase_call(sheet, place),
             Call::Restore(sheet, laptop, clock) => reference::restore_call(sheet, laptop, clock),
@@ -117,6 +120,7 @@ impl Call<'_> {
             match *self {
                 Call::Empty(number) => wimtaze_empty(number, f, f_len),
                 Call::Receive(..) => wimtaze_receive(s, s_len, l, l_len, f, f_len),
+                Call::ReceiveAt(_, _, gap) => wimtaze_receive_at(s, s_len, l, l_len, gap, f, f_len),
                 Call::Type(_, gap, code) => wimtaze_type(s, s_len, gap, code, f, f_len, o, o_len),
                 Call::Erase(_, place) => wimtaze_erase(s, s_len, place, f, f_len, o, o_len),
                 Call::Restore(_, laptop, clock) => wimtaze_restore(s, s_len, laptop, clock, f, f_len, o, o_len),
@@ -500,7 +504,7 @@ fn crosses(call: &Call, outcome: &Outcome) -> Option<&'static str> {
 
 /// What a received turn does to its row: hides or shows it, or comes behind a larger one that the row has already.
 fn turns(call: &Call, outcome: &Outcome) -> Option<&'static str> {
-    let Call::Receive(sheet, line) = call else { return None };
+    let (Call::Receive(sheet, line) | Call::ReceiveAt(sheet, line, _)) = call else { return None };
     let sent = numbers(line, "E").pop().filter(|sent| sent.len() == 4)?;
     let (before, after) = (shown(sheet), shown(&outcome.first));
     match outcome.reply {
@@ -514,13 +518,46 @@ fn turns(call: &Call, outcome: &Outcome) -> Option<&'static str> {
     }
 }
 
+/// What becomes of a cursor: how far it goes by an edit that was carried out; that one beyond the rows did not matter,
+/// or that it did where the edit would else have waited.
+fn moves(call: &Call, outcome: &Outcome) -> Option<&'static str> {
+    let Call::ReceiveAt(sheet, line, gap) = call else { return None };
+    match (outcome.reply, outcome.shift) {
+        (Reply::Done { .. }, -1) => Some("-1"),
+        (Reply::Done { .. }, 0) => Some("+0"),
+        (Reply::Done { .. }, 1) => Some("+1"),
+        (Reply::Done { .. }, 513) => Some("+513"),
+        (Reply::Done { .. }, _) => Some("+n"),
+        (Reply::Known, _) => (*gap > shown(sheet) as u64).then_some("known-beyond"),
+        (Reply::Refused(4), _) => {
+            (reference::receive_call(sheet, line).reply == Reply::Waits).then_some("4-or-waits")
+        }
+        _ => None,
+    }
+}
+
+/// What the request says of every shift: its bounds, that it is 0 where nothing changed, and that with the gap it makes
+/// a gap of the new sheet.
+fn shift_is_sound(call: &Call, outcome: &Outcome) -> bool {
+    let Call::ReceiveAt(_, _, gap) = call else { return outcome.shift == 0 };
+    match outcome.reply {
+        Reply::Done { .. } => {
+            let new = i128::from(*gap) + i128::from(outcome.shift);
+            (-1..=513).contains(&outcome.shift) && (0..=shown(&outcome.first) as i128).contains(&new)
+        }
+        _ => outcome.shift == 0,
+    }
+}
+
 /// The parts of the number that a call returned.
 fn told(call: &Call, n: u64) -> String {
     let names = match call {
         Call::Counts(_) => ["shown", "waiting", "characters", "room"],
+        Call::ReceiveAt(..) => ["carried", "thrown", "written", "shift"],
         _ => ["carried", "thrown", "written", "line"],
     };
-    let parts = [n >> 8 & 4095, n >> 20 & 4095, n >> 32 & 65535, n >> 48];
+    let last = if names[3] == "shift" { n as i64 >> 48 } else { (n >> 48) as i64 };
+    let parts = [(n >> 8 & 4095) as i64, (n >> 20 & 4095) as i64, (n >> 32 & 65535) as i64, last];
     let word = ["done", "waits", "known", "refused"][(n & 3) as usize];
     let all: String = names.iter().zip(parts).map(|(name, part)| format!(", {name} {part}")).collect();
     format!("{word} {}{all}", n >> 2 & 63)
@@ -544,7 +581,7 @@ impl Tester {
         if raises(call, outcome) {
             *self.met.entry((call.name(), "raising".into())).or_default() += 1;
         }
-        for what in [turns(call, outcome), crosses(call, outcome)].into_iter().flatten() {
+        for what in [turns(call, outcome), crosses(call, outcome), moves(call, outcome)].into_iter().flatten() {
             *self.met.entry((call.name(), what.into())).or_default() += 1;
         }
         let word = match outcome.reply {
@@ -582,11 +619,14 @@ impl Tester {
 
         self.calls += 1;
         let wanted = [lent_sheet, lent_line, first.with(&outcome.first), second.with(&outcome.line)];
-        if number != outcome.number() || used != wanted {
+        if number != outcome.number() || used != wanted || !shift_is_sound(call, &outcome) {
             self.failed += 1;
             if self.failed <= 5 {
                 self.explain(call, number, &outcome, &used, &wanted);
             }
+        }
+        if let Call::ReceiveAt(_, _, gap) = call {
+            self.add(*gap, outcome.shift);
         }
         self.last = outcome.reply;
         match outcome.reply {
@@ -612,23 +652,74 @@ impl Tester {
             Call::Erase(_, place) => println!("  place {place}"),
             Call::Restore(_, laptop, clock) => println!("  laptop {laptop}, clock {clock}"),
             Call::Receive(..) => println!("  line {:?}", String::from_utf8_lossy(line)),
+            Call::ReceiveAt(_, _, gap) => println!("  line {:?}, gap {gap}", String::from_utf8_lossy(line)),
             Call::Text(_) | Call::Counts(_) | Call::Upgrade(_) | Call::Downgrade(_) => {}
         }
         let shortened: String = String::from_utf8_lossy(sheet).chars().take(2000).collect();
         println!("  sheet {shortened:?}");
     }
 
+    /// The call that adds a shift to a gap.
+    fn add(&mut self, gap: u64, shift: i32) {
+        let (sum, wanted) = (unsafe { wimtaze_moved(gap, shift) }, reference::moved_call(gap, shift));
+        let exact = gap.checked_add_signed(shift.into()) == Some(wanted);
+        let what = if exact { "sum" } else if wanted == 0 { "below" } else { "above" };
+        *self.met.entry(("moved", what.into())).or_default() += 1;
+        self.calls += 1;
+        if sum != wanted {
+            self.failed += 1;
+            if self.failed <= 5 {
+                println!("seed {}, call {}: moved, gap {gap}, shift {shift}", self.seed, self.calls);
+                println!("  library   {sum}\n  reference {wanted}");
+            }
+        }
+    }
+
     // ---- calls with numbers by chance
 
-    fn type_somewhere(&mut self, sheet: &[u8]) -> Written {
+    /// A gap of the sheet, or one that is just beyond its rows or far.
+    fn gap(&mut self, sheet: &[u8]) -> u64 {
         let count = shown(sheet);
-        let gap = match self.random.below(30) {
+        let gap = self.random.below(count + 1) as u64;
+        match self.random.below(30) {
             0 => count as u64 + 1,
             1 => self.random.next() >> self.random.below(64),
-            _ => self.random.below(count + 1) as u64,
-        };
+            2 => self.random.pick(&[u64::MAX, gap + (1 << 16), gap + (1 << 32), gap + (1 << 63)]),
+            _ => gap,
+        }
+    }
+
+    /// Receives the line, half the time with a cursor.
+    fn receive(&mut self, sheet: &[u8], line: &[u8]) -> Written {
+        if self.random.one_in(2) {
+            return self.call(&Call::Receive(sheet, line));
+        }
+        let gap = self.gap(sheet);
+        self.call(&Call::ReceiveAt(sheet, line, gap))
+    }
+
+    /// The line of an edit that was made on the sheet comes to the sheet as it was: that must leave the same sheet, and
+    /// so a program learns how far the edit moves a cursor.
+    fn made_here(&mut self, sheet: &[u8], written: Written) -> Written {
+        let (new, line) = written?;
+        if self.random.one_in(8) {
+            let gap = self.gap(sheet);
+            if let Some((again, _)) = self.call(&Call::ReceiveAt(sheet, &line, gap)) {
+                *self.met.entry(("receive_at", "own".into())).or_default() += 1;
+                if again != new {
+                    self.failed += 1;
+                    println!("seed {}: an edit made here and its line leave different sheets", self.seed);
+                }
+            }
+        }
+        Some((new, line))
+    }
+
+    fn type_somewhere(&mut self, sheet: &[u8]) -> Written {
+        let gap = self.gap(sheet);
         let code = self.random.code_point();
-        self.call(&Call::Type(sheet, gap, code))
+        let written = self.call(&Call::Type(sheet, gap, code));
+        self.made_here(sheet, written)
     }
 
     fn erase_somewhere(&mut self, sheet: &[u8]) -> Written {
@@ -638,7 +729,8 @@ impl Tester {
             1 => self.random.next() >> self.random.below(64),
             _ => 1 + self.random.below(count + 1) as u64,
         };
-        self.call(&Call::Erase(sheet, place))
+        let written = self.call(&Call::Erase(sheet, place));
+        self.made_here(sheet, written)
     }
 
     /// An identifier, mostly that of a hidden row, or else of any row, of a waiting insert or of nothing; or a mark or
@@ -674,13 +766,14 @@ impl Tester {
 
     fn restore_somewhere(&mut self, sheet: &[u8]) -> Written {
         let (laptop, clock) = self.identifier(sheet);
-        self.call(&Call::Restore(sheet, laptop, clock))
+        let written = self.call(&Call::Restore(sheet, laptop, clock));
+        self.made_here(sheet, written)
     }
 
     /// Any call on the sheet.
     fn anything(&mut self, sheet: &[u8], line: &[u8]) -> Written {
         match self.random.below(14) {
-            0..=4 => self.call(&Call::Receive(sheet, line)),
+            0..=4 => self.receive(sheet, line),
             5..=7 => self.type_somewhere(sheet),
             8 => self.erase_somewhere(sheet),
             9 | 10 => self.restore_somewhere(sheet),
@@ -707,9 +800,35 @@ impl Tester {
 
     /// A call that changes nothing.
     fn look(&mut self, sheet: &[u8]) -> Written {
-        let call = if self.random.one_in(2) { Call::Text(sheet) } else { Call::Counts(sheet) };
-        self.call(&call);
+        match self.random.below(5) {
+            0 | 1 => drop(self.call(&Call::Text(sheet))),
+            2 | 3 => drop(self.call(&Call::Counts(sheet))),
+            _ => (0..8).for_each(|_| self.add_numbers()),
+        }
         None
+    }
+
+    /// A gap and a shift of any size, near the ends of what each can be, or with a sum near its ends.
+    fn add_numbers(&mut self) {
+        let random = &mut self.random;
+        let most = random.pick(&[2, 1024]);
+        let near = random.below(most);
+        let shift = match random.below(4) {
+            0 => near as i32 - 1,
+            1 => i32::MIN + near as i32,
+            2 => i32::MAX - near as i32,
+            _ => random.next() as i32 >> random.below(32),
+        };
+        let away = u64::from(shift.unsigned_abs());
+        let near = random.below(most) as u64;
+        let gap = match random.below(4) {
+            0 => near,
+            1 => u64::MAX - near,
+            2 if shift < 0 => (away + near).saturating_sub(1),
+            2 => (u64::MAX - away - near).saturating_add(1),
+            _ => random.next() >> random.below(64),
+        };
+        self.add(gap, shift);
     }
 
     fn begin(&mut self, number: u64) -> Vec<u8> {
@@ -755,7 +874,7 @@ impl Tester {
                 85 => self.change_form(&sheet),
                 n if n < 91 && !sent.is_empty() => {
                     let line = &sent[self.random.below(sent.len())];
-                    self.call(&Call::Receive(&sheet, line))
+                    self.receive(&sheet, line)
                 }
                 n => self.mishap(n, &sheet, &sent),
             };
@@ -804,9 +923,9 @@ impl Tester {
                 break;
             }
             let line = left.swap_remove(self.random.below(left.len()));
-            let written = self.call(&Call::Receive(&sheet, &line));
+            let written = self.receive(&sheet, &line);
             match self.last {
-                Reply::Refused(10 | 12) => left.push(line),
+                Reply::Refused(4 | 10 | 12) => left.push(line),
                 Reply::Refused(_) => return None,
                 _ => sheet = written.map_or(sheet, |(new, _)| new),
             }
@@ -830,7 +949,7 @@ impl Tester {
         }
         let reach = if self.random.one_in(3) { laptop.inbox.len() } else { laptop.inbox.len().min(4) };
         let line = laptop.inbox.remove(self.random.below(reach));
-        let written = self.call(&Call::Receive(&laptop.sheet, &line));
+        let written = self.receive(&laptop.sheet, &line);
         if written.is_none() && self.random.one_in(2) || self.random.one_in(12) {
             laptop.inbox.push(line);
         }
@@ -844,11 +963,11 @@ impl Tester {
         match n {
             91..=93 => {
                 let line = self.random.damaged(&line);
-                self.call(&Call::Receive(sheet, &line))
+                self.receive(sheet, &line)
             }
             94 => {
                 let line = self.random.line(of);
-                self.call(&Call::Receive(sheet, &line))
+                self.receive(sheet, &line)
             }
             95..=97 => {
                 let old = self.random.one_in(6);
@@ -889,6 +1008,9 @@ impl Tester {
 
     /// Operations that all wait, one way or another, for one insert; then it comes.
     fn awaited(&mut self) {
+        if self.random.one_in(12) {
+            return self.awaited_by_all();
+        }
         let of = Universe { laptops: 5, clocks: 4 };
         let count = 1 + self.random.below(10);
         let mut sheet = self.random.sheet(of, count, 0);
@@ -901,9 +1023,39 @@ impl Tester {
             let previous = if k == 0 { BEGIN } else { rows[k - 1] };
             let next = if k == rows.len() { END } else { rows[k] };
             let line = format!("I\t6\t1\t98\t{}\n", ends(previous, next)).into_bytes();
-            if let Some((new, _)) = self.call(&Call::Receive(&sheet, &line)) {
+            if let Some((new, _)) = self.receive(&sheet, &line) {
                 sheet = new;
             }
+        }
+    }
+
+    /// The same with operations of all sixteen, up to 32 of each. Most are inserts that come in above the rows, or all.
+    fn awaited_by_all(&mut self) {
+        let rows = 1 + self.random.below(40);
+        let mut sheet = self.random.sheet(Universe { laptops: 5, clocks: 12 }, rows, 0);
+        let Ok(read) = reference::read_sheet(&sheet) else { return };
+        let top = read.rows[0].insert.id;
+        let (top, awaited) = ((top.laptop.into(), top.clock.into()), (6, 30_000));
+        let (fewest, all_above) = self.random.pick(&[(0, false), (30, false), (32, false), (32, true)]);
+        for sender in 1..=16 {
+            for k in 0..fewest + self.random.below(33 - fewest) {
+                let ends = match self.random.below(16) {
+                    0 if !all_above => ends(awaited, END),
+                    1 if !all_above => ends(top, awaited),
+                    0..=8 => ends(awaited, top),
+                    _ => ends(BEGIN, awaited),
+                };
+                let line = match self.random.below(40) {
+                    0 if !all_above => format!("E\t{sender}\t6\t30000\t{}\n", 1 + k),
+                    1 if !all_above && k > 0 => format!("E\t{sender}\t{sender}\t{}\t1\n", 39_999 + k),
+                    _ => format!("I\t{sender}\t{}\t97\t{ends}\n", 40_000 + k),
+                };
+                sheet.extend(line.into_bytes());
+            }
+        }
+        let line = format!("I\t6\t30000\t98\t{}\n", ends(BEGIN, top)).into_bytes();
+        for _ in 0..2 {
+            self.receive(&sheet, &line);
         }
     }
 
@@ -921,7 +1073,7 @@ impl Tester {
                 2 if k > 8 => format!("I\t{sender}\t60000\t97\t0\t0\t0\t1\n").into_bytes(),
                 _ => self.random.line(of),
             };
-            if let Some((new, _)) = self.call(&Call::Receive(&sheet, &line)) {
+            if let Some((new, _)) = self.receive(&sheet, &line) {
                 sheet = new;
             }
         }
@@ -953,9 +1105,15 @@ impl Tester {
 }
 
 /// Every reply that each call can give, and waiting operations carried and thrown out.
-const TO_MEET: [(&str, &str); 9] = [
+const TO_MEET: [(&str, &str); 11] = [
     ("empty", "done 2 12"),
     ("receive", "done waits known releasing throwing raising anew hiding showing behind equal 1 2 3 7 8 9 10 11 12"),
+    (
+        "receive_at",
+        "done waits known releasing throwing raising hiding showing behind own -1 +0 +1 +n +513 known-beyond \
+         4-or-waits 1 2 3 4 7 8 9 10 11 12",
+    ),
+    ("moved", "sum below above"),
     ("type", "done releasing throwing 1 2 3 4 5 9 11 12"),
     ("erase", "done raising 1 2 3 4 12"),
     ("restore", "done raising 1 2 3 13 14 12"),
