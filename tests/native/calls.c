@@ -156,6 +156,38 @@ static uint64_t receive(const char *line)
     return receive_in(line, ROOM);
 }
 
+/*
+ * With a cursor: the last part of the reply is the shift, which is 0 where nothing changed and within its bounds
+ * elsewhere. But for that and for refusal 4, wimtaze_receive answers the same and writes the same bytes.
+ */
+static uint64_t receive_at_in(uint64_t gap, const char *line, size_t room)
+{
+    static uint8_t was[ROOM], plain[ROOM];
+    uint8_t bytes[256];
+    size_t sheet_was = sheet_length, length = tabbed(line, bytes);
+    memcpy(was, sheet, sheet_was);
+    before();
+    uint64_t reply = wimtaze_receive_at(sheet, sheet_length, bytes, length, gap, first + GUARD, room);
+    uint64_t other = wimtaze_receive(sheet, sheet_length, bytes, length, plain, room);
+    after(reply & UINT64_C(0xffffffffffff), room, 0);
+    CHECK(memcmp(was, sheet, sheet_was) == 0);
+    if (wimtaze_word(reply) == WIMTAZE_DONE)
+        CHECK(wimtaze_shift(reply) >= -1 && wimtaze_shift(reply) <= 513);
+    else
+        CHECK(wimtaze_shift(reply) == 0);
+    if (wimtaze_refusal(reply) != WIMTAZE_REFUSAL_POSITION) {
+        CHECK((reply & UINT64_C(0xffffffffffff)) == other);
+        CHECK(memcmp(first + GUARD, plain, wimtaze_written(reply)) == 0);
+    }
+    keep(reply);
+    return reply;
+}
+
+static uint64_t receive_at(uint64_t gap, const char *line)
+{
+    return receive_at_in(gap, line, ROOM);
+}
+
 static uint64_t type_in(uint64_t gap, uint32_t code_point, size_t room, size_t line_room)
 {
     before();
@@ -956,6 +988,350 @@ static void first_of_two(void)
     }
 }
 
+/* ---- Req 02: the cursor */
+
+/* How far a cursor at this gap goes by a line on the sheet at hand, which stays; 9999 unless it is done. */
+static int shift_of(uint64_t gap, const char *line)
+{
+    static uint8_t was[ROOM];
+    size_t length = sheet_length;
+    memcpy(was, sheet, length);
+    uint64_t reply = receive_at(gap, line);
+    memcpy(sheet, was, length);
+    sheet_length = length;
+    return wimtaze_word(reply) == WIMTAZE_DONE ? wimtaze_shift(reply) : 9999;
+}
+
+/* Whether a line moves the cursors at gaps 0, 1, 2 ... so far, for as many as there are. */
+static int shifts_are(const char *line, const int *shifts, size_t count)
+{
+    int same = 1;
+    for (size_t gap = 0; gap < count; gap++)
+        same &= shift_of(gap, line) == shifts[gap];
+    return same;
+}
+
+#define SHIFTS(line, ...) shifts_are(line, (const int[]){__VA_ARGS__}, sizeof((int[]){__VA_ARGS__}) / sizeof(int))
+
+/* Shown abcd, with a hidden row x between b and c and another, y, above a. */
+static const char *const ABCD = "S2 9 0\nC 3 9 121 1 0 0 0 1\nC 1 1 97 0 0 0 0 1\nC 1 2 98 0 1 1 0 1\n"
+                                "C 3 1 120 1 1 2 0 1\nC 1 3 99 0 1 2 0 1\nC 1 4 100 0 1 3 0 1\n";
+
+/* A row above the cursor moves it by one; one that comes in just there, or below, leaves it. */
+static void row_above_cursor(void)
+{
+    load(ABCD);
+    CHECK(SHIFTS("I 5 1 110 0 0 3 9\n", 0, 1, 1, 1, 1));
+    CHECK(SHIFTS("I 5 1 110 3 9 1 1\n", 0, 1, 1, 1, 1));
+    CHECK(SHIFTS("I 5 1 110 1 1 1 2\n", 0, 0, 1, 1, 1));
+    CHECK(SHIFTS("I 5 1 110 1 2 3 1\n", 0, 0, 0, 1, 1));
+    CHECK(SHIFTS("I 5 1 110 3 1 1 3\n", 0, 0, 0, 1, 1));
+    CHECK(SHIFTS("I 5 1 110 1 3 1 4\n", 0, 0, 0, 0, 1));
+    CHECK(SHIFTS("I 5 1 110 1 4 0 1\n", 0, 0, 0, 0, 0));
+    /* Where placing decides, with the identifier below and above those that are there. */
+    load("S2 9 0\nC 2 1 97 0 0 0 0 1\nC 4 1 98 0 0 0 0 1\n");
+    CHECK(SHIFTS("I 1 1 110 0 0 0 1\n", 0, 1, 1));
+    CHECK(SHIFTS("I 3 1 110 0 0 0 1\n", 0, 0, 1));
+    CHECK(SHIFTS("I 5 1 110 0 0 0 1\n", 0, 0, 0));
+    empty(9, ROOM);
+    CHECK(SHIFTS("I 1 1 110 0 0 0 1\n", 0));
+    /* On a sheet that shows nothing, the begin mark is on the left of the only cursor. */
+    load("S2 9 0\nC 1 1 97 1 0 0 0 1\nC 1 2 97 3 1 1 0 1\n");
+    CHECK(SHIFTS("I 5 1 110 0 0 1 1\n", 0));
+    CHECK(SHIFTS("I 5 1 110 1 2 0 1\n", 0));
+    CHECK(SHIFTS("E 5 1 1 2\n", 0));
+    CHECK(SHIFTS("E 5 1 2 5\n", 0));
+}
+
+/* What is hidden at or above the cursor takes one from it, and what is shown above it gives one. */
+static void turn_above_cursor(void)
+{
+    load(ABCD);
+    CHECK(SHIFTS("E 5 1 1 1\n", 0, -1, -1, -1, -1));
+    CHECK(SHIFTS("D 5 1 2\n", 0, 0, -1, -1, -1));
+    CHECK(SHIFTS("E 5 1 3 3\n", 0, 0, 0, -1, -1));
+    CHECK(SHIFTS("E 5 1 4 255\n", 0, 0, 0, 0, -1));
+    CHECK(SHIFTS("E 5 1 1 2\n", 0, 0, 0, 0, 0));
+    CHECK(SHIFTS("E 5 1 2 254\n", 0, 0, 0, 0, 0));
+    CHECK(SHIFTS("E 5 3 9 2\n", 0, 1, 1, 1, 1));
+    CHECK(SHIFTS("E 5 3 1 2\n", 0, 0, 0, 1, 1));
+    CHECK(SHIFTS("E 5 3 1 254\n", 0, 0, 0, 1, 1));
+    CHECK(SHIFTS("E 5 3 1 3\n", 0, 0, 0, 0, 0));
+    CHECK(SHIFTS("E 5 3 9 255\n", 0, 0, 0, 0, 0));
+    /* The row on the left: from turn 0 to 2 nothing, from 0 to 3 one back. */
+    load("S2 9 0\nC 1 1 97 0 0 0 0 1\n");
+    CHECK(SHIFTS("E 5 1 1 2\n", 0, 0));
+    CHECK(SHIFTS("E 5 1 1 3\n", 0, -1));
+    /* With rows hidden above it, the nearest shown one; where it is brought back the cursor stays. */
+    load("S2 9 0\nC 1 1 97 0 0 0 0 1\nC 1 2 98 1 1 1 0 1\nC 1 3 99 1 1 2 0 1\nC 1 4 100 0 1 3 0 1\n");
+    CHECK(done(receive_at(2, "E 5 1 4 1\n"), 1, 0) && sheet_is("S2 9 0\nC 1 1 97 0 0 0 0 1\nC 1 2 98 1 1 1 0 1\n"
+                                                               "C 1 3 99 1 1 2 0 1\nC 1 4 100 1 1 3 0 1\n"));
+    CHECK(SHIFTS("E 6 1 4 2\n", 0, 0));
+    CHECK(SHIFTS("E 6 1 1 1\n", 0, -1));
+}
+
+/* What an insert releases counts as well, if it is shown and above the cursor. */
+static void released_above_cursor(void)
+{
+    static const char *const rows = "S2 9 0\nC 1 1 97 0 0 0 0 1\nC 1 2 98 0 1 1 0 1\nC 1 3 99 0 1 2 0 1\n";
+    /* 6/1 comes between a and b: rows beside it, one hidden at once, one that waits for another of them. */
+    load(rows);
+    append("I 5 1 110 1 1 6 1\nI 5 2 110 6 1 1 2\nI 5 3 110 5 2 1 2\nI 5 4 110 6 1 5 2\nE 7 5 4 1\n");
+    CHECK(SHIFTS("I 6 1 109 1 1 1 2\n", 0, 0, 5 - 1, 5 - 1));
+    uint64_t reply = receive_at(2, "I 6 1 109 1 1 1 2\n");
+    CHECK(done(reply, 6, 0) && wimtaze_shift(reply) == 4);
+    CHECK(first_is(text(), "anmnnbc"));
+    /* The insert itself is hidden by what waited for it; brought back by a higher turn it counts again. */
+    load(rows);
+    append("E 7 6 1 1\n");
+    CHECK(SHIFTS("I 6 1 109 1 1 1 2\n", 0, 0, 0, 0));
+    append("I 5 1 110 6 1 1 2\n");
+    CHECK(SHIFTS("I 6 1 109 1 1 1 2\n", 0, 0, 1, 1));
+    append("E 8 6 1 2\n");
+    CHECK(SHIFTS("I 6 1 109 1 1 1 2\n", 0, 0, 2, 2));
+    /* One that is thrown out does not count; nor does what still waits. */
+    load(rows);
+    append("I 5 1 110 6 1 1 1\nI 5 2 110 6 1 1 2\nI 5 3 110 6 1 8 1\n");
+    reply = receive_at(3, "I 6 1 109 1 1 1 2\n");
+    CHECK(done(reply, 2, 1) && wimtaze_shift(reply) == 2);
+    /* Released far from the insert: above the cursor although the insert is below it, and the other way round. */
+    load("S2 9 0\nC 8 1 97 0 0 0 0 1\nC 8 2 98 0 8 1 0 1\nI 5 1 110 0 0 6 1\n");
+    CHECK(SHIFTS("I 6 1 109 8 2 0 1\n", 0, 1, 1));
+    load("S2 9 0\nC 2 1 97 0 0 0 0 1\nC 2 2 98 0 2 1 0 1\nI 5 1 110 6 1 0 1\n");
+    CHECK(SHIFTS("I 6 1 109 0 0 2 1\n", 0, 1, 1));
+    CHECK(done(receive_at(2, "I 6 1 109 0 0 2 1\n"), 2, 0));
+    CHECK(first_is(text(), "mabn"));
+}
+
+/* 512 that wait above the cursor and the one that they wait for: the most that a call can bring. */
+static void largest_shift(void)
+{
+    static const uint64_t gaps[] = {1, 2, 255, 511};
+    char line[64];
+    for (size_t k = 0; k < sizeof gaps / sizeof *gaps; k++) {
+        load_rows(511);
+        for (int n = 0; n < 512; n++) {
+            sprintf(line, n % 2 ? "I %d %d 98 5 9999 1 1\n" : "I %d %d 98 0 0 5 9999\n", 1 + n / 32, 1000 + n % 32);
+            append(line);
+        }
+        CHECK(counted(511, 512, 511, 1));
+        CHECK(shift_of(0, "I 5 9999 98 0 0 1 1\n") == 0);
+        uint64_t reply = receive_at_in(gaps[k], "I 5 9999 98 0 0 1 1\n", WIMTAZE_SHEET_MAX);
+        CHECK(done(reply, 513, 0) && wimtaze_shift(reply) == 513);
+        CHECK(wimtaze_moved(gaps[k], wimtaze_shift(reply)) == gaps[k] + 513);
+        CHECK(counted(1024, 0, 1024, 0));
+    }
+    /* The same where half of them hide the other half. */
+    load_rows(511);
+    for (int n = 0; n < 256; n++) {
+        int laptop = 1 + n / 16, clock = 1000 + n % 16;
+        sprintf(line, "I %d %d 98 0 0 5 9999\nE %d %d %d 1\n", laptop, clock, laptop, laptop, clock);
+        append(line);
+    }
+    CHECK(shift_of(511, "I 5 9999 98 0 0 1 1\n") == 1);
+    CHECK(done(receive_at(511, "I 5 9999 98 0 0 1 1\n"), 513, 0));
+    CHECK(counted(512, 0, 768, 256));
+}
+
+/* Nothing is carried out, and the cursor stays: what waits, what is known, and what is refused. */
+static void cursor_stays(void)
+{
+    uint64_t reply;
+    load(ABCD);
+    reply = receive_at(4, "I 9 7 110 8 1 1 1\n");
+    CHECK(waits(reply) && wimtaze_shift(reply) == 0);
+    CHECK(wimtaze_line_written(reply) == 0);
+    CHECK(memcmp(sheet, "S2\t9\t7\n", 7) == 0);
+    CHECK(waits(receive_at(0, "E 9 8 1 2\n")));
+    CHECK(counted(4, 2, 6, 1017));
+    /* Known before the gap is looked at, whatever it is and however short the output. */
+    for (unsigned k = 0; k < 6; k++) {
+        static const uint64_t gaps[] = {0, 4, 5, 6, 4294967296u, UINT64_MAX};
+        CHECK(known(receive_at_in(gaps[k], "I 1 2 98 1 1 0 1\n", 0)));
+        CHECK(known(receive_at_in(gaps[k], "I 3 1 120 1 2 0 1\n", ROOM)));
+        CHECK(known(receive_at_in(gaps[k], "I 9 7 110 8 1 1 1\n", 0)));
+        CHECK(known(receive_at_in(gaps[k], "E 9 8 1 2\n", ROOM)));
+        CHECK(known(receive_at_in(gaps[k], "D 7 3 9\n", 0)));
+    }
+    /* A gap beyond the shown rows, hidden ones not counted, for what would be done and for what would wait. */
+    for (unsigned k = 0; k < 7; k++) {
+        static const uint64_t gaps[] = {5, 6, 7, 65536, 4294967296u, 4294967300u, UINT64_MAX};
+        CHECK(refused(receive_at(gaps[k], "I 5 1 110 0 0 0 1\n"), WIMTAZE_REFUSAL_POSITION));
+        CHECK(refused(receive_at(gaps[k], "I 5 1 110 6 1 0 1\n"), WIMTAZE_REFUSAL_POSITION));
+        CHECK(refused(receive_at(gaps[k], "E 5 1 1 1\n"), WIMTAZE_REFUSAL_POSITION));
+        CHECK(refused(receive_at(gaps[k], "E 5 6 1 1\n"), WIMTAZE_REFUSAL_POSITION));
+        CHECK(refused(receive_at(gaps[k], "E 5 3 1 2\n"), WIMTAZE_REFUSAL_POSITION));
+    }
+    empty(9, ROOM);
+    CHECK(refused(receive_at(1, "I 5 1 110 0 0 0 1\n"), WIMTAZE_REFUSAL_POSITION));
+    CHECK(done(receive_at(0, "I 5 1 110 0 0 0 1\n"), 1, 0));
+    CHECK(done(receive_at(1, "E 5 5 1 1\n"), 1, 0));
+    CHECK(refused(receive_at(1, "E 5 5 1 2\n"), WIMTAZE_REFUSAL_POSITION));
+}
+
+/* Two grounds that hold at once, every such pair: the first in the order 1 2 3 known 4 7 8 9 10 11 12 is told. */
+static void first_of_two_at_a_gap(void)
+{
+    enum { KNOWN = 0 };
+    static const char *const two = "S2 9 0\nC 1 1 65 0 0 0 0 1\nC 2 1 66 0 0 0 0 1\n";
+    static const char *const p7_sheet = "S2 9 0\nC 1 1 65 0 0 0 2 1\nC 2 1 66 0 1 1 0 1\n";
+    static const char *const no_form = "S2 9 0\nC 1 1 65 0 0 0 0 1\nI 9 9 66 0 0 0 1\n";
+    static const char *const two_no_form = "S2 9 0\nC 1 1 65 0 0 0 0 1\nC 2 1 66 0 0 0 0 1\nI 9 9 66 0 0 0 1\n";
+    static const char *const p7_no_form = "S2 9 0\nC 1 1 65 0 0 0 2 1\nC 2 1 66 0 1 1 0 1\nI 9 9 66 0 0 0 1\n";
+    static const char *const no_range = "S2 9 0\nC 1 1 65 256 0 0 0 1\n", *const no_layout = "S2 9 0\nD 1 1 1\n";
+    const struct {
+        const char *sheet, *line;
+        uint64_t gap;
+        int told, other;
+    } pairs[] = {{no_range, "D 1 1\n", 0, 1, 2}, {no_layout, "D 1 1 0\n", 0, 1, 2}, {two, "D 1 1 0", 0, 1, 2},
+        {no_form, "D 1 1\n", 0, 1, 3}, {two, "D 1 1\n", 3, 1, 4}, {no_layout, "E 1 1 1 1\n", 9, 1, 4},
+        {two, "D 1 1\n", 0, 1, 12}, {no_layout, "E 1 1 1 1\n", 0, 1, 12},
+        {no_form, "E 1 1 1 256\n", 0, 2, 3}, {two, "E 1 1 1 0\n", 3, 2, 4}, {no_range, "E 1 1 1 1\n", 9, 2, 4},
+        {two, "I 1 1 65 1 1 0 1\n", 0, 2, 12}, {no_range, "E 1 1 1 1\n", 0, 2, 12},
+        {no_form, "I 1 1 65 0 0 0 1\n", 0, 3, KNOWN}, {no_form, "E 1 1 1 1\n", 9, 3, 4},
+        {no_form, "I 1 1 66 0 0 0 1\n", 0, 3, 7}, {two_no_form, "I 3 1 67 2 1 1 1\n", 0, 3, 8},
+        {p7_no_form, "I 3 1 67 0 0 0 1\n", 0, 3, 9}, {no_form, "E 1 1 1 1\n", 0, 3, 12},
+        {two, "I 1 1 65 0 0 0 1\n", 3, KNOWN, 4}, {two, "I 1 1 65 0 0 0 1\n", 2, KNOWN, 12},
+        {two, "I 1 1 67 0 0 0 1\n", 3, 4, 7}, {two, "I 3 1 67 2 1 1 1\n", 3, 4, 8},
+        {p7_sheet, "I 3 1 67 0 0 0 1\n", 3, 4, 9}, {two, "I 3 1 67 0 0 0 1\n", 3, 4, 12},
+        {two, "I 3 1 67 4 1 0 1\n", 3, 4, 12}, {two, "I 2 1 67 0 0 1 1\n", 0, 7, 12},
+        {"S2 9 0\nC 1 1 65 0 0 0 0 1\nC 2 1 66 0 0 0 0 1\nC 3 1 67 0 0 0 0 1\n", "I 3 1 67 2 1 1 1\n", 1, 7, 8},
+        {p7_sheet, "I 2 1 67 0 0 0 1\n", 1, 7, 9}, {two, "I 3 1 67 2 1 1 1\n", 2, 8, 12},
+        {p7_sheet, "I 3 1 67 0 0 0 1\n", 2, 9, 12}};
+    char line[64];
+    for (size_t k = 0; k < sizeof pairs / sizeof *pairs; k++) {
+        load(pairs[k].sheet);
+        uint64_t reply = receive_at_in(pairs[k].gap, pairs[k].line, pairs[k].other == 12 ? 0 : ROOM);
+        CHECK(pairs[k].told == KNOWN ? known(reply) : refused(reply, pairs[k].told));
+    }
+    /* Laptop 2 has 32 waiting. */
+    load("S2 9 0\nC 1 1 65 0 0 0 0 1\n");
+    for (int k = 1; k <= 32; k++) {
+        sprintf(line, "I 2 %d 98 3 1 0 1\n", k);
+        append(line);
+    }
+    CHECK(refused(receive_at(2, "I 2 33 98 3 1 0 1\n"), WIMTAZE_REFUSAL_POSITION));
+    CHECK(refused(receive_at(2, "E 2 3 1 1\n"), WIMTAZE_REFUSAL_POSITION));
+    CHECK(known(receive_at(2, "I 2 32 98 3 1 0 1\n")));
+    CHECK(known(receive_at(1, "I 2 32 98 3 1 0 1\n")));
+    CHECK(refused(receive_at(1, "I 2 32 99 3 1 0 1\n"), WIMTAZE_REFUSAL_CONFLICT));
+    CHECK(refused(receive_at(1, "I 2 33 98 3 1 0 1\n"), WIMTAZE_REFUSAL_SENDER_FULL));
+    CHECK(refused(receive_at_in(1, "I 2 33 98 3 1 0 1\n", 0), WIMTAZE_REFUSAL_SENDER_FULL));
+    CHECK(refused(receive_at_in(1, "I 4 1 98 3 1 0 1\n", 0), WIMTAZE_REFUSAL_OUTPUT));
+    CHECK(waits(receive_at(1, "I 4 1 98 3 1 0 1\n")));
+    append("I 9 9 66 0 0 0 1\n");
+    CHECK(refused(receive_at(1, "I 2 33 98 3 1 0 1\n"), WIMTAZE_REFUSAL_FORM));
+    /* And the sheet is full besides. */
+    load_rows(992);
+    for (int k = 1; k <= 32; k++) {
+        sprintf(line, "I 2 %d 98 3 1 0 1\n", k);
+        append(line);
+    }
+    CHECK(refused(receive_at(993, "I 4 1 98 0 0 0 1\n"), WIMTAZE_REFUSAL_POSITION));
+    CHECK(known(receive_at(993, "I 1 7 97 1 6 0 1\n")));
+    CHECK(known(receive_at(992, "I 1 7 97 1 6 0 1\n")));
+    CHECK(refused(receive_at(992, "I 1 7 98 1 6 0 1\n"), WIMTAZE_REFUSAL_CONFLICT));
+    CHECK(refused(receive_at(992, "I 4 1 98 1 7 1 6\n"), WIMTAZE_REFUSAL_CROSSED));
+    CHECK(refused(receive_at(992, "I 2 33 98 3 1 0 1\n"), WIMTAZE_REFUSAL_SENDER_FULL));
+    CHECK(refused(receive_at(992, "I 4 1 98 3 1 0 1\n"), WIMTAZE_REFUSAL_DOCUMENT_FULL));
+    CHECK(refused(receive_at_in(992, "I 4 1 98 0 0 0 1\n", 0), WIMTAZE_REFUSAL_DOCUMENT_FULL));
+    CHECK(refused(receive_at_in(992, "E 4 1 5 1\n", sheet_length - 1), WIMTAZE_REFUSAL_OUTPUT));
+    uint64_t reply = receive_at_in(992, "E 4 1 5 1\n", sheet_length);
+    CHECK(done(reply, 1, 0) && wimtaze_shift(reply) == -1);
+    /* A full sheet that gives an insert no place. */
+    load("S2 9 0\nC 1 1 97 0 0 0 1 2\n");
+    for (int k = 2; k <= 1024; k++) {
+        sprintf(line, k == 1024 ? "C 1 %d 97 0 1 %d 0 1\n" : "C 1 %d 97 0 1 %d 1 %d\n", k, k - 1, k + 1);
+        append(line);
+    }
+    CHECK(refused(receive_at(1024, "I 3 1 67 0 0 0 1\n"), WIMTAZE_REFUSAL_UNPLACEABLE));
+    CHECK(refused(receive_at(1025, "I 3 1 67 0 0 0 1\n"), WIMTAZE_REFUSAL_POSITION));
+    append("E 1 1 1 1\n");
+    CHECK(refused(receive_at(1024, "I 3 1 67 1 1 1 2\n"), WIMTAZE_REFUSAL_FORM));
+}
+
+/* A refused sheet or line is refused by the cursor's call in the same way. */
+static void not_received_at(void)
+{
+    static const char *const sheets[][2] = {{"", "1"}, {"S 9 0\n", "1"}, {"S2 9 0", "1"},
+        {"S2 9 0\nD 1 1 1\n", "1"}, {"S2 0 0\n", "2"}, {"S2 9 65536\n", "2"}, {"S2 9 0\nC 1 1 65 256 0 0 0 1\n", "2"},
+        {"S2 9 0\nI 1 1 65 0 0 0 1\n", "3"}, {"S2 9 0\nE 1 1 1 1\nE 1 1 1 1\n", "3"},
+        {"S2 9 0\nC 1 1 65 0 2 1 0 1\n", "3"}};
+    static const char *const lines[][2] = {{"", "1"}, {"\n", "1"}, {"E 5 1 1 1", "1"}, {"E 5 1 1 1\n\n", "1"},
+        {"E 5 1 1 1\nx", "1"}, {"C 5 1 65 0 0 0 0 1\n", "1"}, {"E 5 1 1\n", "1"}, {"E 5 1 1 01\n", "1"},
+        {"E 5 1 1 0\n", "2"}, {"E 5 1 1 256\n", "2"}, {"E 17 1 1 1\n", "2"}, {"I 5 1 55296 0 0 0 1\n", "2"},
+        {"I 5 1 65 5 1 0 1\n", "2"}, {"I 0 1 65 0 0 0 1\n", "2"}};
+    for (size_t k = 0; k < sizeof sheets / sizeof *sheets; k++) {
+        load(sheets[k][0]);
+        CHECK(refused(receive_at(0, "I 5 1 110 0 0 0 1\n"), (enum wimtaze_refusals)(sheets[k][1][0] - '0')));
+    }
+    for (size_t k = 0; k < sizeof lines / sizeof *lines; k++) {
+        load(ABCD);
+        CHECK(refused(receive_at(2, lines[k][0]), (enum wimtaze_refusals)(lines[k][1][0] - '0')));
+    }
+    load(ABCD);
+    CHECK(refused(receive_at(2, "I 1 1 98 0 0 0 1\n"), WIMTAZE_REFUSAL_CONFLICT));
+    CHECK(refused(receive_at(2, "I 5 1 98 1 2 1 1\n"), WIMTAZE_REFUSAL_CROSSED));
+    CHECK(refused(receive_at_in(2, "I 5 1 98 1 1 1 2\n", sheet_length), WIMTAZE_REFUSAL_OUTPUT));
+    CHECK(done(receive_at_in(2, "I 5 1 98 1 1 1 2\n", sheet_length + 20), 1, 0));
+}
+
+/* What the header says of edits that are made here: the line of each, received before it, tells how a cursor moves. */
+static void own_edits(void)
+{
+    static uint8_t was[ROOM], now[ROOM];
+    char line[LINE_ROOM];
+    for (unsigned edit = 0; edit < 11; edit++) {
+        load(ABCD);
+        size_t was_length = sheet_length;
+        memcpy(was, sheet, was_length);
+        uint64_t made = edit < 5 ? type(edit, 'n') : edit < 9 ? erase(edit - 4) : restore(3, edit == 9 ? 9 : 1);
+        CHECK(done(made, 1, 0));
+        line_written(made, line);
+        size_t now_length = sheet_length;
+        memcpy(now, sheet, now_length);
+        for (unsigned cursor = 0; cursor <= 4; cursor++) {
+            memcpy(sheet, was, was_length);
+            sheet_length = was_length;
+            uint64_t reply = receive_at(cursor, line);
+            CHECK(sheet_length == now_length && memcmp(sheet, now, now_length) == 0);
+            int above = edit < 5 ? cursor > edit : edit < 9 ? cursor >= edit - 4 : cursor > (edit == 9 ? 0u : 2u);
+            CHECK(wimtaze_shift(reply) == (!above ? 0 : edit >= 5 && edit < 9 ? -1 : 1));
+        }
+    }
+}
+
+/* The shift is read off sixteen bits, whatever the others are, and added to any gap. */
+static void shifts_and_sums(void)
+{
+    static const struct {
+        unsigned bits;
+        int shift;
+    } parts[] = {{0, 0}, {1, 1}, {2, 2}, {513, 513}, {32767, 32767}, {32768, -32768}, {65534, -2}, {65535, -1}};
+    static const struct {
+        uint64_t gap;
+        int32_t shift;
+        uint64_t sum;
+    } sums[] = {{0, 0, 0}, {0, -1, 0}, {1, -1, 0}, {2, -1, 1}, {1024, -1, 1023}, {0, 1, 1}, {511, 513, 1024},
+        {0, INT32_MIN, 0}, {0, INT32_MAX, 2147483647}, {2147483647, INT32_MIN, 0}, {2147483648u, INT32_MIN, 0},
+        {2147483649u, INT32_MIN, 1}, {2147483647, INT32_MAX, 4294967294u}, {4294967295u, 1, 4294967296u},
+        {4294967296u, -1, 4294967295u}, {4294967296u, 513, 4294967809u}, {4294967295u, INT32_MIN, 2147483647},
+        {INT64_MAX, 1, UINT64_C(9223372036854775808)}, {UINT64_C(9223372036854775808), -1, INT64_MAX},
+        {UINT64_C(9223372036854775808), 513, UINT64_C(9223372036854776321)}, {UINT64_MAX, 0, UINT64_MAX},
+        {UINT64_MAX, 1, UINT64_MAX}, {UINT64_MAX, 513, UINT64_MAX}, {UINT64_MAX, INT32_MAX, UINT64_MAX},
+        {UINT64_MAX, -1, UINT64_MAX - 1}, {UINT64_MAX, INT32_MIN, UINT64_MAX - 2147483648u},
+        {UINT64_MAX - 1, 1, UINT64_MAX}, {UINT64_MAX - 1, 2, UINT64_MAX}, {UINT64_MAX - 2, 1, UINT64_MAX - 1},
+        {UINT64_MAX - INT32_MAX, INT32_MAX, UINT64_MAX}, {UINT64_MAX - INT32_MAX + 1, INT32_MAX, UINT64_MAX},
+        {UINT64_MAX - INT32_MAX - 1, INT32_MAX, UINT64_MAX - 1}};
+    for (size_t k = 0; k < sizeof parts / sizeof *parts; k++) {
+        uint64_t bits = (uint64_t)parts[k].bits << 48;
+        CHECK(wimtaze_shift(bits) == parts[k].shift);
+        CHECK(wimtaze_shift(bits | UINT64_C(0xffffffffffff)) == parts[k].shift);
+    }
+    for (size_t k = 0; k < sizeof sums / sizeof *sums; k++)
+        CHECK(wimtaze_moved(sums[k].gap, sums[k].shift) == sums[k].sum);
+}
+
 /* ---- waiting, throwing out, and what releases it */
 
 static void released(void)
@@ -1390,6 +1766,15 @@ static const struct {
     {"Req 06: refusals of the way forward", not_upgraded},
     {"Req 06: refusals of the way back", not_downgraded},
     {"Req 06: the first of two refusals", first_of_two},
+    {"Req 02: a row above the cursor", row_above_cursor},
+    {"Req 02: rows hidden and shown", turn_above_cursor},
+    {"Req 02: what is released", released_above_cursor},
+    {"Req 02: the largest shift", largest_shift},
+    {"Req 02: where the cursor stays", cursor_stays},
+    {"Req 02: refusals of receiving with a cursor", not_received_at},
+    {"Req 02: the first of two refusals", first_of_two_at_a_gap},
+    {"Req 02: edits that are made here", own_edits},
+    {"Req 02: shifts and sums", shifts_and_sums},
     {"what an insert releases", released},
     {"placing", placing},
     {"layout of lines and sheets", layout},

@@ -38,6 +38,15 @@ static void receive(unsigned clock, unsigned previous, unsigned word)
     keep(wimtaze_receive(sheet, length, (const uint8_t *)edit, (size_t)n, after, sizeof after), word);
 }
 
+/* Receives with a cursor, and keeps nothing of it. */
+static void receive_at(const char *edit, uint64_t gap, unsigned word, uint64_t moved)
+{
+    uint64_t reply =
+        wimtaze_receive_at(sheet, length, (const uint8_t *)edit, strlen(edit), gap, after, sizeof after);
+    if (wimtaze_word(reply) != word || wimtaze_moved(gap, wimtaze_shift(reply)) != moved)
+        failures++;
+}
+
 static void *calls(void *unused)
 {
     uint8_t here;
@@ -46,6 +55,7 @@ static void *calls(void *unused)
     keep(wimtaze_empty(1, after, sizeof after), WIMTAZE_DONE);
     for (k = 2; k <= 33; k++)
         receive(k, k - 1, WIMTAZE_WAITS);
+    receive_at("I\t2\t1\t66\t0\t0\t0\t1\n", 0, WIMTAZE_DONE, 0);
     receive(1, 0, WIMTAZE_DONE);
     for (k = 33; k < 1024; k++)
         keep(wimtaze_type(sheet, length, k, 0x10FFFF, after, sizeof after, line, sizeof line), WIMTAZE_DONE);
@@ -60,6 +70,9 @@ static void *calls(void *unused)
     keep(wimtaze_restore(sheet, length, 1, 512 - 33, after, sizeof after, line, sizeof line), WIMTAZE_DONE);
     keep(wimtaze_restore(sheet, length, 1, 512 - 33, after, sizeof after, line, sizeof line), WIMTAZE_REFUSED);
     keep(wimtaze_downgrade(sheet, length, after, sizeof after), WIMTAZE_REFUSED);
+    receive_at("E\t2\t2\t1\t255\n", 1024, WIMTAZE_DONE, 1023);
+    receive_at("E\t2\t2\t1\t255\n", 1025, WIMTAZE_REFUSED, 1025);
+    receive_at("E\t2\t3\t1\t255\n", 1024, WIMTAZE_WAITS, 1024);
     keep(wimtaze_receive(sheet, length, (const uint8_t *)"E\t2\t2\t1\t255\n", 12, after, sizeof after), WIMTAZE_DONE);
     return unused;
 }
