@@ -55,6 +55,12 @@ struct laptop {
     char file[LAPTOP_PATH], new_file[LAPTOP_PATH], anew_file[LAPTOP_PATH], lock_file[LAPTOP_PATH];
     int directory, lock;
 
+    /*
+     * A gap, at most the count of shown characters, which the program sets when its user moves the cursor. It keeps its
+     * place in the text through everything that comes and is edited here.
+     */
+    uint64_t cursor;
+
     struct letter *outbox; /* the oldest first */
     size_t outbox_count, outbox_room;
 
@@ -229,24 +235,45 @@ static void laptop_save(struct laptop *laptop)
     laptop->saved = 1;
 }
 
-/* Takes the new sheet of an edit that was made here, and posts its line. */
+/* Receives a line on the sheet as it is, and moves the cursor as it will be on the new one. */
+static uint64_t laptop_receive_at_cursor(struct laptop *laptop, const uint8_t *line, size_t length)
+{
+    uint64_t reply = wimtaze_receive_at(laptop->sheet, laptop->length, line, length, laptop->cursor, laptop->after,
+                                        sizeof laptop->after);
+    laptop->cursor = wimtaze_moved(laptop->cursor, wimtaze_shift(reply));
+    return reply;
+}
+
+/*
+ * Takes the new sheet of an edit that was made here, and posts its line. Before that the line, received like one that
+ * comes, writes the same sheet again, for the cursor's sake.
+ */
 static enum wimtaze_refusals laptop_made(struct laptop *laptop, uint64_t reply, const uint8_t *line)
 {
-    laptop_keep(laptop, reply);
-    if (wimtaze_word(reply) == WIMTAZE_DONE)
+    if (wimtaze_word(reply) == WIMTAZE_DONE) {
+        laptop_receive_at_cursor(laptop, line, wimtaze_line_written(reply));
+        laptop_keep(laptop, reply);
         laptop_post(laptop, line, wimtaze_line_written(reply), laptop_others(laptop));
+    }
     return wimtaze_refusal(reply);
 }
 
-/* Types a character; refused with 11 also at the end of the laptop's share, and as long as it awaits others. */
+/*
+ * Types a character; refused with 11 also at the end of the laptop's share, and as long as it awaits others. The cursor
+ * goes behind a character that is typed at it.
+ */
 static enum wimtaze_refusals laptop_type(struct laptop *laptop, uint64_t gap, uint32_t code_point)
 {
     uint8_t line[WIMTAZE_LINE_MAX];
     if (laptop_room(laptop) == 0)
         return WIMTAZE_REFUSAL_DOCUMENT_FULL;
+    int at_cursor = gap == laptop->cursor;
     uint64_t reply = wimtaze_type(laptop->sheet, laptop->length, gap, code_point, laptop->after, sizeof laptop->after,
                                   line, sizeof line);
-    return laptop_made(laptop, reply, line);
+    enum wimtaze_refusals refusal = laptop_made(laptop, reply, line);
+    if (at_cursor && refusal == WIMTAZE_REFUSAL_NONE)
+        laptop->cursor = wimtaze_moved(laptop->cursor, 1);
+    return refusal;
 }
 
 /* Erases a character; refused with 4 also as long as the laptop awaits others. */
@@ -275,7 +302,7 @@ static enum wimtaze_refusals laptop_restore(struct laptop *laptop, unsigned by, 
 
 static uint64_t laptop_try(struct laptop *laptop, const uint8_t *line, size_t length)
 {
-    uint64_t reply = wimtaze_receive(laptop->sheet, laptop->length, line, length, laptop->after, sizeof laptop->after);
+    uint64_t reply = laptop_receive_at_cursor(laptop, line, length);
     laptop_keep(laptop, reply);
     return reply;
 }

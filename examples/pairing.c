@@ -1,7 +1,9 @@
 /*
  * Two laptops of a playing hall keep one note together, over a network that loses every third packet, delivers every
  * fifth twice, and the last one first. Each types without waiting for the other; one is switched off and on again in
- * between. Then it erases what the other typed, by mistake, and the other brings it back. Both end with the same note.
+ * between. The other is in the middle of a word when the first one's text comes in above it, and types on at its cursor,
+ * which has kept its place. Then the first erases, by mistake, what the other typed, and the other brings it back. Both
+ * end with the same note.
  *
  *     pairing [DIRECTORY]     keeps the two sheets there, and goes on from them when it is run again
  *
@@ -97,15 +99,15 @@ static void go_round(struct laptop *laptop)
 
 /* ---- what a person does */
 
-/* Types a text at a gap, all of it or, where there is no room for it, nothing. */
-static void type(struct laptop *laptop, uint64_t gap, const char *text)
+/* Types a text at the cursor, all of it or, where there is no room for it, nothing. */
+static void type(struct laptop *laptop, const char *text)
 {
     if (laptop_room(laptop) < strlen(text)) {
         printf("laptop %u has no room for: %s\n", laptop->number, text);
         return;
     }
-    for (; *text != '\0'; text++, gap++)
-        if (laptop_type(laptop, gap, (uint8_t)*text) != WIMTAZE_REFUSAL_NONE)
+    for (; *text != '\0'; text++)
+        if (laptop_type(laptop, laptop->cursor, (uint8_t)*text) != WIMTAZE_REFUSAL_NONE)
             return;
 }
 
@@ -155,7 +157,7 @@ static unsigned exchange(struct laptop *desk, struct laptop *hall)
 
 int main(int argc, char **argv)
 {
-    static const char results[] = "Board 4: 1-0. Board 9 was adjourned. ", bye[] = "Bye: Novak. ";
+    static const char results[] = "Board 4: 1-0. Board 9 was adjourned. ", bye[] = "Bye: No", rest[] = "vak. ";
     const char *directory = argc > 1 ? argv[1] : ".";
     static struct laptop desk, hall;
     static uint8_t desk_text[WIMTAZE_TEXT_MAX], hall_text[WIMTAZE_TEXT_MAX];
@@ -163,15 +165,17 @@ int main(int argc, char **argv)
     laptop_open(&desk, directory, 1, LAPTOPS);
     laptop_open(&hall, directory, 2, LAPTOPS);
 
-    type(&desk, 0, results);
-    type(&hall, 0, bye);
+    type(&desk, results);
+    type(&hall, bye);
     correct(&desk, 7, '7');
     go_round(&desk);
     laptop_close(&desk);
     laptop_open(&desk, directory, 1, LAPTOPS);
 
     unsigned rounds = exchange(&desk, &hall);
-    erase(&desk, strlen(results) + 1, strlen(bye));
+    type(&hall, rest);
+    rounds += exchange(&desk, &hall);
+    erase(&desk, strlen(results) + 1, strlen(bye) + strlen(rest));
     rounds += exchange(&desk, &hall);
     puts("the bye request is erased by mistake:");
     show(&hall, hall_text);
