@@ -1,9 +1,9 @@
 /*
  * Two laptops of a playing hall keep one note together, over a network that loses every third packet, delivers every
  * fifth twice, and the last one first. Each types without waiting for the other; one is switched off and on again in
- * between. The other is in the middle of a word when the first one's text comes in above it, and types on at its cursor,
- * which has kept its place. Then the first erases, by mistake, what the other typed, and the other brings it back. Both
- * end with the same note.
+ * between. The other is in the middle of a word when the first one's text comes in above it, and types on at its
+ * cursor, which has kept its place. Then the first erases, by mistake, what the other typed, and the other brings it
+ * back. Both end with the same note.
  *
  *     pairing [DIRECTORY]     keeps the two sheets there, and goes on from them when it is run again
  *
