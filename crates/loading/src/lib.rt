@@ -43,8 +43,8 @@ fn assemble(site: Site, characters: Characters, operations: Operations) -> Repli
 }
 
 // Reads a saved replica that is not checked to be well formed: its counts may be above its arrays. A clock below that
-// of a character or a pending insert of its own is raised. A fault of the layout comes first, wherever it is, and then a
-// number out of range. A step of the calls and not a call: `conversion` alone hands it the first form.
+// of a character or a pending insert of its own is raised. A fault of the layout comes first, wherever it is, and then
+// a number out of range. A step of the calls and not a call: `conversion` alone hands it the first form.
 pub fn read(version: Version, bytes: &[u8]) -> Loaded
     ensures { λ r. ⌜ r ≡ savedRead version (now (bytes .entry)) ⌝ }
 {
