@@ -12,6 +12,8 @@ pub mod Answers
 pub mod Writing
 pub mod Calls
 pub mod Cursor
+pub mod Memory
+pub mod Replicas
 pub mod Text
 pub mod Histories
 pub mod Situations

@@ -1,6 +1,8 @@
 // The types of the replicated text: identifiers, operations, characters, the document, the replica, and the answers of
 // the calls. The rules that they live by are in specs/; the crate
 // `convergence` has the theorems about them.
+pub mod memory;
+
 ghost use mathlib.Core.Path.{_≡_};
 ghost use Rattle.woot.specs.Operations.{isVisible};
 ghost use Rattle.woot.specs.Answers.{number, changes};

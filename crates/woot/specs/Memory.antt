@@ -1,0 +1,149 @@
+-- A replica in memory: what the numbers of its arrays stand for, and the arrays that hold a state. Every number stands
+-- for something, so that a replica which is out of form has a meaning too; what the types of identifiers and operations
+-- cannot hold is out of range there.
+use Prim.Native.Nat.{ℕ, zero, suc, _+_, _*_, _/_, _%_}
+use mathlib.Core.Bool.{Bool, _&&_, cond}
+use mathlib.Core.List.{List, [], _∷_, _++_, map}
+use lib.Dec.{eqb, leb}
+use lib.ListN.{length, getD}
+use Rattle.lists.specs.Padding.{pad}
+use Rattle.woot.specs.declared.Identifier.{Identifier}
+use Rattle.woot.specs.declared.Character.{Character}
+use Rattle.woot.specs.declared.Operation.{Operation}
+use Rattle.woot.specs.declared.Operation.the-variants.{Insert as insert, Toggle as toggle}
+use Rattle.woot.specs.declared.memory.Document.{Document}
+use Rattle.woot.specs.declared.memory.Replica.{Replica}
+use Rattle.woot.specs.Table.{key, keys, agrees, tableOf}
+use Rattle.woot.specs.State.{State, characterSlots, pendingSlots}
+use Rattle.woot.specs.Form.{wellFormed}
+
+-- ---- numbers
+
+-- the identifier with a key: a number of more than 24 bits is that of a site which no replica has
+unfoldable pub identifier : ℕ → Identifier
+identifier k = record { site = k / 65536; clock = k % 65536 }
+
+-- f of each number below n, in their order
+abbrev pub each : {A : Type 0} → (ℕ → A) → ℕ → List A
+each f zero = []
+each f (suc n) = each f n ++ f n ∷ []
+
+-- ---- characters
+
+-- the character with these numbers
+unfoldable pub characterOf : ℕ → ℕ → ℕ → ℕ → ℕ → Character
+characterOf id previous next point toggles =
+    record {
+      id = identifier id;
+      «code_point» = point;
+      toggles = toggles;
+      previous = identifier previous;
+      next = identifier next;
+    }
+
+-- the character in a slot of the five arrays
+abbrev pub characterAt : List ℕ → List ℕ → List ℕ → List ℕ → List ℕ → ℕ → Character
+characterAt ids previous next points toggles i =
+    characterOf (getD ids i 0) (getD previous i 0) (getD next i 0) (getD points i 0) (getD toggles i 0)
+
+-- those in the first n slots
+unfoldable pub charactersOf : List ℕ → List ℕ → List ℕ → List ℕ → List ℕ → ℕ → List Character
+charactersOf ids previous next points toggles n = each (characterAt ids previous next points toggles) n
+
+-- the columns that the arrays hold
+abbrev pub previousKeys : List Character → List ℕ
+previousKeys cs = map (λ c. key (c .previous)) cs
+
+abbrev pub nextKeys : List Character → List ℕ
+nextKeys cs = map (λ c. key (c .next)) cs
+
+abbrev pub codePoints : List Character → List ℕ
+codePoints cs = map (λ c. c .«code_point») cs
+
+abbrev pub toggleCounts : List Character → List ℕ
+toggleCounts cs = map (λ c. c .toggles) cs
+
+-- ---- pending operations
+
+-- the operation with these numbers: a toggle where its own key is 0. A toggle has no second key, and one that is not 0
+-- makes its sender a site which no replica has
+unfoldable pub operationOf : ℕ → ℕ → ℕ → ℕ → Operation
+operationOf own first second value =
+    cond (eqb own 0)
+    (toggle (record { sender = second * 256 + value / 256; target = identifier first; toggles = value % 256 }))
+    (insert (record { id = identifier own; «code_point» = value; previous = identifier first; next = identifier second }))
+
+-- the operation in a slot of the four arrays
+abbrev pub operationAt : List ℕ → List ℕ → List ℕ → List ℕ → ℕ → Operation
+operationAt own first second values j =
+    operationOf (getD own j 0) (getD first j 0) (getD second j 0) (getD values j 0)
+
+-- those in the first n slots
+unfoldable pub operationsOf : List ℕ → List ℕ → List ℕ → List ℕ → ℕ → List Operation
+operationsOf own first second values n = each (operationAt own first second values) n
+
+-- the numbers of an operation
+unfoldable pub ownKey : Operation → ℕ
+ownKey (insert i) = key (i .id)
+ownKey (toggle t) = 0
+
+unfoldable pub firstKey : Operation → ℕ
+firstKey (insert i) = key (i .previous)
+firstKey (toggle t) = key (t .target)
+
+unfoldable pub secondKey : Operation → ℕ
+secondKey (insert i) = key (i .next)
+secondKey (toggle t) = 0
+
+unfoldable pub valueOf : Operation → ℕ
+valueOf (insert i) = i .«code_point»
+valueOf (toggle t) = t .sender * 256 + t .toggles
+
+-- ---- documents and replicas
+
+-- what is in use of the arrays
+unfoldable pub charactersIn : Document → List Character
+charactersIn d = charactersOf (d .ids) (d .previous) (d .next) (d .«code_points») (d .toggles) (d .length)
+
+unfoldable pub operationsIn : Document → List Operation
+operationsIn d = operationsOf (d .own) (d .first) (d .second) (d .values) (d .waiting)
+
+unfoldable pub meaning : Replica → State
+meaning r =
+    record { site = r .site; characters = charactersIn (r .document); pending = operationsIn (r .document) }
+
+-- the document that holds two lists, determined to the last slot, with zeros in those that are left and the table of
+-- its characters
+unfoldable pub documentOf : List Character → List Operation → Document
+documentOf cs ps =
+    record {
+      ids = pad characterSlots 0 (keys cs);
+      previous = pad characterSlots 0 (previousKeys cs);
+      next = pad characterSlots 0 (nextKeys cs);
+      «code_points» = pad characterSlots 0 (codePoints cs);
+      toggles = pad characterSlots 0 (toggleCounts cs);
+      length = length cs;
+      own = pad pendingSlots 0 (map ownKey ps);
+      first = pad pendingSlots 0 (map firstKey ps);
+      second = pad pendingSlots 0 (map secondKey ps);
+      values = pad pendingSlots 0 (map valueOf ps);
+      waiting = length ps;
+      table = tableOf (keys cs);
+    }
+
+-- the replica that holds a state
+unfoldable pub stored : State → Replica
+stored s = record { site = s .site; document = documentOf (s .characters) (s .pending) }
+
+-- the counts are within the arrays
+unfoldable pub counted : Replica → Bool
+counted r = leb (r .document .length) characterSlots && leb (r .document .waiting) pendingSlots
+
+-- the table finds each character at its own place
+unfoldable pub tableAgrees : Replica → Bool
+tableAgrees r = agrees (r .document .table) (keys (meaning r .characters))
+
+-- a replica is in form when its counts are within its arrays, its meaning is in form and, as document 02 adds, its
+-- table agrees: "the form gains that it agrees"
+unfoldable pub replicaWellFormed : Replica → Bool
+replicaWellFormed r = counted r && wellFormed (meaning r) && tableAgrees r
