@@ -1,0 +1,4 @@
+pub mod Characters
+pub mod Operations
+pub mod Fullness
+pub mod Stored
