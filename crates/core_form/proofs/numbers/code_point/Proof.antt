@@ -1,0 +1,19 @@
+-- `numbers::code_point` meets its contract: the tests as they stand.
+use mathlib.Core.Path.{_≡_, refl, sym, ap, _∙_}
+use native.Mathlib.Omega.{arith}
+use borrow.Author.Needs.{needs}
+use Rattle.core_form.proofs.Ranging.{code-ranged}
+use Rattle.core_form.proofs.numbers.code_point.Statement.{statement}
+use Rattle.core_form.proofs.numbers.code_point.Tie as tie
+
+both-requires : tie.Need-both-requires
+both-requires c κs = search needs
+
+both-requires-2 : tie.Need-both-requires-2
+both-requires-2 c κs = search needs
+
+returns : tie.Need-returns
+returns c = c .both2 .ensures ∙ rw (c .before .both .ensures) (code-ranged _)
+
+pub code-point-spec : {M : Type 1} → statement M
+code-point-spec = tie.close (tie.spec both-requires both-requires-2 returns)

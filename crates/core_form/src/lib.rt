@@ -1,0 +1,2 @@
+// The check of a replica's form, on lent arrays of numbers.
+pub mod numbers;
