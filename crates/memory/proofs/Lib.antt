@@ -1,4 +1,5 @@
 pub mod Characters
 pub mod Operations
+pub mod Bits
 pub mod Fullness
 pub mod Stored

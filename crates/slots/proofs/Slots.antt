@@ -116,9 +116,12 @@ module _ {A : Type 0} where
       set a (suc i) (getD a i d) ≡ put i (getD xs i d) (take n xs) ++ drop (suc n) xs
   opened-next xs n i d h g =
       let size : length (take n xs) ≡ n = length-take-le n xs (omega arith) in
-      rw (hole-below i (getD xs (suc i) d) (take n xs) (drop (suc n) xs) d (omega arith),
-      hole-set (suc i) (getD xs (suc i) d) (getD (take n xs) i d) (take n xs) (drop (suc n) xs) (omega arith),
-      hole-moves i (take n xs) d (omega arith), getD-take n xs i d h)
+      rw (
+        hole-below i (getD xs (suc i) d) (take n xs) (drop (suc n) xs) d (omega arith),
+        hole-set (suc i) (getD xs (suc i) d) (getD (take n xs) i d) (take n xs) (drop (suc n) xs) (omega arith),
+        hole-moves i (take n xs) d (omega arith),
+        getD-take n xs i d h,
+      )
 
   pub opening-next : {xs : List A} {n k : ℕ} {d : A} {a : List A} {i : ℕ} → k < i → Opening xs n k d a i → Opening xs n k d (set a i (getD a (i - 1) d)) (i - 1)
   opening-next {i = zero} h o = absurd (not-suc-le-zero h)
@@ -170,9 +173,12 @@ module _ {A : Type 0} where
   closed-next xs n j i d h g l =
       let size : suc (length (removed j (take n xs))) ≡ n = closed-length xs n j (omega arith) l in
       let next : getD xs (suc i) d ≡ getD (removed j (take n xs)) i d = sym (removed-next j (take n xs) i d h ∙ getD-take n xs (suc i) d g) in
-      rw (hole-above i (getD xs i d) (removed j (take n xs)) (drop n xs) d (omega arith),
-      hole-set i (getD xs i d) (getD (removed j (take n xs)) i d) (removed j (take n xs)) (drop n xs) (omega arith),
-      next, hole-moves i (removed j (take n xs)) d (omega arith))
+      rw (
+        hole-above i (getD xs i d) (removed j (take n xs)) (drop n xs) d (omega arith),
+        hole-set i (getD xs i d) (getD (removed j (take n xs)) i d) (removed j (take n xs)) (drop n xs) (omega arith),
+        next,
+        hole-moves i (removed j (take n xs)) d (omega arith),
+      )
 
   pub closing-next : {xs : List A} {n j : ℕ} {d : A} {a : List A} {i : ℕ} → i + 1 < n → Closing xs n j d a i → Closing xs n j d (set a i (getD a (i + 1) d)) (i + 1)
   closing-next {xs} {n} {j} {d} {a} {i} h o =
@@ -229,8 +235,8 @@ module _ {A : Type 0} where
         high = h;
         size = length-set a i z ∙ o .size;
         holds =
-        rw (o .holds, drop-cons xs i z h, set-at (pad i z (take n xs)) (getD xs i z) (drop (suc i) xs) z i (pad-length i z (take n xs) (omega arith)), pad-more i z (take n xs) (omega arith))
-        (sym (append-snoc (pad i z (take n xs)) z (drop (suc i) xs)));
+            rw (o .holds, drop-cons xs i z h, set-at (pad i z (take n xs)) (getD xs i z) (drop (suc i) xs) z i (pad-length i z (take n xs) (omega arith)), pad-more i z (take n xs) (omega arith))
+            (sym (append-snoc (pad i z (take n xs)) z (drop (suc i) xs)));
       }
 
   pub clearing-last : {xs : List A} {n : ℕ} {z : A} {a : List A} {i : ℕ} → length xs ≤ i → Clearing xs n z a i → a ≡ pad (length xs) z (take n xs)
