@@ -2,7 +2,7 @@
 use Prim.Native.Nat.{_-_}
 use native.Mathlib.Omega.{arith}
 use lib.ListN.{length}
-use Rattle.slots.proofs.Slots.{Clearing, clearing-first, clearing-next, clearing-last}
+use Rattle.slots.proofs.Loops.{Clearing, clearing-first, clearing-next, clearing-last}
 use Rattle.slots.proofs.clear_bytes.Statement.{statement}
 use Rattle.slots.proofs.clear_bytes.Tie as tie
 

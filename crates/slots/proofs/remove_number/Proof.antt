@@ -3,7 +3,7 @@ use Prim.Native.Nat.{suc, _-_}
 use native.Mathlib.Omega.{arith}
 use mathlib.Core.Path.{_≡_}
 use lib.ListN.{length-set}
-use Rattle.slots.proofs.Slots.{Closing, closing-first, closing-next, closing-last}
+use Rattle.slots.proofs.Loops.{Closing, closing-first, closing-next, closing-last}
 use Rattle.slots.proofs.remove_number.Statement.{statement}
 use Rattle.slots.proofs.remove_number.Tie as tie
 
