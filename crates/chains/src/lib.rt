@@ -2,7 +2,7 @@
 use woot::Table;
 ghost use mathlib.Core.Path.{_≡_};
 ghost use Prim.Native.Nat.{_*_, _<_, _≤_};
-ghost use lib.ListN.{length, take};
+ghost use lib.ListN.{length, take, replicate};
 ghost use Rattle.woot.specs.Table.{chainOf, slot, lookup, foundAt, agrees, freeSlot, tableOf};
 ghost use Rattle.chains.specs.Places.{placeFound};
 
@@ -106,8 +106,46 @@ fn place(link: u16) -> usize
     link as usize
 }
 
-// The table of the first n keys, each entered in its turn. A step of the calls and not a call: they have no more keys
-// than a table has places.
+// No place in any slot.
+fn clear(slots: &mut [u16])
+    ensures { λ _. ⌜ now (slots .exit) ≡ replicate (length (now (slots .entry))) 0 ⌝ }
+{
+    let mut i = 0;
+    while i < slots.len() {
+        slots[i] = 0;
+        i += 1;
+    }
+}
+
+// Makes the table of the first n keys in the two arrays, each key entered in its turn. What was in the arrays does not
+// matter. A step of the calls and not a call: they lend arrays of these sizes, and have no more keys than a table has
+// places.
+pub fn enter_all(keys: &[u32], n: usize, heads: &mut [u16], links: &mut [u16])
+    requires { ⌜ n ≤ length (now keys) ⌝ }
+    requires { ⌜ n ≤ 1024 ⌝ }
+    requires { ⌜ length (now heads) ≡ 1024 ⌝ }
+    requires { ⌜ length (now links) ≡ 2048 ⌝ }
+    ensures { λ _. ⌜ (record { heads = now (heads .exit); links = now (links .exit) })
+        ≡ tableOf (take n (now (keys .entry))) ⌝ }
+{
+    clear(heads);
+    clear(links);
+    let mut i = 0;
+    while i < n {
+        let key = keys[i];
+        let c = chain(key);
+        let head = place(heads[c]);
+        if 0 < head && head <= i {
+            let free = free_slot(links, i, head, key);
+            links[free] = (i + 1) as u16;
+        } else {
+            heads[c] = (i + 1) as u16;
+        }
+        i += 1;
+    }
+}
+
+// The same as a value. A step of the calls and not a call, as above.
 pub fn table_of(keys: &[u32], n: usize) -> Table
     requires { ⌜ n ≤ length (now keys) ⌝ }
     requires { ⌜ n ≤ 1024 ⌝ }
@@ -115,18 +153,6 @@ pub fn table_of(keys: &[u32], n: usize) -> Table
 {
     let mut heads = [0u16; 1024];
     let mut links = [0u16; 2048];
-    let mut i = 0;
-    while i < n {
-        let key = keys[i];
-        let c = chain(key);
-        let head = place(heads[c]);
-        if 0 < head && head <= i {
-            let free = free_slot(&links, i, head, key);
-            links[free] = (i + 1) as u16;
-        } else {
-            heads[c] = (i + 1) as u16;
-        }
-        i += 1;
-    }
+    enter_all(keys, n, &mut heads, &mut links);
     Table { heads, links }
 }
