@@ -100,6 +100,36 @@ fn place_given<'a>(
     place_of(heads, links, ids, key)
 }
 
+// The same, with one place looked at before the table is asked: most characters stand beside their neighbours. A step
+// of the calls and not a call: they have checked the table, or made it, and sought the end mark's place in it.
+pub fn place_near<'a>(
+    heads: &'a [u16],
+    links: &'a [u16],
+    ids: &'a [u32],
+    end: usize,
+    near: usize,
+    key: u32,
+) -> usize
+    requires { ⌜ Tabled (record { heads = now heads; links = now links }) (now ids) ⌝ }
+    requires { ⌜ end ≡ placeIn (now ids) 1 ⌝ }
+    ensures { λ r. ⌜ r ≡ placeIn (now (ids .entry)) key ⌝ }
+{
+    if key == 0 {
+        return 0;
+    }
+    if key == 1 {
+        return end;
+    }
+    if 0 < near {
+        if near <= ids.len() {
+            if ids[near - 1] == key {
+                return near;
+            }
+        }
+    }
+    place_of(heads, links, ids, key)
+}
+
 // The lesser of two numbers.
 pub fn lesser(a: usize, b: usize) -> usize
     ensures { λ r. ⌜ r ≡ min a b ⌝ }
