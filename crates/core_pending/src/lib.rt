@@ -1,0 +1,2 @@
+// The pending operations of a document, on the arrays that hold them.
+pub mod edits;
