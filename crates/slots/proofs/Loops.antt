@@ -94,7 +94,8 @@ module _ {A : Type 0} where
         getD-take n xs i d h,
       )
 
-  pub opening-next : {xs : List A} {n k : ℕ} {d : A} {a : List A} {i : ℕ} → k < i → Opening xs n k d a i → Opening xs n k d (set a i (getD a (i - 1) d)) (i - 1)
+  pub opening-next : {xs : List A} {n k : ℕ} {d : A} {a : List A} {i : ℕ} → k < i → Opening xs n k d a i
+      → Opening xs n k d (set a i (getD a (i - 1) d)) (i - 1)
   opening-next {i = zero} h o = absurd (not-suc-le-zero h)
   opening-next {xs} {n} {k} {d} {a} {i = suc i} h o =
       let back : suc i - 1 ≡ i = omega arith in
@@ -107,7 +108,8 @@ module _ {A : Type 0} where
         holds = rw (o .holds) (opened-next xs n i d (omega arith) (o .room));
       }
 
-  pub opening-last : {xs : List A} {n k : ℕ} {d : A} {a : List A} {i : ℕ} (x : A) → i ≤ k → Opening xs n k d a i → set a k x ≡ put k x (take n xs) ++ drop (suc n) xs
+  pub opening-last : {xs : List A} {n k : ℕ} {d : A} {a : List A} {i : ℕ} (x : A) → i ≤ k → Opening xs n k d a i
+      → set a k x ≡ put k x (take n xs) ++ drop (suc n) xs
   opening-last {xs} {n} {k} {d} {a} {i} x h o =
       let here : i ≡ k = omega arith in
       rw (o .holds, here) (hole-set k (getD xs k d) x (take n xs) (drop (suc n) xs) (omega (arith, length-take-le n xs (omega arith))))
@@ -145,7 +147,8 @@ module _ {A : Type 0} where
         hole-moves i (removed j (take n xs)) d (omega arith),
       )
 
-  pub closing-next : {xs : List A} {n j : ℕ} {d : A} {a : List A} {i : ℕ} → i + 1 < n → Closing xs n j d a i → Closing xs n j d (set a i (getD a (i + 1) d)) (i + 1)
+  pub closing-next : {xs : List A} {n j : ℕ} {d : A} {a : List A} {i : ℕ} → i + 1 < n → Closing xs n j d a i
+      → Closing xs n j d (set a i (getD a (i + 1) d)) (i + 1)
   closing-next {xs} {n} {j} {d} {a} {i} h o =
       rw (add-one i)
       record {
@@ -156,7 +159,8 @@ module _ {A : Type 0} where
         holds = rw (o .holds) (closed-next xs n j i d (o .low) (omega arith) (o .room));
       }
 
-  pub closing-last : {xs : List A} {n j : ℕ} {d : A} {a : List A} {i : ℕ} (last : ℕ) (z : A) → suc last ≡ n → last ≤ i → Closing xs n j d a i → set a last z ≡ removed j (take n xs) ++ z ∷ drop n xs
+  pub closing-last : {xs : List A} {n j : ℕ} {d : A} {a : List A} {i : ℕ} (last : ℕ) (z : A) → suc last ≡ n → last ≤ i → Closing xs n j d a i
+      → set a last z ≡ removed j (take n xs) ++ z ∷ drop n xs
   closing-last {xs} {n} {j} {d} {a} {i} last z e h o =
       let here : i ≡ last = omega arith in
       let size : suc (length (removed j (take n xs))) ≡ n = removed-first xs n j (omega arith) (o .room) in
@@ -173,7 +177,7 @@ module _ {A : Type 0} where
     pub holds : a ≡ pad i z (take n xs) ++ drop i xs
 
   -- one slot more
-  pub pad-more : (i : ℕ) (z : A) (ys : List A) → length ys ≤ i → pad (suc i) z ys ≡ pad i z ys ++ z ∷ []
+  pad-more : (i : ℕ) (z : A) (ys : List A) → length ys ≤ i → pad (suc i) z ys ≡ pad i z ys ++ z ∷ []
   unfolding pad
   pad-more i z ys h =
       let room : suc i - length ys ≡ (i - length ys) + 1 = omega arith in
@@ -191,16 +195,18 @@ module _ {A : Type 0} where
         holds = rw (none, append-nil (take n xs)) (sym (take-append-drop n xs));
       }
 
-  pub clearing-next : {xs : List A} {n : ℕ} {z : A} {a : List A} {i : ℕ} → i < length xs → Clearing xs n z a i → Clearing xs n z (set a i z) (i + 1)
+  pub clearing-next : {xs : List A} {n : ℕ} {z : A} {a : List A} {i : ℕ} → i < length xs → Clearing xs n z a i
+      → Clearing xs n z (set a i z) (i + 1)
   clearing-next {xs} {n} {z} {a} {i} h o =
       let size : length (take n xs) ≡ n = length-take-le n xs (omega arith) in
+      let filled : length (pad i z (take n xs)) ≡ i = pad-length i z (take n xs) (omega arith) in
       rw (add-one i)
       record {
         low = omega arith;
         high = h;
         size = length-set a i z ∙ o .size;
         holds =
-            rw (o .holds, drop-cons xs i z h, set-at (pad i z (take n xs)) (getD xs i z) (drop (suc i) xs) z i (pad-length i z (take n xs) (omega arith)), pad-more i z (take n xs) (omega arith))
+            rw (o .holds, drop-cons xs i z h, set-at (pad i z (take n xs)) (getD xs i z) (drop (suc i) xs) z i filled, pad-more i z (take n xs) (omega arith))
             (sym (append-snoc (pad i z (take n xs)) z (drop (suc i) xs)));
       }
 

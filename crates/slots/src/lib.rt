@@ -1,8 +1,5 @@
-// Arrays of numbers, edited in place where they are lent. A list takes the first slots of an array, and its holder keeps
-// how many.
-//
-// Each function is a step of the calls and not a call: a caller has an array with its count, which is at most the slots
-// and which it has compared before it edits.
+// Arrays of numbers, edited in place where they are lent: a list takes the first slots of an array, and whoever lends
+// the array keeps their count. Nothing is copied, so that an edit costs the slots that it moves.
 ghost use mathlib.Core.Path.{_≡_};
 ghost use mathlib.Core.List.{_++_, _∷_};
 ghost use Prim.Native.Nat.{suc, _≤_, _<_};
@@ -10,9 +7,8 @@ ghost use lib.ListN.{length, take, drop, set};
 ghost use Rattle.lists.specs.Padding.{pad};
 ghost use Rattle.slots.specs.Slots.{put, removed};
 
-// The number comes in after the first k of the first n. Those behind it move up by one, the last of them first.
-//
-// A step of the calls and not a call: the place is one in the list, and a caller refuses what there is no slot for.
+// Puts a number after the first k of n. Those behind it move up by one, the last of them first. A step of the calls
+// and not a call: they have found the place, and refused what there is no slot for.
 pub fn put_number(a: &mut [u32], n: usize, k: usize, x: u32)
     requires { ⌜ k ≤ n ⌝ }
     requires { ⌜ n < length (now a) ⌝ }
@@ -26,7 +22,7 @@ pub fn put_number(a: &mut [u32], n: usize, k: usize, x: u32)
     a[k] = x;
 }
 
-// The same for bytes.
+// The same for bytes: a step of the calls too.
 pub fn put_byte(a: &mut [u8], n: usize, k: usize, x: u8)
     requires { ⌜ k ≤ n ⌝ }
     requires { ⌜ n < length (now a) ⌝ }
@@ -40,9 +36,8 @@ pub fn put_byte(a: &mut [u8], n: usize, k: usize, x: u8)
     a[k] = x;
 }
 
-// The number at j goes out of the first n. Those behind it move down by one, and the slot that is left over is 0.
-//
-// A step of the calls and not a call: the index is one that was found in the list.
+// Takes the number at j out of n. Those behind it move down by one, and the slot that is left over is 0, as the others
+// behind a list are. A step of the calls and not a call: they have found the index in the list.
 pub fn remove_number(a: &mut [u32], n: usize, j: usize)
     requires { ⌜ j < n ⌝ }
     requires { ⌜ n ≤ length (now a) ⌝ }
@@ -57,9 +52,8 @@ pub fn remove_number(a: &mut [u32], n: usize, j: usize)
     a[last] = 0;
 }
 
-// The first n stay, and every slot behind them is 0.
-//
-// A step of the calls and not a call: a count is compared with the slots before anything is edited.
+// Keeps the first n numbers, and sets every slot behind them to 0. A step of the calls and not a call: they have no
+// more numbers than slots.
 pub fn clear_numbers(a: &mut [u32], n: usize)
     requires { ⌜ n ≤ length (now a) ⌝ }
     ensures { λ _. ⌜ now (a .exit) ≡ pad (length (now (a .entry))) 0 (take n (now (a .entry))) ⌝ }
@@ -71,7 +65,7 @@ pub fn clear_numbers(a: &mut [u32], n: usize)
     }
 }
 
-// The same for bytes.
+// The same for bytes: a step of the calls too.
 pub fn clear_bytes(a: &mut [u8], n: usize)
     requires { ⌜ n ≤ length (now a) ⌝ }
     ensures { λ _. ⌜ now (a .exit) ≡ pad (length (now (a .entry))) 0 (take n (now (a .entry))) ⌝ }
@@ -83,7 +77,7 @@ pub fn clear_bytes(a: &mut [u8], n: usize)
     }
 }
 
-// The same for numbers of sixteen bits.
+// The same for numbers of 16 bits: a step of the calls too.
 pub fn clear_halves(a: &mut [u16], n: usize)
     requires { ⌜ n ≤ length (now a) ⌝ }
     ensures { λ _. ⌜ now (a .exit) ≡ pad (length (now (a .entry))) 0 (take n (now (a .entry))) ⌝ }
@@ -95,9 +89,8 @@ pub fn clear_halves(a: &mut [u16], n: usize)
     }
 }
 
-// The number at k is x: one of the list anew, or the next one where k is their count.
-//
-// A step of the calls and not a call: the index is one in the list, or a caller refuses what there is no slot for.
+// Sets the number at k: one of the list, or its next where k is their count. A step of the calls and not a call: they
+// have found the index, or refused what there is no slot for.
 pub fn set_number(a: &mut [u32], k: usize, x: u32)
     requires { ⌜ k < length (now a) ⌝ }
     ensures { λ _. ⌜ now (a .exit) ≡ set (now (a .entry)) k x ⌝ }
@@ -105,7 +98,7 @@ pub fn set_number(a: &mut [u32], k: usize, x: u32)
     a[k] = x;
 }
 
-// The same for bytes.
+// The same for bytes: a step of the calls too.
 pub fn set_byte(a: &mut [u8], k: usize, x: u8)
     requires { ⌜ k < length (now a) ⌝ }
     ensures { λ _. ⌜ now (a .exit) ≡ set (now (a .entry)) k x ⌝ }
