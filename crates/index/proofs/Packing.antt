@@ -39,6 +39,18 @@ pub places-length : (ids of : List ℕ) → length of ≤ characterSlots → len
 unfolding placesIn
 places-length ids of h = pad-length characterSlots 0 _ (omega (arith, length-map of (placeIn ids)))
 
+-- the places of the neighbours' keys are those of the rules
+module _ (cs : List Character) (s : AllSmall cs) where
+  place-each : (f : Character → Identifier) (ds : List Character) → ((c : Character) → List·Memᴰ c ds → Small (f c)) → map (placeIn (keys cs)) (map (λ c. key (f c)) ds) ≡ map (λ c. placeOf cs (f c)) ds
+  place-each f [] t = refl
+  place-each f (d ∷ ds) t = ap₂ (λ (k : ℕ) (ks : List ℕ). k ∷ ks) (place-keys (f d) (t d (List·Memᴰ·head refl)) cs s) (place-each f ds (λ c m. t c (List·Memᴰ·tail m)))
+
+  pub placed-previous : map (placeIn (keys cs)) (previousKeys cs) ≡ previousPlaces cs
+  placed-previous = place-each (λ c. c .previous) cs (λ c m. s c m .previous)
+
+  pub placed-next : map (placeIn (keys cs)) (nextKeys cs) ≡ nextPlaces cs
+  placed-next = place-each (λ c. c .next) cs (λ c m. s c m .next)
+
 -- what a caller lends: the slots in use are the keys, and their places those of the rules
 module _ (cs : List Character) (n : ℕ) (e : length cs ≡ n) where
   used : {B : Type 0} (f : Character → B) (z : B) → take n (pad characterSlots z (map f cs)) ≡ map f cs
@@ -57,20 +69,13 @@ module _ (cs : List Character) (n : ℕ) (e : length cs ≡ n) where
   keys-next = used (λ c. key (c .next)) 0
 
   module _ (few : n ≤ characterSlots) (s : AllSmall cs) where
-    place-each : (f : Character → Identifier) (ds : List Character) → ((c : Character) → List·Memᴰ c ds → Small (f c)) → map (placeIn (keys cs)) (map (λ c. key (f c)) ds) ≡ map (λ c. placeOf cs (f c)) ds
-    place-each f [] t = refl
-    place-each f (d ∷ ds) t = ap₂ (λ (k : ℕ) (ks : List ℕ). k ∷ ks) (place-keys (f d) (t d (List·Memᴰ·head refl)) cs s) (place-each f ds (λ c m. t c (List·Memᴰ·tail m)))
-
-    -- the array of the places
-    padded-places : (f : Character → Identifier) → ((c : Character) → List·Memᴰ c cs → Small (f c)) → placesIn (keys cs) (map (λ c. key (f c)) cs) ≡ pad characterSlots 0 (map (λ c. placeOf cs (f c)) cs)
-    unfolding placesIn
-    padded-places f t = rw (place-each f cs t)
-
     pub padded-previous : placesIn (keys cs) (previousKeys cs) ≡ pad characterSlots 0 (previousPlaces cs)
-    padded-previous = padded-places (λ c. c .previous) (λ c m. s c m .previous)
+    unfolding placesIn
+    padded-previous = rw (placed-previous cs s)
 
     pub padded-next : placesIn (keys cs) (nextKeys cs) ≡ pad characterSlots 0 (nextPlaces cs)
-    padded-next = padded-places (λ c. c .next) (λ c m. s c m .next)
+    unfolding placesIn
+    padded-next = rw (placed-next cs s)
 
     pub places-previous : take n (placesIn (keys cs) (previousKeys cs)) ≡ previousPlaces cs
     places-previous = rw padded-previous (used (λ c. placeOf cs (c .previous)) 0)

@@ -1,3 +1,4 @@
 pub mod Walks
+pub mod Searching
 pub mod Placing
 pub mod Placements

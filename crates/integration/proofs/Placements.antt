@@ -1,12 +1,13 @@
 -- What is found for an insert says which of the rules' conditions hold, and where the insert goes.
 use Prim.Native.Nat.{ℕ, suc, _≤_, _<_}
 use native.Mathlib.Omega.{arith}
-use mathlib.Core.Path.{_≡_, refl, subst}
+use mathlib.Core.Path.{_≡_, refl, subst, _∙_}
 use mathlib.Core.Bool.{Bool, true, false}
 use mathlib.Core.Option.{Option, none, some}
 use mathlib.Core.List.{List}
 use borrow.Author.Tests.{lt-ltb, le-ltb, le-leb, lt-leb}
 use lib.ListN.{length, take}
+use Rattle.woot.specs.declared.Identifier.{Identifier}
 use Rattle.woot.specs.declared.Insert.{Insert}
 use Rattle.woot.specs.declared.Operation.the-variants.{Insert as insert}
 use Rattle.woot.specs.declared.Character.{Character}
@@ -14,17 +15,32 @@ use Rattle.woot.specs.Operations.{character}
 use Rattle.woot.specs.Placing.{placeOf, held, above, position, between, insertAt, integrateInsert}
 use Rattle.woot.specs.Pending.{executable, crossed, unplaceable}
 use Rattle.convergence.proofs.Standing.{placement-at}
-use Rattle.woot.specs.Table.{keys}
+use Rattle.woot.specs.Table.{key, keys}
 use Rattle.index.specs.declared.Index.{Index}
-use Rattle.index.specs.Keys.{AllSmall}
+use Rattle.index.specs.Keys.{Small, AllSmall, placeIn}
 use Rattle.index.specs.Packing.{previousPlaces, nextPlaces}
 use Rattle.index.specs.Index.{indexOf}
+use Rattle.index.proofs.Indices.{place-keys}
 use Rattle.index.proofs.Indexes.{index-ids, index-above, index-below}
+use Rattle.index.specs.declared.Found.{Found}
 use Rattle.index.specs.declared.Found.the-variants.{At, Nothing}
 use Rattle.integration.specs.Passes.{asFound}
 use Rattle.integration.specs.declared.Placement.{Placement}
 use Rattle.integration.specs.declared.Placement.the-variants.{Missing, Crossed, Unplaceable, Below}
 use Rattle.integration.specs.Placements.{placementAt, placementOf}
+
+-- ---- what is sought by keys
+
+-- a place that is sought by the key is that of the rules
+pub sought : (cs : List Character) → AllSmall cs → (ids : List ℕ) → ids ≡ keys cs → (x : Identifier) (k place : ℕ) → (k ≡ key x) × Small x → place ≡ placeIn ids k → place ≡ placeOf cs x
+sought cs s ids e x k place h p = p ∙ rw (e, h .0) (place-keys x (h .1) cs s)
+
+-- the neighbours are held and in order, and the place between them is that of the rules
+pub record Searched (cs : List Character) (i : Insert) (r : Found) : Type 0 where
+  pub previous-in : placeOf cs (i .previous) ≤ suc (length cs)
+  pub next-in : placeOf cs (i .next) ≤ suc (length cs)
+  pub ordered : placeOf cs (i .previous) < placeOf cs (i .next)
+  pub result : r ≡ asFound (position cs (i .id) (between cs i))
 
 module _ (cs : List Character) (i : Insert) where
   -- ---- from the places

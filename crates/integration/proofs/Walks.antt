@@ -2,8 +2,9 @@
 -- go past the lower.
 use Prim.Native.Nat.{ℕ, zero, suc, _+_, _-_, _≤_, _<_, min}
 use native.Mathlib.Nat.{add-zero, add-suc, suc-add}
+use native.Mathlib.Numerals.{add-one}
 use native.Mathlib.Omega.{arith}
-use mathlib.Core.Path.{_≡_, refl, _∙_}
+use mathlib.Core.Path.{_≡_, refl, sym, _∙_}
 use mathlib.Core.Bool.{true, false, and-false}
 use mathlib.Core.List.{List, [], _∷_}
 use mathlib.Core.Logic.{_⊎_, inl, inr}
@@ -106,3 +107,26 @@ module _ (ids above below : List ℕ) where
         go (inr x) (inl a) b = rw (drop-of-length-le above a, short-above (suc i) (drop i ids) (drop i below)) (walk-none k v u)
         go (inr x) (inr a) (inl b) = rw (drop-of-length-le below b, short-below (suc i) (drop i ids) (drop i above)) (walk-none k v u)
         go (inr x) (inr a) (inr b) = walk-below k v u (suc i) (drop i ids) (drop i above) (drop i below) (omega arith)
+
+-- ---- a pass, index by index
+
+-- how far a pass looks
+abbrev pub ending : List ℕ → List ℕ → List ℕ → Interval → ℕ
+ending ids above below v = min (min (length ids) (min (length above) (length below))) (v .lower - 1)
+
+-- one entry strictly between the ends, walked over, passed, or stopped at
+module _ (ids above below : List ℕ) (k : ℕ) (v : Interval) (u i end : ℕ) (looks : end ≡ ending ids above below v) (low : v .upper ≤ i) (high : i < end) where
+  stepped : (t : Interval) → walkIn k v u (at ids above below i ∷ from ids above below (suc i)) ≡ t → walkIn k v u (from ids above below i) ≡ t
+  stepped t e = rw (from-step ids above below i (omega arith) (omega arith) (omega arith)) e
+
+  decided : candidateIn v (at ids above below i) ≡ outside (getD above i 0) (getD below i 0) v
+  decided = between v (at ids above below i) (omega arith) (omega arith)
+
+  pub over : outside (getD above i 0) (getD below i 0) v ≡ false → walkIn k v u (from ids above below (i + 1)) ≡ walkIn k v u (from ids above below i)
+  over o = rw (add-one i) (sym (stepped _ (walk-over k v u _ _ (decided ∙ o))))
+
+  pub passed : outside (getD above i 0) (getD below i 0) v ≡ true → getD ids i 0 < k → walkIn k v (i + 1) (from ids above below (i + 1)) ≡ walkIn k v u (from ids above below i)
+  passed o h = rw (add-one i) (sym (stepped _ (walk-passed k v u _ _ (decided ∙ o) h)))
+
+  pub stopped : outside (getD above i 0) (getD below i 0) v ≡ true → k ≤ getD ids i 0 → record { upper = u; lower = i + 1 } ≡ walkIn k v u (from ids above below i)
+  stopped o h = rw (add-one i) (sym (stepped _ (walk-stopped k v u _ _ (decided ∙ o) h)))

@@ -1,4 +1,6 @@
 // Where an insert goes: the place between its neighbours, found in passes over the candidates there.
+pub mod keyed;
+
 use index::Found;
 use woot::Insert;
 ghost use mathlib.Core.Path.{_≡_};

@@ -1,28 +1,21 @@
 -- `integration::find_place` meets its contract: both places are those of the rules, and so are the tests on them.
-use Prim.Native.Nat.{ℕ, suc, _≤_, _<_}
+use Prim.Native.Nat.{ℕ}
 use native.Mathlib.Omega.{arith}
 use mathlib.Core.Path.{_≡_, sym, ap, _∙_}
 use mathlib.Core.List.{List}
 use borrow.Author.Needs.{needs}
 use lib.ListN.{length, take, length-map, length-take}
-use Rattle.woot.specs.declared.Identifier.{Identifier}
 use Rattle.woot.specs.declared.Insert.{Insert}
 use Rattle.woot.specs.declared.Character.{Character}
-use Rattle.woot.specs.Placing.{placeOf, position, between}
+use Rattle.woot.specs.Placing.{placeOf, between}
 use Rattle.woot.specs.Table.{key, keys}
-use Rattle.index.specs.Keys.{Small, AllSmall, placeIn}
-use Rattle.index.specs.declared.Found.{Found}
+use Rattle.index.specs.Keys.{AllSmall}
 use Rattle.index.specs.Packing.{previousPlaces, nextPlaces}
 use Rattle.integration.specs.Passes.{asFound}
-use Rattle.index.proofs.Indices.{place-keys}
 use Rattle.integration.proofs.Placing.{position-same}
-use Rattle.integration.proofs.Placements.{previous-missing, next-missing, places-crossed, places-at, places-nothing}
+use Rattle.integration.proofs.Placements.{sought, Searched, previous-missing, next-missing, places-crossed, places-at, places-nothing}
 use Rattle.integration.proofs.find_place.Statement.{statement}
 use Rattle.integration.proofs.find_place.Tie as tie
-
--- a place that is sought by the key is that of the rules
-sought : (cs : List Character) → AllSmall cs → (ids : List ℕ) → ids ≡ keys cs → (x : Identifier) (k place : ℕ) → (k ≡ key x) × Small x → place ≡ placeIn ids k → place ≡ placeOf cs x
-sought cs s ids e x k place h p = p ∙ rw (e, h .0) (place-keys x (h .1) cs s)
 
 -- the places of the neighbours
 record Sought (cs : List Character) (i : Insert) (ids : List ℕ) (upper lower : ℕ) : Type 0 where
@@ -38,13 +31,6 @@ on c cs e s =
       above = sought cs s _ e _ _ _ (c .before .before .before .key .ensures) (c .before .before .place-of .ensures);
       below = sought cs s _ e _ _ _ (c .before .key2 .ensures) (c .place-of2 .ensures);
     }
-
--- the neighbours are held and in order, and the place between them is that of the rules
-record Searched (cs : List Character) (i : Insert) (r : Found) : Type 0 where
-  previous-in : placeOf cs (i .previous) ≤ suc (length cs)
-  next-in : placeOf cs (i .next) ≤ suc (length cs)
-  ordered : placeOf cs (i .previous) < placeOf cs (i .next)
-  result : r ≡ asFound (position cs (i .id) (between cs i))
 
 searched : (c : tie.After-position) → let a = c .before .before .before .before .before .before .before .before .before .before .before .before .before .before .before .before .before .before .before .before .args in (cs : List Character)
     → take (a .n) (a .keys .now) ≡ keys cs → take (a .n) (a .uppers .now) ≡ previousPlaces cs → take (a .n) (a .lowers .now) ≡ nextPlaces cs → AllSmall cs → Searched cs (a .insert) (c .position .result)

@@ -1,40 +1,14 @@
 -- `integration::pass` meets its contract. The loop's invariant: what is left from i on, with the upper end as it is, gives what the
 -- whole pass gives.
-use Prim.Native.Nat.{ℕ, suc, _+_, _-_, _≤_, _<_, min}
-use native.Mathlib.Numerals.{add-one}
+use Prim.Native.Nat.{ℕ, _-_, _≤_, _<_}
 use native.Mathlib.Omega.{arith}
 use mathlib.Core.Path.{_≡_, sym, _∙_, subst}
-use mathlib.Core.Bool.{true, false}
-use mathlib.Core.List.{List, _∷_}
-use lib.ListN.{length, getD}
 use borrow.Author.Count.{falls}
 use borrow.Author.Needs.{needs}
-use Rattle.integration.specs.declared.Interval.{Interval}
-use Rattle.integration.specs.Passes.{locatedKeys, outside, candidateIn, walkIn, passIn}
-use Rattle.integration.proofs.Walks.{at, from, between, walk-over, walk-passed, walk-stopped, from-step, from-end, pass-from}
+use Rattle.integration.specs.Passes.{locatedKeys, walkIn, passIn}
+use Rattle.integration.proofs.Walks.{from, from-end, pass-from, ending, over, passed, stopped}
 use Rattle.integration.proofs.pass.Statement.{statement}
 use Rattle.integration.proofs.pass.Tie as tie
-
--- how far a pass looks
-abbrev ending : List ℕ → List ℕ → List ℕ → Interval → ℕ
-ending ids above below v = min (min (length ids) (min (length above) (length below))) (v .lower - 1)
-
--- one entry strictly between the ends, walked over, passed, or stopped at
-module _ (ids above below : List ℕ) (k : ℕ) (v : Interval) (u i end : ℕ) (looks : end ≡ ending ids above below v) (low : v .upper ≤ i) (high : i < end) where
-  stepped : (t : Interval) → walkIn k v u (at ids above below i ∷ from ids above below (suc i)) ≡ t → walkIn k v u (from ids above below i) ≡ t
-  stepped t e = rw (from-step ids above below i (omega arith) (omega arith) (omega arith)) e
-
-  decided : candidateIn v (at ids above below i) ≡ outside (getD above i 0) (getD below i 0) v
-  decided = between v (at ids above below i) (omega arith) (omega arith)
-
-  over : outside (getD above i 0) (getD below i 0) v ≡ false → walkIn k v u (from ids above below (i + 1)) ≡ walkIn k v u (from ids above below i)
-  over o = rw (add-one i) (sym (stepped _ (walk-over k v u _ _ (decided ∙ o))))
-
-  passed : outside (getD above i 0) (getD below i 0) v ≡ true → getD ids i 0 < k → walkIn k v (i + 1) (from ids above below (i + 1)) ≡ walkIn k v u (from ids above below i)
-  passed o h = rw (add-one i) (sym (stepped _ (walk-passed k v u _ _ (decided ∙ o) h)))
-
-  stopped : outside (getD above i 0) (getD below i 0) v ≡ true → k ≤ getD ids i 0 → record { upper = u; lower = i + 1 } ≡ walkIn k v u (from ids above below i)
-  stopped o h = rw (add-one i) (sym (stepped _ (walk-stopped k v u _ _ (decided ∙ o) h)))
 
 abbrev Inv-loop : tie.InvT-loop
 Inv-loop ids above below key v shortest end upper₀ i₀ upper i =

@@ -1,0 +1,165 @@
+-- `integration::keyed::find_place` meets its contract: both places are those of the rules, and so are the tests on them.
+use Prim.Native.Nat.{ℕ, _≤_}
+use native.Mathlib.Omega.{arith}
+use mathlib.Core.Path.{_≡_, sym, ap, _∙_}
+use mathlib.Core.List.{List}
+use borrow.Author.Needs.{needs}
+use lib.ListN.{length, take, length-map, length-take}
+use lib.Seq.{length-take-le}
+use Rattle.woot.specs.declared.Character.{Character}
+use Rattle.woot.specs.Placing.{placeOf, between}
+use Rattle.woot.specs.Table.{key, keys}
+use Rattle.woot.specs.Memory.{previousKeys, nextKeys}
+use Rattle.index.specs.Keys.{AllSmall}
+use Rattle.index.proofs.Packing.{placed-previous, placed-next}
+use Rattle.integration.specs.Passes.{asFound}
+use Rattle.integration.proofs.Placing.{position-same}
+use Rattle.integration.proofs.Placements.{sought, Searched, previous-missing, next-missing, places-crossed, places-at, places-nothing}
+use Rattle.integration.proofs.keyed.find_place.Statement.{statement}
+use Rattle.integration.proofs.keyed.find_place.Tie as tie
+
+-- there are as many characters as keys in use
+counted : (cs : List Character) (n : ℕ) (ks : List ℕ) → n ≤ length ks → take n ks ≡ keys cs → n ≡ length cs
+counted cs n ks h e = sym (length-take-le n ks h) ∙ ap length e ∙ length-map cs (λ (d : Character). key (d .id))
+
+-- as many neighbours are lent
+as-long : (n : ℕ) (ks ls : List ℕ) → n ≤ length ks → n ≤ length ls → length (take n ks) ≤ length (take n ls)
+as-long n ks ls h g = omega (arith, length-take-le n ks h, length-take-le n ls g)
+
+-- where the previous stands
+upper-at : (c : tie.After-place-near) → let a = c .before .before .before .before .before .before .before .before .before .before .before .before .before .before .args in (cs : List Character) → take (a .n) (a .keys .now) ≡ keys cs → AllSmall cs
+    → c .place-near .result ≡ placeOf cs (a .insert .previous)
+upper-at c cs e s = sought cs s _ e _ _ _ (c .before .key .ensures) (c .place-near .ensures)
+
+-- where the next does
+lower-at : (c : tie.After-place-near2) → let a = c .before .before .before .before .before .before .before .before .before .before .before .before .before .before .before .before .before .args in (cs : List Character) → take (a .n) (a .keys .now) ≡ keys cs → AllSmall cs
+    → c .place-near2 .result ≡ placeOf cs (a .insert .next)
+lower-at c cs e s = sought cs s _ e _ _ _ (c .before .key2 .ensures) (c .place-near2 .ensures)
+
+searched : (c : tie.After-position) → let a = c .before .before .before .before .before .before .before .before .before .before .before .before .before .before .before .before .before .before .before .before .before .args in (cs : List Character)
+    → take (a .n) (a .keys .now) ≡ keys cs
+    → take (a .n) (a .previous .now) ≡ previousKeys cs
+    → take (a .n) (a .next .now) ≡ nextKeys cs
+    → AllSmall cs
+    → Searched cs (a .insert) (c .position .result)
+unfolding between
+searched c cs e above below s =
+    let start = c .before .before .before .before .before .before .before .before .before .before .before .before .before .before .before .before .before .before .before .before .before in
+    let n = counted cs _ _ (start .pre .0) e in
+    let upper = upper-at (c .before .before .before .before .before .before .before) cs e s in
+    let lower = lower-at (c .before .before .before .before) cs e s in
+    let k = c .before .key3 .ensures in
+    record {
+      previous-in = omega arith;
+      next-in = omega arith;
+      ordered = omega arith;
+      result = rw (c .position .ensures, e, above, below, placed-previous cs s, placed-next cs s, k .0, upper, lower) (ap asFound (position-same cs s _ (k .1) _ _));
+    }
+
+slice-aggregate-ids : tie.Need-slice-aggregate-ids
+slice-aggregate-ids c = simp length-take (omega arith)
+
+slice-aggregate-firsts : tie.Need-slice-aggregate-firsts
+slice-aggregate-firsts c = simp length-take (omega arith)
+
+slice-aggregate-seconds : tie.Need-slice-aggregate-seconds
+slice-aggregate-seconds c = simp length-take (omega arith)
+
+place-of-requires : tie.Need-place-of-requires
+place-of-requires c κs = search needs
+
+key-requires : tie.Need-key-requires
+key-requires c κs = search needs
+
+place-near-requires : tie.Need-place-near-requires
+place-near-requires c κs = search needs
+
+add-if1 : tie.Need-add-if1
+add-if1 c = search needs
+
+returns : tie.Need-returns
+returns c cs e above below s =
+    let start = c .before .before .before .before .before .before .before .before .before .before .before .before .before .before .before in
+    let n = counted cs _ _ (start .pre .0) e in
+    let upper = upper-at (c .before) cs e s in
+    sym (previous-missing cs (start .args .insert) (omega arith))
+
+add-place-near : tie.Need-add-place-near
+add-place-near c = search needs
+
+key-requires-2 : tie.Need-key-requires-2
+key-requires-2 c κs = search needs
+
+place-near-requires-2 : tie.Need-place-near-requires-2
+place-near-requires-2 c κs = search needs
+
+add-if2 : tie.Need-add-if2
+add-if2 c = search needs
+
+returns-2 : tie.Need-returns-2
+returns-2 c cs e above below s =
+    let start = c .before .before .before .before .before .before .before .before .before .before .before .before .before .before .before .before .before .before in
+    let n = counted cs _ _ (start .pre .0) e in
+    let upper = upper-at (c .before .before .before .before) cs e s in
+    let lower = lower-at (c .before) cs e s in
+    sym (next-missing cs (start .args .insert) (omega arith) (omega arith))
+
+returns-3 : tie.Need-returns-3
+returns-3 c cs e above below s =
+    let start = c .before .before .before .before .before .before .before .before .before .before .before .before .before .before .before .before .before .before .before in
+    let n = counted cs _ _ (start .pre .0) e in
+    let upper = upper-at (c .before .before .before .before .before) cs e s in
+    let lower = lower-at (c .before .before) cs e s in
+    sym (places-crossed cs (start .args .insert) (omega arith) (omega arith) (omega arith))
+
+key-requires-3 : tie.Need-key-requires-3
+key-requires-3 c κs = search needs
+
+position-requires : tie.Need-position-requires
+position-requires c κs =
+    let s = c .before .before .before .before .before .before .before .before .before .before .before .before .before .before .before .before .before .before .before .before in
+    let a = s .args in
+    let firsts = as-long (a .n) (a .keys .now) (a .previous .now) (omega arith) (omega arith) in
+    let seconds = as-long (a .n) (a .keys .now) (a .next .now) (omega arith) (omega arith) in
+    (s .pre .1 .1 .1, (c .before .before .before .before .before .before .before .before .place-of .ensures, (firsts, seconds)))
+
+enum-known-k : tie.Need-enum-known-k
+enum-known-k c = search needs
+
+enum-told : tie.Need-enum-told
+enum-told c = search needs
+
+returns-4 : tie.Need-returns-4
+returns-4 c cs e above below s =
+    let p = searched (c .before .before .before) cs e above below s in
+    sym (places-at cs _ (p .previous-in) (p .next-in) (p .ordered) _ (sym (c .before .k .given .1) ∙ p .result))
+
+returns-5 : tie.Need-returns-5
+returns-5 c cs e above below s =
+    let p = searched (c .before .before) cs e above below s in
+    sym (places-nothing cs _ (p .previous-in) (p .next-in) (p .ordered) (sym (c .enum-told .given .1) ∙ p .result))
+
+pub find-place-spec : {M : Type 1} → statement M
+find-place-spec =
+    tie.close
+    (tie.spec
+    slice-aggregate-ids
+    slice-aggregate-firsts
+    slice-aggregate-seconds
+    place-of-requires
+    key-requires
+    place-near-requires
+    add-if1
+    returns
+    add-place-near
+    key-requires-2
+    place-near-requires-2
+    add-if2
+    returns-2
+    returns-3
+    key-requires-3
+    position-requires
+    enum-known-k
+    enum-told
+    returns-4
+    returns-5)

@@ -1,0 +1,169 @@
+// Where an insert goes among characters that are given by the keys of their neighbours: the places of those are sought
+// as a pass comes to them, and of no character outside the interval.
+use crate::Interval;
+use crate::Placement;
+use crate::width;
+use index::Found;
+use woot::Insert;
+ghost use mathlib.Core.Path.{_≡_};
+ghost use mathlib.Core.List.{List, map};
+ghost use Prim.Native.Nat.{_<_, _≤_};
+ghost use lib.ListN.{length, take, getD};
+ghost use Rattle.woot.specs.declared.Character.{Character};
+ghost use Rattle.woot.specs.Table.{keys as keysOfCharacters};
+ghost use Rattle.woot.specs.Memory.{previousKeys, nextKeys};
+ghost use Rattle.index.specs.Keys.{AllSmall, placeIn};
+ghost use Rattle.index.specs.Tabled.{Tabled};
+ghost use Rattle.integration.specs.Passes.{locatedKeys, outside, passIn, positionIn, asFound};
+ghost use Rattle.integration.specs.Placements.{placementOf};
+
+// Whether both neighbours of the character at the index stand outside the interval, or at its ends. They are compared
+// with the characters beside it first, and the next is not sought where the previous stands inside.
+fn outside<'a>(
+    heads: &'a [u16],
+    links: &'a [u16],
+    ids: &'a [u32],
+    previous: &'a [u32],
+    next: &'a [u32],
+    end: usize,
+    at: usize,
+    interval: Interval,
+) -> bool
+    requires { ⌜ Tabled (record { heads = now heads; links = now links }) (now ids) ⌝ }
+    requires { ⌜ end ≡ placeIn (now ids) 1 ⌝ }
+    requires { ⌜ at < length (now previous) ⌝ }
+    requires { ⌜ at < length (now next) ⌝ }
+    ensures { λ r. ⌜ r
+        ≡ outside (placeIn (now (ids .entry)) (getD (now (previous .entry)) at 0))
+        (placeIn (now (ids .entry)) (getD (now (next .entry)) at 0)) interval ⌝ }
+{
+    let above = index::place_near(heads, links, ids, end, at, previous[at]);
+    if interval.upper < above {
+        return false;
+    }
+    let below = index::place_near(heads, links, ids, end, at + 2, next[at]);
+    interval.lower <= below
+}
+
+// One pass over the candidates: the interval between the last that the key passes and the one that it stops at.
+fn pass<'a>(
+    heads: &'a [u16],
+    links: &'a [u16],
+    ids: &'a [u32],
+    previous: &'a [u32],
+    next: &'a [u32],
+    end: usize,
+    key: u32,
+    interval: Interval,
+) -> Interval
+    requires { ⌜ Tabled (record { heads = now heads; links = now links }) (now ids) ⌝ }
+    requires { ⌜ end ≡ placeIn (now ids) 1 ⌝ }
+    requires { ⌜ length (now ids) ≤ length (now previous) ⌝ }
+    requires { ⌜ length (now ids) ≤ length (now next) ⌝ }
+    requires { ⌜ interval .upper < interval .lower ⌝ }
+    ensures { λ r. ⌜ r
+        ≡ passIn (locatedKeys 1 (now (ids .entry)) (map (placeIn (now (ids .entry))) (now (previous .entry)))
+        (map (placeIn (now (ids .entry))) (now (next .entry)))) key interval ⌝ }
+{
+    let last = index::lesser(ids.len(), interval.lower - 1);
+    let mut upper = interval.upper;
+    let mut i = upper;
+    while i < last {
+        let at = i;
+        i += 1;
+        if outside(heads, links, ids, previous, next, end, at, interval) {
+            if key <= ids[at] {
+                return Interval { upper, lower: i };
+            }
+            upper = i;
+        }
+    }
+    Interval {
+        upper,
+        lower: interval.lower,
+    }
+}
+
+// The place just above which the key goes in, in the interval. Each pass narrows it, until nothing is between, or no
+// candidate.
+fn position<'a>(
+    heads: &'a [u16],
+    links: &'a [u16],
+    ids: &'a [u32],
+    previous: &'a [u32],
+    next: &'a [u32],
+    end: usize,
+    key: u32,
+    interval: Interval,
+) -> Found
+    requires { ⌜ Tabled (record { heads = now heads; links = now links }) (now ids) ⌝ }
+    requires { ⌜ end ≡ placeIn (now ids) 1 ⌝ }
+    requires { ⌜ length (now ids) ≤ length (now previous) ⌝ }
+    requires { ⌜ length (now ids) ≤ length (now next) ⌝ }
+    ensures { λ r. ⌜ r
+        ≡ asFound (positionIn (now (ids .entry)) (map (placeIn (now (ids .entry))) (now (previous .entry)))
+        (map (placeIn (now (ids .entry))) (now (next .entry))) key (interval .upper) (interval .lower)) ⌝ }
+{
+    let mut v = interval;
+    while 1 < width(v) {
+        let narrower = pass(heads, links, ids, previous, next, end, key, v);
+        if width(v) <= width(narrower) {
+            return Found::Nothing;
+        }
+        v = narrower;
+    }
+    Found::At(v.upper)
+}
+
+// Finds the place of an insert among the n characters with these keys, whose previous and next have these. A step of
+// the calls and not a call: they have a table of the keys that agrees, and clocks of 16 bits.
+pub fn find_place<'a>(
+    heads: &'a [u16],
+    links: &'a [u16],
+    keys: &'a [u32],
+    previous: &'a [u32],
+    next: &'a [u32],
+    n: usize,
+    insert: Insert,
+) -> Placement
+    requires { ⌜ n ≤ length (now keys) ⌝ }
+    requires { ⌜ n ≤ length (now previous) ⌝ }
+    requires { ⌜ n ≤ length (now next) ⌝ }
+    requires { ⌜ Tabled (record { heads = now heads; links = now links }) (take n (now keys)) ⌝ }
+    ensures { λ r. ⌜ ((cs : List Character)
+        → take n (now (keys .entry)) ≡ keysOfCharacters cs → take n (now (previous .entry)) ≡ previousKeys cs
+        → take n (now (next .entry)) ≡ nextKeys cs → AllSmall cs → r ≡ placementOf cs insert) ⌝ }
+{
+    let ids = &keys[..n];
+    let firsts = &previous[..n];
+    let seconds = &next[..n];
+    let first = insert.previous;
+    let second = insert.next;
+    let own = insert.id;
+    let end = index::place_of(heads, links, ids, 1);
+    let upper = index::place_near(heads, links, ids, end, n, index::key(first));
+    if n + 1 < upper {
+        return Placement::Missing;
+    }
+    let lower = index::place_near(heads, links, ids, end, upper + 1, index::key(second));
+    if n + 1 < lower {
+        return Placement::Missing;
+    }
+    if lower <= upper {
+        return Placement::Crossed;
+    }
+    let interval = Interval { upper, lower };
+    match position(
+        heads,
+        links,
+        ids,
+        firsts,
+        seconds,
+        end,
+        index::key(own),
+        interval,
+    ) {
+        Found::At(k) => Placement::Below(k),
+        Found::Nothing => Placement::Unplaceable,
+    }
+}
