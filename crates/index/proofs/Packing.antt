@@ -41,9 +41,11 @@ places-length ids of h = pad-length characterSlots 0 _ (omega (arith, length-map
 
 -- the places of the neighbours' keys are those of the rules
 module _ (cs : List Character) (s : AllSmall cs) where
-  place-each : (f : Character → Identifier) (ds : List Character) → ((c : Character) → List·Memᴰ c ds → Small (f c)) → map (placeIn (keys cs)) (map (λ c. key (f c)) ds) ≡ map (λ c. placeOf cs (f c)) ds
+  place-each : (f : Character → Identifier) (ds : List Character) → ((c : Character) → List·Memᴰ c ds → Small (f c))
+      → map (placeIn (keys cs)) (map (λ c. key (f c)) ds) ≡ map (λ c. placeOf cs (f c)) ds
   place-each f [] t = refl
-  place-each f (d ∷ ds) t = ap₂ (λ (k : ℕ) (ks : List ℕ). k ∷ ks) (place-keys (f d) (t d (List·Memᴰ·head refl)) cs s) (place-each f ds (λ c m. t c (List·Memᴰ·tail m)))
+  place-each f (d ∷ ds) t =
+      ap₂ (λ (k : ℕ) (ks : List ℕ). k ∷ ks) (place-keys (f d) (t d (List·Memᴰ·head refl)) cs s) (place-each f ds (λ c m. t c (List·Memᴰ·tail m)))
 
   pub placed-previous : map (placeIn (keys cs)) (previousKeys cs) ≡ previousPlaces cs
   placed-previous = place-each (λ c. c .previous) cs (λ c m. s c m .previous)

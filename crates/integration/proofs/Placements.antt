@@ -32,7 +32,9 @@ use Rattle.integration.specs.Placements.{placementAt, placementOf}
 -- ---- what is sought by keys
 
 -- a place that is sought by the key is that of the rules
-pub sought : (cs : List Character) → AllSmall cs → (ids : List ℕ) → ids ≡ keys cs → (x : Identifier) (k place : ℕ) → (k ≡ key x) × Small x → place ≡ placeIn ids k → place ≡ placeOf cs x
+pub sought : (cs : List Character) → AllSmall cs → (ids : List ℕ) → ids ≡ keys cs → (x : Identifier) (k place : ℕ) → (k ≡ key x) × Small x
+    → place ≡ placeIn ids k
+    → place ≡ placeOf cs x
 sought cs s ids e x k place h p = p ∙ rw (e, h .0) (place-keys x (h .1) cs s)
 
 -- the neighbours are held and in order, and the place between them is that of the rules
@@ -66,6 +68,10 @@ module _ (cs : List Character) (i : Insert) where
       ordered : above cs (i .previous) (i .next) ≡ true
       unfolding above held
       ordered = rw (lt-ltb (placeOf cs (i .previous)) (placeOf cs (i .next)) l, le-leb (placeOf cs (i .next)) (suc (length cs)) h)
+
+      pub places-found : placementOf cs i ≡ placementAt (position cs (i .id) (between cs i))
+      unfolding placementOf
+      places-found = rw (ready, ordered)
 
       pub places-at : (k : ℕ) → At k ≡ asFound (position cs (i .id) (between cs i)) → placementOf cs i ≡ Below k
       unfolding placementOf placementAt

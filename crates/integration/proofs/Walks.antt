@@ -125,8 +125,10 @@ module _ (ids above below : List ℕ) (k : ℕ) (v : Interval) (u i end : ℕ) (
   pub over : outside (getD above i 0) (getD below i 0) v ≡ false → walkIn k v u (from ids above below (i + 1)) ≡ walkIn k v u (from ids above below i)
   over o = rw (add-one i) (sym (stepped _ (walk-over k v u _ _ (decided ∙ o))))
 
-  pub passed : outside (getD above i 0) (getD below i 0) v ≡ true → getD ids i 0 < k → walkIn k v (i + 1) (from ids above below (i + 1)) ≡ walkIn k v u (from ids above below i)
+  pub passed : outside (getD above i 0) (getD below i 0) v ≡ true → getD ids i 0 < k
+      → walkIn k v (i + 1) (from ids above below (i + 1)) ≡ walkIn k v u (from ids above below i)
   passed o h = rw (add-one i) (sym (stepped _ (walk-passed k v u _ _ (decided ∙ o) h)))
 
-  pub stopped : outside (getD above i 0) (getD below i 0) v ≡ true → k ≤ getD ids i 0 → record { upper = u; lower = i + 1 } ≡ walkIn k v u (from ids above below i)
+  pub stopped : outside (getD above i 0) (getD below i 0) v ≡ true → k ≤ getD ids i 0
+      → record { upper = u; lower = i + 1 } ≡ walkIn k v u (from ids above below i)
   stopped o h = rw (add-one i) (sym (stepped _ (walk-stopped k v u _ _ (decided ∙ o) h)))

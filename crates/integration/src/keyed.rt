@@ -3,7 +3,6 @@
 use crate::Interval;
 use crate::Placement;
 use crate::width;
-use index::Found;
 use woot::Insert;
 ghost use mathlib.Core.Path.{_≡_};
 ghost use mathlib.Core.List.{List, map};
@@ -14,8 +13,8 @@ ghost use Rattle.woot.specs.Table.{keys as keysOfCharacters};
 ghost use Rattle.woot.specs.Memory.{previousKeys, nextKeys};
 ghost use Rattle.index.specs.Keys.{AllSmall, placeIn};
 ghost use Rattle.index.specs.Tabled.{Tabled};
-ghost use Rattle.integration.specs.Passes.{locatedKeys, outside, passIn, positionIn, asFound};
-ghost use Rattle.integration.specs.Placements.{placementOf};
+ghost use Rattle.integration.specs.Passes.{locatedKeys, outside, passIn, positionIn};
+ghost use Rattle.integration.specs.Placements.{placementAt, placementOf};
 
 // Whether both neighbours of the character at the index stand outside the interval, or at its ends. They are compared
 // with the characters beside it first, and the next is not sought where the previous stands inside.
@@ -84,8 +83,8 @@ fn pass<'a>(
     }
 }
 
-// The place just above which the key goes in, in the interval. Each pass narrows it, until nothing is between, or no
-// candidate.
+// Where the key goes in, in the interval: just below a place, if there is one. Each pass narrows the interval, until
+// nothing is between, or no candidate.
 fn position<'a>(
     heads: &'a [u16],
     links: &'a [u16],
@@ -95,28 +94,29 @@ fn position<'a>(
     end: usize,
     key: u32,
     interval: Interval,
-) -> Found
+) -> Placement
     requires { ⌜ Tabled (record { heads = now heads; links = now links }) (now ids) ⌝ }
     requires { ⌜ end ≡ placeIn (now ids) 1 ⌝ }
     requires { ⌜ length (now ids) ≤ length (now previous) ⌝ }
     requires { ⌜ length (now ids) ≤ length (now next) ⌝ }
     ensures { λ r. ⌜ r
-        ≡ asFound (positionIn (now (ids .entry)) (map (placeIn (now (ids .entry))) (now (previous .entry)))
+        ≡ placementAt (positionIn (now (ids .entry)) (map (placeIn (now (ids .entry))) (now (previous .entry)))
         (map (placeIn (now (ids .entry))) (now (next .entry))) key (interval .upper) (interval .lower)) ⌝ }
 {
     let mut v = interval;
     while 1 < width(v) {
         let narrower = pass(heads, links, ids, previous, next, end, key, v);
         if width(v) <= width(narrower) {
-            return Found::Nothing;
+            return Placement::Unplaceable;
         }
         v = narrower;
     }
-    Found::At(v.upper)
+    Placement::Below(v.upper)
 }
 
-// Finds the place of an insert among the n characters with these keys, whose previous and next have these. A step of
-// the calls and not a call: they have a table of the keys that agrees, and clocks of 16 bits.
+// Finds the place of an insert among n characters by their keys and those of their previous and next. The insert's own
+// are compared with the last character, and with the one below its previous, before the table is asked. A step of the
+// calls and not a call: they lend arrays of n characters, and a table that they have checked, or made.
 pub fn find_place<'a>(
     heads: &'a [u16],
     links: &'a [u16],
@@ -139,7 +139,8 @@ pub fn find_place<'a>(
     let seconds = &next[..n];
     let first = insert.previous;
     let second = insert.next;
-    let own = insert.id;
+    let id = insert.id;
+    let own = index::key(id);
     let end = index::place_of(heads, links, ids, 1);
     let upper = index::place_near(heads, links, ids, end, n, index::key(first));
     if n + 1 < upper {
@@ -152,18 +153,6 @@ pub fn find_place<'a>(
     if lower <= upper {
         return Placement::Crossed;
     }
-    let interval = Interval { upper, lower };
-    match position(
-        heads,
-        links,
-        ids,
-        firsts,
-        seconds,
-        end,
-        index::key(own),
-        interval,
-    ) {
-        Found::At(k) => Placement::Below(k),
-        Found::Nothing => Placement::Unplaceable,
-    }
+    let between = Interval { upper, lower };
+    position(heads, links, ids, firsts, seconds, end, own, between)
 }

@@ -44,7 +44,9 @@ place-near-requires-2 : tie.Need-place-near-requires-2
 place-near-requires-2 c κs = search needs
 
 returns-2 : tie.Need-returns-2
-returns-2 c = below-only _ _ _ (c .before .before .before .before .before .place-near .ensures) (c .before .place-near2 .ensures) (c .before .before .before .if1 .left)
+returns-2 c =
+    let above = c .before .before .before .before .before .place-near .ensures in
+    below-only _ _ _ above (c .before .place-near2 .ensures) (c .before .before .before .if1 .left)
 
 pub outside-spec : {M : Type 1} → statement M
 outside-spec =

@@ -21,7 +21,8 @@ abbrev places : List ℕ → List ℕ → List ℕ
 places ids ks = map (placeIn ids) ks
 
 -- the lists of the neighbours are long enough, so that a pass looks as far as there are characters
-looked : (ids previous next : List ℕ) (v : Interval) {last : ℕ} → length ids ≤ length previous → length ids ≤ length next → last ≡ min (length ids) (v .lower - 1)
+looked : (ids previous next : List ℕ) (v : Interval) {last : ℕ} → length ids ≤ length previous → length ids ≤ length next
+    → last ≡ min (length ids) (v .lower - 1)
     → last ≡ ending ids (places ids previous) (places ids next) v
 looked ids previous next v p q e = omega (arith, e, length-map previous (placeIn ids), length-map next (placeIn ids))
 
@@ -77,8 +78,9 @@ returns c =
     let l = c .before .before .before .before .before .loop in
     let ids = a .ids .now in
     let here = c .before .before .before .before .loop-test .taken in
+    let told = sym (c .before .before .if1 .taken) ∙ c .before .before .before .outside .ensures in
     stopped ids (places ids (a .previous .now)) (places ids (a .next .now)) (a .key) (a .interval) (l .upper) (l .i) _ (l .inv .0) (l .inv .2) here
-    (asked ids (a .previous .now) (a .next .now) (a .interval) (l .i) (omega arith) (omega arith) (sym (c .before .before .if1 .taken) ∙ c .before .before .before .outside .ensures))
+    (asked ids (a .previous .now) (a .next .now) (a .interval) (l .i) (omega arith) (omega arith) told)
     (c .if2 .taken)
     ∙ l .inv .3
 
@@ -91,12 +93,13 @@ loop-again c =
     let a = s .args in
     let l = c .before .before .before .before .before .loop in
     let ids = a .ids .now in
-    let here = c .before .before .before .before .loop-test .taken in (
+    let here = c .before .before .before .before .loop-test .taken in
+    let told = sym (c .before .before .if1 .taken) ∙ c .before .before .before .outside .ensures in (
       l .inv .0,
       l .inv .1,
       omega arith,
       passed ids (places ids (a .previous .now)) (places ids (a .next .now)) (a .key) (a .interval) (l .upper) (l .i) _ (l .inv .0) (l .inv .2) here
-          (asked ids (a .previous .now) (a .next .now) (a .interval) (l .i) (omega arith) (omega arith) (sym (c .before .before .if1 .taken) ∙ c .before .before .before .outside .ensures))
+          (asked ids (a .previous .now) (a .next .now) (a .interval) (l .i) (omega arith) (omega arith) told)
           (c .if2 .left)
           ∙ l .inv .3,
     )
@@ -110,12 +113,13 @@ loop-again-2 c =
     let a = s .args in
     let l = c .before .before .before .loop in
     let ids = a .ids .now in
-    let here = c .before .before .loop-test .taken in (
+    let here = c .before .before .loop-test .taken in
+    let told = sym (c .if1 .left) ∙ c .before .outside .ensures in (
       l .inv .0,
       l .inv .1,
       omega arith,
       over ids (places ids (a .previous .now)) (places ids (a .next .now)) (a .key) (a .interval) (l .upper) (l .i) _ (l .inv .0) (l .inv .2) here
-          (asked ids (a .previous .now) (a .next .now) (a .interval) (l .i) (omega arith) (omega arith) (sym (c .if1 .left) ∙ c .before .outside .ensures))
+          (asked ids (a .previous .now) (a .next .now) (a .interval) (l .i) (omega arith) (omega arith) told)
           ∙ l .inv .3,
     )
 

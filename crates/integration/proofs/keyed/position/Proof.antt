@@ -5,7 +5,8 @@ use mathlib.Core.Path.{refl, ap}
 use mathlib.Core.List.{map}
 use borrow.Author.Needs.{needs}
 use Rattle.index.specs.Keys.{placeIn}
-use Rattle.integration.specs.Passes.{locatedKeys, width, positionIn, asFound}
+use Rattle.integration.specs.Passes.{locatedKeys, width, positionIn}
+use Rattle.integration.specs.Placements.{placementAt}
 use Rattle.integration.proofs.Searching.{Searching, arrived, nowhere, again}
 use Rattle.integration.proofs.keyed.position.Statement.{statement}
 use Rattle.integration.proofs.keyed.position.Tie as tie
@@ -38,8 +39,9 @@ width-requires-3 : tie.Need-width-requires-3 Inv-loop μ-loop
 width-requires-3 c κs = search needs
 
 returns : tie.Need-returns Inv-loop μ-loop
+unfolding placementAt
 returns c =
-    ap asFound
+    ap placementAt
     (nowhere _ _ _ _ _ (c .before .before .before .pass .ensures) (omega (arith, c .before .before .before .before .before .width .ensures))
     (omega (arith, c .before .before .width2 .ensures, c .before .width3 .ensures)) (c .before .before .before .before .before .before .loop .inv))
 
@@ -52,7 +54,8 @@ loop-again c =
     (omega (arith, c .before .before .width2 .ensures, c .before .width3 .ensures)) (c .before .before .before .before .before .before .loop .inv)
 
 returns-2 : tie.Need-returns-2 Inv-loop μ-loop
-returns-2 c = ap asFound (arrived _ _ _ _ (omega (arith, c .before .width .ensures)) (c .before .before .loop .inv))
+unfolding placementAt
+returns-2 c = ap placementAt (arrived _ _ _ _ (omega (arith, c .before .width .ensures)) (c .before .before .loop .inv))
 
 pub position-spec : {M : Type 1} → statement M
 position-spec =
