@@ -1,0 +1,3 @@
+pub mod Searches
+pub mod Pending
+pub mod Earliest
