@@ -1,1 +1,4 @@
 pub mod Ranging
+pub mod Counting
+pub mod Seen
+pub mod PendingForm

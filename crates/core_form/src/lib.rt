@@ -1,2 +1,3 @@
 // The check of a replica's form, on lent arrays of numbers.
 pub mod numbers;
+pub mod pending;

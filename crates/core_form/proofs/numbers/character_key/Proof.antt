@@ -1,6 +1,5 @@
 -- `numbers::character_key` meets its contract: the site and the clock are in range where the number is.
-use mathlib.Core.Path.{_≡_, refl, sym, ap, _∙_}
-use native.Mathlib.Omega.{arith}
+use mathlib.Core.Path.{_∙_}
 use borrow.Author.Needs.{needs}
 use Rattle.core_form.proofs.Ranging.{key-ranged}
 use Rattle.core_form.proofs.numbers.character_key.Statement.{statement}

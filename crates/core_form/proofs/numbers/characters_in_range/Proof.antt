@@ -1,10 +1,10 @@
 -- `numbers::characters_in_range` meets its contract: the flag says of the first i rows whether each passes.
-use mathlib.Core.Path.{_≡_, refl, sym, ap, _∙_}
+use mathlib.Core.Path.{_≡_, refl, sym, _∙_}
 use native.Mathlib.Omega.{arith}
 use borrow.Author.Needs.{needs}
 use Prim.Native.Nat.{_-_, _≤_}
 use native.Mathlib.Numerals.{add-one}
-use lib.ListN.{length, getD}
+use lib.ListN.{getD}
 use Rattle.lists.proofs.Throughout.{throughout-cong}
 use Rattle.memory.proofs.Characters.{rows-every}
 use Rattle.core_form.proofs.Ranging.{row-toggled}

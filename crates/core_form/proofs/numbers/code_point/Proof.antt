@@ -1,6 +1,5 @@
 -- `numbers::code_point` meets its contract: the tests as they stand.
-use mathlib.Core.Path.{_≡_, refl, sym, ap, _∙_}
-use native.Mathlib.Omega.{arith}
+use mathlib.Core.Path.{_∙_}
 use borrow.Author.Needs.{needs}
 use Rattle.core_form.proofs.Ranging.{code-ranged}
 use Rattle.core_form.proofs.numbers.code_point.Statement.{statement}

@@ -1,6 +1,5 @@
 -- `numbers::in_range` meets its contract: each test is one of the definition's.
-use mathlib.Core.Path.{_≡_, refl, sym, ap, _∙_}
-use native.Mathlib.Omega.{arith}
+use mathlib.Core.Path.{_∙_}
 use borrow.Author.Needs.{needs}
 use Rattle.core_form.proofs.Ranging.{row-ranged}
 use Rattle.core_form.proofs.numbers.in_range.Statement.{statement}

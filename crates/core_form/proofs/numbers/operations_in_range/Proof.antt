@@ -4,7 +4,6 @@ use native.Mathlib.Omega.{arith}
 use borrow.Author.Needs.{needs}
 use Prim.Native.Nat.{_-_, _≤_}
 use native.Mathlib.Numerals.{add-one}
-use lib.ListN.{getD}
 use Rattle.memory.proofs.Operations.{operations-every}
 use Rattle.lists.specs.Lists.{throughout}
 use Rattle.woot.specs.Ranges.{inRange}
