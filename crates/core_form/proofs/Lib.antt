@@ -1,4 +1,5 @@
 pub mod Ranging
+pub mod Ordering
 pub mod Counting
 pub mod Seen
 pub mod PendingForm
