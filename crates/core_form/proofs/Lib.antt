@@ -3,3 +3,6 @@ pub mod Ordering
 pub mod Counting
 pub mod Seen
 pub mod PendingForm
+pub mod Reaching
+pub mod Checks
+pub mod Examining

@@ -75,7 +75,7 @@ module _ (is ps ns points ts : List ℕ) (n : ℕ) (hi : n ≤ length is) where
   rows-apart {t} h =
       sym (distinct-keys rows (rows-small is ps ns points ts n)) ∙ ap (distinct eqb) (rows-keys is ps ns points ts n hi) ∙ agreeing-apart t (take n is) (h .agree)
 
-  pub rows-order : {t : Table} → Tabled t (take n is) → every characterInRange rows ≡ true
+  rows-order : {t : Table} → Tabled t (take n is) → every characterInRange rows ≡ true
       → throughout (betweenAt (take n is) ps ns) (length (take n is)) ≡ every (ordered rows) rows
   unfolding betweenAt characterOf
   rows-order h ranges =
@@ -88,3 +88,8 @@ module _ (is ps ns points ts : List ℕ) (n : ℕ) (hi : n ≤ length is) where
       let g : i < n = omega arith in
       ordered-at rows ranges (rows-apart h) i (omega arith)
       ∙ rw (size, many, neighbour (λ c. c .previous) ps (λ j. refl) i g, neighbour (λ c. c .next) ns (λ j. refl) i g)))
+
+  -- what a test by places says
+  pub rows-ordered : {t : Table} → Tabled t (take n is) → {b : Bool} → b ≡ throughout (betweenAt (take n is) ps ns) (length (take n is))
+      → every characterInRange rows ≡ true → b ≡ every (ordered rows) rows
+  rows-ordered h e ranges = e ∙ rows-order h ranges

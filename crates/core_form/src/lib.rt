@@ -1,4 +1,166 @@
-// The check of a replica's form, on lent arrays of numbers.
+// The check of a replica's form, on lent arrays of numbers. The ranges are checked first; then no character has a
+// mark's key, and what the numbers stand for is what they were made of. Once the replica's table is seen to agree with
+// the keys, no key stands twice, and every other key is found by it.
+pub mod clock;
 pub mod numbers;
 pub mod order;
 pub mod pending;
+
+use index::table;
+use woot::Site;
+ghost use mathlib.Core.Path.{_≡_};
+ghost use mathlib.Core.Bool.{_&&_};
+ghost use Prim.Native.Nat.{_≤_};
+ghost use lib.ListN.{length, take};
+ghost use Rattle.woot.specs.Memory.{charactersOf, operationsOf, replicaWellFormed};
+ghost use Rattle.index.specs.Tabled.{Tabled};
+ghost use Rattle.memory.specs.Lent.{documentAs};
+ghost use Rattle.core_form.specs.Form.{rangesKept, clockReached};
+ghost use Rattle.core_form.specs.PendingForm.{pendingFormed};
+
+// Whether the counts are within the arrays, and refusal 2 would let every number, mark and neighbour pass.
+fn in_ranges<'a>(
+    site: Site,
+    ids: &'a [u32],
+    previous: &'a [u32],
+    next: &'a [u32],
+    code_points: &'a [u32],
+    toggles: &'a [u8],
+    n: usize,
+    own: &'a [u32],
+    first: &'a [u32],
+    second: &'a [u32],
+    values: &'a [u32],
+    w: usize,
+) -> bool
+    requires { ⌜ length (now ids) ≡ 1024 ⌝ }
+    requires { ⌜ length (now previous) ≡ 1024 ⌝ }
+    requires { ⌜ length (now next) ≡ 1024 ⌝ }
+    requires { ⌜ length (now «code_points») ≡ 1024 ⌝ }
+    requires { ⌜ length (now own) ≡ 512 ⌝ }
+    requires { ⌜ length (now first) ≡ 512 ⌝ }
+    requires { ⌜ length (now second) ≡ 512 ⌝ }
+    requires { ⌜ length (now values) ≡ 512 ⌝ }
+    ensures { λ r. ⌜ r
+        ≡ rangesKept site n (charactersOf (now (ids .entry)) (now (previous .entry)) (now (next .entry))
+        (now («code_points» .entry)) (now (toggles .entry)) n)
+        w (operationsOf (now (own .entry)) (now (first .entry)) (now (second .entry)) (now (values .entry)) w) ⌝ }
+{
+    if 1024 < n {
+        return false;
+    }
+    if 512 < w {
+        return false;
+    }
+    if !ranges::site_in_range(site) {
+        return false;
+    }
+    if !numbers::characters_in_range(ids, previous, next, code_points, toggles, n) {
+        return false;
+    }
+    numbers::operations_in_range(own, first, second, values, w)
+}
+
+// The conditions on w pending operations, with n characters, and that the clock reaches the inserts of both.
+fn queue_formed<'a>(
+    site: Site,
+    heads: &'a [u16],
+    links: &'a [u16],
+    ids: &'a [u32],
+    n: usize,
+    own: &'a [u32],
+    first: &'a [u32],
+    second: &'a [u32],
+    values: &'a [u32],
+    w: usize,
+) -> bool
+    requires { ⌜ n ≤ length (now ids) ⌝ }
+    requires { ⌜ w ≤ length (now own) ⌝ }
+    requires { ⌜ w ≤ length (now first) ⌝ }
+    requires { ⌜ w ≤ length (now second) ⌝ }
+    requires { ⌜ w ≤ length (now values) ⌝ }
+    requires { ⌜ Tabled (record { heads = now heads; links = now links }) (take n (now ids)) ⌝ }
+    ensures { λ r. ⌜ r
+        ≡ pendingFormed (take n (now (ids .entry))) (take w (now (own .entry))) (take w (now (first .entry)))
+        (take w (now (second .entry))) (take w (now (values .entry)))
+        && clockReached site (take n (now (ids .entry))) (take w (now (own .entry))) ⌝ }
+{
+    if !pending::pending_formed(
+        heads,
+        links,
+        &ids[..n],
+        &own[..w],
+        &first[..w],
+        &second[..w],
+        &values[..w],
+    ) {
+        return false;
+    }
+    if !clock::reaches_all(site, ids, n) {
+        return false;
+    }
+    clock::reaches_all(site, own, w)
+}
+
+// Whether the replica that these arrays make is in form. A step of the calls and not a call: they lend a replica's
+// arrays, which have these sizes.
+pub fn check<'a>(
+    site: Site,
+    ids: &'a [u32],
+    previous: &'a [u32],
+    next: &'a [u32],
+    code_points: &'a [u32],
+    toggles: &'a [u8],
+    n: usize,
+    own: &'a [u32],
+    first: &'a [u32],
+    second: &'a [u32],
+    values: &'a [u32],
+    w: usize,
+    heads: &'a [u16],
+    links: &'a [u16],
+) -> bool
+    requires { ⌜ length (now ids) ≡ 1024 ⌝ }
+    requires { ⌜ length (now previous) ≡ 1024 ⌝ }
+    requires { ⌜ length (now next) ≡ 1024 ⌝ }
+    requires { ⌜ length (now «code_points») ≡ 1024 ⌝ }
+    requires { ⌜ length (now toggles) ≡ 1024 ⌝ }
+    requires { ⌜ length (now own) ≡ 512 ⌝ }
+    requires { ⌜ length (now first) ≡ 512 ⌝ }
+    requires { ⌜ length (now second) ≡ 512 ⌝ }
+    requires { ⌜ length (now values) ≡ 512 ⌝ }
+    requires { ⌜ length (now heads) ≡ 1024 ⌝ }
+    requires { ⌜ length (now links) ≡ 2048 ⌝ }
+    ensures { λ r. ⌜ r
+        ≡ replicaWellFormed (record {
+          site = site;
+          document = documentAs (now (ids .entry)) (now (previous .entry)) (now (next .entry))
+              (now («code_points» .entry)) (now (toggles .entry)) n
+              (now (own .entry)) (now (first .entry)) (now (second .entry)) (now (values .entry)) w
+              (now (heads .entry)) (now (links .entry));
+        }) ⌝ }
+{
+    if !in_ranges(
+        site,
+        ids,
+        previous,
+        next,
+        code_points,
+        toggles,
+        n,
+        own,
+        first,
+        second,
+        values,
+        w,
+    ) {
+        return false;
+    }
+    if !table::agrees_among(heads, links, ids, n) {
+        return false;
+    }
+    if !order::characters_ordered(heads, links, ids, previous, next, n) {
+        return false;
+    }
+    queue_formed(site, heads, links, ids, n, own, first, second, values, w)
+}

@@ -11,7 +11,7 @@ ghost use Rattle.woot.specs.Ranges.{inRange};
 ghost use Rattle.woot.specs.Memory.{identifier, characterOf, charactersOf, operationOf, operationsOf};
 
 // Whether both hold.
-fn both(a: bool, b: bool) -> bool
+pub fn both(a: bool, b: bool) -> bool
     ensures { λ r. ⌜ r ≡ a && b ⌝ }
 {
     if a {
@@ -21,7 +21,7 @@ fn both(a: bool, b: bool) -> bool
 }
 
 // Whether one of them holds.
-fn either(a: bool, b: bool) -> bool
+pub fn either(a: bool, b: bool) -> bool
     ensures { λ r. ⌜ r ≡ a || b ⌝ }
 {
     if a {

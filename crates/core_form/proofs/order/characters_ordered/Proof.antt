@@ -1,9 +1,8 @@
 -- `order::characters_ordered` meets its contract: between the places of its neighbours, a character is in the order of
 -- the rules.
-use mathlib.Core.Path.{_∙_}
 use native.Mathlib.Omega.{arith}
 use lib.ListN.{length-take}
-use Rattle.core_form.proofs.Ordering.{rows-order}
+use Rattle.core_form.proofs.Ordering.{rows-ordered}
 use Rattle.core_form.proofs.order.characters_ordered.Statement.{statement}
 use Rattle.core_form.proofs.order.characters_ordered.Tie as tie
 
@@ -18,8 +17,8 @@ all-between-requires c κs =
 returns : tie.Need-returns
 returns c =
     let s = c .before .before .before .before .before .before .before in
-    λ points toggles ranges.
-    c .all-between .ensures ∙ rows-order (s .args .ids .now) (s .args .previous .now) (s .args .next .now) points toggles (s .args .n) (s .pre .0) (s .pre .1 .1 .1) ranges
+    λ points toggles.
+    rows-ordered (s .args .ids .now) (s .args .previous .now) (s .args .next .now) points toggles (s .args .n) (s .pre .0) (s .pre .1 .1 .1) (c .all-between .ensures)
 
 pub characters-ordered-spec : {M : Type 1} → statement M
 characters-ordered-spec = tie.close (tie.spec slice-aggregate-all-between all-between-requires returns)

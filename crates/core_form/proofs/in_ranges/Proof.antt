@@ -1,0 +1,62 @@
+-- `in_ranges` makes its tests one after the other.
+use borrow.Author.Needs.{needs}
+use Prim.Native.Nat.{ℕ}
+use mathlib.Core.Path.{_≡_, refl, sym}
+use mathlib.Core.Bool.{Bool, _&&_}
+use mathlib.Core.List.{List}
+use borrow.Author.Tests.{lt-leb, le-leb}
+use lib.Dec.{leb}
+use Rattle.lists.specs.Lists.{every}
+use Rattle.lists.proofs.Tests.{refused, passed}
+use Rattle.woot.specs.declared.Site.{Site}
+use Rattle.woot.specs.declared.Character.{Character}
+use Rattle.woot.specs.declared.Operation.{Operation}
+use Rattle.woot.specs.Ranges.{siteInRange, characterInRange, inRange}
+use Rattle.woot.specs.State.{characterSlots, pendingSlots}
+use Rattle.core_form.specs.Form.{rangesKept}
+use Rattle.core_form.proofs.in_ranges.Statement.{statement}
+use Rattle.core_form.proofs.in_ranges.Tie as tie
+
+-- the tests, as they come out
+reading : (t : Site) (n : ℕ) (cs : List Character) (w : ℕ) (os : List Operation) {a b c d e : Bool} → leb n characterSlots ≡ a → leb w pendingSlots ≡ b
+    → siteInRange t ≡ c → every characterInRange cs ≡ d → every inRange os ≡ e
+    → rangesKept t n cs w os ≡ (a && b) && (c && d && e)
+unfolding rangesKept
+reading t n cs w os e₁ e₂ e₃ e₄ e₅ = λ i. (e₁ i && e₂ i) && (e₃ i && e₄ i && e₅ i)
+
+returns : tie.Need-returns
+returns c = sym (reading _ _ _ _ _ (lt-leb _ _ (c .if1 .taken)) refl refl refl refl)
+
+returns-2 : tie.Need-returns-2
+returns-2 c = sym (reading _ _ _ _ _ (le-leb _ _ (c .before .if1 .left)) (lt-leb _ _ (c .if2 .taken)) refl refl refl)
+
+site-in-range-requires : tie.Need-site-in-range-requires
+site-in-range-requires c κs = search needs
+
+returns-3 : tie.Need-returns-3
+returns-3 c = sym (reading _ _ _ _ _ (le-leb _ _ (c .before .before .before .if1 .left)) (le-leb _ _ (c .before .before .if2 .left)) (refused (c .before .site-in-range .ensures) (c .if3 .taken)) refl refl)
+
+characters-in-range-requires : tie.Need-characters-in-range-requires
+characters-in-range-requires c κs = search needs
+
+returns-4 : tie.Need-returns-4
+returns-4 c = sym (reading _ _ _ _ _ (le-leb _ _ (c .before .before .before .before .before .if1 .left)) (le-leb _ _ (c .before .before .before .before .if2 .left)) (passed (c .before .before .before .site-in-range .ensures) (c .before .before .if3 .left)) (refused (c .before .characters-in-range .ensures) (c .if4 .taken)) refl)
+
+operations-in-range-requires : tie.Need-operations-in-range-requires
+operations-in-range-requires c κs = search needs
+
+returns-5 : tie.Need-returns-5
+returns-5 c = sym (reading _ _ _ _ _ (le-leb _ _ (c .before .before .before .before .before .before .if1 .left)) (le-leb _ _ (c .before .before .before .before .before .if2 .left)) (passed (c .before .before .before .before .site-in-range .ensures) (c .before .before .before .if3 .left)) (passed (c .before .before .characters-in-range .ensures) (c .before .if4 .left)) (sym (c .operations-in-range .ensures)))
+
+pub in-ranges-spec : {M : Type 1} → statement M
+in-ranges-spec =
+    tie.close
+    (tie.spec
+    returns
+    returns-2
+    site-in-range-requires
+    returns-3
+    characters-in-range-requires
+    returns-4
+    operations-in-range-requires
+    returns-5)
