@@ -14,9 +14,11 @@ use Rattle.woot.specs.declared.Character.{Character}
 use Rattle.woot.specs.declared.Operation.{Operation}
 use Rattle.woot.specs.declared.memory.Replica.{Replica}
 use Rattle.woot.specs.Ranges.{siteInRange, characterInRange, inRange}
-use Rattle.woot.specs.Form.{allInRange, sharesKept, capacityKept, identifiersDistinct, togglesDistinct, ordered, neighboursOrdered, noneExecutable, clockKept, wellFormed}
+use Rattle.woot.specs.Form.{allInRange, sharesKept, capacityKept, identifiersDistinct, togglesDistinct, ordered, neighboursOrdered, noneExecutable, clockKept}
+use Rattle.woot.specs.Form.{wellFormed}
 use Rattle.woot.specs.Table.{keys, agrees}
-use Rattle.woot.specs.Memory.{ownKey, firstKey, secondKey, valueOf, charactersOf, operationsOf, charactersIn, operationsIn, meaning, counted, tableAgrees, replicaWellFormed}
+use Rattle.woot.specs.Memory.{ownKey, firstKey, secondKey, valueOf, charactersOf, operationsOf, charactersIn, operationsIn, meaning, counted, tableAgrees}
+use Rattle.woot.specs.Memory.{replicaWellFormed}
 use Rattle.index.specs.Tabled.{Tabled}
 use Rattle.index.proofs.Agreement.{agreeing-apart}
 use Rattle.memory.proofs.Fullness.{FullDocument}
@@ -107,28 +109,46 @@ module _ (r : Replica) where
       -- the last test of the check
       abbrev pub queueFormed : Bool
       queueFormed =
-          pendingFormed (take (r .document .length) (r .document .ids)) (take (r .document .waiting) (r .document .own)) (take (r .document .waiting) (r .document .first))
+          pendingFormed (take (r .document .length) (r .document .ids)) (take (r .document .waiting) (r .document .own))
+          (take (r .document .waiting) (r .document .first))
           (take (r .document .waiting) (r .document .second))
           (take (r .document .waiting) (r .document .values))
           && clockReached (r .site) (take (r .document .length) (r .document .ids)) (take (r .document .waiting) (r .document .own))
 
       -- the columns of the pending operations
-      columns : (map ownKey (meaning r .pending) ≡ take (r .document .waiting) (r .document .own)) × (map firstKey (meaning r .pending) ≡ take (r .document .waiting) (r .document .first)) × (map secondKey (meaning r .pending) ≡ take (r .document .waiting) (r .document .second)) × (map valueOf (meaning r .pending) ≡ take (r .document .waiting) (r .document .values))
+      columns : (map ownKey (meaning r .pending) ≡ take (r .document .waiting) (r .document .own))
+          × (map firstKey (meaning r .pending) ≡ take (r .document .waiting) (r .document .first))
+          × (map secondKey (meaning r .pending) ≡ take (r .document .waiting) (r .document .second))
+          × (map valueOf (meaning r .pending) ≡ take (r .document .waiting) (r .document .values))
       unfolding meaning
       columns =
-          let d = r .document in
-          (own-in d (parts .2) (omega (arith, few .pending, full .own)), first-in d (parts .2) (omega (arith, few .pending, full .first)), second-in d (parts .2) (omega (arith, few .pending, full .second)), values-in d (parts .2) (omega (arith, few .pending, full .values)))
+          let d = r .document in (
+            own-in d (parts .2) (omega (arith, few .pending, full .own)),
+            first-in d (parts .2) (omega (arith, few .pending, full .first)),
+            second-in d (parts .2) (omega (arith, few .pending, full .second)),
+            values-in d (parts .2) (omega (arith, few .pending, full .values)),
+          )
 
-      queue-is : (sharesKept (meaning r) && capacityKept (meaning r) && identifiersDistinct (meaning r) && togglesDistinct (meaning r) && noneExecutable (meaning r)) && clockKept (meaning r) ≡ queueFormed
+      queue-is : let s = meaning r in
+          (sharesKept s && capacityKept s && identifiersDistinct s && togglesDistinct s && noneExecutable s) && clockKept s ≡ queueFormed
       unfolding meaning
       queue-is =
-          rw (pending-conditions (meaning r) (parts .1) (parts .2) apart, clock-reached (meaning r) in-range, keys-used, columns .0, columns .1, columns .2, columns .3)
+          rw (
+            pending-conditions (meaning r) (parts .1) (parts .2) apart,
+            clock-reached (meaning r) in-range,
+            keys-used,
+            columns .0,
+            columns .1,
+            columns .2,
+            columns .3,
+          )
 
       form-is : wellFormed (meaning r) ≡ every (ordered charactersAs) charactersAs && queueFormed
       unfolding wellFormed neighboursOrdered meaning charactersIn
       form-is =
           rw in-range
-          (arranged (sharesKept (meaning r)) (capacityKept (meaning r)) (identifiersDistinct (meaning r)) (togglesDistinct (meaning r)) (neighboursOrdered (meaning r)) (noneExecutable (meaning r)) (clockKept (meaning r))
+          (arranged (sharesKept (meaning r)) (capacityKept (meaning r)) (identifiersDistinct (meaning r)) (togglesDistinct (meaning r))
+          (neighboursOrdered (meaning r)) (noneExecutable (meaning r)) (clockKept (meaning r))
           ∙ ap (λ (b : Bool). neighboursOrdered (meaning r) && b) queue-is)
 
       conditions : replicaWellFormed r ≡ every (ordered charactersAs) charactersAs && queueFormed

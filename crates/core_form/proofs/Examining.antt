@@ -19,14 +19,16 @@ use Rattle.woot.specs.State.{blankPending}
 use Rattle.woot.specs.Pending.{pendingFrom}
 use Rattle.woot.specs.Form.{presentInserts}
 use Rattle.woot.specs.Table.{keys, agrees}
-use Rattle.woot.specs.Memory.{characterAt, operationAt, previousKeys, nextKeys, codePoints, toggleCounts, ownKey, firstKey, secondKey, valueOf, charactersIn, operationsIn, meaning, tableAgrees, replicaWellFormed}
+use Rattle.woot.specs.Memory.{characterAt, operationAt, previousKeys, nextKeys, codePoints, toggleCounts, ownKey, firstKey, secondKey, valueOf, charactersIn}
+use Rattle.woot.specs.Memory.{operationsIn, meaning, tableAgrees, replicaWellFormed}
 use Rattle.convergence.proofs.Forms.{Formed, formed, known-length}
 use Rattle.index.specs.Keys.{AllSmall}
 use Rattle.index.specs.Tabled.{Tabled}
 use Rattle.memory.proofs.Characters.{rows-small, rows-at}
 use Rattle.memory.proofs.Operations.{AllKeyed, all-keyed, operations-at}
 use Rattle.memory.proofs.Fullness.{FullDocument}
-use Rattle.memory.proofs.Stored.{Storable, Counts, counts, form-counted, form-meant, form-table, character-count, pending-count, ids-in, previous-in, next-in, points-in, toggles-in, own-in, first-in, second-in, values-in}
+use Rattle.memory.proofs.Stored.{Storable, Counts, counts, form-counted, form-meant, form-table, character-count, pending-count, ids-in, previous-in, next-in}
+use Rattle.memory.proofs.Stored.{points-in, toggles-in, own-in, first-in, second-in, values-in}
 use Rattle.core_pending.specs.Counts.{sendersOf}
 use Rattle.core_pending.proofs.Pending.{senders-are, count-sent, count-own}
 use Rattle.core_form.specs.Examined.{Examined}
@@ -115,7 +117,8 @@ module _ (r : Replica) (x : Examined r) where
 
   -- what a slot in use holds
   pub character-read : (k : ℕ) (d : Character) → k < r .document .length
-      → getD (meaning r .characters) k d ≡ characterAt (r .document .ids) (r .document .previous) (r .document .next) (r .document .«code_points») (r .document .toggles) k
+      → getD (meaning r .characters) k d
+      ≡ characterAt (r .document .ids) (r .document .previous) (r .document .next) (r .document .«code_points») (r .document .toggles) k
   unfolding meaning charactersIn
   character-read k d h =
       rows-at (r .document .ids) (r .document .previous) (r .document .next) (r .document .«code_points») (r .document .toggles) (r .document .length) k d h
@@ -145,7 +148,8 @@ module _ (r : Replica) (x : Examined r) where
 
   -- ---- room
 
-  pub senders-used : sendersOf (take (r .document .waiting) (r .document .own)) (take (r .document .waiting) (r .document .values)) ≡ map sender (meaning r .pending)
+  pub senders-used : sendersOf (take (r .document .waiting) (r .document .own)) (take (r .document .waiting) (r .document .values))
+      ≡ map sender (meaning r .pending)
   senders-used = rw (own-used, values-used) (senders-are (meaning r .pending) keyed)
 
   pub share-counted : (n : ℕ)
@@ -153,9 +157,12 @@ module _ (r : Replica) (x : Examined r) where
       ≡ leb share (pendingFrom n (meaning r .pending))
   share-counted n = rw (own-used, values-used, count-sent n (meaning r .pending) keyed)
 
-  pub room-counted : leb capacity (r .document .length + length (keep (λ k. not (eqb k 0)) (take (r .document .waiting) (r .document .own))))
-      ≡ leb capacity (length (presentInserts (meaning r)))
+  -- the pending inserts
+  abbrev waiting : ℕ
+  waiting = length (keep (λ k. not (eqb k 0)) (take (r .document .waiting) (r .document .own)))
+
+  pub room-counted : leb capacity (r .document .length + waiting) ≡ leb capacity (length (presentInserts (meaning r)))
   room-counted =
-      let waiting : length (keep (λ k. not (eqb k 0)) (take (r .document .waiting) (r .document .own))) ≡ length (inserts (meaning r .pending)) = rw own-used (count-own (meaning r .pending) keyed) in
-      let all : r .document .length + length (keep (λ k. not (eqb k 0)) (take (r .document .waiting) (r .document .own))) ≡ length (presentInserts (meaning r)) = omega (arith, characters-counted, known-length (meaning r)) in
+      let those : waiting ≡ length (inserts (meaning r .pending)) = rw own-used (count-own (meaning r .pending) keyed) in
+      let all : r .document .length + waiting ≡ length (presentInserts (meaning r)) = omega (arith, characters-counted, known-length (meaning r)) in
       ap (leb capacity) all

@@ -47,14 +47,19 @@ module _ (cs : List Character) (ranges : every characterInRange cs ≡ true) (ap
   own-place : (i : ℕ) → i < length cs → placeOf cs (at i .id) ≡ i + 1
   unfolding placeOf sequence
   own-place i h =
-      omega (arith, index-later (at i .id) begin (identifiers cs ++ end ∷ []) (not-begin (at i .id) (id-in-range i h)), located-index 1 cs (end ∷ []) apart (located-at 1 i blankCharacter cs h))
+      omega (
+        arith,
+        index-later (at i .id) begin (identifiers cs ++ end ∷ []) (not-begin (at i .id) (id-in-range i h)),
+        located-index 1 cs (end ∷ []) apart (located-at 1 i blankCharacter cs h),
+      )
 
   ordered-at : (i : ℕ) → i < length cs → ordered cs (at i) ≡ standsBetween (length cs) i (placeOf cs (at i .previous)) (placeOf cs (at i .next))
   unfolding ordered above held standsBetween
   ordered-at i h =
       let inside : leb (i + 1) (suc (length cs)) ≡ true = le-leb (i + 1) (suc (length cs)) (omega arith) in
       rw (own-place i h, add-one (length cs), inside)
-      (ap (λ (b : Bool). b && (ltb (i + 1) (placeOf cs (at i .next)) && leb (placeOf cs (at i .next)) (suc (length cs)))) (and-true (ltb (placeOf cs (at i .previous)) (i + 1))))
+      (ap (λ (b : Bool). b && (ltb (i + 1) (placeOf cs (at i .next)) && leb (placeOf cs (at i .next)) (suc (length cs))))
+      (and-true (ltb (placeOf cs (at i .previous)) (i + 1))))
 
 -- ---- by keys
 
@@ -73,7 +78,9 @@ module _ (is ps ns points ts : List ℕ) (n : ℕ) (hi : n ≤ length is) where
   -- no key stands twice
   rows-apart : {t : Table} → Tabled t (take n is) → distinct same (identifiers rows) ≡ true
   rows-apart {t} h =
-      sym (distinct-keys rows (rows-small is ps ns points ts n)) ∙ ap (distinct eqb) (rows-keys is ps ns points ts n hi) ∙ agreeing-apart t (take n is) (h .agree)
+      sym (distinct-keys rows (rows-small is ps ns points ts n))
+      ∙ ap (distinct eqb) (rows-keys is ps ns points ts n hi)
+      ∙ agreeing-apart t (take n is) (h .agree)
 
   rows-order : {t : Table} → Tabled t (take n is) → every characterInRange rows ≡ true
       → throughout (betweenAt (take n is) ps ns) (length (take n is)) ≡ every (ordered rows) rows

@@ -115,7 +115,8 @@ module _ (x : Identifier) (r : characterId x ≡ true) where
     where
       go : (ps : List Operation) → AllKeyed ps → any (eqb (key x)) (map ownKey ps) ≡ any (same x) (pendingIds ps)
       go [] t = refl
-      go (insert i ∷ ps) t = ap₂ (λ (a b : Bool). a || b) (key-same x (i .id) small (t (insert i) (List·Memᴰ·head refl) .id)) (go ps (λ o m. t o (List·Memᴰ·tail m)))
+      go (insert i ∷ ps) t = ap₂ (λ (a b : Bool). a || b) (key-same x (i .id) small (t (insert i) (List·Memᴰ·head refl) .id))
+          (go ps (λ o m. t o (List·Memᴰ·tail m)))
       go (toggle d ∷ ps) t = rw (ne-eqb (key x) 0 (λ (e : key x ≡ 0). omega (arith, large))) (go ps (λ o m. t o (List·Memᴰ·tail m)))
 
 -- ---- the characters' keys
@@ -138,7 +139,8 @@ module _ (cs : List Character) (ranges : every characterInRange cs ≡ true) whe
       let x = in-range i r .id in
       rw (unheld-characters (i .id) x cs all-small, unheld-pending (i .id) x ps a)
       (distinct-one same same-sym (ids-extract cs (extract-last (insert i) ps))
-      ∙ ap (λ (b : Bool). distinct same (identifiers cs ++ pendingIds ps) && b) (ap not (any-append (same (i .id)) (identifiers cs) (pendingIds ps)) ∙ not-or (any (same (i .id)) (identifiers cs)) _))
+      ∙ ap (λ (b : Bool). distinct same (identifiers cs ++ pendingIds ps) && b)
+      (ap not (any-append (same (i .id)) (identifiers cs) (pendingIds ps)) ∙ not-or (any (same (i .id)) (identifiers cs)) _))
   insert-step ps (toggle d) a r =
       rw (unheld-zero (keys cs), unheld-zero (map ownKey ps))
       (ap (λ (js : List Insert). distinct same (identifiers cs ++ map (λ j. j .id) js)) (inserts-same (extract-last (toggle d) ps)) ∙ sym (and-true _))
@@ -164,7 +166,8 @@ toggle-step ps (insert i) a k =
     (ap (distinct sameToggle) (toggles-same (extract-last (insert i) ps)) ∙ sym (and-true _))
 toggle-step ps (toggle d) a k =
     rw (toggle-found d k ps a)
-    (distinct-one sameToggle sameToggle-sym (toggles-extract (extract-last (toggle d) ps)) ∙ ap (λ (b : Bool). distinct sameToggle (togglesAmong ps) && not b) (any-toggles d ps))
+    (distinct-one sameToggle sameToggle-sym (toggles-extract (extract-last (toggle d) ps))
+    ∙ ap (λ (b : Bool). distinct sameToggle (togglesAmong ps) && not b) (any-toggles d ps))
 
 module _ (os : List Operation) (ranges : every inRange os ≡ true) where
   pub keyed : AllKeyed os
@@ -189,7 +192,9 @@ module _ (os : List Operation) (ranges : every inRange os ≡ true) where
       grown (λ ps. distinct sameToggle (togglesAmong ps)) (freshAt (map ownKey os) (map firstKey os) (map valueOf os)) os (blankPending .operation) step
       ∙ ap (throughout (freshAt (map ownKey os) (map firstKey os) (map valueOf os))) (sym (length-map os ownKey))
     where
-      step : (j : ℕ) → j < length os → distinct sameToggle (togglesAmong (take j os ++ operationAt j ∷ [])) ≡ distinct sameToggle (togglesAmong (take j os)) && freshAt (map ownKey os) (map firstKey os) (map valueOf os) j
+      step : (j : ℕ) → j < length os
+          → distinct sameToggle (togglesAmong (take j os ++ operationAt j ∷ []))
+          ≡ distinct sameToggle (togglesAmong (take j os)) && freshAt (map ownKey os) (map firstKey os) (map valueOf os) j
       step j h =
           rw (number ownKey j h, number firstKey j h, number valueOf j h, take-map ownKey j os, take-map firstKey j os, take-map valueOf j os)
           (toggle-step (take j os) (operationAt j) (keyed-before j) (keyed (operationAt j) (member j h)))
@@ -199,9 +204,12 @@ module _ (os : List Operation) (ranges : every inRange os ≡ true) where
     unfolding freeAt
     ids-distinct =
         grown (λ ps. distinct same (identifiers cs ++ pendingIds ps)) (freeAt (keys cs) (map ownKey os)) os (blankPending .operation) step
-        ∙ ap₂ (λ (a b : Bool). a && b) (ap (distinct same) (append-nil (identifiers cs)) ∙ characters-distinct cs character-ranges) (ap (throughout (freeAt (keys cs) (map ownKey os))) (sym (length-map os ownKey)))
+        ∙ ap₂ (λ (a b : Bool). a && b) (ap (distinct same) (append-nil (identifiers cs)) ∙ characters-distinct cs character-ranges)
+        (ap (throughout (freeAt (keys cs) (map ownKey os))) (sym (length-map os ownKey)))
       where
-        step : (j : ℕ) → j < length os → distinct same (identifiers cs ++ pendingIds (take j os ++ operationAt j ∷ [])) ≡ distinct same (identifiers cs ++ pendingIds (take j os)) && freeAt (keys cs) (map ownKey os) j
+        step : (j : ℕ) → j < length os
+            → distinct same (identifiers cs ++ pendingIds (take j os ++ operationAt j ∷ []))
+            ≡ distinct same (identifiers cs ++ pendingIds (take j os)) && freeAt (keys cs) (map ownKey os) j
         step j h =
             rw (number ownKey j h, take-map ownKey j os)
             (insert-step cs character-ranges (take j os) (operationAt j) (keyed-before j) (every-member inRange ranges (member j h)))
@@ -226,4 +234,12 @@ module _ (s : State) (character-ranges : every characterInRange (s .characters) 
       ≡ pendingFormed (keys (s .characters)) (map ownKey (s .pending)) (map firstKey (s .pending)) (map secondKey (s .pending)) (map valueOf (s .pending))
   unfolding identifiersDistinct togglesDistinct noneExecutable pendingFormed
   pending-conditions apart =
-      rw (shares, room, known-ids s, ids-distinct (s .pending) ranges (s .characters) character-ranges, apart, toggles-once (s .pending) ranges, none-executable (s .pending) ranges (s .characters) character-ranges)
+      rw (
+        shares,
+        room,
+        known-ids s,
+        ids-distinct (s .pending) ranges (s .characters) character-ranges,
+        apart,
+        toggles-once (s .pending) ranges,
+        none-executable (s .pending) ranges (s .characters) character-ranges,
+      )

@@ -33,7 +33,8 @@ key-ranged k = agree _ _ there back
         let low = within-low 1 16 (k / 65536) a in
         let high = within-high 1 16 (k / 65536) a in
         let some = within-low 1 65535 (k % 65536) (and-right (within 1 16 (k / 65536)) (within 1 65535 (k % 65536)) h) in
-        and-intro (and-intro (le-leb 65536 k (omega (arith, low))) (le-leb k 1114111 (omega (arith, high)))) (not-intro (ne-eqb (k % 65536) 0 (λ e. omega (arith, some, e))))
+        and-intro (and-intro (le-leb 65536 k (omega (arith, low))) (le-leb k 1114111 (omega (arith, high))))
+        (not-intro (ne-eqb (k % 65536) 0 (λ e. omega (arith, some, e))))
 
 pub code-ranged : (n : ℕ) → leb n 1114111 && not (leb 55296 n && leb n 57343) ≡ codePoint n
 unfolding codePoint within

@@ -41,7 +41,8 @@ module _ (ids fs ss : List ℕ) where
   ready-start = sym (further-none (readyIn ids fs ss))
 
   module _ (i : ℕ) (p : i < length fs) (q : i < length ss) where
-    step : readyLeft i ≡ further i (cond (heldIn ids (getD fs i 0) && heldIn ids (getD ss i 0)) (At 0) (further 1 (readyIn ids (drop (suc i) fs) (drop (suc i) ss))))
+    step : readyLeft i ≡ further i (cond (heldIn ids (getD fs i 0) && heldIn ids (getD ss i 0)) (At 0)
+        (further 1 (readyIn ids (drop (suc i) fs) (drop (suc i) ss))))
     unfolding readyIn
     step = rw (drop-cons fs i 0 p, drop-cons ss i 0 q)
 
@@ -78,7 +79,8 @@ module _ (cs : List Character) (s : AllSmall cs) where
       rw (held-keys (i .previous) (p .previous), held-keys (i .next) (p .next))
   both-held (toggle d) h = rw (held-begin, held-keys (d .target) (range-keyed (toggle d) h .0), and-true)
 
-  pub ready-executable : (ps : List Operation) → every inRange ps ≡ true → readyIn (keys cs) (map firstKey ps) (map secondKey ps) ≡ firstIndex (executable cs) ps
+  pub ready-executable : (ps : List Operation) → every inRange ps ≡ true
+      → readyIn (keys cs) (map firstKey ps) (map secondKey ps) ≡ firstIndex (executable cs) ps
   unfolding readyIn firstIndex
   ready-executable [] h = refl
   ready-executable (o ∷ ps) h =

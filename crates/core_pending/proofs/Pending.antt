@@ -143,7 +143,8 @@ third-second true false false = refl
 third-second false b c = refl
 
 -- the numbers of an equal toggle
-same-numbers : (t u : Toggle) → Keyed (toggle t) → Keyed (toggle u) → (eqb (valueOf (toggle t)) (valueOf (toggle u)) && eqb (key (t .target)) (key (u .target))) ≡ sameToggle t u
+same-numbers : (t u : Toggle) → Keyed (toggle t) → Keyed (toggle u)
+    → (eqb (valueOf (toggle t)) (valueOf (toggle u)) && eqb (key (t .target)) (key (u .target))) ≡ sameToggle t u
 unfolding valueOf sameToggle
 same-numbers t u p q =
     rw (stamp-same (t .sender) (t .toggles) (u .sender) (u .toggles) (p .1) (q .1), key-same (t .target) (u .target) (p .0) (q .0))

@@ -21,70 +21,102 @@ made s =
     let a = s .args in
     record {
       site = a .site;
-      document = documentAs (a .ids .now) (a .previous .now) (a .next .now) (a .code-points .now) (a .toggles .now) (a .n) (a .own .now) (a .first .now) (a .second .now) (a .values .now) (a .w) (a .heads .now) (a .links .now);
+      document =
+          documentAs (a .ids .now) (a .previous .now) (a .next .now) (a .code-points .now) (a .toggles .now) (a .n)
+          (a .own .now) (a .first .now) (a .second .now) (a .values .now) (a .w) (a .heads .now) (a .links .now);
     }
+
+-- where the function starts
+abbrev start : tie.Else1 → tie.Start
+start c = c .before .before .before .before .before .before .before .before .before .before .before .before .before
 
 full : (s : tie.Start) → FullDocument (made s .document)
 full s =
-    record { ids = s .pre .0; previous = s .pre .1 .0; next = s .pre .1 .1 .0; points = s .pre .1 .1 .1 .0; toggles = s .pre .1 .1 .1 .1 .0; own = s .pre .1 .1 .1 .1 .1 .0; first = s .pre .1 .1 .1 .1 .1 .1 .0; second = s .pre .1 .1 .1 .1 .1 .1 .1 .0; values = s .pre .1 .1 .1 .1 .1 .1 .1 .1 .0; heads = s .pre .1 .1 .1 .1 .1 .1 .1 .1 .1 .0; links = s .pre .1 .1 .1 .1 .1 .1 .1 .1 .1 .1 }
+    record {
+      ids = s .pre .0;
+      previous = s .pre .1 .0;
+      next = s .pre .1 .1 .0;
+      points = s .pre .1 .1 .1 .0;
+      toggles = s .pre .1 .1 .1 .1 .0;
+      own = s .pre .1 .1 .1 .1 .1 .0;
+      first = s .pre .1 .1 .1 .1 .1 .1 .0;
+      second = s .pre .1 .1 .1 .1 .1 .1 .1 .0;
+      values = s .pre .1 .1 .1 .1 .1 .1 .1 .1 .0;
+      heads = s .pre .1 .1 .1 .1 .1 .1 .1 .1 .1 .0;
+      links = s .pre .1 .1 .1 .1 .1 .1 .1 .1 .1 .1;
+    }
 
-kept : (c : tie.Else1) → ranged (made (c .before .before .before .before .before .before .before .before .before .before .before .before .before)) ≡ true
+kept : (c : tie.Else1) → ranged (made (start c)) ≡ true
 kept c = passed (c .before .in-ranges .ensures) (c .if1 .left)
 
 -- the test of the table
-agree : (c : tie.After-agrees-among) → let d = made (c .before .before .before .before .before .before .before .before .before .before .before .before .before .before) .document in c .agrees-among .result ≡ agrees (d .table) (take (d .length) (d .ids))
+agree : (c : tie.After-agrees-among) → let d = made (start (c .before)) .document in c .agrees-among .result ≡ agrees (d .table) (take (d .length) (d .ids))
 agree c = c .agrees-among .ensures
 
-agreed : (c : tie.Else2) → let d = made (c .before .before .before .before .before .before .before .before .before .before .before .before .before .before .before) .document in agrees (d .table) (take (d .length) (d .ids)) ≡ true
+agreed : (c : tie.Else2) → let d = made (start (c .before .before)) .document in agrees (d .table) (take (d .length) (d .ids)) ≡ true
 agreed c = passed (agree (c .before)) (c .if2 .left)
 
 -- the test of the order
-order : (c : tie.After-characters-ordered) → let r = made (c .before .before .before .before .before .before .before .before .before .before .before .before .before .before .before .before) in c .characters-ordered .result ≡ every (ordered (charactersAs r)) (charactersAs r)
+order : (c : tie.After-characters-ordered) → let r = made (start (c .before .before .before)) in
+    c .characters-ordered .result ≡ every (ordered (charactersAs r)) (charactersAs r)
 order c =
-    let s = c .before .before .before .before .before .before .before .before .before .before .before .before .before .before .before .before in
+    let s = start (c .before .before .before) in
     c .characters-ordered .ensures (s .args .code-points .now) (s .args .toggles .now) (characters-ranged (made s) (full s) (kept (c .before .before .before)))
 
 in-ranges-requires : tie.Need-in-ranges-requires
 in-ranges-requires c κs = search needs
 
 returns : tie.Need-returns
-returns c = sym (out-of-range (made (c .before .before .before .before .before .before .before .before .before .before .before .before .before)) (refused (c .before .in-ranges .ensures) (c .if1 .taken)))
+returns c =
+    sym (out-of-range (made (c .before .before .before .before .before .before .before .before .before .before .before .before .before))
+    (refused (c .before .in-ranges .ensures) (c .if1 .taken)))
 
 agrees-among-requires : tie.Need-agrees-among-requires
 agrees-among-requires c κs =
-    let s = c .before .before .before .before .before .before .before .before .before .before .before .before .before in
+    let s = start c in
     let count = few (made s) (full s) (kept c) .characters in
     (full s .heads, (omega (arith, count, full s .links), omega (arith, count, full s .ids)))
 
 returns-2 : tie.Need-returns-2
 returns-2 c =
-    let s = c .before .before .before .before .before .before .before .before .before .before .before .before .before .before .before in
+    let s = start (c .before .before) in
     sym (untabled (made s) (full s) (kept (c .before .before)) (refused (agree (c .before)) (c .if2 .taken)))
 
 characters-ordered-requires : tie.Need-characters-ordered-requires
 characters-ordered-requires c κs =
-    let s = c .before .before .before .before .before .before .before .before .before .before .before .before .before .before .before in
+    let s = start (c .before .before) in
     let ranges = kept (c .before .before) in
     let count = few (made s) (full s) ranges .characters in
-    (omega (arith, count, full s .ids), (omega (arith, count, full s .previous), (omega (arith, count, full s .next), tabled (made s) (full s) ranges (agreed c))))
+    let finds = tabled (made s) (full s) ranges (agreed c) in
+    (omega (arith, count, full s .ids), (omega (arith, count, full s .previous), (omega (arith, count, full s .next), finds)))
 
 returns-3 : tie.Need-returns-3
 returns-3 c =
-    let s = c .before .before .before .before .before .before .before .before .before .before .before .before .before .before .before .before .before in
+    let s = start (c .before .before .before .before) in
     sym (disordered (made s) (full s) (kept (c .before .before .before .before)) (agreed (c .before .before)) (refused (order (c .before)) (c .if3 .taken)))
 
 queue-formed-requires : tie.Need-queue-formed-requires
 queue-formed-requires c κs =
-    let s = c .before .before .before .before .before .before .before .before .before .before .before .before .before .before .before .before .before in
+    let s = start (c .before .before .before .before) in
     let ranges = kept (c .before .before .before .before) in
     let counts = few (made s) (full s) ranges in
     let fits = counts .pending in
-    (omega (arith, counts .characters, full s .ids), (omega (arith, fits, full s .own), (omega (arith, fits, full s .first), (omega (arith, fits, full s .second), (omega (arith, fits, full s .values), tabled (made s) (full s) ranges (agreed (c .before .before)))))))
+    let finds = tabled (made s) (full s) ranges (agreed (c .before .before)) in (
+      omega (arith, counts .characters, full s .ids),
+      (
+        omega (arith, fits, full s .own),
+        (
+          omega (arith, fits, full s .first),
+          (omega (arith, fits, full s .second), (omega (arith, fits, full s .values), finds)),
+        ),
+      ),
+    )
 
 returns-4 : tie.Need-returns-4
 returns-4 c =
-    let s = c .before .before .before .before .before .before .before .before .before .before .before .before .before .before .before .before .before .before in
-    decided (made s) (full s) (kept (c .before .before .before .before .before)) (agreed (c .before .before .before)) (passed (order (c .before .before)) (c .before .if3 .left)) (c .queue-formed .ensures)
+    let s = start (c .before .before .before .before .before) in
+    let ordered-all = passed (order (c .before .before)) (c .before .if3 .left) in
+    decided (made s) (full s) (kept (c .before .before .before .before .before)) (agreed (c .before .before .before)) ordered-all (c .queue-formed .ensures)
 
 pub check-spec : {M : Type 1} → statement M
 check-spec =

@@ -41,8 +41,8 @@ reaches-all-requires-2 c κs = search needs
 
 returns-3 : tie.Need-returns-3
 returns-3 c =
-    rw (passed (c .before .before .before .before .pending-formed .ensures) (c .before .before .before .if1 .left), passed (c .before .before .reaches-all .ensures) (c .before .if2 .left))
-    (c .reaches-all2 .ensures)
+    let formed = passed (c .before .before .before .before .pending-formed .ensures) (c .before .before .before .if1 .left) in
+    rw (formed, passed (c .before .before .reaches-all .ensures) (c .before .if2 .left)) (c .reaches-all2 .ensures)
 
 pub queue-formed-spec : {M : Type 1} → statement M
 queue-formed-spec =

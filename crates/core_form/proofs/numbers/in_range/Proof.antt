@@ -33,7 +33,8 @@ both-requires-5 : tie.Need-both-requires-5
 both-requires-5 c κs = search needs
 
 returns : tie.Need-returns
-returns c = c .both5 .ensures ∙ rw (c .before .both4 .ensures, c .before .before .both3 .ensures, c .before .before .before .next-key .ensures, c .before .before .before .before .both2 .ensures, c .before .before .before .before .before .previous-key .ensures, c .before .before .before .before .before .before .both .ensures, c .before .before .before .before .before .before .before .code-point .ensures, c .before .before .before .before .before .before .before .before .character-key .ensures) (row-ranged _ _ _ _)
+returns c = c .both5 .ensures ∙ rw
+    (c .before .both4 .ensures, c .before .before .both3 .ensures, c .before .before .before .next-key .ensures, c .before .before .before .before .both2 .ensures, c .before .before .before .before .before .previous-key .ensures, c .before .before .before .before .before .before .both .ensures, c .before .before .before .before .before .before .before .code-point .ensures, c .before .before .before .before .before .before .before .before .character-key .ensures) (row-ranged _ _ _ _)
 
 pub in-range-spec : {M : Type 1} → statement M
 in-range-spec =

@@ -21,7 +21,8 @@ both-requires-4 : tie.Need-both-requires-4
 both-requires-4 c κs = search needs
 
 returns : tie.Need-returns
-returns c = c .both4 .ensures ∙ rw (c .before .both3 .ensures, c .before .before .character-key .ensures, c .before .before .before .both2 .ensures, c .before .before .before .before .both .ensures) (toggle-ranged _ _ _)
+returns c = c .both4 .ensures ∙ rw
+    (c .before .both3 .ensures, c .before .before .character-key .ensures, c .before .before .before .both2 .ensures, c .before .before .before .before .both .ensures) (toggle-ranged _ _ _)
 
 pub toggle-in-range-spec : {M : Type 1} → statement M
 toggle-in-range-spec =

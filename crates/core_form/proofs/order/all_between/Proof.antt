@@ -61,7 +61,8 @@ returns c =
     let a = c .before .before .before .before .before .before .before .before .before .before .before .before .before .before .args in
     let l = c .before .before .before .before .before .before .before .loop in
     sym (throughout-fails (betweenAt (a .ids .now) (a .previous .now) (a .next .now)) (length (a .ids .now)) (l .i) (omega arith)
-    (reading (a .ids .now) (a .previous .now) (a .next .now) (l .i) (sym (c .before .before .before .before .place-near .ensures)) (sym (c .before .before .place-near2 .ensures)) (refused (c .before .stands-between .ensures) (c .if1 .taken))))
+    (reading (a .ids .now) (a .previous .now) (a .next .now) (l .i) (sym (c .before .before .before .before .place-near .ensures))
+    (sym (c .before .before .place-near2 .ensures)) (refused (c .before .stands-between .ensures) (c .if1 .taken))))
 
 add-i : tie.Need-add-i Inv-loop μ-loop
 add-i c = omega arith
@@ -76,7 +77,8 @@ loop-again c =
       omega arith,
       l .inv .1,
       throughout-more (betweenAt (a .ids .now) (a .previous .now) (a .next .now)) (l .i) (l .inv .2)
-          (reading (a .ids .now) (a .previous .now) (a .next .now) (l .i) (sym (c .before .before .before .before .place-near .ensures)) (sym (c .before .before .place-near2 .ensures)) (passed (c .before .stands-between .ensures) (c .if1 .left))),
+          (reading (a .ids .now) (a .previous .now) (a .next .now) (l .i) (sym (c .before .before .before .before .place-near .ensures))
+          (sym (c .before .before .place-near2 .ensures)) (passed (c .before .stands-between .ensures) (c .if1 .left))),
     )
 
 returns-2 : tie.Need-returns-2 Inv-loop μ-loop

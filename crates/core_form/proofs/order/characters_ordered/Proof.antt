@@ -17,8 +17,9 @@ all-between-requires c κs =
 returns : tie.Need-returns
 returns c =
     let s = c .before .before .before .before .before .before .before in
+    let a = s .args in
     λ points toggles.
-    rows-ordered (s .args .ids .now) (s .args .previous .now) (s .args .next .now) points toggles (s .args .n) (s .pre .0) (s .pre .1 .1 .1) (c .all-between .ensures)
+    rows-ordered (a .ids .now) (a .previous .now) (a .next .now) points toggles (a .n) (s .pre .0) (s .pre .1 .1 .1) (c .all-between .ensures)
 
 pub characters-ordered-spec : {M : Type 1} → statement M
 characters-ordered-spec = tie.close (tie.spec slice-aggregate-all-between all-between-requires returns)

@@ -39,7 +39,8 @@ returns : tie.Need-returns Inv-loop μ-loop
 returns c =
     let a = c .before .before .before .before .before .before .before .before .before .args in
     let l = c .before .before .before .before .loop in
-    sym (throughout-fails (freeAt (a .ids .now) (a .own .now)) (length (a .own .now)) (l .j) (omega arith) (reading _ _ _ (refused (c .before .unheld .ensures) (c .if1 .taken)) refl))
+    sym (throughout-fails (freeAt (a .ids .now) (a .own .now)) (length (a .own .now)) (l .j) (omega arith)
+    (reading _ _ _ (refused (c .before .unheld .ensures) (c .if1 .taken)) refl))
 
 slice-aggregate-unseen : tie.Need-slice-aggregate-unseen Inv-loop μ-loop
 slice-aggregate-unseen c = simp length-take (omega arith)
@@ -51,7 +52,9 @@ returns-2 : tie.Need-returns-2 Inv-loop μ-loop
 returns-2 c =
     let a = c .before .before .before .before .before .before .before .before .before .before .before .before .args in
     let l = c .before .before .before .before .before .before .before .loop in
-    sym (throughout-fails (freeAt (a .ids .now) (a .own .now)) (length (a .own .now)) (l .j) (omega arith) (reading _ _ _ (passed (c .before .before .before .before .unheld .ensures) (c .before .before .before .if1 .left)) (refused (c .before .unseen .ensures) (c .if2 .taken))))
+    sym (throughout-fails (freeAt (a .ids .now) (a .own .now)) (length (a .own .now)) (l .j) (omega arith)
+    (reading _ _ _ (passed (c .before .before .before .before .unheld .ensures) (c .before .before .before .if1 .left))
+    (refused (c .before .unseen .ensures) (c .if2 .taken))))
 
 add-j : tie.Need-add-j Inv-loop μ-loop
 add-j c = omega arith
@@ -62,8 +65,12 @@ loop-less c = omega arith
 loop-again : tie.Need-loop-again Inv-loop μ-loop
 loop-again c =
     let a = c .before .before .before .before .before .before .before .before .before .before .before .before .args in
-    let l = c .before .before .before .before .before .before .before .loop in
-    (omega arith, throughout-more (freeAt (a .ids .now) (a .own .now)) (l .j) (l .inv .1) (reading _ _ _ (passed (c .before .before .before .before .unheld .ensures) (c .before .before .before .if1 .left)) (passed (c .before .unseen .ensures) (c .if2 .left))))
+    let l = c .before .before .before .before .before .before .before .loop in (
+      omega arith,
+      throughout-more (freeAt (a .ids .now) (a .own .now)) (l .j) (l .inv .1)
+          (reading _ _ _ (passed (c .before .before .before .before .unheld .ensures) (c .before .before .before .if1 .left))
+          (passed (c .before .unseen .ensures) (c .if2 .left))),
+    )
 
 returns-3 : tie.Need-returns-3 Inv-loop μ-loop
 returns-3 c =

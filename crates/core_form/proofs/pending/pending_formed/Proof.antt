@@ -34,6 +34,24 @@ no-room : (ids own : List ℕ) (n : ℕ) → Inserts own n → 1024 < length ids
 unfolding roomKept
 no-room ids own n e h = rw (← e) (lt-leb _ _ h)
 
+-- where the function starts
+abbrev start : tie.Else1 → tie.Start
+start c = c .before .before .before .before .before .before .before .before .before
+
+-- the tests that are passed
+shares : (c : tie.Else1) → sharesIn (start c .args .own .now) (start c .args .values .now) ≡ true
+shares c = passed (c .before .shares-kept .ensures) (c .if1 .left)
+
+fits : (c : tie.Else2) → let a = start (c .before .before) .args in roomKept (a .ids .now) (a .own .now) ≡ true
+fits c = room _ _ _ (c .before .count-inserts .ensures) (omega (arith, c .if2 .left))
+
+fresh : (c : tie.Else3) → let a = start (c .before .before .before .before) .args in keysNew (a .ids .now) (a .own .now) ≡ true
+fresh c = passed (c .before .keys-new .ensures) (c .if3 .left)
+
+once : (c : tie.Else4) → let a = start (c .before .before .before .before .before .before) .args in
+    noneRepeated (a .own .now) (a .first .now) (a .values .now) ≡ true
+once c = passed (c .before .none-repeated .ensures) (c .if4 .left)
+
 shares-kept-requires : tie.Need-shares-kept-requires
 shares-kept-requires c κs = search needs
 
@@ -44,28 +62,35 @@ count-inserts-requires : tie.Need-count-inserts-requires
 count-inserts-requires c κs = search needs
 
 add-if2 : tie.Need-add-if2
-add-if2 c = omega (arith, c .count-inserts .ensures, keep-length (λ (k : ℕ). not (eqb k 0)) (c .before .before .before .before .before .before .before .before .before .before .args .own .now))
+add-if2 c = omega (arith, c .count-inserts .ensures, keep-length (λ (k : ℕ). not (eqb k 0)) (start (c .before) .args .own .now))
 
 returns-2 : tie.Need-returns-2
-returns-2 c = sym (reading _ _ _ _ _ (passed (c .before .before .before .shares-kept .ensures) (c .before .before .if1 .left)) (no-room _ _ _ (c .before .count-inserts .ensures) (omega (arith, c .if2 .taken))) refl refl refl)
+returns-2 c = sym (reading _ _ _ _ _ (shares (c .before .before))
+    (no-room _ _ _ (c .before .count-inserts .ensures) (omega (arith, c .if2 .taken))) refl refl refl)
 
 keys-new-requires : tie.Need-keys-new-requires
 keys-new-requires c κs = search needs
 
 returns-3 : tie.Need-returns-3
-returns-3 c = sym (reading _ _ _ _ _ (passed (c .before .before .before .before .before .shares-kept .ensures) (c .before .before .before .before .if1 .left)) (room _ _ _ (c .before .before .before .count-inserts .ensures) (omega (arith, c .before .before .if2 .left))) (refused (c .before .keys-new .ensures) (c .if3 .taken)) refl refl)
+returns-3 c = sym (reading _ _ _ _ _ (shares (c .before .before .before .before)) (fits (c .before .before))
+    (refused (c .before .keys-new .ensures) (c .if3 .taken)) refl refl)
 
 none-repeated-requires : tie.Need-none-repeated-requires
 none-repeated-requires c κs = search needs
 
 returns-4 : tie.Need-returns-4
-returns-4 c = sym (reading _ _ _ _ _ (passed (c .before .before .before .before .before .before .before .shares-kept .ensures) (c .before .before .before .before .before .before .if1 .left)) (room _ _ _ (c .before .before .before .before .before .count-inserts .ensures) (omega (arith, c .before .before .before .before .if2 .left))) (passed (c .before .before .before .keys-new .ensures) (c .before .before .if3 .left)) (refused (c .before .none-repeated .ensures) (c .if4 .taken)) refl)
+returns-4 c =
+    let repeated = refused (c .before .none-repeated .ensures) (c .if4 .taken) in
+    sym (reading _ _ _ _ _ (shares (c .before .before .before .before .before .before)) (fits (c .before .before .before .before))
+    (fresh (c .before .before)) repeated refl)
 
 none-ready-requires : tie.Need-none-ready-requires
 none-ready-requires c κs = search needs
 
 returns-5 : tie.Need-returns-5
-returns-5 c = sym (reading _ _ _ _ _ (passed (c .before .before .before .before .before .before .before .before .shares-kept .ensures) (c .before .before .before .before .before .before .before .if1 .left)) (room _ _ _ (c .before .before .before .before .before .before .count-inserts .ensures) (omega (arith, c .before .before .before .before .before .if2 .left))) (passed (c .before .before .before .before .keys-new .ensures) (c .before .before .before .if3 .left)) (passed (c .before .before .none-repeated .ensures) (c .before .if4 .left)) (sym (c .none-ready .ensures)))
+returns-5 c =
+    sym (reading _ _ _ _ _ (shares (c .before .before .before .before .before .before .before)) (fits (c .before .before .before .before .before))
+    (fresh (c .before .before .before)) (once (c .before)) (sym (c .none-ready .ensures)))
 
 pub pending-formed-spec : {M : Type 1} → statement M
 pending-formed-spec =

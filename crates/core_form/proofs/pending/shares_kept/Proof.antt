@@ -33,7 +33,8 @@ unfolding sharesIn
 returns c =
     let a = c .before .before .before .before .before .before .args in
     let l = c .before .before .before .loop in
-    sym (numbers-fail (senderWithin (a .own .now) (a .values .now)) lastSite (l .site) (omega arith) (rw (← c .before .count-sender .ensures) (lt-leb _ _ (c .if1 .taken))))
+    sym (numbers-fail (senderWithin (a .own .now) (a .values .now)) lastSite (l .site) (omega arith)
+    (rw (← c .before .count-sender .ensures) (lt-leb _ _ (c .if1 .taken))))
 
 loop-less : tie.Need-loop-less Inv-loop μ-loop
 loop-less c = omega arith
@@ -41,8 +42,11 @@ loop-less c = omega arith
 loop-again : tie.Need-loop-again Inv-loop μ-loop
 loop-again c =
     let a = c .before .before .before .before .before .before .args in
-    let l = c .before .before .before .loop in
-    (omega arith, numbers-more (senderWithin (a .own .now) (a .values .now)) (l .site) (l .inv .1) (rw (← c .before .count-sender .ensures) (le-leb _ _ (c .if1 .left))))
+    let l = c .before .before .before .loop in (
+      omega arith,
+      numbers-more (senderWithin (a .own .now) (a .values .now)) (l .site) (l .inv .1)
+          (rw (← c .before .count-sender .ensures) (le-leb _ _ (c .if1 .left))),
+    )
 
 returns-2 : tie.Need-returns-2 Inv-loop μ-loop
 unfolding sharesIn

@@ -27,7 +27,8 @@ returns-3 : tie.Need-returns-3
 returns-3 c = sym (found-held _ _ _ (c .before .before .before .before .if1 .left) (sym (c .before .before .find .ensures) ∙ c .enum-told .given .1))
 
 returns-4 : tie.Need-returns-4
-returns-4 c = sym (nothing-unheld _ _ (c .before .before .before .before .if1 .left) (c .before .before .before .if2 .left) (sym (c .before .before .find .ensures) ∙ c .enum-told2 .given .1))
+returns-4 c = sym (nothing-unheld _ _ (c .before .before .before .before .if1 .left) (c .before .before .before .if2 .left)
+    (sym (c .before .before .find .ensures) ∙ c .enum-told2 .given .1))
 
 pub unseen-spec : {M : Type 1} → statement M
 unseen-spec = tie.close (tie.spec returns returns-2 find-requires enum-told enum-told-2 returns-3 returns-4)

@@ -52,8 +52,20 @@ loop-again c =
     let a = c .before .before .before .before .before .before .before .before .before .args in
     let l = c .before .before .before .before .before .loop in
     let e = c .before .sender-of .ensures in
-    ⊎-elim (λ w. (omega arith, l .inv .1, omega arith, omega (arith, sent-counted (a .own .now) (a .values .now) (l .i) _ (a .sender) (omega arith) (omega arith) e (omega (arith, w .0 .taken)))))
-    (λ w. (omega arith, l .inv .1, omega arith, omega (arith, sent-passed (a .own .now) (a .values .now) (l .i) _ (a .sender) (omega arith) (omega arith) e (λ h. omega (arith, w .0 .left, h)))))
+    ⊎-elim (λ w. (
+      omega arith,
+      l .inv .1,
+      omega arith,
+      omega
+          (arith, sent-counted (a .own .now) (a .values .now) (l .i) _ (a .sender) (omega arith) (omega arith) e (omega (arith, w .0 .taken))),
+    ))
+    (λ w. (
+      omega arith,
+      l .inv .1,
+      omega arith,
+      omega
+          (arith, sent-passed (a .own .now) (a .values .now) (l .i) _ (a .sender) (omega arith) (omega arith) e (λ h. omega (arith, w .0 .left, h))),
+    ))
     (c .if1 .came)
 
 returns : tie.Need-returns Inv-loop μ-loop

@@ -41,7 +41,8 @@ returns : tie.Need-returns Inv-loop μ-loop
 returns c =
     let a = c .before .before .before .before .before .before .before .before .before .before .before .before .args in
     let l = c .before .before .before .before .before .loop in
-    sym (l .inv .2 ∙ ready-here (a .ids .now) (a .first .now) (a .second .now) (l .i) (omega arith) (omega arith) (rw (c .before .are-held .ensures) at (c .if1 .taken)))
+    sym (l .inv .2 ∙ ready-here (a .ids .now) (a .first .now) (a .second .now) (l .i) (omega arith) (omega arith)
+    (rw (c .before .are-held .ensures) at (c .if1 .taken)))
 
 add-i : tie.Need-add-i Inv-loop μ-loop
 add-i c = omega arith
@@ -52,8 +53,12 @@ loop-less c = omega arith
 loop-again : tie.Need-loop-again Inv-loop μ-loop
 loop-again c =
     let a = c .before .before .before .before .before .before .before .before .before .before .before .before .args in
-    let l = c .before .before .before .before .before .loop in
-    (omega arith, l .inv .1, l .inv .2 ∙ ready-passed (a .ids .now) (a .first .now) (a .second .now) (l .i) (omega arith) (omega arith) (rw (c .before .are-held .ensures) at (c .if1 .left)))
+    let l = c .before .before .before .before .before .loop in (
+      omega arith,
+      l .inv .1,
+      l .inv .2 ∙ ready-passed (a .ids .now) (a .first .now) (a .second .now) (l .i) (omega arith) (omega arith)
+          (rw (c .before .are-held .ensures) at (c .if1 .left)),
+    )
 
 returns-2 : tie.Need-returns-2 Inv-loop μ-loop
 returns-2 c =
