@@ -65,6 +65,14 @@ module _ (x : Toggle) where
       ap₂ (λ (n : ℕ) (ns : List ℕ). n ∷ ns) (toggled-toggles x c ∙ rw other)
       (none-toggled cs (or-false-right (same (x .target) (c .id)) _ e))
 
+  targeted-ids : (cs : List Character) → any targeted cs ≡ any (same (x .target)) (identifiers cs)
+  targeted-ids [] = refl
+  targeted-ids (c ∷ cs) = ap (λ (b : Bool). same (x .target) (c .id) || b) (targeted-ids cs)
+
+  -- where none is the target, every count is as it was
+  pub column-untoggled : (cs : List Character) → any targeted cs ≡ false → toggleCounts (integrateToggle cs x) ≡ toggleCounts cs
+  column-untoggled cs e = none-toggled cs (sym (targeted-ids cs) ∙ e)
+
   -- the count in the target's slot is the larger one
   pub column-toggled : (cs : List Character) → distinct same (identifiers cs) ≡ true → (k : ℕ) → firstIndex targeted cs ≡ At k
       → toggleCounts (integrateToggle cs x) ≡ set (toggleCounts cs) k (max (getD (toggleCounts cs) k 0) (x .toggles))

@@ -1,0 +1,4 @@
+pub mod Works
+pub mod Changes
+pub mod Stepping
+pub mod Carrying
