@@ -1,2 +1,3 @@
 pub mod Visibility
 pub mod Texts
+pub mod Shown

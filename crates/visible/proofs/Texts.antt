@@ -42,7 +42,7 @@ module _ (c : Character) where
       go true = let n = printed (c .«code_point») in omega (arith, length-encode n, length-bounds n .1)
       go false = zero-le
 
-text-cons : (c : Character) (cs : List Character) → text (c ∷ cs) ≡ spelt c ++ text cs
+pub text-cons : (c : Character) (cs : List Character) → text (c ∷ cs) ≡ spelt c ++ text cs
 unfolding text encoded spelt
 text-cons c cs = go (isVisible c)
   where

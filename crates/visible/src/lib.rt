@@ -1,5 +1,7 @@
 // The visible characters of a document: how many there are, those beside an insertion point, and their text. A count
 // above the slots is taken as all of them.
+pub mod columns;
+
 use woot::Character;
 use woot::Identifier;
 use woot::Refusal;

@@ -1,0 +1,24 @@
+-- `visible::columns::left` meets its contract: past the begin mark the visible characters are counted from 0.
+use Prim.Native.Nat.{_-_}
+use mathlib.Core.Path.{sym, _∙_}
+use Rattle.visible.proofs.Shown.{left-key}
+use Rattle.woot.specs.Calls.{visibles}
+use Rattle.index.proofs.Keys.{key-begin}
+use borrow.Author.Needs.{needs}
+use Rattle.visible.proofs.columns.left.Statement.{statement}
+use Rattle.visible.proofs.columns.left.Tie as tie
+
+returns : tie.Need-returns
+returns c cs e f = rw (c .if1 .taken) (sym key-begin)
+
+sub-key-of : tie.Need-sub-key-of
+sub-key-of c = search needs
+
+key-of-requires : tie.Need-key-of-requires
+key-of-requires c κs = search needs
+
+returns-2 : tie.Need-returns-2
+returns-2 c cs e f = c .key-of .ensures cs e f ∙ left-key (visibles cs) (c .before .before .before .before .args .point) (c .before .if1 .left)
+
+pub left-spec : {M : Type 1} → statement M
+left-spec = tie.close (tie.spec returns sub-key-of key-of-requires returns-2)

@@ -1,0 +1,18 @@
+-- `visible::columns::right` meets its contract: the end mark after the visible characters is what stands where none
+-- does.
+use Prim.Native.Nat.{_-_}
+use mathlib.Core.Path.{_∙_}
+use Rattle.visible.proofs.Shown.{right-key}
+use Rattle.woot.specs.Calls.{visibles}
+use borrow.Author.Needs.{needs}
+use Rattle.visible.proofs.columns.right.Statement.{statement}
+use Rattle.visible.proofs.columns.right.Tie as tie
+
+key-of-requires : tie.Need-key-of-requires
+key-of-requires c κs = search needs
+
+returns : tie.Need-returns
+returns c cs e f = c .key-of .ensures cs e f ∙ right-key (visibles cs) (c .before .before .before .args .point)
+
+pub right-spec : {M : Type 1} → statement M
+right-spec = tie.close (tie.spec key-of-requires returns)
