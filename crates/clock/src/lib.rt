@@ -1,5 +1,7 @@
 // A site's clock, which follows the inserts that have its number: raised by one that is heard, and by all that a
 // document holds. (Document 02, Req 04.)
+pub mod keyed;
+
 use woot::Character;
 use woot::Identifier;
 use woot::Insert;

@@ -1,5 +1,5 @@
 -- `visible::columns::key_of` meets its contract: the key in the slot that was found, which is one of the n.
-use Prim.Native.Nat.{_-_, _<_}
+use Prim.Native.Nat.{_<_}
 use mathlib.Core.Path.{sym, _∙_}
 use Rattle.visible.proofs.Shown.{slot-within, slot-key, key-none}
 use borrow.Author.Needs.{needs}

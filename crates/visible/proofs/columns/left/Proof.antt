@@ -1,5 +1,4 @@
 -- `visible::columns::left` meets its contract: past the begin mark the visible characters are counted from 0.
-use Prim.Native.Nat.{_-_}
 use mathlib.Core.Path.{sym, _∙_}
 use Rattle.visible.proofs.Shown.{left-key}
 use Rattle.woot.specs.Calls.{visibles}

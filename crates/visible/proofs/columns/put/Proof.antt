@@ -1,5 +1,4 @@
 -- `visible::columns::put` meets its contract: a hidden character leaves the slice and the offset.
-use Prim.Native.Nat.{_-_}
 use mathlib.Core.Path.{sym}
 use borrow.Author.Tests.{eq-eqb, ne-eqb}
 use Rattle.visible.proofs.Texts.{placed-none, past-none}

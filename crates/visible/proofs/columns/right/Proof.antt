@@ -1,6 +1,5 @@
 -- `visible::columns::right` meets its contract: the end mark after the visible characters is what stands where none
 -- does.
-use Prim.Native.Nat.{_-_}
 use mathlib.Core.Path.{_∙_}
 use Rattle.visible.proofs.Shown.{right-key}
 use Rattle.woot.specs.Calls.{visibles}

@@ -1,5 +1,4 @@
 -- `visible::columns::size` meets its contract: a hidden character adds nothing.
-use Prim.Native.Nat.{_-_}
 use mathlib.Core.Path.{sym}
 use borrow.Author.Tests.{eq-eqb, ne-eqb}
 use Rattle.utf8.proofs.Laws.{length-encode}

@@ -1,5 +1,5 @@
 -- `visible::columns::write_text` meets its contract: the text's length decides, and a text that has no room is not placed.
-use Prim.Native.Nat.{ℕ, _-_}
+use Prim.Native.Nat.{ℕ}
 use mathlib.Core.Path.{_≡_}
 use lib.ListN.{take}
 use mathlib.Core.List.{List}
