@@ -4,3 +4,4 @@ pub mod Anchors
 pub mod Counting
 pub mod Receiving
 pub mod Moving
+pub mod Slots

@@ -13,11 +13,17 @@ use Rattle.woot.specs.declared.Answer.the-variants.{Done, Deferred, Duplicate, 
 use Rattle.woot.specs.Answers.{number}
 use Rattle.woot.specs.Calls.{visibles}
 use Rattle.woot.specs.Cursor.{leftOf}
+use Rattle.woot.specs.Table.{key}
 use Rattle.cursor.specs.declared.Anchor.{Anchor}
+use Rattle.cursor.specs.declared.columns.KeyedAnchor.{KeyedAnchor}
 
 -- what stands on the left of gap g, and whether the gap is beyond the visible characters
 unfoldable pub anchorOf : List Character → ℕ → Anchor
 anchorOf cs g = record { left = leftOf cs g; beyond = ltb (length (visibles cs)) g }
+
+-- the same with its key
+unfoldable pub keyedAnchorOf : List Character → ℕ → KeyedAnchor
+keyedAnchorOf cs g = record { left = key (anchorOf cs g .left); beyond = anchorOf cs g .beyond }
 
 -- of a refusal and 4, the one that comes first in receiving
 unfoldable pub before4 : Refusal → Refusal

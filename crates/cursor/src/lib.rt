@@ -1,6 +1,8 @@
 // Receiving with an editor's cursor, which stands at an insertion point and keeps to what stands on its left: that is
 // taken down before the call, and the visible characters through it are counted afterwards. The steps take a document
 // and hand on a few numbers, so that no copy of a replica is kept over the call. (Document 02, Req 02.)
+pub mod columns;
+
 use woot::Answer;
 use woot::Document;
 use woot::Identifier;
