@@ -1,4 +1,6 @@
 // Saved replicas from one form to the other: the way forward reads the first form, and the way back writes it.
+pub mod columns;
+
 use saved::LoadAnswer;
 use saved::Version;
 use woot::Character;

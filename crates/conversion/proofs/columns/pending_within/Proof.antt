@@ -1,0 +1,88 @@
+-- `conversion::columns::pending_within` meets its contract. The loop's invariant: the first j operations pass.
+use Prim.Native.Nat.{ℕ, _-_, _≤_}
+use mathlib.Core.List.{List}
+use mathlib.Core.Path.{_≡_, refl, sym, _∙_}
+use mathlib.Core.Bool.{Bool, true}
+use borrow.Author.Tests.{not-true, not-false}
+use lib.ListN.{getD}
+use Rattle.lists.specs.Lists.{throughout}
+use Rattle.lists.proofs.Throughout.{throughout-more, throughout-fails}
+use borrow.Author.Needs.{needs}
+use native.Mathlib.Omega.{arith}
+use Rattle.conversion.specs.Columns.{numbersWithin}
+use Rattle.conversion.proofs.columns.pending_within.Statement.{statement}
+use Rattle.conversion.proofs.columns.pending_within.Tie as tie
+
+-- the operation in a slot passes
+abbrev within : List ℕ → List ℕ → ℕ → Bool
+within own values j = numbersWithin (getD own j 0) (getD values j 0)
+
+abbrev Inv-loop : tie.InvT-loop
+Inv-loop own values w j₀ j = (j ≤ w) × (throughout (within own values) j ≡ true)
+
+abbrev μ-loop : tie.MeasureT-loop
+μ-loop own values w j₀ j = w - j
+
+loop-holds : tie.Need-loop-holds Inv-loop μ-loop
+loop-holds c = (omega arith, refl)
+
+mul-operation-within : tie.Need-mul-operation-within Inv-loop μ-loop
+mul-operation-within c = omega arith
+
+shared-slice-read-operation-within : tie.Need-shared-slice-read-operation-within Inv-loop μ-loop
+shared-slice-read-operation-within c = omega arith
+
+mul-operation-within-2 : tie.Need-mul-operation-within-2 Inv-loop μ-loop
+mul-operation-within-2 c = omega arith
+
+shared-slice-read-operation-within-2 :
+    tie.Need-shared-slice-read-operation-within-2 Inv-loop μ-loop
+shared-slice-read-operation-within-2 c = omega arith
+
+operation-within-requires : tie.Need-operation-within-requires Inv-loop μ-loop
+operation-within-requires c κs = search needs
+
+returns : tie.Need-returns Inv-loop μ-loop
+returns c =
+    let a = c .before .before .before .before .before .before .before .before .args in
+    let l = c .before .before .before .before .before .loop in
+    let here = sym (c .before .operation-within .ensures) ∙ not-true _ (c .if1 .taken) in
+    sym (throughout-fails (within (a .own .now) (a .values .now)) (a .w) (l .j) (omega arith) here)
+
+add-j : tie.Need-add-j Inv-loop μ-loop
+add-j c = omega arith
+
+loop-less : tie.Need-loop-less Inv-loop μ-loop
+loop-less c = omega arith
+
+loop-again : tie.Need-loop-again Inv-loop μ-loop
+loop-again c =
+    let a = c .before .before .before .before .before .before .before .before .args in
+    let l = c .before .before .before .before .before .loop in
+    let here = sym (c .before .operation-within .ensures) ∙ not-false _ (c .if1 .left) in
+    (omega arith, throughout-more (within (a .own .now) (a .values .now)) (l .j) (l .inv .1) here)
+
+returns-2 : tie.Need-returns-2 Inv-loop μ-loop
+returns-2 c =
+    let a = c .before .before .before .before .args in
+    let l = c .before .loop in
+    let done : l .j ≡ a .w = omega arith in
+    rw (← done) (sym (l .inv .1))
+
+pub pending-within-spec : {M : Type 1} → statement M
+pending-within-spec =
+    tie.close
+    (tie.spec
+    Inv-loop
+    μ-loop
+    loop-holds
+    mul-operation-within
+    shared-slice-read-operation-within
+    mul-operation-within-2
+    shared-slice-read-operation-within-2
+    operation-within-requires
+    returns
+    add-j
+    loop-less
+    loop-again
+    returns-2)
