@@ -9,8 +9,8 @@ use lib.ListN.{length}
 use Rattle.woot.specs.declared.Site.{Site}
 use Rattle.woot.specs.declared.Operation.{Operation}
 use Rattle.woot.specs.declared.Character.{Character}
-use Rattle.woot.specs.declared.memory.Replica.{Replica}
-use Rattle.woot.specs.Memory.{stored}
+use Rattle.memory.specs.Columns.{Replica}
+use Rattle.memory.specs.Columns.{stored}
 use Rattle.woot.specs.Pending.{drain}
 use Rattle.convergence.specs.Invariants.{Sound}
 use Rattle.convergence.proofs.Shares.{pending-bound}

@@ -16,12 +16,13 @@ use Rattle.woot.specs.declared.Toggle.{Toggle}
 use Rattle.woot.specs.declared.Operation.{Operation}
 use Rattle.woot.specs.declared.Character.{Character}
 use Rattle.woot.specs.declared.Table.{Table}
-use Rattle.woot.specs.declared.memory.Document.{Document}
+use Rattle.memory.specs.Columns.{Document}
 use Rattle.woot.specs.Identifiers.{same}
 use Rattle.woot.specs.Operations.{character, withToggles}
 use Rattle.woot.specs.Placing.{identifiers, insertAt, integrateToggle}
 use Rattle.woot.specs.Table.{key, keys, tableOf}
-use Rattle.woot.specs.Memory.{charactersIn, ownKey, firstKey, secondKey, valueOf, toggleCounts}
+use Rattle.woot.specs.Memory.{ownKey, firstKey, secondKey, valueOf, toggleCounts}
+use Rattle.memory.specs.Columns.{charactersIn}
 use Rattle.convergence.proofs.Toggling.{toggle-length}
 use Rattle.index.specs.declared.Found.{Found}
 use Rattle.index.specs.declared.Found.the-variants.{At, Nothing}

@@ -14,13 +14,14 @@ use Rattle.woot.specs.declared.Toggle.{Toggle}
 use Rattle.woot.specs.declared.Operation.{Operation}
 use Rattle.woot.specs.declared.Operation.the-variants.{Insert as insert, Toggle as toggle}
 use Rattle.woot.specs.declared.Character.{Character}
-use Rattle.woot.specs.declared.memory.Document.{Document}
+use Rattle.memory.specs.Columns.{Document}
 use Rattle.woot.specs.Operations.{character, inserts}
 use Rattle.woot.specs.Placing.{insertAt, integrateToggle}
 use Rattle.woot.specs.Ranges.{inRange}
 use Rattle.woot.specs.State.{blankPending}
 use Rattle.woot.specs.Table.{key, keys}
-use Rattle.woot.specs.Memory.{operationAt, charactersIn, operationsIn, previousKeys, nextKeys, firstKey, secondKey}
+use Rattle.woot.specs.Memory.{operationAt, previousKeys, nextKeys, firstKey, secondKey}
+use Rattle.memory.specs.Columns.{charactersIn, operationsIn}
 use Rattle.woot.specs.Pending.{executable, crossed, unplaceable, integrate, Extracted, earliest, andIntegrated, andDiscarded, drained}
 use Rattle.lists.proofs.Tests.{or-false-left, or-false-right}
 use Rattle.convergence.proofs.Extract.{Extract, extract-length}

@@ -18,14 +18,15 @@ use Rattle.woot.specs.declared.Operation.{Operation}
 use Rattle.woot.specs.declared.Operation.the-variants.{Insert as insert, Toggle as toggle}
 use Rattle.woot.specs.declared.Character.{Character}
 use Rattle.woot.specs.declared.Table.{Table}
-use Rattle.woot.specs.declared.memory.Document.{Document}
+use Rattle.memory.specs.Columns.{Document}
 use Rattle.woot.specs.Identifiers.{same}
 use Rattle.woot.specs.Operations.{character}
 use Rattle.woot.specs.Ranges.{characterInRange, inRange}
 use Rattle.woot.specs.Placing.{identifiers, insertAt, integrateToggle}
 use Rattle.woot.specs.Pending.{executable, crossed, unplaceable, integrate}
 use Rattle.woot.specs.Table.{keys, tableOf}
-use Rattle.woot.specs.Memory.{charactersIn, operationsIn, operationAt, operationsOf, documentOf}
+use Rattle.woot.specs.Memory.{operationAt, operationsOf}
+use Rattle.memory.specs.Columns.{charactersIn, operationsIn, documentOf}
 use Rattle.convergence.specs.Invariants.{Sound}
 use Rattle.index.specs.Keys.{AllSmall}
 use Rattle.index.specs.Tabled.{Tabled}

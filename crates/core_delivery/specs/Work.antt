@@ -12,12 +12,12 @@ use Rattle.woot.specs.declared.Insert.{Insert}
 use Rattle.woot.specs.declared.Toggle.{Toggle}
 use Rattle.woot.specs.declared.Operation.{Operation}
 use Rattle.woot.specs.declared.Character.{Character}
-use Rattle.woot.specs.declared.memory.Document.{Document}
+use Rattle.memory.specs.Columns.{Document}
 use Rattle.woot.specs.Identifiers.{same}
 use Rattle.woot.specs.Limits.{capacity}
 use Rattle.woot.specs.Operations.{character}
 use Rattle.woot.specs.Ranges.{inRange}
-use Rattle.woot.specs.Memory.{charactersIn, operationsIn, documentOf}
+use Rattle.memory.specs.Columns.{charactersIn, operationsIn, documentOf}
 use Rattle.woot.specs.Placing.{identifiers, insertAt, integrateInsert}
 use Rattle.woot.specs.Pending.{executable, crossed, unplaceable, integrate, Extracted, earliest, Drained, drain}
 use Rattle.convergence.specs.Invariants.{Sound}

@@ -18,7 +18,7 @@ ghost use Rattle.index.specs.declared.Found.the-variants.{At};
 ghost use Rattle.index.specs.Keys.{found};
 ghost use Rattle.index.specs.Tabled.{Tabled};
 ghost use Rattle.memory.specs.Lent.{documentAs};
-ghost use Rattle.woot.specs.Memory.{charactersIn, operationsIn, documentOf};
+ghost use Rattle.memory.specs.Columns.{charactersIn, operationsIn, documentOf};
 ghost use Rattle.woot.specs.Placing.{integrateInsert, integrateToggle};
 ghost use Rattle.woot.specs.Table.{key};
 ghost use Rattle.core_delivery.specs.Work.{Lent, workAs, Workable, Placed, Targeted, dueIn, steppedIn, finishedIn};

@@ -12,13 +12,14 @@ use Rattle.lists.specs.Lists.{every, distinct}
 use Rattle.lists.proofs.Tests.{either, and-left, and-right, and-false, three}
 use Rattle.woot.specs.declared.Character.{Character}
 use Rattle.woot.specs.declared.Operation.{Operation}
-use Rattle.woot.specs.declared.memory.Replica.{Replica}
+use Rattle.memory.specs.Columns.{Replica}
 use Rattle.woot.specs.Ranges.{siteInRange, characterInRange, inRange}
 use Rattle.woot.specs.Form.{allInRange, sharesKept, capacityKept, identifiersDistinct, togglesDistinct, ordered, neighboursOrdered, noneExecutable, clockKept}
 use Rattle.woot.specs.Form.{wellFormed}
 use Rattle.woot.specs.Table.{keys, agrees}
-use Rattle.woot.specs.Memory.{ownKey, firstKey, secondKey, valueOf, charactersOf, operationsOf, charactersIn, operationsIn, meaning, counted, tableAgrees}
-use Rattle.woot.specs.Memory.{replicaWellFormed}
+use Rattle.woot.specs.Memory.{ownKey, firstKey, secondKey, valueOf, charactersOf, operationsOf}
+use Rattle.memory.specs.Columns.{charactersIn, operationsIn, meaning, counted, tableAgrees}
+use Rattle.memory.specs.Columns.{replicaWellFormed}
 use Rattle.index.specs.Tabled.{Tabled}
 use Rattle.index.proofs.Agreement.{agreeing-apart}
 use Rattle.memory.proofs.Fullness.{FullDocument}

@@ -11,7 +11,7 @@ use Rattle.lists.specs.Lists.{keep}
 use Rattle.lists.proofs.Members.{get-member, every-member}
 use Rattle.woot.specs.declared.Character.{Character}
 use Rattle.woot.specs.declared.Operation.{Operation}
-use Rattle.woot.specs.declared.memory.Replica.{Replica}
+use Rattle.memory.specs.Columns.{Replica}
 use Rattle.woot.specs.Limits.{capacity, share}
 use Rattle.woot.specs.Operations.{sender, inserts}
 use Rattle.woot.specs.Ranges.{inRange}
@@ -19,8 +19,9 @@ use Rattle.woot.specs.State.{blankPending}
 use Rattle.woot.specs.Pending.{pendingFrom}
 use Rattle.woot.specs.Form.{presentInserts}
 use Rattle.woot.specs.Table.{keys, agrees}
-use Rattle.woot.specs.Memory.{characterAt, operationAt, previousKeys, nextKeys, codePoints, toggleCounts, ownKey, firstKey, secondKey, valueOf, charactersIn}
-use Rattle.woot.specs.Memory.{operationsIn, meaning, tableAgrees, replicaWellFormed}
+use Rattle.woot.specs.Memory.{characterAt, operationAt, previousKeys, nextKeys, codePoints, toggleCounts, ownKey, firstKey, secondKey, valueOf}
+use Rattle.memory.specs.Columns.{charactersIn}
+use Rattle.memory.specs.Columns.{operationsIn, meaning, tableAgrees, replicaWellFormed}
 use Rattle.convergence.proofs.Forms.{Formed, formed, known-length}
 use Rattle.index.specs.Keys.{AllSmall}
 use Rattle.index.specs.Tabled.{Tabled}

@@ -2,8 +2,8 @@
 use mathlib.Core.Path.{_≡_}
 use mathlib.Core.Bool.{true}
 use lib.ListN.{length}
-use Rattle.woot.specs.declared.memory.Replica.{Replica}
-use Rattle.woot.specs.Memory.{replicaWellFormed}
+use Rattle.memory.specs.Columns.{Replica}
+use Rattle.memory.specs.Columns.{replicaWellFormed}
 
 -- a replica in form, whose arrays have their slots
 pub record Examined (r : Replica) : Type 0 where

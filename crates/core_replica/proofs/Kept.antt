@@ -18,7 +18,6 @@ use Rattle.woot.specs.Calls.{receiveChecks, receiveWhen, receive, insertChecks,
 use Rattle.woot.specs.Cursor.{receiveAtChecks, receiveAtWhen, receiveAt}
 use Rattle.woot.specs.Histories.{Call, inserting, deleting, restoring, receiving, receivingAt, outcome}
 use borrow.Author.Tests.{not-false}
-use Rattle.memory.proofs.Stored.{form-meant}
 use Rattle.woot.specs.declared.Refusal.the-variants.{Taken}
 use Rattle.convergence.proofs.Refusals.{insert-refuses}
 use Rattle.convergence.proofs.Hearing.{insert-untaken}
@@ -28,7 +27,7 @@ use Rattle.convergence.proofs.Kept.{form-kept}
 use Rattle.convergence.proofs.Replies.{receive-does, receive-waits, receive-at-does, receive-at-waits, insert-does, delete-does, restore-does}
 use Rattle.woot.specs.Replicas.{afterAnswer, afterSent, receipt, moved, generated, received, receivedAt, inserted, deleted, restored}
 use Rattle.core_replica.specs.Theorems.{called, answerTo, ReplicasFormed, AcceptedFormed, EmptyReplicaFormed, InsertNeverTaken}
-use Rattle.core_replica.proofs.Runs.{formed-within, form-stored, initial-within}
+use Rattle.core_replica.proofs.Runs.{formed-within, form-meant, form-stored, initial-within}
 
 -- what is stored of a state in form is in form
 stored-formed : (s : State) → wellFormed s ≡ true → replicaWellFormed (stored s) ≡ true

@@ -21,7 +21,8 @@ use Rattle.woot.specs.Memory.{meaning, documentOf, stored, counted, tableAgrees
 use Rattle.woot.specs.Table.{keys, agrees}
 use Rattle.index.proofs.Sound.{sound-small, sound-tabled}
 use Rattle.memory.proofs.Operations.{all-keyed}
-use Rattle.memory.proofs.Stored.{Storable, meaning-stored}
+use Rattle.memory.proofs.Stored.{Storable}
+use Rattle.memory.proofs.Views.{meaning-in-memory}
 use Rattle.lists.specs.Padding.{pad}
 use Rattle.woot.specs.Form.{wellFormed}
 use Rattle.woot.specs.Memory.{replicaWellFormed}
@@ -29,7 +30,7 @@ use Rattle.woot.specs.Answers.{answerOf}
 use Rattle.woot.specs.Calls.{Outcome, unchanged, receive, localInsert, localDelete, localRestore}
 use Rattle.woot.specs.Cursor.{receiveAt}
 use Rattle.woot.specs.Histories.{Begun, empty, startOf, Call, inserting, deleting, restoring, receiving, receivingAt, outcome, run}
-use Rattle.lists.proofs.Tests.{either, clash}
+use Rattle.lists.proofs.Tests.{either, clash, three}
 use Rattle.convergence.proofs.Forms.{formed, reformed}
 use Rattle.convergence.proofs.Shares.{pending-bound}
 use Rattle.convergence.proofs.Steps.{Step, turned, adds, raises, defers, step}
@@ -55,6 +56,10 @@ formed-within s h =
       storable = record { characters = sound-small (f .sound); pending = all-keyed (s .pending) (f .sound .pending-ranges) };
     }
 
+-- what is stored is what is meant
+pub meaning-stored : (s : State) → Within s → meaning (stored s) ≡ s
+meaning-stored s w = meaning-in-memory s (w .characters-fit) (w .pending-fit) (w .storable)
+
 pub counted-stored : (s : State) → Within s → counted (stored s) ≡ true
 unfolding counted stored documentOf
 counted-stored s w = rw (le-leb (length (s .characters)) characterSlots (w .characters-fit), le-leb (length (s .pending)) pendingSlots (w .pending-fit))
@@ -66,7 +71,7 @@ own-table s h = sound-tabled (formed s h .sound) .agree
 -- the table that is stored agrees
 pub table-stored : (s : State) → wellFormed s ≡ true → tableAgrees (stored s) ≡ true
 unfolding tableAgrees
-table-stored s h = rw (meaning-stored s (formed-within s h .storable)) (own-table s h)
+table-stored s h = rw (meaning-stored s (formed-within s h)) (own-table s h)
 
 absorbed : (a b : Bool) → (a ≡ true → b ≡ true) → a && b ≡ a
 absorbed true b f = f refl
@@ -74,7 +79,15 @@ absorbed false b f = refl
 
 pub form-stored : (s : State) → Within s → replicaWellFormed (stored s) ≡ wellFormed s
 unfolding replicaWellFormed
-form-stored s w = rw (counted-stored s w, meaning-stored s (w .storable)) (absorbed (wellFormed s) (tableAgrees (stored s)) (table-stored s))
+form-stored s w = rw (counted-stored s w, meaning-stored s w) (absorbed (wellFormed s) (tableAgrees (stored s)) (table-stored s))
+
+pub form-meant : (r : Replica) → replicaWellFormed r ≡ true → wellFormed (meaning r) ≡ true
+unfolding replicaWellFormed
+form-meant r h = three (counted r) (wellFormed (meaning r)) (tableAgrees r) h .1
+
+pub form-table : (r : Replica) → replicaWellFormed r ≡ true → tableAgrees r ≡ true
+unfolding replicaWellFormed
+form-table r h = three (counted r) (wellFormed (meaning r)) (tableAgrees r) h .2
 
 -- ---- one call
 
@@ -102,19 +115,19 @@ known-state s c e = ap (λ w. w .state) (known-unchanged s c e)
 pub called-stored : (s : State) (c : Call) → Within s → called (stored s) c ≡ stored (outcome s c .state)
 unfolding called received receivedAt inserted deleted restored receipt moved generated outcome localInsert localDelete localRestore receive receiveAt answerOf
 called-stored s (inserting g n) w =
-    rw (form-stored s w, meaning-stored s (w .storable))
+    rw (form-stored s w, meaning-stored s w)
     (sent-stored s (localInsert s g n .state) (localInsert s g n .answer) (λ r e. refused-state s (inserting g n) r (ap answerOf e)))
 called-stored s (deleting p) w =
-    rw (form-stored s w, meaning-stored s (w .storable))
+    rw (form-stored s w, meaning-stored s w)
     (sent-stored s (localDelete s p .state) (localDelete s p .answer) (λ r e. refused-state s (deleting p) r (ap answerOf e)))
 called-stored s (restoring x) w =
-    rw (form-stored s w, meaning-stored s (w .storable))
+    rw (form-stored s w, meaning-stored s w)
     (sent-stored s (localRestore s x .state) (localRestore s x .answer) (λ r e. refused-state s (restoring x) r (ap answerOf e)))
 called-stored s (receiving o) w =
-    rw (form-stored s w, meaning-stored s (w .storable))
+    rw (form-stored s w, meaning-stored s w)
     (answer-stored s (receive s o .state) (receive s o .answer) (known-state s (receiving o)) (refused-state s (receiving o)))
 called-stored s (receivingAt o g) w =
-    rw (form-stored s w, meaning-stored s (w .storable))
+    rw (form-stored s w, meaning-stored s w)
     (answer-stored s (receiveAt s o g .state) (receiveAt s o g .answer) (known-state s (receivingAt o g)) (refused-state s (receivingAt o g)))
 
 -- ---- lists of calls
@@ -160,6 +173,6 @@ pub replicas-converge : ReplicasConverge
 unfolding textOf
 replicas-converge a b cs ds inserted toggled =
     rw
-    (replicas-follow a cs, replicas-follow b ds, meaning-stored (run (startOf a) cs) (run-within (startOf a) cs (begun-within a) .storable),
-    meaning-stored (run (startOf b) ds) (run-within (startOf b) ds (begun-within b) .storable))
+    (replicas-follow a cs, replicas-follow b ds, meaning-stored (run (startOf a) cs) (run-within (startOf a) cs (begun-within a)),
+    meaning-stored (run (startOf b) ds) (run-within (startOf b) ds (begun-within b)))
     (convergence a b cs ds inserted toggled)

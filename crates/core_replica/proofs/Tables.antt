@@ -27,10 +27,9 @@ use Rattle.index.specs.Tabled.{Tabled}
 use Rattle.index.proofs.Keys.{key-same}
 use Rattle.index.proofs.Agreement.{is-at, at-is, lookup-is-search}
 use Rattle.index.proofs.Sound.{sound-small, sound-tabled}
-use Rattle.memory.proofs.Stored.{form-meant, form-table}
+use Rattle.core_replica.proofs.Runs.{form-meant, form-table}
 use Rattle.core_replica.specs.Tables.{lookedUp, searchedFor, Searches, AgreesExactly, CalledSearches, BegunSearches}
-use Rattle.core_replica.proofs.Runs.{formed-within, table-stored}
-use Rattle.memory.proofs.Stored.{meaning-stored}
+use Rattle.core_replica.proofs.Runs.{formed-within, meaning-stored, table-stored}
 use Rattle.core_replica.proofs.Kept.{replicas-formed}
 
 searched-keys : (x : Identifier) → Small x → (cs : List Character) → AllSmall cs → searched (key x) (keys cs) ≡ searchedFor x cs
@@ -54,7 +53,7 @@ called-searches r c f =
 -- what is stored of a state in form
 pub stored-searches : (s : State) → wellFormed s ≡ true → Searches (stored s)
 stored-searches s h =
-    let means : wellFormed (meaning (stored s)) ≡ true = ap wellFormed (meaning-stored s (formed-within s h .storable)) ∙ h in
+    let means : wellFormed (meaning (stored s)) ≡ true = ap wellFormed (meaning-stored s (formed-within s h)) ∙ h in
     agreeing-searches (stored s) (sound-small (formed _ means .sound)) (table-stored s h)
 
 pub begun-searches : BegunSearches

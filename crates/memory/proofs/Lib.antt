@@ -3,3 +3,4 @@ pub mod Operations
 pub mod Bits
 pub mod Fullness
 pub mod Stored
+pub mod Views

@@ -18,13 +18,14 @@ use Rattle.lists.proofs.Tests.{and-left, and-right, three}
 use Rattle.woot.specs.declared.Site.{Site}
 use Rattle.woot.specs.declared.Operation.{Operation}
 use Rattle.woot.specs.declared.Character.{Character}
-use Rattle.woot.specs.declared.memory.Document.{Document}
-use Rattle.woot.specs.declared.memory.Replica.{Replica}
+use Rattle.memory.specs.Columns.{Document}
+use Rattle.memory.specs.Columns.{Replica}
 use Rattle.woot.specs.Ranges.{characterInRange, inRange}
 use Rattle.woot.specs.State.{State, characterSlots, pendingSlots, blankCharacter, blankPending}
 use Rattle.woot.specs.Form.{wellFormed}
 use Rattle.woot.specs.Table.{key, keys, tableOf}
-use Rattle.woot.specs.Memory.{identifier, each, characterOf, characterAt, charactersOf, operationAt, operationsOf, previousKeys, nextKeys, codePoints, toggleCounts, ownKey, firstKey, secondKey, valueOf, charactersIn, operationsIn, meaning, documentOf, stored, counted, tableAgrees, replicaWellFormed}
+use Rattle.woot.specs.Memory.{identifier, each, characterOf, characterAt, charactersOf, operationAt, operationsOf, previousKeys, nextKeys, codePoints, toggleCounts, ownKey, firstKey, secondKey, valueOf}
+use Rattle.memory.specs.Columns.{charactersIn, operationsIn, meaning, documentOf, stored, counted, tableAgrees, replicaWellFormed}
 use Rattle.index.specs.Keys.{AllSmall}
 use Rattle.memory.proofs.Characters.{identifier-key, each-cong, each-all, rows-length, rows-keys, rows-previous, rows-next, rows-codes, rows-toggles}
 use Rattle.memory.proofs.Operations.{AllKeyed, operation-stored, operations-length, own-column, first-column, second-column, value-column}

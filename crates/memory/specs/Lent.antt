@@ -1,7 +1,11 @@
 -- For the proofs of the code alone: the document that lent arrays and counts make.
 use Prim.Native.Nat.{ℕ}
 use mathlib.Core.List.{List}
-use Rattle.woot.specs.declared.memory.Document.{Document}
+use Rattle.woot.specs.declared.memory.Document.{Document as InMemory}
+use Rattle.woot.specs.declared.memory.Replica.{Replica as ReplicaInMemory}
+use Rattle.woot.specs.State.{characterSlots, pendingSlots}
+use Rattle.woot.specs.Memory.{column}
+use Rattle.memory.specs.Columns.{Document, Replica}
 
 -- the arrays of the characters and how many they are, those of the pending operations and how many, and the table's
 abbrev pub documentAs :
@@ -21,3 +25,27 @@ documentAs ids previous next points toggles n own first second values w heads li
       waiting = w;
       table = record { heads = heads; links = links };
     }
+
+-- the same of the arrays as they are lent, in which columns lie one behind another
+abbrev pub columnsAs : List ℕ → List ℕ → ℕ → List ℕ → ℕ → List ℕ → List ℕ → Document
+columnsAs characters toggles n pending w heads links =
+    documentAs (column characterSlots 0 characters) (column characterSlots 1 characters)
+    (column characterSlots 2 characters)
+    (column characterSlots 3 characters)
+    toggles
+    n
+    (column pendingSlots 0 pending)
+    (column pendingSlots 1 pending)
+    (column pendingSlots 2 pending)
+    (column pendingSlots 3 pending)
+    w
+    heads
+    links
+
+-- the columns of a document in memory, and of a replica
+abbrev pub view : InMemory → Document
+view d =
+    columnsAs (d .characters) (d .toggles) (d .length) (d .pending) (d .waiting) (d .table .heads) (d .table .links)
+
+abbrev pub viewed : ReplicaInMemory → Replica
+viewed r = record { site = r .site; document = view (r .document) }

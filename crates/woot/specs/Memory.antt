@@ -5,7 +5,7 @@ use Prim.Native.Nat.{ℕ, zero, suc, _+_, _*_, _/_, _%_}
 use mathlib.Core.Bool.{Bool, _&&_, cond}
 use mathlib.Core.List.{List, [], _∷_, _++_, map}
 use lib.Dec.{eqb, leb}
-use lib.ListN.{length, getD}
+use lib.ListN.{length, take, drop, getD}
 use Rattle.lists.specs.Padding.{pad}
 use Rattle.woot.specs.declared.Identifier.{Identifier}
 use Rattle.woot.specs.declared.Character.{Character}
@@ -101,32 +101,42 @@ valueOf (toggle t) = t .sender * 256 + t .toggles
 
 -- ---- documents and replicas
 
+-- the column j of an array that has columns of m slots
+abbrev pub column : ℕ → ℕ → List ℕ → List ℕ
+column m j xs = take m (drop (j * m) xs)
+
+-- four columns one behind another, zeros in the slots that are left
+unfoldable pub inColumns : ℕ → List ℕ → List ℕ → List ℕ → List ℕ → List ℕ
+inColumns m ws xs ys zs = pad m 0 ws ++ (pad m 0 xs ++ (pad m 0 ys ++ pad m 0 zs))
+
 -- what is in use of the arrays
 unfoldable pub charactersIn : Document → List Character
-charactersIn d = charactersOf (d .ids) (d .previous) (d .next) (d .«code_points») (d .toggles) (d .length)
+charactersIn d =
+    charactersOf (column characterSlots 0 (d .characters)) (column characterSlots 1 (d .characters))
+    (column characterSlots 2 (d .characters))
+    (column characterSlots 3 (d .characters))
+    (d .toggles)
+    (d .length)
 
 unfoldable pub operationsIn : Document → List Operation
-operationsIn d = operationsOf (d .own) (d .first) (d .second) (d .values) (d .waiting)
+operationsIn d =
+    operationsOf (column pendingSlots 0 (d .pending)) (column pendingSlots 1 (d .pending))
+    (column pendingSlots 2 (d .pending))
+    (column pendingSlots 3 (d .pending))
+    (d .waiting)
 
 unfoldable pub meaning : Replica → State
 meaning r =
     record { site = r .site; characters = charactersIn (r .document); pending = operationsIn (r .document) }
 
--- the document that holds two lists, determined to the last slot, with zeros in those that are left and the table of
--- its characters
+-- the document that holds two lists, determined to the last slot, with the table of its characters
 unfoldable pub documentOf : List Character → List Operation → Document
 documentOf cs ps =
     record {
-      ids = pad characterSlots 0 (keys cs);
-      previous = pad characterSlots 0 (previousKeys cs);
-      next = pad characterSlots 0 (nextKeys cs);
-      «code_points» = pad characterSlots 0 (codePoints cs);
+      characters = inColumns characterSlots (keys cs) (previousKeys cs) (nextKeys cs) (codePoints cs);
       toggles = pad characterSlots 0 (toggleCounts cs);
       length = length cs;
-      own = pad pendingSlots 0 (map ownKey ps);
-      first = pad pendingSlots 0 (map firstKey ps);
-      second = pad pendingSlots 0 (map secondKey ps);
-      values = pad pendingSlots 0 (map valueOf ps);
+      pending = inColumns pendingSlots (map ownKey ps) (map firstKey ps) (map secondKey ps) (map valueOf ps);
       waiting = length ps;
       table = tableOf (keys cs);
     }

@@ -13,22 +13,17 @@ pub const CHARACTERS: usize = 1024;
 
 pub const PENDING: usize = 512;
 
-// The characters in order, each in the same slot of five arrays: its key, which is its identifier as a number, those of
-// its neighbours, its code point, and the count of its toggles. The pending operations, earliest first, each in the
-// same slot of four: of an insert its own key, its previous's and its next's, and its code point; of a toggle 0, the
-// target's key, 0, and 256 times the sender and the count. The counts say how much of the arrays is in use; a character
-// is found by the table. (Document 01: the sheet without its record.)
+// The characters in order, each in the same slot of four columns that lie one behind another in one array, 1,024 slots
+// each: its key, which is its identifier as a number, its previous's, its next's, and its code point. The counts of
+// their toggles lie beside them. The pending operations, earliest first, each in the same slot of four columns, 512
+// slots each: of an insert its own key, its previous's and its next's, and its code point; of a toggle 0, the target's
+// key, 0, and 256 times the sender and the count. The counts say how many slots are in use; a character is found by the
+// table. (Document 01: the sheet without its record.)
 pub struct Document {
-    pub ids: [u32; CHARACTERS],
-    pub previous: [u32; CHARACTERS],
-    pub next: [u32; CHARACTERS],
-    pub code_points: [u32; CHARACTERS],
+    pub characters: [u32; 4096],
     pub toggles: [u8; CHARACTERS],
     pub length: usize,
-    pub own: [u32; PENDING],
-    pub first: [u32; PENDING],
-    pub second: [u32; PENDING],
-    pub values: [u32; PENDING],
+    pub pending: [u32; 2048],
     pub waiting: usize,
     pub table: Table,
 }
@@ -48,16 +43,10 @@ impl Replica {
         Replica {
             site: Site { number, clock: 0 },
             document: Document {
-                ids: [0u32; CHARACTERS],
-                previous: [0u32; CHARACTERS],
-                next: [0u32; CHARACTERS],
-                code_points: [0u32; CHARACTERS],
+                characters: [0u32; 4096],
                 toggles: [0u8; CHARACTERS],
                 length: 0,
-                own: [0u32; PENDING],
-                first: [0u32; PENDING],
-                second: [0u32; PENDING],
-                values: [0u32; PENDING],
+                pending: [0u32; 2048],
                 waiting: 0,
                 table: Table {
                     heads: [0u16; 1024],

@@ -6,7 +6,7 @@ use borrow.Author.Needs.{needs}
 use lib.ListN.{take}
 use Rattle.lists.specs.Lists.{every}
 use Rattle.lists.proofs.Tests.{refused, passed}
-use Rattle.woot.specs.declared.memory.Replica.{Replica}
+use Rattle.memory.specs.Columns.{Replica}
 use Rattle.woot.specs.Form.{ordered}
 use Rattle.woot.specs.Table.{agrees}
 use Rattle.memory.specs.Lent.{documentAs}
