@@ -1,0 +1,88 @@
+-- `seen_by` meets its contract: the one that has the identifier decides.
+use native.Mathlib.Omega.{arith}
+use mathlib.Core.Path.{_≡_, _∙_}
+use mathlib.Core.Bool.{true}
+use borrow.Author.Needs.{needs}
+use Rattle.woot.specs.Ranges.{characterId}
+use Rattle.convergence.proofs.Ranges.{in-range}
+use Rattle.core_form.proofs.Examining.{few, examined-tabled}
+use Rattle.core_reception.specs.declared.holder.Holder.{Holder}
+use Rattle.core_reception.proofs.Having.{Has, has, character-within, pending-within}
+use Rattle.core_reception.proofs.Seeing.{seen-character, seen-pending, seen-nobody}
+use Rattle.core_reception.proofs.seen_by.Statement.{statement}
+use Rattle.core_reception.proofs.seen_by.Tie as tie
+
+id-ranged : (s : tie.Start) → characterId (s .args .insert .id) ≡ true
+id-ranged s = in-range (s .args .insert) (s .pre .1) .id
+
+-- where the function starts
+abbrev start : tie.After-holder-of → tie.Start
+start c = c .before .before .before .before .before .before .before .before .before .before .before .before .before .before
+
+-- who has the identifier
+held : (c : tie.After-holder-of) (h : Holder) → c .holder-of .result ≡ h → Has _ (start c .pre .0) _ (id-ranged (start c)) h
+held c h e = has _ (start c .pre .0) _ (id-ranged (start c)) (rw (c .before .key .ensures .0) at (c .holder-of .ensures)) e
+
+key-requires : tie.Need-key-requires
+key-requires c κs = search needs
+
+holder-of-requires : tie.Need-holder-of-requires
+holder-of-requires c κs =
+    let x = c .before .before .before .before .before .before .before .before .before .before .before .before .before .pre .0 in
+    let n = few _ x in
+    (omega (arith, x .ids), (omega (arith, x .own), examined-tabled _ x))
+
+enum-known-k : tie.Need-enum-known-k
+enum-known-k c = search needs
+
+compared-requires : tie.Need-compared-requires
+compared-requires c κs =
+    let s = c .before .before .before .before .before .before .before .before .before .before .before .before .before .before .before .before .before in
+    let x = s .pre .0 in
+    let n = few _ x in
+    let h = character-within _ x _ (id-ranged s) _ (held (c .before .before .before) _ (c .before .k .given .1)) in
+    (omega (arith, x .ids), (omega (arith, x .previous), (omega (arith, x .next), omega (arith, x .points))))
+
+enum-known-j : tie.Need-enum-known-j
+enum-known-j c = search needs
+
+compared-requires-2 : tie.Need-compared-requires-2
+compared-requires-2 c κs =
+    let s = c .before .before .before .before .before .before .before .before .before .before .before .before .before .before .before .before .before in
+    let x = s .pre .0 in
+    let n = few _ x in
+    let h = pending-within _ x _ (id-ranged s) _ (held (c .before .before .before) _ (c .before .j .given .1)) in
+    (omega (arith, x .own), (omega (arith, x .first), (omega (arith, x .second), omega (arith, x .values))))
+
+enum-told : tie.Need-enum-told
+enum-told c = search needs
+
+returns : tie.Need-returns
+returns c =
+    let s = c .before .before .before .before .before .before .before .before .before .before .before .before .before .before .before .before .before .before in
+    c .compared .ensures ∙ seen-character _ (s .pre .0) _ (s .pre .1) _ (held (c .before .before .before .before) _ (c .before .before .k .given .1))
+
+returns-2 : tie.Need-returns-2
+returns-2 c =
+    let s = c .before .before .before .before .before .before .before .before .before .before .before .before .before .before .before .before .before .before in
+    c .compared2 .ensures ∙ seen-pending _ (s .pre .0) _ (s .pre .1) _ (held (c .before .before .before .before) _ (c .before .before .j .given .1))
+
+returns-3 : tie.Need-returns-3
+returns-3 c =
+    let s = c .before .before .before .before .before .before .before .before .before .before .before .before .before .before .before .before in
+    seen-nobody _ (s .pre .0) _ (s .pre .1) (held (c .before .before) _ (c .enum-told .given .1))
+
+pub seen-by-spec : {M : Type 1} → statement M
+seen-by-spec =
+    tie.close
+    (tie.spec
+    key-requires
+    holder-of-requires
+    enum-known-k
+    compared-requires
+    enum-known-j
+    compared-requires-2
+    enum-told
+    returns
+    returns-2
+    returns-3)
