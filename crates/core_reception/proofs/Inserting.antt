@@ -16,7 +16,7 @@ use Rattle.woot.specs.Answers.{changes}
 use Rattle.woot.specs.Calls.{duplicate, conflicting, senderFull, documentFull}
 use Rattle.woot.specs.Memory.{meaning}
 use Rattle.convergence.proofs.Soundness.{sound-in}
-use Rattle.convergence.proofs.Steps.{Addable, fresh-insert, space-insert}
+use Rattle.convergence.proofs.Steps.{Addable, drained-still, fresh-insert, space-insert}
 use Rattle.integration.specs.declared.Placement.{Placement}
 use Rattle.integration.specs.declared.Placement.the-variants.{Missing, Crossed as crossing, Unplaceable as placeless, Below}
 use Rattle.integration.specs.Placements.{placementOf}
@@ -60,6 +60,7 @@ addable-placed s i k a p =
       room = omega (arith, a .space);
       result = w .3;
       sound = sound-in i (a .formed .sound) (a .ranged) (a .fresh) (a .space) (a .ready) (a .uncrossed) (a .placeable);
+      still = drained-still s i a;
     }
 
 -- ---- what is decided

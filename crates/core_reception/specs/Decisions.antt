@@ -3,7 +3,7 @@
 use Prim.Native.Nat.{ℕ, _+_, _≤_, _<_}
 use mathlib.Core.Path.{_≡_}
 use mathlib.Core.Bool.{Bool, true, false, not, cond}
-use mathlib.Core.List.{List}
+use mathlib.Core.List.{List, _∷_}
 use lib.Dec.{leb, eqb}
 use lib.ListN.{length}
 use Rattle.lists.specs.Lists.{keep, distinct}
@@ -16,11 +16,12 @@ use Rattle.woot.specs.declared.Answer.the-variants.{Done, Duplicate, Refused}
 use Rattle.woot.specs.declared.memory.Replica.{Replica}
 use Rattle.woot.specs.Limits.{capacity, share}
 use Rattle.woot.specs.Identifiers.{same}
-use Rattle.woot.specs.Operations.{sender, character}
+use Rattle.woot.specs.Operations.{sender, character, inserts}
 use Rattle.woot.specs.State.{State, pendingSlots}
 use Rattle.woot.specs.Placing.{identifiers, insertAt, integrateInsert}
+use Rattle.woot.specs.Clock.{heard, heardAll}
 use Rattle.woot.specs.Answers.{changes}
-use Rattle.woot.specs.Calls.{unchanged, carryOut, defer, receiveWhen}
+use Rattle.woot.specs.Calls.{unchanged, insertCarried, carryOut, defer, receiveWhen}
 use Rattle.woot.specs.Table.{key}
 use Rattle.woot.specs.Memory.{valueOf, meaning}
 use Rattle.convergence.specs.Invariants.{Sound}
@@ -65,12 +66,14 @@ absentIn n own first values t =
 
 -- ---- what a decision says
 
--- an insert goes in after the first k characters, for which there is room, and leaves the lists sound
+-- an insert goes in after the first k characters, for which there is room, and leaves the lists sound; what it releases
+-- raises the clock no further
 pub record Placed (s : State) (i : Insert) (k : ℕ) : Type 0 where
   pub place : k ≤ length (s .characters)
   pub room : length (s .characters) < capacity
   pub result : integrateInsert (s .characters) i ≡ insertAt k (character i) (s .characters)
   pub sound : Sound (integrateInsert (s .characters) i) (s .pending)
+  pub still : heardAll (s .site) (i ∷ inserts (insertCarried s i .integrated)) ≡ heard (s .site) i
 
 -- the target of a toggle is the character with index k, and no other
 pub record Target (s : State) (t : Toggle) (k : ℕ) : Type 0 where
