@@ -1,4 +1,6 @@
 // Writing saved replicas into a lent slice.
+pub mod columns;
+mod numbered;
 mod one_line;
 mod writing;
 

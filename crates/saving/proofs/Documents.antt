@@ -1,0 +1,138 @@
+-- The lines of a saved document by the numbers of its arrays, and the whole of them after the site's line.
+use Prim.Native.Nat.{ℕ, _+_, _-_, _≤_, _<_}
+use native.Mathlib.Omega.{arith}
+use mathlib.Core.Path.{_≡_, refl, ap, sym, _∙_}
+use mathlib.Core.List.{List, [], _∷_, _++_, map, append-assoc}
+use mir.Val.{Val}
+use denote.Laws.{Is}
+use lib.ListN.{length, take, getD, length-append, length-map, List·getD-append}
+use lib.Seq.{take-all, getD-append-add}
+use Rattle.output.specs.Output.{placed, past}
+use Rattle.output.proofs.Laws.{length-placed}
+use Rattle.lists.proofs.Indices.{map-getD}
+use Rattle.lines.specs.Lines.{concatenated}
+use Rattle.lines.proofs.Lines.{concatenated-append}
+use Rattle.line_output.specs.declared.Room.{Room}
+use Rattle.line_output.specs.declared.Room.the-variants.{Until, Short}
+use Rattle.line_output.specs.Room.{roomFor}
+use Rattle.line_output.proofs.Writing.{until-tells, Run, run-none, run-on}
+use Rattle.line_output.proofs.Sequences.{room-on, room-short}
+use Rattle.woot.specs.declared.Site.{Site}
+use Rattle.woot.specs.declared.Insert.{Insert}
+use Rattle.woot.specs.declared.Operation.the-variants.{Insert as insert}
+use Rattle.woot.specs.declared.Refusal.the-variants.{Output}
+use Rattle.woot.specs.declared.Written.the-variants.{Length, Refused}
+use Rattle.woot.specs.Writing.{writtenAs, outputAfter}
+use Rattle.woot.specs.State.{blankCharacter, blankPending}
+use Rattle.woot.specs.Memory.{characterAt, charactersOf, operationAt, operationsOf}
+use Rattle.memory.proofs.Characters.{rows-length, rows-at}
+use Rattle.memory.proofs.Operations.{operations-length, operations-at}
+use Rattle.operation_output.proofs.Answers.{put-after, room-short as not-written, room-fits, room-fitted}
+use Rattle.codec.specs.Operations.{operationLine}
+use Rattle.saved.specs.declared.Version.{Version}
+use Rattle.saved.specs.declared.Version.the-variants.{First, Second}
+use Rattle.saved.specs.Format.{siteLine, characterLine, savedLine, bytesAs}
+use Rattle.saving.specs.declared.numbered.Line.{Line}
+use Rattle.saving.specs.Documents.{Lists, listsOf, stateOf, linesAs, bodyAs}
+use Rattle.saving.proofs.numbered.Line as line
+
+-- ---- one line
+
+-- a line has its eight numbers
+pub full-line : (l : Line) {vs : List Val} → Is line.the-row l vs → length (l .numbers) ≡ 8
+full-line l g = simp length-map at (g .1 .1 .1 .0 .1 .0 .1)
+
+-- an insert's line is the same in both forms
+pub insert-either : (v : Version) (i : Insert) → operationLine (insert i) ≡ savedLine v (insert i)
+unfolding savedLine
+insert-either First i = refl
+insert-either Second i = refl
+
+-- ---- the lines of the arrays
+
+module _ (v : Version) (is ps ns cs ts : List ℕ) (n : ℕ) (os fs ss vs : List ℕ) (w : ℕ) where
+  rows : length (map (characterLine v) (charactersOf is ps ns cs ts n)) ≡ n
+  rows = length-map (charactersOf is ps ns cs ts n) (characterLine v) ∙ rows-length is ps ns cs ts n
+
+  pub lines-many : length (linesAs v (listsOf is ps ns cs ts n os fs ss vs w)) ≡ n + w
+  unfolding linesAs
+  lines-many =
+      omega (
+        arith,
+        rows,
+        length-append (map (characterLine v) (charactersOf is ps ns cs ts n)) (map (savedLine v) (operationsOf os fs ss vs w)),
+        length-map (operationsOf os fs ss vs w) (savedLine v),
+        operations-length os fs ss vs w,
+      )
+
+  module _ (i : ℕ) where
+    pub character-at : i < n → getD (linesAs v (listsOf is ps ns cs ts n os fs ss vs w)) i [] ≡ characterLine v (characterAt is ps ns cs ts i)
+    unfolding linesAs
+    character-at h =
+        List·getD-append (map (characterLine v) (charactersOf is ps ns cs ts n)) (map (savedLine v) (operationsOf os fs ss vs w)) [] i (omega (arith, rows))
+        ∙ map-getD (characterLine v) (charactersOf is ps ns cs ts n) i [] blankCharacter (omega (arith, rows-length is ps ns cs ts n))
+        ∙ ap (characterLine v) (rows-at is ps ns cs ts n i blankCharacter h)
+
+    pub operation-at : n ≤ i → i < n + w → getD (linesAs v (listsOf is ps ns cs ts n os fs ss vs w)) i [] ≡ savedLine v (operationAt os fs ss vs (i - n))
+    unfolding linesAs
+    operation-at h k =
+        let xs = map (characterLine v) (charactersOf is ps ns cs ts n) in
+        let ys = map (savedLine v) (operationsOf os fs ss vs w) in
+        let past : i ≡ length xs + (i - n) = omega (arith, rows) in
+        ap (λ (j : ℕ). getD (xs ++ ys) j []) past
+        ∙ getD-append-add xs ys (i - n) []
+        ∙ map-getD (savedLine v) (operationsOf os fs ss vs w) (i - n) [] (blankPending .operation) (omega (arith, operations-length os fs ss vs w))
+        ∙ ap (savedLine v) (operations-at os fs ss vs w (i - n) (blankPending .operation) (omega arith))
+
+  -- all of them
+  pub all-lines : concatenated (λ l. l) (take (n + w) (linesAs v (listsOf is ps ns cs ts n os fs ss vs w))) ≡ bodyAs v (listsOf is ps ns cs ts n os fs ss vs w)
+  unfolding bodyAs
+  all-lines = ap (concatenated (λ l. l)) (take-all (n + w) (linesAs v (listsOf is ps ns cs ts n os fs ss vs w)) (omega (arith, lines-many)))
+
+-- ---- after the site's line they are the whole
+
+concatenated-lines : {A : Type 0} (f : A → List ℕ) (xs : List A) → concatenated (λ l. l) (map f xs) ≡ concatenated f xs
+concatenated-lines f [] = refl
+concatenated-lines f (x ∷ xs) = ap (λ (l : List ℕ). f x ++ l) (concatenated-lines f xs)
+
+pub whole-bytes : (v : Version) (t : Site) (d : Lists) → siteLine v t ++ bodyAs v d ≡ bytesAs v (stateOf t d)
+unfolding bodyAs linesAs bytesAs
+whole-bytes v t d =
+    rw (
+      concatenated-append (λ (l : List ℕ). l) (map (characterLine v) (d .characters)) (map (savedLine v) (d .pending)),
+      concatenated-lines (characterLine v) (d .characters),
+      concatenated-lines (savedLine v) (d .pending),
+    )
+    (sym (append-assoc (siteLine v t) (concatenated (characterLine v) (d .characters)) (concatenated (savedLine v) (d .pending))))
+
+-- ---- a front and what follows it, measured and then put
+
+module _ (a b bytes out : List ℕ) (all : a ++ b ≡ bytes) {x : Room} (e : x ≡ roomFor (length out) 0 a) where
+  pub front-short : x ≡ Short → (Refused Output ≡ writtenAs [] bytes out) × (out ≡ outputAfter [] bytes out)
+  front-short q = rw (← all) (not-written (a ++ b) out (room-short (length out) 0 a b e q) refl)
+
+  module _ {start : ℕ} (q : x ≡ Until start) where
+    pub front-fits : start ≤ length out
+    front-fits = let t = until-tells (length out) 0 a e q in omega (arith, t .0, t .1)
+
+    module _ {y : Room} (f : y ≡ roomFor (length out) start b) where
+      both : y ≡ roomFor (length out) 0 (a ++ b)
+      both = f ∙ room-on (length out) 0 a b e q
+
+      pub body-short : y ≡ Short → (Refused Output ≡ writtenAs [] bytes out) × (out ≡ outputAfter [] bytes out)
+      body-short p = rw (← all) (not-written (a ++ b) out both p)
+
+      module _ {n : ℕ} (p : y ≡ Until n) {out₁ : List ℕ} {at : ℕ} (front : (at ≡ past out 0 a) × (out₁ ≡ placed out 0 a)) where
+        fits : 0 + length (a ++ b) ≤ length out
+        fits = omega (arith, room-fits (a ++ b) out both p)
+
+        first : Run out 0 a out₁ at
+        first = run-on (run-none out 0 (omega arith)) a (omega (arith, fits, length-append a b)) (front .0) (front .1)
+
+        pub body-room : at + length b ≤ length out₁
+        body-room = omega (arith, first .offset, fits, length-append a b, ap length (front .1), length-placed out 0 a)
+
+        pub body-put : {out₂ : List ℕ} → out₂ ≡ placed out₁ at b → (Length n ≡ writtenAs [] bytes out) × (out₂ ≡ outputAfter [] bytes out)
+        body-put r =
+            let second : Run out 0 (a ++ b) _ (past out₁ at b) = run-on first b fits refl r in
+            rw (← all) (room-fitted (a ++ b) out both p, put-after (a ++ b) out (second .bytes))

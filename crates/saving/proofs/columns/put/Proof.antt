@@ -1,0 +1,108 @@
+-- `saving::columns::put` meets its contract: the site's line and the others have room, or nothing is put.
+use Prim.Native.Nat.{ℕ}
+use mathlib.Core.Path.{_≡_}
+use mathlib.Core.List.{List, _++_}
+use Rattle.saving.specs.Documents.{listsOf, bodyAs}
+use Rattle.saved.specs.Format.{siteLine, bytesAs}
+use Rattle.saving.specs.Documents.{stateOf}
+use Rattle.saving.proofs.Documents.{whole-bytes, front-short, front-fits, body-short, body-room, body-put}
+use borrow.Author.Needs.{needs}
+use Rattle.saving.proofs.columns.put.Statement.{statement}
+use Rattle.saving.proofs.columns.put.Tie as tie
+
+-- the bytes of the site's line, those after it, and all
+abbrev front : tie.Start → List ℕ
+front s = siteLine (s .args .version) (s .args .site)
+
+abbrev body : tie.Start → List ℕ
+body s =
+    let a = s .args in
+    bodyAs (a .version) (listsOf (a .ids .now) (a .previous .now) (a .next .now) (a .code-points .now) (a .toggles .now) (a .n) (a .own .now)
+    (a .first .now) (a .second .now) (a .values .now) (a .w))
+
+abbrev bytes : tie.Start → List ℕ
+bytes s =
+    let a = s .args in
+    bytesAs (a .version) (stateOf (a .site) (listsOf (a .ids .now) (a .previous .now) (a .next .now) (a .code-points .now) (a .toggles .now) (a .n)
+    (a .own .now) (a .first .now) (a .second .now) (a .values .now) (a .w)))
+
+whole : (s : tie.Start) → front s ++ body s ≡ bytes s
+whole s =
+    let a = s .args in
+    whole-bytes (a .version) (a .site) (listsOf (a .ids .now) (a .previous .now) (a .next .now) (a .code-points .now) (a .toggles .now) (a .n)
+    (a .own .now) (a .first .now) (a .second .now) (a .values .now) (a .w))
+
+measure-site-requires : tie.Need-measure-site-requires
+measure-site-requires c κs = search needs
+
+enum-known-front : tie.Need-enum-known-front
+enum-known-front c = search needs
+
+enum-told : tie.Need-enum-told
+enum-told c = search needs
+
+returns : tie.Need-returns
+returns c =
+    let s = c .before .before .before .before .before .before .before .before .before .before .before .before .before in
+    front-short (front s) (body s) (bytes s) (s .args .out .now) (whole s) (c .before .before .measure-site .ensures) (c .enum-told .given .1)
+
+measure-requires : tie.Need-measure-requires
+measure-requires c κs =
+    let s = c .before .before .before .before .before .before .before .before .before .before .before .before .before .before in (
+      s .pre,
+      front-fits (front s) (body s) (bytes s) (s .args .out .now) (whole s) (c .before .before .before .measure-site .ensures)
+          (c .before .front .given .1),
+    )
+
+enum-known-room : tie.Need-enum-known-room
+enum-known-room c = search needs
+
+enum-told-2 : tie.Need-enum-told-2
+enum-told-2 c = search needs
+
+returns-2 : tie.Need-returns-2
+returns-2 c =
+    let s = c .before .before .before .before .before .before .before .before .before .before .before .before .before .before .before .before .before in
+    body-short (front s) (body s) (bytes s) (s .args .out .now) (whole s) (c .before .before .before .before .before .before .measure-site .ensures)
+    (c .before .before .before .before .front .given .1) (c .before .before .measure .ensures) (c .enum-told2 .given .1)
+
+put-site-requires : tie.Need-put-site-requires
+put-site-requires c κs = search needs
+
+put-lines-requires : tie.Need-put-lines-requires
+put-lines-requires c κs =
+    let s = c .before .before .before .before .before .before .before .before .before .before .before .before .before .before .before .before .before .before .before .before .before .before .before in
+    let m = c .before .before .before .before .before .before .before .before in (
+      s .pre,
+      body-room (front s) (body s) (bytes s) (s .args .out .now) (whole s) (m .before .before .before .before .measure-site .ensures)
+          (m .before .before .front .given .1) (m .measure .ensures) (c .before .before .before .before .before .before .room .given .1)
+          (c .before .before .before .put-site .ensures),
+    )
+
+same-length : tie.Need-same-length
+same-length c = search needs
+
+returns-3 : tie.Need-returns-3
+returns-3 c =
+    let s = c .before .before .before .before .before .before .before .before .before .before .before .before .before .before .before .before .before .before .before .before .before .before .before .before .before .before in
+    let m = c .before .before .before .before .before .before .before .before .before .before .before in
+    body-put (front s) (body s) (bytes s) (s .args .out .now) (whole s) (m .before .before .before .before .measure-site .ensures)
+    (m .before .before .front .given .1) (m .measure .ensures) (c .before .before .before .before .before .before .before .before .before .room .given .1)
+    (c .before .before .before .before .before .before .put-site .ensures) (c .before .before .put-lines .ensures)
+
+pub put-spec : {M : Type 1} → statement M
+put-spec =
+    tie.close
+    (tie.spec
+    measure-site-requires
+    enum-known-front
+    enum-told
+    returns
+    measure-requires
+    enum-known-room
+    enum-told-2
+    returns-2
+    put-site-requires
+    put-lines-requires
+    same-length
+    returns-3)
