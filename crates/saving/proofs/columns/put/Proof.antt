@@ -71,8 +71,8 @@ put-site-requires c κs = search needs
 
 put-lines-requires : tie.Need-put-lines-requires
 put-lines-requires c κs =
-    let s = c .before .before .before .before .before .before .before .before .before .before .before .before .before .before .before .before .before .before .before .before .before .before .before in
-    let m = c .before .before .before .before .before .before .before .before in (
+    let m = c .before .before .before .before .before .before .before .before in
+    let s = m .before .before .before .before .before .before .before .before .before .before .before .before .before .before .before in (
       s .pre,
       body-room (front s) (body s) (bytes s) (s .args .out .now) (whole s) (m .before .before .before .before .measure-site .ensures)
           (m .before .before .front .given .1) (m .measure .ensures) (c .before .before .before .before .before .before .room .given .1)
@@ -84,8 +84,8 @@ same-length c = search needs
 
 returns-3 : tie.Need-returns-3
 returns-3 c =
-    let s = c .before .before .before .before .before .before .before .before .before .before .before .before .before .before .before .before .before .before .before .before .before .before .before .before .before .before in
     let m = c .before .before .before .before .before .before .before .before .before .before .before in
+    let s = m .before .before .before .before .before .before .before .before .before .before .before .before .before .before .before in
     body-put (front s) (body s) (bytes s) (s .args .out .now) (whole s) (m .before .before .before .before .measure-site .ensures)
     (m .before .before .front .given .1) (m .measure .ensures) (c .before .before .before .before .before .before .before .before .before .room .given .1)
     (c .before .before .before .before .before .before .put-site .ensures) (c .before .before .put-lines .ensures)
