@@ -12,7 +12,7 @@ use Rattle.woot.specs.declared.Operation.the-variants.{Insert as insert}
 use Rattle.woot.specs.declared.Character.{Character}
 use Rattle.woot.specs.declared.Refusal.the-variants.{Position, Clock, Unplaceable as placeless, DocumentFull}
 use Rattle.woot.specs.declared.Sent.the-variants.{Refused as sentRefused}
-use Rattle.woot.specs.declared.memory.Replica.{Replica}
+use Rattle.memory.specs.Columns.{Replica}
 use Rattle.woot.specs.Limits.{lastClock}
 use Rattle.woot.specs.Ranges.{codePoint, previousId, nextId, inRange}
 use Rattle.woot.specs.State.{State}
@@ -21,7 +21,8 @@ use Rattle.woot.specs.Answers.{decided}
 use Rattle.woot.specs.Cursor.{leftOf}
 use Rattle.woot.specs.Calls.{unchanged, visibles, nextIdentifier, generatedInsert, beyondVisible, documentFull, insertChecks, sendInsert, localInsertWhen}
 use Rattle.woot.specs.Table.{key}
-use Rattle.woot.specs.Memory.{identifier, toggleCounts, meaning}
+use Rattle.woot.specs.Memory.{identifier, toggleCounts}
+use Rattle.memory.specs.Columns.{meaning}
 use Rattle.convergence.specs.Invariants.{Made}
 use Rattle.convergence.proofs.Forms.{Formed}
 use Rattle.convergence.proofs.Ranges.{in-range}

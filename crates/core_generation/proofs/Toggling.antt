@@ -13,7 +13,7 @@ use Rattle.woot.specs.declared.Identifier.{Identifier}
 use Rattle.woot.specs.declared.Toggle.{Toggle}
 use Rattle.woot.specs.declared.Character.{Character}
 use Rattle.woot.specs.declared.Refusal.the-variants.{Position, NotHidden, LastToggle}
-use Rattle.woot.specs.declared.memory.Replica.{Replica}
+use Rattle.memory.specs.Columns.{Replica}
 use Rattle.woot.specs.Limits.{lastToggles}
 use Rattle.woot.specs.Identifiers.{begin, same}
 use Rattle.woot.specs.Operations.{isVisible}
@@ -23,7 +23,8 @@ use Rattle.woot.specs.Placing.{identifiers}
 use Rattle.woot.specs.Answers.{decided}
 use Rattle.woot.specs.Calls.{visibles, beyondVisible, togglesOf, generatedToggle, notVisible, deleteChecks, generatedDelete, localDeleteWhen}
 use Rattle.woot.specs.Calls.{notHidden, exhausted, restoreChecks, localRestoreWhen}
-use Rattle.woot.specs.Memory.{identifier, characterOf, characterAt, toggleCounts, meaning}
+use Rattle.woot.specs.Memory.{identifier, characterOf, characterAt, toggleCounts}
+use Rattle.memory.specs.Columns.{meaning}
 use Rattle.convergence.proofs.Identifiers.{same-refl, same-sym}
 use Rattle.convergence.proofs.InsertionPoint.{member-range}
 use Rattle.convergence.proofs.Ranges.{toggles-ranged}

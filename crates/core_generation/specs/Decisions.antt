@@ -8,11 +8,11 @@ use Rattle.woot.specs.declared.Insert.{Insert}
 use Rattle.woot.specs.declared.Refusal.the-variants.{Unplaceable, DocumentFull}
 use Rattle.woot.specs.declared.Sent.{Sent}
 use Rattle.woot.specs.declared.Sent.the-variants.{Refused as sentRefused}
-use Rattle.woot.specs.declared.memory.Replica.{Replica}
+use Rattle.memory.specs.Columns.{Replica}
 use Rattle.woot.specs.State.{State}
 use Rattle.woot.specs.Calls.{Outcome, unchanged, sendInsert, localInsertWhen, sendToggle, localDeleteWhen}
 use Rattle.woot.specs.Calls.{localRestoreWhen}
-use Rattle.woot.specs.Memory.{meaning}
+use Rattle.memory.specs.Columns.{meaning}
 use Rattle.integration.specs.declared.Placement.{Placement}
 use Rattle.integration.specs.declared.Placement.the-variants.{Missing, Crossed, Unplaceable as placeless, Below}
 use Rattle.core_reception.specs.Decisions.{fullIn, Placed, Target}

@@ -11,7 +11,7 @@ use Rattle.woot.specs.declared.Operation.the-variants.{Insert as insert, Toggle
 use Rattle.woot.specs.declared.Character.{Character}
 use Rattle.woot.specs.declared.Refusal.the-variants.{SenderFull, DocumentFull}
 use Rattle.woot.specs.declared.Answer.the-variants.{Refused}
-use Rattle.woot.specs.declared.memory.Replica.{Replica}
+use Rattle.memory.specs.Columns.{Replica}
 use Rattle.woot.specs.Limits.{share}
 use Rattle.woot.specs.Operations.{sender}
 use Rattle.woot.specs.Ranges.{inRange}
@@ -19,7 +19,7 @@ use Rattle.woot.specs.State.{State}
 use Rattle.woot.specs.Pending.{executable, crossed, unplaceable, pendingFrom}
 use Rattle.woot.specs.Answers.{changes}
 use Rattle.woot.specs.Calls.{duplicate, conflicting, senderFull, documentFull}
-use Rattle.woot.specs.Memory.{meaning}
+use Rattle.memory.specs.Columns.{meaning}
 use Rattle.convergence.proofs.Shares.{pending-bound}
 use Rattle.convergence.proofs.Soundness.{sound-defer}
 use Rattle.convergence.proofs.Steps.{unused}

@@ -13,7 +13,7 @@ use Rattle.lists.proofs.Members.{member-any, any-append}
 use Rattle.woot.specs.declared.Identifier.{Identifier}
 use Rattle.woot.specs.declared.Insert.{Insert}
 use Rattle.woot.specs.declared.Character.{Character}
-use Rattle.woot.specs.declared.memory.Replica.{Replica}
+use Rattle.memory.specs.Columns.{Replica}
 use Rattle.woot.specs.Identifiers.{same}
 use Rattle.woot.specs.Operations.{origin, inserts}
 use Rattle.woot.specs.Ranges.{characterId}
@@ -21,7 +21,8 @@ use Rattle.woot.specs.State.{blankCharacter}
 use Rattle.woot.specs.Placing.{identifiers}
 use Rattle.woot.specs.Form.{presentInserts}
 use Rattle.woot.specs.Table.{key, keys}
-use Rattle.woot.specs.Memory.{characterAt, meaning}
+use Rattle.woot.specs.Memory.{characterAt}
+use Rattle.memory.specs.Columns.{meaning}
 use Rattle.convergence.proofs.Identifiers.{eq-same}
 use Rattle.convergence.proofs.Forms.{known-ids}
 use Rattle.convergence.proofs.Soundness.{standing}

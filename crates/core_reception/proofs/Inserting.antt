@@ -8,13 +8,13 @@ use Rattle.woot.specs.declared.Insert.{Insert}
 use Rattle.woot.specs.declared.Operation.the-variants.{Insert as insert}
 use Rattle.woot.specs.declared.Refusal.the-variants.{Conflict, DocumentFull}
 use Rattle.woot.specs.declared.Answer.the-variants.{Duplicate, Refused}
-use Rattle.woot.specs.declared.memory.Replica.{Replica}
+use Rattle.memory.specs.Columns.{Replica}
 use Rattle.woot.specs.Ranges.{insertInRange, inRange}
 use Rattle.woot.specs.State.{State}
 use Rattle.woot.specs.Pending.{executable, crossed, unplaceable}
 use Rattle.woot.specs.Answers.{changes}
 use Rattle.woot.specs.Calls.{duplicate, conflicting, senderFull, documentFull}
-use Rattle.woot.specs.Memory.{meaning}
+use Rattle.memory.specs.Columns.{meaning}
 use Rattle.convergence.proofs.Soundness.{sound-in}
 use Rattle.convergence.proofs.Steps.{Addable, drained-still, fresh-insert, space-insert}
 use Rattle.integration.specs.declared.Placement.{Placement}

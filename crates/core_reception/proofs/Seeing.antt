@@ -8,12 +8,13 @@ use lib.Dec.{eqb}
 use Rattle.woot.specs.declared.Insert.{Insert}
 use Rattle.woot.specs.declared.Operation.{Operation}
 use Rattle.woot.specs.declared.Operation.the-variants.{Insert as insert, Toggle as toggle}
-use Rattle.woot.specs.declared.memory.Replica.{Replica}
+use Rattle.memory.specs.Columns.{Replica}
 use Rattle.woot.specs.Operations.{origin, inserts}
 use Rattle.woot.specs.Ranges.{characterId, insertInRange}
 use Rattle.woot.specs.State.{blankPending}
 use Rattle.woot.specs.Form.{presentInserts}
-use Rattle.woot.specs.Memory.{identifier, characterOf, operationOf, meaning}
+use Rattle.woot.specs.Memory.{identifier, characterOf, operationOf}
+use Rattle.memory.specs.Columns.{meaning}
 use Rattle.convergence.proofs.Ranges.{in-range}
 use Rattle.core_form.specs.Examined.{Examined}
 use Rattle.core_form.proofs.Examining.{form, pending-read}

@@ -15,7 +15,7 @@ use Rattle.woot.specs.declared.Operation.{Operation}
 use Rattle.woot.specs.declared.Operation.the-variants.{Insert as insert, Toggle as toggle}
 use Rattle.woot.specs.declared.Character.{Character}
 use Rattle.woot.specs.declared.Answer.the-variants.{Duplicate}
-use Rattle.woot.specs.declared.memory.Replica.{Replica}
+use Rattle.memory.specs.Columns.{Replica}
 use Rattle.woot.specs.Identifiers.{same}
 use Rattle.woot.specs.Operations.{sameToggle, sameOperation}
 use Rattle.woot.specs.Ranges.{characterId, toggleInRange, inRange}
@@ -24,7 +24,8 @@ use Rattle.woot.specs.Pending.{executable, crossed, unplaceable}
 use Rattle.woot.specs.Answers.{changes}
 use Rattle.woot.specs.Calls.{duplicate, conflicting, senderFull, documentFull}
 use Rattle.woot.specs.Table.{key}
-use Rattle.woot.specs.Memory.{characterOf, valueOf, meaning}
+use Rattle.woot.specs.Memory.{characterOf, valueOf}
+use Rattle.memory.specs.Columns.{meaning}
 use Rattle.convergence.proofs.Identifiers.{same-eq}
 use Rattle.convergence.proofs.Ranges.{toggle-in-range}
 use Rattle.convergence.proofs.Places.{held-id}

@@ -13,7 +13,7 @@ use Rattle.woot.specs.declared.Operation.{Operation}
 use Rattle.woot.specs.declared.Operation.the-variants.{Insert as insert, Toggle as toggle}
 use Rattle.woot.specs.declared.Refusal.the-variants.{Crossed, Unplaceable, SenderFull, DocumentFull}
 use Rattle.woot.specs.declared.Answer.the-variants.{Done, Duplicate, Refused}
-use Rattle.woot.specs.declared.memory.Replica.{Replica}
+use Rattle.memory.specs.Columns.{Replica}
 use Rattle.woot.specs.Limits.{capacity, share}
 use Rattle.woot.specs.Identifiers.{same}
 use Rattle.woot.specs.Operations.{sender, character, inserts}
@@ -23,7 +23,8 @@ use Rattle.woot.specs.Clock.{heard, heardAll}
 use Rattle.woot.specs.Answers.{changes}
 use Rattle.woot.specs.Calls.{unchanged, insertCarried, carryOut, defer, receiveWhen}
 use Rattle.woot.specs.Table.{key}
-use Rattle.woot.specs.Memory.{valueOf, meaning}
+use Rattle.woot.specs.Memory.{valueOf}
+use Rattle.memory.specs.Columns.{meaning}
 use Rattle.convergence.specs.Invariants.{Sound}
 use Rattle.index.specs.declared.Found.the-variants.{At}
 use Rattle.index.specs.Keys.{firstIndex}

@@ -22,7 +22,7 @@ ghost use lib.ListN.{length, take};
 ghost use Rattle.woot.specs.declared.Operation.the-variants.{Insert as ofInsert, Toggle as ofToggle};
 ghost use Rattle.woot.specs.Operations.{sender};
 ghost use Rattle.woot.specs.Ranges.{insertInRange, toggleInRange, inRange};
-ghost use Rattle.woot.specs.Memory.{meaning};
+ghost use Rattle.memory.specs.Columns.{meaning};
 ghost use Rattle.memory.specs.Lent.{documentAs};
 ghost use Rattle.core_form.specs.Examined.{Examined};
 ghost use Rattle.core_reception.specs.Holder.{seenOf};
