@@ -2,20 +2,43 @@
 // cleared. Each array is edited where it lies.
 use woot::Insert;
 ghost use mathlib.Core.Path.{_≡_};
-ghost use mathlib.Core.List.{_++_};
-ghost use Prim.Native.Nat.{suc, _+_, _≤_, _<_, max};
-ghost use lib.ListN.{length, take, drop, set, getD};
+ghost use Prim.Native.Nat.{_+_, _≤_, _<_, max};
+ghost use lib.ListN.{length, take, set, getD};
 ghost use Rattle.lists.specs.Padding.{pad};
-ghost use Rattle.slots.specs.Slots.{put};
+ghost use Rattle.slots.specs.Slots.{putAt};
 ghost use Rattle.woot.specs.Table.{key, tableOf};
+ghost use Rattle.woot.specs.Memory.{column};
+
+// Puts four numbers in after the first k of the first n, one into each column.
+fn put_numbers(
+    characters: &mut [u32],
+    n: usize,
+    k: usize,
+    id: u32,
+    previous: u32,
+    next: u32,
+    code_point: u32,
+)
+    requires { ⌜ k ≤ n ⌝ }
+    requires { ⌜ n < 1024 ⌝ }
+    requires { ⌜ length (now characters) ≡ 4096 ⌝ }
+    ensures { λ _. ⌜ column 1024 0 (now (characters .exit)) ≡ putAt n k id (column 1024 0 (now (characters .entry))) ⌝ }
+    ensures { λ _. ⌜ column 1024 1 (now (characters .exit))
+        ≡ putAt n k previous (column 1024 1 (now (characters .entry))) ⌝ }
+    ensures { λ _. ⌜ column 1024 2 (now (characters .exit)) ≡ putAt n k next (column 1024 2 (now (characters .entry))) ⌝ }
+    ensures { λ _. ⌜ column 1024 3 (now (characters .exit))
+        ≡ putAt n k «code_point» (column 1024 3 (now (characters .entry))) ⌝ }
+{
+    slots::put_number(&mut characters[..1024], n, k, id);
+    slots::put_number(&mut characters[1024..2048], n, k, previous);
+    slots::put_number(&mut characters[2048..3072], n, k, next);
+    slots::put_number(&mut characters[3072..4096], n, k, code_point);
+}
 
 // Puts the character of an insert in after the first k of the first n, and makes the table anew. A step of the calls
 // and not a call: they have found the place, and checked that there is a slot.
 pub fn put_in(
-    ids: &mut [u32],
-    previous: &mut [u32],
-    next: &mut [u32],
-    code_points: &mut [u32],
+    characters: &mut [u32],
     toggles: &mut [u8],
     heads: &mut [u16],
     links: &mut [u16],
@@ -25,36 +48,36 @@ pub fn put_in(
 )
     requires { ⌜ k ≤ n ⌝ }
     requires { ⌜ n < 1024 ⌝ }
-    requires { ⌜ length (now ids) ≡ 1024 ⌝ }
-    requires { ⌜ length (now previous) ≡ 1024 ⌝ }
-    requires { ⌜ length (now next) ≡ 1024 ⌝ }
-    requires { ⌜ length (now «code_points») ≡ 1024 ⌝ }
+    requires { ⌜ length (now characters) ≡ 4096 ⌝ }
     requires { ⌜ length (now toggles) ≡ 1024 ⌝ }
     requires { ⌜ length (now heads) ≡ 1024 ⌝ }
     requires { ⌜ length (now links) ≡ 2048 ⌝ }
-    ensures { λ _. ⌜ now (ids .exit)
-        ≡ put k (key (insert .id)) (take n (now (ids .entry))) ++ drop (suc n) (now (ids .entry)) ⌝ }
-    ensures { λ _. ⌜ now (previous .exit)
-        ≡ put k (key (insert .previous)) (take n (now (previous .entry))) ++ drop (suc n) (now (previous .entry)) ⌝ }
-    ensures { λ _. ⌜ now (next .exit)
-        ≡ put k (key (insert .next)) (take n (now (next .entry))) ++ drop (suc n) (now (next .entry)) ⌝ }
-    ensures { λ _. ⌜ now («code_points» .exit)
-        ≡ put k (insert .«code_point») (take n (now («code_points» .entry)))
-        ++ drop (suc n) (now («code_points» .entry)) ⌝ }
-    ensures { λ _. ⌜ now (toggles .exit)
-        ≡ put k 0 (take n (now (toggles .entry))) ++ drop (suc n) (now (toggles .entry)) ⌝ }
+    ensures { λ _. ⌜ column 1024 0 (now (characters .exit))
+        ≡ putAt n k (key (insert .id)) (column 1024 0 (now (characters .entry))) ⌝ }
+    ensures { λ _. ⌜ column 1024 1 (now (characters .exit))
+        ≡ putAt n k (key (insert .previous)) (column 1024 1 (now (characters .entry))) ⌝ }
+    ensures { λ _. ⌜ column 1024 2 (now (characters .exit))
+        ≡ putAt n k (key (insert .next)) (column 1024 2 (now (characters .entry))) ⌝ }
+    ensures { λ _. ⌜ column 1024 3 (now (characters .exit))
+        ≡ putAt n k (insert .«code_point») (column 1024 3 (now (characters .entry))) ⌝ }
+    ensures { λ _. ⌜ now (toggles .exit) ≡ putAt n k 0 (now (toggles .entry)) ⌝ }
     ensures { λ _. ⌜ (record { heads = now (heads .exit); links = now (links .exit) })
-        ≡ tableOf (take (n + 1) (now (ids .exit))) ⌝ }
+        ≡ tableOf (take (n + 1) (column 1024 0 (now (characters .exit)))) ⌝ }
 {
     let id = insert.id;
-    let above = insert.previous;
-    let below = insert.next;
-    slots::put_number(ids, n, k, index::key(id));
-    slots::put_number(previous, n, k, index::key(above));
-    slots::put_number(next, n, k, index::key(below));
-    slots::put_number(code_points, n, k, insert.code_point);
+    let previous = insert.previous;
+    let next = insert.next;
+    put_numbers(
+        characters,
+        n,
+        k,
+        index::key(id),
+        index::key(previous),
+        index::key(next),
+        insert.code_point,
+    );
     slots::put_byte(toggles, n, k, 0);
-    chains::enter_all(ids, n + 1, heads, links);
+    chains::enter_all(characters, n + 1, heads, links);
 }
 
 // The larger of two counts of toggles.
@@ -74,38 +97,44 @@ pub fn toggle(toggles: &mut [u8], k: usize, count: u8)
     toggles[k] = larger(before, count);
 }
 
+// The first n of each column stay, and every slot behind them is 0.
+fn clear_columns(characters: &mut [u32], n: usize)
+    requires { ⌜ n ≤ 1024 ⌝ }
+    requires { ⌜ length (now characters) ≡ 4096 ⌝ }
+    ensures { λ _. ⌜ column 1024 0 (now (characters .exit)) ≡ pad 1024 0 (take n (column 1024 0 (now (characters .entry)))) ⌝ }
+    ensures { λ _. ⌜ column 1024 1 (now (characters .exit)) ≡ pad 1024 0 (take n (column 1024 1 (now (characters .entry)))) ⌝ }
+    ensures { λ _. ⌜ column 1024 2 (now (characters .exit)) ≡ pad 1024 0 (take n (column 1024 2 (now (characters .entry)))) ⌝ }
+    ensures { λ _. ⌜ column 1024 3 (now (characters .exit)) ≡ pad 1024 0 (take n (column 1024 3 (now (characters .entry)))) ⌝ }
+{
+    slots::clear_numbers(&mut characters[..1024], n);
+    slots::clear_numbers(&mut characters[1024..2048], n);
+    slots::clear_numbers(&mut characters[2048..3072], n);
+    slots::clear_numbers(&mut characters[3072..4096], n);
+}
+
 // The first n stay, every slot behind them is 0, and the table is made anew: a step of the calls, which have compared
 // the count.
 pub fn clear(
-    ids: &mut [u32],
-    previous: &mut [u32],
-    next: &mut [u32],
-    code_points: &mut [u32],
+    characters: &mut [u32],
     toggles: &mut [u8],
     heads: &mut [u16],
     links: &mut [u16],
     n: usize,
 )
     requires { ⌜ n ≤ 1024 ⌝ }
-    requires { ⌜ length (now ids) ≡ 1024 ⌝ }
-    requires { ⌜ length (now previous) ≡ 1024 ⌝ }
-    requires { ⌜ length (now next) ≡ 1024 ⌝ }
-    requires { ⌜ length (now «code_points») ≡ 1024 ⌝ }
+    requires { ⌜ length (now characters) ≡ 4096 ⌝ }
     requires { ⌜ length (now toggles) ≡ 1024 ⌝ }
     requires { ⌜ length (now heads) ≡ 1024 ⌝ }
     requires { ⌜ length (now links) ≡ 2048 ⌝ }
-    ensures { λ _. ⌜ now (ids .exit) ≡ pad 1024 0 (take n (now (ids .entry))) ⌝ }
-    ensures { λ _. ⌜ now (previous .exit) ≡ pad 1024 0 (take n (now (previous .entry))) ⌝ }
-    ensures { λ _. ⌜ now (next .exit) ≡ pad 1024 0 (take n (now (next .entry))) ⌝ }
-    ensures { λ _. ⌜ now («code_points» .exit) ≡ pad 1024 0 (take n (now («code_points» .entry))) ⌝ }
+    ensures { λ _. ⌜ column 1024 0 (now (characters .exit)) ≡ pad 1024 0 (take n (column 1024 0 (now (characters .entry)))) ⌝ }
+    ensures { λ _. ⌜ column 1024 1 (now (characters .exit)) ≡ pad 1024 0 (take n (column 1024 1 (now (characters .entry)))) ⌝ }
+    ensures { λ _. ⌜ column 1024 2 (now (characters .exit)) ≡ pad 1024 0 (take n (column 1024 2 (now (characters .entry)))) ⌝ }
+    ensures { λ _. ⌜ column 1024 3 (now (characters .exit)) ≡ pad 1024 0 (take n (column 1024 3 (now (characters .entry)))) ⌝ }
     ensures { λ _. ⌜ now (toggles .exit) ≡ pad 1024 0 (take n (now (toggles .entry))) ⌝ }
     ensures { λ _. ⌜ (record { heads = now (heads .exit); links = now (links .exit) })
-        ≡ tableOf (take n (now (ids .entry))) ⌝ }
+        ≡ tableOf (take n (column 1024 0 (now (characters .entry)))) ⌝ }
 {
-    chains::enter_all(ids, n, heads, links);
-    slots::clear_numbers(ids, n);
-    slots::clear_numbers(previous, n);
-    slots::clear_numbers(next, n);
-    slots::clear_numbers(code_points, n);
+    chains::enter_all(characters, n, heads, links);
+    clear_columns(characters, n);
     slots::clear_bytes(toggles, n);
 }

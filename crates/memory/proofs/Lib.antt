@@ -4,3 +4,4 @@ pub mod Bits
 pub mod Fullness
 pub mod Stored
 pub mod Views
+pub mod Replacing

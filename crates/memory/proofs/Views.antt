@@ -1,11 +1,11 @@
 -- A document in memory and its columns are each other's: arrays that hold two lists have the columns of the lists, and
 -- arrays of their length are determined by their columns.
-use Prim.Native.Nat.{ℕ, suc, _+_, _*_, _≤_}
+use Prim.Native.Nat.{ℕ, suc, _+_, _*_, _≤_, _<_}
 use native.Mathlib.Omega.{arith}
 use mathlib.Core.Path.{_≡_, refl, sym, ap, ap₂, _∙_}
 use mathlib.Core.List.{List, [], _∷_, _++_, map}
-use lib.ListN.{length, take, drop, length-map, length-drop, take-append-drop}
-use lib.Seq.{take-at, drop-at, drop-drop, take-all}
+use lib.ListN.{length, take, drop, getD, length-map, length-drop, take-append-drop}
+use lib.Seq.{take-at, drop-at, drop-drop, take-all, getD-take, getD-drop}
 use Rattle.lists.specs.Padding.{pad}
 use Rattle.lists.proofs.Padding.{pad-length}
 use Rattle.woot.specs.declared.Site.{Site}
@@ -50,6 +50,10 @@ module _ (m : ℕ) (ws xs ys zs : List ℕ) (a : length ws ≡ m) (b : length xs
 
   pub fourth-column : column m 3 (ws ++ (xs ++ (ys ++ zs))) ≡ zs
   fourth-column = rw past-3 (take-all m zs (omega (arith, d)))
+
+-- a slot of a column
+pub column-at : (m j : ℕ) (xs : List ℕ) (i : ℕ) → i < m → getD (column m j xs) i 0 ≡ getD xs (j * m + i) 0
+column-at m j xs i h = getD-take m (drop (j * m) xs) i 0 h ∙ getD-drop (j * m) xs i 0
 
 -- an array of four columns is its columns
 pub columns-whole : (m : ℕ) (xs : List ℕ) → length xs ≡ 4 * m → column m 0 xs ++ (column m 1 xs ++ (column m 2 xs ++ column m 3 xs)) ≡ xs
