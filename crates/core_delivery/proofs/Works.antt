@@ -167,10 +167,10 @@ pub cleared : (d : Document) → Lent d → {is ps ns cs ts os fs ss vs hs ls : 
     → ns ≡ pad 1024 0 (take (d .length) (d .next))
     → cs ≡ pad 1024 0 (take (d .length) (d .«code_points»))
     → ts ≡ pad 1024 0 (take (d .length) (d .toggles))
-    → os ≡ pad (length (d .own)) 0 (take (d .waiting) (d .own))
-    → fs ≡ pad (length (d .first)) 0 (take (d .waiting) (d .first))
-    → ss ≡ pad (length (d .second)) 0 (take (d .waiting) (d .second))
-    → vs ≡ pad (length (d .values)) 0 (take (d .waiting) (d .values))
+    → os ≡ pad 512 0 (take (d .waiting) (d .own))
+    → fs ≡ pad 512 0 (take (d .waiting) (d .first))
+    → ss ≡ pad 512 0 (take (d .waiting) (d .second))
+    → vs ≡ pad 512 0 (take (d .waiting) (d .values))
     → _≡_ {A = Table} (record { heads = hs; links = ls }) (tableOf (take (d .length) (d .ids)))
     → documentAs is ps ns cs ts (d .length) os fs ss vs (d .waiting) hs ls ≡ documentOf (charactersIn d) (operationsIn d)
 cleared d l i p n c t o f g v b =
@@ -186,13 +186,10 @@ cleared d l i p n c t o f g v b =
       points = c ∙ ap (pad 1024 0) (sym (points-in d (omega (arith, few, s .points))));
       toggles = t ∙ ap (pad 1024 0) (sym (toggles-in d (omega (arith, few, s .toggles))));
       length-is = sym (character-count d);
-      own = o ∙ column (s .own) (own-in d (l .ranged) (omega (arith, wait, s .own)));
-      first = f ∙ column (s .first) (first-in d (l .ranged) (omega (arith, wait, s .first)));
-      second = g ∙ column (s .second) (second-in d (l .ranged) (omega (arith, wait, s .second)));
-      values = v ∙ column (s .values) (values-in d (l .ranged) (omega (arith, wait, s .values)));
+      own = o ∙ ap (pad 512 0) (sym (own-in d (l .ranged) (omega (arith, wait, s .own))));
+      first = f ∙ ap (pad 512 0) (sym (first-in d (l .ranged) (omega (arith, wait, s .first))));
+      second = g ∙ ap (pad 512 0) (sym (second-in d (l .ranged) (omega (arith, wait, s .second))));
+      values = v ∙ ap (pad 512 0) (sym (values-in d (l .ranged) (omega (arith, wait, s .values))));
       waiting-is = sym (pending-count d);
       table = b ∙ ap tableOf ids;
     })
-  where
-    column : {m : ℕ} {xs ys : List ℕ} → m ≡ 512 → ys ≡ xs → pad m 0 xs ≡ pad 512 0 ys
-    column e q = λ j. pad (e j) 0 (sym q j)

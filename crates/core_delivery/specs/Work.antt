@@ -24,7 +24,7 @@ use Rattle.convergence.specs.Invariants.{Sound}
 use Rattle.index.specs.declared.Found.{Found}
 use Rattle.index.specs.declared.Found.the-variants.{At}
 use Rattle.index.specs.Keys.{firstIndex}
-use Rattle.memory.specs.Lent.{documentAs}
+use Rattle.memory.specs.Lent.{columnsAs}
 use Rattle.core_delivery.specs.declared.Progress.{Progress}
 
 -- ---- lent arrays
@@ -62,12 +62,10 @@ pub record Work : Type 0 where
   pub integrated : ℕ
   pub discarded : ℕ
 
-abbrev pub workAs :
-    List ℕ → List ℕ → List ℕ → List ℕ → List ℕ → List ℕ → List ℕ → List ℕ → List ℕ → List ℕ → List ℕ → Progress → Work
-workAs ids previous next points toggles own first second values heads links p =
+abbrev pub workAs : List ℕ → List ℕ → List ℕ → List ℕ → List ℕ → Progress → Work
+workAs characters toggles pending heads links p =
     record {
-      document =
-          documentAs ids previous next points toggles (p .length) own first second values (p .waiting) heads links;
+      document = columnsAs characters toggles (p .length) pending (p .waiting) heads links;
       integrated = p .integrated;
       discarded = p .discarded;
     }

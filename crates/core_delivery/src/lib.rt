@@ -11,16 +11,20 @@ use woot::Insert;
 use woot::Operation;
 use woot::Toggle;
 ghost use mathlib.Core.Path.{_≡_};
-ghost use mathlib.Core.List.{_++_, _∷_, []};
+ghost use mathlib.Core.List.{List, _++_, _∷_, []};
 ghost use Prim.Native.Nat.{_+_, _≤_, _<_};
 ghost use lib.ListN.{length, take};
 ghost use Rattle.index.specs.declared.Found.the-variants.{At};
-ghost use Rattle.index.specs.Keys.{found};
+ghost use Rattle.index.specs.Keys.{AllSmall, found};
 ghost use Rattle.index.specs.Tabled.{Tabled};
-ghost use Rattle.memory.specs.Lent.{documentAs};
+ghost use Rattle.memory.specs.Lent.{columnsAs};
 ghost use Rattle.memory.specs.Columns.{charactersIn, operationsIn, documentOf};
+ghost use Rattle.woot.specs.declared.Character.{Character};
+ghost use Rattle.woot.specs.Memory.{column, previousKeys, nextKeys};
+ghost use Rattle.core_pending.specs.Ready.{readyIn};
+ghost use Rattle.integration.specs.Placements.{placementOf};
 ghost use Rattle.woot.specs.Placing.{integrateInsert, integrateToggle};
-ghost use Rattle.woot.specs.Table.{key};
+ghost use Rattle.woot.specs.Table.{key, keys};
 ghost use Rattle.core_delivery.specs.Work.{Lent, workAs, Workable, Placed, Targeted, dueIn, steppedIn, finishedIn};
 ghost use Rattle.core_delivery.specs.Work.{finished};
 ghost use Rattle.core_delivery.specs.Steps.{toggledAt, placeOf};
@@ -36,54 +40,104 @@ pub struct Progress {
 
 // Clears what is not in use, so that the arrays are those that the rules' lists are stored in.
 fn clear(
-    ids: &mut [u32],
-    previous: &mut [u32],
-    next: &mut [u32],
-    code_points: &mut [u32],
+    characters: &mut [u32],
     toggles: &mut [u8],
-    own: &mut [u32],
-    first: &mut [u32],
-    second: &mut [u32],
-    values: &mut [u32],
+    pending: &mut [u32],
     heads: &mut [u16],
     links: &mut [u16],
     n: usize,
     w: usize,
 )
-    requires { ⌜ Lent (documentAs (now ids) (now previous) (now next) (now «code_points») (now toggles) n (now own)
-        (now first) (now second) (now values) w (now heads) (now links)) ⌝ }
-    ensures { λ _. ⌜ (documentAs (now (ids .exit)) (now (previous .exit)) (now (next .exit)) (now («code_points» .exit))
-        (now (toggles .exit)) n (now (own .exit)) (now (first .exit)) (now (second .exit)) (now (values .exit))
-        w (now (heads .exit)) (now (links .exit)))
-        ≡ documentOf (charactersIn (documentAs (now (ids .entry)) (now (previous .entry)) (now (next .entry)) (now («code_points» .entry))
-        (now (toggles .entry)) n (now (own .entry)) (now (first .entry)) (now (second .entry))
-        (now (values .entry)) w (now (heads .entry)) (now (links .entry))))
-        (operationsIn (documentAs (now (ids .entry)) (now (previous .entry)) (now (next .entry)) (now («code_points» .entry))
-        (now (toggles .entry)) n (now (own .entry)) (now (first .entry)) (now (second .entry))
-        (now (values .entry)) w (now (heads .entry)) (now (links .entry)))) ⌝ }
+    requires { ⌜ length (now characters) ≡ 4096 ⌝ }
+    requires { ⌜ length (now pending) ≡ 2048 ⌝ }
+    requires { ⌜ Lent (columnsAs (now characters) (now toggles) n (now pending) w (now heads) (now links)) ⌝ }
+    ensures { λ _. ⌜ (columnsAs (now (characters .exit)) (now (toggles .exit)) n (now (pending .exit)) w (now (heads .exit))
+        (now (links .exit)))
+        ≡ documentOf (charactersIn (columnsAs (now (characters .entry)) (now (toggles .entry)) n (now (pending .entry)) w
+        (now (heads .entry)) (now (links .entry))))
+        (operationsIn (columnsAs (now (characters .entry)) (now (toggles .entry)) n (now (pending .entry)) w
+        (now (heads .entry)) (now (links .entry)))) ⌝ }
 {
-    characters::clear(ids, previous, next, code_points, toggles, heads, links, n);
-    edits::clear(own, first, second, values, w);
+    characters::clear(characters, toggles, heads, links, n);
+    edits::clear(pending, w);
+}
+
+// Where an insert goes among the first n characters.
+fn find_place<'a>(
+    heads: &'a [u16],
+    links: &'a [u16],
+    characters: &'a [u32],
+    n: usize,
+    insert: Insert,
+) -> Placement
+    requires { ⌜ n ≤ 1024 ⌝ }
+    requires { ⌜ length (now characters) ≡ 4096 ⌝ }
+    requires { ⌜ Tabled (record { heads = now heads; links = now links }) (take n (column 1024 0 (now characters))) ⌝ }
+    ensures { λ r. ⌜ ((cs : List Character)
+        → take n (column 1024 0 (now (characters .entry))) ≡ keys cs
+        → take n (column 1024 1 (now (characters .entry))) ≡ previousKeys cs
+        → take n (column 1024 2 (now (characters .entry))) ≡ nextKeys cs → AllSmall cs
+        → r ≡ placementOf cs insert) ⌝ }
+{
+    keyed::find_place(
+        heads,
+        links,
+        &characters[..1024],
+        &characters[1024..2048],
+        &characters[2048..3072],
+        n,
+        insert,
+    )
+}
+
+// The index of the earliest of the first w pending operations that is executable.
+fn due<'a>(
+    heads: &'a [u16],
+    links: &'a [u16],
+    characters: &'a [u32],
+    n: usize,
+    pending: &'a [u32],
+    w: usize,
+) -> Found
+    requires { ⌜ n ≤ 1024 ⌝ }
+    requires { ⌜ w ≤ 512 ⌝ }
+    requires { ⌜ length (now characters) ≡ 4096 ⌝ }
+    requires { ⌜ length (now pending) ≡ 2048 ⌝ }
+    requires { ⌜ Tabled (record { heads = now heads; links = now links }) (take n (column 1024 0 (now characters))) ⌝ }
+    ensures { λ r. ⌜ r
+        ≡ readyIn (take n (column 1024 0 (now (characters .entry)))) (take w (column 512 1 (now (pending .entry))))
+        (take w (column 512 2 (now (pending .entry)))) ⌝ }
+{
+    ready::ready_among(
+        heads,
+        links,
+        &characters[..1024],
+        n,
+        &pending[512..1024],
+        &pending[1024..1536],
+        w,
+    )
 }
 
 // Gives the target of a toggle the larger count, where it is among the first n.
 fn carry_toggle<'a>(
     heads: &'a [u16],
     links: &'a [u16],
-    ids: &'a [u32],
+    characters: &'a [u32],
     toggles: &mut [u8],
     n: usize,
     toggle: Toggle,
 )
-    requires { ⌜ n ≤ length (now ids) ⌝ }
+    requires { ⌜ n ≤ 1024 ⌝ }
+    requires { ⌜ length (now characters) ≡ 4096 ⌝ }
     requires { ⌜ n ≤ length (now toggles) ⌝ }
-    requires { ⌜ Tabled (record { heads = now heads; links = now links }) (take n (now ids)) ⌝ }
+    requires { ⌜ Tabled (record { heads = now heads; links = now links }) (take n (column 1024 0 (now characters))) ⌝ }
     ensures { λ _. ⌜ now (toggles .exit)
-        ≡ toggledAt (found (key (toggle .target)) (take n (now (ids .entry)))) (toggle .toggles)
-        (now (toggles .entry)) ⌝ }
+        ≡ toggledAt (found (key (toggle .target)) (take n (column 1024 0 (now (characters .entry)))))
+        (toggle .toggles) (now (toggles .entry)) ⌝ }
 {
     let target = toggle.target;
-    match table::find_among(heads, links, ids, n, index::key(target)) {
+    match table::find_among(heads, links, &characters[..1024], n, index::key(target)) {
         Found::At(k) => {
             characters::toggle(toggles, k, toggle.toggles);
             return;
@@ -108,52 +162,33 @@ fn place_of(placement: Placement) -> Found
 
 // Takes out the pending operation that is due, and carries it out or discards it.
 fn step(
-    ids: &mut [u32],
-    previous: &mut [u32],
-    next: &mut [u32],
-    code_points: &mut [u32],
+    characters: &mut [u32],
     toggles: &mut [u8],
-    own: &mut [u32],
-    first: &mut [u32],
-    second: &mut [u32],
-    values: &mut [u32],
+    pending: &mut [u32],
     heads: &mut [u16],
     links: &mut [u16],
     progress: Progress,
     j: usize,
 ) -> Progress
-    requires { ⌜ Workable (workAs (now ids) (now previous) (now next) (now «code_points») (now toggles) (now own) (now first)
-        (now second) (now values) (now heads) (now links) progress) ⌝ }
-    requires { ⌜ dueIn (workAs (now ids) (now previous) (now next) (now «code_points») (now toggles) (now own) (now first)
-        (now second) (now values) (now heads) (now links) progress) ≡ At j ⌝ }
-    ensures { λ r. ⌜ (workAs (now (ids .exit)) (now (previous .exit)) (now (next .exit)) (now («code_points» .exit))
-        (now (toggles .exit)) (now (own .exit)) (now (first .exit)) (now (second .exit)) (now (values .exit))
-        (now (heads .exit)) (now (links .exit)) r)
-        ≡ steppedIn (workAs (now (ids .entry)) (now (previous .entry)) (now (next .entry)) (now («code_points» .entry))
-        (now (toggles .entry)) (now (own .entry)) (now (first .entry)) (now (second .entry))
-        (now (values .entry)) (now (heads .entry)) (now (links .entry)) progress) ⌝ }
+    requires { ⌜ length (now characters) ≡ 4096 ⌝ }
+    requires { ⌜ length (now pending) ≡ 2048 ⌝ }
+    requires { ⌜ Workable (workAs (now characters) (now toggles) (now pending) (now heads) (now links) progress) ⌝ }
+    requires { ⌜ dueIn (workAs (now characters) (now toggles) (now pending) (now heads) (now links) progress) ≡ At j ⌝ }
+    ensures { λ r. ⌜ (workAs (now (characters .exit)) (now (toggles .exit)) (now (pending .exit)) (now (heads .exit))
+        (now (links .exit)) r)
+        ≡ steppedIn (workAs (now (characters .entry)) (now (toggles .entry)) (now (pending .entry)) (now (heads .entry))
+        (now (links .entry)) progress) ⌝ }
 {
     let n = progress.length;
     let w = progress.waiting;
-    let operation = edits::operation_at(own, first, second, values, j);
-    edits::remove(own, first, second, values, w, j);
+    let operation = edits::operation_at(pending, j);
+    edits::remove(pending, w, j);
     match operation {
         Operation::Insert(i) => {
-            let placement = keyed::find_place(heads, links, ids, previous, next, n, i);
+            let placement = find_place(heads, links, characters, n, i);
             match place_of(placement) {
                 Found::At(k) => {
-                    characters::put_in(
-                        ids,
-                        previous,
-                        next,
-                        code_points,
-                        toggles,
-                        heads,
-                        links,
-                        n,
-                        k,
-                        i,
-                    );
+                    characters::put_in(characters, toggles, heads, links, n, k, i);
                     return Progress {
                         length: n + 1,
                         waiting: w - 1,
@@ -172,7 +207,7 @@ fn step(
             }
         }
         Operation::Toggle(t) => {
-            carry_toggle(heads, links, ids, toggles, n, t);
+            carry_toggle(heads, links, characters, toggles, n, t);
             return Progress {
                 length: n,
                 waiting: w - 1,
@@ -185,47 +220,26 @@ fn step(
 
 // Carries out or discards pending operations, the earliest that is executable first, until none is.
 fn drain(
-    ids: &mut [u32],
-    previous: &mut [u32],
-    next: &mut [u32],
-    code_points: &mut [u32],
+    characters: &mut [u32],
     toggles: &mut [u8],
-    own: &mut [u32],
-    first: &mut [u32],
-    second: &mut [u32],
-    values: &mut [u32],
+    pending: &mut [u32],
     heads: &mut [u16],
     links: &mut [u16],
     progress: Progress,
 ) -> Progress
-    requires { ⌜ Workable (workAs (now ids) (now previous) (now next) (now «code_points») (now toggles) (now own) (now first)
-        (now second) (now values) (now heads) (now links) progress) ⌝ }
-    ensures { λ r. ⌜ (workAs (now (ids .exit)) (now (previous .exit)) (now (next .exit)) (now («code_points» .exit))
-        (now (toggles .exit)) (now (own .exit)) (now (first .exit)) (now (second .exit)) (now (values .exit))
-        (now (heads .exit)) (now (links .exit)) r)
-        ≡ finishedIn (workAs (now (ids .entry)) (now (previous .entry)) (now (next .entry)) (now («code_points» .entry))
-        (now (toggles .entry)) (now (own .entry)) (now (first .entry)) (now (second .entry))
-        (now (values .entry)) (now (heads .entry)) (now (links .entry)) progress) ⌝ }
+    requires { ⌜ length (now characters) ≡ 4096 ⌝ }
+    requires { ⌜ length (now pending) ≡ 2048 ⌝ }
+    requires { ⌜ Workable (workAs (now characters) (now toggles) (now pending) (now heads) (now links) progress) ⌝ }
+    ensures { λ r. ⌜ (workAs (now (characters .exit)) (now (toggles .exit)) (now (pending .exit)) (now (heads .exit))
+        (now (links .exit)) r)
+        ≡ finishedIn (workAs (now (characters .entry)) (now (toggles .entry)) (now (pending .entry)) (now (heads .entry))
+        (now (links .entry)) progress) ⌝ }
 {
     let mut done = progress;
     loop {
-        match ready::ready_among(heads, links, ids, done.length, first, second, done.waiting) {
+        match due(heads, links, characters, done.length, pending, done.waiting) {
             Found::At(j) => {
-                done = step(
-                    ids,
-                    previous,
-                    next,
-                    code_points,
-                    toggles,
-                    own,
-                    first,
-                    second,
-                    values,
-                    heads,
-                    links,
-                    done,
-                    j,
-                );
+                done = step(characters, toggles, pending, heads, links, done, j);
             }
             Found::Nothing => {
                 return done;
@@ -237,15 +251,9 @@ fn drain(
 // Puts in an insert after the first k characters, and carries out all that it released. A step of the calls and not a
 // call: they have checked the replica and found the place.
 pub fn integrate(
-    ids: &mut [u32],
-    previous: &mut [u32],
-    next: &mut [u32],
-    code_points: &mut [u32],
+    characters: &mut [u32],
     toggles: &mut [u8],
-    own: &mut [u32],
-    first: &mut [u32],
-    second: &mut [u32],
-    values: &mut [u32],
+    pending: &mut [u32],
     heads: &mut [u16],
     links: &mut [u16],
     n: usize,
@@ -253,79 +261,33 @@ pub fn integrate(
     k: usize,
     insert: Insert,
 ) -> Progress
-    requires { ⌜ Placed (documentAs (now ids) (now previous) (now next) (now «code_points») (now toggles) n (now own)
-        (now first) (now second) (now values) w (now heads) (now links)) insert k ⌝ }
-    ensures { λ r. ⌜ (workAs (now (ids .exit)) (now (previous .exit)) (now (next .exit)) (now («code_points» .exit))
-        (now (toggles .exit)) (now (own .exit)) (now (first .exit)) (now (second .exit)) (now (values .exit))
-        (now (heads .exit)) (now (links .exit)) r)
-        ≡ finished (integrateInsert (charactersIn (documentAs (now (ids .entry)) (now (previous .entry)) (now (next .entry)) (now («code_points» .entry))
-        (now (toggles .entry)) n (now (own .entry)) (now (first .entry)) (now (second .entry))
-        (now (values .entry)) w (now (heads .entry)) (now (links .entry)))) insert)
-        (operationsIn (documentAs (now (ids .entry)) (now (previous .entry)) (now (next .entry)) (now («code_points» .entry))
-        (now (toggles .entry)) n (now (own .entry)) (now (first .entry)) (now (second .entry))
-        (now (values .entry)) w (now (heads .entry)) (now (links .entry)))) 1 0 ⌝ }
+    requires { ⌜ length (now characters) ≡ 4096 ⌝ }
+    requires { ⌜ length (now pending) ≡ 2048 ⌝ }
+    requires { ⌜ Placed (columnsAs (now characters) (now toggles) n (now pending) w (now heads) (now links)) insert k ⌝ }
+    ensures { λ r. ⌜ (workAs (now (characters .exit)) (now (toggles .exit)) (now (pending .exit)) (now (heads .exit))
+        (now (links .exit)) r)
+        ≡ finished (integrateInsert (charactersIn (columnsAs (now (characters .entry)) (now (toggles .entry)) n (now (pending .entry)) w
+        (now (heads .entry)) (now (links .entry)))) insert)
+        (operationsIn (columnsAs (now (characters .entry)) (now (toggles .entry)) n (now (pending .entry)) w
+        (now (heads .entry)) (now (links .entry)))) 1 0 ⌝ }
 {
-    clear(
-        ids,
-        previous,
-        next,
-        code_points,
-        toggles,
-        own,
-        first,
-        second,
-        values,
-        heads,
-        links,
-        n,
-        w,
-    );
-    characters::put_in(
-        ids,
-        previous,
-        next,
-        code_points,
-        toggles,
-        heads,
-        links,
-        n,
-        k,
-        insert,
-    );
+    clear(characters, toggles, pending, heads, links, n, w);
+    characters::put_in(characters, toggles, heads, links, n, k, insert);
     let progress = Progress {
         length: n + 1,
         waiting: w,
         integrated: 1,
         discarded: 0,
     };
-    drain(
-        ids,
-        previous,
-        next,
-        code_points,
-        toggles,
-        own,
-        first,
-        second,
-        values,
-        heads,
-        links,
-        progress,
-    )
+    drain(characters, toggles, pending, heads, links, progress)
 }
 
 // Gives the character in a slot the larger count of toggles. A step of the calls and not a call: they have checked the
 // replica and found the target there.
 pub fn toggle(
-    ids: &mut [u32],
-    previous: &mut [u32],
-    next: &mut [u32],
-    code_points: &mut [u32],
+    characters: &mut [u32],
     toggles: &mut [u8],
-    own: &mut [u32],
-    first: &mut [u32],
-    second: &mut [u32],
-    values: &mut [u32],
+    pending: &mut [u32],
     heads: &mut [u16],
     links: &mut [u16],
     n: usize,
@@ -333,81 +295,43 @@ pub fn toggle(
     k: usize,
     toggle: Toggle,
 )
-    requires { ⌜ Targeted (documentAs (now ids) (now previous) (now next) (now «code_points») (now toggles) n (now own)
-        (now first) (now second) (now values) w (now heads) (now links)) toggle k ⌝ }
-    ensures { λ _. ⌜ (documentAs (now (ids .exit)) (now (previous .exit)) (now (next .exit)) (now («code_points» .exit))
-        (now (toggles .exit)) n (now (own .exit)) (now (first .exit)) (now (second .exit)) (now (values .exit))
-        w (now (heads .exit)) (now (links .exit)))
-        ≡ documentOf (integrateToggle (charactersIn (documentAs (now (ids .entry)) (now (previous .entry)) (now (next .entry)) (now («code_points» .entry))
-        (now (toggles .entry)) n (now (own .entry)) (now (first .entry)) (now (second .entry))
-        (now (values .entry)) w (now (heads .entry)) (now (links .entry)))) toggle)
-        (operationsIn (documentAs (now (ids .entry)) (now (previous .entry)) (now (next .entry)) (now («code_points» .entry))
-        (now (toggles .entry)) n (now (own .entry)) (now (first .entry)) (now (second .entry))
-        (now (values .entry)) w (now (heads .entry)) (now (links .entry)))) ⌝ }
+    requires { ⌜ length (now characters) ≡ 4096 ⌝ }
+    requires { ⌜ length (now pending) ≡ 2048 ⌝ }
+    requires { ⌜ Targeted (columnsAs (now characters) (now toggles) n (now pending) w (now heads) (now links)) toggle k ⌝ }
+    ensures { λ _. ⌜ (columnsAs (now (characters .exit)) (now (toggles .exit)) n (now (pending .exit)) w (now (heads .exit))
+        (now (links .exit)))
+        ≡ documentOf (integrateToggle (charactersIn (columnsAs (now (characters .entry)) (now (toggles .entry)) n (now (pending .entry)) w
+        (now (heads .entry)) (now (links .entry)))) toggle)
+        (operationsIn (columnsAs (now (characters .entry)) (now (toggles .entry)) n (now (pending .entry)) w
+        (now (heads .entry)) (now (links .entry)))) ⌝ }
 {
-    clear(
-        ids,
-        previous,
-        next,
-        code_points,
-        toggles,
-        own,
-        first,
-        second,
-        values,
-        heads,
-        links,
-        n,
-        w,
-    );
+    clear(characters, toggles, pending, heads, links, n, w);
     characters::toggle(toggles, k, toggle.toggles);
 }
 
 // Puts an operation behind the pending ones. A step of the calls and not a call: they have checked the replica and that
 // there is a slot.
 pub fn defer(
-    ids: &mut [u32],
-    previous: &mut [u32],
-    next: &mut [u32],
-    code_points: &mut [u32],
+    characters: &mut [u32],
     toggles: &mut [u8],
-    own: &mut [u32],
-    first: &mut [u32],
-    second: &mut [u32],
-    values: &mut [u32],
+    pending: &mut [u32],
     heads: &mut [u16],
     links: &mut [u16],
     n: usize,
     w: usize,
     operation: Operation,
 )
-    requires { ⌜ Lent (documentAs (now ids) (now previous) (now next) (now «code_points») (now toggles) n (now own)
-        (now first) (now second) (now values) w (now heads) (now links)) ⌝ }
+    requires { ⌜ length (now characters) ≡ 4096 ⌝ }
+    requires { ⌜ length (now pending) ≡ 2048 ⌝ }
+    requires { ⌜ Lent (columnsAs (now characters) (now toggles) n (now pending) w (now heads) (now links)) ⌝ }
     requires { ⌜ w < 512 ⌝ }
-    ensures { λ _. ⌜ (documentAs (now (ids .exit)) (now (previous .exit)) (now (next .exit)) (now («code_points» .exit))
-        (now (toggles .exit)) n (now (own .exit)) (now (first .exit)) (now (second .exit)) (now (values .exit))
-        (w + 1) (now (heads .exit)) (now (links .exit)))
-        ≡ documentOf (charactersIn (documentAs (now (ids .entry)) (now (previous .entry)) (now (next .entry)) (now («code_points» .entry))
-        (now (toggles .entry)) n (now (own .entry)) (now (first .entry)) (now (second .entry))
-        (now (values .entry)) w (now (heads .entry)) (now (links .entry))))
-        (operationsIn (documentAs (now (ids .entry)) (now (previous .entry)) (now (next .entry)) (now («code_points» .entry))
-        (now (toggles .entry)) n (now (own .entry)) (now (first .entry)) (now (second .entry))
-        (now (values .entry)) w (now (heads .entry)) (now (links .entry))) ++ operation ∷ []) ⌝ }
+    ensures { λ _. ⌜ (columnsAs (now (characters .exit)) (now (toggles .exit)) n (now (pending .exit)) (w + 1)
+        (now (heads .exit)) (now (links .exit)))
+        ≡ documentOf (charactersIn (columnsAs (now (characters .entry)) (now (toggles .entry)) n (now (pending .entry)) w
+        (now (heads .entry)) (now (links .entry))))
+        (operationsIn (columnsAs (now (characters .entry)) (now (toggles .entry)) n (now (pending .entry)) w
+        (now (heads .entry)) (now (links .entry))) ++ operation ∷ []) ⌝ }
 {
-    clear(
-        ids,
-        previous,
-        next,
-        code_points,
-        toggles,
-        own,
-        first,
-        second,
-        values,
-        heads,
-        links,
-        n,
-        w,
-    );
-    edits::push(own, first, second, values, w, operation);
+    clear(characters, toggles, pending, heads, links, n, w);
+    edits::push(pending, w, operation);
 }

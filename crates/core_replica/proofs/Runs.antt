@@ -172,7 +172,10 @@ run-within s (c ∷ cs) w = run-within (outcome s c .state) cs (within-kept s c 
 pub replicas-converge : ReplicasConverge
 unfolding textOf
 replicas-converge a b cs ds inserted toggled =
-    rw
-    (replicas-follow a cs, replicas-follow b ds, meaning-stored (run (startOf a) cs) (run-within (startOf a) cs (begun-within a)),
-    meaning-stored (run (startOf b) ds) (run-within (startOf b) ds (begun-within b)))
+    rw (
+      replicas-follow a cs,
+      replicas-follow b ds,
+      meaning-stored (run (startOf a) cs) (run-within (startOf a) cs (begun-within a)),
+      meaning-stored (run (startOf b) ds) (run-within (startOf b) ds (begun-within b)),
+    )
     (convergence a b cs ds inserted toggled)

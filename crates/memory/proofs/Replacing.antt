@@ -88,8 +88,9 @@ module _ (m : ℕ) (xs : List ℕ) (size : length xs ≡ 4 * m) where
             → let rs = putMid (3 * m) m (putMid (2 * m) m (putMid m m (vs ++ drop m xs) bs) cs) ds in
             (column m 0 rs ≡ vs) × (column m 1 rs ≡ bs) × (column m 2 rs ≡ cs) × (column m 3 rs ≡ ds)
         columns-are ds d =
-            let e = all-replaced ds in
-            (ap (column m 0) e ∙ first-column m vs bs cs ds a b c d,
-            ap (column m 1) e ∙ second-column m vs bs cs ds a b c d,
-            ap (column m 2) e ∙ third-column m vs bs cs ds a b c d,
-            ap (column m 3) e ∙ fourth-column m vs bs cs ds a b c d)
+            let e = all-replaced ds in (
+              ap (column m 0) e ∙ first-column m vs bs cs ds a b c d,
+              ap (column m 1) e ∙ second-column m vs bs cs ds a b c d,
+              ap (column m 2) e ∙ third-column m vs bs cs ds a b c d,
+              ap (column m 3) e ∙ fourth-column m vs bs cs ds a b c d,
+            )

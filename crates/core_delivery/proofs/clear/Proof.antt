@@ -1,15 +1,14 @@
 -- `core_delivery::clear` leaves the columns of the lists, and zeros behind them.
 use Rattle.core_delivery.proofs.Works.{cleared}
-use native.Mathlib.Omega.{arith}
 use borrow.Author.Needs.{needs}
 use Rattle.core_delivery.proofs.clear.Statement.{statement}
 use Rattle.core_delivery.proofs.clear.Tie as tie
 
 clear-requires : tie.Need-clear-requires
-clear-requires c κs = search needs
+clear-requires c κs = let l = c .before .before .before .before .before .before .before .before .before .pre .1 .1 in (l .few, (c .before .before .before .before .before .before .before .before .before .pre .0, (l .slots .toggles, (l .slots .heads, l .slots .links))))
 
 clear-requires-2 : tie.Need-clear-requires-2
-clear-requires-2 c κs = let l = c .before .before .before .before .before .before .before .before .before .before .before .before .before .before .before .before .before .before .before .before .before .before .before .before .before .before .before .before .before .before .before .before .before .before .before .before .before .pre in let s = l .slots in let few = l .few-pending in (omega (arith, few, s .own), (omega (arith, few, s .first), (omega (arith, few, s .second), omega (arith, few, s .values))))
+clear-requires-2 c κs = search needs
 
 same-length : tie.Need-same-length
 same-length c = search needs
@@ -26,29 +25,11 @@ same-length-4 c = search needs
 same-length-5 : tie.Need-same-length-5
 same-length-5 c = search needs
 
-same-length-6 : tie.Need-same-length-6
-same-length-6 c = search needs
-
-same-length-7 : tie.Need-same-length-7
-same-length-7 c = search needs
-
-same-length-8 : tie.Need-same-length-8
-same-length-8 c = search needs
-
-same-length-9 : tie.Need-same-length-9
-same-length-9 c = search needs
-
-same-length-10 : tie.Need-same-length-10
-same-length-10 c = search needs
-
-same-length-11 : tie.Need-same-length-11
-same-length-11 c = search needs
-
 returns : tie.Need-returns
 returns c =
-    let e = c .before .before .before .before .before .before .before .before .before .before .before .before .before .before .before .before .before .before .before .before .before .before .before .before .before .before .before .clear .ensures in
-    let f = c .before .before .before .before .before .before .before .before .clear2 .ensures in
-    cleared _ (c .before .before .before .before .before .before .before .before .before .before .before .before .before .before .before .before .before .before .before .before .before .before .before .before .before .before .before .before .before .before .before .before .before .before .before .before .before .before .before .before .before .before .before .before .before .before .pre) (e .0) (e .1 .0) (e .1 .1 .0) (e .1 .1 .1 .0) (e .1 .1 .1 .1 .0) (f .0) (f .1 .0) (f .1 .1 .0) (f .1 .1 .1) (e .1 .1 .1 .1 .1)
+    let e = c .before .before .before .before .before .before .before .before .before .before .before .before .clear .ensures in
+    let f = c .before .before .clear2 .ensures in
+    cleared _ (c .before .before .before .before .before .before .before .before .before .before .before .before .before .before .before .before .before .before .before .before .before .before .pre .1 .1) (e .0) (e .1 .0) (e .1 .1 .0) (e .1 .1 .1 .0) (e .1 .1 .1 .1 .0) (f .0) (f .1 .0) (f .1 .1 .0) (f .1 .1 .1) (e .1 .1 .1 .1 .1)
 
 pub clear-spec : {M : Type 1} → statement M
 clear-spec =
@@ -61,10 +42,4 @@ clear-spec =
     same-length-3
     same-length-4
     same-length-5
-    same-length-6
-    same-length-7
-    same-length-8
-    same-length-9
-    same-length-10
-    same-length-11
     returns)

@@ -1,7 +1,7 @@
 -- `core_delivery::toggle` gives the target the larger count, and nothing else changes.
+use native.Mathlib.Omega.{arith}
 use Rattle.memory.proofs.Stored.{document-path, document-parts}
 use Rattle.core_delivery.proofs.Changes.{toggled-parts, targeted-within}
-use native.Mathlib.Omega.{arith}
 use borrow.Author.Needs.{needs}
 use Rattle.core_delivery.proofs.toggle.Statement.{statement}
 use Rattle.core_delivery.proofs.toggle.Tie as tie
@@ -11,8 +11,8 @@ clear-requires c κs = search needs
 
 toggle-requires : tie.Need-toggle-requires
 toggle-requires c κs =
-    let t = c .before .before .before .before .before .before .before .before .before .before .before .before .before .before .before .before .before .before .before .before .before .before .before .before .before .before .before .before .before .before .before .before .before .before .before .before .before .before .before .before .before .before .before .before .before .before .pre in
-    omega (arith, targeted-within _ _ _ t, t .lent .few, t .lent .slots .toggles, c .before .before .before .before .before .before .before .before .before .before .before .before .before .before .before .before .before .before .before .before .before .before .before .clear .kept .1 .1 .1 .1 .0)
+    let t = c .before .before .before .before .before .before .before .before .before .before .before .before .before .before .before .before .before .before .before .before .before .before .pre .1 .1 in
+    omega (arith, targeted-within _ _ _ t, t .lent .few, t .lent .slots .toggles, c .before .before .before .before .before .before .before .before .before .before .before .clear .kept .1 .0)
 
 same-length : tie.Need-same-length
 same-length c = search needs
@@ -29,28 +29,10 @@ same-length-4 c = search needs
 same-length-5 : tie.Need-same-length-5
 same-length-5 c = search needs
 
-same-length-6 : tie.Need-same-length-6
-same-length-6 c = search needs
-
-same-length-7 : tie.Need-same-length-7
-same-length-7 c = search needs
-
-same-length-8 : tie.Need-same-length-8
-same-length-8 c = search needs
-
-same-length-9 : tie.Need-same-length-9
-same-length-9 c = search needs
-
-same-length-10 : tie.Need-same-length-10
-same-length-10 c = search needs
-
-same-length-11 : tie.Need-same-length-11
-same-length-11 c = search needs
-
 returns : tie.Need-returns
 returns c =
-    let t = c .before .before .before .before .before .before .before .before .before .before .before .before .before .before .before .before .before .before .before .before .before .before .before .before .before .before .before .before .before .before .before .before .before .before .before .before .before .before .before .before .before .before .before .before .before .before .before .before .before .pre in
-    document-path (toggled-parts (document-parts (c .before .before .before .before .before .before .before .before .before .before .before .before .before .before .before .before .before .before .before .before .before .before .before .before .before .before .clear .ensures)) _ _ (t .place) (t .apart) (c .before .before .toggle .ensures))
+    let t = c .before .before .before .before .before .before .before .before .before .before .before .before .before .before .before .before .before .before .before .before .before .before .before .before .before .pre .1 .1 in
+    document-path (toggled-parts (document-parts (c .before .before .before .before .before .before .before .before .before .before .before .before .before .before .clear .ensures)) _ _ (t .place) (t .apart) (c .before .before .toggle .ensures))
 
 pub toggle-spec : {M : Type 1} → statement M
 toggle-spec =
@@ -63,10 +45,4 @@ toggle-spec =
     same-length-3
     same-length-4
     same-length-5
-    same-length-6
-    same-length-7
-    same-length-8
-    same-length-9
-    same-length-10
-    same-length-11
     returns)
