@@ -18,6 +18,9 @@ use Rattle.lists.proofs.Tests.{and-left, and-right, or-cases}
 use Rattle.convergence.proofs.Identifiers.{same-eq}
 use Rattle.convergence.proofs.Ranges.{toggle-in-range}
 use Rattle.lines.specs.Fields.{atMost}
+use Rattle.codec.specs.declared.Kind.{Kind}
+use Rattle.codec.specs.declared.Kind.the-variants.{Insert as Inserted, Toggle as Toggled, Delete as Deleted}
+use Rattle.codec.specs.Kinds.{limitsOf, saidAs}
 use Rattle.codec.specs.Operations.{insertLimits, toggleLimits, deleteLimits, identifierAt, insertOf, toggleOf, deleteOf}
 use Rattle.lines.proofs.Values.{at-most-from}
 
@@ -91,9 +94,9 @@ toggle-bounds d e =
     }
 
 -- so numbers that say an operation in range are within the limits of its line
-pub insert-at-most : (ns : List ℕ) → inRange (insert (insertOf ns)) ≡ true → atMost insertLimits ns ≡ true
-unfolding inRange insertOf identifierAt
-insert-at-most ns e =
+pub said-at-most : (k : Kind) (ns : List ℕ) → inRange (saidAs k ns) ≡ true → atMost (limitsOf k) ns ≡ true
+unfolding inRange insertOf toggleOf deleteOf identifierAt
+said-at-most Inserted ns e =
     let b = insert-bounds (insertOf ns) e in
     at-most-from 0 insertLimits ns (b .id-bounds .site-le)
     (at-most-from 1 insertLimits ns (b .id-bounds .clock-le)
@@ -101,18 +104,12 @@ insert-at-most ns e =
     (at-most-from 3 insertLimits ns (b .previous-bounds .site-le)
     (at-most-from 4 insertLimits ns (b .previous-bounds .clock-le)
     (at-most-from 5 insertLimits ns (b .next-bounds .site-le) (at-most-from 6 insertLimits ns (b .next-bounds .clock-le) refl))))))
-
-pub toggle-at-most : (ns : List ℕ) → inRange (toggle (toggleOf ns)) ≡ true → atMost toggleLimits ns ≡ true
-unfolding inRange toggleOf identifierAt
-toggle-at-most ns e =
+said-at-most Toggled ns e =
     let b = toggle-bounds (toggleOf ns) e in
     at-most-from 0 toggleLimits ns (b .sender-bound)
     (at-most-from 1 toggleLimits ns (b .target-bounds .site-le)
     (at-most-from 2 toggleLimits ns (b .target-bounds .clock-le) (at-most-from 3 toggleLimits ns (b .toggles-bound) refl)))
-
-pub delete-at-most : (ns : List ℕ) → inRange (toggle (deleteOf ns)) ≡ true → atMost deleteLimits ns ≡ true
-unfolding inRange deleteOf identifierAt
-delete-at-most ns e =
+said-at-most Deleted ns e =
     let b = toggle-bounds (deleteOf ns) e in
     at-most-from 0 deleteLimits ns (b .sender-bound)
     (at-most-from 1 deleteLimits ns (b .target-bounds .site-le) (at-most-from 2 deleteLimits ns (b .target-bounds .clock-le) refl))

@@ -3,36 +3,27 @@ use mathlib.Core.Path.{_≡_, refl, sym, ap, _∙_}
 use mathlib.Core.List.{List, [], _∷_}
 use mathlib.Core.Bool.{Bool, true, false, _&&_, _||_, cond}
 use Prim.Native.Nat.{ℕ}
-use native.Mathlib.Omega.{arith}
-use lib.ListN.{length, getD}
+use lib.ListN.{getD}
 use borrow.Author.Tests.{eqb-false}
-use Rattle.woot.specs.declared.Toggle.{Toggle}
-use Rattle.woot.specs.declared.Operation.the-variants.{Insert as insert, Toggle as toggle}
+use Rattle.woot.specs.declared.Operation.the-variants.{Insert as insert}
 use Rattle.woot.specs.declared.Refusal.the-variants.{Layout}
 use Rattle.lines.specs.Lines.{ended, firstLine}
 use Rattle.lines.specs.Fields.{fields, hasLayout, valuesOf}
 use Rattle.lines.proofs.Spelling.{spelled, other-letter}
+use Rattle.codec.specs.declared.Kind.the-variants.{Insert as Inserted, Toggle as Toggled, Delete as Deleted}
 use Rattle.codec.specs.declared.Read.the-variants.{Refused as readRefused}
-use Rattle.codec.specs.Operations.{deleteHead, insertOf, toggleOf, deleteOf, isInsert, isToggle, isDelete, operationOf}
+use Rattle.codec.specs.Operations.{deleteHead, insertOf, isInsert, isToggle, isDelete, operationOf}
 use Rattle.codec.specs.Calls.{asWritten, asWrittenFirst, lineLaidOut, laidOut, readAs, saidBy, readWritten, readWrittenFirst, readLine, readOperation}
-use Rattle.codec.proofs.Judging.{read-layout}
+use Rattle.codec.specs.Kinds.{laidOutAs, readKind}
+use Rattle.codec.proofs.Judging.{read-layout, read-same}
 
--- a line of no bytes
-pub nothing : (s : List ℕ) → length s ≡ 0 → s ≡ []
-nothing [] e = refl
-nothing (b ∷ s) e = absurd (omega arith)
-
-pub empty-line : readLine [] ≡ readRefused Layout
+empty-line : readLine [] ≡ readRefused Layout
 unfolding readLine lineLaidOut asWritten isInsert isToggle isDelete hasLayout
 empty-line = read-layout _
 
-pub empty-first : readWrittenFirst [] ≡ readRefused Layout
-unfolding readWrittenFirst asWrittenFirst isInsert isDelete hasLayout
-empty-first = read-layout _
-
-pub empty-written : readWritten [] ≡ readRefused Layout
-unfolding readWritten asWritten isInsert isToggle hasLayout
-empty-written = read-layout _
+or-none : (b : Bool) {c : Bool} → c ≡ false → b || c ≡ b
+or-none true e = refl
+or-none false e = e
 
 module _ (line : List ℕ) where
   no-insert : (getD line 0 0 ≡ 73 → ⊥) → isInsert (fields line) ≡ false
@@ -47,51 +38,38 @@ module _ (line : List ℕ) where
   unfolding isDelete
   no-delete h = other-letter 68 3 line h
 
-  pub insert-line : getD line 0 0 ≡ 73 → readAs (isInsert (fields line)) (insert (insertOf (valuesOf (fields line)))) ≡ readWritten line
-  unfolding readWritten asWritten operationOf
-  insert-line e = rw (no-toggle (λ q. eqb-false 73 69 refl (sym e ∙ q))) (go (isInsert (fields line)) _)
-    where
-      go : (t : Bool) (u : Toggle) → readAs t (insert (insertOf (valuesOf (fields line)))) ≡ readAs (t || false) (cond t (insert (insertOf (valuesOf (fields line)))) (toggle u))
-      go true u = refl
-      go false u = read-layout _ ∙ sym (read-layout _)
-
-  pub toggle-line : (getD line 0 0 ≡ 73 → ⊥) → readAs (isToggle (fields line)) (toggle (toggleOf (valuesOf (fields line)))) ≡ readWritten line
-  unfolding readWritten asWritten operationOf
-  toggle-line h = rw (no-insert h) (go (isToggle (fields line)))
-    where
-      go : (t : Bool) → readAs t (toggle (toggleOf (valuesOf (fields line)))) ≡ readAs t (toggle (cond t (toggleOf (valuesOf (fields line))) (deleteOf (valuesOf (fields line)))))
-      go true = refl
-      go false = read-layout _ ∙ sym (read-layout _)
-
-  -- as it was written first, an insert's head word is no delete's either
-  pub insert-first : getD line 0 0 ≡ 73 → readWritten line ≡ readWrittenFirst line
-  unfolding readWritten asWritten readWrittenFirst asWrittenFirst
-  insert-first e = rw (no-toggle (λ q. eqb-false 73 69 refl (sym e ∙ q)), no-delete (λ q. eqb-false 73 68 refl (sym e ∙ q)))
-
-  -- and a delete's is no toggle's
+  -- a delete's head word is no toggle's
   pub delete-alone : isDelete (fields line) ≡ true → isToggle (fields line) ≡ false
   unfolding isDelete
   delete-alone d = no-toggle (λ q. eqb-false 68 69 refl (sym (ap (λ (l : List ℕ). getD l 0 0) (spelled deleteHead 3 line d .0)) ∙ q))
 
-  pub delete-first : (getD line 0 0 ≡ 73 → ⊥) → readAs (isDelete (fields line)) (toggle (deleteOf (valuesOf (fields line)))) ≡ readWrittenFirst line
-  unfolding readWrittenFirst asWrittenFirst operationOf
-  delete-first h = rw (no-insert h) (go (isDelete (fields line)) refl)
-    where
-      go : (t : Bool) → isDelete (fields line) ≡ t → readAs t (toggle (deleteOf (valuesOf (fields line)))) ≡ readAs t (toggle (cond (isToggle (fields line)) (toggleOf (valuesOf (fields line))) (deleteOf (valuesOf (fields line)))))
-      go true d = rw (delete-alone d)
-      go false d = read-layout _ ∙ sym (read-layout _)
+  -- a line that begins with the insert's head word is an insert's, whatever other kinds are read
+  insert-says : isInsert (fields line) ≡ true → insert (insertOf (valuesOf (fields line))) ≡ operationOf (fields line)
+  unfolding operationOf
+  insert-says e = rw e
 
-  pub delete-line : getD line 0 0 ≡ 68 → readAs (isDelete (fields line)) (toggle (deleteOf (valuesOf (fields line)))) ≡ readLine line
-  unfolding readLine lineLaidOut asWritten operationOf
+  pub insert-line : getD line 0 0 ≡ 73 → (readKind Inserted line ≡ readWritten line) × (readKind Inserted line ≡ readWrittenFirst line)
+  unfolding readKind laidOutAs readWritten asWritten readWrittenFirst asWrittenFirst isInsert
+  insert-line e = (
+    read-same _ (or-none _ (no-toggle (λ q. eqb-false 73 69 refl (sym e ∙ q)))) insert-says,
+    read-same _ (or-none _ (no-delete (λ q. eqb-false 73 68 refl (sym e ∙ q)))) insert-says,
+  )
+
+  pub toggle-line : (getD line 0 0 ≡ 73 → ⊥) → readKind Toggled line ≡ readWritten line
+  unfolding readKind laidOutAs readWritten asWritten operationOf isToggle
+  toggle-line h = read-same _ (rw (no-insert h)) (λ t. rw (no-insert h, t))
+
+  pub delete-first : (getD line 0 0 ≡ 73 → ⊥) → readKind Deleted line ≡ readWrittenFirst line
+  unfolding readKind laidOutAs readWrittenFirst asWrittenFirst operationOf isDelete
+  delete-first h = read-same _ (rw (no-insert h)) (λ d. rw (no-insert h, delete-alone d))
+
+  pub delete-line : getD line 0 0 ≡ 68 → readKind Deleted line ≡ readLine line
+  unfolding readKind laidOutAs readLine lineLaidOut asWritten operationOf isDelete
   delete-line e = rw (no-insert (λ q. eqb-false 68 73 refl (sym e ∙ q)), no-toggle (λ q. eqb-false 68 69 refl (sym e ∙ q)))
 
   pub written-line : (getD line 0 0 ≡ 68 → ⊥) → readWritten line ≡ readLine line
   unfolding readWritten readLine lineLaidOut
-  written-line h = rw (no-delete h) (go (asWritten line))
-    where
-      go : (t : Bool) → readAs t (operationOf (fields line)) ≡ readAs (t || false) (operationOf (fields line))
-      go true = refl
-      go false = refl
+  written-line h = read-same _ (or-none _ (no-delete h)) (λ t. refl)
 
 -- where no line feed ends the first line nothing is read, and that lacks the layout too
 pub by-first : (s : List ℕ) → readLine (cond (ended s) (firstLine s) []) ≡ readOperation s

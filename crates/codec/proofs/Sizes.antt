@@ -10,9 +10,10 @@ use Rattle.woot.specs.Ranges.{inRange, insertInRange, toggleInRange, characterI
 use Rattle.decimal.specs.Numeral.{digitsIn, digits}
 use Rattle.lines.specs.Fields.{lineOf}
 use Rattle.lines.proofs.Sizes.{line-some, line-le, line-bytes as bytes-of-line}
+use Rattle.codec.specs.declared.Kind.the-variants.{Insert as Inserted, Toggle as Toggled}
 use Rattle.codec.specs.Operations.{insertHead, toggleHead, insertNumbers, insertLimits, toggleNumbers, toggleLimits, identifierAt, insertOf, toggleOf, operationLine}
 use Rattle.codec.specs.Theorems.{LineLengths, LongestLines, LineBytes}
-use Rattle.codec.proofs.Bounds.{insert-at-most, toggle-at-most}
+use Rattle.codec.proofs.Bounds.{said-at-most}
 
 -- the lines of the limits
 insert-limits : length (lineOf insertHead insertLimits) ≡ 37
@@ -26,8 +27,8 @@ toggle-limits = refl
 pub line-lengths : LineLengths
 unfolding operationLine insertNumbers insertOf toggleNumbers toggleOf identifierAt
 line-lengths = (
-  λ i e. rw insert-limits at (line-le insertHead insertLimits (insertNumbers i) (omega arith) (insert-at-most (insertNumbers i) e)),
-  λ d e. rw toggle-limits at (line-le toggleHead toggleLimits (toggleNumbers d) (omega arith) (toggle-at-most (toggleNumbers d) e)),
+  λ i e. rw insert-limits at (line-le insertHead insertLimits (insertNumbers i) (omega arith) (said-at-most Inserted (insertNumbers i) e)),
+  λ d e. rw toggle-limits at (line-le toggleHead toggleLimits (toggleNumbers d) (omega arith) (said-at-most Toggled (toggleNumbers d) e)),
 )
 
 pub longest-lines : LongestLines

@@ -1,3 +1,4 @@
 pub mod Operations
 pub mod Calls
+pub mod Kinds
 pub mod Theorems

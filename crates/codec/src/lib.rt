@@ -1,4 +1,5 @@
 // Operations as lines of text, read from bytes; `operation_output` writes them.
+use lines::Numbers;
 use lines::Verdict;
 use woot::Identifier;
 use woot::Insert;
@@ -8,12 +9,12 @@ use woot::Toggle;
 ghost use mathlib.Core.Path.{_≡_};
 ghost use mathlib.Core.Bool.{true};
 ghost use Prim.Native.Nat.{_<_};
+ghost use lib.ListN.{getD};
 ghost use Rattle.lines.specs.Lines.{rest};
-ghost use Rattle.lines.specs.Fields.{fields, valuesOf, atMost};
+ghost use Rattle.lines.specs.Fields.{atMost};
 ghost use Rattle.lines.specs.Answers.{byVerdict};
-ghost use Rattle.codec.specs.Operations.{insertLimits, insertOf, isInsert};
-ghost use Rattle.codec.specs.Operations.{toggleLimits, toggleOf, isToggle};
-ghost use Rattle.codec.specs.Operations.{deleteLimits, deleteOf, isDelete};
+ghost use Rattle.codec.specs.Operations.{insertLimits, insertOf};
+ghost use Rattle.codec.specs.Kinds.{togglesOf, limitsOf, saidAs, readKind};
 ghost use Rattle.codec.specs.Calls.{readAs, readWritten, readWrittenFirst, readLine, readOperation};
 
 // The head words of the lines.
@@ -22,6 +23,13 @@ pub const INSERT: u8 = 73;
 pub const TOGGLE: u8 = 69;
 
 pub const DELETE: u8 = 68;
+
+// The kinds of line that are read.
+enum Kind {
+    Insert,
+    Toggle,
+    Delete,
+}
 
 // What the reader answers. (Document 01: the reader's reply.)
 pub enum Read {
@@ -50,39 +58,44 @@ fn insert_of(values: [u64; 9]) -> Insert
     }
 }
 
-// The toggle that numbers within their limits say.
-fn toggle_of(values: [u64; 9]) -> Toggle
-    requires { ⌜ atMost toggleLimits values ≡ true ⌝ }
-    ensures { λ r. ⌜ r ≡ toggleOf values ⌝ }
+// The toggle that numbers within the limits of a delete's line say, and the toggles beside them.
+fn toggle_of(values: [u64; 9], toggles: u8) -> Toggle
+    requires { ⌜ (getD values 0 0 < 256) × (getD values 1 0 < 256) × (getD values 2 0 < 65536) ⌝ }
+    ensures { λ r. ⌜ r ≡ togglesOf toggles values ⌝ }
 {
     Toggle {
         sender: values[0] as u8,
         target: identifier(values[1], values[2]),
-        toggles: values[3] as u8,
+        toggles,
     }
 }
 
-// The toggle that the numbers of a delete's line say, within their limits: the character's first.
-fn delete_of(values: [u64; 9]) -> Toggle
-    requires { ⌜ atMost deleteLimits values ≡ true ⌝ }
-    ensures { λ r. ⌜ r ≡ deleteOf values ⌝ }
+// The operation that numbers within the limits of a kind of line say. A delete's line is read as toggle 1.
+fn operation_of(kind: Kind, values: [u64; 9]) -> Operation
+    requires { ⌜ atMost (limitsOf kind) values ≡ true ⌝ }
+    ensures { λ r. ⌜ r ≡ saidAs kind values ⌝ }
 {
-    Toggle {
-        sender: values[0] as u8,
-        target: identifier(values[1], values[2]),
-        toggles: 1,
+    match kind {
+        Kind::Insert => Operation::Insert(insert_of(values)),
+        Kind::Toggle => Operation::Toggle(toggle_of(values, values[3] as u8)),
+        Kind::Delete => Operation::Toggle(toggle_of(values, 1)),
     }
 }
 
 // What a line is read as by the verdict on its numbers and the operation that they say.
-fn judged(verdict: Verdict, operation: Operation) -> Read
+fn judged(kind: Kind, numbers: Numbers) -> Read
+    requires { ⌜ atMost (limitsOf kind) (numbers .values) ≡ true ⌝ }
     ensures { λ r. ⌜ r
-        ≡ byVerdict verdict (Read.Refused Refusal.Layout) (Read.Refused Refusal.Range) (readAs true operation) ⌝ }
+        ≡ byVerdict (numbers .verdict) (Read.Refused Refusal.Layout) (Read.Refused Refusal.Range)
+        (readAs true (saidAs kind (numbers .values))) ⌝ }
 {
+    let verdict = numbers.verdict;
+    let values = numbers.values;
     match verdict {
         Verdict::Malformed => Read::Refused(Refusal::Layout),
         Verdict::Above => Read::Refused(Refusal::Range),
         Verdict::Within => {
+            let operation = operation_of(kind, values);
             if ranges::in_range(operation) {
                 return Read::Operation(operation);
             }
@@ -91,46 +104,37 @@ fn judged(verdict: Verdict, operation: Operation) -> Read
     }
 }
 
-// Reads a line as an insert's.
-fn read_insert(line: &[u8]) -> Read
-    ensures { λ r. ⌜ r
-        ≡ readAs (isInsert (fields (now (line .entry))))
-        (Operation.Insert (insertOf (valuesOf (fields (now (line .entry)))))) ⌝ }
+// Reads a line as one of the given kind.
+fn read_as(kind: Kind, line: &[u8]) -> Read
+    ensures { λ r. ⌜ r ≡ readKind kind (now (line .entry)) ⌝ }
 {
-    let head = [INSERT];
-    let limits = [16u64, 65535, 1114111, 16, 65535, 16, 65535];
-    let numbers = lines::read(line, &head, &limits);
-    let verdict = numbers.verdict;
-    let values = numbers.values;
-    judged(verdict, Operation::Insert(insert_of(values)))
+    match kind {
+        Kind::Insert => {
+            let head = [INSERT];
+            let limits = [16u64, 65535, 1114111, 16, 65535, 16, 65535];
+            judged(kind, lines::read(line, &head, &limits))
+        }
+        Kind::Toggle => {
+            let head = [TOGGLE];
+            let limits = [16u64, 16, 65535, 255];
+            judged(kind, lines::read(line, &head, &limits))
+        }
+        Kind::Delete => {
+            let head = [DELETE];
+            let limits = [16u64, 16, 65535];
+            judged(kind, lines::read(line, &head, &limits))
+        }
+    }
 }
 
-// Reads a line as a toggle's.
-fn read_toggle(line: &[u8]) -> Read
-    ensures { λ r. ⌜ r
-        ≡ readAs (isToggle (fields (now (line .entry))))
-        (Operation.Toggle (toggleOf (valuesOf (fields (now (line .entry)))))) ⌝ }
+// The first byte of a line; of an empty one 0, which is no head word.
+fn first_byte(line: &[u8]) -> u8
+    ensures { λ r. ⌜ r ≡ getD (now (line .entry)) 0 0 ⌝ }
 {
-    let head = [TOGGLE];
-    let limits = [16u64, 16, 65535, 255];
-    let numbers = lines::read(line, &head, &limits);
-    let verdict = numbers.verdict;
-    let values = numbers.values;
-    judged(verdict, Operation::Toggle(toggle_of(values)))
-}
-
-// Reads a line as a delete's.
-fn read_delete(line: &[u8]) -> Read
-    ensures { λ r. ⌜ r
-        ≡ readAs (isDelete (fields (now (line .entry))))
-        (Operation.Toggle (deleteOf (valuesOf (fields (now (line .entry)))))) ⌝ }
-{
-    let head = [DELETE];
-    let limits = [16u64, 16, 65535];
-    let numbers = lines::read(line, &head, &limits);
-    let verdict = numbers.verdict;
-    let values = numbers.values;
-    judged(verdict, Operation::Toggle(delete_of(values)))
+    if line.len() == 0 {
+        return 0;
+    }
+    line[0]
 }
 
 // Reads a line that is without its line feed, as operations are written: a delete's line, which is written no more,
@@ -138,37 +142,28 @@ fn read_delete(line: &[u8]) -> Read
 pub fn read_written(line: &[u8]) -> Read
     ensures { λ r. ⌜ r ≡ readWritten (now (line .entry)) ⌝ }
 {
-    if line.len() == 0 {
-        return Read::Refused(Refusal::Layout);
+    if first_byte(line) == INSERT {
+        return read_as(Kind::Insert, line);
     }
-    if line[0] == INSERT {
-        return read_insert(line);
-    }
-    read_toggle(line)
+    read_as(Kind::Toggle, line)
 }
 
 // The same, as operations were written first: a toggle's line lacks the layout.
 pub fn read_written_first(line: &[u8]) -> Read
     ensures { λ r. ⌜ r ≡ readWrittenFirst (now (line .entry)) ⌝ }
 {
-    if line.len() == 0 {
-        return Read::Refused(Refusal::Layout);
+    if first_byte(line) == INSERT {
+        return read_as(Kind::Insert, line);
     }
-    if line[0] == INSERT {
-        return read_insert(line);
-    }
-    read_delete(line)
+    read_as(Kind::Delete, line)
 }
 
 // Reads a line that is without its line feed.
 pub fn read_line(line: &[u8]) -> Read
     ensures { λ r. ⌜ r ≡ readLine (now (line .entry)) ⌝ }
 {
-    if line.len() == 0 {
-        return Read::Refused(Refusal::Layout);
-    }
-    if line[0] == DELETE {
-        return read_delete(line);
+    if first_byte(line) == DELETE {
+        return read_as(Kind::Delete, line);
     }
     read_written(line)
 }

@@ -1,7 +1,7 @@
 -- `codec::judged` meets its contract: the arm knows the verdict, and within the limits the range alone is left.
 use mathlib.Core.Path.{sym, _∙_}
 use borrow.Author.Needs.{needs}
-use Rattle.codec.proofs.Judging.{read-range, read-operation}
+use Rattle.codec.proofs.Judging.{made-range, made-operation}
 use Rattle.codec.proofs.judged.Statement.{statement}
 use Rattle.codec.proofs.judged.Tie as tie
 
@@ -14,11 +14,16 @@ enum-told-2 c = search needs
 enum-told-3 : tie.Need-enum-told-3
 enum-told-3 c = search needs
 
+operation-of-requires : tie.Need-operation-of-requires
+operation-of-requires c κs = search needs
+
 in-range-requires : tie.Need-in-range-requires
 in-range-requires c κs = search needs
 
 returns : tie.Need-returns
-returns c = rw (c .before .before .enum-told3 .given .1) (sym (read-operation _ (sym (c .before .in-range .ensures) ∙ c .if1 .taken)))
+returns c =
+    rw (c .before .before .before .enum-told3 .given .1)
+    (made-operation (c .before .before .operation-of .ensures) (sym (c .before .in-range .ensures) ∙ c .if1 .taken))
 
 returns-2 : tie.Need-returns-2
 returns-2 c = rw (c .enum-told .given .1)
@@ -27,7 +32,9 @@ returns-3 : tie.Need-returns-3
 returns-3 c = rw (c .enum-told2 .given .1)
 
 returns-4 : tie.Need-returns-4
-returns-4 c = rw (c .before .before .enum-told3 .given .1) (sym (read-range _ (sym (c .before .in-range .ensures) ∙ c .if1 .left)))
+returns-4 c =
+    rw (c .before .before .before .enum-told3 .given .1)
+    (made-range (c .before .before .operation-of .ensures) (sym (c .before .in-range .ensures) ∙ c .if1 .left))
 
 pub judged-spec : {M : Type 1} → statement M
 judged-spec =
@@ -36,6 +43,7 @@ judged-spec =
     enum-told
     enum-told-2
     enum-told-3
+    operation-of-requires
     in-range-requires
     returns
     returns-2

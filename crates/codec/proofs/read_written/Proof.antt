@@ -1,37 +1,25 @@
 -- `codec::read_written` meets its contract: the first byte is the insert's head word or not.
-use mathlib.Core.Path.{sym, ap, _∙_}
-use native.Mathlib.Omega.{arith}
+use mathlib.Core.Path.{sym, _∙_}
 use borrow.Author.Needs.{needs}
-use Rattle.codec.specs.Calls.{readWritten}
-use Rattle.codec.proofs.Letters.{nothing, empty-written, insert-line, toggle-line}
+use Rattle.codec.proofs.Letters.{insert-line, toggle-line}
 use Rattle.codec.proofs.read_written.Statement.{statement}
 use Rattle.codec.proofs.read_written.Tie as tie
 
+first-byte-requires : tie.Need-first-byte-requires
+first-byte-requires c κs = search needs
+
+read-as-requires : tie.Need-read-as-requires
+read-as-requires c κs = search needs
+
 returns : tie.Need-returns
-returns c = sym (ap readWritten (nothing _ (omega arith)) ∙ empty-written)
+returns c = c .read-as .ensures ∙ insert-line _ (sym (c .before .before .first-byte .ensures) ∙ c .before .if1 .taken) .0
 
-shared-slice-read-if2 : tie.Need-shared-slice-read-if2
-shared-slice-read-if2 c = search needs
-
-read-insert-requires : tie.Need-read-insert-requires
-read-insert-requires c κs = search needs
+read-as-requires-2 : tie.Need-read-as-requires-2
+read-as-requires-2 c κs = search needs
 
 returns-2 : tie.Need-returns-2
-returns-2 c = c .read-insert .ensures ∙ insert-line _ (c .before .if2 .taken)
-
-read-toggle-requires : tie.Need-read-toggle-requires
-read-toggle-requires c κs = search needs
-
-returns-3 : tie.Need-returns-3
-returns-3 c = c .read-toggle .ensures ∙ toggle-line _ (c .before .if2 .left)
+returns-2 c = c .read-as2 .ensures ∙ toggle-line _ (λ q. c .before .if1 .left (c .before .before .first-byte .ensures ∙ q))
 
 pub read-written-spec : {M : Type 1} → statement M
 read-written-spec =
-    tie.close
-    (tie.spec
-    returns
-    shared-slice-read-if2
-    read-insert-requires
-    returns-2
-    read-toggle-requires
-    returns-3)
+    tie.close (tie.spec first-byte-requires read-as-requires returns read-as-requires-2 returns-2)

@@ -1,17 +1,16 @@
 -- `codec::toggle_of` meets its contract: each number fits its field, since its limit does.
-use native.Mathlib.Omega.{arith}
 use lib.ListN.{getD}
 use borrow.Author.Needs.{needs}
-use Rattle.codec.specs.Operations.{toggleLimits, identifierAt, toggleOf}
-use Rattle.lines.proofs.Values.{at-most-at}
+use Rattle.codec.specs.Operations.{identifierAt}
+use Rattle.codec.specs.Kinds.{togglesOf}
 use Rattle.codec.proofs.toggle_of.Statement.{statement}
 use Rattle.codec.proofs.toggle_of.Tie as tie
 
-array-read-t5 : tie.Need-array-read-t5
-array-read-t5 c = search needs
+array-read-t6 : tie.Need-array-read-t6
+array-read-t6 c = search needs
 
-cast-t6 : tie.Need-cast-t6
-cast-t6 c = let b = at-most-at toggleLimits (c .args .t1) (c .pre) in omega (arith, b 0 (omega arith))
+cast-t7 : tie.Need-cast-t7
+cast-t7 c = search needs
 
 array-read-identifier : tie.Need-array-read-identifier
 array-read-identifier c = search needs
@@ -20,27 +19,19 @@ array-read-identifier-2 : tie.Need-array-read-identifier-2
 array-read-identifier-2 c = search needs
 
 identifier-requires : tie.Need-identifier-requires
-identifier-requires c κs = let b = at-most-at toggleLimits (c .args .t1) (c .pre) in omega (arith, b 1 (omega arith), b 2 (omega arith))
-
-array-read-t16 : tie.Need-array-read-t16
-array-read-t16 c = search needs
-
-cast-t17 : tie.Need-cast-t17
-cast-t17 c = let b = at-most-at toggleLimits (c .before .args .t1) (c .before .pre) in omega (arith, b 3 (omega arith))
+identifier-requires c κs = search needs
 
 returns : tie.Need-returns
-unfolding toggleOf identifierAt
-returns c = λ j. record { sender = getD (c .before .args .t1) 0 0; target = c .identifier .ensures j; toggles = getD (c .before .args .t1) 3 0 }
+unfolding togglesOf identifierAt
+returns c = λ j. record { sender = getD (c .before .args .t1) 0 0; target = c .identifier .ensures j; toggles = c .before .args .toggles }
 
 pub toggle-of-spec : {M : Type 1} → statement M
 toggle-of-spec =
     tie.close
     (tie.spec
-    array-read-t5
-    cast-t6
+    array-read-t6
+    cast-t7
     array-read-identifier
     array-read-identifier-2
     identifier-requires
-    array-read-t16
-    cast-t17
     returns)
