@@ -4,3 +4,4 @@ pub mod Letters
 pub mod Trips
 pub mod Sizes
 pub mod Refusals
+pub mod Answers

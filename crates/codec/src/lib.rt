@@ -1,4 +1,6 @@
-// Operations as lines of text, read from bytes; `operation_output` writes them.
+// Operations as lines of text: read from bytes here, and written by `writing`.
+pub mod writing;
+
 use lines::Numbers;
 use lines::Verdict;
 use woot::Identifier;

@@ -101,7 +101,7 @@ fn save_both(
         (now (out .entry)) (now (line .entry)))
         r (now (out .exit)) (now (line .exit)) ⌝ }
 {
-    let space = operation_output::measure(operation, line.len(), 0);
+    let space = codec::writing::measure(operation, line.len(), 0);
     match space {
         Room::Short => results::refused(Refusal::Output),
         Room::Until(length) => {
@@ -109,7 +109,7 @@ fn save_both(
             match written {
                 Written::Refused(refusal) => results::refused(refusal),
                 Written::Length(n) => {
-                    operation_output::put_operation(operation, line, 0);
+                    codec::writing::put_operation(operation, line, 0);
                     results::returned(answer, n, length)
                 }
             }

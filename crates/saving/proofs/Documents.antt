@@ -27,7 +27,7 @@ use Rattle.woot.specs.State.{blankCharacter, blankPending}
 use Rattle.woot.specs.Memory.{characterAt, charactersOf, operationAt, operationsOf}
 use Rattle.memory.proofs.Characters.{rows-length, rows-at}
 use Rattle.memory.proofs.Operations.{operations-length, operations-at}
-use Rattle.operation_output.proofs.Answers.{put-after, room-short as not-written, room-fits, room-fitted}
+use Rattle.codec.proofs.Answers.{put-after, room-short as not-written, room-fits, room-fitted}
 use Rattle.codec.specs.Operations.{operationLine}
 use Rattle.saved.specs.declared.Version.{Version}
 use Rattle.saved.specs.declared.Version.the-variants.{First, Second}

@@ -89,7 +89,7 @@ fn measure_first(operation: Operation, size: usize, at: usize) -> Room
     ensures { λ r. ⌜ r ≡ roomFor size at (savedLine Version.First operation) ⌝ }
 {
     match operation {
-        Operation::Insert(_) => operation_output::measure(operation, size, at),
+        Operation::Insert(_) => codec::writing::measure(operation, size, at),
         Operation::Toggle(toggle) => {
             let head = [DELETE];
             let numbers = delete_numbers(toggle);
@@ -109,7 +109,7 @@ pub(crate) fn measure_operation(
 {
     match version {
         Version::First => measure_first(operation, size, at),
-        Version::Second => operation_output::measure(operation, size, at),
+        Version::Second => codec::writing::measure(operation, size, at),
     }
 }
 
@@ -120,7 +120,7 @@ fn put_first(operation: Operation, out: &mut [u8], at: usize) -> usize
     ensures { λ r. ⌜ now (out .exit) ≡ placed (now (out .entry)) at (savedLine Version.First operation) ⌝ }
 {
     match operation {
-        Operation::Insert(_) => operation_output::put_operation(operation, out, at),
+        Operation::Insert(_) => codec::writing::put_operation(operation, out, at),
         Operation::Toggle(toggle) => {
             let head = [DELETE];
             let numbers = delete_numbers(toggle);
@@ -141,6 +141,6 @@ pub(crate) fn put_operation(
 {
     match version {
         Version::First => put_first(operation, out, at),
-        Version::Second => operation_output::put_operation(operation, out, at),
+        Version::Second => codec::writing::put_operation(operation, out, at),
     }
 }

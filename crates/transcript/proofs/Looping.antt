@@ -31,7 +31,7 @@ use Rattle.transcript.specs.Calls.{answeredAs, answered, printedFrom, wh
 use Rattle.transcript.specs.Loop.{reportOn, processed, processedOut, front, textFront, loopFrom, looped}
 use Rattle.transcript.specs.Theorems.{LoopPrints}
 use Rattle.report.proofs.Sizes.{report-fits, text-fits}
-use Rattle.operation_output.proofs.Answers.{fitted-within}
+use Rattle.codec.proofs.Answers.{fitted-within}
 use Rattle.transcript.proofs.Writers.{front-whole}
 
 -- a length that is answered is within the slice

@@ -2,7 +2,7 @@
 use mathlib.Core.Path.{sym}
 use borrow.Author.Needs.{needs}
 use lib.Seq.{length-take-le}
-use Rattle.operation_output.proofs.Answers.{fitted-within}
+use Rattle.codec.proofs.Answers.{fitted-within}
 use Rattle.hall.proofs.print_text.Statement.{statement}
 use Rattle.hall.proofs.print_text.Tie as tie
 

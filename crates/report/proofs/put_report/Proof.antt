@@ -6,7 +6,7 @@ use lib.Seq.{length-take-le}
 use Rattle.decimal.specs.Numeral.{digits}
 use Rattle.lines.specs.Fields.{tab}
 use Rattle.lines.proofs.Sizes.{line-some}
-use Rattle.operation_output.proofs.Answers.{put-after, offset-fitted}
+use Rattle.codec.proofs.Answers.{put-after, offset-fitted}
 use Rattle.report.proofs.Heads.{Front, head-put}
 use Rattle.report.proofs.put_report.Statement.{statement}
 use Rattle.report.proofs.put_report.Tie as tie

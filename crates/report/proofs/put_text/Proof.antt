@@ -7,7 +7,7 @@ use lib.ListN.{take}
 use lib.Seq.{length-take-le}
 use Rattle.report.specs.Lines.{textNumbers, textLine}
 use Rattle.lines.proofs.Sizes.{line-some}
-use Rattle.operation_output.proofs.Answers.{put-after, offset-fitted}
+use Rattle.codec.proofs.Answers.{put-after, offset-fitted}
 use Rattle.report.proofs.Heads.{Front}
 use Rattle.report.proofs.Listings.{listing-few, listing-front}
 use Rattle.report.proofs.put_text.Statement.{statement}

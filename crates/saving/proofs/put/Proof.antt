@@ -1,6 +1,6 @@
 -- `saving::put` meets its contract: where the lines end within the slice they are put, and else nothing is.
 use borrow.Author.Needs.{needs}
-use Rattle.operation_output.proofs.Answers.{put-after, room-short, room-fits, room-fitted}
+use Rattle.codec.proofs.Answers.{put-after, room-short, room-fits, room-fitted}
 use Rattle.saving.proofs.put.Statement.{statement}
 use Rattle.saving.proofs.put.Tie as tie
 

@@ -1,12 +1,12 @@
--- `operation_output::put_operation` meets its contract: the arm knows the variant, and the definition goes by it.
+-- `codec::writing::put_operation` meets its contract: the arm knows the variant, and the definition goes by it.
 use mathlib.Core.Path.{sym, ap, _∙_}
 use borrow.Author.Needs.{needs}
 use Rattle.output.specs.Output.{placed, past}
 use Rattle.lines.specs.Fields.{lineOf}
 use Rattle.line_output.specs.Room.{roomFor}
 use Rattle.codec.specs.Operations.{insertHead, toggleHead, operationLine}
-use Rattle.operation_output.proofs.put_operation.Statement.{statement}
-use Rattle.operation_output.proofs.put_operation.Tie as tie
+use Rattle.codec.proofs.writing.put_operation.Statement.{statement}
+use Rattle.codec.proofs.writing.put_operation.Tie as tie
 
 enum-known-operation : tie.Need-enum-known-operation
 enum-known-operation c = search needs

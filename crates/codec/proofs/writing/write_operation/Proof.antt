@@ -1,11 +1,11 @@
--- `operation_output::write_operation` meets its contract: an offset that did not move is a line that had no room.
+-- `codec::writing::write_operation` meets its contract: an offset that did not move is a line that had no room.
 use mathlib.Core.Path.{sym, _∙_}
 use borrow.Author.Needs.{needs}
 use borrow.Author.Tests.{not-true, not-false}
 use Rattle.codec.proofs.Sizes.{operation-some}
-use Rattle.operation_output.proofs.Answers.{put-after, offset-fitted, not-in-range, in-its-range}
-use Rattle.operation_output.proofs.write_operation.Statement.{statement}
-use Rattle.operation_output.proofs.write_operation.Tie as tie
+use Rattle.codec.proofs.Answers.{put-after, offset-fitted, not-in-range, in-its-range}
+use Rattle.codec.proofs.writing.write_operation.Statement.{statement}
+use Rattle.codec.proofs.writing.write_operation.Tie as tie
 
 in-range-requires : tie.Need-in-range-requires
 in-range-requires c κs = search needs

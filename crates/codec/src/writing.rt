@@ -1,4 +1,6 @@
 // Operations put as lines of text into a lent slice.
+use crate::INSERT;
+use crate::TOGGLE;
 use line_output::Room;
 use woot::Insert;
 use woot::Operation;
@@ -46,12 +48,12 @@ pub fn measure(operation: Operation, size: usize, at: usize) -> Room
 {
     match operation {
         Operation::Insert(insert) => {
-            let head = [codec::INSERT];
+            let head = [INSERT];
             let numbers = insert_numbers(insert);
             line_output::measure(&head, &numbers, size, at)
         }
         Operation::Toggle(toggle) => {
-            let head = [codec::TOGGLE];
+            let head = [TOGGLE];
             let numbers = toggle_numbers(toggle);
             line_output::measure(&head, &numbers, size, at)
         }
@@ -66,12 +68,12 @@ pub fn put_operation(operation: Operation, out: &mut [u8], at: usize) -> usize
 {
     match operation {
         Operation::Insert(insert) => {
-            let head = [codec::INSERT];
+            let head = [INSERT];
             let numbers = insert_numbers(insert);
             line_output::put(&head, &numbers, out, at)
         }
         Operation::Toggle(toggle) => {
-            let head = [codec::TOGGLE];
+            let head = [TOGGLE];
             let numbers = toggle_numbers(toggle);
             line_output::put(&head, &numbers, out, at)
         }
