@@ -18,10 +18,10 @@ use Rattle.woot.specs.Ranges.{inRange}
 use Rattle.woot.specs.Writing.{writtenAs, outputAfter}
 use Rattle.lists.proofs.Tests.{side}
 use Rattle.convergence.proofs.Writing.{own-first, own-none, too-short, has-room, ends-short}
-use Rattle.line_output.specs.declared.Room.{Room}
-use Rattle.line_output.specs.declared.Room.the-variants.{Until, Short}
-use Rattle.line_output.specs.Room.{roomFor}
-use Rattle.line_output.proofs.Writing.{until-tells, short-tells}
+use Rattle.lines.specs.declared.writing.Room.{Room}
+use Rattle.lines.specs.declared.writing.Room.the-variants.{Until, Short}
+use Rattle.lines.specs.Room.{roomFor}
+use Rattle.lines.proofs.Rooms.{until-tells, short-tells}
 use Rattle.codec.specs.Operations.{operationLine}
 use Rattle.codec.specs.Calls.{writeChecks, written, writtenOut}
 

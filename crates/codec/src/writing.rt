@@ -1,7 +1,7 @@
 // Operations put as lines of text into a lent slice.
 use crate::INSERT;
 use crate::TOGGLE;
-use line_output::Room;
+use lines::writing::Room;
 use woot::Insert;
 use woot::Operation;
 use woot::Refusal;
@@ -11,7 +11,7 @@ ghost use mathlib.Core.Path.{_≡_};
 ghost use mathlib.Core.Bool.{cond};
 ghost use lib.Dec.{eqb};
 ghost use Rattle.output.specs.Output.{placed, past};
-ghost use Rattle.line_output.specs.Room.{roomFor};
+ghost use Rattle.lines.specs.Room.{roomFor};
 ghost use Rattle.codec.specs.Operations.{insertNumbers, toggleNumbers, operationLine};
 ghost use Rattle.codec.specs.Calls.{written, writtenOut};
 
@@ -50,12 +50,12 @@ pub fn measure(operation: Operation, size: usize, at: usize) -> Room
         Operation::Insert(insert) => {
             let head = [INSERT];
             let numbers = insert_numbers(insert);
-            line_output::measure(&head, &numbers, size, at)
+            lines::writing::measure(&head, &numbers, size, at)
         }
         Operation::Toggle(toggle) => {
             let head = [TOGGLE];
             let numbers = toggle_numbers(toggle);
-            line_output::measure(&head, &numbers, size, at)
+            lines::writing::measure(&head, &numbers, size, at)
         }
     }
 }
@@ -70,12 +70,12 @@ pub fn put_operation(operation: Operation, out: &mut [u8], at: usize) -> usize
         Operation::Insert(insert) => {
             let head = [INSERT];
             let numbers = insert_numbers(insert);
-            line_output::put(&head, &numbers, out, at)
+            lines::writing::put(&head, &numbers, out, at)
         }
         Operation::Toggle(toggle) => {
             let head = [TOGGLE];
             let numbers = toggle_numbers(toggle);
-            line_output::put(&head, &numbers, out, at)
+            lines::writing::put(&head, &numbers, out, at)
         }
     }
 }

@@ -26,8 +26,8 @@ use Rattle.woot.specs.Answers.{changes, Check, _⇒_, first, decided}
 use Rattle.woot.specs.Writing.{refusing, writingChecks, writtenAs, outputAfter}
 use Rattle.lists.proofs.Tests.{side}
 use Rattle.convergence.proofs.Writing.{length-refused, own-first, own-none, too-short, has-room}
-use Rattle.line_output.specs.declared.Room.the-variants.{Until, Short}
-use Rattle.line_output.specs.Room.{roomFor}
+use Rattle.lines.specs.declared.writing.Room.the-variants.{Until, Short}
+use Rattle.lines.specs.Room.{roomFor}
 use Rattle.cursor.specs.Bits.{shiftBits}
 use Rattle.codec.specs.Operations.{operationLine}
 use Rattle.woot.specs.Form.{replicaWellFormed}

@@ -1,6 +1,6 @@
 // What the calls do once nothing that was handed is refused for its layout or range: the rule, and then the bytes of
 // what it leaves.
-use line_output::Room;
+use lines::writing::Room;
 use saved::Version;
 use woot::Answer;
 use woot::Generated;

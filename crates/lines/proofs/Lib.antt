@@ -7,3 +7,5 @@ pub mod Verdicts
 pub mod Spelling
 pub mod Lines
 pub mod Sizes
+pub mod Rooms
+pub mod Sequences

@@ -1,5 +1,7 @@
 // Lines of numbers: a head word, then numerals, each after a tab, and a line feed at the end. One reader serves every
-// such line, whatever its head word and its numbers; `line_output` writes them.
+// such line, whatever its head word and its numbers; `writing` has the writer.
+pub mod writing;
+
 use decimal::Field;
 ghost use mathlib.Core.Path.{_≡_};
 ghost use mathlib.Core.Bool.{cond};

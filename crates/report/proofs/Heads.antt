@@ -10,7 +10,7 @@ use Rattle.output.proofs.Laws.{placed-room, length-placed}
 use Rattle.decimal.specs.Numeral.{digits}
 use Rattle.decimal.proofs.Laws.{width-le}
 use Rattle.lines.specs.Fields.{tab}
-use Rattle.line_output.proofs.Writing.{Run, run-none, run-on}
+use Rattle.lines.proofs.Rooms.{Run, run-none, run-on}
 
 -- the bytes a are the first `end` of the array
 pub record Front (a h : List ℕ) (end : ℕ) : Type 0 where

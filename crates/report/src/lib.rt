@@ -24,7 +24,7 @@ fn put_report(number: u64, word: &[u8], values: [u64; 3], out: &mut [u8]) -> Wri
     let mut end = decimal::write(number, &mut head, 0);
     end = output::put(&mut head, end, lines::TAB);
     end = output::put_all(&mut head, end, word);
-    codec::writing::fitted(line_output::put(&head[..end], &values, out, 0))
+    codec::writing::fitted(lines::writing::put(&head[..end], &values, out, 0))
 }
 
 // Writes the line on one line of input at the front of the slice. A slice that is too short keeps every byte.
@@ -98,7 +98,7 @@ fn put_text(characters: [Character; 1024], n: usize, out: &mut [u8]) -> Written
     let listed = list(characters, index::lesser(1024, n));
     let values = listed.values;
     let size = listed.count + 1;
-    codec::writing::fitted(line_output::put(&head, &values[..size], out, 0))
+    codec::writing::fitted(lines::writing::put(&head, &values[..size], out, 0))
 }
 
 // Writes the line of a replica's visible characters at the front of the slice. A slice that is too short keeps every

@@ -12,11 +12,11 @@ use Rattle.output.proofs.Laws.{length-placed}
 use Rattle.lists.proofs.Indices.{map-getD}
 use Rattle.lines.specs.Lines.{concatenated}
 use Rattle.lines.proofs.Lines.{concatenated-append}
-use Rattle.line_output.specs.declared.Room.{Room}
-use Rattle.line_output.specs.declared.Room.the-variants.{Until, Short}
-use Rattle.line_output.specs.Room.{roomFor}
-use Rattle.line_output.proofs.Writing.{until-tells, Run, run-none, run-on}
-use Rattle.line_output.proofs.Sequences.{room-on, room-short}
+use Rattle.lines.specs.declared.writing.Room.{Room}
+use Rattle.lines.specs.declared.writing.Room.the-variants.{Until, Short}
+use Rattle.lines.specs.Room.{roomFor}
+use Rattle.lines.proofs.Rooms.{until-tells, Run, run-none, run-on}
+use Rattle.lines.proofs.Sequences.{room-on, room-short}
 use Rattle.woot.specs.declared.Site.{Site}
 use Rattle.woot.specs.declared.Insert.{Insert}
 use Rattle.woot.specs.declared.Operation.the-variants.{Insert as insert}

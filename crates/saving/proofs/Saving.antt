@@ -14,12 +14,12 @@ use Rattle.woot.specs.declared.Pending.{Pending}
 use Rattle.woot.specs.declared.Replica.{Replica}
 use Rattle.woot.specs.State.{characterSlots, pendingSlots, meaning}
 use Rattle.lists.proofs.Padding.{take-lesser}
-use Rattle.line_output.specs.declared.Room.{Room}
-use Rattle.line_output.specs.declared.Room.the-variants.{Until, Short}
+use Rattle.lines.specs.declared.writing.Room.{Room}
+use Rattle.lines.specs.declared.writing.Room.the-variants.{Until, Short}
 use Rattle.lines.specs.Lines.{concatenated}
-use Rattle.line_output.specs.Room.{roomFor}
-use Rattle.line_output.proofs.Writing.{until-tells, Run, run-none, run-on}
-use Rattle.line_output.proofs.Sequences.{room-on, room-short}
+use Rattle.lines.specs.Room.{roomFor}
+use Rattle.lines.proofs.Rooms.{until-tells, Run, run-none, run-on}
+use Rattle.lines.proofs.Sequences.{room-on, room-short}
 use Rattle.codec.specs.Operations.{operationLine}
 use Rattle.saved.specs.declared.Version.{Version}
 use Rattle.saved.specs.declared.Version.the-variants.{First}

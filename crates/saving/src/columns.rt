@@ -3,7 +3,7 @@
 use crate::numbered;
 use crate::numbered::Line;
 use crate::one_line;
-use line_output::Room;
+use lines::writing::Room;
 use saved::Version;
 use woot::Refusal;
 use woot::Site;
@@ -13,7 +13,7 @@ ghost use mathlib.Core.List.{[]};
 ghost use Prim.Native.Nat.{_+_, _≤_, _<_};
 ghost use lib.ListN.{length, getD};
 ghost use Rattle.output.specs.Output.{placed};
-ghost use Rattle.line_output.specs.Room.{roomFor};
+ghost use Rattle.lines.specs.Room.{roomFor};
 ghost use Rattle.woot.specs.Writing.{writtenAs, outputAfter};
 ghost use Rattle.saved.specs.Format.{bytesAs};
 ghost use Rattle.saving.specs.Documents.{lineBytes, Held, listsOf, stateOf, linesAs, bodyAs};

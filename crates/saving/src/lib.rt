@@ -4,7 +4,7 @@ mod numbered;
 mod one_line;
 mod writing;
 
-use line_output::Room;
+use lines::writing::Room;
 use saved::Version;
 use woot::Refusal;
 use woot::Replica;

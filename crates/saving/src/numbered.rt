@@ -3,13 +3,13 @@
 use codec::DELETE;
 use codec::INSERT;
 use codec::TOGGLE;
-use line_output::Room;
+use lines::writing::Room;
 use saved::CHARACTER;
 use saved::Version;
 ghost use mathlib.Core.Path.{_≡_};
 ghost use Prim.Native.Nat.{_≤_};
 ghost use Rattle.output.specs.Output.{placed, past};
-ghost use Rattle.line_output.specs.Room.{roomFor};
+ghost use Rattle.lines.specs.Room.{roomFor};
 ghost use Rattle.woot.specs.Memory.{characterOf, operationOf};
 ghost use Rattle.saved.specs.Format.{characterLine, savedLine};
 ghost use Rattle.saving.specs.Documents.{lineBytes};
@@ -122,7 +122,7 @@ pub(crate) fn measure(line: Line, size: usize, at: usize) -> Room
     let head = [line.head];
     let numbers = line.numbers;
     let count = line.count;
-    line_output::measure(&head, &numbers[..count], size, at)
+    lines::writing::measure(&head, &numbers[..count], size, at)
 }
 
 // Puts a line into the slice at the offset, all of it or nothing, and answers the offset just past it.
@@ -134,5 +134,5 @@ pub(crate) fn put(line: Line, out: &mut [u8], at: usize) -> usize
     let head = [line.head];
     let numbers = line.numbers;
     let count = line.count;
-    line_output::put(&head, &numbers[..count], out, at)
+    lines::writing::put(&head, &numbers[..count], out, at)
 }

@@ -1,6 +1,6 @@
 // Writing one line of a saved replica in its form: where it ends, and then the line itself.
 use codec::DELETE;
-use line_output::Room;
+use lines::writing::Room;
 use saved::FIRST_SITE;
 use saved::SITE;
 use saved::Version;
@@ -10,7 +10,7 @@ use woot::Site;
 use woot::Toggle;
 ghost use mathlib.Core.Path.{_≡_};
 ghost use Rattle.output.specs.Output.{placed, past};
-ghost use Rattle.line_output.specs.Room.{roomFor};
+ghost use Rattle.lines.specs.Room.{roomFor};
 ghost use Rattle.codec.specs.Operations.{deleteNumbers};
 ghost use Rattle.saved.specs.Format.{siteNumbers, siteLine, characterNumbers, savedLine};
 
@@ -29,11 +29,11 @@ pub(crate) fn measure_site(version: Version, site: Site, size: usize) -> Room
     match version {
         Version::First => {
             let head = FIRST_SITE;
-            line_output::measure(&head, &numbers, size, 0)
+            lines::writing::measure(&head, &numbers, size, 0)
         }
         Version::Second => {
             let head = SITE;
-            line_output::measure(&head, &numbers, size, 0)
+            lines::writing::measure(&head, &numbers, size, 0)
         }
     }
 }
@@ -47,11 +47,11 @@ pub(crate) fn put_site(version: Version, site: Site, out: &mut [u8]) -> usize
     match version {
         Version::First => {
             let head = FIRST_SITE;
-            line_output::put(&head, &numbers, out, 0)
+            lines::writing::put(&head, &numbers, out, 0)
         }
         Version::Second => {
             let head = SITE;
-            line_output::put(&head, &numbers, out, 0)
+            lines::writing::put(&head, &numbers, out, 0)
         }
     }
 }
@@ -93,7 +93,7 @@ fn measure_first(operation: Operation, size: usize, at: usize) -> Room
         Operation::Toggle(toggle) => {
             let head = [DELETE];
             let numbers = delete_numbers(toggle);
-            line_output::measure(&head, &numbers, size, at)
+            lines::writing::measure(&head, &numbers, size, at)
         }
     }
 }
@@ -124,7 +124,7 @@ fn put_first(operation: Operation, out: &mut [u8], at: usize) -> usize
         Operation::Toggle(toggle) => {
             let head = [DELETE];
             let numbers = delete_numbers(toggle);
-            line_output::put(&head, &numbers, out, at)
+            lines::writing::put(&head, &numbers, out, at)
         }
     }
 }

@@ -1,6 +1,6 @@
 // Writing the lines of a saved replica, one after another: where they end, and then the lines themselves.
 use crate::one_line;
-use line_output::Room;
+use lines::writing::Room;
 use saved::CHARACTER;
 use saved::Version;
 use woot::Character;
@@ -11,7 +11,7 @@ ghost use Prim.Native.Nat.{_+_, _≤_};
 ghost use lib.ListN.{length, take};
 ghost use Rattle.output.specs.Output.{placed, past};
 ghost use Rattle.lines.specs.Lines.{concatenated};
-ghost use Rattle.line_output.specs.Room.{roomFor};
+ghost use Rattle.lines.specs.Room.{roomFor};
 ghost use Rattle.woot.specs.State.{meaning};
 ghost use Rattle.saved.specs.Format.{characterLine, pendingLine, bytesAs};
 
@@ -33,7 +33,7 @@ fn measure_characters(
     while i < n {
         let character = characters[i];
         let numbers = one_line::character_numbers(version, character);
-        let room = line_output::measure(&head, &numbers, size, end);
+        let room = lines::writing::measure(&head, &numbers, size, end);
         let Room::Until(next) = room else {
             return Room::Short;
         };
@@ -121,7 +121,7 @@ fn put_characters(
     while i < n {
         let character = characters[i];
         let numbers = one_line::character_numbers(version, character);
-        end = line_output::put(&head, &numbers, out, end);
+        end = lines::writing::put(&head, &numbers, out, end);
         i += 1;
     }
     end

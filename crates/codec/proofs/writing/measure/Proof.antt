@@ -3,7 +3,7 @@ use mathlib.Core.Path.{sym, ap, _∙_}
 use borrow.Author.Needs.{needs}
 use Rattle.output.specs.Output.{placed, past}
 use Rattle.lines.specs.Fields.{lineOf}
-use Rattle.line_output.specs.Room.{roomFor}
+use Rattle.lines.specs.Room.{roomFor}
 use Rattle.codec.specs.Operations.{insertHead, toggleHead, operationLine}
 use Rattle.codec.proofs.writing.measure.Statement.{statement}
 use Rattle.codec.proofs.writing.measure.Tie as tie

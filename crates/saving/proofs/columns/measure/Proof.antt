@@ -3,8 +3,8 @@ use Prim.Native.Nat.{ℕ, _+_, _-_, _≤_}
 use mathlib.Core.Path.{_≡_, ap, _∙_}
 use mathlib.Core.List.{List, []}
 use lib.ListN.{length, take}
-use Rattle.line_output.specs.Room.{roomFor}
-use Rattle.line_output.proofs.Sequences.{Measuring, measuring-begun, measuring-more, measuring-short, measuring-end}
+use Rattle.lines.specs.Room.{roomFor}
+use Rattle.lines.proofs.Sequences.{Measuring, measuring-begun, measuring-more, measuring-short, measuring-end}
 use Rattle.saving.specs.Documents.{listsOf, linesAs, bodyAs}
 use Rattle.saving.proofs.Documents.{lines-many, all-lines}
 use Rattle.lines.specs.Lines.{concatenated}

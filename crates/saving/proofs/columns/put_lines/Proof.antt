@@ -5,7 +5,7 @@ use mathlib.Core.List.{List, []}
 use lib.ListN.{length, take}
 use Rattle.output.specs.Output.{placed, past}
 use Rattle.output.proofs.Laws.{length-placed}
-use Rattle.line_output.proofs.Sequences.{Putting, putting-begun, putting-more, putting-end}
+use Rattle.lines.proofs.Sequences.{Putting, putting-begun, putting-more, putting-end}
 use Rattle.saving.specs.Documents.{listsOf, linesAs, bodyAs}
 use Rattle.saving.proofs.Documents.{lines-many, all-lines}
 use Rattle.lines.specs.Lines.{concatenated}

@@ -1,7 +1,7 @@
 -- `saving::one_line::measure_first` meets its contract: the arm knows the variant, and the definition goes by it.
 use mathlib.Core.Path.{sym, ap, _∙_}
 use Rattle.lines.specs.Fields.{lineOf}
-use Rattle.line_output.specs.Room.{roomFor}
+use Rattle.lines.specs.Room.{roomFor}
 use Rattle.codec.specs.Operations.{deleteHead}
 use Rattle.saved.specs.declared.Version.the-variants.{First}
 use Rattle.saved.specs.Format.{savedLine}

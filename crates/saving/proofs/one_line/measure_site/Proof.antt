@@ -1,7 +1,7 @@
 -- `saving::one_line::measure_site` meets its contract, form by form.
 use mathlib.Core.Path.{ap, _∙_}
 use Rattle.lines.specs.Fields.{lineOf}
-use Rattle.line_output.specs.Room.{roomFor}
+use Rattle.lines.specs.Room.{roomFor}
 use Rattle.saved.specs.declared.Version.the-variants.{First, Second}
 use Rattle.saved.specs.Format.{siteHead, siteLine}
 use borrow.Author.Needs.{needs}

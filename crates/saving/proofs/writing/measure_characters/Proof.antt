@@ -5,8 +5,8 @@ use Prim.Native.Nat.{ℕ, _-_, _≤_}
 use native.Mathlib.Omega.{arith}
 use borrow.Author.Needs.{needs}
 use Rattle.lines.specs.Fields.{lineOf}
-use Rattle.line_output.specs.Room.{roomFor}
-use Rattle.line_output.proofs.Sequences.{Measuring, measuring-begun, measuring-more, measuring-short, measuring-end}
+use Rattle.lines.specs.Room.{roomFor}
+use Rattle.lines.proofs.Sequences.{Measuring, measuring-begun, measuring-more, measuring-short, measuring-end}
 use Rattle.saved.specs.Format.{characterHead, characterLine}
 use Rattle.saving.proofs.writing.measure_characters.Statement.{statement}
 use Rattle.saving.proofs.writing.measure_characters.Tie as tie

@@ -2,7 +2,7 @@
 use Prim.Native.Nat.{_-_, _≤_}
 use native.Mathlib.Omega.{arith}
 use borrow.Author.Needs.{needs}
-use Rattle.line_output.proofs.Sequences.{Measuring, measuring-begun, measuring-more, measuring-short, measuring-end}
+use Rattle.lines.proofs.Sequences.{Measuring, measuring-begun, measuring-more, measuring-short, measuring-end}
 use Rattle.saved.specs.Format.{pendingLine}
 use Rattle.saving.proofs.writing.measure_pending.Statement.{statement}
 use Rattle.saving.proofs.writing.measure_pending.Tie as tie

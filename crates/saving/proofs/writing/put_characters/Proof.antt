@@ -7,7 +7,7 @@ use borrow.Author.Needs.{needs}
 use Rattle.output.specs.Output.{placed, past}
 use Rattle.output.proofs.Laws.{length-placed}
 use Rattle.lines.specs.Fields.{lineOf}
-use Rattle.line_output.proofs.Sequences.{Putting, putting-begun, putting-more, putting-end}
+use Rattle.lines.proofs.Sequences.{Putting, putting-begun, putting-more, putting-end}
 use Rattle.saved.specs.Format.{characterHead, characterLine}
 use Rattle.saving.proofs.writing.put_characters.Statement.{statement}
 use Rattle.saving.proofs.writing.put_characters.Tie as tie

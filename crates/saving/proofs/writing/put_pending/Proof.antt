@@ -5,7 +5,7 @@ use native.Mathlib.Omega.{arith}
 use lib.ListN.{length}
 use borrow.Author.Needs.{needs}
 use Rattle.output.proofs.Laws.{length-placed}
-use Rattle.line_output.proofs.Sequences.{Putting, putting-begun, putting-more, putting-end}
+use Rattle.lines.proofs.Sequences.{Putting, putting-begun, putting-more, putting-end}
 use Rattle.saved.specs.Format.{pendingLine}
 use Rattle.saving.proofs.writing.put_pending.Statement.{statement}
 use Rattle.saving.proofs.writing.put_pending.Tie as tie

@@ -1,9 +1,11 @@
 // Lines of numbers put into a lent slice: one measure and one writer serve every such line, whatever its head word and
 // its numbers.
+use crate::LINE_FEED;
+use crate::TAB;
 ghost use mathlib.Core.Path.{_≡_};
 ghost use Rattle.output.specs.Output.{placed, past};
 ghost use Rattle.lines.specs.Fields.{lineOf};
-ghost use Rattle.line_output.specs.Room.{roomFor};
+ghost use Rattle.lines.specs.Room.{roomFor};
 
 // What is left of a slice for bytes from an offset on.
 pub enum Room {
@@ -50,9 +52,9 @@ pub fn put(head: &[u8], numbers: &[u64], out: &mut [u8], at: usize) -> usize
     let mut end = output::put_all(out, at, head);
     let mut i = 0;
     while i < numbers.len() {
-        end = output::put(out, end, lines::TAB);
+        end = output::put(out, end, TAB);
         end = decimal::write(numbers[i], out, end);
         i += 1;
     }
-    output::put(out, end, lines::LINE_FEED)
+    output::put(out, end, LINE_FEED)
 }

@@ -11,11 +11,11 @@ use lib.Seq.{take-suc, take-all}
 use Rattle.output.specs.Output.{hasRoom, placed, past}
 use Rattle.output.proofs.Laws.{room, no-room, has-room, lacks-room, placed-append, placed-room, past-room, length-placed}
 use Rattle.decimal.specs.Numeral.{digits}
-use Rattle.line_output.specs.declared.Room.{Room}
-use Rattle.line_output.specs.declared.Room.the-variants.{Until, Short}
+use Rattle.lines.specs.declared.writing.Room.{Room}
+use Rattle.lines.specs.declared.writing.Room.the-variants.{Until, Short}
 use Rattle.lines.specs.Lines.{lineFeed}
 use Rattle.lines.specs.Fields.{tab, columns}
-use Rattle.line_output.specs.Room.{roomFor}
+use Rattle.lines.specs.Room.{roomFor}
 
 -- ---- columns
 

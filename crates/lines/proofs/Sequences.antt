@@ -7,12 +7,12 @@ use native.Mathlib.Omega.{arith}
 use lib.ListN.{length, take, drop, getD, length-append, take-append-drop}
 use lib.Seq.{take-suc, take-take}
 use Rattle.output.specs.Output.{hasRoom, placed, past}
-use Rattle.line_output.specs.declared.Room.{Room}
-use Rattle.line_output.specs.declared.Room.the-variants.{Until, Short}
+use Rattle.lines.specs.declared.writing.Room.{Room}
+use Rattle.lines.specs.declared.writing.Room.the-variants.{Until, Short}
 use Rattle.lines.specs.Lines.{concatenated}
-use Rattle.line_output.specs.Room.{roomFor}
-use Rattle.line_output.proofs.Writing.{until, short, until-tells, short-tells, Run, run-none, run-on, run-whole}
+use Rattle.lines.specs.Room.{roomFor}
+use Rattle.lines.proofs.Rooms.{until, short, until-tells, short-tells, Run, run-none, run-on, run-whole}
 use Rattle.lines.proofs.Lines.{concatenated-append}
 
 module _ {A : Type 0} (f : A → List ℕ) where
   -- the lines of one element more

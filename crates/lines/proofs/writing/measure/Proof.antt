@@ -1,4 +1,4 @@
--- `line_output::measure` meets its contract. The loop's invariant: with the columns that are left, the end is the line's.
+-- `lines::writing::measure` meets its contract. The loop's invariant: with the columns that are left, the end is the line's.
 use mathlib.Core.Path.{_≡_, sym, ap, _∙_}
 use mathlib.Core.List.{List, []}
 use Prim.Native.Nat.{ℕ, _+_, _-_, _≤_}
@@ -8,11 +8,11 @@ use borrow.Author.Needs.{needs}
 use borrow.Author.Tests.{not-true, not-false}
 use Rattle.output.proofs.Laws.{has-room, lacks-room}
 use Rattle.decimal.proofs.Laws.{width-le}
 use Rattle.lines.specs.Fields.{columns, lineOf}
 use Rattle.lines.proofs.Sizes.{columns-length, line-length}
-use Rattle.line_output.proofs.Writing.{until, short}
-use Rattle.line_output.proofs.measure.Statement.{statement}
-use Rattle.line_output.proofs.measure.Tie as tie
+use Rattle.lines.proofs.Rooms.{until, short}
+use Rattle.lines.proofs.writing.measure.Statement.{statement}
+use Rattle.lines.proofs.writing.measure.Tie as tie
 
 -- past the last number the line feed is left
 ended : (head ns : List ℕ) (at end i : ℕ) → end + length (columns (drop i ns)) ≡ at + (length head + length (columns ns)) → length ns ≤ i

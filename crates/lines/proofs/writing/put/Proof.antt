@@ -1,15 +1,15 @@
--- `line_output::put` meets its contract, by the invariant of `proofs/Writing.antt`.
+-- `lines::writing::put` meets its contract, by the invariant of `proofs/Rooms.antt`.
 use mathlib.Core.Path.{sym, ap, _∙_}
 use Prim.Native.Nat.{_+_, _-_, _<_, _≤_}
 use native.Mathlib.Omega.{arith}
 use lib.ListN.{length}
 use borrow.Author.Needs.{needs}
 use Rattle.output.proofs.Laws.{placed-short, past-short, length-placed}
 use Rattle.lines.specs.Fields.{columns, lineOf}
 use Rattle.lines.proofs.Sizes.{line-length}
-use Rattle.line_output.proofs.Writing.{until-tells, short-tells, Putting, begun, more, last, line-put}
-use Rattle.line_output.proofs.put.Statement.{statement}
-use Rattle.line_output.proofs.put.Tie as tie
+use Rattle.lines.proofs.Rooms.{until-tells, short-tells, Putting, begun, more, last, line-put}
+use Rattle.lines.proofs.writing.put.Statement.{statement}
+use Rattle.lines.proofs.writing.put.Tie as tie
 
 abbrev Inv-loop : tie.InvT-loop
 Inv-loop head numbers out₀ at end₀ i₀ out end i = Putting numbers out₀ end₀ out end i

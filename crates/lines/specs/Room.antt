@@ -4,8 +4,8 @@ use mathlib.Core.List.{List}
 use mathlib.Core.Bool.{cond}
 use lib.ListN.{length}
 use Rattle.output.specs.Output.{hasRoom}
-use Rattle.line_output.specs.declared.Room.{Room}
-use Rattle.line_output.specs.declared.Room.the-variants.{Until, Short}
+use Rattle.lines.specs.declared.writing.Room.{Room}
+use Rattle.lines.specs.declared.writing.Room.the-variants.{Until, Short}
 
 -- the offset just past bytes in a slice of the given size from the offset on, or that they have no room
 unfoldable pub roomFor : ℕ → ℕ → List ℕ → Room
