@@ -50,7 +50,7 @@ fn print_line(replica: Replica, number: u64, bytes: &[u8]) -> Printed
 // Prints the visible characters.
 fn print_text(replica: Replica) {
     let mut line = [0u8; 8199];
-    let written = report::text_line(replica, &mut line);
+    let written = transcript::report::text_line(replica, &mut line);
     if let Written::Length(n) = written {
         print(&line[..n]);
     }

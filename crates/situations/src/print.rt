@@ -49,7 +49,7 @@ pub(crate) fn number(n: u64) {
 // Prints the line of a step: what was done, at which clock, the word, carried, thrown, and the refusal's number or 0.
 pub(crate) fn step(label: &[u8], clock: u16, answer: Answer) {
     let mut line = [0u8; 70];
-    let n = count(report::report_line(clock as u64, answer, &mut line));
+    let n = count(transcript::report::report_line(clock as u64, answer, &mut line));
     text(label);
     text(b"\t");
     text(front(&line, n));
@@ -67,7 +67,7 @@ pub(crate) fn counts(r: Replica) {
 // Prints a replica's visible characters.
 pub(crate) fn text_line(r: Replica) {
     let mut line = [0u8; 8199];
-    let n = count(report::text_line(r, &mut line));
+    let n = count(transcript::report::text_line(r, &mut line));
     text(front(&line, n));
 }
 

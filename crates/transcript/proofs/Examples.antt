@@ -18,7 +18,7 @@ use Rattle.lines.specs.Fields.{numerals, hasLayout, valuesOf, lineOf}
 use Rattle.codec.specs.Operations.{identifierAt, insertOf, toggleOf, deleteOf, isInsert, isToggle, isDelete, operationOf}
 use Rattle.codec.specs.Calls.{asWritten, lineLaidOut, laidOut, readChecks, readAs, saidBy, readOperation}
 use Rattle.storage.specs.Replicas.{afterAnswer, receipt, received}
-use Rattle.report.specs.Lines.{spelled, replyLine, reportLine, codePoints, textNumbers, textLine}
+use Rattle.transcript.specs.Lines.{spelled, replyLine, reportLine, codePoints, textNumbers, textLine}
 use Rattle.transcript.specs.Calls.{answeredAs, answered, printedFrom, wholeOutput}
 use Rattle.transcript.specs.Theorems.{Example, RestoredExample}
 

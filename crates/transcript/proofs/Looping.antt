@@ -26,11 +26,11 @@ use Rattle.codec.specs.declared.Read.the-variants.{Operation as readsAs, Refuse
 use Rattle.codec.specs.Calls.{readOperation}
 use Rattle.storage.proofs.Stored.{form-meant}
 use Rattle.transcript.specs.declared.Processed.{Processed}
-use Rattle.report.specs.Lines.{reportLine, textLine}
+use Rattle.transcript.specs.Lines.{reportLine, textLine}
 use Rattle.transcript.specs.Calls.{answeredAs, answered, printedFrom, wholeOutput, inputMost, hallOutput}
 use Rattle.transcript.specs.Loop.{reportOn, processed, processedOut, front, textFront, loopFrom, looped}
 use Rattle.transcript.specs.Theorems.{LoopPrints}
-use Rattle.report.proofs.Sizes.{report-fits, text-fits}
+use Rattle.transcript.proofs.Sizes.{report-fits, text-fits}
 use Rattle.codec.proofs.Answers.{fitted-within}
 use Rattle.transcript.proofs.Writers.{front-whole}
 

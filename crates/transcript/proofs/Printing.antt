@@ -10,7 +10,7 @@ use borrow.Author.Tests.{eq-eqb, ne-eqb}
 use Rattle.woot.specs.declared.Replica.{Replica}
 use Rattle.lines.specs.Lines.{rest}
 use Rattle.lines.proofs.Lines.{rest-shorter}
-use Rattle.report.specs.Lines.{reportLine}
+use Rattle.transcript.specs.Lines.{reportLine}
 use Rattle.transcript.specs.Calls.{answered, printedFrom}
 use Rattle.transcript.specs.Theorems.{PrintedByLines}
 

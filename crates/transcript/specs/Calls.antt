@@ -13,7 +13,7 @@ use Rattle.codec.specs.declared.Read.the-variants.{Operation as readsAs, Refuse
 use Rattle.lines.specs.Lines.{rest}
 use Rattle.codec.specs.Calls.{readOperation}
 use Rattle.storage.specs.Replicas.{received}
-use Rattle.report.specs.Lines.{reportLine, textLine}
+use Rattle.transcript.specs.Lines.{reportLine, textLine}
 
 -- an operation is received; what could not be read is refused, and the very replica comes back
 unfoldable pub answeredAs : Replica → Read → Receipt

@@ -1,5 +1,5 @@
--- The hall program as its loop runs: each line by `transcript::process_line`, the text by `report::text_line`, and of the
--- slices that it lends them it prints what was written.
+-- The hall program as its loop runs: each line by `transcript::process_line`, the text by
+-- `transcript::report::text_line`, and of the slices that it lends them it prints what was written.
 use Prim.Native.Nat.{ℕ, zero, suc, _+_}
 use mathlib.Core.Bool.{cond}
 use mathlib.Core.List.{List, [], _++_}
@@ -11,7 +11,7 @@ use Rattle.woot.specs.State.{initial, meaning, stored}
 use Rattle.woot.specs.Writing.{writtenAs, outputAfter, writtenLength}
 use Rattle.lines.specs.Lines.{rest}
 use Rattle.transcript.specs.declared.Processed.{Processed}
-use Rattle.report.specs.Lines.{reportLine, textLine}
+use Rattle.transcript.specs.Lines.{reportLine, textLine}
 use Rattle.transcript.specs.Calls.{answered}
 
 -- the report on the first line of the bytes, which is the line n of the input

@@ -1,14 +1,32 @@
--- The promises about the whole output, each proved in proofs/ under its name in small letters.
-use Prim.Native.Nat.{ℕ, _+_, _<_, _≤_}
+-- The promises about the lines and the whole output, each proved in proofs/ under its name in small letters.
+use Prim.Native.Nat.{ℕ, _+_, _^_, _<_, _≤_}
 use mathlib.Core.Path.{_≡_}
+use mathlib.Core.Bool.{true}
 use mathlib.Core.List.{List, [], _∷_, _++_}
 use lib.ListN.{length, take}
+use Rattle.woot.specs.declared.Answer.{Answer}
 use Rattle.woot.specs.declared.Replica.{Replica}
+use Rattle.woot.specs.Answers.{reply}
 use Rattle.woot.specs.State.{meaning}
+use Rattle.woot.specs.Form.{replicaWellFormed}
 use Rattle.lines.specs.Lines.{rest}
-use Rattle.report.specs.Lines.{reportLine, textLine}
+use Rattle.transcript.specs.Lines.{reportLine, textLine}
 use Rattle.transcript.specs.Calls.{answered, printedFrom, wholeOutput, inputMost, hallOutput}
 use Rattle.transcript.specs.Loop.{looped}
+
+-- ---- the lines
+
+-- 70 bytes have room for a report with any numbers of 64 bits
+abbrev pub ReportFits : Type 0
+ReportFits =
+    (n : ℕ) (a : Answer) → n < 2 ^ 64 → reply a .integrated < 2 ^ 64 → reply a .discarded < 2 ^ 64 →
+    length (reportLine n a) ≤ 70
+
+-- 8,199 bytes have room for the text of any replica that is well formed
+abbrev pub TextFits : Type 0
+TextFits = (r : Replica) → replicaWellFormed r ≡ true → length (textLine (meaning r .characters)) ≤ 8199
+
+-- ---- the whole output
 
 -- with no bytes left the text is printed; else the report on the first line, and then what the rest gives
 abbrev pub PrintedByLines : Type 0

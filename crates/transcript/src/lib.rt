@@ -1,4 +1,6 @@
-// What the hall program makes of its input: it answers a line, and reports on it.
+// What the hall program makes of its input: it answers a line, and reports on it by `report`.
+pub mod report;
+
 use woot::Answer;
 use woot::Receipt;
 use woot::Replica;

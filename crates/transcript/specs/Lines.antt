@@ -11,7 +11,7 @@ use Rattle.lists.specs.Padding.{pad}
 use Rattle.woot.specs.Answers.{Word, done, waits, known, refused, Reply, reply}
 use Rattle.decimal.specs.Numeral.{digits}
 use Rattle.lines.specs.Fields.{tab, lineOf}
-use Rattle.report.specs.declared.Listing.{Listing}
+use Rattle.transcript.specs.declared.report.Listing.{Listing}
 
 -- `done`, `waits`, `known`, `refused`
 unfoldable pub spelled : Word → List ℕ

@@ -1,17 +1,17 @@
--- `report::put_text` meets its contract: the part of the array that is lent holds the numbers of the line.
+-- `transcript::report::put_text` meets its contract: the part of the array that is lent holds the numbers of the line.
 use mathlib.Core.Path.{sym, _∙_}
 use Prim.Native.Nat.{_+_, _≤_}
 use native.Mathlib.Omega.{arith}
 use borrow.Author.Needs.{needs}
 use lib.ListN.{take}
 use lib.Seq.{length-take-le}
-use Rattle.report.specs.Lines.{textNumbers, textLine}
+use Rattle.transcript.specs.Lines.{textNumbers, textLine}
 use Rattle.lines.proofs.Sizes.{line-some}
 use Rattle.codec.proofs.Answers.{put-after, offset-fitted}
-use Rattle.report.proofs.Heads.{Front}
-use Rattle.report.proofs.Listings.{listing-few, listing-front}
-use Rattle.report.proofs.put_text.Statement.{statement}
-use Rattle.report.proofs.put_text.Tie as tie
+use Rattle.transcript.proofs.Heads.{Front}
+use Rattle.transcript.proofs.Listings.{listing-few, listing-front}
+use Rattle.transcript.proofs.report.put_text.Statement.{statement}
+use Rattle.transcript.proofs.report.put_text.Tie as tie
 
 lesser-requires : tie.Need-lesser-requires
 lesser-requires c κs = search needs

@@ -12,10 +12,10 @@ use Rattle.woot.specs.Operations.{isVisible}
 use Rattle.lists.specs.Lists.{keep}
 use Rattle.lists.specs.Padding.{pad}
 use Rattle.lists.proofs.Padding.{pad-length, pad-take, pad-push, take-lesser}
-use Rattle.report.specs.declared.Listing.{Listing}
-use Rattle.report.specs.Lines.{codePoints, textNumbers, listing}
-use Rattle.report.proofs.Sizes.{points-le}
-use Rattle.report.proofs.Heads.{Front}
+use Rattle.transcript.specs.declared.report.Listing.{Listing}
+use Rattle.transcript.specs.Lines.{codePoints, textNumbers, listing}
+use Rattle.transcript.proofs.Sizes.{points-le}
+use Rattle.transcript.proofs.Heads.{Front}
 
 -- ---- one character more
 

@@ -1,4 +1,4 @@
--- `report::put_report` meets its contract: the part of the array that is lent is the head of the line.
+-- `transcript::report::put_report` meets its contract: the part of the array that is lent is the head of the line.
 use mathlib.Core.Path.{refl, sym, _∙_}
 use mathlib.Core.List.{_∷_, _++_}
 use borrow.Author.Needs.{needs}
@@ -7,9 +7,9 @@ use Rattle.decimal.specs.Numeral.{digits}
 use Rattle.lines.specs.Fields.{tab}
 use Rattle.lines.proofs.Sizes.{line-some}
 use Rattle.codec.proofs.Answers.{put-after, offset-fitted}
-use Rattle.report.proofs.Heads.{Front, head-put}
-use Rattle.report.proofs.put_report.Statement.{statement}
-use Rattle.report.proofs.put_report.Tie as tie
+use Rattle.transcript.proofs.Heads.{Front, head-put}
+use Rattle.transcript.proofs.report.put_report.Statement.{statement}
+use Rattle.transcript.proofs.report.put_report.Tie as tie
 
 abbrev start : tie.After-put-all → tie.Start
 start c = c .before .before .before .before .before .before .before .before .before .before

@@ -11,7 +11,7 @@ ghost use Rattle.decimal.specs.Numeral.{digits};
 ghost use Rattle.lines.specs.Fields.{tab, lineOf};
 ghost use Rattle.woot.specs.State.{meaning};
 ghost use Rattle.woot.specs.Writing.{writtenAs, outputAfter};
-ghost use Rattle.report.specs.Lines.{reportLine, textLine, listing};
+ghost use Rattle.transcript.specs.Lines.{reportLine, textLine, listing};
 
 // Writes a line of a number, a word and three numbers at the front of the slice, all of it or nothing.
 fn put_report(number: u64, word: &[u8], values: [u64; 3], out: &mut [u8]) -> Written

@@ -23,9 +23,9 @@ use Rattle.decimal.proofs.Laws.{width-by-power, width-le}
 use Rattle.lines.specs.Fields.{tab, columns}
 use Rattle.lines.proofs.Sizes.{line-length}
 use Rattle.codec.proofs.Bounds.{insert-bounds}
-use Rattle.report.specs.Lines.{spelled, replyLine, reportLine, codePoints, textHead, textNumbers, textLine}
+use Rattle.transcript.specs.Lines.{spelled, replyLine, reportLine, codePoints, textHead, textNumbers, textLine}
 use Rattle.storage.proofs.Stored.{form-meant}
-use Rattle.report.specs.Theorems.{ReportFits, TextFits}
+use Rattle.transcript.specs.Theorems.{ReportFits, TextFits}
 
 column-length : (n : ℕ) (ns : List ℕ) → length (columns (n ∷ ns)) ≡ length (digits n) + length (columns ns) + 1
 column-length n ns = omega (arith, length-append (digits n) (columns ns))

@@ -1,8 +1,8 @@
--- `report::text_line` meets its contract: the characters in use are the replica's.
+-- `transcript::report::text_line` meets its contract: the characters in use are the replica's.
 use borrow.Author.Needs.{needs}
 use Rattle.woot.specs.State.{meaning}
-use Rattle.report.proofs.text_line.Statement.{statement}
-use Rattle.report.proofs.text_line.Tie as tie
+use Rattle.transcript.proofs.report.text_line.Statement.{statement}
+use Rattle.transcript.proofs.report.text_line.Tie as tie
 
 put-text-requires : tie.Need-put-text-requires
 put-text-requires c κs = search needs

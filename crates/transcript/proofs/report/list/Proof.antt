@@ -1,13 +1,13 @@
--- `report::list` meets its contract, by the invariant of `proofs/Listings.antt`.
+-- `transcript::report::list` meets its contract, by the invariant of `proofs/Listings.antt`.
 use mathlib.Core.Path.{_≡_, sym, _∙_}
 use mathlib.Core.Logic.{⊎-elim}
 use Prim.Native.Nat.{_-_, _≤_}
 use native.Mathlib.Omega.{arith}
 use borrow.Author.Needs.{needs}
 use lib.ListN.{length}
-use Rattle.report.proofs.Listings.{Gathered, gathered-none, gathered-visible, gathered-hidden, gathered-all}
-use Rattle.report.proofs.list.Statement.{statement}
-use Rattle.report.proofs.list.Tie as tie
+use Rattle.transcript.proofs.Listings.{Gathered, gathered-none, gathered-visible, gathered-hidden, gathered-all}
+use Rattle.transcript.proofs.report.list.Statement.{statement}
+use Rattle.transcript.proofs.report.list.Tie as tie
 
 abbrev Inv-loop : tie.InvT-loop
 Inv-loop n cs values₀ count₀ i₀ values count i = (i ≤ n) × (length cs ≡ 1024) × Gathered cs values count i

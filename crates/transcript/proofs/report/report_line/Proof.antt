@@ -1,9 +1,9 @@
--- `report::report_line` meets its contract: the arm knows the variant, and the reply goes by it.
+-- `transcript::report::report_line` meets its contract: the arm knows the variant, and the reply goes by it.
 use borrow.Author.Needs.{needs}
 use Rattle.woot.specs.Answers.{reply}
-use Rattle.report.specs.Lines.{spelled, replyLine, reportLine}
-use Rattle.report.proofs.report_line.Statement.{statement}
-use Rattle.report.proofs.report_line.Tie as tie
+use Rattle.transcript.specs.Lines.{spelled, replyLine, reportLine}
+use Rattle.transcript.proofs.report.report_line.Statement.{statement}
+use Rattle.transcript.proofs.report.report_line.Tie as tie
 
 enum-known-answer : tie.Need-enum-known-answer
 enum-known-answer c = search needs
