@@ -30,13 +30,21 @@ module _ (b : ℕ) where
       go true e h = rw e (omega arith)
       go false e h = rw e (omega arith)
 
-  -- what `find` answers is atMost the bytes, and cuts the bytes before it out
+  -- what `find` answers is at most the length of the bytes, and cuts the bytes before it out
   module _ (s : List ℕ) (start at : ℕ) (e : at ≡ start + length (before b (drop start s))) where
     pub found-le : start ≤ length s → at ≤ length s
     found-le h = omega (arith, before-le (drop start s), length-drop start s)
 
     pub found-part : take (at - start) (drop start s) ≡ before b (drop start s)
     found-part = let gap : at - start ≡ length (before b (drop start s)) = omega arith in rw gap (take-before (drop start s))
+
+  -- searched for from the first byte on
+  module _ (s : List ℕ) (end : ℕ) (e : end ≡ 0 + length (before b s)) where
+    pub found-at : end ≡ length (before b s)
+    found-at = omega arith
+
+    pub found-front : take end s ≡ before b s
+    found-front = rw found-at (take-before s)
 
   -- where it is there, the whole is the bytes before it, itself and the bytes after it
   pub split : (s : List ℕ) → has b s ≡ true → s ≡ before b s ++ b ∷ after b s
@@ -97,22 +105,19 @@ module _ (b : ℕ) where
 -- ---- the first line, by the place of the line feed
 
 module _ (s : List ℕ) (end : ℕ) (e : end ≡ 0 + length (before lineFeed s)) where
-  at-end : end ≡ length (before lineFeed s)
-  at-end = omega arith
-
   pub front-none : length s ≤ end → [] ≡ cond (ended s) (firstLine s) []
   unfolding ended
-  front-none h = rw (is-absent lineFeed s (omega (arith, at-end)))
+  front-none h = rw (is-absent lineFeed s (omega (arith, found-at lineFeed s end e)))
 
   pub front-some : end < length s → take end s ≡ cond (ended s) (firstLine s) []
   unfolding ended firstLine
-  front-some h = rw (at-end, take-before lineFeed s, is-there lineFeed s (omega (arith, at-end)))
+  front-some h = rw (found-front lineFeed s end e, is-there lineFeed s (omega (arith, found-at lineFeed s end e)))
 
   pub rest-none : length s ≤ end → take (length s - end) (drop end s) ≡ rest s
   unfolding rest
-  rest-none h = rw (drop-of-length-le s h, ← drop-before lineFeed s, ← at-end, drop-of-length-le s {i = suc end} (omega arith)) (take-nil (length s - end))
+  rest-none h = rw (drop-of-length-le s h, ← drop-before lineFeed s, ← found-at lineFeed s end e, drop-of-length-le s {i = suc end} (omega arith)) (take-nil (length s - end))
 
   pub rest-some : end < length s → take (length s - (end + 1)) (drop (end + 1) s) ≡ rest s
   unfolding rest
   rest-some h =
-      rw (take-all (length s - (end + 1)) (drop (end + 1) s) (omega (arith, length-drop (end + 1) s)), add-one end, at-end) (drop-before lineFeed s)
+      rw (take-all (length s - (end + 1)) (drop (end + 1) s) (omega (arith, length-drop (end + 1) s)), add-one end, found-at lineFeed s end e) (drop-before lineFeed s)
