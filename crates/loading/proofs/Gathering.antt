@@ -48,7 +48,7 @@ slots-used m z xs = ⊎-elim short long (side (length xs) m)
 
 -- ---- the array
 
-and-none : (b : Bool) → b && false ≡ false
+pub and-none : (b : Bool) → b && false ≡ false
 and-none true = refl
 and-none false = refl
 
@@ -56,7 +56,7 @@ and-true : (b : Bool) → b && true ≡ b
 and-true true = refl
 and-true false = refl
 
-every-more : {A : Type 0} (p : A → Bool) (xs : List A) (x : A) → every p (xs ++ x ∷ []) ≡ every p xs && p x
+pub every-more : {A : Type 0} (p : A → Bool) (xs : List A) (x : A) → every p (xs ++ x ∷ []) ≡ every p xs && p x
 every-more p xs x = every-append p xs (x ∷ []) ∙ ap (λ (b : Bool). every p xs && b) (and-true (p x))
 
 module _ {A : Type 0} (m : ℕ) (z : A) (xs : List A) (x : A) where
@@ -100,18 +100,18 @@ module _ {A : Type 0} {m : ℕ} {z : A} {item : List ℕ → A} {passes : List �
 
 -- ---- the layout that a line is read with
 
-no-character : isCharacter [] ≡ false
+pub no-character : isCharacter [] ≡ false
 unfolding isCharacter hasLayout
 no-character = refl
 
-no-operation : (v : Version) → isOperation v [] ≡ false
+pub no-operation : (v : Version) → isOperation v [] ≡ false
 unfolding isOperation asWritten asWrittenFirst isInsert isToggle isDelete hasLayout
 no-operation First = refl
 no-operation Second = refl
 
 -- a line that has a layout stands there, and a line feed ends it
 module _ (p : List ℕ → Bool) (none : p [] ≡ false) (left : List ℕ) (h : p (getD (lines left) 0 []) ≡ true) where
-  there : lines left ≡ getD (lines left) 0 [] ∷ lines (rest left)
+  pub there : lines left ≡ getD (lines left) 0 [] ∷ lines (rest left)
   there = rw (lines-rest left) (head-first p none (lines left) h)
 
   pub is-ended : ended left ≡ true
@@ -120,7 +120,7 @@ module _ (p : List ℕ → Bool) (none : p [] ≡ false) (left : List ℕ) (h : 
       nothing : ended left ≡ false → ⊥
       nothing e = let z : _≡_ {A = ℕ} 0 1 = cc (lines-unended left e, there) in omega arith
 
-  some-left : 0 < length left
+  pub some-left : 0 < length left
   some-left = go left there
     where
       go : (s : List ℕ) → lines s ≡ getD (lines left) 0 [] ∷ lines (rest left) → 0 < length s

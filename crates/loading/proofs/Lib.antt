@@ -1,2 +1,4 @@
+pub mod Collecting
 pub mod Gathering
 pub mod Loading
+pub mod Storing

@@ -1,4 +1,5 @@
 // Reading saved replicas from bytes.
+mod filling;
 mod reading;
 
 use reading::Characters;

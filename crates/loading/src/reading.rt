@@ -29,7 +29,7 @@ pub(crate) struct Operations {
 }
 
 // Whether both hold.
-fn both(a: bool, b: bool) -> bool
+pub(crate) fn both(a: bool, b: bool) -> bool
     ensures { λ r. ⌜ r ≡ a && b ⌝ }
 {
     if a {

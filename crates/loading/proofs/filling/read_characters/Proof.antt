@@ -1,0 +1,87 @@
+-- `loading::filling::read_characters` meets its contract, by the invariant of `proofs/Collecting.antt`.
+use Rattle.loading.proofs.Collecting.{FrontLoop, front-begun, front-characters, front-toggles, front-end, front-filled, front-toggled, front-left, front-more, characters-length, toggles-length}
+use mathlib.Core.Path.{_≡_, refl, sym, ap, _∙_}
+use mathlib.Core.List.{[]}
+use native.Mathlib.Omega.{arith}
+use lib.ListN.{length, getD}
+use borrow.Author.Needs.{needs}
+use borrow.Author.Tests.{not-true, not-false}
+use Rattle.lines.specs.Lines.{lines}
+use Rattle.lines.proofs.Lines.{rest-shorter}
+use Rattle.saved_lines.specs.Judging.{characterRead}
+use Rattle.loading.proofs.filling.read_characters.Statement.{statement}
+use Rattle.loading.proofs.filling.read_characters.Tie as tie
+
+abbrev Inv-loop : tie.InvT-loop
+Inv-loop version bytes characters₀ toggles₀ count₀ in-range₀ left₀ characters toggles count in-range left =
+    FrontLoop version bytes characters toggles count in-range left
+
+abbrev μ-loop : tie.MeasureT-loop
+μ-loop version bytes characters₀ toggles₀ count₀ in-range₀ left₀ characters toggles count in-range left =
+    length left
+
+-- the first line that is left, as it is read
+line-read : (c : tie.After-read-character Inv-loop μ-loop)
+    → c .read-character .result ≡ characterRead (c .before .before .before .before .before .before .args .version) (getD (lines (c .before .before .loop .left .now)) 0 [])
+line-read c = c .read-character .ensures ∙ ap (characterRead (c .before .before .before .before .before .before .args .version)) (c .before .head .ensures)
+
+loop-holds : tie.Need-loop-holds Inv-loop μ-loop
+loop-holds c = front-begun _ _ (c .before .before .before .pre .0) (c .before .before .before .pre .1)
+
+head-requires : tie.Need-head-requires Inv-loop μ-loop
+head-requires c κs = search needs
+
+read-character-requires : tie.Need-read-character-requires Inv-loop μ-loop
+read-character-requires c κs = search needs
+
+same-length : tie.Need-same-length Inv-loop μ-loop
+same-length c = front-characters (c .before .before .before .before .loop .inv) ∙ sym (ap length (c .before .before .before .before .before .before .before .before .pre .0) ∙ characters-length [])
+
+same-length-2 : tie.Need-same-length-2 Inv-loop μ-loop
+same-length-2 c = front-toggles (c .before .before .before .before .loop .inv) ∙ sym (ap length (c .before .before .before .before .before .before .before .before .pre .1) ∙ toggles-length [])
+
+returns : tie.Need-returns Inv-loop μ-loop
+returns c = (front-end (c .before .before .before .before .loop .inv) _ (line-read (c .before .before)) (not-true _ (c .if1 .taken)), (front-filled (c .before .before .before .before .loop .inv) _ (line-read (c .before .before)) (not-true _ (c .if1 .taken)), front-toggled (c .before .before .before .before .loop .inv) _ (line-read (c .before .before)) (not-true _ (c .if1 .taken))))
+
+store-character-requires : tie.Need-store-character-requires Inv-loop μ-loop
+store-character-requires c κs = front-characters (c .before .before .before .before .before .before .loop .inv)
+
+store-toggles-requires : tie.Need-store-toggles-requires Inv-loop μ-loop
+store-toggles-requires c κs = front-toggles (c .before .before .before .before .before .before .before .before .before .before .loop .inv)
+
+both-requires : tie.Need-both-requires Inv-loop μ-loop
+both-requires c κs = search needs
+
+add-count : tie.Need-add-count Inv-loop μ-loop
+add-count c = omega (arith, c .before .before .before .before .before .before .before .before .before .before .before .before .before .before .loop .inv .small, front-left (c .before .before .before .before .before .before .before .before .before .before .before .before .before .before .loop .inv) _ (line-read (c .before .before .before .before .before .before .before .before .before .before .before .before)) (not-false _ (c .before .before .before .before .before .before .before .before .before .before .if1 .left)))
+
+rest-requires : tie.Need-rest-requires Inv-loop μ-loop
+rest-requires c κs = search needs
+
+loop-less : tie.Need-loop-less Inv-loop μ-loop
+loop-less c = omega (arith, rest-shorter (c .before .before .before .before .before .before .before .before .before .before .before .before .before .before .before .loop .left .now) (front-left (c .before .before .before .before .before .before .before .before .before .before .before .before .before .before .before .loop .inv) _ (line-read (c .before .before .before .before .before .before .before .before .before .before .before .before .before)) (not-false _ (c .before .before .before .before .before .before .before .before .before .before .before .if1 .left))), ap length (c .rest .ensures))
+
+loop-again : tie.Need-loop-again Inv-loop μ-loop
+loop-again c =
+    front-more (c .before .before .before .before .before .before .before .before .before .before .before .before .before .before .before .loop .inv) _ (line-read (c .before .before .before .before .before .before .before .before .before .before .before .before .before)) (not-false _ (c .before .before .before .before .before .before .before .before .before .before .before .if1 .left)) (c .before .before .before .before .before .before .before .before .store-character .ensures)
+    (c .before .before .before .before .store-toggles .ensures) (c .before .both .ensures) (c .rest .ensures)
+
+pub read-characters-spec : {M : Type 1} → statement M
+read-characters-spec =
+    tie.close
+    (tie.spec
+    Inv-loop
+    μ-loop
+    loop-holds
+    head-requires
+    read-character-requires
+    same-length
+    same-length-2
+    returns
+    store-character-requires
+    store-toggles-requires
+    both-requires
+    add-count
+    rest-requires
+    loop-less
+    loop-again)

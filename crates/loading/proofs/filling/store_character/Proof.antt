@@ -1,0 +1,44 @@
+-- `loading::filling::store_character` meets its contract: where there is a slot, the numbers go into it.
+use lib.Dec.{leb}
+use mathlib.Core.Path.{_≡_, refl, _∙_}
+use Rattle.loading.specs.Filling.{setIn, keptIn}
+use borrow.Author.Tests.{le-leb, lt-leb}
+use native.Mathlib.Omega.{arith}
+use borrow.Author.Needs.{needs}
+use Rattle.loading.proofs.filling.store_character.Statement.{statement}
+use Rattle.loading.proofs.filling.store_character.Tie as tie
+
+returns : tie.Need-returns
+unfolding keptIn
+returns c = rw (le-leb _ _ (c .if1 .taken))
+
+key-requires : tie.Need-key-requires
+key-requires c κs = search needs
+
+key-requires-2 : tie.Need-key-requires-2
+key-requires-2 c κs = search needs
+
+key-requires-3 : tie.Need-key-requires-3
+key-requires-3 c κs = search needs
+
+store-requires : tie.Need-store-requires
+store-requires c κs = search needs
+
+same-length : tie.Need-same-length
+same-length c = search needs
+
+returns-2 : tie.Need-returns-2
+unfolding keptIn
+returns-2 c = rw (lt-leb _ _ (c .before .before .before .before .before .before .before .before .before .before .if1 .left)) (c .before .before .store .ensures ∙ λ j. setIn 1024 (c .before .before .before .before .before .before .before .before .before .before .before .before .args .i) (c .before .before .before .before .before .key .ensures .0 j) (c .before .before .before .before .key2 .ensures .0 j) (c .before .before .before .key3 .ensures .0 j) (c .before .before .before .before .before .before .before .before .before .before .before .before .args .character .«code_point») (c .before .before .before .before .before .before .before .before .before .before .before .before .args .characters .now))
+
+pub store-character-spec : {M : Type 1} → statement M
+store-character-spec =
+    tie.close
+    (tie.spec
+    returns
+    key-requires
+    key-requires-2
+    key-requires-3
+    store-requires
+    same-length
+    returns-2)

@@ -1,0 +1,48 @@
+-- `loading::filling::store_operation` meets its contract: where there is a slot, the numbers go into it.
+use lib.Dec.{leb}
+use mathlib.Core.Path.{_≡_, refl, _∙_}
+use Rattle.loading.specs.Filling.{setIn, keptIn}
+use borrow.Author.Tests.{le-leb, lt-leb}
+use native.Mathlib.Omega.{arith}
+use borrow.Author.Needs.{needs}
+use Rattle.loading.proofs.filling.store_operation.Statement.{statement}
+use Rattle.loading.proofs.filling.store_operation.Tie as tie
+
+returns : tie.Need-returns
+unfolding keptIn
+returns c = rw (le-leb _ _ (c .if1 .taken))
+
+own-key-requires : tie.Need-own-key-requires
+own-key-requires c κs = search needs
+
+first-key-requires : tie.Need-first-key-requires
+first-key-requires c κs = search needs
+
+second-key-requires : tie.Need-second-key-requires
+second-key-requires c κs = search needs
+
+value-of-requires : tie.Need-value-of-requires
+value-of-requires c κs = search needs
+
+store-requires : tie.Need-store-requires
+store-requires c κs = search needs
+
+same-length : tie.Need-same-length
+same-length c = search needs
+
+returns-2 : tie.Need-returns-2
+unfolding keptIn
+returns-2 c = rw (lt-leb _ _ (c .before .before .before .before .before .before .before .before .if1 .left)) (c .before .before .store .ensures ∙ λ j. setIn 512 (c .before .before .before .before .before .before .before .before .before .before .args .i) (c .before .before .before .before .before .before .before .own-key .ensures j) (c .before .before .before .before .before .before .first-key .ensures j) (c .before .before .before .before .before .second-key .ensures j) (c .before .before .before .value-of .ensures j) (c .before .before .before .before .before .before .before .before .before .before .args .pending .now))
+
+pub store-operation-spec : {M : Type 1} → statement M
+store-operation-spec =
+    tie.close
+    (tie.spec
+    returns
+    own-key-requires
+    first-key-requires
+    second-key-requires
+    value-of-requires
+    store-requires
+    same-length
+    returns-2)

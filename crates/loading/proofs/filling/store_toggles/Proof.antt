@@ -1,0 +1,26 @@
+-- `loading::filling::store_toggles` meets its contract: where there is a slot, the count goes into it.
+use lib.Dec.{leb}
+use mathlib.Core.Path.{_≡_, refl, _∙_}
+use Rattle.loading.specs.Filling.{keptAt}
+use borrow.Author.Tests.{le-leb, lt-leb}
+use native.Mathlib.Omega.{arith}
+use borrow.Author.Needs.{needs}
+use Rattle.loading.proofs.filling.store_toggles.Statement.{statement}
+use Rattle.loading.proofs.filling.store_toggles.Tie as tie
+
+returns : tie.Need-returns
+unfolding keptAt
+returns c = rw (le-leb _ _ (c .if1 .taken))
+
+slice-write-toggles : tie.Need-slice-write-toggles
+slice-write-toggles c = search needs
+
+same-length : tie.Need-same-length
+same-length c = search needs
+
+returns-2 : tie.Need-returns-2
+unfolding keptAt
+returns-2 c = rw (lt-leb _ _ (c .if1 .left))
+
+pub store-toggles-spec : {M : Type 1} → statement M
+store-toggles-spec = tie.close (tie.spec returns slice-write-toggles same-length returns-2)

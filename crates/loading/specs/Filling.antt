@@ -1,0 +1,60 @@
+-- For the proofs of the code alone: what is read of lines that follow each other into lent arrays, as far as these have
+-- slots, and how many there are.
+use Prim.Native.Nat.{ℕ, suc, _+_, _*_}
+use mathlib.Core.List.{List, map}
+use mathlib.Core.Bool.{Bool, true, false, _&&_, cond}
+use lib.Dec.{leb}
+use lib.ListN.{length, set}
+use Rattle.lists.specs.Lists.{every}
+use Rattle.woot.specs.declared.Character.{Character}
+use Rattle.woot.specs.declared.Operation.{Operation}
+use Rattle.woot.specs.State.{characterSlots, pendingSlots}
+use Rattle.woot.specs.Table.{keys}
+use Rattle.woot.specs.Memory.{inColumns, previousKeys, nextKeys, codePoints, ownKey, firstKey, secondKey, valueOf}
+use Rattle.lines.specs.Lines.{lines, closed}
+use Rattle.saved.specs.declared.Version.{Version}
+use Rattle.saved.specs.Format.{isOperation}
+use Rattle.saved_lines.specs.Judging.{operationRead}
+use Rattle.loading.specs.declared.filling.Front.{Front}
+use Rattle.loading.specs.declared.filling.Back.{Back}
+use Rattle.loading.specs.Reading.{characterPasses, operationPasses}
+
+-- ---- a slot
+
+-- four numbers in slot i of four columns, m slots each
+unfoldable pub setIn : ℕ → ℕ → ℕ → ℕ → ℕ → ℕ → List ℕ → List ℕ
+setIn m i w x y z a = set (set (set (set a i w) (m + i) x) (2 * m + i) y) (3 * m + i) z
+
+-- the same where there is such a slot
+unfoldable pub keptIn : ℕ → ℕ → ℕ → ℕ → ℕ → ℕ → List ℕ → List ℕ
+keptIn m i w x y z a = cond (leb m i) a (setIn m i w x y z a)
+
+-- a number in slot i, where there is one
+unfoldable pub keptAt : ℕ → ℕ → ℕ → List ℕ → List ℕ
+keptAt m i x a = cond (leb m i) a (set a i x)
+
+-- ---- characters and operations in their columns
+
+unfoldable pub charactersHeld : List Character → List ℕ
+charactersHeld cs = inColumns characterSlots (keys cs) (previousKeys cs) (nextKeys cs) (codePoints cs)
+
+unfoldable pub pendingHeld : List Operation → List ℕ
+pendingHeld ps = inColumns pendingSlots (map ownKey ps) (map firstKey ps) (map secondKey ps) (map valueOf ps)
+
+-- ---- lines
+
+unfoldable pub frontRead : Version → List (List ℕ) → Front
+frontRead v ls = record { count = length ls; «in_range» = every (characterPasses v) ls }
+
+abbrev pub lineOperation : Version → List ℕ → Operation
+lineOperation v line = operationRead v line .operation
+
+unfoldable pub operationsLaid : Version → List ℕ → Bool
+operationsLaid v s = closed s && every (isOperation v) (lines s)
+
+-- with a line that lacks the layout, or bytes after the last line feed, nothing
+unfoldable pub backRead : Version → List ℕ → Back
+backRead v s =
+    cond (operationsLaid v s)
+    (record { «laid_out» = true; «in_range» = every (operationPasses v) (lines s); count = length (lines s) })
+    (record { «laid_out» = false; «in_range» = false; count = 0 })
