@@ -1,3 +1,4 @@
+pub mod Assembling
 pub mod Collecting
 pub mod Gathering
 pub mod Loading

@@ -47,7 +47,7 @@ four true false true d = refl
 four true false false d = refl
 four false b c d = refl
 
-characters-pass : (v : Version) (ls : List (List ℕ)) → every isCharacter ls ≡ true
+pub characters-pass : (v : Version) (ls : List (List ℕ)) → every isCharacter ls ≡ true
     → every (characterPasses v) ls ≡ every (characterWithin v) (map (characterSaid v) ls) && every characterInRange (map (characterSaid v) ls)
 characters-pass v [] e = refl
 characters-pass v (l ∷ ls) e =
@@ -56,23 +56,23 @@ characters-pass v (l ∷ ls) e =
     ap₂ (λ (a b : Bool). a && b) (character-passes v l (and-left (isCharacter l) (every isCharacter ls) e)) (characters-pass v ls (and-right (isCharacter l) (every isCharacter ls) e))
     ∙ four (characterWithin v c) (characterInRange c) (every (characterWithin v) cs) (every characterInRange cs)
 
-operations-pass : (v : Version) (ls : List (List ℕ)) → every (isOperation v) ls ≡ true → every (operationPasses v) ls ≡ every inRange (map operationSaid ls)
+pub operations-pass : (v : Version) (ls : List (List ℕ)) → every (isOperation v) ls ≡ true → every (operationPasses v) ls ≡ every inRange (map operationSaid ls)
 operations-pass v [] e = refl
 operations-pass v (l ∷ ls) e =
     ap₂ (λ (a b : Bool). a && b) (operation-passes v l (and-left (isOperation v l) (every (isOperation v) ls) e)) (operations-pass v ls (and-right (isOperation v l) (every (isOperation v) ls) e))
 
 -- what lines say that all pass
-all-say : {A B : Type 0} (f : List ℕ → A) (g : List ℕ → B) (h : B → A) (p : List ℕ → Bool) → ((l : List ℕ) → p l ≡ true → f l ≡ h (g l))
+pub all-say : {A B : Type 0} (f : List ℕ → A) (g : List ℕ → B) (h : B → A) (p : List ℕ → Bool) → ((l : List ℕ) → p l ≡ true → f l ≡ h (g l))
     → (ls : List (List ℕ)) → every p ls ≡ true → map f ls ≡ map h (map g ls)
 all-say f g h p each [] e = refl
 all-say {A} f g h p each (l ∷ ls) e =
     ap₂ (λ (x : A) (xs : List A). x ∷ xs) (each l (and-left (p l) (every p ls) e)) (all-say f g h p each ls (and-right (p l) (every p ls) e))
 
-map-same : {A : Type 0} (xs : List A) → map (λ x. x) xs ≡ xs
+pub map-same : {A : Type 0} (xs : List A) → map (λ x. x) xs ≡ xs
 map-same [] = refl
 map-same {A} (x ∷ xs) = ap (λ (ys : List A). x ∷ ys) (map-same xs)
 
-leading-le : {A : Type 0} (p : A → Bool) (xs : List A) → length (leading p xs) ≤ length xs
+pub leading-le : {A : Type 0} (p : A → Bool) (xs : List A) → length (leading p xs) ≤ length xs
 leading-le p xs = omega (arith, length-append (leading p xs) (trailing p xs), ap length (apart p xs))
 
 operations-laid : (v : Version) (s : List ℕ) → operationsRead v s .«laid_out» ≡ closed s && every (isOperation v) (lines s)
@@ -85,12 +85,12 @@ operations-laid v s = go (closed s && every (isOperation v) (lines s)) refl
 
 -- ---- the whole
 
-around : (r a c o : Bool) → r && (a && c && o) ≡ a && (r && c) && o
+pub around : (r a c o : Bool) → r && (a && c && o) ≡ a && (r && c) && o
 around true a c o = refl
 around false true c o = refl
 around false false c o = refl
 
-skipped : (a b : Bool) → a && true && b ≡ a && b
+pub skipped : (a b : Bool) → a && true && b ≡ a && b
 skipped true b = refl
 skipped false b = refl
 

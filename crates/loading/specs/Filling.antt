@@ -4,16 +4,24 @@ use Prim.Native.Nat.{ℕ, suc, _+_, _*_}
 use mathlib.Core.List.{List, map}
 use mathlib.Core.Bool.{Bool, true, false, _&&_, cond}
 use lib.Dec.{leb}
-use lib.ListN.{length, set}
+use lib.ListN.{length, take, set}
 use Rattle.lists.specs.Lists.{every}
+use Rattle.woot.specs.declared.Site.{Site}
 use Rattle.woot.specs.declared.Character.{Character}
 use Rattle.woot.specs.declared.Operation.{Operation}
-use Rattle.woot.specs.State.{characterSlots, pendingSlots}
+use Rattle.woot.specs.declared.memory.Document.{Document}
+use Rattle.woot.specs.declared.memory.Replica.{Replica}
+use Rattle.woot.specs.Answers.{first, decided}
+use Rattle.woot.specs.State.{State, characterSlots, pendingSlots}
+use Rattle.woot.specs.Form.{raised}
 use Rattle.woot.specs.Table.{keys}
-use Rattle.woot.specs.Memory.{inColumns, previousKeys, nextKeys, codePoints, ownKey, firstKey, secondKey, valueOf}
+use Rattle.woot.specs.Memory.{inColumns, documentOf, previousKeys, nextKeys, codePoints, ownKey, firstKey, secondKey, valueOf}
 use Rattle.lines.specs.Lines.{lines, closed}
 use Rattle.saved.specs.declared.Version.{Version}
+use Rattle.saved.specs.declared.LoadAnswer.{LoadAnswer}
+use Rattle.saved.specs.declared.LoadAnswer.the-variants.{Done}
 use Rattle.saved.specs.Format.{isOperation}
+use Rattle.saved.specs.Calls.{readingChecks}
 use Rattle.saved_lines.specs.Judging.{operationRead}
 use Rattle.loading.specs.declared.filling.Front.{Front}
 use Rattle.loading.specs.declared.filling.Back.{Back}
@@ -58,3 +66,42 @@ backRead v s =
     cond (operationsLaid v s)
     (record { «laid_out» = true; «in_range» = every (operationPasses v) (lines s); count = length (lines s) })
     (record { «laid_out» = false; «in_range» = false; count = 0 })
+
+-- ---- the whole
+
+-- the first of conditions 1 and 2 that holds decides
+unfoldable pub readAnswer : Version → List ℕ → LoadAnswer
+readAnswer v s = decided (λ a. a) (first (readingChecks v s)) Done
+
+-- the replica that a site, lent arrays and counts make
+abbrev pub replicaIn : Site → List ℕ → List ℕ → ℕ → List ℕ → ℕ → List ℕ → List ℕ → Replica
+replicaIn site characters toggles n pending w heads links =
+    record {
+      site = site;
+      document = record {
+        characters = characters;
+        toggles = toggles;
+        length = n;
+        pending = pending;
+        waiting = w;
+        table = record { heads = heads; links = links };
+      };
+    }
+
+-- a state as far as the arrays have slots for it
+unfoldable pub fitting : State → State
+fitting s =
+    record {
+      site = s .site;
+      characters = take characterSlots (s .characters);
+      pending = take pendingSlots (s .pending);
+    }
+
+-- that part of it as the arrays hold it, the clock raised over it, with the state's own counts
+unfoldable pub heldIn : State → Replica
+heldIn s =
+    let d : Document = documentOf (fitting s .characters) (fitting s .pending) in
+    replicaIn (raised (fitting s) .site) (d .characters) (d .toggles) (length (s .characters)) (d .pending)
+    (length (s .pending))
+    (d .table .heads)
+    (d .table .links)

@@ -1,4 +1,5 @@
 // Reading saved replicas from bytes.
+pub mod columns;
 mod filling;
 mod reading;
 

@@ -1,0 +1,126 @@
+// Reading a saved replica into the arrays of a replica in memory, which the call lends.
+use crate::filling;
+use crate::reading;
+use crate::reading::both;
+use saved::LoadAnswer;
+use saved::Version;
+use woot::Refusal;
+use woot::Site;
+ghost use mathlib.Core.Path.{_≡_};
+ghost use mathlib.Core.List.{[]};
+ghost use Prim.Native.Nat.{min};
+ghost use lib.ListN.{length, take};
+ghost use Rattle.lists.specs.Padding.{pad};
+ghost use Rattle.woot.specs.State.{characterSlots, pendingSlots};
+ghost use Rattle.woot.specs.Table.{tableOf};
+ghost use Rattle.clock.specs.Hearing.{heardKeys};
+ghost use Rattle.saved.specs.Format.{stateAs};
+ghost use Rattle.loading.specs.Filling.{charactersHeld, pendingHeld, readAnswer, replicaIn, heldIn};
+
+// What reading answers, and where that is `Done` what stands beside the arrays: the site, how many lines of characters
+// there are and how many of operations. The counts may be above the arrays.
+pub struct ReadInto {
+    pub answer: LoadAnswer,
+    pub site: Site,
+    pub length: usize,
+    pub waiting: usize,
+}
+
+// A refusal, and what stands beside it.
+fn refused(reason: Refusal) -> ReadInto
+    ensures { λ r. ⌜ r .answer ≡ LoadAnswer.Refused reason ⌝ }
+{
+    ReadInto {
+        answer: LoadAnswer::Refused(reason),
+        site: Site {
+            number: 0,
+            clock: 0,
+        },
+        length: 0,
+        waiting: 0,
+    }
+}
+
+// Makes the table of the characters that the arrays hold of n, and tells the site that has heard of them and of the
+// operations that they hold of w.
+fn settle<'a>(
+    site: Site,
+    characters: &'a [u32],
+    n: usize,
+    pending: &'a [u32],
+    w: usize,
+    heads: &mut [u16],
+    links: &mut [u16],
+) -> Site
+    requires { ⌜ length (now characters) ≡ 4096 ⌝ }
+    requires { ⌜ length (now pending) ≡ 2048 ⌝ }
+    requires { ⌜ length (now heads) ≡ 1024 ⌝ }
+    requires { ⌜ length (now links) ≡ 2048 ⌝ }
+    ensures { λ r. ⌜ r
+        ≡ heardKeys (heardKeys site (take (min n 1024) (now (characters .entry))))
+        (take (min w 512) (now (pending .entry))) ⌝ }
+    ensures { λ _. ⌜ (record { heads = now (heads .exit); links = now (links .exit) })
+        ≡ tableOf (take (min n 1024) (now (characters .entry))) ⌝ }
+{
+    let held = index::lesser(n, 1024);
+    chains::enter_all(characters, held, heads, links);
+    clock::keyed::raised(site, characters, held, pending, index::lesser(w, 512))
+}
+
+// Reads a saved replica that is not checked to be well formed. A clock below that of a character or a pending insert of
+// its own is raised. A fault of the layout comes first, wherever it is, and then a number out of range. A step of the
+// calls and not a call: they lend arrays that they have just made, zeros throughout.
+pub fn read(
+    version: Version,
+    bytes: &[u8],
+    characters: &mut [u32],
+    toggles: &mut [u8],
+    pending: &mut [u32],
+    heads: &mut [u16],
+    links: &mut [u16],
+) -> ReadInto
+    requires { ⌜ now characters ≡ charactersHeld [] ⌝ }
+    requires { ⌜ now toggles ≡ pad characterSlots 0 [] ⌝ }
+    requires { ⌜ now pending ≡ pendingHeld [] ⌝ }
+    requires { ⌜ length (now heads) ≡ 1024 ⌝ }
+    requires { ⌜ length (now links) ≡ 2048 ⌝ }
+    ensures { λ r. ⌜ r .answer ≡ readAnswer version (now (bytes .entry)) ⌝ }
+    ensures { λ _. ⌜ length (now (characters .exit)) ≡ 4096 ⌝ }
+    ensures { λ _. ⌜ length (now (toggles .exit)) ≡ 1024 ⌝ }
+    ensures { λ _. ⌜ length (now (pending .exit)) ≡ 2048 ⌝ }
+    ensures { λ _. ⌜ length (now (heads .exit)) ≡ 1024 ⌝ }
+    ensures { λ _. ⌜ length (now (links .exit)) ≡ 2048 ⌝ }
+    ensures { λ r. ⌜ (r .answer ≡ LoadAnswer.Done
+        → replicaIn (r .site) (now (characters .exit)) (now (toggles .exit)) (r .length) (now (pending .exit))
+        (r .waiting) (now (heads .exit)) (now (links .exit))
+        ≡ heldIn (stateAs version (now (bytes .entry)))) ⌝ }
+{
+    let first = saved_lines::read_site(version, reading::head(bytes));
+    if !first.judged.laid_out {
+        return refused(Refusal::Layout);
+    }
+    let body = lines::rest(bytes);
+    let front = filling::read_characters(version, body, characters, toggles);
+    let back = filling::read_operations(version, reading::skip(body, front.count), pending);
+    if !back.laid_out {
+        return refused(Refusal::Layout);
+    }
+    if !both(both(first.judged.in_range, front.in_range), back.in_range) {
+        return refused(Refusal::Range);
+    }
+    let site = first.site;
+    ReadInto {
+        answer: LoadAnswer::Done,
+        site: settle(
+            site,
+            characters,
+            front.count,
+            pending,
+            back.count,
+            heads,
+            links,
+        ),
+        length: front.count,
+        waiting: back.count,
+    }
+}
