@@ -33,7 +33,8 @@ use Rattle.lines.proofs.Lines.{trailing-drop, lines-rest, closed-rest}
 use Rattle.saved.specs.declared.Version.{Version}
 use Rattle.saved.specs.declared.LoadAnswer.{LoadAnswer}
 use Rattle.saved.specs.declared.LoadAnswer.the-variants.{Done, Refused}
-use Rattle.saved.specs.Format.{isSite, siteSaid, isCharacter, characterSaid, isOperation, operationSaid, headLine, characterLines, operationLines, laidOutAs, stateAs, characterWithin, inRangeAs}
+use Rattle.saved.specs.Format.{isSite, siteSaid, isCharacter, characterSaid, isOperation, operationSaid, headLine, characterLines, operationLines}
+use Rattle.saved.specs.Format.{laidOutAs, stateAs, characterWithin, inRangeAs}
 use Rattle.saved.specs.Calls.{readingChecks}
 use Rattle.saved.proofs.Trips.{no-site, every-leading}
 use Rattle.saved_lines.specs.declared.SiteLine.{SiteLine}
@@ -141,13 +142,15 @@ module _ (v : Version) (s : List ℕ) (first : SiteLine) (f : first ≡ siteRead
       none true = refl
       none false = refl
 
-  module _ (l : first .judged .«laid_out» ≡ true) {body : List ℕ} (b : body ≡ rest s) (cs : Front) (r : cs ≡ frontRead v (leading isCharacter (lines body))) where
+  module _ (l : first .judged .«laid_out» ≡ true) {body : List ℕ} (b : body ≡ rest s) (cs : Front)
+      (r : cs ≡ frontRead v (leading isCharacter (lines body))) where
     -- the lines of characters are lines of what is left
     pub skip-fits : cs .count ≤ length (lines body)
     unfolding frontRead
     skip-fits = omega (arith, ap (λ x. x .count) r, leading-le isCharacter (lines body))
 
-    module _ (later : List ℕ) (k : (lines later ≡ drop (cs .count) (lines body)) × (closed later ≡ closed body)) (ps : Back) (o : ps ≡ backRead v later) where
+    module _ (later : List ℕ) (k : (lines later ≡ drop (cs .count) (lines body)) × (closed later ≡ closed body))
+        (ps : Back) (o : ps ≡ backRead v later) where
       body-lines : lines body ≡ drop 1 (lines s)
       body-lines = ap lines b ∙ lines-rest s
 
@@ -218,7 +221,8 @@ module _ (v : Version) (s : List ℕ) (first : SiteLine) (f : first ≡ siteRead
             site : siteInRange (siteSaid (headLine s)) ≡ first .judged .«in_range»
             site = sym (ap (λ x. x .judged .«in_range») f ∙ site-passes v (headLine s) (sym is-site ∙ l))
 
-            characters : every (characterWithin v) (map (characterSaid v) (characterLines s)) && every characterInRange (map (characterSaid v) (characterLines s)) ≡ cs .«in_range»
+            characters : every (characterWithin v) (map (characterSaid v) (characterLines s))
+                && every characterInRange (map (characterSaid v) (characterLines s)) ≡ cs .«in_range»
             characters = sym (ap (λ x. x .«in_range») front-is ∙ characters-pass v (characterLines s) characters-good)
 
             operations : every inRange (map operationSaid (operationLines s)) ≡ ps .«in_range»
@@ -243,14 +247,16 @@ module _ (v : Version) (s : List ℕ) (first : SiteLine) (f : first ≡ siteRead
           unfolding frontRead stateAs
           characters-said =
               ap (map (lineCharacter v)) characters-are
-              ∙ all-say (lineCharacter v) (characterSaid v) (λ x. x) (characterPasses v) (character-says v) (characterLines s) (sym (ap (λ x. x .«in_range») front-is) ∙ e₂)
+              ∙ all-say (lineCharacter v) (characterSaid v) (λ x. x) (characterPasses v) (character-says v) (characterLines s)
+              (sym (ap (λ x. x .«in_range») front-is) ∙ e₂)
               ∙ map-same (map (characterSaid v) (characterLines s))
 
           operations-said : map (lineOperation v) (lines later) ≡ stateAs v s .pending
           unfolding stateAs
           operations-said =
               ap (map (lineOperation v)) operations-are
-              ∙ all-say (lineOperation v) operationSaid (λ x. x) (operationPasses v) (operation-says v) (operationLines s) (sym (ap (λ x. x .«in_range») back-is) ∙ e₃)
+              ∙ all-say (lineOperation v) operationSaid (λ x. x) (operationPasses v) (operation-says v) (operationLines s)
+              (sym (ap (λ x. x .«in_range») back-is) ∙ e₃)
               ∙ map-same (map operationSaid (operationLines s))
 
           count-is : cs .count ≡ length (stateAs v s .characters)

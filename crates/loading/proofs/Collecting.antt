@@ -38,10 +38,12 @@ use Rattle.loading.proofs.Storing.{kept-at, kept-in, in-slots-length}
 -- as many slots as the arrays have
 pub characters-length : (cs : List Character) → length (charactersHeld (take characterSlots cs)) ≡ 4096
 unfolding charactersHeld
-characters-length cs = in-slots-length 1024 (λ (c : Character). key (c .id)) (λ c. key (c .previous)) (λ c. key (c .next)) (λ c. c .«code_point») cs
+characters-length cs =
+    in-slots-length 1024 (λ (c : Character). key (c .id)) (λ c. key (c .previous)) (λ c. key (c .next)) (λ c. c .«code_point») cs
 
 pub toggles-length : (cs : List Character) → length (pad characterSlots 0 (toggleCounts (take characterSlots cs))) ≡ 1024
-toggles-length cs = pad-length 1024 0 (toggleCounts (take 1024 cs)) (omega (arith, length-map (take 1024 cs) (λ (c : Character). c .toggles), length-take 1024 cs))
+toggles-length cs =
+    pad-length 1024 0 (toggleCounts (take 1024 cs)) (omega (arith, length-map (take 1024 cs) (λ (c : Character). c .toggles), length-take 1024 cs))
 
 pub pending-length : (ps : List Operation) → length (pendingHeld (take pendingSlots ps)) ≡ 2048
 unfolding pendingHeld
@@ -126,7 +128,8 @@ module _ {v : Version} {s characters toggles : List ℕ} {count : ℕ} {good : B
       front-left = some-left isCharacter no-character left is-character
 
       pub front-more : {characters′ toggles′ : List ℕ} {good′ : Bool} {left′ : List ℕ}
-          → characters′ ≡ keptIn characterSlots count (key (w .character .id)) (key (w .character .previous)) (key (w .character .next)) (w .character .«code_point») characters
+          → characters′ ≡ keptIn characterSlots count (key (w .character .id)) (key (w .character .previous)) (key (w .character .next))
+          (w .character .«code_point») characters
           → toggles′ ≡ keptAt characterSlots count (w .character .toggles) toggles
           → good′ ≡ good && w .judged .«in_range» → left′ ≡ rest left → FrontLoop v s characters′ toggles′ (count + 1) good′ left′
       unfolding charactersHeld
@@ -142,7 +145,8 @@ module _ {v : Version} {s characters toggles : List ℕ} {count : ℕ} {good : B
             filled =
                 k
                 ∙ rw (r, l .filled, items (l .gathered) line (lineCharacter v))
-                (kept-in 1024 (λ (c : Character). key (c .id)) (λ c. key (c .previous)) (λ c. key (c .next)) (λ c. c .«code_point») cs (lineCharacter v line) count (size (l .gathered) line (lineCharacter v)));
+                (kept-in 1024 (λ (c : Character). key (c .id)) (λ c. key (c .previous)) (λ c. key (c .next)) (λ c. c .«code_point») cs
+                (lineCharacter v line) count (size (l .gathered) line (lineCharacter v)));
             toggled =
                 u
                 ∙ rw (r, l .toggled, items (l .gathered) line (lineCharacter v))
@@ -210,12 +214,14 @@ module _ {v : Version} {s pending : List ℕ} {count : ℕ} {good : Bool} {left 
           other : isOperation v (getD (lines left) 0 []) ≡ false
           other = sym read-operation ∙ e
 
-          broken : (ls : List (List ℕ)) → isOperation v (getD (firstLine left ∷ ls) 0 []) ≡ false → every (isOperation v) (l .done ++ firstLine left ∷ ls) ≡ false
+          broken : (ls : List (List ℕ)) → isOperation v (getD (firstLine left ∷ ls) 0 []) ≡ false
+              → every (isOperation v) (l .done ++ firstLine left ∷ ls) ≡ false
           broken ls p = every-append (isOperation v) (l .done) (firstLine left ∷ ls) ∙ rw (l .laid, p)
 
           go : (b : Bool) → ended left ≡ b → closed s && every (isOperation v) (lines s) ≡ false
           go true p =
-              let q : every (isOperation v) (lines s) ≡ false = rw (l .whole, lines-ended left p) (broken (lines (rest left)) (rw (lines-ended left p) at other)) in
+              let q : every (isOperation v) (lines s) ≡ false =
+              rw (l .whole, lines-ended left p) (broken (lines (rest left)) (rw (lines-ended left p) at other)) in
               rw q (and-none (closed s))
           go false p = rw (sym (l .ends) ∙ closed-unended left h p)
 
@@ -245,7 +251,8 @@ module _ {v : Version} {s pending : List ℕ} {count : ℕ} {good : Bool} {left 
             filled =
                 k
                 ∙ rw (r, l .filled, items (l .gathered) line (lineOperation v))
-                (kept-in 512 ownKey firstKey secondKey valueOf (map (lineOperation v) (l .done)) (lineOperation v line) count (size (l .gathered) line (lineOperation v)));
+                (kept-in 512 ownKey firstKey secondKey valueOf (map (lineOperation v) (l .done)) (lineOperation v line) count
+                (size (l .gathered) line (lineOperation v)));
             gathered = one-more (l .gathered) line (rw r at q);
             small = omega (arith, l .small, rest-shorter left h, ap length t);
           }

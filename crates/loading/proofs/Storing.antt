@@ -93,14 +93,17 @@ module _ {A : Type 0} (m : ℕ) (f g h k : A → ℕ) where
             map-append h cs (c ∷ []),
             map-append k cs (c ∷ []),
           )
-          (push-columns m i few (map f cs) (map g cs) (map h cs) (map k cs) (f c) (g c) (h c) (k c) (length-map cs f ∙ sym e) (length-map cs g ∙ sym e) (length-map cs h ∙ sym e) (length-map cs k ∙ sym e))
+          (push-columns m i few (map f cs) (map g cs) (map h cs) (map k cs) (f c) (g c) (h c) (k c)
+          (length-map cs f ∙ sym e) (length-map cs g ∙ sym e) (length-map cs h ∙ sym e) (length-map cs k ∙ sym e))
 
   -- the slots are all there
   pub in-slots-length : (cs : List A) → length (inSlots (take m cs)) ≡ 4 * m
   unfolding inColumns
   in-slots-length cs =
-      let wide : (q : A → ℕ) → length (pad m 0 (map q (take m cs))) ≡ m = λ q. pad-length m 0 (map q (take m cs)) (omega (arith, length-map (take m cs) q, length-take m cs)) in
-      sum (pad m 0 (map f (take m cs))) (pad m 0 (map g (take m cs))) (pad m 0 (map h (take m cs))) (pad m 0 (map k (take m cs))) (wide f) (wide g) (wide h) (wide k)
+      let wide : (q : A → ℕ) → length (pad m 0 (map q (take m cs))) ≡ m =
+      λ q. pad-length m 0 (map q (take m cs)) (omega (arith, length-map (take m cs) q, length-take m cs)) in
+      sum (pad m 0 (map f (take m cs))) (pad m 0 (map g (take m cs))) (pad m 0 (map h (take m cs))) (pad m 0 (map k (take m cs)))
+      (wide f) (wide g) (wide h) (wide k)
     where
       sum : (ws xs ys zs : List ℕ) → length ws ≡ m → length xs ≡ m → length ys ≡ m → length zs ≡ m → length (ws ++ (xs ++ (ys ++ zs))) ≡ 4 * m
       sum ws xs ys zs a b c d = omega (arith, a, b, c, d, length-append ws (xs ++ (ys ++ zs)), length-append xs (ys ++ zs), length-append ys zs)
@@ -110,4 +113,10 @@ pub no-columns : (m : ℕ) → inColumns m [] [] [] [] ≡ replicate (4 * m) 0
 unfolding inColumns
 no-columns m =
     let z : 4 * m ≡ m + (m + (m + m)) = omega arith in
-    rw (z, pad-none {A = ℕ} m 0, replicate-append-replicate {A = ℕ} m m 0, replicate-append-replicate {A = ℕ} m (m + m) 0, replicate-append-replicate {A = ℕ} m (m + (m + m)) 0)
+    rw (
+      z,
+      pad-none {A = ℕ} m 0,
+      replicate-append-replicate {A = ℕ} m m 0,
+      replicate-append-replicate {A = ℕ} m (m + m) 0,
+      replicate-append-replicate {A = ℕ} m (m + (m + m)) 0,
+    )

@@ -15,7 +15,8 @@ use Rattle.woot.specs.Answers.{first, decided}
 use Rattle.woot.specs.State.{State, characterSlots, pendingSlots}
 use Rattle.woot.specs.Form.{raised}
 use Rattle.woot.specs.Table.{keys}
-use Rattle.woot.specs.Memory.{inColumns, documentOf, previousKeys, nextKeys, codePoints, ownKey, firstKey, secondKey, valueOf}
+use Rattle.woot.specs.Memory.{inColumns, documentOf, previousKeys, nextKeys, codePoints}
+use Rattle.woot.specs.Memory.{ownKey, firstKey, secondKey, valueOf}
 use Rattle.lines.specs.Lines.{lines, closed}
 use Rattle.saved.specs.declared.Version.{Version}
 use Rattle.saved.specs.declared.LoadAnswer.{LoadAnswer}

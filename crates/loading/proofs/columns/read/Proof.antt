@@ -22,9 +22,10 @@ use Rattle.loading.proofs.columns.read.Statement.{statement}
 use Rattle.loading.proofs.columns.read.Tie as tie
 
 -- the first line, as it is read
-first-read : (c : tie.After-read-site)
-    → c .read-site .result ≡ siteRead (c .before .before .before .before .before .before .before .before .args .version) (getD (lines (c .before .before .before .before .before .before .before .before .args .bytes .now)) 0 [])
-first-read c = c .read-site .ensures ∙ ap (siteRead (c .before .before .before .before .before .before .before .before .args .version)) (c .before .head .ensures)
+first-read : (c : tie.After-read-site) → let a = c .before .before .before .before .before .before .before .before .args in
+    c .read-site .result ≡ siteRead (a .version) (getD (lines (a .bytes .now)) 0 [])
+first-read c =
+    c .read-site .ensures ∙ ap (siteRead (c .before .before .before .before .before .before .before .before .args .version)) (c .before .head .ensures)
 
 -- a refusal hands nothing over
 not-done : {A : Type 0} {a : LoadAnswer} (q : Refusal) → a ≡ Refused q → a ≡ Done → A
@@ -48,7 +49,26 @@ refused-requires c κs = search needs
 
 returns : tie.Need-returns
 returns c =
-    (c .refused .ensures ∙ no-first _ _ _ (first-read (c .before .before .before)) (not-true _ (c .before .if1 .taken)), (ap length (c .before .before .before .before .before .before .before .before .before .before .before .pre .0) ∙ characters-length [], (ap length (c .before .before .before .before .before .before .before .before .before .before .before .pre .1 .0) ∙ toggles-length [], (ap length (c .before .before .before .before .before .before .before .before .before .before .before .pre .1 .1 .0) ∙ pending-length [], (c .before .before .before .before .before .before .before .before .before .before .before .pre .1 .1 .1 .0, (c .before .before .before .before .before .before .before .before .before .before .before .pre .1 .1 .1 .1, not-done Layout (c .refused .ensures)))))))
+    let u = c .before .before .before in
+    let z = u .before .before .before .before .before .before .before .before .pre in (
+      c .refused .ensures ∙ no-first _ _ _ (first-read u) (not-true _ (c .before .if1 .taken)),
+      (
+        ap length (z .0) ∙ characters-length [],
+        (
+          ap length (z .1 .0) ∙ toggles-length [],
+          (
+            ap length (z .1 .1 .0) ∙ pending-length [],
+            (
+              z .1 .1 .1 .0,
+              (
+                z .1 .1 .1 .1,
+                not-done Layout (c .refused .ensures),
+              ),
+            ),
+          ),
+        ),
+      ),
+    )
 
 rest-requires : tie.Need-rest-requires
 rest-requires c κs = search needs
@@ -57,10 +77,15 @@ read-characters-requires : tie.Need-read-characters-requires
 read-characters-requires c κs = search needs
 
 skip-requires : tie.Need-skip-requires
-skip-requires c κs = skip-fits _ _ _ (first-read (c .before .before .before .before .before .before .before .before .before .before)) (not-false _ (c .before .before .before .before .before .before .before .before .if1 .left)) (c .before .before .before .before .before .before .before .rest .ensures) _ (c .before .before .before .before .read-characters .ensures .0)
+skip-requires c κs =
+    let q = c .before .before .before .before in
+    skip-fits _ _ _ (first-read (q .before .before .before .before .before .before)) (not-false _ (q .before .before .before .before .if1 .left)) (q .before .before .before .rest .ensures) _
+    (q .read-characters .ensures .0)
 
 read-operations-requires : tie.Need-read-operations-requires
-read-operations-requires c κs = c .before .before .before .before .before .before .before .before .before .before .before .before .before .before .before .before .before .before .before .before .pre .1 .1 .0
+read-operations-requires c κs =
+    let u = c .before .before .before .before .before .before .before .before .before .before .before .before in
+    u .before .before .before .before .before .before .before .before .pre .1 .1 .0
 
 refused-requires-2 : tie.Need-refused-requires-2
 refused-requires-2 c κs = search needs
@@ -76,13 +101,34 @@ same-length-3 c = search needs
 
 returns-2 : tie.Need-returns-2
 returns-2 c =
-    let r = first-read (c .before .before .before .before .before .before .before .before .before .before .before .before .before .before .before .before .before .before) in
-    let y = not-false _ (c .before .before .before .before .before .before .before .before .before .before .before .before .before .before .before .before .if1 .left) in
-    let b = c .before .before .before .before .before .before .before .before .before .before .before .before .before .before .before .rest .ensures in
-    let i = c .before .before .before .before .before .before .before .before .before .before .before .before .read-characters .ensures in
-    let k = c .before .before .before .before .before .before .before .skip .ensures in
-    let o = c .before .before .before .before .before .read-operations .ensures in
-    (c .refused2 .ensures ∙ no-later _ _ _ r y b _ (i .0) _ k _ (o .0) (not-true _ (c .before .if2 .taken)), (same-length c ∙ ap length (c .before .before .before .before .before .before .before .before .before .before .before .before .before .before .before .before .before .before .before .before .before .before .before .before .before .before .pre .0) ∙ characters-length [], (same-length-2 c ∙ ap length (c .before .before .before .before .before .before .before .before .before .before .before .before .before .before .before .before .before .before .before .before .before .before .before .before .before .before .pre .1 .0) ∙ toggles-length [], (c .before .before .before .before .before .read-operations .ensures .1 .0, (c .before .before .before .before .before .before .before .before .before .before .before .before .before .before .before .before .before .before .before .before .before .before .before .before .before .before .pre .1 .1 .1 .0, (c .before .before .before .before .before .before .before .before .before .before .before .before .before .before .before .before .before .before .before .before .before .before .before .before .before .before .pre .1 .1 .1 .1, not-done Layout (c .refused2 .ensures)))))))
+    let p = c .before .before .before .before .before in
+    let q = p .before .before .before .before .before .before .before in
+    let u = q .before .before .before .before .before .before in
+    let z = u .before .before .before .before .before .before .before .before .pre in
+    let r = first-read u in
+    let y = not-false _ (q .before .before .before .before .if1 .left) in
+    let b = q .before .before .before .rest .ensures in
+    let i = q .read-characters .ensures in
+    let k = p .before .before .skip .ensures in
+    let o = p .read-operations .ensures in (
+      c .refused2 .ensures ∙ no-later _ _ _ r y b _ (i .0) _ k _ (o .0) (not-true _ (c .before .if2 .taken)),
+      (
+        same-length c ∙ ap length (z .0) ∙ characters-length [],
+        (
+          same-length-2 c ∙ ap length (z .1 .0) ∙ toggles-length [],
+          (
+            o .1 .0,
+            (
+              z .1 .1 .1 .0,
+              (
+                z .1 .1 .1 .1,
+                not-done Layout (c .refused2 .ensures),
+              ),
+            ),
+          ),
+        ),
+      ),
+    )
 
 both-requires : tie.Need-both-requires
 both-requires c κs = search needs
@@ -104,17 +150,54 @@ same-length-6 c = search needs
 
 returns-3 : tie.Need-returns-3
 returns-3 c =
-    let r = first-read (c .before .before .before .before .before .before .before .before .before .before .before .before .before .before .before .before .before .before .before .before .before) in
-    let y = not-false _ (c .before .before .before .before .before .before .before .before .before .before .before .before .before .before .before .before .before .before .before .if1 .left) in
-    let b = c .before .before .before .before .before .before .before .before .before .before .before .before .before .before .before .before .before .before .rest .ensures in
-    let i = c .before .before .before .before .before .before .before .before .before .before .before .before .before .before .before .read-characters .ensures in
-    let k = c .before .before .before .before .before .before .before .before .before .before .skip .ensures in
-    let o = c .before .before .before .before .before .before .before .before .read-operations .ensures in
-    (c .refused3 .ensures ∙ out-of-range _ _ _ r y b _ (i .0) _ k _ (o .0) (not-false _ (c .before .before .before .before .if2 .left)) (judged (c .before .before .before .before .before .before .before .before .before .before .before .before .before .before .before .before .before .before .before .before .before .read-site .result .judged .«in_range») (c .before .before .before .before .before .before .before .before .before .before .before .before .before .before .before .read-characters .result .«in_range») (c .before .before .before .before .before .before .before .before .read-operations .result .«in_range») (c .before .before .before .both .ensures) (c .before .before .both2 .ensures) (not-true _ (c .before .if3 .taken))), (same-length-4 c ∙ ap length (c .before .before .before .before .before .before .before .before .before .before .before .before .before .before .before .before .before .before .before .before .before .before .before .before .before .before .before .before .before .pre .0) ∙ characters-length [], (same-length-5 c ∙ ap length (c .before .before .before .before .before .before .before .before .before .before .before .before .before .before .before .before .before .before .before .before .before .before .before .before .before .before .before .before .before .pre .1 .0) ∙ toggles-length [], (c .before .before .before .before .before .before .before .before .read-operations .ensures .1 .0, (c .before .before .before .before .before .before .before .before .before .before .before .before .before .before .before .before .before .before .before .before .before .before .before .before .before .before .before .before .before .pre .1 .1 .1 .0, (c .before .before .before .before .before .before .before .before .before .before .before .before .before .before .before .before .before .before .before .before .before .before .before .before .before .before .before .before .before .pre .1 .1 .1 .1, not-done Range (c .refused3 .ensures)))))))
+    let p = c .before .before .before .before .before .before .before .before in
+    let q = p .before .before .before .before .before .before .before in
+    let u = q .before .before .before .before .before .before in
+    let z = u .before .before .before .before .before .before .before .before .pre in
+    let r = first-read u in
+    let y = not-false _ (q .before .before .before .before .if1 .left) in
+    let b = q .before .before .before .rest .ensures in
+    let i = q .read-characters .ensures in
+    let k = p .before .before .skip .ensures in
+    let o = p .read-operations .ensures in
+    let e =
+    judged (u .read-site .result .judged .«in_range») (q .read-characters .result .«in_range») (p .read-operations .result .«in_range»)
+    (c .before .before .before .both .ensures) (c .before .before .both2 .ensures) (not-true _ (c .before .if3 .taken)) in (
+      c .refused3 .ensures ∙ out-of-range _ _ _ r y b _ (i .0) _ k _ (o .0) (not-false _ (c .before .before .before .before .if2 .left)) e,
+      (
+        same-length-4 c ∙ ap length (z .0) ∙ characters-length [],
+        (
+          same-length-5 c ∙ ap length (z .1 .0) ∙ toggles-length [],
+          (
+            o .1 .0,
+            (
+              z .1 .1 .1 .0,
+              (
+                z .1 .1 .1 .1,
+                not-done Range (c .refused3 .ensures),
+              ),
+            ),
+          ),
+        ),
+      ),
+    )
 
 settle-requires : tie.Need-settle-requires
 settle-requires c κs =
-    (ap length (c .before .before .before .before .before .before .before .before .before .before .before .before .before .before .before .before .before .before .before .read-characters .ensures .1 .0) ∙ characters-length (map (lineCharacter (c .before .before .before .before .before .before .before .before .before .before .before .before .before .before .before .before .before .before .before .before .before .before .before .before .before .before .before .before .before .before .before .before .before .args .version)) (leading isCharacter (lines (c .before .before .before .before .before .before .before .before .before .before .before .before .before .before .before .before .before .before .before .before .before .before .rest .result .now)))), (c .before .before .before .before .before .before .before .before .before .before .before .before .read-operations .ensures .1 .0, (c .before .before .before .before .before .before .before .before .before .before .before .before .before .before .before .before .before .before .before .before .before .before .before .before .before .before .before .before .before .before .before .before .before .pre .1 .1 .1 .0, c .before .before .before .before .before .before .before .before .before .before .before .before .before .before .before .before .before .before .before .before .before .before .before .before .before .before .before .before .before .before .before .before .before .pre .1 .1 .1 .1)))
+    let p = c .before .before .before .before .before .before .before .before .before .before .before .before in
+    let q = p .before .before .before .before .before .before .before in
+    let s = q .before .before .before .rest .result .now in
+    let z = q .before .before .before .before .before .before .before .before .before .before .before .before .before .before in
+    let ls = leading isCharacter (lines s) in (
+      ap length (q .read-characters .ensures .1 .0) ∙ characters-length (map (lineCharacter (z .args .version)) ls),
+      (
+        p .read-operations .ensures .1 .0,
+        (
+          z .pre .1 .1 .1 .0,
+          z .pre .1 .1 .1 .1,
+        ),
+      ),
+    )
 
 same-length-7 : tie.Need-same-length-7
 same-length-7 c = search needs
@@ -133,15 +216,42 @@ same-length-11 c = search needs
 
 returns-4 : tie.Need-returns-4
 returns-4 c =
-    let r = first-read (c .before .before .before .before .before .before .before .before .before .before .before .before .before .before .before .before .before .before .before .before .before .before .before .before .before .before .before .before .before .before) in
-    let y = not-false _ (c .before .before .before .before .before .before .before .before .before .before .before .before .before .before .before .before .before .before .before .before .before .before .before .before .before .before .before .before .if1 .left) in
-    let b = c .before .before .before .before .before .before .before .before .before .before .before .before .before .before .before .before .before .before .before .before .before .before .before .before .before .before .before .rest .ensures in
-    let i = c .before .before .before .before .before .before .before .before .before .before .before .before .before .before .before .before .before .before .before .before .before .before .before .before .read-characters .ensures in
-    let k = c .before .before .before .before .before .before .before .before .before .before .before .before .before .before .before .before .before .before .before .skip .ensures in
-    let o = c .before .before .before .before .before .before .before .before .before .before .before .before .before .before .before .before .before .read-operations .ensures in
+    let p = c .before .before .before .before .before .before .before .before .before .before .before .before .before .before .before .before .before in
+    let q = p .before .before .before .before .before .before .before in
+    let u = q .before .before .before .before .before .before in
+    let z = u .before .before .before .before .before .before .before .before .pre in
+    let r = first-read u in
+    let y = not-false _ (q .before .before .before .before .if1 .left) in
+    let b = q .before .before .before .rest .ensures in
+    let i = q .read-characters .ensures in
+    let k = p .before .before .skip .ensures in
+    let o = p .read-operations .ensures in
     let l = not-false _ (c .before .before .before .before .before .before .before .before .before .before .before .before .before .if2 .left) in
-    let e = three (c .before .before .before .before .before .before .before .before .before .before .before .before .before .before .before .before .before .before .before .before .before .before .before .before .before .before .before .before .before .before .read-site .result .judged .«in_range») (c .before .before .before .before .before .before .before .before .before .before .before .before .before .before .before .before .before .before .before .before .before .before .before .before .read-characters .result .«in_range») (c .before .before .before .before .before .before .before .before .before .before .before .before .before .before .before .before .before .read-operations .result .«in_range») (judged (c .before .before .before .before .before .before .before .before .before .before .before .before .before .before .before .before .before .before .before .before .before .before .before .before .before .before .before .before .before .before .read-site .result .judged .«in_range») (c .before .before .before .before .before .before .before .before .before .before .before .before .before .before .before .before .before .before .before .before .before .before .before .before .read-characters .result .«in_range») (c .before .before .before .before .before .before .before .before .before .before .before .before .before .before .before .before .before .read-operations .result .«in_range») (c .before .before .before .before .before .before .before .before .before .before .before .before .both .ensures) (c .before .before .before .before .before .before .before .before .before .before .before .both2 .ensures) (not-false _ (c .before .before .before .before .before .before .before .before .before .before .if3 .left))) in
-    (answer-is _ _ _ r y b _ (i .0) _ k _ (o .0) l (e .0) (e .1) (e .2), (same-length-7 c ∙ ap length (c .before .before .before .before .before .before .before .before .before .before .before .before .before .before .before .before .before .before .before .before .before .before .before .before .before .before .before .before .before .before .before .before .before .before .before .before .before .before .pre .0) ∙ characters-length [], (same-length-8 c ∙ ap length (c .before .before .before .before .before .before .before .before .before .before .before .before .before .before .before .before .before .before .before .before .before .before .before .before .before .before .before .before .before .before .before .before .before .before .before .before .before .before .pre .1 .0) ∙ toggles-length [], (c .before .before .before .before .before .before .before .before .before .before .before .before .before .before .before .before .before .read-operations .ensures .1 .0, (same-length-10 c ∙ c .before .before .before .before .before .before .before .before .before .before .before .before .before .before .before .before .before .before .before .before .before .before .before .before .before .before .before .before .before .before .before .before .before .before .before .before .before .before .pre .1 .1 .1 .0, (same-length-11 c ∙ c .before .before .before .before .before .before .before .before .before .before .before .before .before .before .before .before .before .before .before .before .before .before .before .before .before .before .before .before .before .before .before .before .before .before .before .before .before .before .pre .1 .1 .1 .1, λ told. all-held _ _ _ r y b _ (i .0) _ k _ (o .0) l (e .0) (e .1) (e .2) (i .1 .0) (i .1 .1) (o .1 .1 (later-laid _ _ _ r y b _ (i .0) _ k _ (o .0) l)) (c .before .before .before .before .settle .ensures .0) (c .before .before .before .before .settle .ensures .1)))))))
+    let e =
+    judged (u .read-site .result .judged .«in_range») (q .read-characters .result .«in_range») (p .read-operations .result .«in_range»)
+    (c .before .before .before .before .before .before .before .before .before .before .before .before .both .ensures) (c .before .before .before .before .before .before .before .before .before .before .before .both2 .ensures) (not-false _ (c .before .before .before .before .before .before .before .before .before .before .if3 .left)) in
+    let w = three (u .read-site .result .judged .«in_range») (q .read-characters .result .«in_range») (p .read-operations .result .«in_range») e in (
+      answer-is _ _ _ r y b _ (i .0) _ k _ (o .0) l (w .0) (w .1) (w .2),
+      (
+        same-length-7 c ∙ ap length (z .0) ∙ characters-length [],
+        (
+          same-length-8 c ∙ ap length (z .1 .0) ∙ toggles-length [],
+          (
+            o .1 .0,
+            (
+              same-length-10 c ∙ z .1 .1 .1 .0,
+              (
+                same-length-11 c ∙ z .1 .1 .1 .1,
+                λ told.
+                    all-held _ _ _ r y b _ (i .0) _ k _ (o .0) l (w .0) (w .1) (w .2) (i .1 .0) (i .1 .1)
+                    (o .1 .1 (later-laid _ _ _ r y b _ (i .0) _ k _ (o .0) l))
+                    (c .before .before .before .before .settle .ensures .0) (c .before .before .before .before .settle .ensures .1),
+              ),
+            ),
+          ),
+        ),
+      ),
+    )
 
 pub read-spec : {M : Type 1} → statement M
 read-spec =

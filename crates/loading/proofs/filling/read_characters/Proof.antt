@@ -1,5 +1,6 @@
 -- `loading::filling::read_characters` meets its contract, by the invariant of `proofs/Collecting.antt`.
-use Rattle.loading.proofs.Collecting.{FrontLoop, front-begun, front-characters, front-toggles, front-end, front-filled, front-toggled, front-left, front-more, characters-length, toggles-length}
+use Rattle.loading.proofs.Collecting.{FrontLoop, front-begun, front-characters, front-toggles, front-end, front-filled, front-toggled, front-left, front-more}
+use Rattle.loading.proofs.Collecting.{characters-length, toggles-length}
 use mathlib.Core.Path.{_≡_, refl, sym, ap, _∙_}
 use mathlib.Core.List.{[]}
 use native.Mathlib.Omega.{arith}
@@ -21,8 +22,8 @@ abbrev μ-loop : tie.MeasureT-loop
     length left
 
 -- the first line that is left, as it is read
-line-read : (c : tie.After-read-character Inv-loop μ-loop)
-    → c .read-character .result ≡ characterRead (c .before .before .before .before .before .before .args .version) (getD (lines (c .before .before .loop .left .now)) 0 [])
+line-read : (c : tie.After-read-character Inv-loop μ-loop) →
+    c .read-character .result ≡ characterRead (c .before .before .before .before .before .before .args .version) (getD (lines (c .before .before .loop .left .now)) 0 [])
 line-read c = c .read-character .ensures ∙ ap (characterRead (c .before .before .before .before .before .before .args .version)) (c .before .head .ensures)
 
 loop-holds : tie.Need-loop-holds Inv-loop μ-loop
@@ -35,13 +36,25 @@ read-character-requires : tie.Need-read-character-requires Inv-loop μ-loop
 read-character-requires c κs = search needs
 
 same-length : tie.Need-same-length Inv-loop μ-loop
-same-length c = front-characters (c .before .before .before .before .loop .inv) ∙ sym (ap length (c .before .before .before .before .before .before .before .before .pre .0) ∙ characters-length [])
+same-length c =
+    front-characters (c .before .before .before .before .loop .inv)
+    ∙ sym (ap length (c .before .before .before .before .before .before .before .before .pre .0) ∙ characters-length [])
 
 same-length-2 : tie.Need-same-length-2 Inv-loop μ-loop
-same-length-2 c = front-toggles (c .before .before .before .before .loop .inv) ∙ sym (ap length (c .before .before .before .before .before .before .before .before .pre .1) ∙ toggles-length [])
+same-length-2 c =
+    front-toggles (c .before .before .before .before .loop .inv)
+    ∙ sym (ap length (c .before .before .before .before .before .before .before .before .pre .1) ∙ toggles-length [])
 
 returns : tie.Need-returns Inv-loop μ-loop
-returns c = (front-end (c .before .before .before .before .loop .inv) _ (line-read (c .before .before)) (not-true _ (c .if1 .taken)), (front-filled (c .before .before .before .before .loop .inv) _ (line-read (c .before .before)) (not-true _ (c .if1 .taken)), front-toggled (c .before .before .before .before .loop .inv) _ (line-read (c .before .before)) (not-true _ (c .if1 .taken))))
+returns c =
+    let u = c .before .before in
+    let l = u .before .before .loop in (
+      front-end (l .inv) _ (line-read u) (not-true _ (c .if1 .taken)),
+      (
+        front-filled (l .inv) _ (line-read u) (not-true _ (c .if1 .taken)),
+        front-toggled (l .inv) _ (line-read u) (not-true _ (c .if1 .taken)),
+      ),
+    )
 
 store-character-requires : tie.Need-store-character-requires Inv-loop μ-loop
 store-character-requires c κs = front-characters (c .before .before .before .before .before .before .loop .inv)
@@ -53,18 +66,28 @@ both-requires : tie.Need-both-requires Inv-loop μ-loop
 both-requires c κs = search needs
 
 add-count : tie.Need-add-count Inv-loop μ-loop
-add-count c = omega (arith, c .before .before .before .before .before .before .before .before .before .before .before .before .before .before .loop .inv .small, front-left (c .before .before .before .before .before .before .before .before .before .before .before .before .before .before .loop .inv) _ (line-read (c .before .before .before .before .before .before .before .before .before .before .before .before)) (not-false _ (c .before .before .before .before .before .before .before .before .before .before .if1 .left)))
+add-count c =
+    let u = c .before .before .before .before .before .before .before .before .before .before .before .before in
+    let l = u .before .before .loop in
+    omega (arith, l .inv .small, front-left (l .inv) _ (line-read u) (not-false _ (c .before .before .before .before .before .before .before .before .before .before .if1 .left)))
 
 rest-requires : tie.Need-rest-requires Inv-loop μ-loop
 rest-requires c κs = search needs
 
 loop-less : tie.Need-loop-less Inv-loop μ-loop
-loop-less c = omega (arith, rest-shorter (c .before .before .before .before .before .before .before .before .before .before .before .before .before .before .before .loop .left .now) (front-left (c .before .before .before .before .before .before .before .before .before .before .before .before .before .before .before .loop .inv) _ (line-read (c .before .before .before .before .before .before .before .before .before .before .before .before .before)) (not-false _ (c .before .before .before .before .before .before .before .before .before .before .before .if1 .left))), ap length (c .rest .ensures))
+loop-less c =
+    let u = c .before .before .before .before .before .before .before .before .before .before .before .before .before in
+    let l = u .before .before .loop in
+    let some = front-left (l .inv) _ (line-read u) (not-false _ (c .before .before .before .before .before .before .before .before .before .before .before .if1 .left)) in
+    omega (arith, rest-shorter (l .left .now) some, ap length (c .rest .ensures))
 
 loop-again : tie.Need-loop-again Inv-loop μ-loop
 loop-again c =
-    front-more (c .before .before .before .before .before .before .before .before .before .before .before .before .before .before .before .loop .inv) _ (line-read (c .before .before .before .before .before .before .before .before .before .before .before .before .before)) (not-false _ (c .before .before .before .before .before .before .before .before .before .before .before .if1 .left)) (c .before .before .before .before .before .before .before .before .store-character .ensures)
-    (c .before .before .before .before .store-toggles .ensures) (c .before .both .ensures) (c .rest .ensures)
+    let u = c .before .before .before .before .before .before .before .before .before .before .before .before .before in
+    let l = u .before .before .loop in
+    front-more (l .inv) _ (line-read u) (not-false _ (c .before .before .before .before .before .before .before .before .before .before .before .if1 .left))
+    (c .before .before .before .before .before .before .before .before .store-character .ensures) (c .before .before .before .before .store-toggles .ensures)
+    (c .before .both .ensures) (c .rest .ensures)
 
 pub read-characters-spec : {M : Type 1} → statement M
 read-characters-spec =

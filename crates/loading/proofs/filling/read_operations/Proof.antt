@@ -21,8 +21,8 @@ abbrev μ-loop : tie.MeasureT-loop
 μ-loop version bytes pending₀ count₀ in-range₀ left₀ pending count in-range left = length left
 
 -- the first line that is left, as it is read
-line-read : (c : tie.After-read-operation Inv-loop μ-loop)
-    → c .read-operation .result ≡ operationRead (c .before .before .before .before .before .before .args .version) (getD (lines (c .before .before .before .loop .left .now)) 0 [])
+line-read : (c : tie.After-read-operation Inv-loop μ-loop) →
+    c .read-operation .result ≡ operationRead (c .before .before .before .before .before .before .args .version) (getD (lines (c .before .before .before .loop .left .now)) 0 [])
 line-read c = c .read-operation .ensures ∙ ap (operationRead (c .before .before .before .before .before .before .args .version)) (c .before .head .ensures)
 
 loop-holds : tie.Need-loop-holds Inv-loop μ-loop
@@ -35,10 +35,20 @@ read-operation-requires : tie.Need-read-operation-requires Inv-loop μ-loop
 read-operation-requires c κs = search needs
 
 same-length : tie.Need-same-length Inv-loop μ-loop
-same-length c = back-length (c .before .before .before .before .before .loop .inv) ∙ sym (ap length (c .before .before .before .before .before .before .before .before .pre) ∙ pending-length [])
+same-length c =
+    back-length (c .before .before .before .before .before .loop .inv)
+    ∙ sym (ap length (c .before .before .before .before .before .before .before .before .pre) ∙ pending-length [])
 
 returns : tie.Need-returns Inv-loop μ-loop
-returns c = (back-none (c .before .before .before .before .before .loop .inv) (c .before .before .before .before .loop-test .taken) _ (line-read (c .before .before)) (not-true _ (c .if1 .taken)), (back-length (c .before .before .before .before .before .loop .inv), λ laid. clash laid (back-lacks (c .before .before .before .before .before .loop .inv) (c .before .before .before .before .loop-test .taken) _ (line-read (c .before .before)) (not-true _ (c .if1 .taken)))))
+returns c =
+    let u = c .before .before in
+    let l = u .before .before .before .loop in (
+      back-none (l .inv) (c .before .before .before .before .loop-test .taken) _ (line-read u) (not-true _ (c .if1 .taken)),
+      (
+        back-length (l .inv),
+        λ laid. clash laid (back-lacks (l .inv) (c .before .before .before .before .loop-test .taken) _ (line-read u) (not-true _ (c .if1 .taken))),
+      ),
+    )
 
 store-operation-requires : tie.Need-store-operation-requires Inv-loop μ-loop
 store-operation-requires c κs = back-length (c .before .before .before .before .before .before .loop .inv)
@@ -47,21 +57,32 @@ both-requires : tie.Need-both-requires Inv-loop μ-loop
 both-requires c κs = search needs
 
 add-count : tie.Need-add-count Inv-loop μ-loop
-add-count c = omega (arith, c .before .before .before .before .before .before .before .before .before .before .loop .inv .small, c .before .before .before .before .before .before .before .before .before .loop-test .taken)
+add-count c =
+    omega (
+      arith,
+      c .before .before .before .before .before .before .before .before .before .before .loop .inv .small,
+      c .before .before .before .before .before .before .before .before .before .loop-test .taken,
+    )
 
 rest-requires : tie.Need-rest-requires Inv-loop μ-loop
 rest-requires c κs = search needs
 
 loop-less : tie.Need-loop-less Inv-loop μ-loop
-loop-less c = omega (arith, rest-shorter (c .before .before .before .before .before .before .before .before .before .before .before .loop .left .now) (c .before .before .before .before .before .before .before .before .before .before .loop-test .taken), ap length (c .rest .ensures))
+loop-less c =
+    let some = c .before .before .before .before .before .before .before .before .before .before .loop-test .taken in
+    omega (arith, rest-shorter (c .before .before .before .before .before .before .before .before .before .before .before .loop .left .now) some, ap length (c .rest .ensures))
 
 loop-again : tie.Need-loop-again Inv-loop μ-loop
 loop-again c =
-    back-more (c .before .before .before .before .before .before .before .before .before .before .before .loop .inv) (c .before .before .before .before .before .before .before .before .before .before .loop-test .taken) _ (line-read (c .before .before .before .before .before .before .before .before)) (not-false _ (c .before .before .before .before .before .before .if1 .left)) (c .before .before .before .before .store-operation .ensures)
-    (c .before .both .ensures) (c .rest .ensures)
+    let u = c .before .before .before .before .before .before .before .before in
+    let l = u .before .before .before .loop in
+    back-more (l .inv) (c .before .before .before .before .before .before .before .before .before .before .loop-test .taken) _ (line-read u) (not-false _ (c .before .before .before .before .before .before .if1 .left))
+    (c .before .before .before .before .store-operation .ensures) (c .before .both .ensures) (c .rest .ensures)
 
 same-length-2 : tie.Need-same-length-2 Inv-loop μ-loop
-same-length-2 c = back-length (c .before .loop .inv) ∙ sym (ap length (c .before .before .before .before .pre) ∙ pending-length [])
+same-length-2 c =
+    back-length (c .before .loop .inv)
+    ∙ sym (ap length (c .before .before .before .before .pre) ∙ pending-length [])
 
 returns-2 : tie.Need-returns-2 Inv-loop μ-loop
 returns-2 c = (back-end (c .before .loop .inv) (omega arith), (back-length (c .before .loop .inv), λ laid. back-filled (c .before .loop .inv) (omega arith)))

@@ -52,7 +52,13 @@ mul-columns-6 c = search needs
 slice-write-columns-4 : tie.Need-slice-write-columns-4
 slice-write-columns-4 c =
     let a = c .args in
-    omega (arith, c .pre, length-set (a .columns .now) (a .i) (a .w), length-set (set (a .columns .now) (a .i) (a .w)) (a .m + a .i) (a .x), length-set (set (set (a .columns .now) (a .i) (a .w)) (a .m + a .i) (a .x)) (2 * a .m + a .i) (a .y))
+    omega (
+      arith,
+      c .pre,
+      length-set (a .columns .now) (a .i) (a .w),
+      length-set (set (a .columns .now) (a .i) (a .w)) (a .m + a .i) (a .x),
+      length-set (set (set (a .columns .now) (a .i) (a .w)) (a .m + a .i) (a .x)) (2 * a .m + a .i) (a .y),
+    )
 
 same-length : tie.Need-same-length
 same-length c = search needs

@@ -29,7 +29,13 @@ same-length c = search needs
 
 returns-2 : tie.Need-returns-2
 unfolding keptIn
-returns-2 c = rw (lt-leb _ _ (c .before .before .before .before .before .before .before .before .before .before .if1 .left)) (c .before .before .store .ensures ∙ λ j. setIn 1024 (c .before .before .before .before .before .before .before .before .before .before .before .before .args .i) (c .before .before .before .before .before .key .ensures .0 j) (c .before .before .before .before .key2 .ensures .0 j) (c .before .before .before .key3 .ensures .0 j) (c .before .before .before .before .before .before .before .before .before .before .before .before .args .character .«code_point») (c .before .before .before .before .before .before .before .before .before .before .before .before .args .characters .now))
+returns-2 c =
+    let a = c .before .before .before .before .before .before .before .before .before .before .before .before .args in
+    let k1 = c .before .before .before .before .before .key .ensures .0 in
+    let k2 = c .before .before .before .before .key2 .ensures .0 in
+    let k3 = c .before .before .before .key3 .ensures .0 in
+    let there = lt-leb _ _ (c .before .before .before .before .before .before .before .before .before .before .if1 .left) in
+    rw there (c .before .before .store .ensures ∙ λ j. setIn 1024 (a .i) (k1 j) (k2 j) (k3 j) (a .character .«code_point») (a .characters .now))
 
 pub store-character-spec : {M : Type 1} → statement M
 store-character-spec =

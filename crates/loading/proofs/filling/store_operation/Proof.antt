@@ -32,7 +32,14 @@ same-length c = search needs
 
 returns-2 : tie.Need-returns-2
 unfolding keptIn
-returns-2 c = rw (lt-leb _ _ (c .before .before .before .before .before .before .before .before .if1 .left)) (c .before .before .store .ensures ∙ λ j. setIn 512 (c .before .before .before .before .before .before .before .before .before .before .args .i) (c .before .before .before .before .before .before .before .own-key .ensures j) (c .before .before .before .before .before .before .first-key .ensures j) (c .before .before .before .before .before .second-key .ensures j) (c .before .before .before .value-of .ensures j) (c .before .before .before .before .before .before .before .before .before .before .args .pending .now))
+returns-2 c =
+    let a = c .before .before .before .before .before .before .before .before .before .before .args in
+    let k1 = c .before .before .before .before .before .before .before .own-key .ensures in
+    let k2 = c .before .before .before .before .before .before .first-key .ensures in
+    let k3 = c .before .before .before .before .before .second-key .ensures in
+    let k4 = c .before .before .before .value-of .ensures in
+    let there = lt-leb _ _ (c .before .before .before .before .before .before .before .before .if1 .left) in
+    rw there (c .before .before .store .ensures ∙ λ j. setIn 512 (a .i) (k1 j) (k2 j) (k3 j) (k4 j) (a .pending .now))
 
 pub store-operation-spec : {M : Type 1} → statement M
 store-operation-spec =
