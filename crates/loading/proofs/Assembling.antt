@@ -1,7 +1,7 @@
 -- What was read of the lines into lent arrays, put together: where each line has the layout and passes, the arrays hold the
 -- state that the bytes say, as far as they have slots.
 use mathlib.Core.Path.{_≡_, refl, sym, ap, ap₂, _∙_}
-use mathlib.Core.List.{List, [], _∷_, _++_, map}
+use mathlib.Core.List.{List, [], _++_, map}
 use mathlib.Core.Bool.{Bool, true, false, _&&_}
 use Prim.Native.Nat.{ℕ, _≤_, min}
 use native.Mathlib.Omega.{arith}
@@ -31,7 +31,6 @@ use Rattle.clock.proofs.Keys.{heard-state}
 use Rattle.lines.specs.Lines.{rest, lines, closed, leading, trailing}
 use Rattle.lines.proofs.Lines.{trailing-drop, lines-rest, closed-rest}
 use Rattle.saved.specs.declared.Version.{Version}
-use Rattle.saved.specs.declared.LoadAnswer.{LoadAnswer}
 use Rattle.saved.specs.declared.LoadAnswer.the-variants.{Done, Refused}
 use Rattle.saved.specs.Format.{isSite, siteSaid, isCharacter, characterSaid, isOperation, operationSaid, headLine, characterLines, operationLines}
 use Rattle.saved.specs.Format.{laidOutAs, stateAs, characterWithin, inRangeAs}

@@ -3,14 +3,12 @@
 use mathlib.Core.Path.{_≡_, refl, sym, ap, _∙_}
 use mathlib.Core.List.{List, [], _∷_, _++_, map, map-append, append-nil}
 use mathlib.Core.Bool.{Bool, true, false, _&&_}
-use mathlib.Core.Logic.{⊎-elim}
-use Prim.Native.Nat.{ℕ, _+_, _*_, _≤_, _<_}
+use Prim.Native.Nat.{ℕ, _+_, _≤_, _<_}
 use native.Mathlib.Omega.{arith}
 use lib.ListN.{length, take, getD, length-append, length-map, length-take}
 use lib.Seq.{append-snoc}
 use Rattle.lists.specs.Lists.{every}
 use Rattle.lists.specs.Padding.{pad}
-use Rattle.lists.proofs.Tests.{either}
 use Rattle.lists.proofs.Members.{every-append}
 use Rattle.lists.proofs.Padding.{pad-length}
 use Rattle.woot.specs.declared.Character.{Character}

@@ -3,11 +3,11 @@
 use mathlib.Core.Path.{_≡_, refl, sym, ap, _∙_}
 use mathlib.Core.List.{List, [], _∷_, _++_, map, map-append}
 use mathlib.Core.Bool.{Bool, true, false, cond}
-use Prim.Native.Nat.{ℕ, zero, suc, _+_, _*_, _≤_, _<_}
+use Prim.Native.Nat.{ℕ, zero, suc, _+_, _*_, _<_}
 use native.Mathlib.Omega.{arith}
 use lib.Dec.{leb}
-use lib.ListN.{length, take, set, replicate, length-append, length-map, length-take, length-set, replicate-append-replicate}
-use lib.Seq.{take-all, take-nil, take-append-le, set-append-left}
+use lib.ListN.{length, take, set, replicate, length-append, length-map, length-take, replicate-append-replicate}
+use lib.Seq.{take-all, take-append-le, set-append-left}
 use borrow.Author.Tests.{leb-true, leb-false}
 use Rattle.lists.specs.Padding.{pad}
 use Rattle.lists.proofs.Padding.{pad-none, pad-push, pad-length}

@@ -1,6 +1,6 @@
 -- For the proofs of the code alone: what is read of lines that follow each other into lent arrays, as far as these have
 -- slots, and how many there are.
-use Prim.Native.Nat.{ℕ, suc, _+_, _*_}
+use Prim.Native.Nat.{ℕ, _+_, _*_}
 use mathlib.Core.List.{List, map}
 use mathlib.Core.Bool.{Bool, true, false, _&&_, cond}
 use lib.Dec.{leb}

@@ -4,7 +4,7 @@ use Rattle.lines.specs.Lines.{lines, leading}
 use Rattle.saved.specs.Format.{isCharacter}
 use Rattle.loading.specs.Reading.{lineCharacter}
 use mathlib.Core.Path.{_≡_, sym, ap, _∙_}
-use mathlib.Core.Bool.{Bool, true, false, _&&_}
+use mathlib.Core.Bool.{Bool, _&&_}
 use Prim.Native.Nat.{ℕ}
 use native.Mathlib.Omega.{arith}
 use lib.ListN.{length, getD}
@@ -79,7 +79,8 @@ read-characters-requires c κs = search needs
 skip-requires : tie.Need-skip-requires
 skip-requires c κs =
     let q = c .before .before .before .before in
-    skip-fits _ _ _ (first-read (q .before .before .before .before .before .before)) (not-false _ (q .before .before .before .before .if1 .left)) (q .before .before .before .rest .ensures) _
+    skip-fits _ _ _ (first-read (q .before .before .before .before .before .before)) (not-false _ (q .before .before .before .before .if1 .left))
+    (q .before .before .before .rest .ensures) _
     (q .read-characters .ensures .0)
 
 read-operations-requires : tie.Need-read-operations-requires
@@ -229,7 +230,9 @@ returns-4 c =
     let l = not-false _ (c .before .before .before .before .before .before .before .before .before .before .before .before .before .if2 .left) in
     let e =
     judged (u .read-site .result .judged .«in_range») (q .read-characters .result .«in_range») (p .read-operations .result .«in_range»)
-    (c .before .before .before .before .before .before .before .before .before .before .before .before .both .ensures) (c .before .before .before .before .before .before .before .before .before .before .before .both2 .ensures) (not-false _ (c .before .before .before .before .before .before .before .before .before .before .if3 .left)) in
+    (c .before .before .before .before .before .before .before .before .before .before .before .before .both .ensures)
+    (c .before .before .before .before .before .before .before .before .before .before .before .both2 .ensures)
+    (not-false _ (c .before .before .before .before .before .before .before .before .before .before .if3 .left)) in
     let w = three (u .read-site .result .judged .«in_range») (q .read-characters .result .«in_range») (p .read-operations .result .«in_range») e in (
       answer-is _ _ _ r y b _ (i .0) _ k _ (o .0) l (w .0) (w .1) (w .2),
       (

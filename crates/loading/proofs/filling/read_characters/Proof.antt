@@ -1,7 +1,7 @@
 -- `loading::filling::read_characters` meets its contract, by the invariant of `proofs/Collecting.antt`.
-use Rattle.loading.proofs.Collecting.{FrontLoop, front-begun, front-characters, front-toggles, front-end, front-filled, front-toggled, front-left, front-more}
-use Rattle.loading.proofs.Collecting.{characters-length, toggles-length}
-use mathlib.Core.Path.{_≡_, refl, sym, ap, _∙_}
+use Rattle.loading.proofs.Collecting.{FrontLoop, front-begun, front-characters, front-toggles, front-end, front-filled, front-toggled}
+use Rattle.loading.proofs.Collecting.{front-left, front-more, characters-length, toggles-length}
+use mathlib.Core.Path.{_≡_, sym, ap, _∙_}
 use mathlib.Core.List.{[]}
 use native.Mathlib.Omega.{arith}
 use lib.ListN.{length, getD}
@@ -23,7 +23,8 @@ abbrev μ-loop : tie.MeasureT-loop
 
 -- the first line that is left, as it is read
 line-read : (c : tie.After-read-character Inv-loop μ-loop) →
-    c .read-character .result ≡ characterRead (c .before .before .before .before .before .before .args .version) (getD (lines (c .before .before .loop .left .now)) 0 [])
+    c .read-character .result ≡ characterRead (c .before .before .before .before .before .before .args .version)
+    (getD (lines (c .before .before .loop .left .now)) 0 [])
 line-read c = c .read-character .ensures ∙ ap (characterRead (c .before .before .before .before .before .before .args .version)) (c .before .head .ensures)
 
 loop-holds : tie.Need-loop-holds Inv-loop μ-loop
@@ -69,7 +70,9 @@ add-count : tie.Need-add-count Inv-loop μ-loop
 add-count c =
     let u = c .before .before .before .before .before .before .before .before .before .before .before .before in
     let l = u .before .before .loop in
-    omega (arith, l .inv .small, front-left (l .inv) _ (line-read u) (not-false _ (c .before .before .before .before .before .before .before .before .before .before .if1 .left)))
+    let w = c .before .before .before .before .before .before .before .before .before .before .if1 .left in
+    let some = front-left (l .inv) _ (line-read u) (not-false _ w) in
+    omega (arith, l .inv .small, some)
 
 rest-requires : tie.Need-rest-requires Inv-loop μ-loop
 rest-requires c κs = search needs
@@ -78,7 +81,8 @@ loop-less : tie.Need-loop-less Inv-loop μ-loop
 loop-less c =
     let u = c .before .before .before .before .before .before .before .before .before .before .before .before .before in
     let l = u .before .before .loop in
-    let some = front-left (l .inv) _ (line-read u) (not-false _ (c .before .before .before .before .before .before .before .before .before .before .before .if1 .left)) in
+    let w = c .before .before .before .before .before .before .before .before .before .before .before .if1 .left in
+    let some = front-left (l .inv) _ (line-read u) (not-false _ w) in
     omega (arith, rest-shorter (l .left .now) some, ap length (c .rest .ensures))
 
 loop-again : tie.Need-loop-again Inv-loop μ-loop

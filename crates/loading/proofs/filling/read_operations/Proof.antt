@@ -1,7 +1,7 @@
 -- `loading::filling::read_operations` meets its contract, by the invariant of `proofs/Collecting.antt`.
 use Rattle.lists.proofs.Tests.{clash}
 use Rattle.loading.proofs.Collecting.{BackLoop, back-begun, back-length, back-end, back-filled, back-none, back-lacks, back-more, pending-length}
-use mathlib.Core.Path.{_≡_, refl, sym, ap, _∙_}
+use mathlib.Core.Path.{_≡_, sym, ap, _∙_}
 use mathlib.Core.List.{[]}
 use native.Mathlib.Omega.{arith}
 use lib.ListN.{length, getD}
@@ -22,7 +22,8 @@ abbrev μ-loop : tie.MeasureT-loop
 
 -- the first line that is left, as it is read
 line-read : (c : tie.After-read-operation Inv-loop μ-loop) →
-    c .read-operation .result ≡ operationRead (c .before .before .before .before .before .before .args .version) (getD (lines (c .before .before .before .loop .left .now)) 0 [])
+    c .read-operation .result ≡ operationRead (c .before .before .before .before .before .before .args .version)
+    (getD (lines (c .before .before .before .loop .left .now)) 0 [])
 line-read c = c .read-operation .ensures ∙ ap (operationRead (c .before .before .before .before .before .before .args .version)) (c .before .head .ensures)
 
 loop-holds : tie.Need-loop-holds Inv-loop μ-loop
@@ -70,13 +71,15 @@ rest-requires c κs = search needs
 loop-less : tie.Need-loop-less Inv-loop μ-loop
 loop-less c =
     let some = c .before .before .before .before .before .before .before .before .before .before .loop-test .taken in
-    omega (arith, rest-shorter (c .before .before .before .before .before .before .before .before .before .before .before .loop .left .now) some, ap length (c .rest .ensures))
+    let l = c .before .before .before .before .before .before .before .before .before .before .before .loop .left .now in
+    omega (arith, rest-shorter l some, ap length (c .rest .ensures))
 
 loop-again : tie.Need-loop-again Inv-loop μ-loop
 loop-again c =
     let u = c .before .before .before .before .before .before .before .before in
     let l = u .before .before .before .loop in
-    back-more (l .inv) (c .before .before .before .before .before .before .before .before .before .before .loop-test .taken) _ (line-read u) (not-false _ (c .before .before .before .before .before .before .if1 .left))
+    back-more (l .inv) (c .before .before .before .before .before .before .before .before .before .before .loop-test .taken) _ (line-read u)
+    (not-false _ (c .before .before .before .before .before .before .if1 .left))
     (c .before .before .before .before .store-operation .ensures) (c .before .both .ensures) (c .rest .ensures)
 
 same-length-2 : tie.Need-same-length-2 Inv-loop μ-loop

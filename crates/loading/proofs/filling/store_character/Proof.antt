@@ -1,9 +1,7 @@
 -- `loading::filling::store_character` meets its contract: where there is a slot, the numbers go into it.
-use lib.Dec.{leb}
-use mathlib.Core.Path.{_≡_, refl, _∙_}
+use mathlib.Core.Path.{_∙_}
 use Rattle.loading.specs.Filling.{setIn, keptIn}
 use borrow.Author.Tests.{le-leb, lt-leb}
-use native.Mathlib.Omega.{arith}
 use borrow.Author.Needs.{needs}
 use Rattle.loading.proofs.filling.store_character.Statement.{statement}
 use Rattle.loading.proofs.filling.store_character.Tie as tie

@@ -1,9 +1,6 @@
 -- `loading::filling::store_toggles` meets its contract: where there is a slot, the count goes into it.
-use lib.Dec.{leb}
-use mathlib.Core.Path.{_≡_, refl, _∙_}
 use Rattle.loading.specs.Filling.{keptAt}
 use borrow.Author.Tests.{le-leb, lt-leb}
-use native.Mathlib.Omega.{arith}
 use borrow.Author.Needs.{needs}
 use Rattle.loading.proofs.filling.store_toggles.Statement.{statement}
 use Rattle.loading.proofs.filling.store_toggles.Tie as tie
