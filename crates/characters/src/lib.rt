@@ -25,7 +25,8 @@ fn put_numbers(
     ensures { λ _. ⌜ column 1024 0 (now (characters .exit)) ≡ putAt n k id (column 1024 0 (now (characters .entry))) ⌝ }
     ensures { λ _. ⌜ column 1024 1 (now (characters .exit))
         ≡ putAt n k previous (column 1024 1 (now (characters .entry))) ⌝ }
-    ensures { λ _. ⌜ column 1024 2 (now (characters .exit)) ≡ putAt n k next (column 1024 2 (now (characters .entry))) ⌝ }
+    ensures { λ _. ⌜ column 1024 2 (now (characters .exit))
+        ≡ putAt n k next (column 1024 2 (now (characters .entry))) ⌝ }
     ensures { λ _. ⌜ column 1024 3 (now (characters .exit))
         ≡ putAt n k «code_point» (column 1024 3 (now (characters .entry))) ⌝ }
 {
@@ -101,10 +102,14 @@ pub fn toggle(toggles: &mut [u8], k: usize, count: u8)
 fn clear_columns(characters: &mut [u32], n: usize)
     requires { ⌜ n ≤ 1024 ⌝ }
     requires { ⌜ length (now characters) ≡ 4096 ⌝ }
-    ensures { λ _. ⌜ column 1024 0 (now (characters .exit)) ≡ pad 1024 0 (take n (column 1024 0 (now (characters .entry)))) ⌝ }
-    ensures { λ _. ⌜ column 1024 1 (now (characters .exit)) ≡ pad 1024 0 (take n (column 1024 1 (now (characters .entry)))) ⌝ }
-    ensures { λ _. ⌜ column 1024 2 (now (characters .exit)) ≡ pad 1024 0 (take n (column 1024 2 (now (characters .entry)))) ⌝ }
-    ensures { λ _. ⌜ column 1024 3 (now (characters .exit)) ≡ pad 1024 0 (take n (column 1024 3 (now (characters .entry)))) ⌝ }
+    ensures { λ _. ⌜ column 1024 0 (now (characters .exit))
+        ≡ pad 1024 0 (take n (column 1024 0 (now (characters .entry)))) ⌝ }
+    ensures { λ _. ⌜ column 1024 1 (now (characters .exit))
+        ≡ pad 1024 0 (take n (column 1024 1 (now (characters .entry)))) ⌝ }
+    ensures { λ _. ⌜ column 1024 2 (now (characters .exit))
+        ≡ pad 1024 0 (take n (column 1024 2 (now (characters .entry)))) ⌝ }
+    ensures { λ _. ⌜ column 1024 3 (now (characters .exit))
+        ≡ pad 1024 0 (take n (column 1024 3 (now (characters .entry)))) ⌝ }
 {
     slots::clear_numbers(&mut characters[..1024], n);
     slots::clear_numbers(&mut characters[1024..2048], n);
@@ -126,10 +131,14 @@ pub fn clear(
     requires { ⌜ length (now toggles) ≡ 1024 ⌝ }
     requires { ⌜ length (now heads) ≡ 1024 ⌝ }
     requires { ⌜ length (now links) ≡ 2048 ⌝ }
-    ensures { λ _. ⌜ column 1024 0 (now (characters .exit)) ≡ pad 1024 0 (take n (column 1024 0 (now (characters .entry)))) ⌝ }
-    ensures { λ _. ⌜ column 1024 1 (now (characters .exit)) ≡ pad 1024 0 (take n (column 1024 1 (now (characters .entry)))) ⌝ }
-    ensures { λ _. ⌜ column 1024 2 (now (characters .exit)) ≡ pad 1024 0 (take n (column 1024 2 (now (characters .entry)))) ⌝ }
-    ensures { λ _. ⌜ column 1024 3 (now (characters .exit)) ≡ pad 1024 0 (take n (column 1024 3 (now (characters .entry)))) ⌝ }
+    ensures { λ _. ⌜ column 1024 0 (now (characters .exit))
+        ≡ pad 1024 0 (take n (column 1024 0 (now (characters .entry)))) ⌝ }
+    ensures { λ _. ⌜ column 1024 1 (now (characters .exit))
+        ≡ pad 1024 0 (take n (column 1024 1 (now (characters .entry)))) ⌝ }
+    ensures { λ _. ⌜ column 1024 2 (now (characters .exit))
+        ≡ pad 1024 0 (take n (column 1024 2 (now (characters .entry)))) ⌝ }
+    ensures { λ _. ⌜ column 1024 3 (now (characters .exit))
+        ≡ pad 1024 0 (take n (column 1024 3 (now (characters .entry)))) ⌝ }
     ensures { λ _. ⌜ now (toggles .exit) ≡ pad 1024 0 (take n (now (toggles .entry))) ⌝ }
     ensures { λ _. ⌜ (record { heads = now (heads .exit); links = now (links .exit) })
         ≡ tableOf (take n (column 1024 0 (now (characters .entry)))) ⌝ }

@@ -25,8 +25,8 @@ ghost use Rattle.core_pending.specs.Ready.{readyIn};
 ghost use Rattle.integration.specs.Placements.{placementOf};
 ghost use Rattle.woot.specs.Placing.{integrateInsert, integrateToggle};
 ghost use Rattle.woot.specs.Table.{key, keys};
-ghost use Rattle.core_delivery.specs.Work.{Lent, workAs, Workable, Placed, Targeted, dueIn, steppedIn, finishedIn};
-ghost use Rattle.core_delivery.specs.Work.{finished};
+ghost use Rattle.core_delivery.specs.Work.{Lent, workAs, Workable, Placed, Targeted};
+ghost use Rattle.core_delivery.specs.Work.{dueIn, steppedIn, finishedIn, finished};
 ghost use Rattle.core_delivery.specs.Steps.{toggledAt, placeOf};
 
 // How many characters and pending operations the arrays hold, and how many operations have been carried out and how
@@ -51,10 +51,10 @@ fn clear(
     requires { ⌜ length (now characters) ≡ 4096 ⌝ }
     requires { ⌜ length (now pending) ≡ 2048 ⌝ }
     requires { ⌜ Lent (columnsAs (now characters) (now toggles) n (now pending) w (now heads) (now links)) ⌝ }
-    ensures { λ _. ⌜ (columnsAs (now (characters .exit)) (now (toggles .exit)) n (now (pending .exit)) w (now (heads .exit))
-        (now (links .exit)))
-        ≡ documentOf (charactersIn (columnsAs (now (characters .entry)) (now (toggles .entry)) n (now (pending .entry)) w
-        (now (heads .entry)) (now (links .entry))))
+    ensures { λ _. ⌜ (columnsAs (now (characters .exit)) (now (toggles .exit)) n (now (pending .exit)) w
+        (now (heads .exit)) (now (links .exit)))
+        ≡ documentOf (charactersIn (columnsAs (now (characters .entry)) (now (toggles .entry)) n (now (pending .entry))
+        w (now (heads .entry)) (now (links .entry))))
         (operationsIn (columnsAs (now (characters .entry)) (now (toggles .entry)) n (now (pending .entry)) w
         (now (heads .entry)) (now (links .entry)))) ⌝ }
 {
@@ -232,8 +232,8 @@ fn drain(
     requires { ⌜ Workable (workAs (now characters) (now toggles) (now pending) (now heads) (now links) progress) ⌝ }
     ensures { λ r. ⌜ (workAs (now (characters .exit)) (now (toggles .exit)) (now (pending .exit)) (now (heads .exit))
         (now (links .exit)) r)
-        ≡ finishedIn (workAs (now (characters .entry)) (now (toggles .entry)) (now (pending .entry)) (now (heads .entry))
-        (now (links .entry)) progress) ⌝ }
+        ≡ finishedIn (workAs (now (characters .entry)) (now (toggles .entry)) (now (pending .entry))
+        (now (heads .entry)) (now (links .entry)) progress) ⌝ }
 {
     let mut done = progress;
     loop {
@@ -263,11 +263,12 @@ pub fn integrate(
 ) -> Progress
     requires { ⌜ length (now characters) ≡ 4096 ⌝ }
     requires { ⌜ length (now pending) ≡ 2048 ⌝ }
-    requires { ⌜ Placed (columnsAs (now characters) (now toggles) n (now pending) w (now heads) (now links)) insert k ⌝ }
+    requires { ⌜ Placed
+        (columnsAs (now characters) (now toggles) n (now pending) w (now heads) (now links)) insert k ⌝ }
     ensures { λ r. ⌜ (workAs (now (characters .exit)) (now (toggles .exit)) (now (pending .exit)) (now (heads .exit))
         (now (links .exit)) r)
-        ≡ finished (integrateInsert (charactersIn (columnsAs (now (characters .entry)) (now (toggles .entry)) n (now (pending .entry)) w
-        (now (heads .entry)) (now (links .entry)))) insert)
+        ≡ finished (integrateInsert (charactersIn (columnsAs (now (characters .entry)) (now (toggles .entry)) n
+        (now (pending .entry)) w (now (heads .entry)) (now (links .entry)))) insert)
         (operationsIn (columnsAs (now (characters .entry)) (now (toggles .entry)) n (now (pending .entry)) w
         (now (heads .entry)) (now (links .entry)))) 1 0 ⌝ }
 {
@@ -297,11 +298,12 @@ pub fn toggle(
 )
     requires { ⌜ length (now characters) ≡ 4096 ⌝ }
     requires { ⌜ length (now pending) ≡ 2048 ⌝ }
-    requires { ⌜ Targeted (columnsAs (now characters) (now toggles) n (now pending) w (now heads) (now links)) toggle k ⌝ }
-    ensures { λ _. ⌜ (columnsAs (now (characters .exit)) (now (toggles .exit)) n (now (pending .exit)) w (now (heads .exit))
-        (now (links .exit)))
-        ≡ documentOf (integrateToggle (charactersIn (columnsAs (now (characters .entry)) (now (toggles .entry)) n (now (pending .entry)) w
-        (now (heads .entry)) (now (links .entry)))) toggle)
+    requires { ⌜ Targeted
+        (columnsAs (now characters) (now toggles) n (now pending) w (now heads) (now links)) toggle k ⌝ }
+    ensures { λ _. ⌜ (columnsAs (now (characters .exit)) (now (toggles .exit)) n (now (pending .exit)) w
+        (now (heads .exit)) (now (links .exit)))
+        ≡ documentOf (integrateToggle (charactersIn (columnsAs (now (characters .entry)) (now (toggles .entry)) n
+        (now (pending .entry)) w (now (heads .entry)) (now (links .entry)))) toggle)
         (operationsIn (columnsAs (now (characters .entry)) (now (toggles .entry)) n (now (pending .entry)) w
         (now (heads .entry)) (now (links .entry)))) ⌝ }
 {
@@ -327,8 +329,8 @@ pub fn defer(
     requires { ⌜ w < 512 ⌝ }
     ensures { λ _. ⌜ (columnsAs (now (characters .exit)) (now (toggles .exit)) n (now (pending .exit)) (w + 1)
         (now (heads .exit)) (now (links .exit)))
-        ≡ documentOf (charactersIn (columnsAs (now (characters .entry)) (now (toggles .entry)) n (now (pending .entry)) w
-        (now (heads .entry)) (now (links .entry))))
+        ≡ documentOf (charactersIn (columnsAs (now (characters .entry)) (now (toggles .entry)) n (now (pending .entry))
+        w (now (heads .entry)) (now (links .entry))))
         (operationsIn (columnsAs (now (characters .entry)) (now (toggles .entry)) n (now (pending .entry)) w
         (now (heads .entry)) (now (links .entry))) ++ operation ∷ []) ⌝ }
 {
