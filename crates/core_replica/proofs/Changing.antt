@@ -1,36 +1,31 @@
--- What a change asks of a replica that was examined, and the replica that its arrays make afterwards.
+-- What a change asks of a replica that was examined, and what its arrays hold afterwards.
 use Prim.Native.Nat.{ℕ, suc, _+_, _≤_, _<_}
 use native.Mathlib.Omega.{arith}
 use native.Mathlib.Numerals.{one-add}
 use native.Mathlib.Nat.{zero-add}
 use mathlib.Core.Path.{_≡_, refl, ap, sym, _∙_}
-use mathlib.Core.Bool.{true}
 use mathlib.Core.List.{List, [], _∷_, _++_}
 use lib.ListN.{length}
 use Rattle.woot.specs.declared.Site.{Site}
 use Rattle.woot.specs.declared.Insert.{Insert}
 use Rattle.woot.specs.declared.Toggle.{Toggle}
 use Rattle.woot.specs.declared.Operation.{Operation}
-use Rattle.woot.specs.declared.Character.{Character}
-use Rattle.woot.specs.declared.memory.Document.{Document as InMemory}
-use Rattle.woot.specs.declared.memory.Replica.{Replica}
+use Rattle.woot.specs.declared.Operation.the-variants.{Insert as insert, Toggle as toggle}
+use Rattle.woot.specs.declared.Answer.{Answer}
 use Rattle.woot.specs.Operations.{inserts}
 use Rattle.woot.specs.Clock.{heard, heardAll}
 use Rattle.woot.specs.Placing.{integrateInsert, integrateToggle}
-use Rattle.woot.specs.Pending.{drain}
-use Rattle.woot.specs.Calls.{insertCarried, afterDrain, withCharacters, withPending}
-use Rattle.woot.specs.Memory as memory
-use Rattle.memory.specs.Columns as columns
-use Rattle.memory.specs.Lent.{view, viewed}
-use Rattle.memory.proofs.Fullness.{FullArrays}
-use Rattle.memory.proofs.Views.{flat-path}
+use Rattle.woot.specs.Calls.{allIntegrated, insertCarried, afterDrain, withCharacters, withPending, carryOut, defer}
+use Rattle.memory.specs.Columns.{Document, Replica, meaning, stored, documentOf, charactersIn, operationsIn}
 use Rattle.core_form.specs.Examined.{Examined}
 use Rattle.core_form.proofs.Examining.{few, form, characters-counted, pending-counted}
 use Rattle.core_delivery.specs.Work.{Slots, Lent, Work, workOf, finished, Placed as Placeable, Targeted}
 use Rattle.core_reception.specs.Decisions.{Placed, Target}
+use Rattle.core_reception.specs.declared.Decision.the-variants.{Answered, Defer, Place, Toggle as toggleAt}
+use Rattle.core_replica.specs.Outcomes.{Executed, Feasible, Left, leftOf, leftBy}
 
-module _ (r : Replica) (e : Examined (viewed r)) where
-  slots : Slots (view (r .document))
+module _ (r : Replica) (e : Examined r) where
+  slots : Slots (r .document)
   slots =
       record {
         ids = e .ids;
@@ -46,71 +41,74 @@ module _ (r : Replica) (e : Examined (viewed r)) where
         links = e .links;
       }
 
-  pub examined-lent : Lent (view (r .document))
-  unfolding columns.meaning
-  examined-lent =
-      let f = few (viewed r) e in
-      record { slots = slots; few = f .characters; few-pending = f .pending; ranged = form (viewed r) e .sound .pending-ranges }
+  lent : Lent (r .document)
+  unfolding meaning
+  lent =
+      let f = few r e in
+      record { slots = slots; few = f .characters; few-pending = f .pending; ranged = form r e .sound .pending-ranges }
 
-  pub examined-placed : (i : Insert) (k : ℕ) → Placed (memory.meaning r) i k → Placeable (view (r .document)) i k
-  unfolding columns.meaning memory.meaning memory.charactersIn columns.charactersIn memory.operationsIn columns.operationsIn
-  examined-placed i k p =
+-- ---- what is asked
+
+module _ (r : Replica) where
+  pub defer-lent : (o : Operation) → Feasible r o Defer → Lent (r .document)
+  unfolding Feasible
+  defer-lent o h = lent r (h .0)
+
+  pub defer-slot : (o : Operation) → Feasible r o Defer → r .document .waiting < 512
+  unfolding Feasible
+  defer-slot o h = omega (arith, h .1, pending-counted r (h .0))
+
+  pub placeable : (i : Insert) (k : ℕ) → Feasible r (insert i) (Place k) → Placeable (r .document) i k
+  unfolding Feasible Executed meaning
+  placeable i k h =
+      let p = h .1 in
       record {
-        lent = examined-lent;
-        place = omega (arith, p .place, characters-counted (viewed r) e);
-        room = omega (arith, p .room, characters-counted (viewed r) e);
+        lent = lent r (h .0);
+        place = omega (arith, p .place, characters-counted r (h .0));
+        room = omega (arith, p .room, characters-counted r (h .0));
         result = p .result;
         sound = p .sound;
       }
 
-  pub examined-target : (t : Toggle) (k : ℕ) → Target (memory.meaning r) t k → Targeted (view (r .document)) t k
-  unfolding columns.meaning memory.meaning memory.charactersIn columns.charactersIn memory.operationsIn columns.operationsIn
-  examined-target t k p = record { lent = examined-lent; place = p .at; apart = p .apart }
+  pub targeted : (t : Toggle) (k : ℕ) → Feasible r (toggle t) (toggleAt k) → Targeted (r .document) t k
+  unfolding Feasible Executed meaning
+  targeted t k h = record { lent = lent r (h .0); place = h .1 .at; apart = h .1 .apart }
 
-  pub examined-slot : length (memory.meaning r .pending) < 512 → r .document .waiting < 512
-  unfolding columns.meaning memory.meaning memory.operationsIn columns.operationsIn
-  examined-slot h = omega (arith, h, pending-counted (viewed r) e)
+  -- what cannot be
+  pub no-place : {A : Type 0} (t : Toggle) (k : ℕ) → Feasible r (toggle t) (Place k) → A
+  unfolding Feasible Executed
+  no-place t k h = absurd h
 
--- ---- the replica that the arrays make
+  pub no-target : {A : Type 0} (i : Insert) (k : ℕ) → Feasible r (insert i) (toggleAt k) → A
+  unfolding Feasible Executed
+  no-target i k h = absurd h
 
-stored-flat : (t : Site) (cs : List Character) (ps : List Operation) (d : InMemory) → FullArrays d → view d ≡ columns.documentOf cs ps
-    → _≡_ {A = Replica} (record { site = t; document = d }) (memory.stored (record { site = t; characters = cs; pending = ps }))
-unfolding memory.stored
-stored-flat t cs ps d full e = ap (λ (b : InMemory). record { site = t; document = b }) (flat-path cs ps d full e)
+  -- ---- what is left
 
-module _ (r : Replica) (d : InMemory) (full : FullArrays d) where
-  pub integrated-stored : (i : Insert) (k : ℕ) (n m : ℕ) (t : Site) → Placed (memory.meaning r) i k → t ≡ heard (r .site) i
-      → _≡_ {A = Work} (record { document = view d; integrated = n; discarded = m }) (finished (integrateInsert (columns.charactersIn (view (r .document))) i) (columns.operationsIn (view (r .document))) 1 0)
-      → _≡_ {A = Replica} (record { site = t; document = d }) (memory.stored (afterDrain (memory.meaning r) i (insertCarried (memory.meaning r) i)))
-  unfolding finished workOf afterDrain insertCarried memory.meaning memory.charactersIn columns.charactersIn memory.operationsIn columns.operationsIn
-  integrated-stored i k n m t p h e =
-      let cs : List Character = integrateInsert (columns.charactersIn (view (r .document))) i in
-      let ps : List Operation = columns.operationsIn (view (r .document)) in
-      stored-flat t (drain cs ps .characters) (drain cs ps .pending) d full (ap (λ (w : Work). w .document) e)
-      ∙ ap (λ (u : Site). memory.stored (record { site = u; characters = drain cs ps .characters; pending = drain cs ps .pending })) (h ∙ sym (p .still))
+  pub answered-left : (o : Operation) (a : Answer) → _≡_ {A = Left} (record { replica = r; integrated = 0; discarded = 0 }) (leftBy r o (Answered a))
+  unfolding leftBy
+  answered-left o a = refl
 
-  pub toggled-stored : (x : Toggle) → view d ≡ columns.documentOf (integrateToggle (columns.charactersIn (view (r .document))) x) (columns.operationsIn (view (r .document)))
-      → _≡_ {A = Replica} (record { site = r .site; document = d }) (memory.stored (withCharacters (memory.meaning r) (integrateToggle (memory.meaning r .characters) x)))
-  unfolding withCharacters memory.meaning memory.charactersIn columns.charactersIn memory.operationsIn columns.operationsIn
-  toggled-stored x e = stored-flat (r .site) _ _ d full e
+  module _ (d : Document) (t : Site) where
+    pub deferred-left : (o : Operation) → t ≡ heardAll (r .site) (inserts (o ∷ []))
+        → d ≡ documentOf (charactersIn (r .document)) (operationsIn (r .document) ++ o ∷ [])
+        → _≡_ {A = Left} (record { replica = record { site = t; document = d }; integrated = 0; discarded = 0 }) (leftBy r o Defer)
+    unfolding leftBy leftOf defer withPending stored meaning allIntegrated
+    deferred-left o h e = λ j. record { replica = record { site = h j; document = e j }; integrated = 0; discarded = 0 }
 
-  pub deferred-stored : (o : Operation) (t : Site) → t ≡ heardAll (r .site) (inserts (o ∷ []))
-      → view d ≡ columns.documentOf (columns.charactersIn (view (r .document))) (columns.operationsIn (view (r .document)) ++ o ∷ [])
-      → _≡_ {A = Replica} (record { site = t; document = d }) (memory.stored (withPending (memory.meaning r) o))
-  unfolding withPending memory.meaning memory.charactersIn columns.charactersIn memory.operationsIn columns.operationsIn
-  deferred-stored o t h e =
-      let cs : List Character = columns.charactersIn (view (r .document)) in
-      let ps : List Operation = columns.operationsIn (view (r .document)) ++ o ∷ [] in
-      stored-flat t cs ps d full e ∙ ap (λ (u : Site). memory.stored (record { site = u; characters = cs; pending = ps })) h
+    pub integrated-left : (i : Insert) (k n m : ℕ) → Feasible r (insert i) (Place k) → t ≡ heard (r .site) i
+        → _≡_ {A = Work} (record { document = d; integrated = n; discarded = m }) (finished (integrateInsert (charactersIn (r .document)) i) (operationsIn (r .document)) 1 0)
+        → _≡_ {A = Left} (record { replica = record { site = t; document = d }; integrated = n; discarded = m }) (leftBy r (insert i) (Place k))
+    unfolding Feasible Executed leftBy leftOf carryOut afterDrain insertCarried stored meaning allIntegrated finished workOf
+    integrated-left i k n m f h e =
+        λ j.
+        record {
+          replica = record { site = (h ∙ sym (f .1 .still)) j; document = ap (λ (w : Work). w .document) e j };
+          integrated = (ap (λ (w : Work). w .integrated) e ∙ one-add _) j;
+          discarded = (ap (λ (w : Work). w .discarded) e ∙ zero-add _) j;
+        }
 
--- what is counted
-module _ (r : Replica) (i : Insert) (w : Work)
-    (e : w ≡ finished (integrateInsert (columns.charactersIn (view (r .document))) i) (columns.operationsIn (view (r .document))) 1 0)
-  where
-    pub integrated-count : w .integrated ≡ suc (length (insertCarried (memory.meaning r) i .integrated))
-    unfolding finished workOf insertCarried memory.meaning memory.charactersIn columns.charactersIn memory.operationsIn columns.operationsIn
-    integrated-count = ap (λ (v : Work). v .integrated) e ∙ one-add _
-
-    pub discarded-count : w .discarded ≡ length (insertCarried (memory.meaning r) i .discarded)
-    unfolding finished workOf insertCarried memory.meaning memory.charactersIn columns.charactersIn memory.operationsIn columns.operationsIn
-    discarded-count = ap (λ (v : Work). v .discarded) e ∙ zero-add _
+  pub toggled-left : (d : Document) (x : Toggle) (k : ℕ) → d ≡ documentOf (integrateToggle (charactersIn (r .document)) x) (operationsIn (r .document))
+      → _≡_ {A = Left} (record { replica = record { site = r .site; document = d }; integrated = 1; discarded = 0 }) (leftBy r (toggle x) (toggleAt k))
+  unfolding leftBy leftOf carryOut withCharacters stored meaning allIntegrated
+  toggled-left d x k e = λ j. record { replica = record { site = r .site; document = e j }; integrated = 1; discarded = 0 }

@@ -2,4 +2,6 @@ pub mod Runs
 pub mod Kept
 pub mod Tables
 pub mod Changing
-pub mod Settling
+pub mod Judging
+pub mod Returning
+pub mod Writing

@@ -1,147 +1,100 @@
-// A replica after a change: its arrays are taken out of it, edited where they lie, and put back. Steps of the calls and
-// not calls: they have checked the replica and decided on the operation.
-use woot::Insert;
+// A decision carried out: the arrays of a replica are edited where they lie.
+use core_reception::Decision;
 use woot::Operation;
-use woot::Table;
-use woot::Toggle;
-use woot::memory::Document;
-use woot::memory::Replica;
+use woot::Site;
 ghost use mathlib.Core.Path.{_≡_};
-ghost use Prim.Native.Nat.{suc, _<_};
 ghost use lib.ListN.{length};
-ghost use Rattle.woot.specs.Placing.{integrateToggle};
-ghost use Rattle.woot.specs.Calls.{insertCarried, afterDrain, withCharacters, withPending};
-ghost use Rattle.woot.specs.Memory.{meaning, stored};
-ghost use Rattle.memory.specs.Lent.{viewed};
-ghost use Rattle.core_form.specs.Examined.{Examined};
-ghost use Rattle.core_reception.specs.Decisions.{Placed, Target};
+ghost use Rattle.core_replica.specs.Outcomes.{replicaAs, Feasible, leftAs, leftBy};
 
-// The replica with an insert carried out and all that it released, and how many operations were carried out and how
-// many discarded.
-pub(crate) struct Carried {
-    pub(crate) replica: Replica,
-    pub(crate) integrated: usize,
-    pub(crate) discarded: usize,
+// What a call has to put back beside the arrays: the site, how many characters and pending operations there are, and
+// how many operations were carried out and how many discarded.
+pub struct Carried {
+    pub site: Site,
+    pub length: usize,
+    pub waiting: usize,
+    pub integrated: usize,
+    pub discarded: usize,
 }
 
-// Carries out an insert that goes in after the first k characters; the clock follows it. What it releases raises the
-// clock no further.
-pub(crate) fn integrate(replica: Replica, k: usize, insert: Insert) -> Carried
-    requires { ⌜ Examined (viewed replica) ⌝ }
-    requires { ⌜ Placed (meaning replica) insert k ⌝ }
-    ensures { λ r. ⌜ r .replica
-        ≡ stored (afterDrain (meaning replica) insert (insertCarried (meaning replica) insert)) ⌝ }
-    ensures { λ r. ⌜ r .integrated ≡ suc (length (insertCarried (meaning replica) insert .integrated)) ⌝ }
-    ensures { λ r. ⌜ r .discarded ≡ length (insertCarried (meaning replica) insert .discarded) ⌝ }
-{
-    let site = replica.site;
-    let mut characters = replica.document.characters;
-    let mut toggles = replica.document.toggles;
-    let mut pending = replica.document.pending;
-    let mut heads = replica.document.table.heads;
-    let mut links = replica.document.table.links;
-    let done = core_delivery::integrate(
-        &mut characters,
-        &mut toggles,
-        &mut pending,
-        &mut heads,
-        &mut links,
-        replica.document.length,
-        replica.document.waiting,
-        k,
-        insert,
-    );
-    let heard = clock::heard(site, insert);
-    Carried {
-        replica: Replica {
-            site: heard,
-            document: Document {
-                characters,
-                toggles,
-                length: done.length,
-                pending,
-                waiting: done.waiting,
-                table: Table { heads, links },
-            },
-        },
-        integrated: done.integrated,
-        discarded: done.discarded,
-    }
-}
-
-// Gives the target of a toggle, which stands in the slot k, the larger count.
-pub(crate) fn toggle(replica: Replica, k: usize, toggle: Toggle) -> Replica
-    requires { ⌜ Examined (viewed replica) ⌝ }
-    requires { ⌜ Target (meaning replica) toggle k ⌝ }
+// What is put back.
+fn left(site: Site, length: usize, waiting: usize, integrated: usize, discarded: usize) -> Carried
     ensures { λ r. ⌜ r
-        ≡ stored (withCharacters (meaning replica) (integrateToggle (meaning replica .characters) toggle)) ⌝ }
+        ≡ record {
+          site = site;
+          length = length;
+          waiting = waiting;
+          integrated = integrated;
+          discarded = discarded;
+        } ⌝ }
 {
-    let site = replica.site;
-    let length = replica.document.length;
-    let waiting = replica.document.waiting;
-    let mut characters = replica.document.characters;
-    let mut toggles = replica.document.toggles;
-    let mut pending = replica.document.pending;
-    let mut heads = replica.document.table.heads;
-    let mut links = replica.document.table.links;
-    core_delivery::toggle(
-        &mut characters,
-        &mut toggles,
-        &mut pending,
-        &mut heads,
-        &mut links,
+    Carried {
+        site,
         length,
         waiting,
-        k,
-        toggle,
-    );
-    Replica {
-        site,
-        document: Document {
-            characters,
-            toggles,
-            length,
-            pending,
-            waiting,
-            table: Table { heads, links },
-        },
+        integrated,
+        discarded,
     }
 }
 
-// Puts an operation behind the pending ones; the clock follows an insert.
-pub(crate) fn defer(replica: Replica, operation: Operation) -> Replica
-    requires { ⌜ Examined (viewed replica) ⌝ }
-    requires { ⌜ length (meaning replica .pending) < 512 ⌝ }
-    ensures { λ r. ⌜ r ≡ stored (withPending (meaning replica) operation) ⌝ }
+// Carries out what was decided on an operation: nothing where it is answered already, else it is put off, put in or its
+// target toggled. The clock follows an insert that is put off or put in; what that releases raises it no further. A step
+// of the calls and not a call: they have looked at the replica and decided.
+pub fn carry(
+    characters: &mut [u32],
+    toggles: &mut [u8],
+    pending: &mut [u32],
+    heads: &mut [u16],
+    links: &mut [u16],
+    site: Site,
+    n: usize,
+    w: usize,
+    operation: Operation,
+    decision: Decision,
+) -> Carried
+    requires { ⌜ length (now characters) ≡ 4096 ⌝ }
+    requires { ⌜ length (now pending) ≡ 2048 ⌝ }
+    requires { ⌜ Feasible (replicaAs site (now characters) (now toggles) n (now pending) w (now heads) (now links))
+        operation decision ⌝ }
+    ensures { λ r. ⌜ (leftAs (now (characters .exit)) (now (toggles .exit)) (now (pending .exit)) (now (heads .exit))
+        (now (links .exit)) r)
+        ≡ leftBy (replicaAs site (now (characters .entry)) (now (toggles .entry)) n (now (pending .entry)) w
+        (now (heads .entry)) (now (links .entry))) operation decision ⌝ }
 {
-    let site = replica.site;
-    let length = replica.document.length;
-    let waiting = replica.document.waiting;
-    let mut characters = replica.document.characters;
-    let mut toggles = replica.document.toggles;
-    let mut pending = replica.document.pending;
-    let mut heads = replica.document.table.heads;
-    let mut links = replica.document.table.links;
-    core_delivery::defer(
-        &mut characters,
-        &mut toggles,
-        &mut pending,
-        &mut heads,
-        &mut links,
-        length,
-        waiting,
-        operation,
-    );
-    let heard = clock::heard_operation(site, operation);
-    Replica {
-        site: heard,
-        document: Document {
-            characters,
-            toggles,
-            length,
-            pending,
-            waiting: waiting + 1,
-            table: Table { heads, links },
+    match decision {
+        Decision::Answered(_) => left(site, n, w, 0, 0),
+        Decision::Defer => {
+            core_delivery::defer(characters, toggles, pending, heads, links, n, w, operation);
+            left(clock::heard_operation(site, operation), n, w + 1, 0, 0)
+        }
+        Decision::Place(k) => match operation {
+            Operation::Insert(i) => {
+                let done = core_delivery::integrate(
+                    characters,
+                    toggles,
+                    pending,
+                    heads,
+                    links,
+                    n,
+                    w,
+                    k,
+                    i,
+                );
+                left(
+                    clock::heard(site, i),
+                    done.length,
+                    done.waiting,
+                    done.integrated,
+                    done.discarded,
+                )
+            }
+            Operation::Toggle(_) => left(site, n, w, 0, 0),
+        },
+        Decision::Toggle(k) => match operation {
+            Operation::Insert(_) => left(site, n, w, 0, 0),
+            Operation::Toggle(t) => {
+                core_delivery::toggle(characters, toggles, pending, heads, links, n, w, k, t);
+                left(site, n, w, 1, 0)
+            }
         },
     }
 }

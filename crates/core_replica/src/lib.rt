@@ -1,21 +1,31 @@
-// The calls on a replica: what was received is looked at on the replica's arrays, decided on, and carried out.
-mod changes;
-mod looks;
+// The calls on a replica: receiving, inserting, deleting, restoring, the check of its form and the visible text. What is
+// asked is looked at on the replica's arrays and decided on, and then carried out where they lie.
+pub mod changes;
+pub mod looks;
+mod makes;
 
+use core_generation::MadeInsert;
+use core_generation::MadeToggle;
 use core_reception::Decision;
 use woot::Answer;
+use woot::Identifier;
 use woot::Operation;
 use woot::Refusal;
+use woot::Sent;
+use woot::Table;
+use woot::Written;
+use woot::memory::Document;
+use woot::memory::Generated;
 use woot::memory::Receipt;
 use woot::memory::Replica;
 ghost use mathlib.Core.Path.{_≡_};
-ghost use Rattle.woot.specs.Calls.{receiveWhen};
-ghost use mathlib.Core.Bool.{true};
+ghost use Rattle.woot.specs.declared.Sent.the-variants.{Done as sentDone};
+ghost use Rattle.woot.specs.Calls.{carryOut};
 ghost use Rattle.woot.specs.Memory.{meaning, replicaWellFormed};
-ghost use Rattle.woot.specs.Replicas.{receipt, received};
+ghost use Rattle.woot.specs.Replicas.{generated, received, inserted, deleted, restored};
 ghost use Rattle.memory.specs.Lent.{viewed};
-ghost use Rattle.core_form.specs.Examined.{Examined};
-ghost use Rattle.core_reception.specs.Decisions.{Decided};
+ghost use Rattle.core_replica.specs.Outcomes.{Executed, answerBy};
+ghost use Rattle.core_replica.specs.Texts.{textWritten, textOut};
 
 // Whether a replica is well formed. (Document 01: in form.)
 pub fn well_formed(replica: Replica) -> bool
@@ -33,47 +43,20 @@ pub fn well_formed(replica: Replica) -> bool
     )
 }
 
-// Carries out what was decided on a received operation.
-fn settle(replica: Replica, operation: Operation, decision: Decision) -> Receipt
-    requires { ⌜ Examined (viewed replica) ⌝ }
-    requires { ⌜ Decided (viewed replica) operation decision ⌝ }
-    ensures { λ r. ⌜ r ≡ receipt replica (receiveWhen true (meaning replica) operation) ⌝ }
+// The answer to a received operation, once it was carried out.
+fn answer(decision: Decision, integrated: usize, discarded: usize) -> Answer
+    ensures { λ r. ⌜ r ≡ answerBy decision integrated discarded ⌝ }
 {
     match decision {
-        Decision::Answered(answer) => Receipt { answer, replica },
-        Decision::Defer => Receipt {
-            answer: Answer::Deferred,
-            replica: changes::defer(replica, operation),
+        Decision::Answered(answer) => answer,
+        Decision::Defer => Answer::Deferred,
+        Decision::Place(_) => Answer::Done {
+            integrated,
+            discarded,
         },
-        Decision::Place(k) => match operation {
-            Operation::Insert(i) => {
-                let carried = changes::integrate(replica, k, i);
-                let after = carried.replica;
-                Receipt {
-                    answer: Answer::Done {
-                        integrated: carried.integrated,
-                        discarded: carried.discarded,
-                    },
-                    replica: after,
-                }
-            }
-            Operation::Toggle(_) => Receipt {
-                answer: Answer::Duplicate,
-                replica,
-            },
-        },
-        Decision::Toggle(k) => match operation {
-            Operation::Insert(_) => Receipt {
-                answer: Answer::Duplicate,
-                replica,
-            },
-            Operation::Toggle(t) => Receipt {
-                answer: Answer::Done {
-                    integrated: 1,
-                    discarded: 0,
-                },
-                replica: changes::toggle(replica, k, t),
-            },
+        Decision::Toggle(_) => Answer::Done {
+            integrated,
+            discarded,
         },
     }
 }
@@ -82,28 +65,7 @@ fn settle(replica: Replica, operation: Operation, decision: Decision) -> Receipt
 pub fn receive(replica: Replica, operation: Operation) -> Receipt
     ensures { λ r. ⌜ r ≡ received replica operation ⌝ }
 {
-    if !ranges::in_range(operation) {
-        return Receipt {
-            answer: Answer::Refused(Refusal::Range),
-            replica,
-        };
-    }
-    if !looks::check(
-        replica.site,
-        &replica.document.characters,
-        &replica.document.toggles,
-        replica.document.length,
-        &replica.document.pending,
-        replica.document.waiting,
-        &replica.document.table.heads,
-        &replica.document.table.links,
-    ) {
-        return Receipt {
-            answer: Answer::Refused(Refusal::Form),
-            replica,
-        };
-    }
-    let decision = looks::decide(
+    let decision = looks::judge(
         replica.site,
         &replica.document.characters,
         &replica.document.toggles,
@@ -114,5 +76,177 @@ pub fn receive(replica: Replica, operation: Operation) -> Receipt
         &replica.document.table.links,
         operation,
     );
-    settle(replica, operation, decision)
+    let mut characters = replica.document.characters;
+    let mut toggles = replica.document.toggles;
+    let mut pending = replica.document.pending;
+    let mut heads = replica.document.table.heads;
+    let mut links = replica.document.table.links;
+    let carried = changes::carry(
+        &mut characters,
+        &mut toggles,
+        &mut pending,
+        &mut heads,
+        &mut links,
+        replica.site,
+        replica.document.length,
+        replica.document.waiting,
+        operation,
+        decision,
+    );
+    let site = carried.site;
+    Receipt {
+        answer: answer(decision, carried.integrated, carried.discarded),
+        replica: Replica {
+            site,
+            document: Document {
+                characters,
+                toggles,
+                length: carried.length,
+                pending,
+                waiting: carried.waiting,
+                table: Table { heads, links },
+            },
+        },
+    }
+}
+
+// Carries out an operation that was made here, and answers it with the counts.
+fn send(replica: Replica, operation: Operation, decision: Decision) -> Generated
+    requires { ⌜ Executed (viewed replica) operation decision ⌝ }
+    ensures { λ r. ⌜ r ≡ generated replica (carryOut (sentDone operation) (meaning replica) operation) ⌝ }
+{
+    let mut characters = replica.document.characters;
+    let mut toggles = replica.document.toggles;
+    let mut pending = replica.document.pending;
+    let mut heads = replica.document.table.heads;
+    let mut links = replica.document.table.links;
+    let carried = changes::carry(
+        &mut characters,
+        &mut toggles,
+        &mut pending,
+        &mut heads,
+        &mut links,
+        replica.site,
+        replica.document.length,
+        replica.document.waiting,
+        operation,
+        decision,
+    );
+    let site = carried.site;
+    Generated {
+        answer: Sent::Done {
+            operation,
+            integrated: carried.integrated,
+            discarded: carried.discarded,
+        },
+        replica: Replica {
+            site,
+            document: Document {
+                characters,
+                toggles,
+                length: carried.length,
+                pending,
+                waiting: carried.waiting,
+                table: Table { heads, links },
+            },
+        },
+    }
+}
+
+// Inserts a code point at the insertion point, counted in visible characters, and answers the operation to be sent.
+// (Document 01: typing.)
+pub fn insert(replica: Replica, point: usize, code_point: u32) -> Generated
+    ensures { λ r. ⌜ r ≡ inserted replica point «code_point» ⌝ }
+{
+    match makes::judge_insert(
+        replica.site,
+        &replica.document.characters,
+        &replica.document.toggles,
+        replica.document.length,
+        &replica.document.pending,
+        replica.document.waiting,
+        &replica.document.table.heads,
+        &replica.document.table.links,
+        point,
+        code_point,
+    ) {
+        MadeInsert::Refused(refusal) => Generated {
+            answer: Sent::Refused(refusal),
+            replica,
+        },
+        MadeInsert::Place(k, i) => send(replica, Operation::Insert(i), Decision::Place(k)),
+    }
+}
+
+// Deletes the visible character at the place, counted from 1, and answers the operation to be sent. (Document 01:
+// erasing.)
+pub fn delete(replica: Replica, place: usize) -> Generated
+    ensures { λ r. ⌜ r ≡ deleted replica place ⌝ }
+{
+    match makes::judge_delete(
+        replica.site,
+        &replica.document.characters,
+        &replica.document.toggles,
+        replica.document.length,
+        &replica.document.pending,
+        replica.document.waiting,
+        &replica.document.table.heads,
+        &replica.document.table.links,
+        place,
+    ) {
+        MadeToggle::Refused(refusal) => Generated {
+            answer: Sent::Refused(refusal),
+            replica,
+        },
+        MadeToggle::Toggle(k, t) => send(replica, Operation::Toggle(t), Decision::Toggle(k)),
+    }
+}
+
+// Restores the hidden character with the identifier, and answers the operation to be sent. (Document 02, Req 05:
+// restoring.)
+pub fn restore(replica: Replica, id: Identifier) -> Generated
+    ensures { λ r. ⌜ r ≡ restored replica id ⌝ }
+{
+    match makes::judge_restore(
+        replica.site,
+        &replica.document.characters,
+        &replica.document.toggles,
+        replica.document.length,
+        &replica.document.pending,
+        replica.document.waiting,
+        &replica.document.table.heads,
+        &replica.document.table.links,
+        id,
+    ) {
+        MadeToggle::Refused(refusal) => Generated {
+            answer: Sent::Refused(refusal),
+            replica,
+        },
+        MadeToggle::Toggle(k, t) => send(replica, Operation::Toggle(t), Decision::Toggle(k)),
+    }
+}
+
+// The visible text of a replica as UTF-8 into the slice: its length, or refusal 3 or 12, and then no byte is changed.
+pub fn visible_text(replica: Replica, out: &mut [u8]) -> Written
+    ensures { λ r. ⌜ r ≡ textWritten replica (now (out .entry)) ⌝ }
+    ensures { λ _. ⌜ now (out .exit) ≡ textOut replica (now (out .entry)) ⌝ }
+{
+    if !looks::check(
+        replica.site,
+        &replica.document.characters,
+        &replica.document.toggles,
+        replica.document.length,
+        &replica.document.pending,
+        replica.document.waiting,
+        &replica.document.table.heads,
+        &replica.document.table.links,
+    ) {
+        return Written::Refused(Refusal::Form);
+    }
+    looks::write_text(
+        &replica.document.characters,
+        &replica.document.toggles,
+        replica.document.length,
+        out,
+    )
 }

@@ -1,16 +1,26 @@
 // What a call looks at before it changes anything: the form of a replica, and what a received operation is to it. The
 // columns that these read are parts of the replica's arrays.
 use core_reception::Decision;
+use visible::columns;
+use woot::Answer;
 use woot::Operation;
+use woot::Refusal;
 use woot::Site;
+use woot::Written;
+ghost use Prim.Native.Nat.{_≤_};
 ghost use mathlib.Core.Path.{_≡_};
 ghost use mathlib.Core.Bool.{true};
-ghost use lib.ListN.{length};
+ghost use mathlib.Core.List.{List, []};
+ghost use lib.ListN.{length, take};
+ghost use Rattle.woot.specs.declared.Character.{Character};
+ghost use Rattle.woot.specs.Memory.{column, codePoints, toggleCounts};
+ghost use Rattle.woot.specs.Text.{text};
+ghost use Rattle.woot.specs.Writing.{writtenAs, outputAfter};
 ghost use Rattle.woot.specs.Ranges.{inRange};
-ghost use Rattle.memory.specs.Lent.{columnsAs};
 ghost use Rattle.memory.specs.Columns.{replicaWellFormed};
 ghost use Rattle.core_form.specs.Examined.{Examined};
 ghost use Rattle.core_reception.specs.Decisions.{Decided};
+ghost use Rattle.core_replica.specs.Outcomes.{replicaAs, Judged};
 
 // Whether the replica with these arrays is well formed. A step of the calls and not a call: they lend arrays of these
 // sizes.
@@ -30,11 +40,8 @@ pub(crate) fn check<'a>(
     requires { ⌜ length (now heads) ≡ 1024 ⌝ }
     requires { ⌜ length (now links) ≡ 2048 ⌝ }
     ensures { λ r. ⌜ r
-        ≡ replicaWellFormed (record {
-          site = site;
-          document = columnsAs (now (characters .entry)) (now (toggles .entry)) n (now (pending .entry)) w
-              (now (heads .entry)) (now (links .entry));
-        }) ⌝ }
+        ≡ replicaWellFormed (replicaAs site (now (characters .entry)) (now (toggles .entry)) n
+        (now (pending .entry)) w (now (heads .entry)) (now (links .entry))) ⌝ }
 {
     core_form::check(
         site,
@@ -54,9 +61,9 @@ pub(crate) fn check<'a>(
     )
 }
 
-// What a received operation is to the replica with these arrays. A step of the calls and not a call: they have checked
-// its form and the operation's ranges.
-pub(crate) fn decide<'a>(
+// What a received operation is to the replica with these arrays. The form was checked and the
+// operation's ranges.
+fn decide<'a>(
     site: Site,
     characters: &'a [u32],
     toggles: &'a [u8],
@@ -69,16 +76,11 @@ pub(crate) fn decide<'a>(
 ) -> Decision
     requires { ⌜ length (now characters) ≡ 4096 ⌝ }
     requires { ⌜ length (now pending) ≡ 2048 ⌝ }
-    requires { ⌜ Examined (record {
-      site = site;
-      document = columnsAs (now characters) (now toggles) n (now pending) w (now heads) (now links);
-    }) ⌝ }
+    requires { ⌜ Examined
+        (replicaAs site (now characters) (now toggles) n (now pending) w (now heads) (now links)) ⌝ }
     requires { ⌜ inRange operation ≡ true ⌝ }
-    ensures { λ r. ⌜ Decided (record {
-      site = site;
-      document = columnsAs (now (characters .entry)) (now (toggles .entry)) n (now (pending .entry)) w
-          (now (heads .entry)) (now (links .entry));
-    }) operation r ⌝ }
+    ensures { λ r. ⌜ Decided (replicaAs site (now (characters .entry)) (now (toggles .entry)) n
+        (now (pending .entry)) w (now (heads .entry)) (now (links .entry))) operation r ⌝ }
 {
     core_reception::decide(
         heads,
@@ -97,4 +99,64 @@ pub(crate) fn decide<'a>(
         site,
         operation,
     )
+}
+
+// What is to be done with a received operation: its ranges are looked at, then the form of the replica with these
+// arrays, and then what the operation is to it. A step of the calls and not a call: they lend arrays of these sizes.
+pub fn judge<'a>(
+    site: Site,
+    characters: &'a [u32],
+    toggles: &'a [u8],
+    n: usize,
+    pending: &'a [u32],
+    w: usize,
+    heads: &'a [u16],
+    links: &'a [u16],
+    operation: Operation,
+) -> Decision
+    requires { ⌜ length (now characters) ≡ 4096 ⌝ }
+    requires { ⌜ length (now toggles) ≡ 1024 ⌝ }
+    requires { ⌜ length (now pending) ≡ 2048 ⌝ }
+    requires { ⌜ length (now heads) ≡ 1024 ⌝ }
+    requires { ⌜ length (now links) ≡ 2048 ⌝ }
+    ensures { λ r. ⌜ Judged (replicaAs site (now (characters .entry)) (now (toggles .entry)) n
+        (now (pending .entry)) w (now (heads .entry)) (now (links .entry))) operation r ⌝ }
+{
+    if !ranges::in_range(operation) {
+        return Decision::Answered(Answer::Refused(Refusal::Range));
+    }
+    if !check(site, characters, toggles, n, pending, w, heads, links) {
+        return Decision::Answered(Answer::Refused(Refusal::Form));
+    }
+    decide(
+        site,
+        characters,
+        toggles,
+        n,
+        pending,
+        w,
+        heads,
+        links,
+        operation,
+    )
+}
+
+// Writes the text of the first n characters of a replica that is well formed. A step of the calls and not a call.
+pub(crate) fn write_text<'a>(
+    characters: &'a [u32],
+    toggles: &'a [u8],
+    n: usize,
+    out: &mut [u8],
+) -> Written
+    requires { ⌜ length (now characters) ≡ 4096 ⌝ }
+    requires { ⌜ length (now toggles) ≡ 1024 ⌝ }
+    requires { ⌜ n ≤ 1024 ⌝ }
+    ensures { λ r. ⌜ ((cs : List Character) → codePoints cs ≡ take n (column 1024 3 (now (characters .entry)))
+        → toggleCounts cs ≡ take n (now (toggles .entry))
+        → r ≡ writtenAs [] (text cs) (now (out .entry))) ⌝ }
+    ensures { λ _. ⌜ ((cs : List Character) → codePoints cs ≡ take n (column 1024 3 (now (characters .entry)))
+        → toggleCounts cs ≡ take n (now (toggles .entry))
+        → now (out .exit) ≡ outputAfter [] (text cs) (now (out .entry))) ⌝ }
+{
+    columns::write_text(&characters[3072..4096], toggles, n, out)
 }

@@ -1,47 +1,54 @@
--- `core_replica::receive` checks the ranges and the form, decides, and carries out.
-use Rattle.lists.proofs.Tests.{refused, passed}
-use Rattle.core_replica.proofs.Settling.{unranged, unformed, examined-received}
-use mathlib.Core.Path.{_≡_, sym, _∙_}
-use mathlib.Core.Bool.{true}
-use Rattle.memory.specs.Lent.{viewed}
-use Rattle.memory.proofs.Fullness.{full-replica, full-view}
-use Rattle.memory.proofs.Views.{form-view}
-use Rattle.core_form.proofs.Examining.{examined}
+-- `core_replica::receive` judges the operation, takes the arrays out, carries the decision out on them, and puts them back.
+use native.Mathlib.Omega.{arith}
+use Rattle.memory.proofs.Fullness.{FullArrays, full-replica}
+use Rattle.core_replica.proofs.Returning.{received-so}
 use borrow.Author.Needs.{needs}
 use Rattle.core_replica.proofs.receive.Statement.{statement}
 use Rattle.core_replica.proofs.receive.Tie as tie
 
-in-range-requires : tie.Need-in-range-requires
-in-range-requires c κs = search needs
+judge-requires : tie.Need-judge-requires
+judge-requires c κs = search needs
+
+slice-aggregate-carry : tie.Need-slice-aggregate-carry
+slice-aggregate-carry c = search needs
+
+slice-aggregate-carry-2 : tie.Need-slice-aggregate-carry-2
+slice-aggregate-carry-2 c = search needs
+
+slice-aggregate-carry-3 : tie.Need-slice-aggregate-carry-3
+slice-aggregate-carry-3 c = search needs
+
+slice-aggregate-carry-4 : tie.Need-slice-aggregate-carry-4
+slice-aggregate-carry-4 c = search needs
+
+slice-aggregate-carry-5 : tie.Need-slice-aggregate-carry-5
+slice-aggregate-carry-5 c = search needs
+
+carry-requires : tie.Need-carry-requires
+carry-requires c κs =
+    let r = c .before .before .before .before .before .before .before .before .before .before .before .before .before .before .before .before .before .before .before .before .before .before .before .before .args .t1 in
+    let full = full-replica {r = r} (c .before .before .before .before .before .before .before .before .before .before .before .before .before .before .before .before .before .before .before .before .before .before .before .before .good .0) in
+    (full .characters, (full .pending, c .before .before .before .before .before .before .before .before .before .before .before .judge .ensures .feasible))
+
+answer-requires : tie.Need-answer-requires
+answer-requires c κs = search needs
 
 returns : tie.Need-returns
-returns c = unranged (c .before .before .args .t1) _ (refused (c .before .in-range .ensures) (c .if1 .taken))
-
-check-requires : tie.Need-check-requires
-check-requires c κs = search needs
-
-returns-2 : tie.Need-returns-2
-returns-2 c = unformed (c .before .before .before .before .before .before .before .before .before .before .before .before .before .before .before .before .args .t1) _ (passed (c .before .before .before .before .before .before .before .before .before .before .before .before .before .before .before .in-range .ensures) (c .before .before .before .before .before .before .before .before .before .before .before .before .before .before .if1 .left)) (refused (c .before .check .ensures ∙ sym (form-view (c .before .before .before .before .before .before .before .before .before .before .before .before .before .before .before .before .args .t1))) (c .if2 .taken))
-
-decide-requires : tie.Need-decide-requires
-decide-requires c κs =
-    let full = full-replica {r = (c .before .before .before .before .before .before .before .before .before .before .before .before .before .before .before .before .before .before .before .before .before .before .before .before .before .before .before .before .args .t1)} (c .before .before .before .before .before .before .before .before .before .before .before .before .before .before .before .before .before .before .before .before .before .before .before .before .before .before .before .before .good .0) in
-    (full .characters, (full .pending, ((examined (viewed (c .before .before .before .before .before .before .before .before .before .before .before .before .before .before .before .before .before .before .before .before .before .before .before .before .before .before .before .before .args .t1)) (full-view _ (full-replica {r = (c .before .before .before .before .before .before .before .before .before .before .before .before .before .before .before .before .before .before .before .before .before .before .before .before .before .before .before .before .args .t1)} (c .before .before .before .before .before .before .before .before .before .before .before .before .before .before .before .before .before .before .before .before .before .before .before .before .before .before .before .before .good .0))) (sym (form-view (c .before .before .before .before .before .before .before .before .before .before .before .before .before .before .before .before .before .before .before .before .before .before .before .before .before .before .before .before .args .t1)) ∙ (passed (c .before .before .before .before .before .before .before .before .before .before .before .before .before .check .ensures ∙ sym (form-view (c .before .before .before .before .before .before .before .before .before .before .before .before .before .before .before .before .before .before .before .before .before .before .before .before .before .before .before .before .args .t1))) (c .before .before .before .before .before .before .before .before .before .before .before .before .if2 .left)))), (passed (c .before .before .before .before .before .before .before .before .before .before .before .before .before .before .before .before .before .before .before .before .before .before .before .before .before .before .before .in-range .ensures) (c .before .before .before .before .before .before .before .before .before .before .before .before .before .before .before .before .before .before .before .before .before .before .before .before .before .before .if1 .left)))))
-
-settle-requires : tie.Need-settle-requires
-settle-requires c κs = ((examined (viewed (c .before .before .before .before .before .before .before .before .before .before .before .before .before .before .before .before .before .before .before .before .before .before .before .before .before .before .before .before .before .args .t1)) (full-view _ (full-replica {r = (c .before .before .before .before .before .before .before .before .before .before .before .before .before .before .before .before .before .before .before .before .before .before .before .before .before .before .before .before .before .args .t1)} (c .before .before .before .before .before .before .before .before .before .before .before .before .before .before .before .before .before .before .before .before .before .before .before .before .before .before .before .before .before .good .0))) (sym (form-view (c .before .before .before .before .before .before .before .before .before .before .before .before .before .before .before .before .before .before .before .before .before .before .before .before .before .before .before .before .before .args .t1)) ∙ (passed (c .before .before .before .before .before .before .before .before .before .before .before .before .before .before .check .ensures ∙ sym (form-view (c .before .before .before .before .before .before .before .before .before .before .before .before .before .before .before .before .before .before .before .before .before .before .before .before .before .before .before .before .before .args .t1))) (c .before .before .before .before .before .before .before .before .before .before .before .before .before .if2 .left)))), c .decide .ensures)
-
-returns-3 : tie.Need-returns-3
-returns-3 c = c .settle .ensures ∙ examined-received (c .before .before .before .before .before .before .before .before .before .before .before .before .before .before .before .before .before .before .before .before .before .before .before .before .before .before .before .before .before .before .args .t1) _ (passed (c .before .before .before .before .before .before .before .before .before .before .before .before .before .before .before .before .before .before .before .before .before .before .before .before .before .before .before .before .before .in-range .ensures) (c .before .before .before .before .before .before .before .before .before .before .before .before .before .before .before .before .before .before .before .before .before .before .before .before .before .before .before .before .if1 .left)) (passed (c .before .before .before .before .before .before .before .before .before .before .before .before .before .before .before .check .ensures ∙ sym (form-view (c .before .before .before .before .before .before .before .before .before .before .before .before .before .before .before .before .before .before .before .before .before .before .before .before .before .before .before .before .before .before .args .t1))) (c .before .before .before .before .before .before .before .before .before .before .before .before .before .before .if2 .left))
+returns c =
+    let r = c .before .before .before .before .before .before .before .before .before .before .before .before .before .before .before .before .before .before .before .before .before .before .before .before .before .before .before .before .before .before .before .before .args .t1 in
+    let full = full-replica {r = r} (c .before .before .before .before .before .before .before .before .before .before .before .before .before .before .before .before .before .before .before .before .before .before .before .before .before .before .before .before .before .before .before .before .good .0) in
+    received-so r _ full (record { characters = omega (arith, c .before .before .before .before .before .before .before .carry .kept .0, full .characters); toggles = omega (arith, c .before .before .before .before .before .before .before .carry .kept .1 .0, full .toggles); pending = omega (arith, c .before .before .before .before .before .before .before .carry .kept .1 .1 .0, full .pending); heads = omega (arith, c .before .before .before .before .before .before .before .carry .kept .1 .1 .1 .0, full .heads); links = omega (arith, c .before .before .before .before .before .before .before .carry .kept .1 .1 .1 .1 .0, full .links) }) _ _ _ _ _ (c .answer .ensures) (c .before .before .before .before .before .before .before .before .before .before .before .before .before .before .before .before .before .before .before .judge .ensures) (c .before .before .before .before .before .before .before .carry .ensures)
 
 pub receive-spec : {M : Type 1} → statement M
 receive-spec =
     tie.close
     (tie.spec
-    in-range-requires
-    returns
-    check-requires
-    returns-2
-    decide-requires
-    settle-requires
-    returns-3)
+    judge-requires
+    slice-aggregate-carry
+    slice-aggregate-carry-2
+    slice-aggregate-carry-3
+    slice-aggregate-carry-4
+    slice-aggregate-carry-5
+    carry-requires
+    answer-requires
+    returns)

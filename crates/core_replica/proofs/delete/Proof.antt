@@ -1,0 +1,41 @@
+-- `core_replica::delete` goes by what was made: a refusal, or an operation that is carried out.
+use mathlib.Core.Path.{_≡_, _∙_}
+use Rattle.core_replica.proofs.Returning.{refused-toggle, toggle-executed, toggle-sent, deleted-view}
+use borrow.Author.Needs.{needs}
+use Rattle.core_replica.proofs.delete.Statement.{statement}
+use Rattle.core_replica.proofs.delete.Tie as tie
+
+judge-delete-requires : tie.Need-judge-delete-requires
+judge-delete-requires c κs = search needs
+
+enum-known-refusal : tie.Need-enum-known-refusal
+enum-known-refusal c = search needs
+
+enum-known-k : tie.Need-enum-known-k
+enum-known-k c = search needs
+
+send-requires : tie.Need-send-requires
+send-requires c κs =
+    let r = c .before .before .before .before .before .before .before .before .before .before .before .before .before .before .before .before .args .t1 in
+    toggle-executed r _ _ _ (rw (c .before .k .given .1) at (c .before .before .before .judge-delete .ensures))
+
+returns : tie.Need-returns
+returns c =
+    let r = c .before .before .before .before .before .before .before .before .before .before .before .before .before .before .before .before .args .t1 in
+    refused-toggle r _ _ (rw (c .before .refusal .given .1) at (c .before .before .before .judge-delete .ensures)) ∙ deleted-view r _
+
+returns-2 : tie.Need-returns-2
+returns-2 c =
+    let r = c .before .before .before .before .before .before .before .before .before .before .before .before .before .before .before .before .before .args .t1 in
+    c .send .ensures ∙ toggle-sent r _ _ _ (rw (c .before .before .k .given .1) at (c .before .before .before .before .judge-delete .ensures)) ∙ deleted-view r _
+
+pub delete-spec : {M : Type 1} → statement M
+delete-spec =
+    tie.close
+    (tie.spec
+    judge-delete-requires
+    enum-known-refusal
+    enum-known-k
+    send-requires
+    returns
+    returns-2)
