@@ -65,22 +65,22 @@ fn answer(decision: Decision, integrated: usize, discarded: usize) -> Answer
 pub fn receive(replica: Replica, operation: Operation) -> Receipt
     ensures { λ r. ⌜ r ≡ received replica operation ⌝ }
 {
-    let decision = looks::judge(
-        replica.site,
-        &replica.document.characters,
-        &replica.document.toggles,
-        replica.document.length,
-        &replica.document.pending,
-        replica.document.waiting,
-        &replica.document.table.heads,
-        &replica.document.table.links,
-        operation,
-    );
     let mut characters = replica.document.characters;
     let mut toggles = replica.document.toggles;
     let mut pending = replica.document.pending;
     let mut heads = replica.document.table.heads;
     let mut links = replica.document.table.links;
+    let decision = looks::judge(
+        replica.site,
+        &characters,
+        &toggles,
+        replica.document.length,
+        &pending,
+        replica.document.waiting,
+        &heads,
+        &links,
+        operation,
+    );
     let carried = changes::carry(
         &mut characters,
         &mut toggles,
