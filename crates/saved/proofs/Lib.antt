@@ -6,3 +6,6 @@ pub mod Refusals
 pub mod Sizes
 pub mod Held
 pub mod Conversions
+pub mod ArrayRefusals
+pub mod ArrayTrips
+pub mod ArrayHeld

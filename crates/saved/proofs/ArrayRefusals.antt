@@ -1,0 +1,143 @@
+-- A refusal is answered exactly when its condition is the first to hold; where none holds, the replica that the bytes say.
+use mathlib.Core.Path.{_≡_, refl, sym, ap, _∙_}
+use mathlib.Core.List.{List, []}
+use mathlib.Core.Logic.{_↔_}
+use mathlib.Core.Bool.{Bool, true, false}
+use mathlib.Core.Option.{Option, none, some}
+use Prim.Native.Nat.{ℕ, _≤_}
+use native.Mathlib.Omega.{arith}
+use lib.ListN.{length}
+use Rattle.woot.specs.declared.memory.Replica.{Replica}
+use Rattle.woot.specs.declared.Refusal.{Refusal}
+use Rattle.woot.specs.declared.Refusal.the-variants.{Layout, Range, Form}
+use Rattle.woot.specs.declared.Written.the-variants.{Refused as writtenRefused}
+use Rattle.woot.specs.Memory.{meaning, stored, replicaWellFormed}
+use Rattle.woot.specs.Form.{wellFormed}
+use Rattle.woot.specs.Answers.{first, decided}
+use Rattle.woot.specs.Writing.{writtenAs, outputAfter}
+use Rattle.lists.proofs.Tests.{some-eq, no-some, clash}
+use Rattle.convergence.proofs.Refusals.{decided-exactly}
+use Rattle.convergence.proofs.Writing.{own-first, own-none, writing-refuses}
+use Rattle.codec.proofs.Refusals.{by-test}
+use Rattle.saved.specs.declared.LoadAnswer.{LoadAnswer}
+use Rattle.saved.specs.declared.LoadAnswer.the-variants.{Done, Refused}
+use Rattle.saved.specs.declared.columns.Loaded.{Loaded}
+use Rattle.saved.specs.declared.Version.the-variants.{Second}
+use Rattle.saved.specs.Format.{savedLaidOut, savedInRange}
+use Rattle.saved.specs.Calls.{loadedState, loadChecks, loadNumber}
+use Rattle.saved.specs.Arrays.{noReplica, unread, loaded, handedOver, loadValue, bytesOf, saveChecks, saved, savedOut}
+use Rattle.saved.specs.ArrayTheorems.{LoadRefuses, LoadNumbers, SaveRefuses, SaveNumbers}
+use Rattle.saved.proofs.Refusals.{bytes-some}
+
+-- ---- reading
+
+module _ (s : List ℕ) where
+  pub load-layout : savedLaidOut s ≡ false → loaded s ≡ unread (Refused Layout)
+  unfolding loaded loadChecks decided
+  load-layout e = rw e
+
+  module _ (l : savedLaidOut s ≡ true) where
+    pub load-range : savedInRange s ≡ false → loaded s ≡ unread (Refused Range)
+    unfolding loaded loadChecks decided
+    load-range e = rw (l, e)
+
+    module _ (i : savedInRange s ≡ true) where
+      pub load-form : wellFormed (loadedState s) ≡ false → loaded s ≡ unread (Refused Form)
+      unfolding loaded loadChecks decided
+      load-form e = rw (l, i, e)
+
+      pub load-done : wellFormed (loadedState s) ≡ true → _≡_ {A = Loaded} (loaded s) (record { answer = Done; replica = stored (loadedState s) })
+      unfolding loaded loadChecks decided
+      load-done e = rw (l, i, e)
+
+never-done : (r : Refusal) → Done ≡ Refused r → ⊥
+never-done r e = let z : _≡_ {A = ℕ} 0 1 = cc in omega arith
+
+-- with a refusal stands the replica named for it
+refused-none : (m : Option LoadAnswer) (x : Loaded) (r : Refusal) → x .answer ≡ Done → decided unread m x .answer ≡ Refused r → decided unread m x .replica ≡ noReplica
+unfolding decided unread
+refused-none none x r d e = absurd (never-done r (sym d ∙ e))
+refused-none (some a) x r d e = refl
+
+pub load-refuses : LoadRefuses
+unfolding loaded unread
+load-refuses s r =
+    let x : Loaded = record { answer = Done; replica = stored (loadedState s) } in (
+      decided-exactly unread (λ y. y .answer) (λ a. refl) (loadChecks s) x (Refused r) (never-done r),
+      refused-none (first (loadChecks s)) x r refl,
+    )
+
+pub load-numbers : LoadNumbers
+unfolding loadNumber loadValue handedOver unread
+load-numbers s = go (savedLaidOut s) (savedInRange s) (wellFormed (loadedState s)) refl refl refl
+  where
+    go : (a b d : Bool) → savedLaidOut s ≡ a → savedInRange s ≡ b → wellFormed (loadedState s) ≡ d
+        → ((loadNumber (loaded s .answer) ≡ 1) ↔ (savedLaidOut s ≡ false))
+        × ((loadNumber (loaded s .answer) ≡ 2) ↔ ((savedLaidOut s ≡ true) × (savedInRange s ≡ false)))
+        × ((loadNumber (loaded s .answer) ≡ 3) ↔ ((savedLaidOut s ≡ true) × (savedInRange s ≡ true) × (wellFormed (loadedState s) ≡ false)))
+        × ((loadNumber (loaded s .answer) ≡ 0) ↔ ((savedLaidOut s ≡ true) × (savedInRange s ≡ true) × (wellFormed (loadedState s) ≡ true)))
+        × ((x : Replica) → (loadValue (loaded s) ≡ some x) ↔ ((savedLaidOut s ≡ true) × (savedInRange s ≡ true) × (wellFormed (loadedState s) ≡ true) × (stored (loadedState s) ≡ x)))
+    go false b d p q r =
+        let a = load-layout s p in
+        let num : loadNumber (loaded s .answer) ≡ 1 = ap (λ y. loadNumber (y .answer)) a in (
+          (λ e. p, λ e. num),
+          (λ e. absurd (omega arith), λ w. clash (w .0) p),
+          (λ e. absurd (omega arith), λ w. clash (w .0) p),
+          (λ e. absurd (omega arith), λ w. clash (w .0) p),
+          λ x. (λ e. no-some (sym (ap loadValue a) ∙ e), λ w. clash (w .0) p),
+        )
+    go true false d p q r =
+        let a = load-range s p q in
+        let num : loadNumber (loaded s .answer) ≡ 2 = ap (λ y. loadNumber (y .answer)) a in (
+          (λ e. absurd (omega arith), λ e. clash p e),
+          (λ e. (p, q), λ w. num),
+          (λ e. absurd (omega arith), λ w. clash (w .1) q),
+          (λ e. absurd (omega arith), λ w. clash (w .1) q),
+          λ x. (λ e. no-some (sym (ap loadValue a) ∙ e), λ w. clash (w .1) q),
+        )
+    go true true false p q r =
+        let a = load-form s p q r in
+        let num : loadNumber (loaded s .answer) ≡ 3 = ap (λ y. loadNumber (y .answer)) a in (
+          (λ e. absurd (omega arith), λ e. clash p e),
+          (λ e. absurd (omega arith), λ w. clash q (w .1)),
+          (λ e. (p, q, r), λ w. num),
+          (λ e. absurd (omega arith), λ w. clash (w .2) r),
+          λ x. (λ e. no-some (sym (ap loadValue a) ∙ e), λ w. clash (w .2) r),
+        )
+    go true true true p q r =
+        let a = load-done s p q r in
+        let num : loadNumber (loaded s .answer) ≡ 0 = ap (λ y. loadNumber (y .answer)) a in
+        let value : loadValue (loaded s) ≡ some (stored (loadedState s)) = ap loadValue a in (
+          (λ e. absurd (omega arith), λ e. clash p e),
+          (λ e. absurd (omega arith), λ w. clash q (w .1)),
+          (λ e. absurd (omega arith), λ w. clash r (w .2)),
+          (λ e. (p, q, r), λ w. num),
+          λ x. (λ e. (p, q, r, some-eq (sym value ∙ e)), λ w. value ∙ ap some (w .3)),
+        )
+
+-- ---- writing
+
+module _ (r : Replica) (out : List ℕ) where
+  pub unformed : replicaWellFormed r ≡ false → (writtenRefused Form ≡ saved r out) × (out ≡ savedOut r out)
+  unfolding saved savedOut saveChecks
+  unformed e =
+      let w = own-first (saveChecks r) (writtenRefused Form) (bytesOf r) out (rw e refl) in
+      (sym (w .0), sym (w .1))
+
+  -- a replica in form goes by the room alone
+  pub formed : replicaWellFormed r ≡ true
+      → (writtenAs [] (bytesOf r) out ≡ saved r out) × (outputAfter [] (bytesOf r) out ≡ savedOut r out)
+  unfolding saved savedOut saveChecks
+  formed e = own-none (saveChecks r) (bytesOf r) out (rw e refl)
+
+pub save-refuses : SaveRefuses
+unfolding saved savedOut
+save-refuses r out q = let w = writing-refuses (saveChecks r) (bytesOf r) out q in (w .0, w .2)
+
+-- there is a byte at least
+saved-some : (r : Replica) → 1 ≤ length (bytesOf r)
+saved-some r = bytes-some Second (meaning r)
+
+pub save-numbers : SaveNumbers
+unfolding saved saveChecks
+save-numbers r out = by-test Form (λ e. omega arith) (bytesOf r) out (saved-some r) (replicaWellFormed r)

@@ -1,0 +1,116 @@
+-- The promises about saved replicas that lie in memory as arrays of numbers, each proved in proofs/ under its name in
+-- small letters.
+use Prim.Native.Nat.{ℕ, _≤_, _<_}
+use mathlib.Core.Path.{_≡_}
+use mathlib.Core.Logic.{_↔_}
+use mathlib.Core.Bool.{true, false}
+use mathlib.Core.List.{List, _++_}
+use mathlib.Core.Option.{some}
+use lib.ListN.{length}
+use Rattle.woot.specs.declared.memory.Replica.{Replica}
+use Rattle.woot.specs.declared.Refusal.{Refusal}
+use Rattle.woot.specs.declared.Written.the-variants.{Refused as writtenRefused}
+use Rattle.woot.specs.State.{State}
+use Rattle.woot.specs.Memory.{meaning, stored, replicaWellFormed}
+use Rattle.woot.specs.Form.{allInRange, wellFormed, raised}
+use Rattle.lines.specs.Lines.{rest}
+use Rattle.woot.specs.Answers.{Reported}
+use Rattle.woot.specs.Writing.{writingChecks, writtenNumber, writtenLength}
+use Rattle.core_replica.specs.Tables.{Searches}
+use Rattle.saved.specs.declared.LoadAnswer.the-variants.{Done, Refused}
+use Rattle.saved.specs.declared.Version.the-variants.{Second}
+use Rattle.saved.specs.Format.{siteLine, savedLaidOut, savedInRange, savedBytes}
+use Rattle.saved.specs.Calls.{loadedState, needsRaising, loadChecks, loadNumber}
+use Rattle.saved.specs.Arrays.{noReplica, held, loaded, loadValue, bytesOf, saveChecks, saved, savedOut}
+
+-- ---- round trips
+
+-- what is written of a state in form is read as that state, and its clock needs no raising
+abbrev pub SavedReadsBack : Type 0
+SavedReadsBack =
+    (s : State) → wellFormed s ≡ true →
+    (loaded (savedBytes s) .answer ≡ Done) × (loaded (savedBytes s) .replica ≡ stored s)
+    × (needsRaising (savedBytes s) ≡ false)
+
+-- and bytes that are read were written so, byte for byte: by Req 04 of document 02, "those whose clock needs no
+-- raising"
+abbrev pub LoadedWritesBack : Type 0
+LoadedWritesBack =
+    (bytes : List ℕ) → loaded bytes .answer ≡ Done → needsRaising bytes ≡ false →
+    savedBytes (meaning (loaded bytes .replica)) ≡ bytes
+
+-- of any other the first line alone differs, which has the raised clock
+abbrev pub RaisedWritesBack : Type 0
+RaisedWritesBack =
+    (bytes : List ℕ) → loaded bytes .answer ≡ Done →
+    savedBytes (meaning (loaded bytes .replica)) ≡ siteLine Second (loadedState bytes .site) ++ rest bytes
+
+-- a replica that is read is in form
+abbrev pub LoadedFormed : Type 0
+LoadedFormed = (bytes : List ℕ) → loaded bytes .answer ≡ Done → wellFormed (meaning (loaded bytes .replica)) ≡ true
+
+-- what is read before the form is checked: with its clock raised the replica of a state in range is in form exactly when
+-- the state that loading makes is, and then it is that state as it is stored, and means it. Reading refuses a state out
+-- of range before, since its numbers may be those of another
+abbrev pub HeldForm : Type 0
+HeldForm =
+    (s : State) →
+    (allInRange s ≡ true → replicaWellFormed (held s) ≡ wellFormed (raised s))
+    × (wellFormed (raised s) ≡ true →
+    (held s ≡ stored (raised s)) × (meaning (held s) ≡ raised s))
+
+-- ---- document 02, Req 12: the table
+
+-- "in every sheet begun, read or built", of those read: the table finds what a plain search finds
+abbrev pub LoadedSearches : Type 0
+LoadedSearches = (bytes : List ℕ) → loaded bytes .answer ≡ Done → Searches (loaded bytes .replica)
+
+-- "no saved form holds it, and it alone may differ after a sheet is written and read": a replica in form is read as one
+-- that means the same, whatever its table was
+abbrev pub TableAloneDiffers : Type 0
+TableAloneDiffers =
+    (r : Replica) → replicaWellFormed r ≡ true →
+    (loaded (bytesOf r) .answer ≡ Done) × (meaning (loaded (bytesOf r) .replica) ≡ meaning r)
+
+-- ---- refusals: any bytes, any replica, any slice
+
+-- the reader answers refusal r exactly when its condition holds and none before it, with the replica named for it
+abbrev pub LoadRefuses : Type 0
+LoadRefuses =
+    (bytes : List ℕ) (r : Refusal) →
+    ((loaded bytes .answer ≡ Refused r) ↔ Reported (Refused r) (loadChecks bytes))
+    × (loaded bytes .answer ≡ Refused r → loaded bytes .replica ≡ noReplica)
+
+-- by number: 1 where the layout lacks, 2 where it does not and something is out of range, 3 where neither is and the
+-- state that loading makes is not in form, else 0 and the replica that stores that state
+abbrev pub LoadNumbers : Type 0
+LoadNumbers =
+    (bytes : List ℕ) →
+    ((loadNumber (loaded bytes .answer) ≡ 1) ↔ (savedLaidOut bytes ≡ false))
+    × ((loadNumber (loaded bytes .answer) ≡ 2) ↔ ((savedLaidOut bytes ≡ true) × (savedInRange bytes ≡ false)))
+    × ((loadNumber (loaded bytes .answer) ≡ 3)
+    ↔ ((savedLaidOut bytes ≡ true) × (savedInRange bytes ≡ true) × (wellFormed (loadedState bytes) ≡ false)))
+    × ((loadNumber (loaded bytes .answer) ≡ 0)
+    ↔ ((savedLaidOut bytes ≡ true) × (savedInRange bytes ≡ true) × (wellFormed (loadedState bytes) ≡ true)))
+    × ((r : Replica) →
+    (loadValue (loaded bytes) ≡ some r)
+    ↔ ((savedLaidOut bytes ≡ true) × (savedInRange bytes ≡ true) × (wellFormed (loadedState bytes) ≡ true)
+    × (stored (loadedState bytes) ≡ r)))
+
+-- the writer answers refusal r exactly when its condition holds and none before it, and changes no byte then
+abbrev pub SaveRefuses : Type 0
+SaveRefuses =
+    (r : Replica) (out : List ℕ) (q : Refusal) →
+    ((saved r out ≡ writtenRefused q) ↔ Reported (writtenRefused q) (writingChecks (saveChecks r) (bytesOf r) out))
+    × (saved r out ≡ writtenRefused q → savedOut r out ≡ out)
+
+-- by number: 3 where the replica is not in form, 12 where it is and the slice is shorter than the bytes, else 0 and how
+-- many bytes there are
+abbrev pub SaveNumbers : Type 0
+SaveNumbers =
+    (r : Replica) (out : List ℕ) →
+    ((writtenNumber (saved r out) ≡ 3) ↔ (replicaWellFormed r ≡ false))
+    × ((writtenNumber (saved r out) ≡ 12) ↔ ((replicaWellFormed r ≡ true) × (length out < length (bytesOf r))))
+    × ((writtenNumber (saved r out) ≡ 0) ↔ ((replicaWellFormed r ≡ true) × (length (bytesOf r) ≤ length out)))
+    × ((writtenLength (saved r out) ≡ length (bytesOf r))
+    ↔ ((replicaWellFormed r ≡ true) × (length (bytesOf r) ≤ length out)))
