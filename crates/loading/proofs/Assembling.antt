@@ -6,7 +6,7 @@ use mathlib.Core.Bool.{Bool, true, false, _&&_}
 use Prim.Native.Nat.{ℕ, _≤_, min}
 use native.Mathlib.Omega.{arith}
 use lib.ListN.{length, take, drop, getD, length-map, length-take, take-append-drop, replicate}
-use lib.Seq.{take-all, take-append-le}
+use lib.Seq.{take-append-le}
 use Rattle.lists.specs.Lists.{every}
 use Rattle.lists.specs.Padding.{pad}
 use Rattle.lists.proofs.Tests.{and-left, and-right, and-intro, three}
@@ -22,7 +22,7 @@ use Rattle.woot.specs.Ranges.{siteInRange, characterInRange, inRange}
 use Rattle.woot.specs.State.{State, characterSlots, pendingSlots}
 use Rattle.woot.specs.Form.{allInRange, raised}
 use Rattle.woot.specs.Table.{key, keys, tableOf}
-use Rattle.woot.specs.Memory.{inColumns, documentOf, stored, previousKeys, nextKeys, codePoints, toggleCounts, ownKey, firstKey, secondKey, valueOf}
+use Rattle.woot.specs.Memory.{inColumns, documentOf, previousKeys, nextKeys, codePoints, toggleCounts, ownKey, firstKey, secondKey, valueOf}
 use Rattle.index.specs.Keys.{AllSmall}
 use Rattle.index.proofs.Keys.{all-range-small}
 use Rattle.memory.proofs.Operations.{AllKeyed, all-keyed}
@@ -35,6 +35,7 @@ use Rattle.saved.specs.declared.LoadAnswer.the-variants.{Done, Refused}
 use Rattle.saved.specs.Format.{isSite, siteSaid, isCharacter, characterSaid, isOperation, operationSaid, headLine, characterLines, operationLines}
 use Rattle.saved.specs.Format.{laidOutAs, stateAs, characterWithin, inRangeAs}
 use Rattle.saved.specs.Calls.{readingChecks}
+use Rattle.saved.specs.Arrays.{fitting, inArrays, held}
 use Rattle.saved.proofs.Trips.{no-site, every-leading}
 use Rattle.saved_lines.specs.declared.SiteLine.{SiteLine}
 use Rattle.saved_lines.specs.Judging.{siteRead}
@@ -42,7 +43,7 @@ use Rattle.saved_lines.proofs.Judging.{site-laid, site-passes, site-says, chara
 use Rattle.loading.specs.declared.filling.Front.{Front}
 use Rattle.loading.specs.declared.filling.Back.{Back}
 use Rattle.loading.specs.Reading.{lineCharacter, characterPasses, operationPasses}
-use Rattle.loading.specs.Filling.{charactersHeld, pendingHeld, frontRead, lineOperation, operationsLaid, backRead, readAnswer, replicaIn, fitting, heldIn}
+use Rattle.loading.specs.Filling.{charactersHeld, pendingHeld, frontRead, lineOperation, operationsLaid, backRead, readAnswer, replicaIn}
 use Rattle.loading.proofs.Gathering.{is-ended}
 use Rattle.loading.proofs.Loading.{characters-pass, operations-pass, all-say, map-same, leading-le, around, skipped}
 use Rattle.loading.proofs.Storing.{no-columns}
@@ -80,11 +81,6 @@ own-used ps =
     (omega (arith, length-map p ownKey, length-take 512 ps)) (omega arith)
 
 -- ---- a state in the arrays
-
--- one that the arrays have slots for is stored in them
-pub held-in-stored : (s : State) → length (s .characters) ≤ 1024 → length (s .pending) ≤ 512 → heldIn s ≡ stored (raised s)
-unfolding heldIn fitting stored raised documentOf
-held-in-stored s few fewer = rw (take-all 1024 (s .characters) few, take-all 512 (s .pending) fewer)
 
 every-first : {A : Type 0} (p : A → Bool) (n : ℕ) (xs : List A) → every p xs ≡ true → every p (take n xs) ≡ true
 every-first p n xs e =
@@ -285,8 +281,8 @@ module _ (v : Version) (s : List ℕ) (first : SiteLine) (f : first ≡ siteRead
                 h ∙ (λ j. heardKeys (heardKeys (site-is j) (ids-are j)) (own-are j))
                 ∙ clock-raised (stateAs v s) (and-right (every (characterWithin v) (stateAs v s .characters)) (allInRange (stateAs v s)) ranges)
 
-            pub all-held : replicaIn site characters toggles (cs .count) pending (ps .count) (table .heads) (table .links) ≡ heldIn (stateAs v s)
-            unfolding heldIn fitting documentOf charactersHeld pendingHeld
+            pub all-held : replicaIn site characters toggles (cs .count) pending (ps .count) (table .heads) (table .links) ≡ held (stateAs v s)
+            unfolding held inArrays fitting documentOf charactersHeld pendingHeld
             all-held = λ j.
                 replicaIn (site-raised j) ((c ∙ ap (λ (x : List Character). charactersHeld (take characterSlots x)) characters-said) j)
                 ((t ∙ ap (λ (x : List Character). pad characterSlots 0 (toggleCounts (take characterSlots x))) characters-said) j)

@@ -1,5 +1,6 @@
 pub mod Assembling
 pub mod Collecting
+pub mod Forming
 pub mod Gathering
 pub mod Loading
 pub mod Storing

@@ -4,18 +4,16 @@ use Prim.Native.Nat.{ℕ, _+_, _*_}
 use mathlib.Core.List.{List, map}
 use mathlib.Core.Bool.{Bool, true, false, _&&_, cond}
 use lib.Dec.{leb}
-use lib.ListN.{length, take, set}
+use lib.ListN.{length, set}
 use Rattle.lists.specs.Lists.{every}
 use Rattle.woot.specs.declared.Site.{Site}
 use Rattle.woot.specs.declared.Character.{Character}
 use Rattle.woot.specs.declared.Operation.{Operation}
-use Rattle.woot.specs.declared.memory.Document.{Document}
 use Rattle.woot.specs.declared.memory.Replica.{Replica}
 use Rattle.woot.specs.Answers.{first, decided}
-use Rattle.woot.specs.State.{State, characterSlots, pendingSlots}
-use Rattle.woot.specs.Form.{raised}
+use Rattle.woot.specs.State.{characterSlots, pendingSlots}
 use Rattle.woot.specs.Table.{keys}
-use Rattle.woot.specs.Memory.{inColumns, documentOf, previousKeys, nextKeys, codePoints}
+use Rattle.woot.specs.Memory.{inColumns, previousKeys, nextKeys, codePoints}
 use Rattle.woot.specs.Memory.{ownKey, firstKey, secondKey, valueOf}
 use Rattle.lines.specs.Lines.{lines, closed}
 use Rattle.saved.specs.declared.Version.{Version}
@@ -88,21 +86,3 @@ replicaIn site characters toggles n pending w heads links =
         table = record { heads = heads; links = links };
       };
     }
-
--- a state as far as the arrays have slots for it
-unfoldable pub fitting : State → State
-fitting s =
-    record {
-      site = s .site;
-      characters = take characterSlots (s .characters);
-      pending = take pendingSlots (s .pending);
-    }
-
--- that part of it as the arrays hold it, the clock raised over it, with the state's own counts
-unfoldable pub heldIn : State → Replica
-heldIn s =
-    let d : Document = documentOf (fitting s .characters) (fitting s .pending) in
-    replicaIn (raised (fitting s) .site) (d .characters) (d .toggles) (length (s .characters)) (d .pending)
-    (length (s .pending))
-    (d .table .heads)
-    (d .table .links)

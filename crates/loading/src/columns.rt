@@ -1,11 +1,15 @@
-// Reading a saved replica into the arrays of a replica in memory, which the call lends.
+// Reading a saved replica into the arrays of a replica in memory, which the call lends, and as a replica in memory.
 use crate::filling;
 use crate::reading;
 use crate::reading::both;
 use saved::LoadAnswer;
 use saved::Version;
+use saved::columns::Loaded;
 use woot::Refusal;
 use woot::Site;
+use woot::Table;
+use woot::memory::Document;
+use woot::memory::Replica;
 ghost use mathlib.Core.Path.{_≡_};
 ghost use mathlib.Core.List.{[]};
 ghost use Prim.Native.Nat.{min};
@@ -15,7 +19,8 @@ ghost use Rattle.woot.specs.State.{characterSlots, pendingSlots};
 ghost use Rattle.woot.specs.Table.{tableOf};
 ghost use Rattle.clock.specs.Hearing.{heardKeys};
 ghost use Rattle.saved.specs.Format.{stateAs};
-ghost use Rattle.loading.specs.Filling.{charactersHeld, pendingHeld, readAnswer, replicaIn, heldIn};
+ghost use Rattle.saved.specs.Arrays.{held, unread, savedRead, loaded};
+ghost use Rattle.loading.specs.Filling.{charactersHeld, pendingHeld, readAnswer, replicaIn};
 
 // What reading answers, and where that is `Done` what stands beside the arrays: the site, how many lines of characters
 // there are and how many of operations. The counts may be above the arrays.
@@ -93,7 +98,7 @@ pub fn read(
     ensures { λ r. ⌜ (r .answer ≡ LoadAnswer.Done
         → replicaIn (r .site) (now (characters .exit)) (now (toggles .exit)) (r .length) (now (pending .exit))
         (r .waiting) (now (heads .exit)) (now (links .exit))
-        ≡ heldIn (stateAs version (now (bytes .entry)))) ⌝ }
+        ≡ held (stateAs version (now (bytes .entry)))) ⌝ }
 {
     let first = saved_lines::read_site(version, reading::head(bytes));
     if !first.judged.laid_out {
@@ -123,4 +128,69 @@ pub fn read(
         length: front.count,
         waiting: back.count,
     }
+}
+
+// A refusal, and the empty replica beside it.
+fn refuse(reason: Refusal) -> Loaded
+    ensures { λ r. ⌜ r ≡ unread (LoadAnswer.Refused reason) ⌝ }
+{
+    Loaded {
+        answer: LoadAnswer::Refused(reason),
+        replica: Replica::empty(0),
+    }
+}
+
+// Reads a saved replica that is not checked to be well formed: its counts may be above its arrays. A step of the calls
+// and not a call: `conversion` alone hands it the first form.
+pub fn read_replica(version: Version, bytes: &[u8]) -> Loaded
+    ensures { λ r. ⌜ r ≡ savedRead version (now (bytes .entry)) ⌝ }
+{
+    let mut characters = [0u32; 4096];
+    let mut toggles = [0u8; 1024];
+    let mut pending = [0u32; 2048];
+    let mut heads = [0u16; 1024];
+    let mut links = [0u16; 2048];
+    let found = read(
+        version,
+        bytes,
+        &mut characters,
+        &mut toggles,
+        &mut pending,
+        &mut heads,
+        &mut links,
+    );
+    let answer = found.answer;
+    if let LoadAnswer::Refused(reason) = answer {
+        return refuse(reason);
+    }
+    let site = found.site;
+    Loaded {
+        answer,
+        replica: Replica {
+            site,
+            document: Document {
+                characters,
+                toggles,
+                length: found.length,
+                pending,
+                waiting: found.waiting,
+                table: Table { heads, links },
+            },
+        },
+    }
+}
+
+// Reads a saved replica. A fault of the layout comes first, wherever it is, then a number out of range, then the form.
+pub fn load(bytes: &[u8]) -> Loaded
+    ensures { λ r. ⌜ r ≡ loaded (now (bytes .entry)) ⌝ }
+{
+    let found = read_replica(Version::Second, bytes);
+    let answer = found.answer;
+    if let LoadAnswer::Refused(_) = answer {
+        return found;
+    }
+    if !core_replica::well_formed(found.replica) {
+        return refuse(Refusal::Form);
+    }
+    found
 }

@@ -1,0 +1,44 @@
+-- `loading::columns::load` meets its contract: what is not refused in reading goes by its form.
+use mathlib.Core.Path.{sym, _∙_}
+use borrow.Author.Needs.{needs}
+use Rattle.lists.proofs.Tests.{refused, passed}
+use Rattle.loading.proofs.Forming.{load-refused, load-unformed, load-formed}
+use Rattle.loading.proofs.columns.load.Statement.{statement}
+use Rattle.loading.proofs.columns.load.Tie as tie
+
+read-replica-requires : tie.Need-read-replica-requires
+read-replica-requires c κs = search needs
+
+enum-told : tie.Need-enum-told
+enum-told c = search needs
+
+returns : tie.Need-returns
+returns c = load-refused _ _ (c .before .before .read-replica .ensures) _ (c .enum-told .given .1)
+
+enum-told-2 : tie.Need-enum-told-2
+enum-told-2 c = search needs
+
+well-formed-requires : tie.Need-well-formed-requires
+well-formed-requires c κs = search needs
+
+refuse-requires : tie.Need-refuse-requires
+refuse-requires c κs = search needs
+
+returns-2 : tie.Need-returns-2
+returns-2 c = c .refuse .ensures ∙ load-unformed _ _ (c .before .before .before .before .before .read-replica .ensures) (c .before .before .before .enum-told2 .given .1) (refused (c .before .before .well-formed .ensures) (c .before .if1 .taken))
+
+returns-3 : tie.Need-returns-3
+returns-3 c = load-formed _ _ (c .before .before .before .before .read-replica .ensures) (c .before .before .enum-told2 .given .1) (passed (c .before .well-formed .ensures) (c .if1 .left))
+
+pub load-spec : {M : Type 1} → statement M
+load-spec =
+    tie.close
+    (tie.spec
+    read-replica-requires
+    enum-told
+    returns
+    enum-told-2
+    well-formed-requires
+    refuse-requires
+    returns-2
+    returns-3)

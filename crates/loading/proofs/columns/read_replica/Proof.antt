@@ -1,0 +1,63 @@
+-- `loading::columns::read_replica` meets its contract: arrays of zeros hold nothing, and what was read into them is what
+-- the bytes say.
+use mathlib.Core.Path.{_≡_, refl, sym, ap, _∙_}
+use Rattle.lists.proofs.Padding.{pad-none}
+use Rattle.loading.proofs.Assembling.{no-characters, no-pending}
+use Rattle.loading.proofs.Forming.{answer-read, read-refused, read-whole}
+use borrow.Author.Needs.{needs}
+use Rattle.loading.proofs.columns.read_replica.Statement.{statement}
+use Rattle.loading.proofs.columns.read_replica.Tie as tie
+
+slice-aggregate-read : tie.Need-slice-aggregate-read
+slice-aggregate-read c = search needs
+
+slice-aggregate-read-2 : tie.Need-slice-aggregate-read-2
+slice-aggregate-read-2 c = search needs
+
+slice-aggregate-read-3 : tie.Need-slice-aggregate-read-3
+slice-aggregate-read-3 c = search needs
+
+slice-aggregate-read-4 : tie.Need-slice-aggregate-read-4
+slice-aggregate-read-4 c = search needs
+
+slice-aggregate-read-5 : tie.Need-slice-aggregate-read-5
+slice-aggregate-read-5 c = search needs
+
+read-requires : tie.Need-read-requires
+read-requires c κs = (sym no-characters, (sym (pad-none 1024 0), (sym no-pending, (refl, refl))))
+
+enum-known-answer : tie.Need-enum-known-answer
+enum-known-answer c = search needs
+
+refuse-requires : tie.Need-refuse-requires
+refuse-requires c κs = search needs
+
+returns : tie.Need-returns
+returns c =
+    let z = c .before .before .before .before .before .before .before .before .before .read .ensures in
+    c .refuse .ensures ∙ read-refused _ _ (z .0 ∙ answer-read _ _) _ (c .before .before .answer .given .1)
+
+enum-told : tie.Need-enum-told
+enum-told c = search needs
+
+returns-2 : tie.Need-returns-2
+returns-2 c =
+    let z = c .before .before .before .before .before .before .before .before .read .ensures in
+    let h = c .before .enum-told .given .1 in
+    read-whole _ _ (z .0 ∙ answer-read _ _) h (z .1 .1 .1 .1 .1 .1 h)
+
+pub read-replica-spec : {M : Type 1} → statement M
+read-replica-spec =
+    tie.close
+    (tie.spec
+    slice-aggregate-read
+    slice-aggregate-read-2
+    slice-aggregate-read-3
+    slice-aggregate-read-4
+    slice-aggregate-read-5
+    read-requires
+    enum-known-answer
+    refuse-requires
+    returns
+    enum-told
+    returns-2)
