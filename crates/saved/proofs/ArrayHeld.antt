@@ -84,9 +84,9 @@ module _ (s : State) where
 
 pub held-form : HeldForm
 held-form s = (
-      form-so s,
-      λ h.
-          let w = formed-within (raised s) h in
-          let e = held-stored s (raised-fits s w) in
-          (e, ap meaning e ∙ meaning-stored (raised s) w),
-    )
+  form-so s,
+  λ h.
+      let w = formed-within (raised s) h in
+      let e = held-stored s (raised-fits s w) in
+      (e, ap meaning e ∙ meaning-stored (raised s) w),
+)
