@@ -18,8 +18,11 @@ use Rattle.index.proofs.Keys.{all-range-small}
 use Rattle.memory.proofs.Operations.{all-keyed}
 use Rattle.memory.proofs.Stored.{Storable}
 use Rattle.core_replica.proofs.Runs.{Within, formed-within, form-stored, meaning-stored}
-use Rattle.saved.specs.Arrays.{fitting, inArrays, held}
-use Rattle.saved.specs.ArrayTheorems.{HeldForm}
+use Rattle.saved.specs.Format.{stateAs, characterWithin, inRangeAs}
+use Rattle.saved.specs.Calls.{loadedAs}
+use Rattle.saved.specs.Arrays.{fitting, inArrays, held, savedRead}
+use Rattle.saved.specs.ArrayTheorems.{HeldForm, ReadForm}
+use Rattle.saved.proofs.ArrayRefusals.{read-done, read-well}
 
 -- the lists are within the arrays
 pub record Fits (s : State) : Type 0 where
@@ -90,3 +93,14 @@ held-form s = (
       let e = held-stored s (raised-fits s w) in
       (e, ap meaning e ∙ meaning-stored (raised s) w),
 )
+
+pub read-form : ReadForm
+unfolding loadedAs inRangeAs
+read-form v s h =
+    let w = read-well v s h in
+    let e : savedRead v s .replica ≡ held (stateAs v s) = ap (λ x. x .replica) (read-done v s (w .0) (w .1)) in
+    let ranged = and-right (every (characterWithin v) (stateAs v s .characters)) (allInRange (stateAs v s)) (w .1) in
+    let f = held-form (stateAs v s) in (
+      ap replicaWellFormed e ∙ f .0 ranged,
+      λ p. (e ∙ f .1 p .0, ap meaning e ∙ f .1 p .1),
+    )

@@ -22,10 +22,11 @@ use Rattle.codec.proofs.Refusals.{by-test}
 use Rattle.saved.specs.declared.LoadAnswer.{LoadAnswer}
 use Rattle.saved.specs.declared.LoadAnswer.the-variants.{Done, Refused}
 use Rattle.saved.specs.declared.columns.Loaded.{Loaded}
+use Rattle.saved.specs.declared.Version.{Version}
 use Rattle.saved.specs.declared.Version.the-variants.{Second}
-use Rattle.saved.specs.Format.{savedLaidOut, savedInRange}
-use Rattle.saved.specs.Calls.{loadedState, loadChecks, loadNumber}
-use Rattle.saved.specs.Arrays.{noReplica, unread, loaded, handedOver, loadValue, bytesOf, saveChecks, saved, savedOut}
+use Rattle.saved.specs.Format.{laidOutAs, stateAs, inRangeAs, savedLaidOut, savedInRange}
+use Rattle.saved.specs.Calls.{loadedState, loadChecks, readingChecks, loadNumber}
+use Rattle.saved.specs.Arrays.{noReplica, unread, loaded, held, savedRead, handedOver, loadValue, bytesOf, saveChecks, saved, savedOut}
 use Rattle.saved.specs.ArrayTheorems.{LoadRefuses, LoadNumbers, SaveRefuses, SaveNumbers}
 use Rattle.saved.proofs.Refusals.{bytes-some}
 
@@ -50,8 +51,33 @@ module _ (s : List ℕ) where
       unfolding loaded loadChecks decided
       load-done e = rw (l, i, e)
 
-never-done : (r : Refusal) → Done ≡ Refused r → ⊥
+pub never-done : (r : Refusal) → Done ≡ Refused r → ⊥
 never-done r e = let z : _≡_ {A = ℕ} 0 1 = cc in omega arith
+
+-- what is read before the form is checked, by its conditions
+module _ (v : Version) (s : List ℕ) where
+  pub read-lacks : laidOutAs v s ≡ false → savedRead v s ≡ unread (Refused Layout)
+  unfolding savedRead readingChecks decided
+  read-lacks e = rw e
+
+  module _ (l : laidOutAs v s ≡ true) where
+    pub read-out : inRangeAs v s ≡ false → savedRead v s ≡ unread (Refused Range)
+    unfolding savedRead readingChecks decided
+    read-out e = rw (l, e)
+
+    pub read-done : inRangeAs v s ≡ true → _≡_ {A = Loaded} (savedRead v s) (record { answer = Done; replica = held (stateAs v s) })
+    unfolding savedRead readingChecks decided
+    read-done e = rw (l, e)
+
+  -- what is not refused has the layout, and is in range
+  pub read-well : savedRead v s .answer ≡ Done → (laidOutAs v s ≡ true) × (inRangeAs v s ≡ true)
+  unfolding unread
+  read-well h = go (laidOutAs v s) (inRangeAs v s) refl refl
+    where
+      go : (b d : Bool) → laidOutAs v s ≡ b → inRangeAs v s ≡ d → (laidOutAs v s ≡ true) × (inRangeAs v s ≡ true)
+      go true true l i = (l, i)
+      go true false l i = absurd (never-done Range (sym h ∙ ap (λ y. y .answer) (read-out l i)))
+      go false d l i = absurd (never-done Layout (sym h ∙ ap (λ y. y .answer) (read-lacks l)))
 
 -- with a refusal stands the replica named for it
 refused-none : (m : Option LoadAnswer) (x : Loaded) (r : Refusal) → x .answer ≡ Done → decided unread m x .answer ≡ Refused r → decided unread m x .replica ≡ noReplica

@@ -18,10 +18,11 @@ use Rattle.woot.specs.Answers.{Reported}
 use Rattle.woot.specs.Writing.{writingChecks, writtenNumber, writtenLength}
 use Rattle.core_replica.specs.Tables.{Searches}
 use Rattle.saved.specs.declared.LoadAnswer.the-variants.{Done, Refused}
+use Rattle.saved.specs.declared.Version.{Version}
 use Rattle.saved.specs.declared.Version.the-variants.{Second}
 use Rattle.saved.specs.Format.{siteLine, savedLaidOut, savedInRange, savedBytes}
-use Rattle.saved.specs.Calls.{loadedState, needsRaising, loadChecks, loadNumber}
-use Rattle.saved.specs.Arrays.{noReplica, held, loaded, loadValue, bytesOf, saveChecks, saved, savedOut}
+use Rattle.saved.specs.Calls.{loadedAs, loadedState, needsRaising, loadChecks, loadNumber}
+use Rattle.saved.specs.Arrays.{noReplica, held, savedRead, loaded, loadValue, bytesOf, saveChecks, saved, savedOut}
 
 -- ---- round trips
 
@@ -49,15 +50,24 @@ RaisedWritesBack =
 abbrev pub LoadedFormed : Type 0
 LoadedFormed = (bytes : List ℕ) → loaded bytes .answer ≡ Done → wellFormed (meaning (loaded bytes .replica)) ≡ true
 
--- what is read before the form is checked: with its clock raised the replica of a state in range is in form exactly when
--- the state that loading makes is, and then it is that state as it is stored, and means it. Reading refuses a state out
--- of range before, since its numbers may be those of another
+-- what is read before the form is checked: with its clock raised the replica of a state in range is in form exactly
+-- when the state that loading makes is, and then it is that state as it is stored, and means it. The numbers of a state
+-- out of range may be those of another
 abbrev pub HeldForm : Type 0
 HeldForm =
     (s : State) →
     (allInRange s ≡ true → replicaWellFormed (held s) ≡ wellFormed (raised s))
     × (wellFormed (raised s) ≡ true →
     (held s ≡ stored (raised s)) × (meaning (held s) ≡ raised s))
+
+-- so it is with all that is read, in either form
+abbrev pub ReadForm : Type 0
+ReadForm =
+    (v : Version) (bytes : List ℕ) → savedRead v bytes .answer ≡ Done →
+    (replicaWellFormed (savedRead v bytes .replica) ≡ wellFormed (loadedAs v bytes))
+    × (wellFormed (loadedAs v bytes) ≡ true →
+    (savedRead v bytes .replica ≡ stored (loadedAs v bytes))
+    × (meaning (savedRead v bytes .replica) ≡ loadedAs v bytes))
 
 -- ---- document 02, Req 12: the table
 
