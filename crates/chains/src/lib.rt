@@ -1,5 +1,4 @@
 // The table of keys: looking up a key, whether a table agrees with its keys, and the table of given keys.
-use woot::Table;
 ghost use mathlib.Core.Path.{_≡_};
 ghost use Prim.Native.Nat.{_*_, _<_, _≤_};
 ghost use lib.ListN.{length, take, replicate};
@@ -143,16 +142,4 @@ pub fn enter_all(keys: &[u32], n: usize, heads: &mut [u16], links: &mut [u16])
         }
         i += 1;
     }
-}
-
-// The same as a value. A step of the calls and not a call, as above.
-pub fn table_of(keys: &[u32], n: usize) -> Table
-    requires { ⌜ n ≤ length (now keys) ⌝ }
-    requires { ⌜ n ≤ 1024 ⌝ }
-    ensures { λ r. ⌜ r ≡ tableOf (take n (now (keys .entry))) ⌝ }
-{
-    let mut heads = [0u16; 1024];
-    let mut links = [0u16; 2048];
-    enter_all(keys, n, &mut heads, &mut links);
-    Table { heads, links }
 }

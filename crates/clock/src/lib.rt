@@ -1,22 +1,17 @@
-// A site's clock, which follows the inserts that have its number: raised by one that is heard, and by all that a
-// document holds. (Document 02, Req 04.)
-pub mod keyed;
-
-use woot::Character;
+// A site's clock, which follows the inserts that have its number: raised by one that is heard, and by all whose keys
+// lie in lent arrays. (Document 02, Req 04.)
 use woot::Identifier;
 use woot::Insert;
 use woot::Operation;
-use woot::Pending;
-use woot::Replica;
 use woot::Site;
 ghost use mathlib.Core.Path.{_≡_};
-ghost use mathlib.Core.List.{[], _∷_, map};
-ghost use Prim.Native.Nat.{max};
-ghost use lib.ListN.{take};
-ghost use Rattle.woot.specs.Operations.{origin, inserts};
+ghost use mathlib.Core.List.{[], _∷_};
+ghost use Prim.Native.Nat.{max, _≤_};
+ghost use lib.ListN.{length, take};
+ghost use Rattle.woot.specs.Operations.{inserts};
 ghost use Rattle.woot.specs.Clock.{heard, heardAll};
-ghost use Rattle.clock.specs.Hearing.{heardId};
-ghost use Rattle.clock.specs.Raising.{raisedReplica};
+ghost use Rattle.woot.specs.Memory.{identifier};
+ghost use Rattle.clock.specs.Hearing.{heardId, heardKeys};
 
 // The larger of two clocks.
 fn larger(a: u16, b: u16) -> u16
@@ -56,50 +51,42 @@ pub fn heard_operation(site: Site, operation: Operation) -> Site
     }
 }
 
-// The site that has heard the inserts of the first n characters, of all where n is above the slots.
-pub fn heard_characters(site: Site, characters: [Character; 1024], n: usize) -> Site
-    ensures { λ r. ⌜ r ≡ heardAll site (map origin (take n characters)) ⌝ }
+// The site that has heard of the identifier with a key. The own key of a toggle, 0, raises nothing.
+pub fn heard_key(site: Site, key: u32) -> Site
+    ensures { λ r. ⌜ r ≡ heardId site (identifier key) ⌝ }
 {
-    let end = index::lesser(1024, n);
+    if key / 65536 != site.number as u32 {
+        return site;
+    }
+    Site {
+        number: site.number,
+        clock: larger(site.clock, (key % 65536) as u16),
+    }
+}
+
+// The site that has heard of the first n keys, one after another. A step of the calls and not a call: they lend an
+// array that has a slot for each key.
+pub fn heard_keys(site: Site, keys: &[u32], n: usize) -> Site
+    requires { ⌜ n ≤ length (now keys) ⌝ }
+    ensures { λ r. ⌜ r ≡ heardKeys site (take n (now (keys .entry))) ⌝ }
+{
     let mut raised = site;
     let mut i = 0;
-    while i < end {
-        let c = characters[i];
-        let id = c.id;
-        raised = heard_id(raised, id);
+    while i < n {
+        raised = heard_key(raised, keys[i]);
         i += 1;
     }
     raised
 }
 
-// The site that has heard the inserts among the first n pending operations, of all where n is above the slots.
-pub fn heard_pending(site: Site, pending: [Pending; 512], n: usize) -> Site
-    ensures { λ r. ⌜ r ≡ heardAll site (inserts (map (λ p. p .operation) (take n pending))) ⌝ }
+// The site that has heard of n characters and of w pending operations, as loading does. A step of the calls and not a
+// call, as above.
+pub fn raised<'a>(site: Site, ids: &'a [u32], n: usize, own: &'a [u32], w: usize) -> Site
+    requires { ⌜ n ≤ length (now ids) ⌝ }
+    requires { ⌜ w ≤ length (now own) ⌝ }
+    ensures { λ r. ⌜ r
+        ≡ heardKeys (heardKeys site (take n (now (ids .entry)))) (take w (now (own .entry))) ⌝ }
 {
-    let end = index::lesser(512, n);
-    let mut raised = site;
-    let mut i = 0;
-    while i < end {
-        let p = pending[i];
-        let o = p.operation;
-        raised = heard_operation(raised, o);
-        i += 1;
-    }
-    raised
-}
-
-// The replica with its clock raised over all that it holds, as loading does. Takes any replica: a count above its array
-// is taken as all of it.
-pub fn raised(replica: Replica) -> Replica
-    ensures { λ r. ⌜ r ≡ raisedReplica replica ⌝ }
-{
-    let site = replica.site;
-    let document = replica.document;
-    let characters = document.characters;
-    let pending = document.pending;
-    let middle = heard_characters(site, characters, document.length);
-    Replica {
-        site: heard_pending(middle, pending, document.waiting),
-        document,
-    }
+    let middle = heard_keys(site, ids, n);
+    heard_keys(middle, own, w)
 }

@@ -8,7 +8,8 @@ use lib.ListN.{length, drop-of-length-le}
 use Rattle.woot.specs.declared.Operation.{Operation}
 use Rattle.woot.specs.declared.Answer.{Answer}
 use Rattle.woot.specs.declared.Answer.the-variants.{Done, Deferred, Duplicate, Refused}
-use Rattle.woot.specs.State.{State, initial, stored}
+use Rattle.woot.specs.State.{State, initial}
+use Rattle.woot.specs.Memory.{stored}
 use Rattle.woot.specs.Form.{wellFormed}
 use Rattle.woot.specs.Answers.{changes, reply}
 use Rattle.woot.specs.Calls.{Outcome, unchanged, allIntegrated}
@@ -40,7 +41,7 @@ Steps s p c = Step s (stepOn p c .copy) (stepOn p c .carried)
 
 pub says : {s : State} {p : Copy} → Holds s p → stateOf p ≡ s
 unfolding stateOf initial stateAs siteSaid siteOf valuesOf headLine characterLines operationLines
-says (memory s w) = meaning-stored s
+says (memory s w) = meaning-stored s w
 says (bytes s h) = says-back Second s h (second-says s)
 says nothing = refl
 

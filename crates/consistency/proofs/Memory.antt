@@ -12,12 +12,13 @@ use Rattle.woot.specs.declared.Answer.the-variants.{Done, Deferred, Duplicate, 
 use Rattle.woot.specs.declared.Sent.{Sent}
 use Rattle.woot.specs.declared.Sent.the-variants.{Done as sentDone, Refused as sentRefused}
 use Rattle.woot.specs.Ranges.{inRange}
-use Rattle.woot.specs.State.{State, stored}
+use Rattle.woot.specs.State.{State}
+use Rattle.woot.specs.Memory.{stored}
 use Rattle.woot.specs.Answers.{reply, changes, answerOf}
 use Rattle.woot.specs.Calls.{receive, localInsert, localDelete, localRestore}
 use Rattle.woot.specs.Cursor.{receiveAt}
 use Rattle.woot.specs.Histories.{inserting, deleting, restoring, receiving, receivingAt, outcome, Call as RuleCall}
-use Rattle.storage.specs.Replicas.{afterAnswer, afterSent, receipt, moved, generated, received, receivedAt, inserted, deleted, restored}
+use Rattle.woot.specs.Replicas.{afterAnswer, afterSent, receipt, moved, generated, received, receivedAt, inserted, deleted, restored}
 use Rattle.replica.specs.Theorems.{called, answerTo}
 use Rattle.replica.proofs.Runs.{Within, formed-within, meaning-stored, form-stored}
 use Rattle.lent.specs.Lent.{returned}
@@ -34,23 +35,23 @@ use Rattle.consistency.proofs.Saving.{Saving, fits, refuses, saving}
 module _ (s : State) (w : Within s) where
   pub received-stored : (o : Operation) → received (stored s) o ≡ receipt (stored s) (receive s o)
   unfolding received receive
-  received-stored o = rw (form-stored s w, meaning-stored s)
+  received-stored o = rw (form-stored s w, meaning-stored s w)
 
   pub received-at-stored : (o : Operation) (g : ℕ) → receivedAt (stored s) o g ≡ moved (stored s) g (receiveAt s o g)
   unfolding receivedAt receiveAt
-  received-at-stored o g = rw (form-stored s w, meaning-stored s)
+  received-at-stored o g = rw (form-stored s w, meaning-stored s w)
 
   pub inserted-stored : (g n : ℕ) → inserted (stored s) g n ≡ generated (stored s) (localInsert s g n)
   unfolding inserted localInsert
-  inserted-stored g n = rw (form-stored s w, meaning-stored s)
+  inserted-stored g n = rw (form-stored s w, meaning-stored s w)
 
   pub deleted-stored : (p : ℕ) → deleted (stored s) p ≡ generated (stored s) (localDelete s p)
   unfolding deleted localDelete
-  deleted-stored p = rw (form-stored s w, meaning-stored s)
+  deleted-stored p = rw (form-stored s w, meaning-stored s w)
 
   pub restored-stored : (x : Identifier) → restored (stored s) x ≡ generated (stored s) (localRestore s x)
   unfolding restored localRestore
-  restored-stored x = rw (form-stored s w, meaning-stored s)
+  restored-stored x = rw (form-stored s w, meaning-stored s w)
 
 -- the replica depends on the answer alone, whatever was sent
 sent-answer : (r : Replica) (s : State) (a : Sent) → afterSent r s a ≡ afterAnswer r s (answerOf a)
@@ -101,7 +102,7 @@ module _ (s : State) (w : Within s) where
   unfolding stepOn onMemory
   replica-step c =
       let d = called-stored c in
-      rw (d .0, d .1, meaning-stored s) (answered-step c (outcome s c .answer) refl)
+      rw (d .0, d .1, meaning-stored s w) (answered-step c (outcome s c .answer) refl)
 
   -- the lent record and the document together are what the call returns
   record-step : (g n : ℕ) → Steps s (inMemory (stored s)) (memoryCall (onRecord g n))

@@ -8,7 +8,8 @@ use lib.ListN.{length, take}
 use Rattle.woot.specs.declared.Refusal.{Refusal}
 use Rattle.woot.specs.declared.Refusal.the-variants.{Output}
 use Rattle.woot.specs.declared.Written.the-variants.{Length, Refused}
-use Rattle.woot.specs.State.{State, stored}
+use Rattle.woot.specs.State.{State}
+use Rattle.woot.specs.Memory.{stored}
 use Rattle.woot.specs.Form.{wellFormed}
 use Rattle.lists.proofs.Tests.{side}
 use Rattle.convergence.proofs.Writing.{too-short, has-room}
@@ -35,4 +36,4 @@ saving s w out = go (wellFormed s) refl (side (length (bytesOf (stored s))) (len
         let d = formed (stored s) out (form-stored s w ∙ e) in
         let t = has-room [] bytes out refl room in
         fits {n = length bytes} e (sym (d .0) ∙ t .0)
-        (ap (take (length bytes)) (sym (d .1) ∙ t .1) ∙ front out bytes room ∙ ap savedBytes (meaning-stored s))
+        (ap (take (length bytes)) (sym (d .1) ∙ t .1) ∙ front out bytes room ∙ ap savedBytes (meaning-stored s w))

@@ -14,7 +14,7 @@ use Rattle.woot.specs.declared.Character.{Character}
 use Rattle.woot.specs.Limits.{lastSite, lastClock, share}
 use Rattle.woot.specs.Operations.{sender}
 use Rattle.woot.specs.Ranges.{within, siteNumber, characterId, toggleInRange, inRange}
-use Rattle.woot.specs.State.{pendingSlots}
+use Rattle.woot.specs.Memory.{pendingSlots}
 use Rattle.woot.specs.Pending.{sentBy, pendingFrom}
 use Rattle.woot.specs.Form.{countdown}
 use Rattle.convergence.specs.Theorems.{PendingFit}

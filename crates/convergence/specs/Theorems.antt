@@ -22,7 +22,8 @@ use Rattle.output.specs.Output.{placed}
 use Rattle.woot.specs.Identifiers.{same}
 use Rattle.woot.specs.Operations.{sender, origin, withToggles, inserts}
 use Rattle.woot.specs.Ranges.{siteNumber, inRange}
-use Rattle.woot.specs.State.{State, initial, pendingSlots}
+use Rattle.woot.specs.State.{State, initial}
+use Rattle.woot.specs.Memory.{pendingSlots}
 use Rattle.woot.specs.Placing.{identifiers, above, Interval, adjacent, candidates, narrowed, position}
 use Rattle.woot.specs.Pending.{executable, crossed, unplaceable, integrate, sentBy, Extracted, earliest, Drained, andIntegrated, andDiscarded, drained, drain}
 use Rattle.woot.specs.Form.{wellFormed}

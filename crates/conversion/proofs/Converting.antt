@@ -1,45 +1,33 @@
 -- What was read decides, in the order of the conditions; in form, the replica that was read means the state that is written.
 use mathlib.Core.Path.{_≡_, sym, ap, _∙_}
 use mathlib.Core.List.{List, [], map}
-use mathlib.Core.Bool.{Bool, true, false, _&&_}
+use mathlib.Core.Bool.{Bool, true, false}
 use mathlib.Core.Logic.{⊎-elim}
-use Prim.Native.Nat.{ℕ, min}
-use lib.ListN.{length, take}
-use Rattle.lists.specs.Lists.{every}
-use Rattle.lists.proofs.Padding.{take-lesser}
-use Rattle.woot.specs.declared.Replica.{Replica}
+use Prim.Native.Nat.{ℕ}
 use Rattle.woot.specs.declared.Refusal.{Refusal}
 use Rattle.woot.specs.declared.Refusal.the-variants.{Form, Unrepresentable}
 use Rattle.woot.specs.declared.Written.the-variants.{Refused as writtenRefused}
-use Rattle.woot.specs.State.{characterSlots, pendingSlots, meaning}
-use Rattle.woot.specs.Form.{wellFormed, replicaWellFormed}
+use Rattle.woot.specs.Memory.{meaning, replicaWellFormed, toggleCounts, ownKey, valueOf}
+use Rattle.woot.specs.Form.{wellFormed}
 use Rattle.woot.specs.Writing.{writtenAs, outputAfter}
 use Rattle.saved.specs.declared.LoadAnswer.the-variants.{Done, Refused}
 use Rattle.saved.specs.declared.Loaded.{Loaded}
 use Rattle.saved.specs.declared.Version.{Version}
-use Rattle.saved.specs.declared.Version.the-variants.{First}
-use Rattle.saved.specs.Format.{characterWithin, operationWithin, representable, bytesAs}
+use Rattle.saved.specs.Format.{representable, bytesAs}
 use Rattle.saved.specs.Calls.{loadedAs, savedRead}
 use Rattle.saved.specs.Conversion.{converted, convertedOut}
 use Rattle.saved.proofs.Conversions.{lacks-layout, out-of-range, out-of-form, not-said, said}
-use Rattle.loading.proofs.Loading.{refused-for, both, form-is, means-so}
-
--- ---- what the first form can say, of arrays and counts that may be above them
-
-module _ (r : Replica) (full : length (r .document .characters) ≡ characterSlots) (full′ : length (r .document .pending) ≡ pendingSlots)
-    {n w : ℕ} (cut : n ≡ min characterSlots (r .document .length)) (cut′ : w ≡ min pendingSlots (r .document .waiting)) where
-  by-parts : every (characterWithin First) (take n (r .document .characters)) && every (operationWithin First) (map (λ p. p .operation) (take w (r .document .pending)))
-      ≡ representable First (meaning r)
-  unfolding representable meaning
-  by-parts =
-      rw (cut, cut′, take-lesser characterSlots (r .document .length) (r .document .characters) full, take-lesser pendingSlots (r .document .waiting) (r .document .pending) full′)
-
-  module _ {b : Bool} (e : b ≡ every (characterWithin First) (take n (r .document .characters))) where
-    pub rows-fail : b ≡ false → false ≡ representable First (meaning r)
-    rows-fail f = rw (sym e ∙ f) at by-parts
-
-    pub rows-pass : b ≡ true → {d : Bool} → d ≡ every (operationWithin First) (map (λ p. p .operation) (take w (r .document .pending))) → d ≡ representable First (meaning r)
-    rows-pass f q = q ∙ rw (sym e ∙ f) at by-parts
+use Rattle.loading.proofs.Forming.{refused-for, both, form-is, means-so}
+use lib.ListN.{take}
+use Rattle.lists.specs.Lists.{every}
+use Rattle.woot.specs.declared.Replica.{Replica}
+use Rattle.woot.specs.State.{State}
+use Rattle.woot.specs.Ranges.{inRange}
+use Rattle.memory.specs.Lent.{viewed}
+use Rattle.memory.proofs.Views.{meaning-view}
+use Rattle.well_formed.specs.Examined.{Examined}
+use Rattle.well_formed.proofs.Examining.{form, toggles-used, own-used, values-used}
+use Rattle.memory.specs.Columns as columns
 
 -- ---- by what was read
 
@@ -77,3 +65,16 @@ module _ (v w : Version) (s out : List ℕ) where
             let b = both v s x e h in
             let m = means-so v s x e h p in
             rw m (said v w s out (b .0) (b .1) formed (ap (representable w) (sym m) ∙ r))
+
+-- ---- by the arrays
+
+-- what is said of them is said of the replica
+pub told-representable : (r : Replica) → Examined (viewed r) → (v : Version) {b : Bool}
+    → ((s : State) → toggleCounts (s .characters) ≡ take (r .document .length) (r .document .toggles)
+    → map ownKey (s .pending) ≡ take (r .document .waiting) (viewed r .document .own)
+    → map valueOf (s .pending) ≡ take (r .document .waiting) (viewed r .document .values)
+    → every inRange (s .pending) ≡ true → b ≡ representable v s)
+    → b ≡ representable v (meaning r)
+told-representable r x v said =
+    said (columns.meaning (viewed r)) (sym (toggles-used (viewed r) x)) (sym (own-used (viewed r) x)) (sym (values-used (viewed r) x)) (form (viewed r) x .sound .pending-ranges)
+    ∙ ap (representable v) (sym (meaning-view r))

@@ -16,7 +16,7 @@ use Rattle.woot.specs.declared.Character.{Character}
 use Rattle.woot.specs.declared.Operation.{Operation}
 use Rattle.woot.specs.declared.Operation.the-variants.{Insert as insert, Toggle as toggle}
 use Rattle.woot.specs.Ranges.{inRange}
-use Rattle.woot.specs.State.{State, blankPending}
+use Rattle.woot.specs.State.{State, blankOperation}
 use Rattle.woot.specs.Table.{key}
 use Rattle.woot.specs.Memory.{toggleCounts, ownKey, valueOf}
 use Rattle.memory.proofs.Operations.{Keyed, all-keyed}
@@ -45,7 +45,7 @@ pending-said ps os vs w h e f ranged =
     every-throughout (operationWithin First) ps blank ∙ ap (throughout _) many ∙ throughout-cong _ _ w at
   where
     blank : Operation
-    blank = blankPending .operation
+    blank = blankOperation
 
     many : length ps ≡ w
     many = sym (length-map ps ownKey) ∙ ap length e ∙ length-take-le w os h

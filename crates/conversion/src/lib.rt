@@ -1,42 +1,30 @@
 // Saved replicas from one form to the other: the way forward reads the first form, and the way back writes it.
-pub mod columns;
-
+use replica::looks;
 use saved::LoadAnswer;
 use saved::Version;
-use woot::Character;
-use woot::Operation;
-use woot::Pending;
 use woot::Refusal;
-use woot::Replica;
 use woot::Written;
 ghost use mathlib.Core.Path.{_≡_};
+ghost use mathlib.Core.Bool.{true};
 ghost use mathlib.Core.List.{map};
 ghost use Prim.Native.Nat.{_≤_};
-ghost use lib.ListN.{take};
-ghost use Rattle.lists.specs.Lists.{every};
-ghost use Rattle.woot.specs.State.{meaning};
-ghost use Rattle.saved.specs.Format.{characterWithin, operationWithin, representable};
+ghost use lib.ListN.{length, take, getD};
+ghost use Rattle.lists.specs.Lists.{every, throughout};
+ghost use Rattle.woot.specs.Ranges.{inRange};
+ghost use Rattle.woot.specs.State.{State};
+ghost use Rattle.woot.specs.Memory.{column, toggleCounts, ownKey, valueOf};
+ghost use Rattle.saved.specs.Format.{representable};
 ghost use Rattle.saved.specs.Conversion.{converted, convertedOut, upgraded, upgradedOut, downgraded, downgradedOut};
+ghost use Rattle.conversion.specs.Columns.{countWithin, numbersWithin};
 
-// Whether the first form can say an operation: it has no count of toggles.
-fn operation_within(operation: Operation) -> bool
-    ensures { λ r. ⌜ r ≡ operationWithin Version.First operation ⌝ }
-{
-    match operation {
-        Operation::Insert(_) => true,
-        Operation::Toggle(t) => t.toggles <= 1,
-    }
-}
-
-// Whether the first form can say the first n characters.
-fn characters_within(characters: [Character; 1024], n: usize) -> bool
-    requires { ⌜ n ≤ 1024 ⌝ }
-    ensures { λ r. ⌜ r ≡ every (characterWithin Version.First) (take n characters) ⌝ }
+// Whether no count of the first n is above 1.
+fn characters_within(toggles: &[u8], n: usize) -> bool
+    requires { ⌜ n ≤ length (now toggles) ⌝ }
+    ensures { λ r. ⌜ r ≡ throughout (λ i. countWithin (getD (now (toggles .entry)) i 0)) n ⌝ }
 {
     let mut i = 0;
     while i < n {
-        let c = characters[i];
-        if 1 < c.toggles {
+        if 1 < toggles[i] {
             return false;
         }
         i += 1;
@@ -44,42 +32,68 @@ fn characters_within(characters: [Character; 1024], n: usize) -> bool
     true
 }
 
-// Whether the first form can say the first n pending operations.
-fn pending_within(pending: [Pending; 512], n: usize) -> bool
-    requires { ⌜ n ≤ 512 ⌝ }
-    ensures { λ r. ⌜ r ≡ every (operationWithin Version.First) (map (λ p. p .operation) (take n pending)) ⌝ }
+// Whether the first form can say the pending operation with an own key and a value: a toggle's count is the value's low
+// eight bits.
+fn operation_within(own: u32, value: u32) -> bool
+    ensures { λ r. ⌜ r ≡ numbersWithin own value ⌝ }
 {
-    let mut i = 0;
-    while i < n {
-        let p = pending[i];
-        let o = p.operation;
-        if !operation_within(o) {
+    if own != 0 {
+        return true;
+    }
+    value % 256 <= 1
+}
+
+// Whether it can say each of the first w.
+fn pending_within<'a>(own: &'a [u32], values: &'a [u32], w: usize) -> bool
+    requires { ⌜ w ≤ length (now own) ⌝ }
+    requires { ⌜ w ≤ length (now values) ⌝ }
+    ensures { λ r. ⌜ r
+        ≡ throughout (λ j. numbersWithin (getD (now (own .entry)) j 0) (getD (now (values .entry)) j 0)) w ⌝ }
+{
+    let mut j = 0;
+    while j < w {
+        if !operation_within(own[j], values[j]) {
             return false;
         }
-        i += 1;
+        j += 1;
     }
     true
 }
 
-// Whether the first form can say a replica, of what its arrays hold.
-fn within_first(replica: Replica) -> bool
-    ensures { λ r. ⌜ r ≡ representable Version.First (meaning replica) ⌝ }
+// Whether the first form can say a document: it has no count of toggles above 1.
+fn within_first<'a>(toggles: &'a [u8], n: usize, pending: &'a [u32], w: usize) -> bool
+    requires { ⌜ n ≤ length (now toggles) ⌝ }
+    requires { ⌜ length (now pending) ≡ 2048 ⌝ }
+    requires { ⌜ w ≤ 512 ⌝ }
+    ensures { λ r. ⌜ ((s : State) → toggleCounts (s .characters) ≡ take n (now (toggles .entry))
+        → map ownKey (s .pending) ≡ take w (column 512 0 (now (pending .entry)))
+        → map valueOf (s .pending) ≡ take w (column 512 3 (now (pending .entry)))
+        → every inRange (s .pending) ≡ true → r ≡ representable Version.First s) ⌝ }
 {
-    let d = replica.document;
-    let cs = d.characters;
-    if !characters_within(cs, index::lesser(1024, d.length)) {
+    if !characters_within(toggles, n) {
         return false;
     }
-    let ps = d.pending;
-    pending_within(ps, index::lesser(512, d.waiting))
+    pending_within(&pending[..512], &pending[1536..2048], w)
 }
 
-// Whether a form can say a replica.
-fn is_representable(version: Version, replica: Replica) -> bool
-    ensures { λ r. ⌜ r ≡ representable version (meaning replica) ⌝ }
+// Whether a form can say a document, of its lent arrays.
+fn is_representable<'a>(
+    version: Version,
+    toggles: &'a [u8],
+    n: usize,
+    pending: &'a [u32],
+    w: usize,
+) -> bool
+    requires { ⌜ n ≤ length (now toggles) ⌝ }
+    requires { ⌜ length (now pending) ≡ 2048 ⌝ }
+    requires { ⌜ w ≤ 512 ⌝ }
+    ensures { λ r. ⌜ ((s : State) → toggleCounts (s .characters) ≡ take n (now (toggles .entry))
+        → map ownKey (s .pending) ≡ take w (column 512 0 (now (pending .entry)))
+        → map valueOf (s .pending) ≡ take w (column 512 3 (now (pending .entry)))
+        → every inRange (s .pending) ≡ true → r ≡ representable version s) ⌝ }
 {
     match version {
-        Version::First => within_first(replica),
+        Version::First => within_first(toggles, n, pending, w),
         Version::Second => true,
     }
 }
@@ -95,13 +109,37 @@ fn convert(from: Version, to: Version, bytes: &[u8], out: &mut [u8]) -> Written
         return Written::Refused(reason);
     }
     let replica = found.replica;
-    if !replica::well_formed(replica) {
+    if !looks::check(
+        replica.site,
+        &replica.document.characters,
+        &replica.document.toggles,
+        replica.document.length,
+        &replica.document.pending,
+        replica.document.waiting,
+        &replica.document.table.heads,
+        &replica.document.table.links,
+    ) {
         return Written::Refused(Refusal::Form);
     }
-    if !is_representable(to, replica) {
+    if !is_representable(
+        to,
+        &replica.document.toggles,
+        replica.document.length,
+        &replica.document.pending,
+        replica.document.waiting,
+    ) {
         return Written::Refused(Refusal::Unrepresentable);
     }
-    saving::put(to, replica, out)
+    saving::put(
+        to,
+        replica.site,
+        &replica.document.characters,
+        &replica.document.toggles,
+        replica.document.length,
+        &replica.document.pending,
+        replica.document.waiting,
+        out,
+    )
 }
 
 // Writes in the second form what is saved in the first, its clock raised as in loading.

@@ -1,30 +1,29 @@
 -- The counts of a replica in form: each is the length of a list that is meant, and what it knows is within the capacity.
-use Prim.Native.Nat.{ℕ, _+_, _-_, _≤_}
+use Prim.Native.Nat.{_≤_}
 use native.Mathlib.Omega.{arith}
-use mathlib.Core.Path.{_≡_}
-use mathlib.Core.Bool.{true, false, not}
-use lib.Dec.{eqb}
+use mathlib.Core.Path.{_≡_, sym}
+use mathlib.Core.Bool.{true, false}
 use lib.ListN.{length, take}
-use Rattle.lists.specs.Lists.{keep}
+use lib.Seq.{take-take}
 use Rattle.woot.specs.declared.Replica.{Replica}
 use Rattle.woot.specs.declared.Refusal.the-variants.{Form}
-use Rattle.woot.specs.declared.Answer.the-variants.{Done, Refused}
+use Rattle.woot.specs.declared.Answer.the-variants.{Refused}
 use Rattle.woot.specs.Limits.{capacity}
 use Rattle.woot.specs.Operations.{inserts}
-use Rattle.woot.specs.State.{State, meaning}
-use Rattle.woot.specs.Form.{presentInserts, wellFormed, replicaWellFormed}
+use Rattle.woot.specs.State.{State}
+use Rattle.woot.specs.Memory.{meaning, replicaWellFormed}
+use Rattle.woot.specs.Form.{presentInserts, wellFormed}
 use Rattle.woot.specs.Answers.{decided}
-use Rattle.woot.specs.Calls.{visibles}
 use Rattle.convergence.proofs.Forms.{formed, known-length}
-use Rattle.storage.proofs.Fullness.{FullDocument}
-use Rattle.storage.proofs.Stored.{form-meant, character-count, pending-count}
-use Rattle.pending.specs.declared.queue.Queue.{Queue}
-use Rattle.pending.specs.Queue.{queueOf}
+use Rattle.memory.specs.Columns as columns
+use Rattle.memory.specs.Lent.{viewed}
+use Rattle.memory.proofs.Views.{meaning-view}
 use Rattle.pending.proofs.Pending.{count-own}
-use Rattle.well_formed.proofs.Examining.{few, keyed, own-used}
-use Rattle.results.specs.Results.{result, silent}
+use Rattle.well_formed.specs.Examined.{Examined}
+use Rattle.well_formed.proofs.Examining.{few, form, keyed, characters-counted, pending-counted, own-used}
+use Rattle.results.specs.Results.{silent}
 use Rattle.counts.specs.Counts.{countsOf}
-use Rattle.counts.specs.Steps.{countsLeft}
+use Rattle.counts.specs.Steps.{heldBy, countsIn, countsLeft}
 
 pub known-few : (s : State) → wellFormed s ≡ true → length (presentInserts s) ≤ capacity
 known-few s h = omega (arith, known-length s, formed s h .sound .room)
@@ -38,20 +37,21 @@ module _ (r : Replica) where
   unfolding countsLeft decided
   counts-formed f = rw f
 
-  module _ (f : replicaWellFormed r ≡ true) (full : FullDocument (r .document)) where
-    -- the characters and the inserts among the numbers are all that it knows
-    module _ (q : Queue) (e : q ≡ queueOf (meaning r .pending)) {k : ℕ}
-        (counted : k ≡ length (keep (λ k. not (eqb k 0)) (take (r .document .waiting) (q .own)))) where
-      pub held-known : r .document .length + k ≡ length (presentInserts (meaning r))
-      held-known =
-          let waiting : k ≡ length (inserts (meaning r .pending)) = rw (counted, own-used r f full q e) (count-own (meaning r .pending) (keyed r f)) in
-          omega (arith, character-count r full (few r f), known-length (meaning r))
+  -- the characters and the inserts among the keys are all that it knows
+  module _ (x : Examined (viewed r)) where
+    -- the column of their own keys is the first
+    own-taken : take (r .document .waiting) (r .document .pending) ≡ take (r .document .waiting) (viewed r .document .own)
+    own-taken = sym (take-take (r .document .waiting) 512 (r .document .pending) (few (viewed r) x .pending))
 
-      pub held-few : r .document .length + k ≤ capacity
-      held-few = omega (arith, held-known, known-few (meaning r) (form-meant r f))
+    held-known : heldBy (r .document .length) (take (r .document .waiting) (r .document .pending)) ≡ length (presentInserts (columns.meaning (viewed r)))
+    held-known =
+        rw (own-taken, own-used (viewed r) x, count-own (columns.meaning (viewed r) .pending) (keyed (viewed r) x))
+        (omega (arith, characters-counted (viewed r) x, known-length (columns.meaning (viewed r))))
 
-      pub counts-told : {shown : ℕ} → shown ≡ length (visibles (meaning r .characters))
-          → result (Done shown (r .document .waiting)) (r .document .length) (capacity - (r .document .length + k)) ≡ countsOf (meaning r)
-      unfolding countsOf
-      counts-told h =
-          rw (h, held-known, character-count r full (few r f), pending-count r full (few r f))
+    pub held-few : heldBy (r .document .length) (take (r .document .waiting) (r .document .pending)) ≤ 1024
+    held-few = omega (arith, held-known, known-length (columns.meaning (viewed r)), form (viewed r) x .sound .room)
+
+    pub counts-told : countsIn (columns.meaning (viewed r) .characters) (r .document .length) (take (r .document .waiting) (r .document .pending)) (r .document .waiting)
+        ≡ countsOf (meaning r)
+    unfolding countsIn countsOf
+    counts-told = rw (meaning-view r, held-known, characters-counted (viewed r) x, pending-counted (viewed r) x)

@@ -1,45 +1,31 @@
 // How much a replica holds, as the number that a call for C returns: its visible characters, its pending operations,
 // all its characters, and how many more it has room for.
-use pending::queue;
-use pending::queue::Queue;
+use pending::counts;
+use replica::looks;
 use woot::Answer;
 use woot::Refusal;
 use woot::Replica;
 ghost use mathlib.Core.Path.{_≡_};
-ghost use mathlib.Core.Bool.{true, not};
-ghost use lib.Dec.{eqb};
+ghost use mathlib.Core.List.{List};
+ghost use Prim.Native.Nat.{_≤_};
 ghost use lib.ListN.{length, take};
-ghost use Rattle.lists.specs.Lists.{keep};
-ghost use Rattle.woot.specs.State.{meaning};
-ghost use Rattle.woot.specs.Form.{replicaWellFormed};
-ghost use Rattle.pending.specs.Queue.{queueOf};
+ghost use Rattle.woot.specs.declared.Character.{Character};
+ghost use Rattle.woot.specs.Memory.{toggleCounts};
 ghost use Rattle.results.specs.Results.{numberOf};
-ghost use Rattle.counts.specs.Counts.{countsOf};
-ghost use Rattle.counts.specs.Steps.{countsLeft};
+ghost use Rattle.counts.specs.Steps.{heldBy, countsIn, countsLeft};
 
-// How many of the first w pending operations are inserts.
-fn inserts_among(queue: Queue, w: usize) -> usize
-    ensures { λ r. ⌜ r ≡ length (keep (λ k. not (eqb k 0)) (take w (queue .own))) ⌝ }
+// The counts of a replica whose characters have these toggles, and its first w pending operations these keys of their
+// own, 0 of a toggle. A pending insert has its place kept, so the room is what is left beside it.
+fn counts_of<'a>(toggles: &'a [u8], n: usize, own: &'a [u32], w: usize) -> u64
+    requires { ⌜ n ≤ length (now toggles) ⌝ }
+    requires { ⌜ w ≤ length (now own) ⌝ }
+    requires { ⌜ heldBy n (take w (now own)) ≤ 1024 ⌝ }
+    ensures { λ r. ⌜ ((cs : List Character) → toggleCounts cs ≡ take n (now (toggles .entry))
+        → r ≡ numberOf (countsIn cs n (take w (now (own .entry))) w)) ⌝ }
 {
-    let own = queue.own;
-    let end = index::lesser(w, 512);
-    queue::count_inserts(&own[..end])
-}
-
-// The counts of a replica that is well formed, whose pending operations are packed. A pending insert has its place
-// kept, so the room is what is left beside it.
-fn counts_of(replica: Replica, queue: Queue) -> u64
-    requires { ⌜ replicaWellFormed replica ≡ true ⌝ }
-    requires { ⌜ queue ≡ queueOf (meaning replica .pending) ⌝ }
-    ensures { λ r. ⌜ r ≡ numberOf (countsOf (meaning replica)) ⌝ }
-{
-    let d = replica.document;
-    let characters = d.characters;
-    let n = d.length;
-    let w = d.waiting;
-    let held = n + inserts_among(queue, w);
+    let held = n + counts::count_inserts(&own[..w]);
     let room = 1024 - held;
-    let shown = visible::count(characters, n);
+    let shown = visible::count(toggles, n);
     let counts = Answer::Done {
         integrated: shown,
         discarded: w,
@@ -51,10 +37,22 @@ fn counts_of(replica: Replica, queue: Queue) -> u64
 pub fn count(replica: Replica) -> u64
     ensures { λ r. ⌜ r ≡ numberOf (countsLeft replica) ⌝ }
 {
-    let checked = well_formed::check(replica);
-    if !checked.formed {
+    if !looks::check(
+        replica.site,
+        &replica.document.characters,
+        &replica.document.toggles,
+        replica.document.length,
+        &replica.document.pending,
+        replica.document.waiting,
+        &replica.document.table.heads,
+        &replica.document.table.links,
+    ) {
         return results::refused(Refusal::Form);
     }
-    let queue = checked.queue;
-    counts_of(replica, queue)
+    counts_of(
+        &replica.document.toggles,
+        replica.document.length,
+        &replica.document.pending,
+        replica.document.waiting,
+    )
 }

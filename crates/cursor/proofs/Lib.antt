@@ -1,7 +1,5 @@
 pub mod Signed
 pub mod Answering
-pub mod Anchors
-pub mod Counting
+pub mod Slots
 pub mod Receiving
 pub mod Moving
-pub mod Slots

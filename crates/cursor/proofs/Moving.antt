@@ -1,61 +1,39 @@
 -- The promises on replicas: one in form is received on by the rules, and on any other nothing is changed.
 use Prim.Native.Nat.{ℕ, _-_, _%_, _≤_}
 use native.Mathlib.Omega.{arith}
-use mathlib.Core.Path.{_≡_, refl, ap, sym, _∙_, subst}
-use mathlib.Core.Bool.{Bool, true, false}
+use mathlib.Core.Path.{_≡_, refl, ap, sym, subst}
+use mathlib.Core.Bool.{true, false}
 use mathlib.Core.List.{List}
 use mathlib.Core.Logic.{⊎-elim}
-use mathlib.Core.Option.{Option, none, some}
 use lib.Dec.{leb→le}
 use lib.IntN.{ℤ, pos, negsuc}
 use lib.Signed.{_≤ℤ_}
-use borrow.Author.Tests.{lt-ltb, not-false}
+use borrow.Author.Tests.{lt-ltb}
 use Rattle.woot.specs.declared.Character.{Character}
 use Rattle.woot.specs.declared.Operation.{Operation}
 use Rattle.woot.specs.declared.Replica.{Replica}
 use Rattle.woot.specs.declared.Moved.{Moved}
-use Rattle.woot.specs.declared.Answer.{Answer}
-use Rattle.woot.specs.State.{State, meaning}
-use Rattle.woot.specs.Form.{replicaWellFormed}
-use Rattle.woot.specs.Answers.{changes, first, decided}
-use Rattle.woot.specs.Calls.{unchanged, accept}
-use Rattle.woot.specs.Cursor.{leftOf, nearest, cursorAfter, receiveAtChecks, receiveAtWhen, receiveAt, newGap, shiftAt, lastNumber, movedBy}
-use Rattle.storage.specs.Replicas.{moved, receivedAt}
-use Rattle.storage.proofs.Stored.{form-meant}
+use Rattle.woot.specs.State.{State}
+use Rattle.woot.specs.Memory.{meaning}
+use Rattle.woot.specs.Answers.{changes}
+use Rattle.woot.specs.Cursor.{leftOf, nearest, cursorAfter, receiveAt, newGap, shiftAt, lastNumber, movedBy}
+use Rattle.woot.specs.Replicas.{moved, receivedAt}
 use Rattle.lists.proofs.Tests.{either, clash}
-use Rattle.convergence.proofs.Steps.{first-none, first-some, Turned, receive-at-turned}
-use Rattle.convergence.proofs.Cursors.{turned-still, cursor-keeps, cursor-hidden, shift-bounds, shift-adds, moved-to-new-gap}
+use Rattle.convergence.proofs.Cursors.{cursor-keeps, cursor-hidden, shift-bounds, shift-adds, moved-to-new-gap}
 use Rattle.convergence.proofs.Through.{left-shown}
 use Rattle.convergence.specs.Cursors.{shown, NearestAbove}
-use Rattle.replica.proofs.Runs.{meaning-stored}
 use Rattle.cursor.specs.Bits.{shiftBits, shiftRead}
 use Rattle.cursor.specs.Theorems.{ReplicaShiftBounds, ReplicaStill, ReplicaMoves, charactersLeft, ReplicaKeeps, BitsTwosComplement, BitsReadBack}
-use Rattle.cursor.proofs.Receiving.{turned-is, after-changed, changed-within}
-
--- a replica out of form is turned away
-formed-of : (formed : Bool) (s : State) (o : Operation) (g : ℕ) → changes (receiveAtWhen formed s o g .answer) ≡ true → formed ≡ true
-unfolding receiveAtWhen receiveAtChecks decided unchanged
-formed-of formed s o g = go (first (receiveAtChecks formed s o g)) refl
-  where
-    go : (m : Option Answer) → first (receiveAtChecks formed s o g) ≡ m → changes (decided (unchanged s) m (accept s o) .answer) ≡ true → formed ≡ true
-    go none f e = not-false formed (first-none (receiveAtChecks formed s o g) f .1 .0)
-    go (some a) f e = clash e (turned-still a (first-some Turned (receiveAtChecks formed s o g) (receive-at-turned formed s o g) a f))
+use Rattle.cursor.proofs.Receiving.{turned-is, changed-within, ruled, left-means}
 
 module _ (r : Replica) (o : Operation) (g : ℕ) where
-  -- by the rules, where something is changed
-  ruled : changes (receivedAt r o g .answer) ≡ true → receivedAt r o g ≡ moved r g (receiveAt (meaning r) o g)
-  unfolding receivedAt moved receiveAt
-  ruled e =
-      let f = formed-of (replicaWellFormed r) (meaning r) o g e in
-      ap (λ (b : Bool). moved r g (receiveAtWhen b (meaning r) o g)) (f ∙ sym (form-meant r f))
-
   still : changes (receivedAt r o g .answer) ≡ false → (receivedAt r o g .replica ≡ r) × (receivedAt r o g .shift ≡ pos 0)
   still e = (ap (λ (x : Moved). x .replica) (sym (turned-is r o g e)), ap (λ (x : Moved). x .shift) (sym (turned-is r o g e)))
 
   bounds : (negsuc 0 ≤ℤ receivedAt r o g .shift) × (receivedAt r o g .shift ≤ℤ pos 513)
   unfolding moved shiftAt
   bounds =
-      ⊎-elim (λ e. rw (ruled e) (shift-bounds (meaning r) o g)) (λ e. rw (still e .1) (record { le = tt }, record { le = tt }))
+      ⊎-elim (λ e. rw (ruled r o g e) (shift-bounds (meaning r) o g)) (λ e. rw (still e .1) (record { le = tt }, record { le = tt }))
       (either (changes (receivedAt r o g .answer)))
 
 pub replica-still : ReplicaStill
@@ -70,13 +48,6 @@ module _ (r : Replica) (o : Operation) (g : ℕ) (e : changes (receivedAt r o g 
   unfolding moved
   answered = subst (λ (x : Moved). changes (x .answer) ≡ true) (ruled r o g e) e
 
-  back : meaning (receivedAt r o g .replica) ≡ receiveAt (meaning r) o g .state
-  unfolding moved
-  back =
-      ap (λ (x : Moved). meaning (x .replica)) (ruled r o g e)
-      ∙ ap meaning (after-changed r (receiveAt (meaning r) o g .state) (receiveAt (meaning r) o g .answer) answered)
-      ∙ meaning-stored (receiveAt (meaning r) o g .state)
-
   shifted : receivedAt r o g .shift ≡ shiftAt (meaning r) o g
   unfolding moved shiftAt
   shifted = ap (λ (x : Moved). x .shift) (ruled r o g e)
@@ -84,7 +55,7 @@ module _ (r : Replica) (o : Operation) (g : ℕ) (e : changes (receivedAt r o g 
 pub replica-moves : ReplicaMoves
 unfolding newGap
 replica-moves r o g few e =
-    rw (back r o g e, shifted r o g e, moved-to-new-gap (meaning r) o g few) (gap, shift-adds (meaning r) o g .1 (changed-within r o g e))
+    rw (left-means r o g e, shifted r o g e, moved-to-new-gap (meaning r) o g few) (gap, shift-adds (meaning r) o g .1 (changed-within r o g e))
   where
     gap : newGap (meaning r) (receiveAt (meaning r) o g) g ≡ cursorAfter (meaning r .characters) (receiveAt (meaning r) o g .state .characters) g
     gap = rw (newGap, answered r o g e)
@@ -105,7 +76,7 @@ replica-keeps r o g few = ⊎-elim changed unchanged (either (changes (receivedA
   where
     changed : changes (receivedAt r o g .answer) ≡ true → Keeps (meaning r .characters) (charactersLeft r o g) g (movedBy g (receivedAt r o g .shift))
     changed e =
-        subst (λ (s : State). Keeps (meaning r .characters) (s .characters) g (movedBy g (receivedAt r o g .shift))) (sym (back r o g e))
+        subst (λ (s : State). Keeps (meaning r .characters) (s .characters) g (movedBy g (receivedAt r o g .shift))) (sym (left-means r o g e))
         (subst (λ (z : ℤ). Keeps (meaning r .characters) (receiveAt (meaning r) o g .state .characters) g (movedBy g z)) (sym (shifted r o g e))
         (subst (Keeps (meaning r .characters) (receiveAt (meaning r) o g .state .characters) g) (sym (moved-to-new-gap (meaning r) o g few))
         (cursor-keeps (meaning r) o g, cursor-hidden (meaning r) o g)))

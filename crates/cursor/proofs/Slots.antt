@@ -28,26 +28,26 @@ use Rattle.index.proofs.Searches.{begin-place, later-place, first-says}
 use Rattle.visible.specs.Shown.{nthIndex}
 use Rattle.visible.proofs.Visibility.{visibles-length}
 use Rattle.visible.proofs.Shown.{nth-says, slot-key, key-none, left-key}
-use Rattle.cursor.specs.Steps.{anchorOf, keyedAnchorOf}
+use Rattle.cursor.specs.Steps.{anchorOf}
 
 -- ---- what a cursor keeps to
 
 module _ (cs : List Character) (g : ℕ) where
-  anchor : (k : ℕ) → k ≡ key (leftOf cs g) → {b : Bool} → b ≡ ltb (length (visibles cs)) g → record { left = k; beyond = b } ≡ keyedAnchorOf cs g
-  unfolding keyedAnchorOf anchorOf
+  anchor : (k : ℕ) → k ≡ key (leftOf cs g) → {b : Bool} → b ≡ ltb (length (visibles cs)) g → record { left = k; beyond = b } ≡ anchorOf cs g
+  unfolding anchorOf
   anchor k e f = rw (e, f)
 
-  pub top-anchor : g ≡ 0 → record { left = 0; beyond = false } ≡ keyedAnchorOf cs g
+  pub top-anchor : g ≡ 0 → record { left = 0; beyond = false } ≡ anchorOf cs g
   top-anchor e = anchor 0 (rw e (sym key-begin)) (sym (le-ltb (length (visibles cs)) g (omega (arith, e))))
 
   module _ (some : g ≡ 0 → ⊥) where
     pub found-anchor : (ids : List ℕ) (n i : ℕ) → keys cs ≡ take n ids → nthIndex isVisible cs (g - 1) ≡ At i → i < n
-        → record { left = getD ids i 0; beyond = false } ≡ keyedAnchorOf cs g
+        → record { left = getD ids i 0; beyond = false } ≡ anchorOf cs g
     found-anchor ids n i e f h =
         anchor (getD ids i 0) (slot-key cs ids n (g - 1) i 0 e f h ∙ left-key (visibles cs) g some)
         (sym (le-ltb (length (visibles cs)) g (omega (arith, nth-says isVisible cs (g - 1) f .counted, visibles-length cs))))
 
-    pub no-anchor : nthIndex isVisible cs (g - 1) ≡ Nothing → record { left = 0; beyond = true } ≡ keyedAnchorOf cs g
+    pub no-anchor : nthIndex isVisible cs (g - 1) ≡ Nothing → record { left = 0; beyond = true } ≡ anchorOf cs g
     no-anchor f =
         anchor 0 (key-none cs (g - 1) 0 f ∙ left-key (visibles cs) g some)
         (sym (lt-ltb (length (visibles cs)) g (omega (arith, nth-says isVisible cs (g - 1) f, visibles-length cs, some))))

@@ -10,12 +10,12 @@ use Rattle.woot.specs.declared.Identifier.{Identifier}
 use Rattle.woot.specs.declared.Character.{Character}
 use Rattle.woot.specs.declared.Operation.{Operation}
 use Rattle.woot.specs.declared.Replica.{Replica}
-use Rattle.woot.specs.State.{meaning}
+use Rattle.woot.specs.Memory.{meaning}
 use Rattle.woot.specs.Answers.{changes}
 use Rattle.woot.specs.Calls.{beyondVisible}
 use Rattle.woot.specs.Cursor.{leftOf, cursorAfter, lastNumber, movedBy}
 use Rattle.convergence.specs.Cursors.{shown, NearestAbove}
-use Rattle.storage.specs.Replicas.{receivedAt}
+use Rattle.woot.specs.Replicas.{receivedAt}
 use Rattle.cursor.specs.Bits.{shiftBits, shiftRead}
 
 -- "The shift lies between -1 and 513"

@@ -1,64 +1,63 @@
 // Receiving with an editor's cursor, which stands at an insertion point and keeps to what stands on its left: that is
-// taken down before the call, and the visible characters through it are counted afterwards. The steps take a document
-// and hand on a few numbers, so that no copy of a replica is kept over the call. (Document 02, Req 02.)
-pub mod columns;
-
+// taken down as a key before the call, and the visible characters through it are counted afterwards. The steps read the
+// replica's arrays as they lie, with a slot for each of the n characters. (Document 02, Req 02.)
+use index::Found;
+use reception::Decision;
 use woot::Answer;
 use woot::Document;
-use woot::Identifier;
 use woot::Moved;
 use woot::Operation;
 use woot::Refusal;
 use woot::Replica;
+use woot::Site;
+use woot::Table;
 ghost use mathlib.Core.Path.{_≡_};
+ghost use mathlib.Core.Bool.{true, false};
+ghost use mathlib.Core.List.{List};
 ghost use Prim.Native.Nat.{suc, _+_, _-_, _≤_, min};
 ghost use lib.IntN.{pos, negsuc, subℕ};
 ghost use lib.Signed.{_≤ℤ_, _<ℤ_};
-ghost use lib.ListN.{take};
-ghost use Rattle.woot.specs.State.{meaning};
+ghost use lib.ListN.{length, take};
+ghost use Rattle.woot.specs.declared.Character.{Character};
+ghost use Rattle.woot.specs.Answers.{changes};
 ghost use Rattle.woot.specs.Cursor.{visibleThrough, lastNumber, movedBy};
-ghost use Rattle.storage.specs.Replicas.{receivedAt};
+ghost use Rattle.woot.specs.Table.{keys};
+ghost use Rattle.woot.specs.Memory.{identifier, toggleCounts};
+ghost use Rattle.woot.specs.Replicas.{receivedAt};
+ghost use Rattle.index.specs.Keys.{AllSmall, placeIn};
+ghost use Rattle.replica.specs.Outcomes.{replicaAs};
 ghost use Rattle.cursor.specs.Bits.{shiftBits};
-ghost use Rattle.cursor.specs.Steps.{anchorOf, before4, answerAt};
+ghost use Rattle.cursor.specs.Steps.{anchorOf, before4, answerAt, overruled, JudgedAt};
 
-// What a cursor keeps to: the visible character on its left, or the begin mark. And whether there is such an insertion
-// point at all.
+// What a cursor keeps to: the key of the visible character on its left, or of the begin mark. And whether there is such
+// an insertion point at all.
 pub struct Anchor {
-    pub left: Identifier,
+    pub left: u32,
     pub beyond: bool,
 }
 
 // What a cursor at the insertion point keeps to.
-pub fn anchored(document: Document, point: usize) -> Anchor
-    ensures { λ r. ⌜ r ≡ anchorOf (take (document .length) (document .characters)) point ⌝ }
+fn anchored<'a>(ids: &'a [u32], toggles: &'a [u8], n: usize, point: usize) -> Anchor
+    requires { ⌜ n ≤ length (now ids) ⌝ }
+    requires { ⌜ n ≤ length (now toggles) ⌝ }
+    ensures { λ r. ⌜ ((cs : List Character) → keys cs ≡ take n (now (ids .entry))
+        → toggleCounts cs ≡ take n (now (toggles .entry)) → r ≡ anchorOf cs point) ⌝ }
 {
-    let begin = Identifier::BEGIN;
     if point == 0 {
         return Anchor {
-            left: begin,
+            left: 0,
             beyond: false,
         };
     }
-    let end = index::lesser(document.length, 1024);
-    let mut rest = point - 1;
-    let mut i = 0;
-    while i < end {
-        let c = document.characters[i];
-        if c.is_visible() {
-            if rest == 0 {
-                let left = c.id;
-                return Anchor {
-                    left,
-                    beyond: false,
-                };
-            }
-            rest -= 1;
-        }
-        i += 1;
-    }
-    Anchor {
-        left: begin,
-        beyond: true,
+    match visible::nth(toggles, n, point - 1) {
+        Found::At(i) => Anchor {
+            left: ids[i],
+            beyond: false,
+        },
+        Found::Nothing => Anchor {
+            left: 0,
+            beyond: true,
+        },
     }
 }
 
@@ -73,7 +72,7 @@ fn before_4(refusal: Refusal) -> Refusal
 }
 
 // The answer with a cursor, of what is answered without one and of whether the cursor is beyond the visible characters.
-pub fn answered(answer: Answer, beyond: bool) -> Answer
+fn answered(answer: Answer, beyond: bool) -> Answer
     ensures { λ r. ⌜ r ≡ answerAt beyond answer ⌝ }
 {
     if !beyond {
@@ -90,30 +89,96 @@ pub fn answered(answer: Answer, beyond: bool) -> Answer
     }
 }
 
-// How many visible characters stand from the top through the one with the identifier: none through the begin mark, and
-// all of them where there is none such.
-fn visible_through(document: Document, id: Identifier) -> usize
-    ensures { λ r. ⌜ r ≡ visibleThrough (take (document .length) (document .characters)) id ⌝ }
-    ensures { λ r. ⌜ r ≤ 1024 ⌝ }
+// What is done with an operation once the cursor is known to be beyond the visible characters or not. Where it is,
+// known, 2 and 3 stay and all else gives way to 4.
+fn overrule(decision: Decision, beyond: bool) -> Decision
+    ensures { λ r. ⌜ r ≡ overruled beyond decision ⌝ }
 {
-    if ranges::same_id(id, Identifier::BEGIN) {
+    if !beyond {
+        return decision;
+    }
+    match decision {
+        Decision::Answered(a) => Decision::Answered(answered(a, beyond)),
+        Decision::Defer => Decision::Answered(Answer::Refused(Refusal::Position)),
+        Decision::Place(_) => Decision::Answered(Answer::Refused(Refusal::Position)),
+        Decision::Toggle(_) => Decision::Answered(Answer::Refused(Refusal::Position)),
+    }
+}
+
+// What is to be done with an operation that is received with a cursor, and the key of what the cursor keeps to.
+pub struct Judgement {
+    pub decision: Decision,
+    pub left: u32,
+}
+
+// What is to be done with an operation that is received with a cursor at the insertion point. A step of the calls and
+// not a call: they lend arrays of these sizes.
+pub fn judge_at<'a>(
+    site: Site,
+    characters: &'a [u32],
+    toggles: &'a [u8],
+    n: usize,
+    pending: &'a [u32],
+    w: usize,
+    heads: &'a [u16],
+    links: &'a [u16],
+    operation: Operation,
+    point: usize,
+) -> Judgement
+    requires { ⌜ length (now characters) ≡ 4096 ⌝ }
+    requires { ⌜ length (now toggles) ≡ 1024 ⌝ }
+    requires { ⌜ length (now pending) ≡ 2048 ⌝ }
+    requires { ⌜ length (now heads) ≡ 1024 ⌝ }
+    requires { ⌜ length (now links) ≡ 2048 ⌝ }
+    ensures { λ r. ⌜ JudgedAt (replicaAs site (now (characters .entry)) (now (toggles .entry)) n
+        (now (pending .entry)) w (now (heads .entry)) (now (links .entry))) operation point r ⌝ }
+{
+    let judged = replica::looks::judge(
+        site,
+        characters,
+        toggles,
+        n,
+        pending,
+        w,
+        heads,
+        links,
+        operation,
+    );
+    let anchor = anchored(characters, toggles, index::lesser(n, 1024), point);
+    Judgement {
+        decision: overrule(judged, anchor.beyond),
+        left: anchor.left,
+    }
+}
+
+// How many of the n characters stand from the top through the one with the key: none through the begin mark, and all of
+// them where there is none such.
+fn through(ids: &[u32], n: usize, key: u32) -> usize
+    requires { ⌜ n ≤ length (now ids) ⌝ }
+    ensures { λ r. ⌜ r ≡ min (placeIn (take n (now (ids .entry))) key) n ⌝ }
+{
+    if key == 0 {
         return 0;
     }
-    let end = index::lesser(document.length, 1024);
-    let mut number = 0;
-    let mut i = 0;
-    while i < end {
-        let c = document.characters[i];
-        if c.is_visible() {
-            number += 1;
-        }
-        let here = c.id;
-        if ranges::same_id(id, here) {
-            return number;
-        }
-        i += 1;
+    let held = &ids[..n];
+    match index::find(held, key) {
+        Found::At(i) => i + 1,
+        Found::Nothing => n,
     }
-    number
+}
+
+// How many visible characters do.
+fn visible_through<'a>(ids: &'a [u32], toggles: &'a [u8], n: usize, key: u32) -> usize
+    requires { ⌜ n ≤ length (now ids) ⌝ }
+    requires { ⌜ n ≤ length (now toggles) ⌝ }
+    ensures { λ r. ⌜ ((cs : List Character) → keys cs ≡ take n (now (ids .entry))
+        → toggleCounts cs ≡ take n (now (toggles .entry)) → AllSmall cs
+        → r ≡ visibleThrough cs (identifier key)) ⌝ }
+    ensures { λ r. ⌜ r ≤ n ⌝ }
+{
+    let last = through(ids, n, key);
+    let shown = visible::count(toggles, last);
+    shown
 }
 
 // The difference of two counts, which may be below zero.
@@ -125,38 +190,100 @@ fn difference(after: usize, before: usize) -> i32
     after as i32 - before as i32
 }
 
-// How far a cursor moves that stood at the insertion point and kept to an identifier, in the replica as it is now. A
-// step of the calls and not a call: they have seen that the point was among the visible characters.
-pub fn shift(replica: Replica, left: Identifier, point: usize) -> i32
+// How far a cursor moves that stood at the insertion point and kept to the identifier with a key, among the characters
+// as they are now. A step of the calls and not a call: they have seen that the point was among the visible characters.
+pub fn shift<'a>(ids: &'a [u32], toggles: &'a [u8], n: usize, left: u32, point: usize) -> i32
+    requires { ⌜ n ≤ 1024 ⌝ }
+    requires { ⌜ n ≤ length (now ids) ⌝ }
+    requires { ⌜ n ≤ length (now toggles) ⌝ }
     requires { ⌜ point ≤ 1024 ⌝ }
-    ensures { λ r. ⌜ r ≡ subℕ (visibleThrough (meaning replica .characters) left) point ⌝ }
+    ensures { λ r. ⌜ ((cs : List Character) → keys cs ≡ take n (now (ids .entry))
+        → toggleCounts cs ≡ take n (now (toggles .entry)) → AllSmall cs
+        → r ≡ subℕ (visibleThrough cs (identifier left)) point) ⌝ }
 {
-    let d = replica.document;
-    difference(visible_through(d, left), point)
+    difference(visible_through(ids, toggles, n, left), point)
+}
+
+// How far it moves with an answer: not at all where nothing is changed.
+fn shift_with<'a>(
+    ids: &'a [u32],
+    toggles: &'a [u8],
+    n: usize,
+    answer: Answer,
+    left: u32,
+    point: usize,
+) -> i32
+    requires { ⌜ length (now ids) ≡ 4096 ⌝ }
+    requires { ⌜ length (now toggles) ≡ 1024 ⌝ }
+    requires { ⌜ (changes answer ≡ true → (n ≤ 1024) × (point ≤ 1024)) ⌝ }
+    ensures { λ r. ⌜ (changes answer ≡ false → r ≡ pos 0) ⌝ }
+    ensures { λ r. ⌜ (changes answer ≡ true → (cs : List Character) → keys cs ≡ take n (now (ids .entry))
+        → toggleCounts cs ≡ take n (now (toggles .entry)) → AllSmall cs
+        → r ≡ subℕ (visibleThrough cs (identifier left)) point) ⌝ }
+{
+    if !answer.is_change() {
+        return 0;
+    }
+    shift(ids, toggles, n, left, point)
 }
 
 // Receives an operation with the cursor at an insertion point, and says how far the cursor moves.
 pub fn receive_at(replica: Replica, operation: Operation, point: usize) -> Moved
     ensures { λ r. ⌜ r ≡ receivedAt replica operation point ⌝ }
 {
-    let d = replica.document;
-    let anchor = anchored(d, point);
-    let receipt = replica::receive(replica, operation);
-    let received = receipt.answer;
-    let answer = answered(received, anchor.beyond);
-    if !answer.is_change() {
-        return Moved {
-            answer,
-            replica,
-            shift: 0,
-        };
-    }
-    let after = receipt.replica;
-    let left = anchor.left;
-    let shift = shift(after, left, point);
+    let judged = judge_at(
+        replica.site,
+        &replica.document.characters,
+        &replica.document.toggles,
+        replica.document.length,
+        &replica.document.pending,
+        replica.document.waiting,
+        &replica.document.table.heads,
+        &replica.document.table.links,
+        operation,
+        point,
+    );
+    let decision = judged.decision;
+    let mut characters = replica.document.characters;
+    let mut toggles = replica.document.toggles;
+    let mut pending = replica.document.pending;
+    let mut heads = replica.document.table.heads;
+    let mut links = replica.document.table.links;
+    let carried = replica::changes::carry(
+        &mut characters,
+        &mut toggles,
+        &mut pending,
+        &mut heads,
+        &mut links,
+        replica.site,
+        replica.document.length,
+        replica.document.waiting,
+        operation,
+        decision,
+    );
+    let answer = replica::answer(decision, carried.integrated, carried.discarded);
+    let shift = shift_with(
+        &characters,
+        &toggles,
+        carried.length,
+        answer,
+        judged.left,
+        point,
+    );
+    let site = carried.site;
     Moved {
         answer,
-        replica: after,
+        replica: Replica {
+            site,
+            document: Document {
+                characters,
+                toggles,
+                length: carried.length,
+                pending,
+                waiting: carried.waiting,
+                table: Table { heads, links },
+            },
+        },
         shift,
     }
 }

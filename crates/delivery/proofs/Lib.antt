@@ -1,2 +1,4 @@
-pub mod Carrying
+pub mod Works
+pub mod Changes
 pub mod Stepping
+pub mod Carrying

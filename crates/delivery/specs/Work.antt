@@ -1,32 +1,95 @@
--- For the proofs of the code alone: what draining a document at work needs, and what it leaves.
+-- For the proofs of the code alone: a document at work in a call, what carrying out operations on it needs, and what it
+-- leaves.
 use Prim.Native.Nat.{ℕ, _+_, _^_, _≤_, _<_}
 use mathlib.Core.Path.{_≡_}
-use mathlib.Core.Bool.{true}
+use mathlib.Core.Bool.{true, _||_, cond}
 use mathlib.Core.Option.{Option, none, some}
-use mathlib.Core.List.{List}
+use mathlib.Core.List.{List, _++_, _∷_, []}
 use lib.ListN.{length}
+use Rattle.lists.specs.Lists.{every, distinct}
+use Rattle.slots.specs.Slots.{removed}
 use Rattle.woot.specs.declared.Insert.{Insert}
+use Rattle.woot.specs.declared.Toggle.{Toggle}
 use Rattle.woot.specs.declared.Operation.{Operation}
 use Rattle.woot.specs.declared.Character.{Character}
+use Rattle.memory.specs.Columns.{Document}
+use Rattle.woot.specs.Identifiers.{same}
+use Rattle.woot.specs.Limits.{capacity}
 use Rattle.woot.specs.Operations.{character}
-use Rattle.woot.specs.State.{meaning, counted}
-use Rattle.woot.specs.Placing.{insertAt, integrateInsert}
-use Rattle.woot.specs.Pending.{executable, Extracted, earliest, Drained, drain}
+use Rattle.woot.specs.Ranges.{inRange}
+use Rattle.memory.specs.Columns.{charactersIn, operationsIn, documentOf}
+use Rattle.woot.specs.Placing.{identifiers, insertAt, integrateInsert}
+use Rattle.woot.specs.Pending.{executable, crossed, unplaceable, integrate, Extracted, earliest, Drained, drain}
 use Rattle.convergence.specs.Invariants.{Sound}
 use Rattle.index.specs.declared.Found.{Found}
+use Rattle.index.specs.declared.Found.the-variants.{At}
 use Rattle.index.specs.Keys.{firstIndex}
-use Rattle.arrays.specs.Edit.{removed}
-use Rattle.execution.specs.declared.Work.{Work}
-use Rattle.execution.specs.Work.{charactersIn, pendingIn, workOf, Tidy, carried}
-use Rattle.woot.specs.declared.Replica.{Replica}
-use Rattle.woot.specs.Limits.{capacity}
+use Rattle.memory.specs.Lent.{columnsAs}
+use Rattle.delivery.specs.declared.Progress.{Progress}
 
--- what draining needs: sound lists, and counts that fit whatever becomes of what is pending
+-- ---- lent arrays
+
+-- their slots
+pub record Slots (d : Document) : Type 0 where
+  pub ids : length (d .ids) ≡ 1024
+  pub previous : length (d .previous) ≡ 1024
+  pub next : length (d .next) ≡ 1024
+  pub points : length (d .«code_points») ≡ 1024
+  pub toggles : length (d .toggles) ≡ 1024
+  pub own : length (d .own) ≡ 512
+  pub first : length (d .first) ≡ 512
+  pub second : length (d .second) ≡ 512
+  pub values : length (d .values) ≡ 512
+  pub heads : length (d .table .heads) ≡ 1024
+  pub links : length (d .table .links) ≡ 2048
+
+-- the counts are within the slots, and the numbers of the pending operations are theirs
+pub record Lent (d : Document) : Type 0 where
+  pub slots : Slots d
+  pub few : d .length ≤ 1024
+  pub few-pending : d .waiting ≤ 512
+  pub ranged : every inRange (operationsIn d) ≡ true
+
+-- the document is determined by its lists
+abbrev pub TidyDocument : Document → Type 0
+TidyDocument d = d ≡ documentOf (charactersIn d) (operationsIn d)
+
+-- ---- a document at work
+
+-- with how many operations were carried out so far and how many discarded
+pub record Work : Type 0 where
+  pub document : Document
+  pub integrated : ℕ
+  pub discarded : ℕ
+
+abbrev pub workAs : List ℕ → List ℕ → List ℕ → List ℕ → List ℕ → Progress → Work
+workAs characters toggles pending heads links p =
+    record {
+      document = columnsAs characters toggles (p .length) pending (p .waiting) heads links;
+      integrated = p .integrated;
+      discarded = p .discarded;
+    }
+
+unfoldable pub workOf : List Character → List Operation → ℕ → ℕ → Work
+workOf cs ps n m = record { document = documentOf cs ps; integrated = n; discarded = m }
+
+abbrev pub charactersAt : Work → List Character
+charactersAt w = charactersIn (w .document)
+
+abbrev pub pendingAt : Work → List Operation
+pendingAt w = operationsIn (w .document)
+
+-- what draining needs: sound lists in a tidy document, and counts that fit whatever becomes of what is pending
 pub record Workable (w : Work) : Type 0 where
-  pub tidy : Tidy w
-  pub sound : Sound (charactersIn (w .document)) (pendingIn (w .document))
+  pub tidy : TidyDocument (w .document)
+  pub sound : Sound (charactersAt w) (pendingAt w)
   pub integrated-fits : w .integrated + w .document .waiting < 2 ^ 64
   pub discarded-fits : w .discarded + w .document .waiting < 2 ^ 64
+
+-- o carried out, or discarded where condition 8 or 9 holds
+unfoldable pub carried : List Character → List Operation → ℕ → ℕ → Operation → Work
+carried cs ps n m o =
+    cond (crossed cs o || unplaceable cs o) (workOf cs ps n (m + 1)) (workOf (integrate cs o) ps (n + 1) m)
 
 -- one step of draining: the operation that was taken out is carried out or discarded
 unfoldable pub stepped : List Character → List Operation → ℕ → ℕ → Option Extracted → Work
@@ -41,29 +104,31 @@ finished cs ps n m =
 
 -- ---- the same on a document at work
 
--- without the pending operation at the index
-abbrev pub takenOut : Work → ℕ → Work
-takenOut w j = workOf (charactersIn (w .document)) (removed j (pendingIn (w .document))) (w .integrated) (w .discarded)
-
 -- the index of the earliest pending operation that is executable, and what the rules take out
 abbrev pub dueIn : Work → Found
-dueIn w = firstIndex (executable (charactersIn (w .document))) (pendingIn (w .document))
+dueIn w = firstIndex (executable (charactersAt w)) (pendingAt w)
 
 abbrev pub takenFrom : Work → Option Extracted
-takenFrom w = earliest (executable (charactersIn (w .document))) (pendingIn (w .document))
+takenFrom w = earliest (executable (charactersAt w)) (pendingAt w)
 
 abbrev pub steppedIn : Work → Work
-steppedIn w = stepped (charactersIn (w .document)) (pendingIn (w .document)) (w .integrated) (w .discarded) (takenFrom w)
+steppedIn w = stepped (charactersAt w) (pendingAt w) (w .integrated) (w .discarded) (takenFrom w)
 
 abbrev pub finishedIn : Work → Work
-finishedIn w = finished (charactersIn (w .document)) (pendingIn (w .document)) (w .integrated) (w .discarded)
+finishedIn w = finished (charactersAt w) (pendingAt w) (w .integrated) (w .discarded)
 
 -- ---- the insert that is carried out first
 
 -- an insert that goes in after the first k characters, and leaves the lists sound
-pub record Placed (r : Replica) (i : Insert) (k : ℕ) : Type 0 where
-  pub counts : counted r ≡ true
-  pub place : k ≤ length (meaning r .characters)
-  pub room : length (meaning r .characters) < capacity
-  pub result : integrateInsert (meaning r .characters) i ≡ insertAt k (character i) (meaning r .characters)
-  pub sound : Sound (integrateInsert (meaning r .characters) i) (meaning r .pending)
+pub record Placed (d : Document) (i : Insert) (k : ℕ) : Type 0 where
+  pub lent : Lent d
+  pub place : k ≤ d .length
+  pub room : d .length < capacity
+  pub result : integrateInsert (charactersIn d) i ≡ insertAt k (character i) (charactersIn d)
+  pub sound : Sound (integrateInsert (charactersIn d) i) (operationsIn d)
+
+-- a toggle whose target stands in the slot k, the only one that has its identifier
+pub record Targeted (d : Document) (t : Toggle) (k : ℕ) : Type 0 where
+  pub lent : Lent d
+  pub place : firstIndex (λ c. same (t .target) (c .id)) (charactersIn d) ≡ At k
+  pub apart : distinct same (identifiers (charactersIn d)) ≡ true

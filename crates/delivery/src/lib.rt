@@ -1,124 +1,338 @@
-// Delivering operations to a document: an insert is carried out on it, and then what it released, one by one, until no
-// pending operation is executable.
-use execution::Work;
+// Carrying out operations on a document whose arrays are lent: an insert is put in, and then what it released, one by
+// one, until no pending operation is executable; a character is toggled; an operation is put off. Each array is edited
+// where it lies, and what is not in use is cleared before.
 use index::Found;
-use pending::queue;
-use woot::Document;
+use index::table;
+use integration::Placement;
+use pending::edits;
+use pending::ready;
 use woot::Insert;
-use woot::Replica;
+use woot::Operation;
+use woot::Toggle;
 ghost use mathlib.Core.Path.{_≡_};
+ghost use mathlib.Core.List.{List, _++_, _∷_, []};
 ghost use Prim.Native.Nat.{_+_, _≤_, _<_};
-ghost use Rattle.woot.specs.Placing.{integrateInsert};
+ghost use lib.ListN.{length, take};
 ghost use Rattle.index.specs.declared.Found.the-variants.{At};
-ghost use Rattle.woot.specs.State.{meaning};
-ghost use Rattle.execution.specs.Work.{workOf, Tidy};
-ghost use Rattle.delivery.specs.Work.{Workable, finished, Placed, takenOut, dueIn, steppedIn, finishedIn};
+ghost use Rattle.index.specs.Keys.{AllSmall, found};
+ghost use Rattle.index.specs.Tabled.{Tabled};
+ghost use Rattle.memory.specs.Lent.{columnsAs};
+ghost use Rattle.memory.specs.Columns.{charactersIn, operationsIn, documentOf};
+ghost use Rattle.woot.specs.declared.Character.{Character};
+ghost use Rattle.woot.specs.Memory.{column, previousKeys, nextKeys};
+ghost use Rattle.pending.specs.Ready.{readyIn};
+ghost use Rattle.integration.specs.Placements.{placementOf};
+ghost use Rattle.woot.specs.Placing.{integrateInsert, integrateToggle};
+ghost use Rattle.woot.specs.Table.{key, keys};
+ghost use Rattle.delivery.specs.Work.{Lent, workAs, Workable, Placed, Targeted};
+ghost use Rattle.delivery.specs.Work.{dueIn, steppedIn, finishedIn, finished};
+ghost use Rattle.delivery.specs.Steps.{toggledAt, placeOf};
 
-// Takes out the pending operation at the index.
-fn take_out(work: Work, j: usize) -> Work
-    requires { ⌜ Tidy work ⌝ }
-    requires { ⌜ j < work .document .waiting ⌝ }
-    requires { ⌜ work .document .waiting ≤ 512 ⌝ }
-    ensures { λ r. ⌜ r ≡ takenOut work j ⌝ }
-{
-    let d = work.document;
-    let ps = d.pending;
-    let pending = arrays::without(ps, d.waiting, j);
-    let document = Document {
-        pending,
-        waiting: d.waiting - 1,
-        ..d
-    };
-    Work { document, ..work }
+// How many characters and pending operations the arrays hold, and how many operations have been carried out and how
+// many discarded.
+pub struct Progress {
+    pub length: usize,
+    pub waiting: usize,
+    pub integrated: usize,
+    pub discarded: usize,
 }
 
-// The index of the earliest pending operation that is executable.
-fn due(work: Work) -> Found
-    requires { ⌜ Workable work ⌝ }
-    ensures { λ r. ⌜ r ≡ dueIn work ⌝ }
+// Clears what is not in use, so that the arrays are those that the rules' lists are stored in.
+fn clear(
+    characters: &mut [u32],
+    toggles: &mut [u8],
+    pending: &mut [u32],
+    heads: &mut [u16],
+    links: &mut [u16],
+    n: usize,
+    w: usize,
+)
+    requires { ⌜ length (now characters) ≡ 4096 ⌝ }
+    requires { ⌜ length (now pending) ≡ 2048 ⌝ }
+    requires { ⌜ Lent (columnsAs (now characters) (now toggles) n (now pending) w (now heads) (now links)) ⌝ }
+    ensures { λ _. ⌜ (columnsAs (now (characters .exit)) (now (toggles .exit)) n (now (pending .exit)) w
+        (now (heads .exit)) (now (links .exit)))
+        ≡ documentOf (charactersIn (columnsAs (now (characters .entry)) (now (toggles .entry)) n (now (pending .entry))
+        w (now (heads .entry)) (now (links .entry))))
+        (operationsIn (columnsAs (now (characters .entry)) (now (toggles .entry)) n (now (pending .entry)) w
+        (now (heads .entry)) (now (links .entry)))) ⌝ }
 {
-    let d = work.document;
-    let cs = d.characters;
-    let ps = d.pending;
-    let n = d.length;
-    let m = d.waiting;
-    let keys = index::keys_of(cs, n);
-    let queue = queue::queue_of(ps, m);
-    ready::ready_among(
-        &d.table.heads,
-        &d.table.links,
-        &keys.ids,
+    characters::clear(characters, toggles, heads, links, n);
+    edits::clear(pending, w);
+}
+
+// Where an insert goes among the first n characters.
+fn find_place<'a>(
+    heads: &'a [u16],
+    links: &'a [u16],
+    characters: &'a [u32],
+    n: usize,
+    insert: Insert,
+) -> Placement
+    requires { ⌜ n ≤ 1024 ⌝ }
+    requires { ⌜ length (now characters) ≡ 4096 ⌝ }
+    requires { ⌜ Tabled (record { heads = now heads; links = now links }) (take n (column 1024 0 (now characters))) ⌝ }
+    ensures { λ r. ⌜ ((cs : List Character)
+        → take n (column 1024 0 (now (characters .entry))) ≡ keys cs
+        → take n (column 1024 1 (now (characters .entry))) ≡ previousKeys cs
+        → take n (column 1024 2 (now (characters .entry))) ≡ nextKeys cs → AllSmall cs
+        → r ≡ placementOf cs insert) ⌝ }
+{
+    integration::find_place(
+        heads,
+        links,
+        &characters[..1024],
+        &characters[1024..2048],
+        &characters[2048..3072],
         n,
-        &queue.first,
-        &queue.second,
-        m,
+        insert,
     )
 }
 
-// Takes out the pending operation that is due, and carries it out or discards it.
-fn step(work: Work, j: usize) -> Work
-    requires { ⌜ Workable work ⌝ }
-    requires { ⌜ dueIn work ≡ At j ⌝ }
-    ensures { λ r. ⌜ r ≡ steppedIn work ⌝ }
+// The index of the earliest of the first w pending operations that is executable.
+fn due<'a>(
+    heads: &'a [u16],
+    links: &'a [u16],
+    characters: &'a [u32],
+    n: usize,
+    pending: &'a [u32],
+    w: usize,
+) -> Found
+    requires { ⌜ n ≤ 1024 ⌝ }
+    requires { ⌜ w ≤ 512 ⌝ }
+    requires { ⌜ length (now characters) ≡ 4096 ⌝ }
+    requires { ⌜ length (now pending) ≡ 2048 ⌝ }
+    requires { ⌜ Tabled (record { heads = now heads; links = now links }) (take n (column 1024 0 (now characters))) ⌝ }
+    ensures { λ r. ⌜ r
+        ≡ readyIn (take n (column 1024 0 (now (characters .entry)))) (take w (column 512 1 (now (pending .entry))))
+        (take w (column 512 2 (now (pending .entry)))) ⌝ }
 {
-    let d = work.document;
-    let ps = d.pending;
-    let p = ps[j];
-    let o = p.operation;
-    execution::carry(take_out(work, j), o)
+    ready::ready_among(
+        heads,
+        links,
+        &characters[..1024],
+        n,
+        &pending[512..1024],
+        &pending[1024..1536],
+        w,
+    )
+}
+
+// Gives the target of a toggle the larger count, where it is among the first n.
+fn carry_toggle<'a>(
+    heads: &'a [u16],
+    links: &'a [u16],
+    characters: &'a [u32],
+    toggles: &mut [u8],
+    n: usize,
+    toggle: Toggle,
+)
+    requires { ⌜ n ≤ 1024 ⌝ }
+    requires { ⌜ length (now characters) ≡ 4096 ⌝ }
+    requires { ⌜ n ≤ length (now toggles) ⌝ }
+    requires { ⌜ Tabled (record { heads = now heads; links = now links }) (take n (column 1024 0 (now characters))) ⌝ }
+    ensures { λ _. ⌜ now (toggles .exit)
+        ≡ toggledAt (found (key (toggle .target)) (take n (column 1024 0 (now (characters .entry)))))
+        (toggle .toggles) (now (toggles .entry)) ⌝ }
+{
+    let target = toggle.target;
+    match table::find_among(heads, links, &characters[..1024], n, index::key(target)) {
+        Found::At(k) => {
+            characters::toggle(toggles, k, toggle.toggles);
+            return;
+        }
+        Found::Nothing => {
+            return;
+        }
+    }
+}
+
+// Where an insert goes in, if there is a place for it.
+fn place_of(placement: Placement) -> Found
+    ensures { λ r. ⌜ r ≡ placeOf placement ⌝ }
+{
+    match placement {
+        Placement::Below(k) => Found::At(k),
+        Placement::Missing => Found::Nothing,
+        Placement::Crossed => Found::Nothing,
+        Placement::Unplaceable => Found::Nothing,
+    }
+}
+
+// Takes out the pending operation that is due, and carries it out or discards it.
+fn step(
+    characters: &mut [u32],
+    toggles: &mut [u8],
+    pending: &mut [u32],
+    heads: &mut [u16],
+    links: &mut [u16],
+    progress: Progress,
+    j: usize,
+) -> Progress
+    requires { ⌜ length (now characters) ≡ 4096 ⌝ }
+    requires { ⌜ length (now pending) ≡ 2048 ⌝ }
+    requires { ⌜ Workable (workAs (now characters) (now toggles) (now pending) (now heads) (now links) progress) ⌝ }
+    requires { ⌜ dueIn (workAs (now characters) (now toggles) (now pending) (now heads) (now links) progress) ≡ At j ⌝ }
+    ensures { λ r. ⌜ (workAs (now (characters .exit)) (now (toggles .exit)) (now (pending .exit)) (now (heads .exit))
+        (now (links .exit)) r)
+        ≡ steppedIn (workAs (now (characters .entry)) (now (toggles .entry)) (now (pending .entry)) (now (heads .entry))
+        (now (links .entry)) progress) ⌝ }
+{
+    let n = progress.length;
+    let w = progress.waiting;
+    let operation = edits::operation_at(pending, j);
+    edits::remove(pending, w, j);
+    match operation {
+        Operation::Insert(i) => {
+            let placement = find_place(heads, links, characters, n, i);
+            match place_of(placement) {
+                Found::At(k) => {
+                    characters::put_in(characters, toggles, heads, links, n, k, i);
+                    return Progress {
+                        length: n + 1,
+                        waiting: w - 1,
+                        integrated: progress.integrated + 1,
+                        discarded: progress.discarded,
+                    };
+                }
+                Found::Nothing => {
+                    return Progress {
+                        length: n,
+                        waiting: w - 1,
+                        integrated: progress.integrated,
+                        discarded: progress.discarded + 1,
+                    };
+                }
+            }
+        }
+        Operation::Toggle(t) => {
+            carry_toggle(heads, links, characters, toggles, n, t);
+            return Progress {
+                length: n,
+                waiting: w - 1,
+                integrated: progress.integrated + 1,
+                discarded: progress.discarded,
+            };
+        }
+    }
 }
 
 // Carries out or discards pending operations, the earliest that is executable first, until none is.
-fn drain(mut work: Work) -> Work
-    requires { ⌜ Workable work ⌝ }
-    ensures { λ r. ⌜ r ≡ finishedIn work ⌝ }
+fn drain(
+    characters: &mut [u32],
+    toggles: &mut [u8],
+    pending: &mut [u32],
+    heads: &mut [u16],
+    links: &mut [u16],
+    progress: Progress,
+) -> Progress
+    requires { ⌜ length (now characters) ≡ 4096 ⌝ }
+    requires { ⌜ length (now pending) ≡ 2048 ⌝ }
+    requires { ⌜ Workable (workAs (now characters) (now toggles) (now pending) (now heads) (now links) progress) ⌝ }
+    ensures { λ r. ⌜ (workAs (now (characters .exit)) (now (toggles .exit)) (now (pending .exit)) (now (heads .exit))
+        (now (links .exit)) r)
+        ≡ finishedIn (workAs (now (characters .entry)) (now (toggles .entry)) (now (pending .entry))
+        (now (heads .entry)) (now (links .entry)) progress) ⌝ }
 {
-    while 0 < work.document.waiting {
-        match due(work) {
+    let mut done = progress;
+    loop {
+        match due(heads, links, characters, done.length, pending, done.waiting) {
             Found::At(j) => {
-                work = step(work, j);
+                done = step(characters, toggles, pending, heads, links, done, j);
             }
             Found::Nothing => {
-                return work;
+                return done;
             }
         }
     }
-    work
 }
 
-// The replica's document at work, with an insert carried out at its place and nothing else yet.
-fn started(replica: Replica, insert: Insert, k: usize) -> Work
-    requires { ⌜ Placed replica insert k ⌝ }
-    ensures { λ r. ⌜ r
-        ≡ workOf (integrateInsert (meaning replica .characters) insert) (meaning replica .pending) 1 0 ⌝ }
+// Puts in an insert after the first k characters, and carries out all that it released. A step of the calls and not a
+// call: they have checked the replica and found the place.
+pub fn integrate(
+    characters: &mut [u32],
+    toggles: &mut [u8],
+    pending: &mut [u32],
+    heads: &mut [u16],
+    links: &mut [u16],
+    n: usize,
+    w: usize,
+    k: usize,
+    insert: Insert,
+) -> Progress
+    requires { ⌜ length (now characters) ≡ 4096 ⌝ }
+    requires { ⌜ length (now pending) ≡ 2048 ⌝ }
+    requires { ⌜ Placed
+        (columnsAs (now characters) (now toggles) n (now pending) w (now heads) (now links)) insert k ⌝ }
+    ensures { λ r. ⌜ (workAs (now (characters .exit)) (now (toggles .exit)) (now (pending .exit)) (now (heads .exit))
+        (now (links .exit)) r)
+        ≡ finished (integrateInsert (charactersIn (columnsAs (now (characters .entry)) (now (toggles .entry)) n
+        (now (pending .entry)) w (now (heads .entry)) (now (links .entry)))) insert)
+        (operationsIn (columnsAs (now (characters .entry)) (now (toggles .entry)) n (now (pending .entry)) w
+        (now (heads .entry)) (now (links .entry)))) 1 0 ⌝ }
 {
-    let d = replica.document;
-    let cs = d.characters;
-    let ps = d.pending;
-    let characters = arrays::put_in(cs, d.length, k, execution::character(insert));
-    let count = d.length + 1;
-    let table = index::table_of(characters, count);
-    let pending = arrays::kept_pending(ps, d.waiting);
-    let document = Document {
-        characters,
-        length: count,
-        pending,
-        waiting: d.waiting,
-        table,
-    };
-    Work {
-        document,
+    clear(characters, toggles, pending, heads, links, n, w);
+    characters::put_in(characters, toggles, heads, links, n, k, insert);
+    let progress = Progress {
+        length: n + 1,
+        waiting: w,
         integrated: 1,
         discarded: 0,
-    }
+    };
+    drain(characters, toggles, pending, heads, links, progress)
 }
 
-// The document with an insert carried out at its place, and with all that it released. A step of the calls and not a
-// call: they have checked the replica and found the place.
-pub fn integrate_and_drain(replica: Replica, insert: Insert, k: usize) -> Work
-    requires { ⌜ Placed replica insert k ⌝ }
-    ensures { λ r. ⌜ r
-        ≡ finished (integrateInsert (meaning replica .characters) insert) (meaning replica .pending) 1 0 ⌝ }
+// Gives the character in a slot the larger count of toggles. A step of the calls and not a call: they have checked the
+// replica and found the target there.
+pub fn toggle(
+    characters: &mut [u32],
+    toggles: &mut [u8],
+    pending: &mut [u32],
+    heads: &mut [u16],
+    links: &mut [u16],
+    n: usize,
+    w: usize,
+    k: usize,
+    toggle: Toggle,
+)
+    requires { ⌜ length (now characters) ≡ 4096 ⌝ }
+    requires { ⌜ length (now pending) ≡ 2048 ⌝ }
+    requires { ⌜ Targeted
+        (columnsAs (now characters) (now toggles) n (now pending) w (now heads) (now links)) toggle k ⌝ }
+    ensures { λ _. ⌜ (columnsAs (now (characters .exit)) (now (toggles .exit)) n (now (pending .exit)) w
+        (now (heads .exit)) (now (links .exit)))
+        ≡ documentOf (integrateToggle (charactersIn (columnsAs (now (characters .entry)) (now (toggles .entry)) n
+        (now (pending .entry)) w (now (heads .entry)) (now (links .entry)))) toggle)
+        (operationsIn (columnsAs (now (characters .entry)) (now (toggles .entry)) n (now (pending .entry)) w
+        (now (heads .entry)) (now (links .entry)))) ⌝ }
 {
-    drain(started(replica, insert, k))
+    clear(characters, toggles, pending, heads, links, n, w);
+    characters::toggle(toggles, k, toggle.toggles);
+}
+
+// Puts an operation behind the pending ones. A step of the calls and not a call: they have checked the replica and that
+// there is a slot.
+pub fn defer(
+    characters: &mut [u32],
+    toggles: &mut [u8],
+    pending: &mut [u32],
+    heads: &mut [u16],
+    links: &mut [u16],
+    n: usize,
+    w: usize,
+    operation: Operation,
+)
+    requires { ⌜ length (now characters) ≡ 4096 ⌝ }
+    requires { ⌜ length (now pending) ≡ 2048 ⌝ }
+    requires { ⌜ Lent (columnsAs (now characters) (now toggles) n (now pending) w (now heads) (now links)) ⌝ }
+    requires { ⌜ w < 512 ⌝ }
+    ensures { λ _. ⌜ (columnsAs (now (characters .exit)) (now (toggles .exit)) n (now (pending .exit)) (w + 1)
+        (now (heads .exit)) (now (links .exit)))
+        ≡ documentOf (charactersIn (columnsAs (now (characters .entry)) (now (toggles .entry)) n (now (pending .entry))
+        w (now (heads .entry)) (now (links .entry))))
+        (operationsIn (columnsAs (now (characters .entry)) (now (toggles .entry)) n (now (pending .entry)) w
+        (now (heads .entry)) (now (links .entry))) ++ operation ∷ []) ⌝ }
+{
+    clear(characters, toggles, pending, heads, links, n, w);
+    edits::push(pending, w, operation);
 }

@@ -30,7 +30,7 @@ use Rattle.lines.specs.declared.writing.Room.the-variants.{Until, Short}
 use Rattle.lines.specs.Room.{roomFor}
 use Rattle.cursor.specs.Bits.{shiftBits}
 use Rattle.codec.specs.Operations.{operationLine}
-use Rattle.woot.specs.Form.{replicaWellFormed}
+use Rattle.woot.specs.Memory.{replicaWellFormed}
 use Rattle.replica.specs.Texts.{textOf, textChecks, textWritten, textOut}
 use Rattle.saved.specs.Calls.{bytesOf}
 use Rattle.results.specs.Results.{result}

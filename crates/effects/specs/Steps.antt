@@ -12,7 +12,7 @@ use Rattle.woot.specs.declared.Moved.{Moved}
 use Rattle.woot.specs.declared.Generated.{Generated}
 use Rattle.woot.specs.declared.Written.{Written}
 use Rattle.woot.specs.declared.Written.the-variants.{Length, Refused as writtenRefused}
-use Rattle.woot.specs.Form.{replicaWellFormed}
+use Rattle.woot.specs.Memory.{replicaWellFormed}
 use Rattle.woot.specs.Answers.{changes, _⇒_, first, decided}
 use Rattle.cursor.specs.Bits.{shiftBits}
 use Rattle.codec.specs.Operations.{operationLine}

@@ -8,13 +8,21 @@ use woot::Operation;
 use woot::Refusal;
 use woot::Replica;
 use woot::Sent;
+use woot::Site;
 use woot::Written;
 ghost use mathlib.Core.Path.{_≡_};
+ghost use mathlib.Core.Bool.{true};
 ghost use mathlib.Core.List.{[]};
+ghost use Prim.Native.Nat.{_≤_};
+ghost use lib.ListN.{length};
 ghost use Rattle.woot.specs.declared.Answer.the-variants.{Done};
+ghost use Rattle.woot.specs.Answers.{changes, answerOf};
+ghost use Rattle.woot.specs.Memory.{replicaWellFormed};
+ghost use Rattle.woot.specs.Replicas.{receivedAt};
 ghost use Rattle.codec.specs.Operations.{operationLine};
-ghost use Rattle.storage.specs.Replicas.{receivedAt};
+ghost use Rattle.saved.specs.Format.{savedBytes};
 ghost use Rattle.saved.specs.Calls.{bytesOf};
+ghost use Rattle.saving.specs.Documents.{stateIn};
 ghost use Rattle.results.specs.Results.{numberOf};
 ghost use Rattle.effects.specs.Effects.{Leaves, writingNoted, writing, writingBoth};
 ghost use Rattle.effects.specs.Steps.{afterNoting, afterWriting, movedLeft};
@@ -37,11 +45,41 @@ fn after_writing(answer: Answer, written: Written) -> u64
     after_noting(answer, 0, written)
 }
 
-// Saves the replica, and answers so with a note.
-fn save_noted(answer: Answer, note: usize, replica: Replica, out: &mut [u8]) -> u64
-    ensures { λ r. ⌜ Leaves (writingNoted answer note (bytesOf replica) (now (out .entry))) r (now (out .exit)) [] ⌝ }
+// Saves the replica with these arrays, and answers so with a note. They have a slot for each of the n characters and
+// each of the w pending operations.
+fn save_noted<'a>(
+    answer: Answer,
+    note: usize,
+    site: Site,
+    characters: &'a [u32],
+    toggles: &'a [u8],
+    n: usize,
+    pending: &'a [u32],
+    w: usize,
+    out: &mut [u8],
+) -> u64
+    requires { ⌜ length (now characters) ≡ 4096 ⌝ }
+    requires { ⌜ n ≤ 1024 ⌝ }
+    requires { ⌜ n ≤ length (now toggles) ⌝ }
+    requires { ⌜ length (now pending) ≡ 2048 ⌝ }
+    requires { ⌜ w ≤ 512 ⌝ }
+    ensures { λ r. ⌜ Leaves (writingNoted answer note (savedBytes (stateIn site (now (characters .entry))
+        (now (toggles .entry)) n (now (pending .entry)) w)) (now (out .entry))) r (now (out .exit)) [] ⌝ }
 {
-    after_noting(answer, note, saving::put(Version::Second, replica, out))
+    after_noting(
+        answer,
+        note,
+        saving::put(
+            Version::Second,
+            site,
+            characters,
+            toggles,
+            n,
+            pending,
+            w,
+            out,
+        ),
+    )
 }
 
 // What is returned by a call that writes and does nothing else.
@@ -55,11 +93,22 @@ pub fn written(written: Written) -> u64
     after_writing(none, written)
 }
 
-// Saves the replica, and answers so.
+// Saves the replica, and answers so. A step of the calls and not a call: theirs is well formed.
 pub fn save(answer: Answer, replica: Replica, out: &mut [u8]) -> u64
+    requires { ⌜ replicaWellFormed replica ≡ true ⌝ }
     ensures { λ r. ⌜ Leaves (writing answer (bytesOf replica) (now (out .entry))) r (now (out .exit)) [] ⌝ }
 {
-    save_noted(answer, 0, replica, out)
+    save_noted(
+        answer,
+        0,
+        replica.site,
+        &replica.document.characters,
+        &replica.document.toggles,
+        replica.document.length,
+        &replica.document.pending,
+        replica.document.waiting,
+        out,
+    )
 }
 
 // Writes the visible text.
@@ -70,34 +119,50 @@ pub fn show(replica: Replica, out: &mut [u8]) -> u64
 }
 
 // Receives the operation with a cursor at the insertion point, saves the replica if that changed it, and notes the
-// shift. These are the steps of `cursor::receive_at`: what that returns would be one more replica on the stack.
+// shift.
 pub fn receive_at(replica: Replica, operation: Operation, point: usize, out: &mut [u8]) -> u64
     ensures { λ r. ⌜ Leaves (movedLeft (receivedAt replica operation point) (now (out .entry)))
         r (now (out .exit)) [] ⌝ }
 {
-    let d = replica.document;
-    let anchor = cursor::anchored(d, point);
-    let receipt = replica::receive(replica, operation);
-    let received = receipt.answer;
-    let answer = cursor::answered(received, anchor.beyond);
+    let moved = cursor::receive_at(replica, operation, point);
+    let answer = moved.answer;
     if !answer.is_change() {
         return results::returned(answer, 0, 0);
     }
-    let after = receipt.replica;
-    let left = anchor.left;
-    let shift = cursor::shift(after, left, point);
-    save_noted(answer, cursor::bits(shift), after, out)
+    let after = moved.replica;
+    save_noted(
+        answer,
+        cursor::bits(moved.shift),
+        after.site,
+        &after.document.characters,
+        &after.document.toggles,
+        after.document.length,
+        &after.document.pending,
+        after.document.waiting,
+        out,
+    )
 }
 
-// Saves the replica and writes the line, or neither: the line is measured before anything is written.
-fn save_both(
+// Saves the replica with these arrays and writes the line, or neither: the line is measured before anything is written.
+fn save_both<'a>(
     answer: Answer,
-    replica: Replica,
+    site: Site,
+    characters: &'a [u32],
+    toggles: &'a [u8],
+    n: usize,
+    pending: &'a [u32],
+    w: usize,
     operation: Operation,
     out: &mut [u8],
     line: &mut [u8],
 ) -> u64
-    ensures { λ r. ⌜ Leaves (writingBoth answer (bytesOf replica) (operationLine operation)
+    requires { ⌜ length (now characters) ≡ 4096 ⌝ }
+    requires { ⌜ n ≤ 1024 ⌝ }
+    requires { ⌜ n ≤ length (now toggles) ⌝ }
+    requires { ⌜ length (now pending) ≡ 2048 ⌝ }
+    requires { ⌜ w ≤ 512 ⌝ }
+    ensures { λ r. ⌜ Leaves (writingBoth answer (savedBytes (stateIn site (now (characters .entry))
+        (now (toggles .entry)) n (now (pending .entry)) w)) (operationLine operation)
         (now (out .entry)) (now (line .entry)))
         r (now (out .exit)) (now (line .exit)) ⌝ }
 {
@@ -105,20 +170,32 @@ fn save_both(
     match space {
         Room::Short => results::refused(Refusal::Output),
         Room::Until(length) => {
-            let written = saving::put(Version::Second, replica, out);
+            let written = saving::put(
+                Version::Second,
+                site,
+                characters,
+                toggles,
+                n,
+                pending,
+                w,
+                out,
+            );
             match written {
                 Written::Refused(refusal) => results::refused(refusal),
-                Written::Length(n) => {
+                Written::Length(saved) => {
                     codec::writing::put_operation(operation, line, 0);
-                    results::returned(answer, n, length)
+                    results::returned(answer, saved, length)
                 }
             }
         }
     }
 }
 
-// Saves the new replica and writes the line of the operation to be sent, or answers the refusal.
+// Saves the new replica and writes the line of the operation to be sent, or answers the refusal. A step of the calls
+// and not a call: what they generate leaves the replica well formed.
 pub fn send(generated: Generated, out: &mut [u8], line: &mut [u8]) -> u64
+    requires { ⌜ (changes (answerOf (generated .answer)) ≡ true
+        → replicaWellFormed (generated .replica) ≡ true) ⌝ }
     ensures { λ r. ⌜ Leaves (generatedLeft generated (now (out .entry)) (now (line .entry)))
         r (now (out .exit)) (now (line .exit)) ⌝ }
 {
@@ -135,7 +212,18 @@ pub fn send(generated: Generated, out: &mut [u8], line: &mut [u8]) -> u64
                 discarded,
             };
             let after = generated.replica;
-            save_both(done, after, operation, out, line)
+            save_both(
+                done,
+                after.site,
+                &after.document.characters,
+                &after.document.toggles,
+                after.document.length,
+                &after.document.pending,
+                after.document.waiting,
+                operation,
+                out,
+                line,
+            )
         }
     }
 }

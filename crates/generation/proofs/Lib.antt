@@ -1,2 +1,2 @@
-pub mod Outcomes
-pub mod Generating
+pub mod Inserting
+pub mod Toggling

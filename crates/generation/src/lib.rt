@@ -1,132 +1,230 @@
-// Inserting here, on a replica that is well formed. (Document 01: typing.) The public functions are steps of the calls
-// and not calls: the calls have checked the range and the form.
-use index::Index;
+// What inserting, deleting and restoring here make, on lent arrays, before any of them is changed: a refusal, or an
+// operation and where it goes. (Document 01: typing and erasing; document 02, Req 05: restoring.) The public functions
+// are steps of the calls and not calls: the calls have checked the range and the form.
+use index::Found;
+use index::table;
 use integration::Placement;
-use pending::queue::Queue;
-use pending::room;
-use woot::Generated;
+use pending::counts;
 use woot::Identifier;
 use woot::Insert;
-use woot::Operation;
 use woot::Refusal;
-use woot::Replica;
-use woot::Sent;
+use woot::Site;
+use woot::Toggle;
 ghost use mathlib.Core.Path.{_≡_};
 ghost use mathlib.Core.Bool.{true};
-ghost use Prim.Native.Nat.{_<_};
-ghost use Rattle.woot.specs.declared.Sent.the-variants.{Refused as sentRefused};
-ghost use Rattle.woot.specs.Limits.{lastClock};
-ghost use Rattle.woot.specs.Ranges.{codePoint};
-ghost use Rattle.woot.specs.State.{meaning};
-ghost use Rattle.woot.specs.Calls.{generatedInsert};
-ghost use Rattle.integration.specs.declared.Placement.the-variants.{Below};
-ghost use Rattle.storage.specs.Replicas.{inserted};
-ghost use Rattle.pending.specs.Queue.{queueOf};
-ghost use Rattle.integration.specs.Placements.{placementOf};
+ghost use Prim.Native.Nat.{_+_, _≤_, _<_};
+ghost use lib.ListN.{length, take};
+ghost use Rattle.woot.specs.Limits.{lastClock, lastToggles};
+ghost use Rattle.woot.specs.Ranges.{codePoint, characterId};
+ghost use Rattle.woot.specs.Calls.{nextIdentifier};
+ghost use Rattle.woot.specs.Memory.{identifier};
+ghost use Rattle.memory.specs.Lent.{documentAs};
 ghost use Rattle.well_formed.specs.Examined.{Examined};
-ghost use Rattle.generation.specs.Sending.{Sendable, sentInsert};
+ghost use Rattle.generation.specs.Decisions.{sentIn, InsertDecided, DeleteDecided, RestoreDecided};
 
-// The replica as it was, with a refusal.
-pub fn refused(replica: Replica, refusal: Refusal) -> Generated
-    ensures { λ r. ⌜ r ≡ record { answer = sentRefused refusal; replica = replica } ⌝ }
-{
-    Generated {
-        answer: Sent::Refused(refusal),
-        replica,
-    }
+// What inserting here makes: nothing, or an insert that goes in after the first so many characters.
+pub enum MadeInsert {
+    Refused(Refusal),
+    Place(usize, Insert),
 }
 
-// The insert that is made here: the next identifier, and the visible neighbours of the insertion point.
-fn generated_insert(replica: Replica, point: usize, code_point: u32) -> Insert
-    requires { ⌜ replica .site .clock < lastClock ⌝ }
-    ensures { λ r. ⌜ r ≡ generatedInsert (meaning replica) point «code_point» ⌝ }
+// What deleting and restoring here make: nothing, or a toggle whose target stands in the slot.
+pub enum MadeToggle {
+    Refused(Refusal),
+    Toggle(usize, Toggle),
+}
+
+// The insert that a site makes next, between the identifiers with two keys.
+fn next_insert(site: Site, left: u32, right: u32, code_point: u32) -> Insert
+    requires { ⌜ site .clock < lastClock ⌝ }
+    requires { ⌜ left < 16777216 ⌝ }
+    requires { ⌜ right < 16777216 ⌝ }
+    ensures { λ r. ⌜ r
+        ≡ record {
+          id = nextIdentifier site;
+          «code_point» = «code_point»;
+          previous = identifier left;
+          next = identifier right;
+        } ⌝ }
 {
-    let site = replica.site;
-    let d = replica.document;
-    let n = d.length;
-    let cs = d.characters;
     Insert {
         id: Identifier {
             site: site.number,
             clock: site.clock + 1,
         },
         code_point,
-        previous: visible::left(cs, n, point),
-        next: visible::right(cs, n, point),
+        previous: memory::identifier(left),
+        next: memory::identifier(right),
     }
 }
 
-// Carries out an insert that goes in after the first k characters; the clock follows it, by one since it was made here.
-fn send(replica: Replica, queue: Queue, insert: Insert, k: usize) -> Generated
-    requires { ⌜ Sendable replica insert ⌝ }
-    requires { ⌜ queue ≡ queueOf (meaning replica .pending) ⌝ }
-    requires { ⌜ placementOf (meaning replica .characters) insert ≡ Below k ⌝ }
-    ensures { λ r. ⌜ r ≡ sentInsert replica insert ⌝ }
+// An insert that was made here goes by its place, which is looked at before the room. Its neighbours are held and in
+// order.
+fn sent(n: usize, own: &[u32], w: usize, insert: Insert, placement: Placement) -> MadeInsert
+    requires { ⌜ w ≤ length (now own) ⌝ }
+    ensures { λ r. ⌜ r ≡ sentIn n (take w (now (own .entry))) insert placement ⌝ }
 {
-    let d = replica.document;
-    if room::document_full(d.length, &queue.own, d.waiting) {
-        return refused(replica, Refusal::DocumentFull);
-    }
-    let site = clock::heard(replica.site, insert);
-    let work = delivery::integrate_and_drain(replica, insert, k);
-    let document = work.document;
-    Generated {
-        answer: Sent::Done {
-            operation: Operation::Insert(insert),
-            integrated: work.integrated,
-            discarded: work.discarded,
-        },
-        replica: Replica { site, document },
+    match placement {
+        Placement::Missing => MadeInsert::Refused(Refusal::Unplaceable),
+        Placement::Crossed => MadeInsert::Refused(Refusal::Unplaceable),
+        Placement::Unplaceable => MadeInsert::Refused(Refusal::Unplaceable),
+        Placement::Below(k) => {
+            if counts::document_full(n, own, w) {
+                return MadeInsert::Refused(Refusal::DocumentFull);
+            }
+            MadeInsert::Place(k, insert)
+        }
     }
 }
 
-// Carries out an insert that was made here, where it has a place. Its neighbours are held and in order.
-fn send_placed(replica: Replica, index: Index, queue: Queue, insert: Insert) -> Generated
-    requires { ⌜ Examined replica index queue ⌝ }
-    requires { ⌜ Sendable replica insert ⌝ }
-    ensures { λ r. ⌜ r ≡ sentInsert replica insert ⌝ }
-{
-    let d = replica.document;
-    match integration::find_place(
-        &d.table.heads,
-        &d.table.links,
-        &index.ids,
-        &index.above,
-        &index.below,
-        d.length,
-        insert,
-    ) {
-        Placement::Missing => refused(replica, Refusal::Unplaceable),
-        Placement::Crossed => refused(replica, Refusal::Unplaceable),
-        Placement::Unplaceable => refused(replica, Refusal::Unplaceable),
-        Placement::Below(k) => send(replica, queue, insert, k),
-    }
-}
-
-// Inserts a code point at an insertion point among the visible characters. The clock of a replica that is well formed
-// reaches every identifier of the site's, so that the next one is nobody's (refusal 6). A step of the calls and not a
-// call: they have checked the replica and the code point.
-pub fn insert_visible(
-    replica: Replica,
-    index: Index,
-    queue: Queue,
+// Makes the insert of a code point at an insertion point among the visible characters. The clock of a replica that is
+// well formed reaches every identifier of the site's, so that the next one is nobody's (refusal 6). A step of the calls
+// and not a call: they have checked the replica and the code point.
+pub fn make_insert<'a>(
+    heads: &'a [u16],
+    links: &'a [u16],
+    ids: &'a [u32],
+    previous: &'a [u32],
+    next: &'a [u32],
+    code_points: &'a [u32],
+    toggles: &'a [u8],
+    n: usize,
+    own: &'a [u32],
+    first: &'a [u32],
+    second: &'a [u32],
+    values: &'a [u32],
+    w: usize,
+    site: Site,
     point: usize,
     code_point: u32,
-) -> Generated
-    requires { ⌜ Examined replica index queue ⌝ }
+) -> MadeInsert
+    requires { ⌜ Examined (record {
+      site = site;
+      document = documentAs (now ids) (now previous) (now next) (now «code_points») (now toggles) n
+          (now own) (now first) (now second) (now values) w (now heads) (now links);
+    }) ⌝ }
     requires { ⌜ codePoint «code_point» ≡ true ⌝ }
-    ensures { λ r. ⌜ r ≡ inserted replica point «code_point» ⌝ }
+    ensures { λ r. ⌜ InsertDecided (record {
+      site = site;
+      document = documentAs (now (ids .entry)) (now (previous .entry)) (now (next .entry))
+          (now («code_points» .entry)) (now (toggles .entry)) n
+          (now (own .entry)) (now (first .entry)) (now (second .entry)) (now (values .entry)) w
+          (now (heads .entry)) (now (links .entry));
+    }) point «code_point» r ⌝ }
 {
-    let d = replica.document;
-    let n = d.length;
-    let cs = d.characters;
-    if visible::count(cs, n) < point {
-        return refused(replica, Refusal::Position);
+    if visible::count(toggles, n) < point {
+        return MadeInsert::Refused(Refusal::Position);
     }
-    let site = replica.site;
     if 65535 <= site.clock {
-        return refused(replica, Refusal::Clock);
+        return MadeInsert::Refused(Refusal::Clock);
     }
-    let i = generated_insert(replica, point, code_point);
-    send_placed(replica, index, queue, i)
+    let left = visible::left(ids, toggles, n, point);
+    let right = visible::right(ids, toggles, n, point);
+    let insert = next_insert(site, left, right, code_point);
+    let placement = integration::find_place(heads, links, ids, previous, next, n, insert);
+    sent(n, own, w, insert, placement)
+}
+
+// The toggle that a site makes of a character with so many.
+fn next_toggle(site: Site, target: Identifier, toggles: u8) -> Toggle
+    requires { ⌜ toggles < lastToggles ⌝ }
+    ensures { λ r. ⌜ r ≡ record { sender = site .number; target = target; toggles = toggles + 1 } ⌝ }
+{
+    Toggle {
+        sender: site.number,
+        target,
+        toggles: toggles + 1,
+    }
+}
+
+// Makes the toggle that deletes the visible character at the place, counted from 1. Its count is even, so that there is
+// a higher one. A step of the calls and not a call: they have checked the replica.
+pub fn make_delete<'a>(
+    heads: &'a [u16],
+    links: &'a [u16],
+    ids: &'a [u32],
+    previous: &'a [u32],
+    next: &'a [u32],
+    code_points: &'a [u32],
+    toggles: &'a [u8],
+    n: usize,
+    own: &'a [u32],
+    first: &'a [u32],
+    second: &'a [u32],
+    values: &'a [u32],
+    w: usize,
+    site: Site,
+    place: usize,
+) -> MadeToggle
+    requires { ⌜ Examined (record {
+      site = site;
+      document = documentAs (now ids) (now previous) (now next) (now «code_points») (now toggles) n
+          (now own) (now first) (now second) (now values) w (now heads) (now links);
+    }) ⌝ }
+    ensures { λ r. ⌜ DeleteDecided (record {
+      site = site;
+      document = documentAs (now (ids .entry)) (now (previous .entry)) (now (next .entry))
+          (now («code_points» .entry)) (now (toggles .entry)) n
+          (now (own .entry)) (now (first .entry)) (now (second .entry)) (now (values .entry)) w
+          (now (heads .entry)) (now (links .entry));
+    }) place r ⌝ }
+{
+    if place == 0 {
+        return MadeToggle::Refused(Refusal::Position);
+    }
+    match visible::nth(toggles, n, place - 1) {
+        Found::At(k) => {
+            let target = memory::identifier(ids[k]);
+            MadeToggle::Toggle(k, next_toggle(site, target, toggles[k]))
+        }
+        Found::Nothing => MadeToggle::Refused(Refusal::Position),
+    }
+}
+
+// Makes the toggle that restores the hidden character with the identifier. A step of the calls and not a call: they
+// have checked the replica and the identifier.
+pub fn make_restore<'a>(
+    heads: &'a [u16],
+    links: &'a [u16],
+    ids: &'a [u32],
+    previous: &'a [u32],
+    next: &'a [u32],
+    code_points: &'a [u32],
+    toggles: &'a [u8],
+    n: usize,
+    own: &'a [u32],
+    first: &'a [u32],
+    second: &'a [u32],
+    values: &'a [u32],
+    w: usize,
+    site: Site,
+    id: Identifier,
+) -> MadeToggle
+    requires { ⌜ Examined (record {
+      site = site;
+      document = documentAs (now ids) (now previous) (now next) (now «code_points») (now toggles) n
+          (now own) (now first) (now second) (now values) w (now heads) (now links);
+    }) ⌝ }
+    requires { ⌜ characterId id ≡ true ⌝ }
+    ensures { λ r. ⌜ RestoreDecided (record {
+      site = site;
+      document = documentAs (now (ids .entry)) (now (previous .entry)) (now (next .entry))
+          (now («code_points» .entry)) (now (toggles .entry)) n
+          (now (own .entry)) (now (first .entry)) (now (second .entry)) (now (values .entry)) w
+          (now (heads .entry)) (now (links .entry));
+    }) id r ⌝ }
+{
+    match table::find_among(heads, links, ids, n, index::key(id)) {
+        Found::At(k) => {
+            let count = toggles[k];
+            if count % 2 == 0 {
+                return MadeToggle::Refused(Refusal::NotHidden);
+            }
+            if count == 255 {
+                return MadeToggle::Refused(Refusal::LastToggle);
+            }
+            MadeToggle::Toggle(k, next_toggle(site, id, count))
+        }
+        Found::Nothing => MadeToggle::Refused(Refusal::NotHidden),
+    }
 }

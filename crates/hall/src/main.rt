@@ -3,6 +3,8 @@
 use woot::Replica;
 use woot::Written;
 ghost use mathlib.Core.Path.{_≡_};
+ghost use mathlib.Core.Bool.{true};
+ghost use Rattle.woot.specs.Memory.{replicaWellFormed};
 ghost use Rattle.transcript.specs.Calls.{answered};
 
 const STDIN: i32 = 0;
@@ -47,8 +49,10 @@ fn print_line(replica: Replica, number: u64, bytes: &[u8]) -> Printed
     }
 }
 
-// Prints the visible characters.
-fn print_text(replica: Replica) {
+// Prints the visible characters of a replica that is well formed, as the program's is from the first line to the last.
+fn print_text(replica: Replica)
+    requires { ⌜ replicaWellFormed replica ≡ true ⌝ }
+{
     let mut line = [0u8; 8199];
     let written = transcript::report::text_line(replica, &mut line);
     if let Written::Length(n) = written {

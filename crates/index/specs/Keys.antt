@@ -5,7 +5,7 @@ use mathlib.Core.List.{List, [], _∷_, _++_, map, List·Memᴰ}
 use lib.Dec.{eqb}
 use Rattle.woot.specs.declared.Identifier.{Identifier}
 use Rattle.woot.specs.declared.Character.{Character}
-use Rattle.woot.specs.Table.{key}
+use Rattle.woot.specs.Placing.{placeOf}
 use Rattle.index.specs.declared.Found.{Found}
 use Rattle.index.specs.declared.Found.the-variants.{At, Nothing}
 
@@ -21,13 +21,6 @@ pub record SmallParts (c : Character) : Type 0 where
 
 abbrev pub AllSmall : List Character → Type 0
 AllSmall cs = (c : Character) → List·Memᴰ c cs → SmallParts c
-
--- the keys of the characters' previous and of their next
-abbrev pub previousKeys : List Character → List ℕ
-previousKeys cs = map (λ c. key (c .previous)) cs
-
-abbrev pub nextKeys : List Character → List ℕ
-nextKeys cs = map (λ c. key (c .next)) cs
 
 -- the first index of k, or the length where it does not occur
 unfoldable pub indexIn : ℕ → List ℕ → ℕ
@@ -51,3 +44,10 @@ found k xs = firstIndex (λ x. eqb k x) xs
 -- where k stands among the keys, the begin mark's above them and the end mark's below
 unfoldable pub placeIn : List ℕ → ℕ → ℕ
 placeIn ks k = indexIn k (0 ∷ (ks ++ 1 ∷ []))
+
+-- where the previous of each character stands, and the next
+abbrev pub previousPlaces : List Character → List ℕ
+previousPlaces cs = map (λ c. placeOf cs (c .previous)) cs
+
+abbrev pub nextPlaces : List Character → List ℕ
+nextPlaces cs = map (λ c. placeOf cs (c .next)) cs

@@ -1,4 +1,2 @@
 pub mod Keys
 pub mod Tabled
-pub mod Packing
-pub mod Index

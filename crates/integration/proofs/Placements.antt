@@ -1,12 +1,11 @@
 -- What is found for an insert says which of the rules' conditions hold, and where the insert goes.
 use Prim.Native.Nat.{ℕ, suc, _≤_, _<_}
-use native.Mathlib.Omega.{arith}
 use mathlib.Core.Path.{_≡_, refl, subst, _∙_}
 use mathlib.Core.Bool.{Bool, true, false}
 use mathlib.Core.Option.{Option, none, some}
 use mathlib.Core.List.{List}
 use borrow.Author.Tests.{lt-ltb, le-ltb, le-leb, lt-leb}
-use lib.ListN.{length, take}
+use lib.ListN.{length}
 use Rattle.woot.specs.declared.Identifier.{Identifier}
 use Rattle.woot.specs.declared.Insert.{Insert}
 use Rattle.woot.specs.declared.Operation.the-variants.{Insert as insert}
@@ -16,15 +15,8 @@ use Rattle.woot.specs.Placing.{placeOf, held, above, position, between, insertA
 use Rattle.woot.specs.Pending.{executable, crossed, unplaceable}
 use Rattle.convergence.proofs.Standing.{placement-at}
 use Rattle.woot.specs.Table.{key, keys}
-use Rattle.index.specs.declared.Index.{Index}
 use Rattle.index.specs.Keys.{Small, AllSmall, placeIn}
-use Rattle.index.specs.Packing.{previousPlaces, nextPlaces}
-use Rattle.index.specs.Index.{indexOf}
 use Rattle.index.proofs.Indices.{place-keys}
-use Rattle.index.proofs.Indexes.{index-ids, index-above, index-below}
-use Rattle.index.specs.declared.Found.{Found}
-use Rattle.index.specs.declared.Found.the-variants.{At, Nothing}
-use Rattle.integration.specs.Passes.{asFound}
 use Rattle.integration.specs.declared.Placement.{Placement}
 use Rattle.integration.specs.declared.Placement.the-variants.{Missing, Crossed, Unplaceable, Below}
 use Rattle.integration.specs.Placements.{placementAt, placementOf}
@@ -36,13 +28,6 @@ pub sought : (cs : List Character) → AllSmall cs → (ids : List ℕ) → ids 
     → place ≡ placeIn ids k
     → place ≡ placeOf cs x
 sought cs s ids e x k place h p = p ∙ rw (e, h .0) (place-keys x (h .1) cs s)
-
--- the neighbours are held and in order, and the place between them is that of the rules
-pub record Searched (cs : List Character) (i : Insert) (r : Found) : Type 0 where
-  pub previous-in : placeOf cs (i .previous) ≤ suc (length cs)
-  pub next-in : placeOf cs (i .next) ≤ suc (length cs)
-  pub ordered : placeOf cs (i .previous) < placeOf cs (i .next)
-  pub result : r ≡ asFound (position cs (i .id) (between cs i))
 
 module _ (cs : List Character) (i : Insert) where
   -- ---- from the places
@@ -73,22 +58,6 @@ module _ (cs : List Character) (i : Insert) where
       unfolding placementOf
       places-found = rw (ready, ordered)
 
-      pub places-at : (k : ℕ) → At k ≡ asFound (position cs (i .id) (between cs i)) → placementOf cs i ≡ Below k
-      unfolding placementOf placementAt
-      places-at k e = rw (ready, ordered) (go (position cs (i .id) (between cs i)) e)
-        where
-          go : (o : Option ℕ) → At k ≡ asFound o → placementAt o ≡ Below k
-          go none e = absurd (let z : _≡_ {A = ℕ} 0 1 = cc in omega arith)
-          go (some j) e = let z : j ≡ k = cc in rw z
-
-      pub places-nothing : Nothing ≡ asFound (position cs (i .id) (between cs i)) → placementOf cs i ≡ Unplaceable
-      unfolding placementOf placementAt
-      places-nothing e = rw (ready, ordered) (go (position cs (i .id) (between cs i)) e)
-        where
-          go : (o : Option ℕ) → Nothing ≡ asFound o → placementAt o ≡ Unplaceable
-          go none e = refl
-          go (some j) e = absurd (let z : _≡_ {A = ℕ} 0 1 = cc in omega arith)
-
   -- ---- to the conditions
 
   -- what each finding says of the insert
@@ -116,10 +85,3 @@ module _ (cs : List Character) (i : Insert) where
           let p = placement-at cs i b straight k g in
           let same : p .place ≡ k = cc (p .found) in
           rw (b, f, g) (b, straight, rw (b, g), rw same at (p .result), rw same at (p .within))
-
--- what is found by an index of the characters
-pub placed-by : {cs : List Character} {x : Index} {n : ℕ} (i : Insert) {p : Placement} → x ≡ indexOf cs → length cs ≡ n → AllSmall cs
-    → ((ds : List Character) → take n (x .ids) ≡ keys ds → take n (x .above) ≡ previousPlaces ds → take n (x .below) ≡ nextPlaces ds → AllSmall ds → p ≡ placementOf ds i)
-    → p ≡ placementOf cs i
-placed-by {cs} {n = n} i e count small found =
-    found cs (rw e (index-ids cs n count)) (rw e (index-above cs n count)) (rw e (index-below cs n count)) small

@@ -17,7 +17,7 @@ use Rattle.convergence.proofs.Placing.{narrowing}
 use Rattle.integration.specs.declared.Interval.{Interval}
 use Rattle.woot.specs.Table.{key, keys}
 use Rattle.index.specs.Keys.{Small, AllSmall}
-use Rattle.index.specs.Packing.{previousPlaces, nextPlaces}
+use Rattle.index.specs.Keys.{previousPlaces, nextPlaces}
 use Rattle.integration.specs.Passes.{LocatedKey, locatedKeys, outside, candidateIn, walkIn, passIn, width, searchIn, positionIn}
 use Rattle.index.proofs.Keys.{key-below}
 

@@ -6,8 +6,6 @@ use mathlib.Core.List.{List, [], _∷_}
 use mathlib.Core.Option.{Option, none, some}
 use lib.Dec.{leb, ltb}
 use Rattle.integration.specs.declared.Interval.{Interval}
-use Rattle.index.specs.declared.Found.{Found}
-use Rattle.index.specs.declared.Found.the-variants.{At, Nothing}
 
 -- a character as a pass sees it: its place and key, and where its previous and its next stand
 pub record LocatedKey : Type 0 where
@@ -58,8 +56,3 @@ searchIn (suc n) es k v =
 unfoldable pub positionIn : List ℕ → List ℕ → List ℕ → ℕ → ℕ → ℕ → Option ℕ
 positionIn ids above below k upper lower =
     searchIn lower (locatedKeys 1 ids above below) k (record { upper = upper; lower = lower })
-
--- as the code answers it
-abbrev pub asFound : Option ℕ → Found
-asFound none = Nothing
-asFound (some n) = At n

@@ -1,19 +1,26 @@
-// Where an insert goes: the place between its neighbours, found in passes over the candidates there.
-pub mod keyed;
-
-use index::Found;
+// Where an insert goes: the place between its neighbours, found in passes over the candidates there. The places of the
+// candidates' own neighbours are sought as a pass comes to them, and of no character outside the interval.
 use woot::Insert;
 ghost use mathlib.Core.Path.{_≡_};
+ghost use mathlib.Core.List.{List, map};
 ghost use Prim.Native.Nat.{_<_, _≤_};
-ghost use lib.ListN.{length, take};
-ghost use Rattle.woot.specs.Table.{key, keys as keysOfCharacters};
-ghost use Rattle.index.specs.Keys.{AllSmall};
-ghost use Rattle.index.specs.Packing.{previousPlaces, nextPlaces};
-ghost use Rattle.integration.specs.Passes.{locatedKeys, outside, passIn, width, positionIn, asFound};
-ghost use mathlib.Core.List.{List};
+ghost use lib.ListN.{length, take, getD};
 ghost use Rattle.woot.specs.declared.Character.{Character};
+ghost use Rattle.woot.specs.Table.{keys as keysOfCharacters};
+ghost use Rattle.woot.specs.Memory.{previousKeys, nextKeys};
+ghost use Rattle.index.specs.Keys.{AllSmall, placeIn};
 ghost use Rattle.index.specs.Tabled.{Tabled};
-ghost use Rattle.integration.specs.Placements.{placementOf};
+ghost use Rattle.integration.specs.Passes.{locatedKeys, outside, passIn, width, positionIn};
+ghost use Rattle.integration.specs.Placements.{placementAt, placementOf};
+
+// What is found for an insert: a neighbour is not held, they stand in the wrong order, there is no candidate, or the
+// place just above it.
+pub enum Placement {
+    Missing,
+    Crossed,
+    Unplaceable,
+    Below(usize),
+}
 
 // The places strictly between which a character is to be put.
 struct Interval {
@@ -31,30 +38,61 @@ fn width(interval: Interval) -> usize
     interval.lower - interval.upper
 }
 
-// Whether the places of both neighbours are outside the interval, or its ends.
-fn outside(above: u16, below: u16, interval: Interval) -> bool
-    ensures { λ r. ⌜ r ≡ outside above below interval ⌝ }
+// Whether both neighbours of the character at the index stand outside the interval, or at its ends. They are compared
+// with the characters beside it first, and the next is not sought where the previous stands inside.
+fn outside<'a>(
+    heads: &'a [u16],
+    links: &'a [u16],
+    ids: &'a [u32],
+    previous: &'a [u32],
+    next: &'a [u32],
+    end: usize,
+    at: usize,
+    interval: Interval,
+) -> bool
+    requires { ⌜ Tabled (record { heads = now heads; links = now links }) (now ids) ⌝ }
+    requires { ⌜ end ≡ placeIn (now ids) 1 ⌝ }
+    requires { ⌜ at < length (now previous) ⌝ }
+    requires { ⌜ at < length (now next) ⌝ }
+    ensures { λ r. ⌜ r
+        ≡ outside (placeIn (now (ids .entry)) (getD (now (previous .entry)) at 0))
+        (placeIn (now (ids .entry)) (getD (now (next .entry)) at 0)) interval ⌝ }
 {
-    if interval.upper < above as usize {
+    let above = index::place_near(heads, links, ids, end, at, previous[at]);
+    if interval.upper < above {
         return false;
     }
-    interval.lower <= below as usize
+    let below = index::place_near(heads, links, ids, end, at + 2, next[at]);
+    interval.lower <= below
 }
 
 // One pass over the candidates: the interval between the last that the key passes and the one that it stops at.
-fn pass(ids: &[u32], above: &[u16], below: &[u16], key: u32, interval: Interval) -> Interval
+fn pass<'a>(
+    heads: &'a [u16],
+    links: &'a [u16],
+    ids: &'a [u32],
+    previous: &'a [u32],
+    next: &'a [u32],
+    end: usize,
+    key: u32,
+    interval: Interval,
+) -> Interval
+    requires { ⌜ Tabled (record { heads = now heads; links = now links }) (now ids) ⌝ }
+    requires { ⌜ end ≡ placeIn (now ids) 1 ⌝ }
+    requires { ⌜ length (now ids) ≤ length (now previous) ⌝ }
+    requires { ⌜ length (now ids) ≤ length (now next) ⌝ }
     requires { ⌜ interval .upper < interval .lower ⌝ }
     ensures { λ r. ⌜ r
-        ≡ passIn (locatedKeys 1 (now (ids .entry)) (now (above .entry)) (now (below .entry))) key interval ⌝ }
+        ≡ passIn (locatedKeys 1 (now (ids .entry)) (map (placeIn (now (ids .entry))) (now (previous .entry)))
+        (map (placeIn (now (ids .entry))) (now (next .entry)))) key interval ⌝ }
 {
-    let shortest = index::lesser(ids.len(), index::lesser(above.len(), below.len()));
-    let end = index::lesser(shortest, interval.lower - 1);
+    let last = index::lesser(ids.len(), interval.lower - 1);
     let mut upper = interval.upper;
     let mut i = upper;
-    while i < end {
+    while i < last {
         let at = i;
         i += 1;
-        if outside(above[at], below[at], interval) {
+        if outside(heads, links, ids, previous, next, end, at, interval) {
             if key <= ids[at] {
                 return Interval { upper, lower: i };
             }
@@ -67,78 +105,76 @@ fn pass(ids: &[u32], above: &[u16], below: &[u16], key: u32, interval: Interval)
     }
 }
 
-// The place just above which the key goes in, between the upper and the lower place. `above` and `below` have the
-// places of the previous and the next of each of `ids`. Each pass narrows the interval, until nothing is between, or no
-// candidate.
-fn position(
-    ids: &[u32],
-    above: &[u16],
-    below: &[u16],
+// Where the key goes in, in the interval: just below a place, if there is one. Each pass narrows the interval, until
+// nothing is between, or no candidate.
+fn position<'a>(
+    heads: &'a [u16],
+    links: &'a [u16],
+    ids: &'a [u32],
+    previous: &'a [u32],
+    next: &'a [u32],
+    end: usize,
     key: u32,
-    upper: usize,
-    lower: usize,
-) -> Found
+    interval: Interval,
+) -> Placement
+    requires { ⌜ Tabled (record { heads = now heads; links = now links }) (now ids) ⌝ }
+    requires { ⌜ end ≡ placeIn (now ids) 1 ⌝ }
+    requires { ⌜ length (now ids) ≤ length (now previous) ⌝ }
+    requires { ⌜ length (now ids) ≤ length (now next) ⌝ }
     ensures { λ r. ⌜ r
-        ≡ asFound (positionIn (now (ids .entry)) (now (above .entry)) (now (below .entry)) key upper lower) ⌝ }
+        ≡ placementAt (positionIn (now (ids .entry)) (map (placeIn (now (ids .entry))) (now (previous .entry)))
+        (map (placeIn (now (ids .entry))) (now (next .entry))) key (interval .upper) (interval .lower)) ⌝ }
 {
-    let mut v = Interval { upper, lower };
+    let mut v = interval;
     while 1 < width(v) {
-        let next = pass(ids, above, below, key, v);
-        if width(v) <= width(next) {
-            return Found::Nothing;
+        let narrower = pass(heads, links, ids, previous, next, end, key, v);
+        if width(v) <= width(narrower) {
+            return Placement::Unplaceable;
         }
-        v = next;
+        v = narrower;
     }
-    Found::At(v.upper)
+    Placement::Below(v.upper)
 }
 
-// What is found for an insert: a neighbour is not held, they stand in the wrong order, there is no candidate, or the
-// place just above it.
-pub enum Placement {
-    Missing,
-    Crossed,
-    Unplaceable,
-    Below(usize),
-}
-
-// Finds the place of an insert among the n characters with these keys, whose previous and next have these places. A
-// step of the calls and not a call: they have an index of the characters in use, and a table of their keys.
+// Finds the place of an insert among n characters by their keys and those of their previous and next. The insert's own
+// are compared with the last character, and with the one below its previous, before the table is asked. A step of the
+// calls and not a call: they lend arrays of n characters, and a table that they have checked, or made.
 pub fn find_place<'a>(
     heads: &'a [u16],
     links: &'a [u16],
     keys: &'a [u32],
-    uppers: &'a [u16],
-    lowers: &'a [u16],
+    previous: &'a [u32],
+    next: &'a [u32],
     n: usize,
     insert: Insert,
 ) -> Placement
     requires { ⌜ n ≤ length (now keys) ⌝ }
-    requires { ⌜ n ≤ length (now uppers) ⌝ }
-    requires { ⌜ n ≤ length (now lowers) ⌝ }
+    requires { ⌜ n ≤ length (now previous) ⌝ }
+    requires { ⌜ n ≤ length (now next) ⌝ }
     requires { ⌜ Tabled (record { heads = now heads; links = now links }) (take n (now keys)) ⌝ }
     ensures { λ r. ⌜ ((cs : List Character)
-        → take n (now (keys .entry)) ≡ keysOfCharacters cs → take n (now (uppers .entry)) ≡ previousPlaces cs
-        → take n (now (lowers .entry)) ≡ nextPlaces cs → AllSmall cs → r ≡ placementOf cs insert) ⌝ }
+        → take n (now (keys .entry)) ≡ keysOfCharacters cs → take n (now (previous .entry)) ≡ previousKeys cs
+        → take n (now (next .entry)) ≡ nextKeys cs → AllSmall cs → r ≡ placementOf cs insert) ⌝ }
 {
     let ids = &keys[..n];
-    let above = &uppers[..n];
-    let below = &lowers[..n];
-    let previous = insert.previous;
-    let next = insert.next;
+    let firsts = &previous[..n];
+    let seconds = &next[..n];
+    let first = insert.previous;
+    let second = insert.next;
     let id = insert.id;
-    let upper = index::place_of(heads, links, ids, index::key(previous));
-    let lower = index::place_of(heads, links, ids, index::key(next));
-    if ids.len() + 1 < upper {
+    let own = index::key(id);
+    let end = index::place_of(heads, links, ids, 1);
+    let upper = index::place_near(heads, links, ids, end, n, index::key(first));
+    if n + 1 < upper {
         return Placement::Missing;
     }
-    if ids.len() + 1 < lower {
+    let lower = index::place_near(heads, links, ids, end, upper + 1, index::key(second));
+    if n + 1 < lower {
         return Placement::Missing;
     }
     if lower <= upper {
         return Placement::Crossed;
     }
-    match position(ids, above, below, index::key(id), upper, lower) {
-        Found::At(k) => Placement::Below(k),
-        Found::Nothing => Placement::Unplaceable,
-    }
+    let between = Interval { upper, lower };
+    position(heads, links, ids, firsts, seconds, end, own, between)
 }

@@ -7,15 +7,14 @@ use Rattle.woot.specs.declared.Site.{Site}
 use Rattle.woot.specs.declared.Replica.{Replica}
 use Rattle.woot.specs.declared.Sent.{Sent}
 use Rattle.woot.specs.declared.Sent.the-variants.{Done, Refused}
-use Rattle.woot.specs.State.{meaning, stored}
-use Rattle.woot.specs.Form.{replicaWellFormed}
+use Rattle.woot.specs.Memory.{meaning, stored, replicaWellFormed}
 use Rattle.woot.specs.Answers.{NoneHolds, first, decided}
 use Rattle.woot.specs.Calls.{Outcome, unchanged, afterDrain, insertChecks, generatedInsert, carryOut, sendInsert, localInsertWhen}
 use Rattle.convergence.proofs.Forms.{Formed, formed}
 use Rattle.convergence.proofs.Steps.{All, first-none, first-some, drained-still, generated-addable, typed-heard}
-use Rattle.storage.proofs.Stored.{form-meant}
+use Rattle.replica.proofs.Runs.{form-meant}
 use borrow.Author.Tests.{not-false}
-use Rattle.storage.specs.Replicas.{afterSent, generated, inserted}
+use Rattle.woot.specs.Replicas.{afterSent, generated, inserted}
 use Rattle.replica.specs.Theorems.{called}
 use Rattle.woot.specs.Histories.{inserting}
 use Rattle.replica.proofs.Kept.{replicas-formed}

@@ -8,9 +8,9 @@ use Rattle.woot.specs.declared.Document.{Document}
 use Rattle.woot.specs.declared.Replica.{Replica}
 use Rattle.woot.specs.declared.Sent.{Sent}
 use Rattle.woot.specs.declared.Sent.the-variants.{Done, Refused}
-use Rattle.woot.specs.Form.{replicaWellFormed}
+use Rattle.woot.specs.Memory.{replicaWellFormed}
 use Rattle.woot.specs.Histories.{inserting}
-use Rattle.storage.specs.Replicas.{inserted}
+use Rattle.woot.specs.Replicas.{inserted}
 use Rattle.replica.specs.Theorems.{called}
 use Rattle.lent.specs.declared.Returned.{Returned}
 

@@ -19,7 +19,8 @@ use Rattle.woot.specs.declared.Table.{Table}
 use Rattle.woot.specs.declared.Refusal.the-variants.{Layout, Range}
 use Rattle.woot.specs.Answers.{decided}
 use Rattle.woot.specs.Ranges.{siteInRange, characterInRange, inRange}
-use Rattle.woot.specs.State.{State, characterSlots, pendingSlots}
+use Rattle.woot.specs.State.{State}
+use Rattle.woot.specs.Memory.{characterSlots, pendingSlots}
 use Rattle.woot.specs.Form.{allInRange, raised}
 use Rattle.woot.specs.Table.{key, keys, tableOf}
 use Rattle.woot.specs.Memory.{inColumns, documentOf, previousKeys, nextKeys, codePoints, toggleCounts, ownKey, firstKey, secondKey, valueOf}
@@ -35,7 +36,7 @@ use Rattle.saved.specs.declared.LoadAnswer.the-variants.{Done, Refused}
 use Rattle.saved.specs.Format.{isSite, siteSaid, isCharacter, characterSaid, isOperation, operationSaid, headLine, characterLines, operationLines}
 use Rattle.saved.specs.Format.{laidOutAs, stateAs, characterWithin, inRangeAs}
 use Rattle.saved.specs.Calls.{readingChecks}
-use Rattle.saved.specs.Arrays.{fitting, inArrays, held}
+use Rattle.saved.specs.Calls.{fitting, inArrays, held}
 use Rattle.saved.proofs.Trips.{no-site, every-leading}
 use Rattle.saved_lines.specs.declared.SiteLine.{SiteLine}
 use Rattle.saved_lines.specs.Judging.{siteRead}

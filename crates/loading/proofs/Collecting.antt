@@ -13,9 +13,8 @@ use Rattle.lists.proofs.Members.{every-append}
 use Rattle.lists.proofs.Padding.{pad-length}
 use Rattle.woot.specs.declared.Character.{Character}
 use Rattle.woot.specs.declared.Operation.{Operation}
-use Rattle.woot.specs.State.{characterSlots, pendingSlots}
+use Rattle.woot.specs.Memory.{characterSlots, pendingSlots, toggleCounts, ownKey, firstKey, secondKey, valueOf}
 use Rattle.woot.specs.Table.{key}
-use Rattle.woot.specs.Memory.{toggleCounts, ownKey, firstKey, secondKey, valueOf}
 use Rattle.lines.specs.Lines.{ended, firstLine, rest, lines, closed, leading}
 use Rattle.lines.proofs.Lines.{lines-ended, closed-rest, closed-unended, rest-shorter}
 use Rattle.saved.specs.declared.Version.{Version}

@@ -1,6 +1,6 @@
 -- What was read into lent arrays, as the replica that they make: the answer decides, and where all is in range the form
 -- of the replica is that of the state that loading makes.
-use mathlib.Core.Path.{_≡_, refl, sym, ap, _∙_}
+use mathlib.Core.Path.{_≡_, refl, sym, ap, _∙_, subst}
 use mathlib.Core.List.{List}
 use mathlib.Core.Bool.{Bool, true, false}
 use mathlib.Core.Logic.{_⊎_, inl, inr, ⊎-elim}
@@ -8,21 +8,27 @@ use mathlib.Core.Option.{Option, none, some}
 use Prim.Native.Nat.{ℕ}
 use Rattle.woot.specs.declared.Refusal.{Refusal}
 use Rattle.woot.specs.declared.Refusal.the-variants.{Layout, Range, Form}
-use Rattle.woot.specs.declared.memory.Replica.{Replica}
-use Rattle.woot.specs.Memory.{meaning, stored, replicaWellFormed}
+use Rattle.woot.specs.declared.Replica.{Replica}
+use Rattle.woot.specs.Memory.{meaning, stored, replicaWellFormed, characterSlots, documentOf}
 use Rattle.woot.specs.Form.{wellFormed}
 use Rattle.woot.specs.Answers.{first, decided}
 use Rattle.saved.specs.declared.LoadAnswer.{LoadAnswer}
 use Rattle.saved.specs.declared.LoadAnswer.the-variants.{Done, Refused}
-use Rattle.saved.specs.declared.columns.Loaded.{Loaded}
+use Rattle.saved.specs.declared.Loaded.{Loaded}
 use Rattle.saved.specs.declared.Version.{Version}
 use Rattle.saved.specs.declared.Version.the-variants.{Second}
 use Rattle.saved.specs.Format.{laidOutAs, stateAs, inRangeAs, savedLaidOut, savedInRange}
-use Rattle.saved.specs.Calls.{loadedAs, readingChecks}
-use Rattle.saved.specs.Arrays.{unread, held, savedRead, loaded}
-use Rattle.saved.proofs.ArrayHeld.{read-form}
-use Rattle.saved.proofs.ArrayRefusals.{load-layout, load-range, load-form, load-done, never-done, read-lacks, read-out, read-done, read-well}
-use Rattle.loading.specs.Filling.{readAnswer}
+use Rattle.saved.specs.Calls.{loadedAs, readingChecks, held, inArrays, fitting}
+use Rattle.saved.specs.Calls.{unread, held, savedRead, loaded}
+use Rattle.saved.proofs.Held.{read-form}
+use Rattle.saved.proofs.Refusals.{load-layout, load-range, load-form, load-done, never-done, read-lacks, read-out, read-done, read-well}
+use Rattle.loading.specs.Filling.{readAnswer, charactersHeld, pendingHeld}
+use Rattle.memory.proofs.Fullness.{FullArrays}
+use Rattle.chains.proofs.Tables.{table-sized}
+use Rattle.woot.specs.State.{State}
+use Rattle.woot.specs.Table.{keys}
+use Rattle.loading.proofs.Collecting.{characters-length, toggles-length, pending-length}
+use lib.ListN.{take}
 
 -- ---- what is read, by its conditions
 
@@ -64,6 +70,19 @@ module _ (v : Version) (s : List ℕ) {a : LoadAnswer} (e : a ≡ savedRead v s 
       let w = read-well v s (sym e ∙ h) in
       (λ j. record { answer = h j; replica = p j }) ∙ sym (read-done v s (w .0) (w .1))
 
+-- what the arrays hold of a state fills their slots
+held-full : (s : State) → FullArrays (held s .document)
+unfolding held inArrays fitting documentOf charactersHeld pendingHeld
+held-full s =
+    let t = table-sized (keys (take characterSlots (s .characters))) in
+    record {
+      characters = characters-length (s .characters);
+      toggles = toggles-length (s .characters);
+      pending = pending-length (s .pending);
+      heads = t .heads;
+      links = t .links;
+    }
+
 -- ---- the form
 
 module _ (v : Version) (s : List ℕ) (x : Loaded) (e : x ≡ savedRead v s) where
@@ -92,6 +111,10 @@ module _ (v : Version) (s : List ℕ) (x : Loaded) (e : x ≡ savedRead v s) whe
 
     is-stored : replicaWellFormed (x .replica) ≡ true → _≡_ {A = Loaded} x (record { answer = Done; replica = stored (loadedAs v s) })
     is-stored p = λ j. record { answer = h j; replica = (ap (λ y. y .replica) e ∙ read-form v s was-read .1 (formed p) .0) j }
+
+    -- its arrays have their slots
+    pub read-full : FullArrays (x .replica .document)
+    read-full = subst (λ (y : Loaded). FullArrays (y .replica .document)) (sym (e ∙ read-done v s (both .0) (both .1))) (held-full (stateAs v s))
 
 -- loading reads the second form
 module _ (s : List ℕ) (x : Loaded) (e : x ≡ savedRead Second s) where

@@ -9,11 +9,10 @@ use Rattle.lists.specs.Lists.{every}
 use Rattle.woot.specs.declared.Site.{Site}
 use Rattle.woot.specs.declared.Character.{Character}
 use Rattle.woot.specs.declared.Operation.{Operation}
-use Rattle.woot.specs.declared.memory.Replica.{Replica}
+use Rattle.woot.specs.declared.Replica.{Replica}
 use Rattle.woot.specs.Answers.{first, decided}
-use Rattle.woot.specs.State.{characterSlots, pendingSlots}
+use Rattle.woot.specs.Memory.{characterSlots, pendingSlots, inColumns, previousKeys, nextKeys, codePoints}
 use Rattle.woot.specs.Table.{keys}
-use Rattle.woot.specs.Memory.{inColumns, previousKeys, nextKeys, codePoints}
 use Rattle.woot.specs.Memory.{ownKey, firstKey, secondKey, valueOf}
 use Rattle.lines.specs.Lines.{lines, closed}
 use Rattle.saved.specs.declared.Version.{Version}

@@ -13,9 +13,8 @@ ghost use Prim.Native.Nat.{_*_, _<_};
 ghost use lib.ListN.{length, take};
 ghost use Rattle.lists.specs.Padding.{pad};
 ghost use Rattle.lines.specs.Lines.{lines, leading};
-ghost use Rattle.woot.specs.Memory.{toggleCounts, ownKey, firstKey, secondKey, valueOf};
+ghost use Rattle.woot.specs.Memory.{toggleCounts, ownKey, firstKey, secondKey, valueOf, characterSlots, pendingSlots};
 ghost use Rattle.woot.specs.Table.{key};
-ghost use Rattle.woot.specs.State.{characterSlots, pendingSlots};
 ghost use Rattle.saved.specs.Format.{isCharacter};
 ghost use Rattle.loading.specs.Reading.{lineCharacter};
 ghost use Rattle.loading.specs.Filling.{

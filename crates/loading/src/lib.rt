@@ -1,10 +1,8 @@
-// Reading saved replicas from bytes.
-pub mod columns;
+// Reading saved replicas from bytes: into arrays that the call lends, and as replicas.
 mod filling;
 mod reading;
 
-use reading::Characters;
-use reading::Operations;
+use reading::both;
 use saved::LoadAnswer;
 use saved::Loaded;
 use saved::Version;
@@ -12,69 +10,174 @@ use woot::Document;
 use woot::Refusal;
 use woot::Replica;
 use woot::Site;
+use woot::Table;
 ghost use mathlib.Core.Path.{_≡_};
-ghost use Rattle.saved.specs.Calls.{unread, savedRead, loaded};
-ghost use Rattle.loading.specs.Reading.{replicaOf};
+ghost use mathlib.Core.List.{[]};
+ghost use Prim.Native.Nat.{min};
+ghost use lib.ListN.{length, take};
+ghost use Rattle.lists.specs.Padding.{pad};
+ghost use Rattle.woot.specs.Memory.{characterSlots};
+ghost use Rattle.woot.specs.Table.{tableOf};
+ghost use Rattle.clock.specs.Hearing.{heardKeys};
+ghost use Rattle.saved.specs.Format.{stateAs};
+ghost use Rattle.saved.specs.Calls.{held, unread, savedRead, loaded};
+ghost use Rattle.loading.specs.Filling.{charactersHeld, pendingHeld, readAnswer, replicaIn};
+
+// What reading answers, and where that is `Done` what stands beside the arrays: the site, how many lines of characters
+// there are and how many of operations. The counts may be above the arrays.
+pub struct ReadInto {
+    pub answer: LoadAnswer,
+    pub site: Site,
+    pub length: usize,
+    pub waiting: usize,
+}
 
 // A refusal, and what stands beside it.
-fn refuse(reason: Refusal) -> Loaded
-    ensures { λ r. ⌜ r ≡ unread (LoadAnswer.Refused reason) ⌝ }
+fn refused(reason: Refusal) -> ReadInto
+    ensures { λ r. ⌜ r .answer ≡ LoadAnswer.Refused reason ⌝ }
 {
-    let replica = Replica::empty(0);
-    Loaded {
+    ReadInto {
         answer: LoadAnswer::Refused(reason),
-        replica,
+        site: Site {
+            number: 0,
+            clock: 0,
+        },
+        length: 0,
+        waiting: 0,
     }
 }
 
-// The replica of what was read, with the table of its characters.
-fn assemble(site: Site, characters: Characters, operations: Operations) -> Replica
-    ensures { λ r. ⌜ r ≡ replicaOf site characters operations ⌝ }
+// Makes the table of the characters that the arrays hold of n, and tells the site that has heard of them and of the
+// operations that they hold of w.
+fn settle<'a>(
+    site: Site,
+    characters: &'a [u32],
+    n: usize,
+    pending: &'a [u32],
+    w: usize,
+    heads: &mut [u16],
+    links: &mut [u16],
+) -> Site
+    requires { ⌜ length (now characters) ≡ 4096 ⌝ }
+    requires { ⌜ length (now pending) ≡ 2048 ⌝ }
+    requires { ⌜ length (now heads) ≡ 1024 ⌝ }
+    requires { ⌜ length (now links) ≡ 2048 ⌝ }
+    ensures { λ r. ⌜ r
+        ≡ heardKeys (heardKeys site (take (min n 1024) (now (characters .entry))))
+        (take (min w 512) (now (pending .entry))) ⌝ }
+    ensures { λ _. ⌜ (record { heads = now (heads .exit); links = now (links .exit) })
+        ≡ tableOf (take (min n 1024) (now (characters .entry))) ⌝ }
 {
-    let items = characters.items;
-    let pending = operations.items;
-    let table = index::table_of(items, characters.count);
-    let document = Document {
-        characters: items,
-        length: characters.count,
-        pending,
-        waiting: operations.count,
-        table,
-    };
-    Replica { site, document }
+    let held = index::lesser(n, 1024);
+    chains::enter_all(characters, held, heads, links);
+    clock::raised(site, characters, held, pending, index::lesser(w, 512))
 }
 
-// Reads a saved replica that is not checked to be well formed: its counts may be above its arrays. A clock below that
-// of a character or a pending insert of its own is raised. A fault of the layout comes first, wherever it is, and then
-// a number out of range. A step of the calls and not a call: `conversion` alone hands it the first form.
-pub fn read(version: Version, bytes: &[u8]) -> Loaded
-    ensures { λ r. ⌜ r ≡ savedRead version (now (bytes .entry)) ⌝ }
+// Reads a saved replica that is not checked to be well formed. A clock below that of a character or a pending insert of
+// its own is raised. A fault of the layout comes first, wherever it is, and then a number out of range. A step of the
+// calls and not a call: they lend arrays that they have just made, zeros throughout.
+pub fn read_into(
+    version: Version,
+    bytes: &[u8],
+    characters: &mut [u32],
+    toggles: &mut [u8],
+    pending: &mut [u32],
+    heads: &mut [u16],
+    links: &mut [u16],
+) -> ReadInto
+    requires { ⌜ now characters ≡ charactersHeld [] ⌝ }
+    requires { ⌜ now toggles ≡ pad characterSlots 0 [] ⌝ }
+    requires { ⌜ now pending ≡ pendingHeld [] ⌝ }
+    requires { ⌜ length (now heads) ≡ 1024 ⌝ }
+    requires { ⌜ length (now links) ≡ 2048 ⌝ }
+    ensures { λ r. ⌜ r .answer ≡ readAnswer version (now (bytes .entry)) ⌝ }
+    ensures { λ _. ⌜ length (now (characters .exit)) ≡ 4096 ⌝ }
+    ensures { λ _. ⌜ length (now (toggles .exit)) ≡ 1024 ⌝ }
+    ensures { λ _. ⌜ length (now (pending .exit)) ≡ 2048 ⌝ }
+    ensures { λ _. ⌜ length (now (heads .exit)) ≡ 1024 ⌝ }
+    ensures { λ _. ⌜ length (now (links .exit)) ≡ 2048 ⌝ }
+    ensures { λ r. ⌜ (r .answer ≡ LoadAnswer.Done
+        → replicaIn (r .site) (now (characters .exit)) (now (toggles .exit)) (r .length) (now (pending .exit))
+        (r .waiting) (now (heads .exit)) (now (links .exit))
+        ≡ held (stateAs version (now (bytes .entry)))) ⌝ }
 {
     let first = saved_lines::read_site(version, reading::head(bytes));
     if !first.judged.laid_out {
-        return refuse(Refusal::Layout);
+        return refused(Refusal::Layout);
     }
     let body = lines::rest(bytes);
-    let characters = reading::read_characters(version, body);
-    let count = characters.count;
-    let operations = reading::read_operations(version, reading::skip(body, count));
-    if !operations.laid_out {
-        return refuse(Refusal::Layout);
+    let front = filling::read_characters(version, body, characters, toggles);
+    let back = filling::read_operations(version, reading::skip(body, front.count), pending);
+    if !back.laid_out {
+        return refused(Refusal::Layout);
     }
-    if !first.judged.in_range {
-        return refuse(Refusal::Range);
-    }
-    if !characters.in_range {
-        return refuse(Refusal::Range);
-    }
-    if !operations.in_range {
-        return refuse(Refusal::Range);
+    if !both(both(first.judged.in_range, front.in_range), back.in_range) {
+        return refused(Refusal::Range);
     }
     let site = first.site;
-    let replica = clock::raised(assemble(site, characters, operations));
-    Loaded {
+    ReadInto {
         answer: LoadAnswer::Done,
-        replica,
+        site: settle(
+            site,
+            characters,
+            front.count,
+            pending,
+            back.count,
+            heads,
+            links,
+        ),
+        length: front.count,
+        waiting: back.count,
+    }
+}
+
+// A refusal, and the empty replica beside it.
+fn refuse(reason: Refusal) -> Loaded
+    ensures { λ r. ⌜ r ≡ unread (LoadAnswer.Refused reason) ⌝ }
+{
+    Loaded {
+        answer: LoadAnswer::Refused(reason),
+        replica: Replica::empty(0),
+    }
+}
+
+// Reads a saved replica that is not checked to be well formed: its counts may be above its arrays. A step of the calls
+// and not a call: `conversion` alone hands it the first form.
+pub fn read(version: Version, bytes: &[u8]) -> Loaded
+    ensures { λ r. ⌜ r ≡ savedRead version (now (bytes .entry)) ⌝ }
+{
+    let mut characters = [0u32; 4096];
+    let mut toggles = [0u8; 1024];
+    let mut pending = [0u32; 2048];
+    let mut heads = [0u16; 1024];
+    let mut links = [0u16; 2048];
+    let found = read_into(
+        version,
+        bytes,
+        &mut characters,
+        &mut toggles,
+        &mut pending,
+        &mut heads,
+        &mut links,
+    );
+    let answer = found.answer;
+    if let LoadAnswer::Refused(reason) = answer {
+        return refuse(reason);
+    }
+    let site = found.site;
+    Loaded {
+        answer,
+        replica: Replica {
+            site,
+            document: Document {
+                characters,
+                toggles,
+                length: found.length,
+                pending,
+                waiting: found.waiting,
+                table: Table { heads, links },
+            },
+        },
     }
 }
 
@@ -87,8 +190,7 @@ pub fn load(bytes: &[u8]) -> Loaded
     if let LoadAnswer::Refused(_) = answer {
         return found;
     }
-    let replica = found.replica;
-    if !replica::well_formed(replica) {
+    if !replica::well_formed(found.replica) {
         return refuse(Refusal::Form);
     }
     found

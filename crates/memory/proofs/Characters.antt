@@ -14,7 +14,8 @@ use Rattle.lists.proofs.Tests.{side}
 use Rattle.lists.specs.Padding.{pad}
 use Rattle.woot.specs.declared.Identifier.{Identifier}
 use Rattle.woot.specs.declared.Character.{Character}
-use Rattle.woot.specs.State.{characterSlots, blankCharacter}
+use Rattle.woot.specs.State.{blankCharacter}
+use Rattle.woot.specs.Memory.{characterSlots}
 use Rattle.woot.specs.Table.{key, keys}
 use Rattle.convergence.proofs.Identifiers.{identifier-path}
 use Rattle.index.specs.Keys.{Small, SmallParts, AllSmall}

@@ -7,11 +7,11 @@ use mir.Val.{Val}
 use denote.Laws.{Is}
 use lib.ListN.{length, take, drop, length-map, length-drop}
 use lib.Seq.{length-take-le}
-use Rattle.woot.specs.declared.memory.Document.{Document as InMemory}
-use Rattle.woot.specs.declared.memory.Replica.{Replica as ReplicaInMemory}
+use Rattle.woot.specs.declared.Document.{Document as InMemory}
+use Rattle.woot.specs.declared.Replica.{Replica as ReplicaInMemory}
 use Rattle.woot.specs.Memory.{column}
-use Rattle.woot.proofs.memory.Document as document
-use Rattle.woot.proofs.memory.Replica as replica
+use Rattle.woot.proofs.Document as document
+use Rattle.woot.proofs.Replica as replica
 use Rattle.memory.specs.Columns.{Document}
 use Rattle.memory.specs.Lent.{view}
 

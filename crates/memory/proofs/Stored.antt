@@ -21,7 +21,8 @@ use Rattle.woot.specs.declared.Character.{Character}
 use Rattle.memory.specs.Columns.{Document}
 use Rattle.memory.specs.Columns.{Replica}
 use Rattle.woot.specs.Ranges.{characterInRange, inRange}
-use Rattle.woot.specs.State.{State, characterSlots, pendingSlots, blankCharacter, blankPending}
+use Rattle.woot.specs.State.{State, blankCharacter, blankOperation}
+use Rattle.woot.specs.Memory.{characterSlots, pendingSlots}
 use Rattle.woot.specs.Form.{wellFormed}
 use Rattle.woot.specs.Table.{key, keys, tableOf}
 use Rattle.woot.specs.Memory.{identifier, each, characterOf, characterAt, charactersOf, operationAt, operationsOf, previousKeys, nextKeys, codePoints, toggleCounts, ownKey, firstKey, secondKey, valueOf}
@@ -64,16 +65,16 @@ module _ (cs : List Character) (ps : List Operation) where
 
   pub stored-operations : AllKeyed ps → operationsIn (documentOf cs ps) ≡ ps
   unfolding operationsIn documentOf operationsOf
-  stored-operations keyed = each-cong _ (λ j. getD ps j (blankPending .operation)) (length ps) at ∙ each-all ps (blankPending .operation)
+  stored-operations keyed = each-cong _ (λ j. getD ps j blankOperation) (length ps) at ∙ each-all ps blankOperation
     where
-      slot : (f : Operation → ℕ) (j : ℕ) → j < length ps → getD (pad pendingSlots 0 (map f ps)) j 0 ≡ f (getD ps j (blankPending .operation))
-      slot f j h = slot-at pendingSlots f ps (blankPending .operation) j h
+      slot : (f : Operation → ℕ) (j : ℕ) → j < length ps → getD (pad pendingSlots 0 (map f ps)) j 0 ≡ f (getD ps j blankOperation)
+      slot f j h = slot-at pendingSlots f ps blankOperation j h
 
       at : (j : ℕ) → j < length ps
-          → operationAt (pad pendingSlots 0 (map ownKey ps)) (pad pendingSlots 0 (map firstKey ps)) (pad pendingSlots 0 (map secondKey ps)) (pad pendingSlots 0 (map valueOf ps)) j ≡ getD ps j (blankPending .operation)
+          → operationAt (pad pendingSlots 0 (map ownKey ps)) (pad pendingSlots 0 (map firstKey ps)) (pad pendingSlots 0 (map secondKey ps)) (pad pendingSlots 0 (map valueOf ps)) j ≡ getD ps j blankOperation
       at j h =
           rw (slot ownKey j h, slot firstKey j h, slot secondKey j h, slot valueOf j h)
-          (operation-stored (getD ps j (blankPending .operation)) (keyed _ (get-member ps j (blankPending .operation) h)))
+          (operation-stored (getD ps j blankOperation) (keyed _ (get-member ps j blankOperation h)))
 
 -- a state whose identifiers, clocks and counts have the bits of their types
 pub record Storable (s : State) : Type 0 where

@@ -11,9 +11,10 @@ use Rattle.lists.proofs.Padding.{pad-length}
 use Rattle.woot.specs.declared.Site.{Site}
 use Rattle.woot.specs.declared.Character.{Character}
 use Rattle.woot.specs.declared.Operation.{Operation}
-use Rattle.woot.specs.declared.memory.Document.{Document as InMemory}
-use Rattle.woot.specs.declared.memory.Replica.{Replica as ReplicaInMemory}
-use Rattle.woot.specs.State.{State, characterSlots, pendingSlots}
+use Rattle.woot.specs.declared.Document.{Document as InMemory}
+use Rattle.woot.specs.declared.Replica.{Replica as ReplicaInMemory}
+use Rattle.woot.specs.State.{State}
+use Rattle.woot.specs.Memory.{characterSlots, pendingSlots}
 use Rattle.woot.specs.Table.{key, keys, tableOf}
 use Rattle.woot.specs.Memory as memory
 use Rattle.woot.specs.Memory.{column, inColumns, previousKeys, nextKeys, codePoints, toggleCounts, ownKey, firstKey, secondKey, valueOf}

@@ -1,5 +1,5 @@
--- For the proofs of the code alone: a document and a replica as the columns of their arrays, and what they stand for. The
--- text of the definitions is that of `woot`'s Memory, over columns.
+-- For the proofs of the code alone: a document and a replica as the columns of their arrays, and what they stand for.
+-- The text of the definitions is that of `woot`'s Memory, over columns.
 use Prim.Native.Nat.{ℕ}
 use mathlib.Core.Bool.{Bool, _&&_}
 use mathlib.Core.List.{List, map}
@@ -11,7 +11,8 @@ use Rattle.woot.specs.declared.Character.{Character}
 use Rattle.woot.specs.declared.Operation.{Operation}
 use Rattle.woot.specs.declared.Table.{Table}
 use Rattle.woot.specs.Table.{keys, agrees, tableOf}
-use Rattle.woot.specs.State.{State, characterSlots, pendingSlots}
+use Rattle.woot.specs.State.{State}
+use Rattle.woot.specs.Memory.{characterSlots, pendingSlots}
 use Rattle.woot.specs.Form.{wellFormed}
 use Rattle.woot.specs.Memory.{charactersOf, operationsOf, previousKeys, nextKeys, codePoints, toggleCounts, ownKey, firstKey, secondKey, valueOf}
 

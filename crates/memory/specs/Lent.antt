@@ -1,10 +1,9 @@
 -- For the proofs of the code alone: the document that lent arrays and counts make.
 use Prim.Native.Nat.{ℕ}
 use mathlib.Core.List.{List}
-use Rattle.woot.specs.declared.memory.Document.{Document as InMemory}
-use Rattle.woot.specs.declared.memory.Replica.{Replica as ReplicaInMemory}
-use Rattle.woot.specs.State.{characterSlots, pendingSlots}
-use Rattle.woot.specs.Memory.{column}
+use Rattle.woot.specs.declared.Document.{Document as InMemory}
+use Rattle.woot.specs.declared.Replica.{Replica as ReplicaInMemory}
+use Rattle.woot.specs.Memory.{characterSlots, pendingSlots, column}
 use Rattle.memory.specs.Columns.{Document, Replica}
 
 -- the arrays of the characters and how many they are, those of the pending operations and how many, and the table's

@@ -1,4 +1,3 @@
 pub mod Searches
-pub mod Queues
-pub mod Fullness
 pub mod Pending
+pub mod Earliest

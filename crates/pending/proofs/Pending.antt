@@ -3,50 +3,31 @@
 use mathlib.Core.Path.{_≡_, refl, sym, ap, ap₂, _∙_}
 use mathlib.Core.Bool.{Bool, true, false, _&&_, _||_, not}
 use mathlib.Core.List.{List, [], _∷_, map, List·Memᴰ, List·Memᴰ·head, List·Memᴰ·tail}
-use mathlib.Core.Option.{some}
-use Prim.Native.Nat.{ℕ, zero, suc, _+_, _*_, _<_}
-use native.Mathlib.Nat.{not-suc-le-zero, le-of-suc-le-suc}
+use Prim.Native.Nat.{ℕ, suc, _+_, _*_, _/_, _<_}
 use native.Mathlib.Omega.{arith}
 use borrow.Author.Tests.{eqb-true, eq-eqb, ne-eqb}
 use lib.Dec.{eqb}
-use lib.ListN.{length, getD, take, length-map}
+use lib.ListN.{length, getD, length-map}
 use Rattle.woot.specs.declared.Identifier.{Identifier}
 use Rattle.woot.specs.declared.Insert.{Insert}
 use Rattle.woot.specs.declared.Toggle.{Toggle}
 use Rattle.woot.specs.declared.Operation.{Operation}
 use Rattle.woot.specs.declared.Operation.the-variants.{Insert as insert, Toggle as toggle}
 use Rattle.woot.specs.Identifiers.{same}
-use Rattle.lists.specs.Lists.{any, every, keep}
-use Rattle.woot.specs.Operations.{sender, character, origin, inserts, sameToggle, sameOperation}
-use Rattle.woot.specs.Pending.{sentBy, pendingFrom, earliest, behind}
-use Rattle.woot.specs.Ranges.{inRange, characterId}
+use Rattle.lists.specs.Lists.{any, keep}
+use Rattle.woot.specs.Operations.{sender, inserts, sameToggle, sameOperation}
+use Rattle.woot.specs.Pending.{sentBy, pendingFrom}
 use Rattle.lists.proofs.Tests.{agree, and-intro, and-left, and-right, clash, or-false, or-false-left, or-false-right}
-use Rattle.convergence.proofs.Identifiers.{eq-same}
-use Rattle.lists.proofs.Members.{member-any, every-member, keep-map}
-use Rattle.convergence.proofs.Ranges.{in-range, character-site, toggle-in-range, to-character-range}
+use Rattle.lists.proofs.Members.{keep-map}
 use Rattle.woot.specs.Table.{key}
 use Rattle.index.specs.Keys.{Small, found}
-use Rattle.index.proofs.Keys.{key-same, key-injective, character-small, range-small}
+use Rattle.index.proofs.Keys.{key-same, key-injective}
 use Rattle.index.specs.declared.Found.{Found}
 use Rattle.index.specs.declared.Found.the-variants.{At, Nothing}
-use Rattle.arrays.specs.Edit.{removed}
-use Rattle.pending.specs.Queue.{ownKey, firstKey, stamp, hasToggle}
+use Rattle.woot.specs.Memory.{ownKey, firstKey, valueOf}
+use Rattle.memory.proofs.Operations.{Keyed, AllKeyed}
+use Rattle.pending.specs.Counts.{senderOf, sendersOf, hasToggle}
 use Rattle.index.proofs.Searches.{FoundAt, Says, first-says, first-map}
-
--- ---- what the numbers are to be
-
-pub record KeyedInsert (i : Insert) : Type 0 where
-  pub id : Small (i .id)
-  pub previous : Small (i .previous)
-  pub next : Small (i .next)
-  pub positive : 0 < key (i .id)
-
-abbrev pub Keyed : Operation → Type 0
-Keyed (insert i) = KeyedInsert i
-Keyed (toggle t) = Small (t .target) × (t .toggles < 256)
-
-abbrev pub AllKeyed : List Operation → Type 0
-AllKeyed os = (o : Operation) → List·Memᴰ o os → Keyed o
 
 first-keyed : {o : Operation} {os : List Operation} → AllKeyed (o ∷ os) → Keyed o
 first-keyed {o} a = a o (List·Memᴰ·head refl)
@@ -54,29 +35,29 @@ first-keyed {o} a = a o (List·Memᴰ·head refl)
 others-keyed : {o : Operation} {os : List Operation} → AllKeyed (o ∷ os) → AllKeyed os
 others-keyed a p m = a p (List·Memᴰ·tail m)
 
-pub positive-key : (x : Identifier) → characterId x ≡ true → 0 < key x
-unfolding key
-positive-key x h = omega (arith, character-site x h)
-
-pub range-keyed : (o : Operation) → inRange o ≡ true → Keyed o
-unfolding inRange character origin
-range-keyed (insert i) h =
-    let s = range-small (character i) (to-character-range (character i) h (omega arith)) in
-    record { id = s .id; previous = s .previous; next = s .next; positive = positive-key (i .id) (in-range i h .id) }
-range-keyed (toggle t) h = let r = toggle-in-range t h in (character-small (t .target) (r .target), omega (arith, r .most))
-
-pub all-keyed : (os : List Operation) → every inRange os ≡ true → AllKeyed os
-all-keyed os h o m = range-keyed o (every-member inRange h m)
-
 not-zero : (n : ℕ) → 0 < n → eqb n 0 ≡ false
 not-zero n h = ne-eqb n 0 (λ (e : n ≡ 0). omega arith)
 
 -- ---- counting
 
-pub count-senders : (n : ℕ) (os : List Operation) → length (keep (λ s. eqb s n) (map sender os)) ≡ pendingFrom n os
+pub senders-are : (os : List Operation) → AllKeyed os → sendersOf (map ownKey os) (map valueOf os) ≡ map sender os
+unfolding sendersOf senderOf ownKey valueOf sender key
+senders-are [] a = refl
+senders-are (insert i ∷ os) a =
+    let site : (i .id .site * 65536 + i .id .clock) / 65536 ≡ i .id .site = omega (arith, first-keyed a .id) in
+    rw (not-zero (key (i .id)) (first-keyed a .positive), site, senders-are os (others-keyed a))
+senders-are (toggle t ∷ os) a =
+    let sent : (t .sender * 256 + t .toggles) / 256 ≡ t .sender = omega (arith, first-keyed a .1) in
+    rw (sent, senders-are os (others-keyed a))
+
+count-senders : (n : ℕ) (os : List Operation) → length (keep (λ s. eqb s n) (map sender os)) ≡ pendingFrom n os
 unfolding pendingFrom
 count-senders n os =
     ap length (keep-map sender (λ (s : ℕ). eqb s n) (λ o. eqb (sender o) n) (λ o. refl) os) ∙ length-map (sentBy n os) sender
+
+pub count-sent : (n : ℕ) (os : List Operation) → AllKeyed os
+    → length (keep (λ s. eqb s n) (sendersOf (map ownKey os) (map valueOf os))) ≡ pendingFrom n os
+count-sent n os a = rw (senders-are os a) (count-senders n os)
 
 pub count-own : (os : List Operation) → AllKeyed os → length (keep (λ k. not (eqb k 0)) (map ownKey os)) ≡ length (inserts os)
 unfolding ownKey
@@ -93,9 +74,6 @@ pub record InsertAt (x : Identifier) (os : List Operation) (n : ℕ) : Type 0 wh
   pub at : (d : Operation) → getD os n d ≡ insert here
   pub is : x ≡ here .id
   pub member : List·Memᴰ here (inserts os)
-
-pub insert-known : {x : Identifier} {os : List Operation} {n : ℕ} → InsertAt x os n → any (λ j. same x (j .id)) (inserts os) ≡ true
-insert-known {x} r = member-any (λ (j : Insert). same x (j .id)) (r .member) (eq-same (r .is))
 
 -- an insert of x at the index found, or none among all
 abbrev pub Sought : Identifier → List Operation → Found → Type 0
@@ -165,31 +143,19 @@ third-second true false false = refl
 third-second false b c = refl
 
 -- the numbers of an equal toggle
-same-numbers : (t u : Toggle) → Keyed (toggle t) → Keyed (toggle u) → (eqb (stamp (toggle t)) (stamp (toggle u)) && eqb (key (t .target)) (key (u .target))) ≡ sameToggle t u
-unfolding stamp sameToggle
+same-numbers : (t u : Toggle) → Keyed (toggle t) → Keyed (toggle u)
+    → (eqb (valueOf (toggle t)) (valueOf (toggle u)) && eqb (key (t .target)) (key (u .target))) ≡ sameToggle t u
+unfolding valueOf sameToggle
 same-numbers t u p q =
     rw (stamp-same (t .sender) (t .toggles) (u .sender) (u .toggles) (p .1) (q .1), key-same (t .target) (u .target) (p .0) (q .0))
     (third-second (eqb (t .sender) (u .sender)) (same (t .target) (u .target)) (eqb (t .toggles) (u .toggles)))
 
 -- whether an equal toggle is pending
 pub toggle-found : (t : Toggle) → Keyed (toggle t) → (os : List Operation) → AllKeyed os
-    → hasToggle (key (t .target)) (stamp (toggle t)) (map ownKey os) (map firstKey os) (map stamp os) ≡ any (sameOperation (toggle t)) os
+    → hasToggle (key (t .target)) (valueOf (toggle t)) (map ownKey os) (map firstKey os) (map valueOf os) ≡ any (sameOperation (toggle t)) os
 unfolding hasToggle ownKey firstKey sameOperation
 toggle-found t p [] a = refl
 toggle-found t p (insert i ∷ os) a =
     rw (not-zero (key (i .id)) (first-keyed a .positive)) (toggle-found t p os (others-keyed a))
 toggle-found t p (toggle u ∷ os) a =
     ap₂ (λ (b c : Bool). b || c) (same-numbers t u p (first-keyed a)) (toggle-found t p os (others-keyed a))
-
--- ---- taking out
-
--- the first that passes, at j
-pub earliest-at : (p : Operation → Bool) (os : List Operation) (j : ℕ) (d : Operation) → j < length os
-    → p (getD os j d) ≡ true → any p (take j os) ≡ false
-    → earliest p os ≡ some (record { operation = getD os j d; others = removed j os })
-unfolding earliest removed
-earliest-at p [] j d h e f = absurd (not-suc-le-zero h)
-earliest-at p (o ∷ os) zero d h e f = rw e
-earliest-at p (o ∷ os) (suc j) d h e f =
-    rw (or-false-left (p o) (any p (take j os)) f)
-    (ap (behind o) (earliest-at p os j d (le-of-suc-le-suc h) e (or-false-right (p o) (any p (take j os)) f)))

@@ -1,4 +1,4 @@
-// The pending operations: packed into numbers, with searches and counts among them, and whether there is room for one
-// more.
-pub mod queue;
-pub mod room;
+// The pending operations of a document, on the arrays that hold them.
+pub mod counts;
+pub mod edits;
+pub mod ready;

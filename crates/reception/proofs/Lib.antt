@@ -1,4 +1,9 @@
-pub mod Outcomes
+pub mod Comparing
+pub mod Holders
+pub mod Having
 pub mod Named
 pub mod Seeing
-pub mod Receiving
+pub mod Outcomes
+pub mod Deferring
+pub mod Inserting
+pub mod Toggling

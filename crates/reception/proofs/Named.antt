@@ -18,9 +18,8 @@ use Rattle.lists.proofs.Members.{any-append}
 use Rattle.convergence.proofs.Forms.{Formed, known-ids}
 use Rattle.convergence.proofs.Steps.{any-map}
 use Rattle.convergence.proofs.Named.{none-named, one-named}
-use Rattle.holder.specs.declared.Seen.the-variants.{New}
-use Rattle.holder.specs.Holder.{comparedTo}
-use Rattle.reception.specs.Needs.{seenOf}
+use Rattle.reception.specs.declared.holder.Seen.the-variants.{New}
+use Rattle.reception.specs.Holder.{comparedTo, seenOf}
 
 -- ---- the inserts that a state knows
 
@@ -51,12 +50,17 @@ module _ (s : State) (i : Insert) where
   pub seen-held : Formed s → (j : Insert) → List·Memᴰ j (presentInserts s) → i .id ≡ j .id → seenOf s i ≡ comparedTo i j
   unfolding seenOf comparedTo conflicting
   seen-held f j m e =
-      let apart : distinct same (map (λ (k : Insert). k .id) (presentInserts s)) ≡ true = subst (λ (xs : List Identifier). distinct same xs ≡ true) (sym (known-ids s)) (f .sound .apart) in
-      rw (known-duplicate, one-named (λ k. k .id) (sameInsert i) (i .id) (presentInserts s) apart m e, one-named (λ k. k .id) (λ k. not (sameInsert i k)) (i .id) (presentInserts s) apart m e)
+      let apart : distinct same (map (λ (k : Insert). k .id) (presentInserts s)) ≡ true =
+      subst (λ (xs : List Identifier). distinct same xs ≡ true) (sym (known-ids s)) (f .sound .apart)
+      in
+      let equal = one-named (λ k. k .id) (sameInsert i) (i .id) (presentInserts s) apart m e in
+      let unequal = one-named (λ k. k .id) (λ k. not (sameInsert i k)) (i .id) (presentInserts s) apart m e in
+      rw (known-duplicate, equal, unequal)
       (⊎-elim (λ h. rw h) (λ h. rw h) (either (sameInsert i j)))
 
   -- none of them has it
   pub seen-new : any (λ j. same (i .id) (j .id)) (presentInserts s) ≡ false → seenOf s i ≡ New
   unfolding seenOf conflicting
   seen-new h =
-      rw (known-duplicate, none-named (λ k. k .id) (sameInsert i) (i .id) (presentInserts s) h, none-named (λ k. k .id) (λ k. not (sameInsert i k)) (i .id) (presentInserts s) h)
+      let unequal = none-named (λ k. k .id) (λ k. not (sameInsert i k)) (i .id) (presentInserts s) h in
+      rw (known-duplicate, none-named (λ k. k .id) (sameInsert i) (i .id) (presentInserts s) h, unequal)

@@ -9,14 +9,14 @@ use Rattle.woot.specs.declared.Answer.{Answer}
 use Rattle.woot.specs.declared.Answer.the-variants.{Done, Deferred, Duplicate, Refused}
 use Rattle.woot.specs.declared.Sent.{Sent}
 use Rattle.woot.specs.declared.Sent.the-variants.{Done as sentDone, Refused as sentRefused}
-use Rattle.woot.specs.State.{State, initial, meaning, stored}
-use Rattle.woot.specs.Form.{wellFormed, replicaWellFormed}
+use Rattle.woot.specs.State.{State, initial}
+use Rattle.woot.specs.Memory.{meaning, stored, replicaWellFormed}
+use Rattle.woot.specs.Form.{wellFormed}
 use Rattle.woot.specs.Answers.{done, waits, reply, changes, answerOf}
 use Rattle.woot.specs.Calls.{receiveChecks, receiveWhen, receive, insertChecks, localInsertWhen, localInsert, deleteChecks, localDeleteWhen, localDelete, restoreChecks, localRestoreWhen, localRestore}
 use Rattle.woot.specs.Cursor.{receiveAtChecks, receiveAtWhen, receiveAt}
 use Rattle.woot.specs.Histories.{Call, inserting, deleting, restoring, receiving, receivingAt, outcome}
 use borrow.Author.Tests.{not-false}
-use Rattle.storage.proofs.Stored.{form-meant}
 use Rattle.woot.specs.declared.Refusal.the-variants.{Taken}
 use Rattle.convergence.proofs.Refusals.{insert-refuses}
 use Rattle.convergence.proofs.Hearing.{insert-untaken}
@@ -24,9 +24,9 @@ use Rattle.convergence.proofs.Forms.{formed}
 use Rattle.convergence.proofs.Forms.{empty-formed}
 use Rattle.convergence.proofs.Kept.{form-kept}
 use Rattle.convergence.proofs.Replies.{receive-does, receive-waits, receive-at-does, receive-at-waits, insert-does, delete-does, restore-does}
-use Rattle.storage.specs.Replicas.{afterAnswer, afterSent, receipt, moved, generated, received, receivedAt, inserted, deleted, restored}
+use Rattle.woot.specs.Replicas.{afterAnswer, afterSent, receipt, moved, generated, received, receivedAt, inserted, deleted, restored}
 use Rattle.replica.specs.Theorems.{called, answerTo, ReplicasFormed, AcceptedFormed, EmptyReplicaFormed, InsertNeverTaken}
-use Rattle.replica.proofs.Runs.{formed-within, form-stored, initial-within}
+use Rattle.replica.proofs.Runs.{formed-within, form-meant, form-stored, initial-within}
 
 -- what is stored of a state in form is in form
 stored-formed : (s : State) → wellFormed s ≡ true → replicaWellFormed (stored s) ≡ true

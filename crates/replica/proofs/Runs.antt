@@ -5,9 +5,8 @@ use native.Mathlib.Omega.{arith}
 use mathlib.Core.Path.{_≡_, refl, ap, sym, _∙_, subst}
 use mathlib.Core.Bool.{true, false, Bool, _&&_}
 use mathlib.Core.Logic.{⊎-elim}
-use mathlib.Core.List.{List, [], _∷_, map}
-use lib.ListN.{length, take, length-map}
-use lib.Seq.{take-append-seam}
+use mathlib.Core.List.{List, [], _∷_, List·Memᴰ·not-nil}
+use lib.ListN.{length}
 use borrow.Author.Tests.{le-leb}
 use Rattle.woot.specs.declared.Operation.{Operation}
 use Rattle.woot.specs.declared.Character.{Character}
@@ -17,57 +16,49 @@ use Rattle.woot.specs.declared.Answer.{Answer}
 use Rattle.woot.specs.declared.Answer.the-variants.{Done, Deferred, Duplicate, Refused}
 use Rattle.woot.specs.declared.Sent.{Sent}
 use Rattle.woot.specs.declared.Sent.the-variants.{Done as sentDone, Refused as sentRefused}
-use Rattle.woot.specs.State.{State, initial, characterSlots, pendingSlots, slotOf, blankCharacter, blankPending, meaning, documentOf, stored, counted, tableAgrees}
+use Rattle.woot.specs.State.{State, initial, blankCharacter}
+use Rattle.woot.specs.Memory.{characterSlots, pendingSlots, meaning, documentOf, stored, counted, tableAgrees}
 use Rattle.woot.specs.Table.{keys, agrees}
-use Rattle.index.proofs.Sound.{sound-tabled}
+use Rattle.index.proofs.Sound.{sound-small, sound-tabled}
+use Rattle.memory.proofs.Operations.{all-keyed}
+use Rattle.memory.proofs.Stored.{Storable}
+use Rattle.memory.proofs.Views.{meaning-in-memory}
 use Rattle.lists.specs.Padding.{pad}
-use Rattle.woot.specs.Form.{wellFormed, replicaWellFormed}
+use Rattle.woot.specs.Form.{wellFormed}
+use Rattle.woot.specs.Memory.{replicaWellFormed}
 use Rattle.woot.specs.Answers.{answerOf}
 use Rattle.woot.specs.Calls.{Outcome, unchanged, receive, localInsert, localDelete, localRestore}
 use Rattle.woot.specs.Cursor.{receiveAt}
 use Rattle.woot.specs.Histories.{Begun, empty, startOf, Call, inserting, deleting, restoring, receiving, receivingAt, outcome, run}
-use Rattle.lists.proofs.Tests.{either, clash}
+use Rattle.lists.proofs.Tests.{either, clash, three}
 use Rattle.convergence.proofs.Forms.{formed, reformed}
 use Rattle.convergence.proofs.Shares.{pending-bound}
 use Rattle.convergence.proofs.Steps.{Step, turned, adds, raises, defers, step}
 use Rattle.convergence.proofs.Kept.{form-kept}
 use Rattle.convergence.proofs.Refusals.{refused-unchanged, known-unchanged}
 use Rattle.convergence.proofs.Convergence.{convergence}
-use Rattle.storage.specs.Replicas.{afterAnswer, afterSent, receipt, moved, generated, received, receivedAt, inserted, deleted, restored}
+use Rattle.woot.specs.Replicas.{afterAnswer, afterSent, receipt, moved, generated, received, receivedAt, inserted, deleted, restored}
 use Rattle.replica.specs.Texts.{textOf}
 use Rattle.replica.specs.Theorems.{called, ran, ReplicasFollow, ReplicasConverge}
 
--- the lists are within the arrays
+-- the lists are within the arrays, and what they hold within the numbers
 pub record Within (s : State) : Type 0 where
   pub characters-fit : length (s .characters) ≤ characterSlots
   pub pending-fit : length (s .pending) ≤ pendingSlots
+  pub storable : Storable s
 
 pub formed-within : (s : State) → wellFormed s ≡ true → Within s
 formed-within s h =
     let f = formed s h in
-    record { characters-fit = omega (arith, f .sound .room); pending-fit = pending-bound (f .sound) }
-
-operations-back : (os : List Operation) → map (λ p. p .operation) (map slotOf os) ≡ os
-unfolding slotOf
-operations-back [] = refl
-operations-back (o ∷ os) = ap (λ ps. o ∷ ps) (operations-back os)
-
--- the part of an array that a list fills is the list
-pad-front : {A : Type 0} (m : ℕ) (z : A) (xs : List A) → take (length xs) (pad m z xs) ≡ xs
-unfolding pad
-pad-front m z xs = take-append-seam xs _
+    record {
+      characters-fit = omega (arith, f .sound .room);
+      pending-fit = pending-bound (f .sound);
+      storable = record { characters = sound-small (f .sound); pending = all-keyed (s .pending) (f .sound .pending-ranges) };
+    }
 
 -- what is stored is what is meant
-pub meaning-stored : (s : State) → meaning (stored s) ≡ s
-unfolding meaning stored documentOf
-meaning-stored s =
-    let n : length (s .pending) ≡ length (map slotOf (s .pending)) = sym (length-map (s .pending) slotOf) in
-    let queue : map (λ p. p .operation) (take (length (s .pending)) (pad pendingSlots blankPending (map slotOf (s .pending)))) ≡ s .pending =
-    ap (λ k. map (λ p. p .operation) (take k (pad pendingSlots blankPending (map slotOf (s .pending))))) n
-    ∙ ap (map (λ p. p .operation)) (pad-front pendingSlots blankPending (map slotOf (s .pending)))
-    ∙ operations-back (s .pending)
-    in
-    λ i. record { site = s .site; characters = pad-front characterSlots blankCharacter (s .characters) i; pending = queue i }
+pub meaning-stored : (s : State) → Within s → meaning (stored s) ≡ s
+meaning-stored s w = meaning-in-memory s (w .characters-fit) (w .pending-fit) (w .storable)
 
 pub counted-stored : (s : State) → Within s → counted (stored s) ≡ true
 unfolding counted stored documentOf
@@ -80,7 +71,7 @@ own-table s h = sound-tabled (formed s h .sound) .agree
 -- the table that is stored agrees
 pub table-stored : (s : State) → wellFormed s ≡ true → tableAgrees (stored s) ≡ true
 unfolding tableAgrees
-table-stored s h = rw (meaning-stored s) (own-table s h)
+table-stored s h = rw (meaning-stored s (formed-within s h)) (own-table s h)
 
 absorbed : (a b : Bool) → (a ≡ true → b ≡ true) → a && b ≡ a
 absorbed true b f = f refl
@@ -88,7 +79,15 @@ absorbed false b f = refl
 
 pub form-stored : (s : State) → Within s → replicaWellFormed (stored s) ≡ wellFormed s
 unfolding replicaWellFormed
-form-stored s w = rw (counted-stored s w, meaning-stored s) (absorbed (wellFormed s) (tableAgrees (stored s)) (table-stored s))
+form-stored s w = rw (counted-stored s w, meaning-stored s w) (absorbed (wellFormed s) (tableAgrees (stored s)) (table-stored s))
+
+pub form-meant : (r : Replica) → replicaWellFormed r ≡ true → wellFormed (meaning r) ≡ true
+unfolding replicaWellFormed
+form-meant r h = three (counted r) (wellFormed (meaning r)) (tableAgrees r) h .1
+
+pub form-table : (r : Replica) → replicaWellFormed r ≡ true → tableAgrees r ≡ true
+unfolding replicaWellFormed
+form-table r h = three (counted r) (wellFormed (meaning r)) (tableAgrees r) h .2
 
 -- ---- one call
 
@@ -116,19 +115,19 @@ known-state s c e = ap (λ w. w .state) (known-unchanged s c e)
 pub called-stored : (s : State) (c : Call) → Within s → called (stored s) c ≡ stored (outcome s c .state)
 unfolding called received receivedAt inserted deleted restored receipt moved generated outcome localInsert localDelete localRestore receive receiveAt answerOf
 called-stored s (inserting g n) w =
-    rw (form-stored s w, meaning-stored s)
+    rw (form-stored s w, meaning-stored s w)
     (sent-stored s (localInsert s g n .state) (localInsert s g n .answer) (λ r e. refused-state s (inserting g n) r (ap answerOf e)))
 called-stored s (deleting p) w =
-    rw (form-stored s w, meaning-stored s)
+    rw (form-stored s w, meaning-stored s w)
     (sent-stored s (localDelete s p .state) (localDelete s p .answer) (λ r e. refused-state s (deleting p) r (ap answerOf e)))
 called-stored s (restoring x) w =
-    rw (form-stored s w, meaning-stored s)
+    rw (form-stored s w, meaning-stored s w)
     (sent-stored s (localRestore s x .state) (localRestore s x .answer) (λ r e. refused-state s (restoring x) r (ap answerOf e)))
 called-stored s (receiving o) w =
-    rw (form-stored s w, meaning-stored s)
+    rw (form-stored s w, meaning-stored s w)
     (answer-stored s (receive s o .state) (receive s o .answer) (known-state s (receiving o)) (refused-state s (receiving o)))
 called-stored s (receivingAt o g) w =
-    rw (form-stored s w, meaning-stored s)
+    rw (form-stored s w, meaning-stored s w)
     (answer-stored s (receiveAt s o g .state) (receiveAt s o g .answer) (known-state s (receivingAt o g)) (refused-state s (receivingAt o g)))
 
 -- ---- lists of calls
@@ -152,7 +151,12 @@ ran-stored s (c ∷ cs) w = ap (λ r. ran r cs) (called-stored s c w) ∙ ran-st
 
 pub initial-within : (n : ℕ) → Within (initial n)
 unfolding initial
-initial-within n = record { characters-fit = omega arith; pending-fit = omega arith }
+initial-within n =
+    record {
+      characters-fit = omega arith;
+      pending-fit = omega arith;
+      storable = record { characters = λ c m. absurd (List·Memᴰ·not-nil m); pending = λ o m. absurd (List·Memᴰ·not-nil m) };
+    }
 
 -- a beginning has its place in the arrays
 begun-within : (b : Begun) → Within (startOf b)
@@ -161,8 +165,17 @@ begun-within (empty n) = initial-within n
 pub replicas-follow : ReplicasFollow
 replicas-follow b cs = ran-stored (startOf b) cs (begun-within b)
 
+pub run-within : (s : State) (cs : List Call) → Within s → Within (run s cs)
+run-within s [] w = w
+run-within s (c ∷ cs) w = run-within (outcome s c .state) cs (within-kept s c w)
+
 pub replicas-converge : ReplicasConverge
 unfolding textOf
 replicas-converge a b cs ds inserted toggled =
-    rw (replicas-follow a cs, replicas-follow b ds, meaning-stored (run (startOf a) cs), meaning-stored (run (startOf b) ds))
+    rw (
+      replicas-follow a cs,
+      replicas-follow b ds,
+      meaning-stored (run (startOf a) cs) (run-within (startOf a) cs (begun-within a)),
+      meaning-stored (run (startOf b) ds) (run-within (startOf b) ds (begun-within b)),
+    )
     (convergence a b cs ds inserted toggled)

@@ -16,8 +16,9 @@ use Rattle.woot.specs.declared.Character.{Character}
 use Rattle.woot.specs.declared.Replica.{Replica}
 use Rattle.woot.specs.Identifiers.{same}
 use Rattle.woot.specs.Table.{key, keys, lookup, searched, foundAt, agrees, tableOf}
-use Rattle.woot.specs.State.{State, blankCharacter, initial, meaning, stored, documentOf, tableAgrees}
-use Rattle.woot.specs.Form.{wellFormed, replicaWellFormed}
+use Rattle.woot.specs.State.{State, blankCharacter, initial}
+use Rattle.woot.specs.Memory.{meaning, stored, documentOf, tableAgrees, charactersIn, charactersOf, replicaWellFormed}
+use Rattle.woot.specs.Form.{wellFormed}
 use Rattle.woot.specs.Histories.{Begun, empty, startOf}
 use Rattle.convergence.proofs.Forms.{formed}
 use Rattle.index.specs.Keys.{Small, AllSmall}
@@ -25,9 +26,9 @@ use Rattle.index.specs.Tabled.{Tabled}
 use Rattle.index.proofs.Keys.{key-same}
 use Rattle.index.proofs.Agreement.{is-at, at-is, lookup-is-search}
 use Rattle.index.proofs.Sound.{sound-small, sound-tabled}
-use Rattle.storage.proofs.Stored.{form-meant, form-table}
+use Rattle.replica.proofs.Runs.{form-meant, form-table}
 use Rattle.replica.specs.Tables.{lookedUp, searchedFor, Searches, AgreesExactly, CalledSearches, BegunSearches}
-use Rattle.replica.proofs.Runs.{meaning-stored, table-stored}
+use Rattle.replica.proofs.Runs.{formed-within, meaning-stored, table-stored}
 use Rattle.replica.proofs.Kept.{replicas-formed}
 
 searched-keys : (x : Identifier) → Small x → (cs : List Character) → AllSmall cs → searched (key x) (keys cs) ≡ searchedFor x cs
@@ -51,11 +52,11 @@ called-searches r c f =
 -- what is stored of a state in form
 pub stored-searches : (s : State) → wellFormed s ≡ true → Searches (stored s)
 stored-searches s h =
-    let means : wellFormed (meaning (stored s)) ≡ true = ap wellFormed (meaning-stored s) ∙ h in
+    let means : wellFormed (meaning (stored s)) ≡ true = ap wellFormed (meaning-stored s (formed-within s h)) ∙ h in
     agreeing-searches (stored s) (sound-small (formed _ means .sound)) (table-stored s h)
 
 pub begun-searches : BegunSearches
-unfolding tableAgrees agrees meaning stored documentOf initial
+unfolding tableAgrees agrees meaning stored documentOf initial charactersIn charactersOf
 begun-searches (empty n) = agreeing-searches (stored (initial n)) (λ c m. absurd (List·Memᴰ·not-nil m)) refl
 
 -- ---- the other way

@@ -12,8 +12,8 @@ use Rattle.woot.specs.declared.Replica.{Replica}
 use Rattle.woot.specs.Limits.{lastClock}
 use Rattle.woot.specs.Identifiers.{same}
 use Rattle.woot.specs.Table.{key, keys, lookup}
-use Rattle.woot.specs.State.{meaning, stored, tableAgrees}
-use Rattle.woot.specs.Form.{wellFormed, replicaWellFormed}
+use Rattle.woot.specs.Memory.{meaning, stored, tableAgrees, replicaWellFormed}
+use Rattle.woot.specs.Form.{wellFormed}
 use Rattle.woot.specs.Histories.{Call, Begun, startOf}
 use Rattle.replica.specs.Theorems.{called}
 

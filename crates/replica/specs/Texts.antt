@@ -6,8 +6,7 @@ use Rattle.woot.specs.declared.Replica.{Replica}
 use Rattle.woot.specs.declared.Refusal.the-variants.{Form}
 use Rattle.woot.specs.declared.Written.{Written}
 use Rattle.woot.specs.declared.Written.the-variants.{Refused}
-use Rattle.woot.specs.State.{meaning}
-use Rattle.woot.specs.Form.{replicaWellFormed}
+use Rattle.woot.specs.Memory.{meaning, replicaWellFormed}
 use Rattle.woot.specs.Answers.{Check, _⇒_}
 use Rattle.woot.specs.Writing.{writtenAs, outputAfter}
 use Rattle.woot.specs.Text.{text}

@@ -8,12 +8,12 @@ use Rattle.woot.specs.declared.Replica.{Replica}
 use Rattle.woot.specs.declared.Answer.{Answer}
 use Rattle.woot.specs.declared.Refusal.the-variants.{Taken}
 use Rattle.woot.specs.declared.Sent.the-variants.{Refused as sentRefused}
-use Rattle.woot.specs.State.{initial, meaning, stored}
+use Rattle.woot.specs.State.{initial}
+use Rattle.woot.specs.Memory.{meaning, stored, replicaWellFormed}
 use Rattle.woot.specs.Ranges.{siteNumber}
-use Rattle.woot.specs.Form.{replicaWellFormed}
 use Rattle.woot.specs.Answers.{changes, answerOf}
 use Rattle.woot.specs.Histories.{Call, Begun, startOf, inserting, deleting, restoring, receiving, receivingAt, run, historyOf, SameInserted, SameToggled}
-use Rattle.storage.specs.Replicas.{received, receivedAt, inserted, deleted, restored}
+use Rattle.woot.specs.Replicas.{received, receivedAt, inserted, deleted, restored}
 use Rattle.replica.specs.Texts.{textOf}
 
 -- the replica that a call returns: `replica::insert`, `replica::delete`, `replica::restore`, `replica::receive` and

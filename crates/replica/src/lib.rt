@@ -1,40 +1,155 @@
-// The calls on a replica: receiving, inserting, deleting, restoring, the check of its form and the visible text.
+// The calls on a replica: receiving, inserting, deleting, restoring, the check of its form and the visible text. What
+// is asked is looked at on the replica's arrays and decided on, and then carried out where they lie.
+pub mod changes;
+pub mod looks;
+mod makes;
+
+use generation::MadeInsert;
+use generation::MadeToggle;
+use reception::Decision;
+use woot::Answer;
+use woot::Document;
 use woot::Generated;
 use woot::Identifier;
 use woot::Operation;
 use woot::Receipt;
 use woot::Refusal;
 use woot::Replica;
+use woot::Sent;
+use woot::Table;
 use woot::Written;
 ghost use mathlib.Core.Path.{_≡_};
-ghost use Rattle.woot.specs.Form.{replicaWellFormed};
-ghost use Rattle.storage.specs.Replicas.{received, inserted, deleted, restored};
+ghost use Rattle.woot.specs.declared.Sent.the-variants.{Done as sentDone};
+ghost use Rattle.woot.specs.Calls.{carryOut};
+ghost use Rattle.woot.specs.Memory.{meaning, replicaWellFormed};
+ghost use Rattle.woot.specs.Replicas.{generated, received, inserted, deleted, restored};
+ghost use Rattle.memory.specs.Lent.{viewed};
+ghost use Rattle.replica.specs.Outcomes.{Executed, answerBy};
 ghost use Rattle.replica.specs.Texts.{textWritten, textOut};
 
 // Whether a replica is well formed. (Document 01: in form.)
 pub fn well_formed(replica: Replica) -> bool
     ensures { λ r. ⌜ r ≡ replicaWellFormed replica ⌝ }
 {
-    let checked = well_formed::check(replica);
-    checked.formed
+    looks::check(
+        replica.site,
+        &replica.document.characters,
+        &replica.document.toggles,
+        replica.document.length,
+        &replica.document.pending,
+        replica.document.waiting,
+        &replica.document.table.heads,
+        &replica.document.table.links,
+    )
+}
+
+// The answer to a received operation, once it was carried out. A step of the calls and not a call.
+pub fn answer(decision: Decision, integrated: usize, discarded: usize) -> Answer
+    ensures { λ r. ⌜ r ≡ answerBy decision integrated discarded ⌝ }
+{
+    match decision {
+        Decision::Answered(answer) => answer,
+        Decision::Defer => Answer::Deferred,
+        Decision::Place(_) => Answer::Done {
+            integrated,
+            discarded,
+        },
+        Decision::Toggle(_) => Answer::Done {
+            integrated,
+            discarded,
+        },
+    }
 }
 
 // Receives an operation. (Document 01: receiving.)
 pub fn receive(replica: Replica, operation: Operation) -> Receipt
     ensures { λ r. ⌜ r ≡ received replica operation ⌝ }
 {
-    if !ranges::in_range(operation) {
-        return reception::refused(replica, Refusal::Range);
+    let mut characters = replica.document.characters;
+    let mut toggles = replica.document.toggles;
+    let mut pending = replica.document.pending;
+    let mut heads = replica.document.table.heads;
+    let mut links = replica.document.table.links;
+    let decision = looks::judge(
+        replica.site,
+        &characters,
+        &toggles,
+        replica.document.length,
+        &pending,
+        replica.document.waiting,
+        &heads,
+        &links,
+        operation,
+    );
+    let carried = changes::carry(
+        &mut characters,
+        &mut toggles,
+        &mut pending,
+        &mut heads,
+        &mut links,
+        replica.site,
+        replica.document.length,
+        replica.document.waiting,
+        operation,
+        decision,
+    );
+    let site = carried.site;
+    Receipt {
+        answer: answer(decision, carried.integrated, carried.discarded),
+        replica: Replica {
+            site,
+            document: Document {
+                characters,
+                toggles,
+                length: carried.length,
+                pending,
+                waiting: carried.waiting,
+                table: Table { heads, links },
+            },
+        },
     }
-    let checked = well_formed::check(replica);
-    if !checked.formed {
-        return reception::refused(replica, Refusal::Form);
-    }
-    let index = checked.index;
-    let queue = checked.queue;
-    match operation {
-        Operation::Insert(i) => insert_reception::receive_insert(replica, index, queue, i),
-        Operation::Toggle(t) => toggle_reception::receive_toggle(replica, index, queue, t),
+}
+
+// Carries out an operation that was made here, and answers it with the counts.
+fn send(replica: Replica, operation: Operation, decision: Decision) -> Generated
+    requires { ⌜ Executed (viewed replica) operation decision ⌝ }
+    ensures { λ r. ⌜ r ≡ generated replica (carryOut (sentDone operation) (meaning replica) operation) ⌝ }
+{
+    let mut characters = replica.document.characters;
+    let mut toggles = replica.document.toggles;
+    let mut pending = replica.document.pending;
+    let mut heads = replica.document.table.heads;
+    let mut links = replica.document.table.links;
+    let carried = changes::carry(
+        &mut characters,
+        &mut toggles,
+        &mut pending,
+        &mut heads,
+        &mut links,
+        replica.site,
+        replica.document.length,
+        replica.document.waiting,
+        operation,
+        decision,
+    );
+    let site = carried.site;
+    Generated {
+        answer: Sent::Done {
+            operation,
+            integrated: carried.integrated,
+            discarded: carried.discarded,
+        },
+        replica: Replica {
+            site,
+            document: Document {
+                characters,
+                toggles,
+                length: carried.length,
+                pending,
+                waiting: carried.waiting,
+                table: Table { heads, links },
+            },
+        },
     }
 }
 
@@ -43,16 +158,24 @@ pub fn receive(replica: Replica, operation: Operation) -> Receipt
 pub fn insert(replica: Replica, point: usize, code_point: u32) -> Generated
     ensures { λ r. ⌜ r ≡ inserted replica point «code_point» ⌝ }
 {
-    if !ranges::code_point(code_point) {
-        return generation::refused(replica, Refusal::Range);
+    match makes::judge_insert(
+        replica.site,
+        &replica.document.characters,
+        &replica.document.toggles,
+        replica.document.length,
+        &replica.document.pending,
+        replica.document.waiting,
+        &replica.document.table.heads,
+        &replica.document.table.links,
+        point,
+        code_point,
+    ) {
+        MadeInsert::Refused(refusal) => Generated {
+            answer: Sent::Refused(refusal),
+            replica,
+        },
+        MadeInsert::Place(k, i) => send(replica, Operation::Insert(i), Decision::Place(k)),
     }
-    let checked = well_formed::check(replica);
-    if !checked.formed {
-        return generation::refused(replica, Refusal::Form);
-    }
-    let index = checked.index;
-    let queue = checked.queue;
-    generation::insert_visible(replica, index, queue, point, code_point)
 }
 
 // Deletes the visible character at the place, counted from 1, and answers the operation to be sent. (Document 01:
@@ -60,13 +183,23 @@ pub fn insert(replica: Replica, point: usize, code_point: u32) -> Generated
 pub fn delete(replica: Replica, place: usize) -> Generated
     ensures { λ r. ⌜ r ≡ deleted replica place ⌝ }
 {
-    let checked = well_formed::check(replica);
-    if !checked.formed {
-        return generation::refused(replica, Refusal::Form);
+    match makes::judge_delete(
+        replica.site,
+        &replica.document.characters,
+        &replica.document.toggles,
+        replica.document.length,
+        &replica.document.pending,
+        replica.document.waiting,
+        &replica.document.table.heads,
+        &replica.document.table.links,
+        place,
+    ) {
+        MadeToggle::Refused(refusal) => Generated {
+            answer: Sent::Refused(refusal),
+            replica,
+        },
+        MadeToggle::Toggle(k, t) => send(replica, Operation::Toggle(t), Decision::Toggle(k)),
     }
-    let index = checked.index;
-    let queue = checked.queue;
-    toggle_generation::delete_visible(replica, index, queue, place)
 }
 
 // Restores the hidden character with the identifier, and answers the operation to be sent. (Document 02, Req 05:
@@ -74,16 +207,23 @@ pub fn delete(replica: Replica, place: usize) -> Generated
 pub fn restore(replica: Replica, id: Identifier) -> Generated
     ensures { λ r. ⌜ r ≡ restored replica id ⌝ }
 {
-    if !ranges::character_id(id) {
-        return generation::refused(replica, Refusal::Range);
+    match makes::judge_restore(
+        replica.site,
+        &replica.document.characters,
+        &replica.document.toggles,
+        replica.document.length,
+        &replica.document.pending,
+        replica.document.waiting,
+        &replica.document.table.heads,
+        &replica.document.table.links,
+        id,
+    ) {
+        MadeToggle::Refused(refusal) => Generated {
+            answer: Sent::Refused(refusal),
+            replica,
+        },
+        MadeToggle::Toggle(k, t) => send(replica, Operation::Toggle(t), Decision::Toggle(k)),
     }
-    let checked = well_formed::check(replica);
-    if !checked.formed {
-        return generation::refused(replica, Refusal::Form);
-    }
-    let index = checked.index;
-    let queue = checked.queue;
-    toggle_generation::restore_hidden(replica, index, queue, id)
 }
 
 // The visible text of a replica as UTF-8 into the slice: its length, or refusal 3 or 12, and then no byte is changed.
@@ -91,10 +231,22 @@ pub fn visible_text(replica: Replica, out: &mut [u8]) -> Written
     ensures { λ r. ⌜ r ≡ textWritten replica (now (out .entry)) ⌝ }
     ensures { λ _. ⌜ now (out .exit) ≡ textOut replica (now (out .entry)) ⌝ }
 {
-    if !well_formed(replica) {
+    if !looks::check(
+        replica.site,
+        &replica.document.characters,
+        &replica.document.toggles,
+        replica.document.length,
+        &replica.document.pending,
+        replica.document.waiting,
+        &replica.document.table.heads,
+        &replica.document.table.links,
+    ) {
         return Written::Refused(Refusal::Form);
     }
-    let d = replica.document;
-    let cs = d.characters;
-    visible::write_text(cs, d.length, out)
+    looks::write_text(
+        &replica.document.characters,
+        &replica.document.toggles,
+        replica.document.length,
+        out,
+    )
 }

@@ -1,39 +1,46 @@
--- A state as the arrays hold it: within them it is the state as it is stored, and above them neither is in form.
+-- A state as arrays of numbers hold it: within them it is the state as it is stored, and above them neither is in form.
+use Prim.Native.Nat.{_≤_}
 use mathlib.Core.Path.{_≡_, refl, sym, ap, _∙_}
-use mathlib.Core.List.{map}
 use mathlib.Core.Bool.{Bool, true, false}
 use native.Mathlib.Omega.{arith}
 use lib.Dec.{leb}
-use lib.ListN.{length, length-map}
+use lib.ListN.{length}
 use lib.Seq.{take-all}
 use borrow.Author.Tests.{leb-true, leb-false}
-use Rattle.woot.specs.State.{State, characterSlots, pendingSlots, slotOf, meaning, documentOf, stored, counted}
-use Rattle.woot.specs.Form.{wellFormed, replicaWellFormed, raised}
-use Rattle.clock.specs.Raising.{raisedReplica}
-use Rattle.lists.proofs.Tests.{fails, and-left, and-right}
-use Rattle.storage.proofs.Stored.{form-counted}
+use Rattle.lists.specs.Lists.{every}
+use Rattle.lists.proofs.Members.{every-member}
+use Rattle.lists.proofs.Tests.{fails, and-left, and-right, three}
+use Rattle.woot.specs.Ranges.{siteInRange, characterInRange, inRange}
+use Rattle.woot.specs.State.{State}
+use Rattle.woot.specs.Memory.{characterSlots, pendingSlots}
+use Rattle.woot.specs.Memory.{meaning, documentOf, stored, counted, tableAgrees, replicaWellFormed}
+use Rattle.woot.specs.Form.{allInRange, wellFormed, raised}
+use Rattle.index.proofs.Keys.{all-range-small}
+use Rattle.memory.proofs.Operations.{all-keyed}
 use Rattle.replica.proofs.Runs.{Within, formed-within, form-stored, meaning-stored}
-use Rattle.saved.specs.Calls.{inArrays, held}
-use Rattle.saved.specs.Theorems.{HeldForm}
+use Rattle.saved.specs.Format.{stateAs, characterWithin, inRangeAs}
+use Rattle.saved.specs.Calls.{loadedAs}
+use Rattle.saved.specs.Calls.{fitting, inArrays, held, savedRead}
+use Rattle.saved.specs.Theorems.{HeldForm, ReadForm}
+use Rattle.saved.proofs.Refusals.{read-done, read-well}
+
+-- the lists are within the arrays
+pub record Fits (s : State) : Type 0 where
+  pub characters-fit : length (s .characters) ≤ characterSlots
+  pub pending-fit : length (s .pending) ≤ pendingSlots
 
 module _ (s : State) where
-  arrays-stored : Within s → inArrays s ≡ stored s
-  unfolding inArrays stored documentOf
-  arrays-stored w =
-      rw (take-all characterSlots (s .characters) (w .characters-fit), take-all pendingSlots (map slotOf (s .pending)) (omega (arith, length-map (s .pending) slotOf, w .pending-fit)))
-
   -- with its clock raised, it is the raised state stored
-  held-stored : Within s → held s ≡ stored (raised s)
-  unfolding held raisedReplica raised stored
-  held-stored w =
-      ap raisedReplica (arrays-stored w)
-      ∙ ap (λ (t : State). record { site = raised t .site; document = documentOf (s .characters) (s .pending) }) (meaning-stored s)
+  pub held-stored : Fits s → held s ≡ stored (raised s)
+  unfolding held inArrays fitting stored raised documentOf
+  held-stored w = rw (take-all 1024 (s .characters) (w .characters-fit), take-all 512 (s .pending) (w .pending-fit))
 
-  not-counted : (Within s → ⊥) → replicaWellFormed (held s) ≡ false
-  unfolding counted held raisedReplica inArrays
-  not-counted h = fails (replicaWellFormed (held s)) (λ p. h (fit (form-counted (held s) p)))
+  not-counted : (Fits s → ⊥) → replicaWellFormed (held s) ≡ false
+  unfolding replicaWellFormed counted held inArrays
+  not-counted h =
+      fails (replicaWellFormed (held s)) (λ p. h (fit (three (counted (held s)) (wellFormed (meaning (held s))) (tableAgrees (held s)) p .0)))
     where
-      fit : counted (held s) ≡ true → Within s
+      fit : counted (held s) ≡ true → Fits s
       fit q =
           let few = leb (length (s .characters)) characterSlots in
           let fewer = leb (length (s .pending)) pendingSlots in
@@ -43,27 +50,57 @@ module _ (s : State) where
           }
 
   -- raising leaves the lists as they are
-  within-raised : Within s → Within (raised s)
+  raised-fits : Within (raised s) → Fits s
   unfolding raised
-  within-raised w = record { characters-fit = w .characters-fit; pending-fit = w .pending-fit }
+  raised-fits w = record { characters-fit = w .characters-fit; pending-fit = w .pending-fit }
 
-  raised-within : Within (raised s) → Within s
-  unfolding raised
-  raised-within w = record { characters-fit = w .characters-fit; pending-fit = w .pending-fit }
+  module _ (ranged : allInRange s ≡ true) where
+    within-raised : Fits s → Within (raised s)
+    unfolding raised allInRange
+    within-raised w =
+        let parts = three (siteInRange (s .site)) (every characterInRange (s .characters)) (every inRange (s .pending)) ranged in
+        record {
+          characters-fit = w .characters-fit;
+          pending-fit = w .pending-fit;
+          storable = record {
+            characters = all-range-small (s .characters) (λ c m. every-member characterInRange (parts .1) m);
+            pending = all-keyed (s .pending) (parts .2);
+          };
+        }
 
-  form-so : replicaWellFormed (held s) ≡ wellFormed (raised s)
-  form-so = go (leb (length (s .characters)) characterSlots) (leb (length (s .pending)) pendingSlots) refl refl
-    where
-      apart-so : (Within s → ⊥) → replicaWellFormed (held s) ≡ wellFormed (raised s)
-      apart-so h = not-counted h ∙ sym (fails (wellFormed (raised s)) (λ p. h (raised-within (formed-within (raised s) p))))
+    form-so : replicaWellFormed (held s) ≡ wellFormed (raised s)
+    form-so = go (leb (length (s .characters)) characterSlots) (leb (length (s .pending)) pendingSlots) refl refl
+      where
+        apart-so : (Fits s → ⊥) → replicaWellFormed (held s) ≡ wellFormed (raised s)
+        apart-so h = not-counted h ∙ sym (fails (wellFormed (raised s)) (λ p. h (raised-fits (formed-within (raised s) p))))
 
-      go : (a b : Bool) → leb (length (s .characters)) characterSlots ≡ a → leb (length (s .pending)) pendingSlots ≡ b → replicaWellFormed (held s) ≡ wellFormed (raised s)
-      go true true p q =
-          let w : Within s = record { characters-fit = leb-true (length (s .characters)) characterSlots p; pending-fit = leb-true (length (s .pending)) pendingSlots q } in
-          ap replicaWellFormed (held-stored w) ∙ form-stored (raised s) (within-raised w)
-      go true false p q = apart-so (λ w. omega (arith, w .pending-fit, leb-false (length (s .pending)) pendingSlots q))
-      go false b p q = apart-so (λ w. omega (arith, w .characters-fit, leb-false (length (s .characters)) characterSlots p))
+        go : (a b : Bool) → leb (length (s .characters)) characterSlots ≡ a → leb (length (s .pending)) pendingSlots ≡ b
+            → replicaWellFormed (held s) ≡ wellFormed (raised s)
+        go true true p q =
+            let w : Fits s = record {
+              characters-fit = leb-true (length (s .characters)) characterSlots p;
+              pending-fit = leb-true (length (s .pending)) pendingSlots q;
+            } in
+            ap replicaWellFormed (held-stored w) ∙ form-stored (raised s) (within-raised w)
+        go true false p q = apart-so (λ w. omega (arith, w .pending-fit, leb-false (length (s .pending)) pendingSlots q))
+        go false b p q = apart-so (λ w. omega (arith, w .characters-fit, leb-false (length (s .characters)) characterSlots p))
 
 pub held-form : HeldForm
-held-form s =
-    (form-so s, λ h. let e = held-stored s (raised-within s (formed-within (raised s) h)) in (e, ap meaning e ∙ meaning-stored (raised s)))
+held-form s = (
+  form-so s,
+  λ h.
+      let w = formed-within (raised s) h in
+      let e = held-stored s (raised-fits s w) in
+      (e, ap meaning e ∙ meaning-stored (raised s) w),
+)
+
+pub read-form : ReadForm
+unfolding loadedAs inRangeAs
+read-form v s h =
+    let w = read-well v s h in
+    let e : savedRead v s .replica ≡ held (stateAs v s) = ap (λ x. x .replica) (read-done v s (w .0) (w .1)) in
+    let ranged = and-right (every (characterWithin v) (stateAs v s .characters)) (allInRange (stateAs v s)) (w .1) in
+    let f = held-form (stateAs v s) in (
+      ap replicaWellFormed e ∙ f .0 ranged,
+      λ p. (e ∙ f .1 p .0, ap meaning e ∙ f .1 p .1),
+    )

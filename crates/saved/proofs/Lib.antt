@@ -6,6 +6,3 @@ pub mod Refusals
 pub mod Sizes
 pub mod Held
 pub mod Conversions
-pub mod ArrayRefusals
-pub mod ArrayTrips
-pub mod ArrayHeld

@@ -11,8 +11,9 @@ use Rattle.woot.specs.declared.Replica.{Replica}
 use Rattle.woot.specs.declared.Refusal.{Refusal}
 use Rattle.woot.specs.declared.Refusal.the-variants.{Layout, Range, Form}
 use Rattle.woot.specs.declared.Written.the-variants.{Refused as writtenRefused}
-use Rattle.woot.specs.State.{State, meaning, stored}
-use Rattle.woot.specs.Form.{wellFormed, replicaWellFormed}
+use Rattle.woot.specs.State.{State}
+use Rattle.woot.specs.Memory.{meaning, stored, replicaWellFormed}
+use Rattle.woot.specs.Form.{wellFormed}
 use Rattle.woot.specs.Answers.{first, decided}
 use Rattle.woot.specs.Writing.{writtenAs, outputAfter}
 use Rattle.lists.proofs.Tests.{some-eq, no-some, clash}
@@ -26,8 +27,8 @@ use Rattle.saved.specs.declared.LoadAnswer.the-variants.{Done, Refused}
 use Rattle.saved.specs.declared.Loaded.{Loaded}
 use Rattle.saved.specs.declared.Version.{Version}
 use Rattle.saved.specs.declared.Version.the-variants.{Second}
-use Rattle.saved.specs.Format.{siteHead, siteNumbers, siteLine, characterLine, savedLine, bytesAs, savedLaidOut, savedInRange}
-use Rattle.saved.specs.Calls.{loadedState, loadChecks, noReplica, unread, loaded, loadNumber, handedOver, loadValue, bytesOf, saveChecks, saved, savedOut}
+use Rattle.saved.specs.Format.{siteHead, siteNumbers, siteLine, characterLine, savedLine, bytesAs, savedLaidOut, savedInRange, laidOutAs, stateAs, inRangeAs}
+use Rattle.saved.specs.Calls.{loadedState, loadChecks, noReplica, unread, loaded, loadNumber, handedOver, loadValue, bytesOf, saveChecks, saved, savedOut, savedRead, readingChecks, held}
 use Rattle.saved.specs.Theorems.{LoadRefuses, LoadNumbers, SaveRefuses, SaveNumbers}
 
 -- ---- reading
@@ -51,8 +52,33 @@ module _ (s : List ℕ) where
       unfolding loaded loadChecks decided
       load-done e = rw (l, i, e)
 
-never-done : (r : Refusal) → Done ≡ Refused r → ⊥
+pub never-done : (r : Refusal) → Done ≡ Refused r → ⊥
 never-done r e = let z : _≡_ {A = ℕ} 0 1 = cc in omega arith
+
+-- what is read before the form is checked, by its conditions
+module _ (v : Version) (s : List ℕ) where
+  pub read-lacks : laidOutAs v s ≡ false → savedRead v s ≡ unread (Refused Layout)
+  unfolding savedRead readingChecks decided
+  read-lacks e = rw e
+
+  module _ (l : laidOutAs v s ≡ true) where
+    pub read-out : inRangeAs v s ≡ false → savedRead v s ≡ unread (Refused Range)
+    unfolding savedRead readingChecks decided
+    read-out e = rw (l, e)
+
+    pub read-done : inRangeAs v s ≡ true → _≡_ {A = Loaded} (savedRead v s) (record { answer = Done; replica = held (stateAs v s) })
+    unfolding savedRead readingChecks decided
+    read-done e = rw (l, e)
+
+  -- what is not refused has the layout, and is in range
+  pub read-well : savedRead v s .answer ≡ Done → (laidOutAs v s ≡ true) × (inRangeAs v s ≡ true)
+  unfolding unread
+  read-well h = go (laidOutAs v s) (inRangeAs v s) refl refl
+    where
+      go : (b d : Bool) → laidOutAs v s ≡ b → inRangeAs v s ≡ d → (laidOutAs v s ≡ true) × (inRangeAs v s ≡ true)
+      go true true l i = (l, i)
+      go true false l i = absurd (never-done Range (sym h ∙ ap (λ y. y .answer) (read-out l i)))
+      go false d l i = absurd (never-done Layout (sym h ∙ ap (λ y. y .answer) (read-lacks l)))
 
 -- with a refusal stands the replica named for it
 refused-none : (m : Option LoadAnswer) (x : Loaded) (r : Refusal) → x .answer ≡ Done → decided unread m x .answer ≡ Refused r → decided unread m x .replica ≡ noReplica

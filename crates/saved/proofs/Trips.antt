@@ -10,7 +10,8 @@ use Rattle.lists.specs.Lists.{every}
 use Rattle.woot.specs.declared.Operation.{Operation}
 use Rattle.woot.specs.declared.Operation.the-variants.{Insert as insert, Toggle as toggle}
 use Rattle.woot.specs.Ranges.{siteInRange, characterInRange, inRange}
-use Rattle.woot.specs.State.{State, meaning, stored}
+use Rattle.woot.specs.State.{State}
+use Rattle.woot.specs.Memory.{meaning, stored}
 use Rattle.woot.specs.Form.{allInRange, sharesKept, capacityKept, identifiersDistinct, togglesDistinct, neighboursOrdered, noneExecutable, clockKept, wellFormed, raised}
 use Rattle.convergence.proofs.Hearing.{raising}
 use Rattle.convergence.proofs.Ranges.{toggle-in-range}
@@ -18,7 +19,6 @@ use borrow.Author.Tests.{eq-eqb, leb-true, not-false}
 use Rattle.lists.proofs.Tests.{and-left, and-right, and-intro, three, seven}
 use Rattle.lines.specs.Lines.{lines, rest, closed, leading, trailing, concatenated}
 use Rattle.lines.specs.Fields.{hasLayout}
-use Rattle.replica.proofs.Runs.{meaning-stored}
 use Rattle.saved.specs.declared.LoadAnswer.the-variants.{Done}
 use Rattle.saved.specs.declared.Version.{Version}
 use Rattle.saved.specs.declared.Version.the-variants.{First, Second}
@@ -26,7 +26,7 @@ use Rattle.saved.specs.Format.{siteLine, isSite, characterLine, isCharac
 use Rattle.saved.specs.Calls.{loadedAs, raisingAs, loadedState, loaded, loadNumber}
 use Rattle.replica.specs.Tables.{Searches}
 use Rattle.replica.proofs.Tables.{stored-searches}
-use Rattle.storage.proofs.Stored.{form-meant}
+use Rattle.replica.proofs.Runs.{formed-within, meaning-stored, form-meant}
 use Rattle.saved.specs.declared.Loaded.{Loaded}
 use Rattle.saved.specs.Conversion.{ReadsBackAs}
 use Rattle.saved.specs.Theorems.{SavedReadsBack, LoadedWritesBack, RaisedWritesBack, LoadedFormed, LoadedSearches, TableAloneDiffers}
@@ -299,7 +299,7 @@ module _ (s : List ℕ) (e : loaded s .answer ≡ Done) where
 
   read-means : meaning (loaded s .replica) ≡ loadedState s
   read-means =
-      ap (λ w. meaning (w .replica)) (load-done s (was-read .0) (was-read .1) (was-read .2)) ∙ meaning-stored (loadedState s)
+      ap (λ w. meaning (w .replica)) (load-done s (was-read .0) (was-read .1) (was-read .2)) ∙ meaning-stored (loadedState s) (formed-within (loadedState s) (was-read .2))
 
 pub loaded-writes-back : LoadedWritesBack
 loaded-writes-back s e n = ap savedBytes (read-means s e) ∙ unraised-again Second s (was-read s e .0) n
@@ -320,5 +320,6 @@ loaded-searches s e =
 
 pub table-alone-differs : TableAloneDiffers
 table-alone-differs r f =
-    let back = saved-reads-back (meaning r) (form-meant r f) in
-    (back .0, ap meaning (back .1) ∙ meaning-stored (meaning r))
+    let means = form-meant r f in
+    let back = saved-reads-back (meaning r) means in
+    (back .0, ap meaning (back .1) ∙ meaning-stored (meaning r) (formed-within (meaning r) means))

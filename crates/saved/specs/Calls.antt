@@ -1,21 +1,20 @@
 -- The calls on saved replicas: reading one from bytes, and writing one into a lent slice. Each has its conditions in
 -- checking order; where none holds, what is done stands below them.
 use Prim.Native.Nat.{ℕ}
-use mathlib.Core.List.{List, [], _∷_, map}
+use mathlib.Core.List.{List, [], _∷_}
 use mathlib.Core.Bool.{Bool, not}
 use mathlib.Core.Option.{Option, none, some}
 use lib.ListN.{length, take}
+use Rattle.woot.specs.declared.Document.{Document}
 use Rattle.woot.specs.declared.Replica.{Replica}
 use Rattle.woot.specs.declared.Refusal.the-variants.{Layout, Range, Form}
 use Rattle.woot.specs.declared.Written.{Written}
 use Rattle.woot.specs.declared.Written.the-variants.{Refused as writtenRefused}
-use Rattle.woot.specs.State.{State, characterSlots, pendingSlots, slotOf, blankCharacter, blankPending, initial, meaning, stored}
-use Rattle.woot.specs.Table.{keys, tableOf}
-use Rattle.lists.specs.Padding.{pad}
-use Rattle.woot.specs.Form.{clockKept, wellFormed, replicaWellFormed, raised}
+use Rattle.woot.specs.State.{State, initial}
+use Rattle.woot.specs.Memory.{characterSlots, pendingSlots, meaning, stored, replicaWellFormed, documentOf}
+use Rattle.woot.specs.Form.{clockKept, wellFormed, raised}
 use Rattle.woot.specs.Answers.{Check, _⇒_, first, decided, number}
 use Rattle.woot.specs.Writing.{writtenAs, outputAfter}
-use Rattle.clock.specs.Raising.{raisedReplica}
 use Rattle.saved.specs.declared.LoadAnswer.{LoadAnswer}
 use Rattle.saved.specs.declared.LoadAnswer.the-variants.{Done, Refused}
 use Rattle.saved.specs.declared.Loaded.{Loaded}
@@ -58,24 +57,35 @@ unread a = record { answer = a; replica = noReplica }
 unfoldable pub loaded : List ℕ → Loaded
 loaded s = decided unread (first (loadChecks s)) (record { answer = Done; replica = stored (loadedState s) })
 
+-- a state as far as the arrays have slots for it
+unfoldable pub fitting : State → State
+fitting s =
+    record {
+      site = s .site;
+      characters = take characterSlots (s .characters);
+      pending = take pendingSlots (s .pending);
+    }
+
 -- a state as the arrays hold it, as far as they have slots, with the state's own counts, and the table of what they
 -- hold
 unfoldable pub inArrays : State → Replica
 inArrays s =
+    let d : Document = documentOf (fitting s .characters) (fitting s .pending) in
     record {
       site = s .site;
       document = record {
-        characters = pad characterSlots blankCharacter (take characterSlots (s .characters));
+        characters = d .characters;
+        toggles = d .toggles;
         length = length (s .characters);
-        pending = pad pendingSlots blankPending (take pendingSlots (map slotOf (s .pending)));
+        pending = d .pending;
         waiting = length (s .pending);
-        table = tableOf (keys (take characterSlots (s .characters)));
+        table = d .table;
       };
     }
 
 -- the same, its clock raised over what the arrays hold
 unfoldable pub held : State → Replica
-held s = raisedReplica (inArrays s)
+held s = record { site = raised (fitting s) .site; document = inArrays s .document }
 
 -- conditions 1 and 2 alone
 unfoldable pub readingChecks : Version → List ℕ → List (Check LoadAnswer)

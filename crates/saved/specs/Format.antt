@@ -11,7 +11,6 @@ use Rattle.woot.specs.declared.Site.{Site}
 use Rattle.woot.specs.declared.Operation.{Operation}
 use Rattle.woot.specs.declared.Operation.the-variants.{Insert as insert, Toggle as toggle}
 use Rattle.woot.specs.declared.Character.{Character}
-use Rattle.woot.specs.declared.Pending.{Pending}
 use Rattle.woot.specs.Limits.{lastSite, lastClock, lastCodePoint, lastToggles}
 use Rattle.lists.specs.Lists.{every}
 use Rattle.woot.specs.State.{State}
@@ -119,10 +118,6 @@ unfoldable pub savedLine : Version → Operation → List ℕ
 savedLine First (insert i) = operationLine (insert i)
 savedLine First (toggle t) = lineOf deleteHead (deleteNumbers t)
 savedLine Second o = operationLine o
-
--- the line of what stands in a slot
-abbrev pub pendingLine : Version → Pending → List ℕ
-pendingLine v p = savedLine v (p .operation)
 
 -- ---- the whole
 

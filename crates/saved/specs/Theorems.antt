@@ -11,8 +11,9 @@ use Rattle.woot.specs.declared.Replica.{Replica}
 use Rattle.woot.specs.declared.Refusal.{Refusal}
 use Rattle.woot.specs.declared.Written.the-variants.{Refused as writtenRefused}
 use Rattle.woot.specs.Identifiers.{begin, end}
-use Rattle.woot.specs.State.{State, meaning, stored}
-use Rattle.woot.specs.Form.{wellFormed, replicaWellFormed, raised}
+use Rattle.woot.specs.State.{State}
+use Rattle.woot.specs.Memory.{meaning, stored, replicaWellFormed}
+use Rattle.woot.specs.Form.{allInRange, wellFormed, raised}
 use Rattle.lines.specs.Lines.{rest}
 use Rattle.woot.specs.Answers.{Reported}
 use Rattle.woot.specs.Writing.{writingChecks, writtenNumber, writtenLength}
@@ -20,7 +21,8 @@ use Rattle.replica.specs.Tables.{Searches}
 use Rattle.saved.specs.declared.LoadAnswer.the-variants.{Done, Refused}
 use Rattle.saved.specs.declared.Version.the-variants.{Second}
 use Rattle.saved.specs.Format.{siteLine, savedLaidOut, savedInRange, savedBytes}
-use Rattle.saved.specs.Calls.{loadedState, needsRaising, loadChecks, noReplica, held, loaded, loadNumber, loadValue, bytesOf, saveChecks, saved, savedOut}
+use Rattle.saved.specs.Calls.{loadedState, needsRaising, loadChecks, noReplica, held, loaded, loadNumber, loadValue, bytesOf, saveChecks, saved, savedOut, savedRead, loadedAs}
+use Rattle.saved.specs.declared.Version.{Version}
 
 -- ---- round trips
 
@@ -48,14 +50,24 @@ RaisedWritesBack =
 abbrev pub LoadedFormed : Type 0
 LoadedFormed = (bytes : List ℕ) → loaded bytes .answer ≡ Done → wellFormed (meaning (loaded bytes .replica)) ≡ true
 
--- what is read before the form is checked: with its clock raised the replica is in form exactly when the state that
--- loading makes is, and then it is that state as it is stored, and means it
+-- what is read before the form is checked: with its clock raised the replica of a state in range is in form exactly
+-- when the state that loading makes is, and then it is that state as it is stored, and means it. The numbers of a state
+-- out of range may be those of another
 abbrev pub HeldForm : Type 0
 HeldForm =
     (s : State) →
-    (replicaWellFormed (held s) ≡ wellFormed (raised s))
+    (allInRange s ≡ true → replicaWellFormed (held s) ≡ wellFormed (raised s))
     × (wellFormed (raised s) ≡ true →
     (held s ≡ stored (raised s)) × (meaning (held s) ≡ raised s))
+
+-- so it is with all that is read, in either form
+abbrev pub ReadForm : Type 0
+ReadForm =
+    (v : Version) (bytes : List ℕ) → savedRead v bytes .answer ≡ Done →
+    (replicaWellFormed (savedRead v bytes .replica) ≡ wellFormed (loadedAs v bytes))
+    × (wellFormed (loadedAs v bytes) ≡ true →
+    (savedRead v bytes .replica ≡ stored (loadedAs v bytes))
+    × (meaning (savedRead v bytes .replica) ≡ loadedAs v bytes))
 
 -- ---- document 02, Req 12: the table
 

@@ -1,7 +1,5 @@
 // Saved replicas: the types and the definitions of their format, and the theorems about it. `loading` reads them, and
 // `saving` writes them.
-pub mod columns;
-
 use woot::Refusal;
 use woot::Replica;
 ghost use mathlib.Core.Path.{_≡_};

@@ -5,7 +5,7 @@ use mathlib.Core.List.{List}
 use mathlib.Core.Bool.{Bool, true, false, cond}
 use Rattle.woot.specs.declared.Operation.{Operation}
 use Rattle.woot.specs.Ranges.{siteInRange, characterInRange, inRange}
-use Rattle.woot.specs.State.{blankPending}
+use Rattle.woot.specs.State.{blankOperation}
 use Rattle.saved_lines.specs.declared.Judged.{Judged}
 use Rattle.saved_lines.specs.declared.SiteLine.{SiteLine}
 use Rattle.saved_lines.specs.declared.CharacterLine.{CharacterLine}
@@ -41,7 +41,7 @@ characterRead v line =
 
 -- filler where the layout or the range lacks
 unfoldable pub noOperation : Bool → OperationLine
-noOperation laid = record { judged = judgement laid false; operation = blankPending .operation }
+noOperation laid = record { judged = judgement laid false; operation = blankOperation }
 
 unfoldable pub operationJudged : Operation → OperationLine
 operationJudged o =

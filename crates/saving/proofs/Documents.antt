@@ -23,7 +23,7 @@ use Rattle.woot.specs.declared.Operation.the-variants.{Insert as insert}
 use Rattle.woot.specs.declared.Refusal.the-variants.{Output}
 use Rattle.woot.specs.declared.Written.the-variants.{Length, Refused}
 use Rattle.woot.specs.Writing.{writtenAs, outputAfter}
-use Rattle.woot.specs.State.{blankCharacter, blankPending}
+use Rattle.woot.specs.State.{blankCharacter, blankOperation}
 use Rattle.woot.specs.Memory.{characterAt, charactersOf, operationAt, operationsOf}
 use Rattle.memory.proofs.Characters.{rows-length, rows-at}
 use Rattle.memory.proofs.Operations.{operations-length, operations-at}
@@ -81,8 +81,8 @@ module _ (v : Version) (is ps ns cs ts : List ℕ) (n : ℕ) (os fs ss vs : List
         let past : i ≡ length xs + (i - n) = omega (arith, rows) in
         ap (λ (j : ℕ). getD (xs ++ ys) j []) past
         ∙ getD-append-add xs ys (i - n) []
-        ∙ map-getD (savedLine v) (operationsOf os fs ss vs w) (i - n) [] (blankPending .operation) (omega (arith, operations-length os fs ss vs w))
-        ∙ ap (savedLine v) (operations-at os fs ss vs w (i - n) (blankPending .operation) (omega arith))
+        ∙ map-getD (savedLine v) (operationsOf os fs ss vs w) (i - n) [] blankOperation (omega (arith, operations-length os fs ss vs w))
+        ∙ ap (savedLine v) (operations-at os fs ss vs w (i - n) blankOperation (omega arith))
 
   -- all of them
   pub all-lines : concatenated (λ l. l) (take (n + w) (linesAs v (listsOf is ps ns cs ts n os fs ss vs w))) ≡ bodyAs v (listsOf is ps ns cs ts n os fs ss vs w)

@@ -8,7 +8,7 @@ use Rattle.woot.specs.declared.Site.{Site}
 use Rattle.woot.specs.declared.Character.{Character}
 use Rattle.woot.specs.declared.Operation.{Operation}
 use Rattle.woot.specs.State.{State}
-use Rattle.woot.specs.Memory.{charactersOf, operationsOf}
+use Rattle.woot.specs.Memory.{characterSlots, pendingSlots, column, charactersOf, operationsOf}
 use Rattle.saved.specs.declared.Version.{Version}
 use Rattle.saved.specs.Format.{characterLine, savedLine}
 use Rattle.saving.specs.declared.numbered.Line.{Line}
@@ -45,6 +45,21 @@ listsOf ids previous next points toggles n own first second values w =
 -- the state of a site and these
 abbrev pub stateOf : Site → Lists → State
 stateOf site d = record { site = site; characters = d .characters; pending = d .pending }
+
+-- the state of a site and lent arrays, in which columns lie one behind another
+unfoldable pub stateIn : Site → List ℕ → List ℕ → ℕ → List ℕ → ℕ → State
+stateIn site characters toggles n pending w =
+    stateOf site
+    (listsOf (column characterSlots 0 characters) (column characterSlots 1 characters)
+    (column characterSlots 2 characters)
+    (column characterSlots 3 characters)
+    toggles
+    n
+    (column pendingSlots 0 pending)
+    (column pendingSlots 1 pending)
+    (column pendingSlots 2 pending)
+    (column pendingSlots 3 pending)
+    w)
 
 -- the lines after the site's: those of the characters, and those of the pending operations
 unfoldable pub linesAs : Version → Lists → List (List ℕ)

@@ -2,7 +2,7 @@
 // one list after the site's line: measured in one loop, and put in another.
 use crate::numbered;
 use crate::numbered::Line;
-use crate::one_line;
+use crate::site_line;
 use lines::writing::Room;
 use saved::Version;
 use woot::Refusal;
@@ -192,7 +192,7 @@ pub fn put<'a>(
         (now (first .entry)) (now (second .entry)) (now (values .entry)) w))) (now (out .entry)) ⌝ }
 {
     let size = out.len();
-    let front = one_line::measure_site(version, site, size);
+    let front = site_line::measure_site(version, site, size);
     let Room::Until(start) = front else {
         return Written::Refused(Refusal::Output);
     };
@@ -215,7 +215,7 @@ pub fn put<'a>(
     let Room::Until(length) = room else {
         return Written::Refused(Refusal::Output);
     };
-    let at = one_line::put_site(version, site, out);
+    let at = site_line::put_site(version, site, out);
     put_lines(
         version,
         ids,

@@ -9,7 +9,7 @@ use woot::Sent;
 ghost use mathlib.Core.Path.{_≡_};
 ghost use Prim.Native.Nat.{_≤_};
 ghost use Rattle.woot.specs.Answers.{answerOf};
-ghost use Rattle.storage.specs.Replicas.{received};
+ghost use Rattle.woot.specs.Replicas.{received};
 
 // An insert between another character and the end mark. Its code point tells its clock: 97 at clock 1.
 pub(crate) fn after(previous: Identifier, id: Identifier) -> Insert

@@ -64,8 +64,11 @@ pub(crate) fn counts(r: Replica) {
     end_line();
 }
 
-// Prints a replica's visible characters.
+// Prints a replica's visible characters, and nothing of one that is not well formed.
 pub(crate) fn text_line(r: Replica) {
+    if !replica::well_formed(r) {
+        return;
+    }
     let mut line = [0u8; 8199];
     let n = count(transcript::report::text_line(r, &mut line));
     text(front(&line, n));

@@ -2,20 +2,23 @@
 use mathlib.Core.Path.{_≡_, refl, sym, ap, _∙_}
 use mathlib.Core.Bool.{Bool, true, false, cond}
 use mathlib.Core.List.{List, [], _∷_, _++_, map, map-append, append-nil}
-use Prim.Native.Nat.{ℕ, _+_, _≤_, _<_, min}
+use Prim.Native.Nat.{ℕ, _+_, _%_, _≤_, _<_}
 use native.Mathlib.Numerals.{add-one}
 use native.Mathlib.Omega.{arith}
-use lib.ListN.{length, take, getD, set, replicate, length-append, length-take}
-use lib.Seq.{take-suc}
+use borrow.Author.Tests.{eq-eqb, ne-eqb}
+use lib.Dec.{eqb}
+use lib.ListN.{length, take, getD, set, replicate, length-append, length-map}
+use lib.Seq.{take-suc, take-all, getD-take, length-take-le}
 use Rattle.woot.specs.declared.Character.{Character}
 use Rattle.woot.specs.Operations.{isVisible}
+use Rattle.woot.specs.State.{blankCharacter}
+use Rattle.woot.specs.Memory.{codePoints, toggleCounts}
 use Rattle.lists.specs.Lists.{keep}
 use Rattle.lists.specs.Padding.{pad}
-use Rattle.lists.proofs.Padding.{pad-length, pad-take, pad-push, take-lesser}
+use Rattle.lists.proofs.Padding.{pad-take, pad-push}
+use Rattle.lists.proofs.Indices.{map-getD}
 use Rattle.transcript.specs.declared.report.Listing.{Listing}
-use Rattle.transcript.specs.Lines.{codePoints, textNumbers, listing}
-use Rattle.transcript.proofs.Sizes.{points-le}
-use Rattle.transcript.proofs.Heads.{Front}
+use Rattle.transcript.specs.Lines.{visiblePoints, textNumbers, listing}
 
 -- ---- one character more
 
@@ -28,40 +31,40 @@ keep-snoc p (y ∷ xs) x = go (p y) (keep-snoc p xs x)
     go true e = ap (λ zs. y ∷ zs) e
     go false e = e
 
-points-snoc : (cs : List Character) (c : Character) → codePoints (cs ++ c ∷ []) ≡ codePoints cs ++ codePoints (c ∷ [])
-unfolding codePoints
+points-snoc : (cs : List Character) (c : Character) → visiblePoints (cs ++ c ∷ []) ≡ visiblePoints cs ++ visiblePoints (c ∷ [])
+unfolding visiblePoints
 points-snoc cs c =
     let shown : Character → Bool = isVisible in
     rw (keep-snoc shown cs c) (map-append (λ (d : Character). d .«code_point») (keep shown cs) (keep shown (c ∷ [])))
 
 -- a hidden character is not listed
-points-one : (c : Character) (b : Bool) → isVisible c ≡ b → codePoints (c ∷ []) ≡ cond b (c .«code_point» ∷ []) []
-unfolding codePoints
+points-one : (c : Character) (b : Bool) → isVisible c ≡ b → visiblePoints (c ∷ []) ≡ cond b (c .«code_point» ∷ []) []
+unfolding visiblePoints
 points-one c true e = ap (λ (b : Bool). map (λ (d : Character). d .«code_point») (cond b (c ∷ []) [])) e
 points-one c false e = ap (λ (b : Bool). map (λ (d : Character). d .«code_point») (cond b (c ∷ []) [])) e
 
 module _ (cs : List Character) (i : ℕ) (d : Character) (h : i < length cs) where
-  points-more : (b : Bool) → isVisible (getD cs i d) ≡ b → codePoints (take (i + 1) cs) ≡ codePoints (take i cs) ++ cond b (getD cs i d .«code_point» ∷ []) []
+  points-more : (b : Bool) → isVisible (getD cs i d) ≡ b → visiblePoints (take (i + 1) cs) ≡ visiblePoints (take i cs) ++ cond b (getD cs i d .«code_point» ∷ []) []
   points-more b e =
       rw (add-one i, take-suc cs i d h)
-      (points-snoc (take i cs) (getD cs i d) ∙ ap (λ (ns : List ℕ). codePoints (take i cs) ++ ns) (points-one (getD cs i d) b e))
+      (points-snoc (take i cs) (getD cs i d) ∙ ap (λ (ns : List ℕ). visiblePoints (take i cs) ++ ns) (points-one (getD cs i d) b e))
 
 -- the visible ones of the first i characters stand after the first slot, k in number
 pub record Gathered (cs : List Character) (values : List ℕ) (k i : ℕ) : Type 0 where
-  pub counted : k ≡ length (codePoints (take i cs))
+  pub counted : k ≡ length (visiblePoints (take i cs))
   pub few : k ≤ i
-  pub held : values ≡ pad 1025 0 (0 ∷ codePoints (take i cs))
+  pub held : values ≡ pad 1025 0 (0 ∷ visiblePoints (take i cs))
 
 pub gathered-none : (cs : List Character) → Gathered cs (replicate 1025 0) 0 0
-unfolding codePoints pad
+unfolding visiblePoints pad
 gathered-none cs = record { counted = refl; few = omega arith; held = refl }
 
 module _ (cs : List Character) (values : List ℕ) (k i : ℕ) (g : Gathered cs values k i) where
-  pub gathered-visible : (d : Character) → i < length cs → i < 1024 → isVisible (getD cs i d) ≡ true
+  gathered-visible : (d : Character) → i < length cs → i < 1024 → isVisible (getD cs i d) ≡ true
       → Gathered cs (set values (k + 1) (getD cs i d .«code_point»)) (k + 1) (i + 1)
   gathered-visible d h low e =
-      let points = codePoints (take i cs) in
-      let more : codePoints (take (i + 1) cs) ≡ points ++ getD cs i d .«code_point» ∷ [] = points-more cs i d h true e in
+      let points = visiblePoints (take i cs) in
+      let more : visiblePoints (take (i + 1) cs) ≡ points ++ getD cs i d .«code_point» ∷ [] = points-more cs i d h true e in
       let slot : k + 1 ≡ length (0 ∷ points) = ap (λ (n : ℕ). n + 1) (g .counted) ∙ add-one (length points) in
       record {
         counted = ap (λ (n : ℕ). n + 1) (g .counted) ∙ sym (ap length more ∙ length-append points (getD cs i d .«code_point» ∷ []));
@@ -69,31 +72,56 @@ module _ (cs : List Character) (values : List ℕ) (k i : ℕ) (g : Gathered cs 
         held = rw (g .held, slot, more) (pad-push 1025 0 (0 ∷ points) (getD cs i d .«code_point») (omega (arith, g .few, g .counted)));
       }
 
-  pub gathered-hidden : (d : Character) → i < length cs → isVisible (getD cs i d) ≡ false → Gathered cs values k (i + 1)
+  gathered-hidden : (d : Character) → i < length cs → isVisible (getD cs i d) ≡ false → Gathered cs values k (i + 1)
   gathered-hidden d h e =
-      let same = points-more cs i d h false e ∙ append-nil (codePoints (take i cs)) in
+      let same = points-more cs i d h false e ∙ append-nil (visiblePoints (take i cs)) in
       record { counted = rw same (g .counted); few = omega (arith, g .few); held = rw same (g .held) }
 
   -- with the count in the first slot the listing is whole
-  pub gathered-all : record { values = set values 0 k; count = k } ≡ listing (take i cs)
+  gathered-all : record { values = set values 0 k; count = k } ≡ listing (take i cs)
   unfolding listing textNumbers pad
   gathered-all = rw (g .held, g .counted)
 
+-- ---- by the columns of the arrays
+
+module _ (cs : List Character) (points toggles : List ℕ) (n i : ℕ) (p : codePoints cs ≡ take n points) (t : toggleCounts cs ≡ take n toggles)
+    (h : i < n) (few : n ≤ length points) (enough : n ≤ length toggles)
+  where
+    column-size : length cs ≡ n
+    column-size = sym (length-map cs (λ (c : Character). c .«code_point»)) ∙ ap length p ∙ length-take-le n points few
+
+    point-at : getD points i 0 ≡ getD cs i blankCharacter .«code_point»
+    point-at =
+        sym (getD-take n points i 0 h) ∙ sym (ap (λ (xs : List ℕ). getD xs i 0) p)
+        ∙ map-getD (λ (c : Character). c .«code_point») cs i 0 blankCharacter (omega (arith, column-size))
+
+    toggle-at : getD toggles i 0 ≡ getD cs i blankCharacter .toggles
+    toggle-at =
+        sym (getD-take n toggles i 0 h) ∙ sym (ap (λ (xs : List ℕ). getD xs i 0) t)
+        ∙ map-getD (λ (c : Character). c .toggles) cs i 0 blankCharacter (omega (arith, column-size))
+
+    module _ (values : List ℕ) (k : ℕ) (g : Gathered cs values k i) where
+      pub gathered-shown : i < 1024 → getD toggles i 0 % 2 ≡ 0 → Gathered cs (set values (k + 1) (getD points i 0)) (k + 1) (i + 1)
+      unfolding isVisible
+      gathered-shown low e =
+          rw point-at
+          (gathered-visible cs values k i g blankCharacter (omega (arith, column-size)) low (ap (λ (m : ℕ). eqb (m % 2) 0) (sym toggle-at) ∙ eq-eqb _ _ e))
+
+      pub gathered-not : (getD toggles i 0 % 2 ≡ 0 → ⊥) → Gathered cs values k (i + 1)
+      unfolding isVisible
+      gathered-not e =
+          gathered-hidden cs values k i g blankCharacter (omega (arith, column-size)) (ap (λ (m : ℕ). eqb (m % 2) 0) (sym toggle-at) ∙ ne-eqb _ _ e)
+
+-- all of them
+pub gathered-whole : (cs : List Character) (points : List ℕ) (n : ℕ) → codePoints cs ≡ take n points → n ≤ length points
+    → (values : List ℕ) (k i : ℕ) → n ≤ i → Gathered cs values k i → _≡_ {A = Listing} (record { values = set values 0 k; count = k }) (listing cs)
+gathered-whole cs points n p few values k i h g =
+    let size : length cs ≡ n = sym (length-map cs (λ (c : Character). c .«code_point»)) ∙ ap length p ∙ length-take-le n points few in
+    gathered-all cs values k i g ∙ ap listing (take-all i cs (omega arith))
+
 -- ---- a whole listing
 
--- of an array of characters with its count, at most as many as it has slots
-module _ (cs : List Character) (full : length cs ≡ 1024) (n m : ℕ) (cut : m ≡ min 1024 n) (l : Listing) (e : l ≡ listing (take m cs)) where
-  pub listing-few : l .count ≤ 1024
-  unfolding listing
-  listing-few = rw e (omega (arith, points-le (take m cs), length-take m cs))
-
-  pub listing-front : Front (textNumbers (take n cs)) (l .values) (l .count + 1)
-  unfolding listing textNumbers
-  listing-front =
-      let few : length (codePoints (take m cs)) ≤ 1024 = omega (arith, points-le (take m cs), length-take m cs) in
-      let whole : take m cs ≡ take n cs = ap (λ (k : ℕ). take k cs) cut ∙ take-lesser 1024 n cs full in
-      rw (← whole, e)
-      (record {
-        fits = omega (arith, pad-length 1025 0 (textNumbers (take m cs)) (omega arith));
-        bytes = pad-take 1025 0 (textNumbers (take m cs)) (length (codePoints (take m cs)) + 1) (sym (add-one (length (codePoints (take m cs)))));
-      })
+-- of at most as many visible characters as a document has slots for
+pub listing-front : (cs : List Character) (l : Listing) → l ≡ listing cs → l .count ≤ 1024 → take (l .count + 1) (l .values) ≡ textNumbers cs
+unfolding listing textNumbers
+listing-front cs l e few = rw e (pad-take 1025 0 (textNumbers cs) (length (visiblePoints cs) + 1) (sym (add-one (length (visiblePoints cs)))))

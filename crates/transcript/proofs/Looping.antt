@@ -9,14 +9,14 @@ use Rattle.woot.specs.declared.Replica.{Replica}
 use Rattle.woot.specs.declared.Operation.{Operation}
 use Rattle.woot.specs.declared.Answer.{Answer}
 use Rattle.woot.specs.declared.Written.the-variants.{Length}
-use Rattle.woot.specs.State.{initial, meaning, stored, counted}
+use Rattle.woot.specs.State.{initial}
+use Rattle.woot.specs.Memory.{meaning, stored, replicaWellFormed}
 use Rattle.woot.specs.Ranges.{within, siteNumber}
-use Rattle.woot.specs.Form.{wellFormed, replicaWellFormed}
+use Rattle.woot.specs.Form.{wellFormed}
 use Rattle.woot.specs.Answers.{reply}
 use Rattle.woot.specs.Calls.{receive}
 use Rattle.woot.specs.Histories.{receiving, outcome}
-use Rattle.storage.specs.Replicas.{receipt, received}
-use Rattle.lists.proofs.Tests.{and-right}
+use Rattle.woot.specs.Replicas.{receipt, received}
 use Rattle.convergence.proofs.Kept.{counts-true, counts-bounded}
 use Rattle.replica.specs.Theorems.{called}
 use Rattle.replica.proofs.Kept.{replicas-formed, empty-replica-formed}
@@ -24,7 +24,7 @@ use Rattle.lines.specs.Lines.{rest}
 use Rattle.codec.specs.declared.Read.{Read}
 use Rattle.codec.specs.declared.Read.the-variants.{Operation as readsAs, Refused as readRefused}
 use Rattle.codec.specs.Calls.{readOperation}
-use Rattle.storage.proofs.Stored.{form-meant}
+use Rattle.replica.proofs.Runs.{form-meant}
 use Rattle.transcript.specs.declared.Processed.{Processed}
 use Rattle.transcript.specs.Lines.{reportLine, textLine}
 use Rattle.transcript.specs.Calls.{answeredAs, answered, printedFrom, wholeOutput, inputMost, hallOutput}
@@ -66,7 +66,7 @@ module _ (r : Replica) (f : replicaWellFormed r ≡ true) where
   answered-as-formed (readsAs o) = replicas-formed r (receiving o) f
   answered-as-formed (readRefused q) = f
 
-  answered-formed : (s : List ℕ) → replicaWellFormed (answered r s .replica) ≡ true
+  pub answered-formed : (s : List ℕ) → replicaWellFormed (answered r s .replica) ≡ true
   unfolding answered
   answered-formed s = answered-as-formed (readOperation s)
 
@@ -96,8 +96,13 @@ module _ (out last : List ℕ) (room : 70 ≤ length out) (space : 8199 ≤ leng
       let again : loopFrom out last most (n + 1) (answered r s .replica) (rest s) ≡ printedFrom most (n + 1) (answered r s .replica) (rest s) = loop-prints-from most (n + 1) (answered r s .replica) (rest s) (answered-formed r f s) (omega arith) in
       rw (text-shown r f, line-shown r n s f (omega arith), again)
 
+-- the program's replica begins in form
+pub begun-formed : replicaWellFormed (stored (initial 16)) ≡ true
+unfolding siteNumber within
+begun-formed = empty-replica-formed 16
+
 pub loop-prints : LoopPrints
-unfolding looped hallOutput wholeOutput siteNumber within
+unfolding looped hallOutput wholeOutput
 loop-prints out last input room space =
     let s = take inputMost input in
-    loop-prints-from out last room space (length s) 1 (stored (initial 16)) s (empty-replica-formed 16) (omega (arith, length-take inputMost input))
+    loop-prints-from out last room space (length s) 1 (stored (initial 16)) s begun-formed (omega (arith, length-take inputMost input))

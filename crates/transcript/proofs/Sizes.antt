@@ -12,8 +12,7 @@ use Rattle.woot.specs.Answers.{Reply, reply, number}
 use Rattle.lists.specs.Lists.{every}
 use Rattle.woot.specs.Operations.{isVisible, origin}
 use Rattle.woot.specs.Ranges.{characterInRange}
-use Rattle.woot.specs.State.{meaning, counted}
-use Rattle.woot.specs.Form.{wellFormed, replicaWellFormed}
+use Rattle.woot.specs.Memory.{meaning, counted}
 use Rattle.lists.proofs.Tests.{and-left, and-right}
 use Rattle.convergence.proofs.Ranges.{origin-ranged}
 use Rattle.convergence.proofs.Forms.{formed}
@@ -23,8 +22,8 @@ use Rattle.decimal.proofs.Laws.{width-by-power, width-le}
 use Rattle.lines.specs.Fields.{tab, columns}
 use Rattle.lines.proofs.Sizes.{line-length}
 use Rattle.codec.proofs.Bounds.{insert-bounds}
-use Rattle.transcript.specs.Lines.{spelled, replyLine, reportLine, codePoints, textHead, textNumbers, textLine}
-use Rattle.storage.proofs.Stored.{form-meant}
+use Rattle.transcript.specs.Lines.{spelled, replyLine, reportLine, visiblePoints, textHead, textNumbers, textLine}
+use Rattle.replica.proofs.Runs.{form-meant}
 use Rattle.transcript.specs.Theorems.{ReportFits, TextFits}
 
 column-length : (n : ℕ) (ns : List ℕ) → length (columns (n ∷ ns)) ≡ length (digits n) + length (columns ns) + 1
@@ -66,25 +65,25 @@ point-few : (c : Character) → characterInRange c ≡ true → length (digits (
 unfolding origin
 point-few c e = width-by-power (c .«code_point») 7 (omega arith) .1 (omega (arith, insert-bounds (origin c) (origin-ranged c e) .code-bound))
 
-pub points-le : (cs : List Character) → length (codePoints cs) ≤ length cs
-unfolding codePoints
+pub points-le : (cs : List Character) → length (visiblePoints cs) ≤ length cs
+unfolding visiblePoints
 points-le [] = omega arith
 points-le (x ∷ cs) = go (isVisible x) refl (points-le cs)
   where
-    go : (b : Bool) → isVisible x ≡ b → length (codePoints cs) ≤ length cs → length (codePoints (x ∷ cs)) ≤ length (x ∷ cs)
+    go : (b : Bool) → isVisible x ≡ b → length (visiblePoints cs) ≤ length cs → length (visiblePoints (x ∷ cs)) ≤ length (x ∷ cs)
     go true e rest = rw e (omega arith)
     go false e rest = rw e (omega arith)
 
-points-fit : (cs : List Character) → every characterInRange cs ≡ true → length (columns (codePoints cs)) ≤ 8 * length cs
-unfolding codePoints
+points-fit : (cs : List Character) → every characterInRange cs ≡ true → length (columns (visiblePoints cs)) ≤ 8 * length cs
+unfolding visiblePoints
 points-fit [] e = omega arith
 points-fit (c ∷ cs) e = go (isVisible c) refl (points-fit cs (and-right (characterInRange c) (every characterInRange cs) e))
   where
     few : length (digits (c .«code_point»)) ≤ 7
     few = point-few c (and-left (characterInRange c) (every characterInRange cs) e)
 
-    go : (b : Bool) → isVisible c ≡ b → length (columns (codePoints cs)) ≤ 8 * length cs → length (columns (codePoints (c ∷ cs))) ≤ 8 * length (c ∷ cs)
-    go true v rest = rw v (omega (arith, few, column-length (c .«code_point») (codePoints cs)))
+    go : (b : Bool) → isVisible c ≡ b → length (columns (visiblePoints cs)) ≤ 8 * length cs → length (columns (visiblePoints (c ∷ cs))) ≤ 8 * length (c ∷ cs)
+    go true v rest = rw v (omega (arith, few, column-length (c .«code_point») (visiblePoints cs)))
     go false v rest = rw v (omega arith)
 
 pub text-fits : TextFits
@@ -96,8 +95,8 @@ text-fits r e =
       arith,
       f .room,
       line-length textHead (textNumbers cs),
-      column-length (length (codePoints cs)) (codePoints cs),
+      column-length (length (visiblePoints cs)) (visiblePoints cs),
       points-le cs,
       points-fit cs (f .ranges),
-      width-by-power (length (codePoints cs)) 4 (omega arith) .1 (omega (arith, points-le cs, f .room)),
+      width-by-power (length (visiblePoints cs)) 4 (omega arith) .1 (omega (arith, points-le cs, f .room)),
     )

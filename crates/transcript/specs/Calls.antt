@@ -7,12 +7,13 @@ use lib.ListN.{length, take}
 use Rattle.woot.specs.declared.Replica.{Replica}
 use Rattle.woot.specs.declared.Receipt.{Receipt}
 use Rattle.woot.specs.declared.Answer.the-variants.{Refused}
-use Rattle.woot.specs.State.{initial, meaning, stored}
+use Rattle.woot.specs.State.{initial}
+use Rattle.woot.specs.Memory.{meaning, stored}
 use Rattle.codec.specs.declared.Read.{Read}
 use Rattle.codec.specs.declared.Read.the-variants.{Operation as readsAs, Refused as readRefused}
 use Rattle.lines.specs.Lines.{rest}
 use Rattle.codec.specs.Calls.{readOperation}
-use Rattle.storage.specs.Replicas.{received}
+use Rattle.woot.specs.Replicas.{received}
 use Rattle.transcript.specs.Lines.{reportLine, textLine}
 
 -- an operation is received; what could not be read is refused, and the very replica comes back

@@ -6,7 +6,7 @@ use Rattle.woot.specs.declared.Answer.{Answer}
 use Rattle.woot.specs.declared.Character.{Character}
 use Rattle.woot.specs.Operations.{isVisible}
 use Rattle.lists.specs.Lists.{keep}
-use Rattle.woot.specs.State.{characterSlots}
+use Rattle.woot.specs.Memory.{characterSlots}
 use Rattle.lists.specs.Padding.{pad}
 use Rattle.woot.specs.Answers.{Word, done, waits, known, refused, Reply, reply}
 use Rattle.decimal.specs.Numeral.{digits}
@@ -33,16 +33,16 @@ abbrev pub textHead : List ℕ
 textHead = 84 ∷ []
 
 -- the code points of the visible characters, in order
-unfoldable pub codePoints : List Character → List ℕ
-codePoints cs = map (λ c. c .«code_point») (keep isVisible cs)
+unfoldable pub visiblePoints : List Character → List ℕ
+visiblePoints cs = map (λ c. c .«code_point») (keep isVisible cs)
 
 -- "the count of shown rows and their code points"
 unfoldable pub textNumbers : List Character → List ℕ
-textNumbers cs = length (codePoints cs) ∷ codePoints cs
+textNumbers cs = length (visiblePoints cs) ∷ visiblePoints cs
 
 -- those numbers in an array that has a slot for each that there can be, and how many follow the count
 unfoldable pub listing : List Character → Listing
-listing cs = record { values = pad (suc characterSlots) 0 (textNumbers cs); count = length (codePoints cs) }
+listing cs = record { values = pad (suc characterSlots) 0 (textNumbers cs); count = length (visiblePoints cs) }
 
 -- "last comes `T`"
 unfoldable pub textLine : List Character → List ℕ

@@ -7,7 +7,8 @@ use lib.Dec.{eqb}
 use lib.ListN.{length, take}
 use Rattle.woot.specs.declared.Replica.{Replica}
 use Rattle.woot.specs.declared.Written.{Written}
-use Rattle.woot.specs.State.{initial, meaning, stored}
+use Rattle.woot.specs.State.{initial}
+use Rattle.woot.specs.Memory.{meaning, stored}
 use Rattle.woot.specs.Writing.{writtenAs, outputAfter, writtenLength}
 use Rattle.lines.specs.Lines.{rest}
 use Rattle.transcript.specs.declared.Processed.{Processed}

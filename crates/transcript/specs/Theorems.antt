@@ -7,8 +7,7 @@ use lib.ListN.{length, take}
 use Rattle.woot.specs.declared.Answer.{Answer}
 use Rattle.woot.specs.declared.Replica.{Replica}
 use Rattle.woot.specs.Answers.{reply}
-use Rattle.woot.specs.State.{meaning}
-use Rattle.woot.specs.Form.{replicaWellFormed}
+use Rattle.woot.specs.Memory.{meaning, replicaWellFormed}
 use Rattle.lines.specs.Lines.{rest}
 use Rattle.transcript.specs.Lines.{reportLine, textLine}
 use Rattle.transcript.specs.Calls.{answered, printedFrom, wholeOutput, inputMost, hallOutput}

@@ -1,15 +1,16 @@
 // The lines that the hall program prints: one for each line of its input, and last the visible characters.
 use woot::Answer;
-use woot::Character;
 use woot::Replica;
 use woot::Written;
 ghost use mathlib.Core.Path.{_≡_};
-ghost use mathlib.Core.List.{[], _++_, _∷_};
+ghost use mathlib.Core.Bool.{true};
+ghost use mathlib.Core.List.{List, [], _++_, _∷_};
 ghost use Prim.Native.Nat.{_≤_};
 ghost use lib.ListN.{length, take};
 ghost use Rattle.decimal.specs.Numeral.{digits};
 ghost use Rattle.lines.specs.Fields.{tab, lineOf};
-ghost use Rattle.woot.specs.State.{meaning};
+ghost use Rattle.woot.specs.declared.Character.{Character};
+ghost use Rattle.woot.specs.Memory.{column, meaning, codePoints, toggleCounts, replicaWellFormed};
 ghost use Rattle.woot.specs.Writing.{writtenAs, outputAfter};
 ghost use Rattle.transcript.specs.Lines.{reportLine, textLine, listing};
 
@@ -62,26 +63,30 @@ struct Listing {
     count: usize,
 }
 
-// The code point of a character as a number of a line.
-fn code_point(character: Character) -> u64
-    ensures { λ r. ⌜ r ≡ character .«code_point» ⌝ }
+// A code point as a number of a line.
+fn wide(code_point: u32) -> u64
+    ensures { λ r. ⌜ r ≡ «code_point» ⌝ }
 {
-    character.code_point as u64
+    code_point as u64
 }
 
 // Lists the visible ones of the first n characters.
-fn list(characters: [Character; 1024], n: usize) -> Listing
+fn list<'a>(code_points: &'a [u32], toggles: &'a [u8], n: usize) -> Listing
     requires { ⌜ n ≤ 1024 ⌝ }
-    ensures { λ r. ⌜ r ≡ listing (take n characters) ⌝ }
+    requires { ⌜ n ≤ length (now «code_points») ⌝ }
+    requires { ⌜ n ≤ length (now toggles) ⌝ }
+    ensures { λ r. ⌜ ((cs : List Character) → codePoints cs ≡ take n (now («code_points» .entry))
+        → toggleCounts cs ≡ take n (now (toggles .entry)) → r ≡ listing cs) ⌝ }
+    ensures { λ r. ⌜ r .count ≤ 1024 ⌝ }
+    ensures { λ r. ⌜ length (r .values) ≡ 1025 ⌝ }
 {
     let mut values = [0u64; 1025];
     let mut count = 0;
     let mut i = 0;
     while i < n {
-        let character = characters[i];
-        if character.is_visible() {
+        if toggles[i] % 2 == 0 {
             count += 1;
-            values[count] = code_point(character);
+            values[count] = wide(code_points[i]);
         }
         i += 1;
     }
@@ -90,24 +95,35 @@ fn list(characters: [Character; 1024], n: usize) -> Listing
 }
 
 // Writes the line of the visible ones of the first n characters at the front of the slice, all of it or nothing.
-fn put_text(characters: [Character; 1024], n: usize, out: &mut [u8]) -> Written
-    ensures { λ r. ⌜ r ≡ writtenAs [] (textLine (take n characters)) (now (out .entry)) ⌝ }
-    ensures { λ r. ⌜ now (out .exit) ≡ outputAfter [] (textLine (take n characters)) (now (out .entry)) ⌝ }
+fn put_text<'a>(characters: &'a [u32], toggles: &'a [u8], n: usize, out: &mut [u8]) -> Written
+    requires { ⌜ n ≤ 1024 ⌝ }
+    requires { ⌜ length (now characters) ≡ 4096 ⌝ }
+    requires { ⌜ n ≤ length (now toggles) ⌝ }
+    ensures { λ r. ⌜ ((cs : List Character) → codePoints cs ≡ take n (column 1024 3 (now (characters .entry)))
+        → toggleCounts cs ≡ take n (now (toggles .entry))
+        → r ≡ writtenAs [] (textLine cs) (now (out .entry))) ⌝ }
+    ensures { λ _. ⌜ ((cs : List Character) → codePoints cs ≡ take n (column 1024 3 (now (characters .entry)))
+        → toggleCounts cs ≡ take n (now (toggles .entry))
+        → now (out .exit) ≡ outputAfter [] (textLine cs) (now (out .entry))) ⌝ }
 {
     let head = [b'T'];
-    let listed = list(characters, index::lesser(1024, n));
+    let listed = list(&characters[3072..4096], toggles, n);
     let values = listed.values;
     let size = listed.count + 1;
     codec::writing::fitted(lines::writing::put(&head, &values[..size], out, 0))
 }
 
 // Writes the line of a replica's visible characters at the front of the slice. A slice that is too short keeps every
-// byte.
+// byte. A step of the program and not a call: its replica is well formed from the first line to the last.
 pub fn text_line(replica: Replica, out: &mut [u8]) -> Written
+    requires { ⌜ replicaWellFormed replica ≡ true ⌝ }
     ensures { λ x. ⌜ x ≡ writtenAs [] (textLine (meaning replica .characters)) (now (out .entry)) ⌝ }
     ensures { λ x. ⌜ now (out .exit) ≡ outputAfter [] (textLine (meaning replica .characters)) (now (out .entry)) ⌝ }
 {
-    let document = replica.document;
-    let characters = document.characters;
-    put_text(characters, document.length, out)
+    put_text(
+        &replica.document.characters,
+        &replica.document.toggles,
+        replica.document.length,
+        out,
+    )
 }

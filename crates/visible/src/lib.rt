@@ -1,34 +1,34 @@
-// The visible characters of a document: how many there are, those beside an insertion point, and their text. A count
-// above the slots is taken as all of them.
-pub mod columns;
-
-use woot::Character;
-use woot::Identifier;
+// The visible characters of a document on its lent arrays: how many there are, where one of them stands, the keys
+// beside an insertion point, and their text. The public functions are steps of the calls and not calls: they lend
+// arrays that have a slot for each of the n characters.
+use index::Found;
 use woot::Refusal;
 use woot::Written;
 ghost use mathlib.Core.Path.{_≡_};
-ghost use mathlib.Core.List.{_++_, _∷_, []};
+ghost use mathlib.Core.List.{List, _++_, _∷_, []};
 ghost use Prim.Native.Nat.{_≤_};
 ghost use lib.ListN.{length, take, getD};
 ghost use Rattle.output.specs.Output.{placed, past};
+ghost use Rattle.woot.specs.declared.Character.{Character};
 ghost use Rattle.woot.specs.Identifiers.{begin, end};
-ghost use Rattle.lists.specs.Lists.{keep};
 ghost use Rattle.woot.specs.Operations.{isVisible};
 ghost use Rattle.woot.specs.Calls.{visibles};
 ghost use Rattle.woot.specs.Text.{printed, text};
+ghost use Rattle.woot.specs.Table.{key, keys};
+ghost use Rattle.woot.specs.Memory.{codePoints, toggleCounts};
 ghost use Rattle.woot.specs.Writing.{writtenAs, outputAfter};
-ghost use Rattle.visible.specs.Visible.{spelt};
+ghost use Rattle.visible.specs.Shown.{nthIndex, getKey, speltAs, textOf};
 
 // How many of the first n characters are visible.
-pub fn count(characters: [Character; 1024], n: usize) -> usize
-    ensures { λ r. ⌜ r ≡ length (visibles (take n characters)) ⌝ }
+pub fn count(toggles: &[u8], n: usize) -> usize
+    requires { ⌜ n ≤ length (now toggles) ⌝ }
+    ensures { λ r. ⌜ ((cs : List Character)
+        → toggleCounts cs ≡ take n (now (toggles .entry)) → r ≡ length (visibles cs)) ⌝ }
 {
-    let end = index::lesser(n, 1024);
     let mut number = 0;
     let mut i = 0;
-    while i < end {
-        let c = characters[i];
-        if c.is_visible() {
+    while i < n {
+        if toggles[i] % 2 == 0 {
             number += 1;
         }
         i += 1;
@@ -36,57 +36,63 @@ pub fn count(characters: [Character; 1024], n: usize) -> usize
     number
 }
 
-// The visible character counted k from 0 among the first n, or the given one where there is none.
-pub fn nth(characters: [Character; 1024], n: usize, k: usize, none: Character) -> Character
-    ensures { λ r. ⌜ r ≡ getD (keep isVisible (take n characters)) k none ⌝ }
+// The slot of the visible character counted k from 0 among the first n.
+pub fn nth(toggles: &[u8], n: usize, k: usize) -> Found
+    requires { ⌜ n ≤ length (now toggles) ⌝ }
+    ensures { λ r. ⌜ ((cs : List Character)
+        → toggleCounts cs ≡ take n (now (toggles .entry)) → r ≡ nthIndex isVisible cs k) ⌝ }
 {
-    let end = index::lesser(n, 1024);
     let mut rest = k;
     let mut i = 0;
-    while i < end {
-        let c = characters[i];
-        if c.is_visible() {
+    while i < n {
+        if toggles[i] % 2 == 0 {
             if rest == 0 {
-                return c;
+                return Found::At(i);
             }
             rest -= 1;
         }
         i += 1;
     }
-    none
+    Found::Nothing
 }
 
-// Its identifier, or the mark where there is none.
-fn identifier(characters: [Character; 1024], n: usize, k: usize, mark: Identifier) -> Identifier
-    ensures { λ r. ⌜ r ≡ getD (visibles (take n characters)) k mark ⌝ }
+// The key of the visible character counted k from 0, or the mark's where there is none.
+fn key_of<'a>(ids: &'a [u32], toggles: &'a [u8], n: usize, k: usize, mark: u32) -> u32
+    requires { ⌜ n ≤ length (now ids) ⌝ }
+    requires { ⌜ n ≤ length (now toggles) ⌝ }
+    ensures { λ r. ⌜ ((cs : List Character) → keys cs ≡ take n (now (ids .entry))
+        → toggleCounts cs ≡ take n (now (toggles .entry)) → r ≡ getKey (visibles cs) k mark) ⌝ }
 {
-    let none = Character {
-        id: mark,
-        code_point: 0,
-        toggles: 0,
-        previous: mark,
-        next: mark,
-    };
-    let c = nth(characters, n, k, none);
-    c.id
+    match nth(toggles, n, k) {
+        Found::At(i) => ids[i],
+        Found::Nothing => mark,
+    }
 }
 
-// The identifier on the left of the insertion point g among the first n characters: that of the visible character
-// counted g from 1, or the begin mark.
-pub fn left(characters: [Character; 1024], n: usize, point: usize) -> Identifier
-    ensures { λ r. ⌜ r ≡ getD (begin ∷ visibles (take n characters)) point begin ⌝ }
+// The key of the identifier on the left of the insertion point g among the first n characters: that of the visible
+// character counted g from 1, or of the begin mark.
+pub fn left<'a>(ids: &'a [u32], toggles: &'a [u8], n: usize, point: usize) -> u32
+    requires { ⌜ n ≤ length (now ids) ⌝ }
+    requires { ⌜ n ≤ length (now toggles) ⌝ }
+    ensures { λ r. ⌜ ((cs : List Character) → keys cs ≡ take n (now (ids .entry))
+        → toggleCounts cs ≡ take n (now (toggles .entry))
+        → r ≡ key (getD (begin ∷ visibles cs) point begin)) ⌝ }
 {
     if point == 0 {
-        return Identifier::BEGIN;
+        return 0;
     }
-    identifier(characters, n, point - 1, Identifier::BEGIN)
+    key_of(ids, toggles, n, point - 1, 0)
 }
 
-// The identifier on its right: that of the visible character counted g from 0, or the end mark.
-pub fn right(characters: [Character; 1024], n: usize, point: usize) -> Identifier
-    ensures { λ r. ⌜ r ≡ getD (visibles (take n characters) ++ end ∷ []) point end ⌝ }
+// The key of the one on its right: that of the visible character counted g from 0, or of the end mark.
+pub fn right<'a>(ids: &'a [u32], toggles: &'a [u8], n: usize, point: usize) -> u32
+    requires { ⌜ n ≤ length (now ids) ⌝ }
+    requires { ⌜ n ≤ length (now toggles) ⌝ }
+    ensures { λ r. ⌜ ((cs : List Character) → keys cs ≡ take n (now (ids .entry))
+        → toggleCounts cs ≡ take n (now (toggles .entry))
+        → r ≡ key (getD (visibles cs ++ end ∷ []) point end)) ⌝ }
 {
-    identifier(characters, n, point, Identifier::END)
+    key_of(ids, toggles, n, point, 1)
 }
 
 // The code point that goes out for one in the text: U+FFFD for 0 to 8, 11 to 31 and 127, and any other as it is.
@@ -100,68 +106,82 @@ fn printed(code_point: u32) -> u32
 }
 
 // How many bytes a character adds to the text.
-fn size(character: Character) -> usize
-    ensures { λ r. ⌜ r ≡ length (spelt character) ⌝ }
+fn size(code_point: u32, toggles: u8) -> usize
+    ensures { λ r. ⌜ r ≡ length (speltAs «code_point» toggles) ⌝ }
 {
-    if character.is_visible() {
-        let point = printed(character.code_point);
-        return utf8::encoded_length(point);
+    if toggles % 2 == 0 {
+        return utf8::encoded_length(printed(code_point));
     }
     0
 }
 
 // How many bytes the text of the first n characters has.
-fn text_length(characters: [Character; 1024], n: usize) -> usize
+fn text_length<'a>(code_points: &'a [u32], toggles: &'a [u8], n: usize) -> usize
     requires { ⌜ n ≤ 1024 ⌝ }
-    ensures { λ r. ⌜ r ≡ length (text (take n characters)) ⌝ }
+    requires { ⌜ n ≤ length (now «code_points») ⌝ }
+    requires { ⌜ n ≤ length (now toggles) ⌝ }
+    ensures { λ r. ⌜ r
+        ≡ length (textOf (take n (now («code_points» .entry))) (take n (now (toggles .entry)))) ⌝ }
 {
     let mut bytes = 0;
     let mut i = 0;
     while i < n {
-        let c = characters[i];
-        bytes += size(c);
+        bytes += size(code_points[i], toggles[i]);
         i += 1;
     }
     bytes
 }
 
 // Puts the bytes that a character adds to the text into the slice at the offset, and answers the offset just past them.
-fn put(character: Character, out: &mut [u8], at: usize) -> usize
-    ensures { λ r. ⌜ r ≡ past (now (out .entry)) at (spelt character) ⌝ }
-    ensures { λ _. ⌜ now (out .exit) ≡ placed (now (out .entry)) at (spelt character) ⌝ }
+fn put(code_point: u32, toggles: u8, out: &mut [u8], at: usize) -> usize
+    ensures { λ r. ⌜ r ≡ past (now (out .entry)) at (speltAs «code_point» toggles) ⌝ }
+    ensures { λ _. ⌜ now (out .exit) ≡ placed (now (out .entry)) at (speltAs «code_point» toggles) ⌝ }
 {
-    if !character.is_visible() {
+    if toggles % 2 != 0 {
         return at;
     }
-    let point = printed(character.code_point);
-    utf8::write(point, out, at)
+    utf8::write(printed(code_point), out, at)
 }
 
 // Puts the text of the first n characters, for which there is room, at the front of the slice.
-fn put_text(characters: [Character; 1024], n: usize, out: &mut [u8])
-    requires { ⌜ n ≤ 1024 ⌝ }
-    requires { ⌜ length (text (take n characters)) ≤ length (now out) ⌝ }
-    ensures { λ _. ⌜ now (out .exit) ≡ placed (now (out .entry)) 0 (text (take n characters)) ⌝ }
+fn put_text(code_points: &[u32], toggles: &[u8], n: usize, out: &mut [u8])
+    requires { ⌜ n ≤ length (now «code_points») ⌝ }
+    requires { ⌜ n ≤ length (now toggles) ⌝ }
+    requires { ⌜ length (textOf (take n (now «code_points»)) (take n (now toggles))) ≤ length (now out) ⌝ }
+    ensures { λ _. ⌜ now (out .exit)
+        ≡ placed (now (out .entry)) 0 (textOf (take n (now («code_points» .entry)))
+        (take n (now (toggles .entry)))) ⌝ }
 {
     let mut at = 0;
     let mut i = 0;
     while i < n {
-        let c = characters[i];
-        at = put(c, out, at);
+        at = put(code_points[i], toggles[i], out, at);
         i += 1;
     }
 }
 
-// Writes the text of the first n characters, or refuses where the slice is too short, and leaves it as it was then.
-pub fn write_text(characters: [Character; 1024], n: usize, out: &mut [u8]) -> Written
-    ensures { λ r. ⌜ r ≡ writtenAs [] (text (take n characters)) (now (out .entry)) ⌝ }
-    ensures { λ _. ⌜ now (out .exit) ≡ outputAfter [] (text (take n characters)) (now (out .entry)) ⌝ }
+// Writes the text of the first n characters, or refuses where the slice is too short, and leaves it as it was then. The
+// characters are at most as many as a document has slots for, so that their bytes can be counted.
+pub fn write_text<'a>(
+    code_points: &'a [u32],
+    toggles: &'a [u8],
+    n: usize,
+    out: &mut [u8],
+) -> Written
+    requires { ⌜ n ≤ 1024 ⌝ }
+    requires { ⌜ n ≤ length (now «code_points») ⌝ }
+    requires { ⌜ n ≤ length (now toggles) ⌝ }
+    ensures { λ r. ⌜ ((cs : List Character) → codePoints cs ≡ take n (now («code_points» .entry))
+        → toggleCounts cs ≡ take n (now (toggles .entry))
+        → r ≡ writtenAs [] (text cs) (now (out .entry))) ⌝ }
+    ensures { λ _. ⌜ ((cs : List Character) → codePoints cs ≡ take n (now («code_points» .entry))
+        → toggleCounts cs ≡ take n (now (toggles .entry))
+        → now (out .exit) ≡ outputAfter [] (text cs) (now (out .entry))) ⌝ }
 {
-    let end = index::lesser(n, 1024);
-    let bytes = text_length(characters, end);
+    let bytes = text_length(code_points, toggles, n);
     if out.len() < bytes {
         return Written::Refused(Refusal::Output);
     }
-    put_text(characters, end, out);
+    put_text(code_points, toggles, n, out);
     Written::Length(bytes)
 }

@@ -1,122 +1,163 @@
--- What the check answers, by how its tests come out.
-use Prim.Native.Nat.{_≤_}
+-- What the tests of the check say of a replica, by how those before them came out: the ranges make the columns those of
+-- its meaning, and the table tells its keys apart.
 use native.Mathlib.Omega.{arith}
-use mathlib.Core.Path.{_≡_, refl, ap, _∙_}
-use mathlib.Core.Bool.{Bool, true, false, _&&_, cond, and-true, and-false as and-no}
+use mathlib.Core.Path.{_≡_, refl, sym, ap, _∙_}
+use mathlib.Core.Bool.{Bool, true, false, _&&_, and-true, and-false as and-no}
+use mathlib.Core.List.{List, map}
 use mathlib.Core.Logic.{⊎-elim}
-use borrow.Author.Tests.{leb-true}
-use lib.Dec.{leb, eqb}
-use lib.ListN.{length, take, length-map}
+use lib.Dec.{eqb}
+use lib.ListN.{length, take}
 use lib.Seq.{length-take-le}
-use Rattle.woot.specs.declared.Pending.{Pending}
-use Rattle.woot.specs.declared.Replica.{Replica}
-use Rattle.woot.specs.State.{State, meaning, counted, tableAgrees, characterSlots, pendingSlots}
-use Rattle.woot.specs.Form.{allInRange, wellFormed, replicaWellFormed}
-use Rattle.lists.proofs.Tests.{either, and-left, and-right, and-false}
-use Rattle.index.specs.declared.Index.{Index}
-use Rattle.pending.specs.declared.queue.Queue.{Queue}
-use Rattle.well_formed.specs.declared.Checked.{Checked}
-use Rattle.index.specs.Index.{indexOf}
-use Rattle.arrays.specs.Edit.{operations}
-use Rattle.pending.specs.Queue.{queueOf}
-use Rattle.pending_form.specs.Form.{pendingFormed}
-use Rattle.replica_ranges.specs.Ranges.{rangesKept}
-use Rattle.well_formed.specs.Form.{charactersFormed, placesOrdered, clockReached, formedWith, unformed, checked}
-use Rattle.lists.specs.Lists.{distinct}
+use Rattle.lists.specs.Lists.{every, distinct}
+use Rattle.lists.proofs.Tests.{either, and-left, and-right, and-false, three}
 use Rattle.woot.specs.declared.Character.{Character}
-use Rattle.woot.specs.Table.{key, keys}
+use Rattle.woot.specs.declared.Operation.{Operation}
+use Rattle.memory.specs.Columns.{Replica}
+use Rattle.woot.specs.Ranges.{siteInRange, characterInRange, inRange}
+use Rattle.woot.specs.Form.{allInRange, sharesKept, capacityKept, identifiersDistinct, togglesDistinct, ordered, neighboursOrdered, noneExecutable, clockKept}
+use Rattle.woot.specs.Form.{wellFormed}
+use Rattle.woot.specs.Table.{keys, agrees}
+use Rattle.woot.specs.Memory.{ownKey, firstKey, secondKey, valueOf, charactersOf, operationsOf}
+use Rattle.memory.specs.Columns.{charactersIn, operationsIn, meaning, counted, tableAgrees}
+use Rattle.memory.specs.Columns.{replicaWellFormed}
 use Rattle.index.specs.Tabled.{Tabled}
-use Rattle.storage.proofs.Fullness.{FullDocument}
 use Rattle.index.proofs.Agreement.{agreeing-apart}
-use Rattle.index.proofs.Indexes.{index-ids, index-above, index-below}
-use Rattle.pending.proofs.Queues.{queue-own, queue-first, queue-second, queue-senders, queue-stamps}
-use Rattle.well_formed.proofs.Conditions.{conditions}
+use Rattle.memory.proofs.Fullness.{FullDocument}
+use Rattle.memory.proofs.Stored.{Counts, counts, ids-in, own-in, first-in, second-in, values-in}
+use Rattle.well_formed.specs.Form.{rangesKept, clockReached}
+use Rattle.well_formed.specs.PendingForm.{pendingFormed}
+use Rattle.well_formed.proofs.PendingForm.{pending-conditions}
+use Rattle.well_formed.proofs.Reaching.{clock-reached}
 
-pub formed-path : (s : State) {x : Index} {q : Queue} → x ≡ indexOf (s .characters) → q ≡ queueOf (s .pending)
-    → _≡_ {A = Checked} (record { formed = true; index = x; queue = q }) (formedWith s)
-unfolding formedWith
-formed-path s e f = λ i. record { formed = true; index = e i; queue = f i }
-
--- a table that agrees has no key twice
-apart : (r : Replica) → tableAgrees r ≡ true → distinct eqb (keys (meaning r .characters)) ≡ true
-unfolding tableAgrees
-apart r h = agreeing-apart (r .document .table) (keys (meaning r .characters)) h
-
--- and finds every key, where the characters have slots
-pub own-tabled : (r : Replica) → FullDocument (r .document) → tableAgrees r ≡ true → length (meaning r .characters) ≤ 1024
-    → Tabled (r .document .table) (keys (meaning r .characters))
-unfolding tableAgrees
-own-tabled r f h few =
-    record {
-      heads = f .heads;
-      links = f .links;
-      few = omega (arith, length-map (meaning r .characters) (λ (c : Character). key (c .id)));
-      agree = h;
-    }
-
-settled : (d o q t : Bool) → (t ≡ true → d ≡ true) → (d && o) && q && t ≡ t && (o && q)
-settled d o q true h = rw (h refl) (and-true (o && q))
-settled d o q false h = and-no ((d && o) && q)
+-- the conditions in another order
+arranged : (b c d e f g t : Bool) → b && c && d && e && f && g && t ≡ f && ((b && c && d && e && g) && t)
+arranged b c d e f g t = go (b && c && d && e) f
+  where
+    go : (x y : Bool) → x && y && g && t ≡ y && (x && g && t)
+    go true true = refl
+    go true false = refl
+    go false true = refl
+    go false false = refl
 
 module _ (r : Replica) where
-  pub checked-false : replicaWellFormed r ≡ false → checked r ≡ unformed
-  unfolding checked
-  checked-false e = rw e
+  -- what its arrays stand for
+  abbrev pub charactersAs : List Character
+  charactersAs =
+      charactersOf (r .document .ids) (r .document .previous) (r .document .next) (r .document .«code_points») (r .document .toggles) (r .document .length)
 
-  pub checked-true : replicaWellFormed r ≡ true → checked r ≡ formedWith (meaning r)
-  unfolding checked
-  checked-true e = rw e
+  abbrev pub operationsAs : List Operation
+  operationsAs = operationsOf (r .document .own) (r .document .first) (r .document .second) (r .document .values) (r .document .waiting)
 
-  pub checked-formed : checked r .formed ≡ replicaWellFormed r
-  unfolding checked formedWith unformed
-  checked-formed = go (replicaWellFormed r)
-    where
-      go : (b : Bool) → cond b (formedWith (meaning r)) unformed .formed ≡ b
-      go true = refl
-      go false = refl
+  -- the first test of the check
+  abbrev pub ranged : Bool
+  ranged = rangesKept (r .site) (r .document .length) charactersAs (r .document .waiting) operationsAs
 
-  -- the tests of what is packed, in the slots in use
-  abbrev pub indexFormed : Index → Bool
-  indexFormed x = placesOrdered (take (r .document .length) (x .above)) (take (r .document .length) (x .below))
+  ranged-is : ranged ≡ counted r && allInRange (meaning r)
+  unfolding rangesKept counted allInRange meaning charactersIn operationsIn
+  ranged-is = refl
 
-  abbrev pub queueFormed : Index → Queue → Bool
-  queueFormed x q =
-      pendingFormed (take (r .document .length) (x .ids)) (take (r .document .waiting) (q .own)) (take (r .document .waiting) (q .first))
-      (take (r .document .waiting) (q .second))
-      (take (r .document .waiting) (q .senders))
-      (take (r .document .waiting) (q .stamps))
-      && clockReached (r .site) (take (r .document .length) (x .ids)) (take (r .document .waiting) (q .own))
-
-  pub out-of-range : rangesKept r ≡ false → replicaWellFormed r ≡ false
-  unfolding rangesKept replicaWellFormed wellFormed
+  pub out-of-range : ranged ≡ false → replicaWellFormed r ≡ false
+  unfolding replicaWellFormed wellFormed
   out-of-range h = ⊎-elim within (λ (e : counted r ≡ false). rw e) (either (counted r))
     where
       within : counted r ≡ true → replicaWellFormed r ≡ false
-      within e = let f : allInRange (meaning r) ≡ false = and-false (counted r) (allInRange (meaning r)) h e in rw (e, f)
+      within e = let f : allInRange (meaning r) ≡ false = and-false (counted r) (allInRange (meaning r)) (sym ranged-is ∙ h) e in rw (e, f)
 
-  module _ (ranges : rangesKept r ≡ true) where
-    counts : counted r ≡ true
-    unfolding rangesKept
-    counts = and-left (counted r) (allInRange (meaning r)) ranges
+  module _ (full : FullDocument (r .document)) (h : ranged ≡ true) where
+    within-arrays : counted r ≡ true
+    within-arrays = and-left (counted r) (allInRange (meaning r)) (sym ranged-is ∙ h)
 
-    pub few-characters : r .document .length ≤ characterSlots
-    unfolding counted
-    few-characters = leb-true _ _ (and-left (leb (r .document .length) characterSlots) _ counts)
+    in-range : allInRange (meaning r) ≡ true
+    in-range = and-right (counted r) (allInRange (meaning r)) (sym ranged-is ∙ h)
 
-    pub few-pending : r .document .waiting ≤ pendingSlots
-    unfolding counted
-    few-pending = leb-true _ _ (and-right (leb (r .document .length) characterSlots) _ counts)
+    pub few : Counts (r .document)
+    few = counts r within-arrays
 
-    module _ (slots : length (r .document .characters) ≡ characterSlots) (pending-slots : length (r .document .pending) ≡ pendingSlots) where
-      pub in-range : (x : Index) (q : Queue) → x ≡ indexOf (meaning r .characters) → q ≡ queueOf (meaning r .pending)
-          → replicaWellFormed r ≡ tableAgrees r && (indexFormed x && queueFormed x q)
-      unfolding replicaWellFormed meaning rangesKept charactersFormed
-      in-range x q e f =
-          let cs = take (r .document .length) (r .document .characters) in
-          let os = operations (take (r .document .waiting) (r .document .pending)) in
-          let n : length cs ≡ r .document .length = length-take-le _ _ (omega (arith, few-characters)) in
-          let w : length os ≡ r .document .waiting =
-          length-map (take (r .document .waiting) (r .document .pending)) (λ (p : Pending). p .operation) ∙ length-take-le _ _ (omega (arith, few-pending))
-          in
-          rw (e, f, counts, index-ids cs _ n, index-above cs _ n, index-below cs _ n, queue-own os _ w, queue-first os _ w, queue-second os _ w, queue-senders os _ w, queue-stamps os _ w)
-          (ap (λ (b : Bool). b && tableAgrees r) (conditions (meaning r) (and-right (counted r) (allInRange (meaning r)) ranges)) ∙ settled (distinct eqb (keys cs)) _ _ (tableAgrees r) (apart r))
+    parts : (siteInRange (r .site) ≡ true) × (every characterInRange (meaning r .characters) ≡ true) × (every inRange (meaning r .pending) ≡ true)
+    unfolding allInRange meaning
+    parts = three (siteInRange (r .site)) _ _ in-range
+
+    pub characters-ranged : every characterInRange charactersAs ≡ true
+    unfolding meaning charactersIn
+    characters-ranged = parts .1
+
+    keys-used : keys (meaning r .characters) ≡ take (r .document .length) (r .document .ids)
+    unfolding meaning
+    keys-used = ids-in (r .document) (omega (arith, few .characters, full .ids))
+
+    table-is : tableAgrees r ≡ agrees (r .document .table) (take (r .document .length) (r .document .ids))
+    unfolding tableAgrees
+    table-is = ap (agrees (r .document .table)) keys-used
+
+    pub untabled : agrees (r .document .table) (take (r .document .length) (r .document .ids)) ≡ false → replicaWellFormed r ≡ false
+    unfolding replicaWellFormed
+    untabled e = rw (table-is ∙ e) (and-no (counted r && wellFormed (meaning r)))
+
+    module _ (e : agrees (r .document .table) (take (r .document .length) (r .document .ids)) ≡ true) where
+      pub tabled : Tabled (r .document .table) (take (r .document .length) (r .document .ids))
+      tabled =
+          record {
+            heads = full .heads;
+            links = full .links;
+            few = omega (arith, few .characters, length-take-le (r .document .length) (r .document .ids) (omega (arith, few .characters, full .ids)));
+            agree = e;
+          }
+
+      -- no key stands twice
+      apart : distinct eqb (keys (meaning r .characters)) ≡ true
+      apart = ap (distinct eqb) keys-used ∙ agreeing-apart (r .document .table) _ e
+
+      -- the last test of the check
+      abbrev pub queueFormed : Bool
+      queueFormed =
+          pendingFormed (take (r .document .length) (r .document .ids)) (take (r .document .waiting) (r .document .own))
+          (take (r .document .waiting) (r .document .first))
+          (take (r .document .waiting) (r .document .second))
+          (take (r .document .waiting) (r .document .values))
+          && clockReached (r .site) (take (r .document .length) (r .document .ids)) (take (r .document .waiting) (r .document .own))
+
+      -- the columns of the pending operations
+      columns : (map ownKey (meaning r .pending) ≡ take (r .document .waiting) (r .document .own))
+          × (map firstKey (meaning r .pending) ≡ take (r .document .waiting) (r .document .first))
+          × (map secondKey (meaning r .pending) ≡ take (r .document .waiting) (r .document .second))
+          × (map valueOf (meaning r .pending) ≡ take (r .document .waiting) (r .document .values))
+      unfolding meaning
+      columns =
+          let d = r .document in (
+            own-in d (parts .2) (omega (arith, few .pending, full .own)),
+            first-in d (parts .2) (omega (arith, few .pending, full .first)),
+            second-in d (parts .2) (omega (arith, few .pending, full .second)),
+            values-in d (parts .2) (omega (arith, few .pending, full .values)),
+          )
+
+      queue-is : let s = meaning r in
+          (sharesKept s && capacityKept s && identifiersDistinct s && togglesDistinct s && noneExecutable s) && clockKept s ≡ queueFormed
+      unfolding meaning
+      queue-is =
+          rw (
+            pending-conditions (meaning r) (parts .1) (parts .2) apart,
+            clock-reached (meaning r) in-range,
+            keys-used,
+            columns .0,
+            columns .1,
+            columns .2,
+            columns .3,
+          )
+
+      form-is : wellFormed (meaning r) ≡ every (ordered charactersAs) charactersAs && queueFormed
+      unfolding wellFormed neighboursOrdered meaning charactersIn
+      form-is =
+          rw in-range
+          (arranged (sharesKept (meaning r)) (capacityKept (meaning r)) (identifiersDistinct (meaning r)) (togglesDistinct (meaning r))
+          (neighboursOrdered (meaning r)) (noneExecutable (meaning r)) (clockKept (meaning r))
+          ∙ ap (λ (b : Bool). neighboursOrdered (meaning r) && b) queue-is)
+
+      conditions : replicaWellFormed r ≡ every (ordered charactersAs) charactersAs && queueFormed
+      unfolding replicaWellFormed
+      conditions = rw (within-arrays, table-is ∙ e) (and-true (wellFormed (meaning r)) ∙ form-is)
+
+      pub disordered : every (ordered charactersAs) charactersAs ≡ false → replicaWellFormed r ≡ false
+      disordered o = conditions ∙ rw o
+
+      pub decided : every (ordered charactersAs) charactersAs ≡ true → {b : Bool} → b ≡ queueFormed → b ≡ replicaWellFormed r
+      decided o q = q ∙ sym (conditions ∙ rw o)

@@ -26,7 +26,7 @@ use Rattle.convergence.proofs.Forms.{known-reached}
 use Rattle.convergence.proofs.Ranges.{in-range, origin-ranged}
 use Rattle.index.specs.Keys.{Small}
 use Rattle.index.proofs.Keys.{character-small}
-use Rattle.pending.specs.Queue.{ownKey}
+use Rattle.woot.specs.Memory.{ownKey}
 use Rattle.well_formed.specs.Form.{reachesKey, clockReached}
 
 reaches-key : (t : Site) (x : Identifier) → Small x → reachesKey t (key x) ≡ reaches t x

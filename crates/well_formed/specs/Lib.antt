@@ -1,2 +1,4 @@
+pub mod Order
+pub mod PendingForm
 pub mod Form
 pub mod Examined

@@ -1,76 +1,65 @@
-// The check of a replica's form. The ranges are checked first, on the arrays; then every number is small and no
-// character has a mark's identifier, and the other conditions are checked on what is packed. Once the replica's table
-// is seen to agree with the keys, no key stands twice, and every other key is found by it.
-use index::Index;
+// The check of a replica's form, on lent arrays of numbers. The ranges are checked first; then no character has a
+// mark's key, and what the numbers stand for is what they were made of. Once the replica's table is seen to agree with
+// the keys, no key stands twice, and every other key is found by it.
+pub mod clock;
+pub mod numbers;
+pub mod order;
+pub mod waiting;
+
 use index::table;
-use pending::queue;
-use pending::queue::Queue;
-use woot::Replica;
 use woot::Site;
 ghost use mathlib.Core.Path.{_≡_};
 ghost use mathlib.Core.Bool.{_&&_};
 ghost use Prim.Native.Nat.{_≤_};
 ghost use lib.ListN.{length, take};
-ghost use Rattle.lists.specs.Lists.{every};
+ghost use Rattle.woot.specs.Memory.{charactersOf, operationsOf};
+ghost use Rattle.memory.specs.Columns.{replicaWellFormed};
 ghost use Rattle.index.specs.Tabled.{Tabled};
-ghost use Rattle.pending_form.specs.Form.{pendingFormed};
-ghost use Rattle.well_formed.specs.Form.{placesOrdered, reachesKey, clockReached, unformed};
-ghost use Rattle.well_formed.specs.Form.{checked};
+ghost use Rattle.memory.specs.Lent.{documentAs};
+ghost use Rattle.well_formed.specs.Form.{rangesKept, clockReached};
+ghost use Rattle.well_formed.specs.PendingForm.{pendingFormed};
 
-// Whether each character stands below its previous and above its next, which is held.
-fn places_ordered<'a>(above: &'a [u16], below: &'a [u16]) -> bool
-    requires { ⌜ length (now below) ≡ length (now above) ⌝ }
-    ensures { λ r. ⌜ r ≡ placesOrdered (now (above .entry)) (now (below .entry)) ⌝ }
+// Whether the counts are within the arrays, and refusal 2 would let every number, mark and neighbour pass.
+fn in_ranges<'a>(
+    site: Site,
+    ids: &'a [u32],
+    previous: &'a [u32],
+    next: &'a [u32],
+    code_points: &'a [u32],
+    toggles: &'a [u8],
+    n: usize,
+    own: &'a [u32],
+    first: &'a [u32],
+    second: &'a [u32],
+    values: &'a [u32],
+    w: usize,
+) -> bool
+    requires { ⌜ length (now ids) ≡ 1024 ⌝ }
+    requires { ⌜ length (now previous) ≡ 1024 ⌝ }
+    requires { ⌜ length (now next) ≡ 1024 ⌝ }
+    requires { ⌜ length (now «code_points») ≡ 1024 ⌝ }
+    requires { ⌜ length (now own) ≡ 512 ⌝ }
+    requires { ⌜ length (now first) ≡ 512 ⌝ }
+    requires { ⌜ length (now second) ≡ 512 ⌝ }
+    requires { ⌜ length (now values) ≡ 512 ⌝ }
+    ensures { λ r. ⌜ r
+        ≡ rangesKept site n (charactersOf (now (ids .entry)) (now (previous .entry)) (now (next .entry))
+        (now («code_points» .entry)) (now (toggles .entry)) n)
+        w (operationsOf (now (own .entry)) (now (first .entry)) (now (second .entry)) (now (values .entry)) w) ⌝ }
 {
-    let mut i = 0;
-    while i < above.len() {
-        let place = i + 1;
-        if place <= above[i] as usize {
-            return false;
-        }
-        let next = below[i] as usize;
-        if next <= place {
-            return false;
-        }
-        if above.len() + 1 < next {
-            return false;
-        }
-        i = place;
+    if 1024 < n {
+        return false;
     }
-    true
-}
-
-// The same of the first n of them.
-fn ordered_among<'a>(above: &'a [u16], below: &'a [u16], n: usize) -> bool
-    requires { ⌜ n ≤ length (now above) ⌝ }
-    requires { ⌜ n ≤ length (now below) ⌝ }
-    ensures { λ r. ⌜ r ≡ placesOrdered (take n (now (above .entry))) (take n (now (below .entry))) ⌝ }
-{
-    places_ordered(&above[..n], &below[..n])
-}
-
-// Whether the site's clock reaches the identifier with a key, as it does any that has another site's number.
-fn reaches(site: Site, key: u32) -> bool
-    ensures { λ r. ⌜ r ≡ reachesKey site key ⌝ }
-{
-    if key / 65536 != site.number as u32 {
-        return true;
+    if 512 < w {
+        return false;
     }
-    key % 65536 <= site.clock as u32
-}
-
-// Whether it reaches every one of the keys.
-fn reaches_all(site: Site, keys: &[u32]) -> bool
-    ensures { λ r. ⌜ r ≡ every (reachesKey site) (now (keys .entry)) ⌝ }
-{
-    let mut i = 0;
-    while i < keys.len() {
-        if !reaches(site, keys[i]) {
-            return false;
-        }
-        i += 1;
+    if !ranges::site_in_range(site) {
+        return false;
     }
-    true
+    if !numbers::characters_in_range(ids, previous, next, code_points, toggles, n) {
+        return false;
+    }
+    numbers::operations_in_range(own, first, second, values, w)
 }
 
 // The conditions on w pending operations, with n characters, and that the clock reaches the inserts of both.
@@ -83,107 +72,96 @@ fn queue_formed<'a>(
     own: &'a [u32],
     first: &'a [u32],
     second: &'a [u32],
-    senders: &'a [u8],
-    stamps: &'a [u16],
+    values: &'a [u32],
     w: usize,
 ) -> bool
     requires { ⌜ n ≤ length (now ids) ⌝ }
     requires { ⌜ w ≤ length (now own) ⌝ }
     requires { ⌜ w ≤ length (now first) ⌝ }
     requires { ⌜ w ≤ length (now second) ⌝ }
-    requires { ⌜ w ≤ length (now senders) ⌝ }
-    requires { ⌜ w ≤ length (now stamps) ⌝ }
+    requires { ⌜ w ≤ length (now values) ⌝ }
     requires { ⌜ Tabled (record { heads = now heads; links = now links }) (take n (now ids)) ⌝ }
     ensures { λ r. ⌜ r
         ≡ pendingFormed (take n (now (ids .entry))) (take w (now (own .entry))) (take w (now (first .entry)))
-        (take w (now (second .entry))) (take w (now (senders .entry))) (take w (now (stamps .entry)))
+        (take w (now (second .entry))) (take w (now (values .entry)))
         && clockReached site (take n (now (ids .entry))) (take w (now (own .entry))) ⌝ }
 {
-    if !pending_form::pending_formed(
+    if !waiting::pending_formed(
         heads,
         links,
         &ids[..n],
         &own[..w],
         &first[..w],
         &second[..w],
-        &senders[..w],
-        &stamps[..w],
+        &values[..w],
     ) {
         return false;
     }
-    if !reaches_all(site, &ids[..n]) {
+    if !clock::reaches_all(site, ids, n) {
         return false;
     }
-    reaches_all(site, &own[..w])
+    clock::reaches_all(site, own, w)
 }
 
-// What the check finds: whether the replica is well formed, and what was packed of it to find that out.
-pub struct Checked {
-    pub formed: bool,
-    pub index: Index,
-    pub queue: Queue,
-}
-
-// What is answered of a replica that is not well formed.
-fn unformed() -> Checked
-    ensures { λ r. ⌜ r ≡ unformed ⌝ }
+// Whether the replica that these arrays make is in form. A step of the calls and not a call: they lend a replica's
+// arrays, which have these sizes.
+pub fn check<'a>(
+    site: Site,
+    ids: &'a [u32],
+    previous: &'a [u32],
+    next: &'a [u32],
+    code_points: &'a [u32],
+    toggles: &'a [u8],
+    n: usize,
+    own: &'a [u32],
+    first: &'a [u32],
+    second: &'a [u32],
+    values: &'a [u32],
+    w: usize,
+    heads: &'a [u16],
+    links: &'a [u16],
+) -> bool
+    requires { ⌜ length (now ids) ≡ 1024 ⌝ }
+    requires { ⌜ length (now previous) ≡ 1024 ⌝ }
+    requires { ⌜ length (now next) ≡ 1024 ⌝ }
+    requires { ⌜ length (now «code_points») ≡ 1024 ⌝ }
+    requires { ⌜ length (now toggles) ≡ 1024 ⌝ }
+    requires { ⌜ length (now own) ≡ 512 ⌝ }
+    requires { ⌜ length (now first) ≡ 512 ⌝ }
+    requires { ⌜ length (now second) ≡ 512 ⌝ }
+    requires { ⌜ length (now values) ≡ 512 ⌝ }
+    requires { ⌜ length (now heads) ≡ 1024 ⌝ }
+    requires { ⌜ length (now links) ≡ 2048 ⌝ }
+    ensures { λ r. ⌜ r
+        ≡ replicaWellFormed (record {
+          site = site;
+          document = documentAs (now (ids .entry)) (now (previous .entry)) (now (next .entry))
+              (now («code_points» .entry)) (now (toggles .entry)) n
+              (now (own .entry)) (now (first .entry)) (now (second .entry)) (now (values .entry)) w
+              (now (heads .entry)) (now (links .entry));
+        }) ⌝ }
 {
-    Checked {
-        formed: false,
-        index: Index {
-            ids: [0u32; 1024],
-            above: [0u16; 1024],
-            below: [0u16; 1024],
-        },
-        queue: Queue {
-            own: [0u32; 512],
-            first: [0u32; 512],
-            second: [0u32; 512],
-            senders: [0u8; 512],
-            stamps: [0u16; 512],
-        },
-    }
-}
-
-// Checks a replica's form.
-pub fn check(replica: Replica) -> Checked
-    ensures { λ r. ⌜ r ≡ checked replica ⌝ }
-{
-    if !replica_ranges::in_ranges(replica) {
-        return unformed();
-    }
-    let d = replica.document;
-    let n = d.length;
-    let w = d.waiting;
-    let cs = d.characters;
-    let keys = index::keys_of(cs, n);
-    if !table::agrees_among(&d.table.heads, &d.table.links, &keys.ids, n) {
-        return unformed();
-    }
-    let index = index::index_of(&d.table.heads, &d.table.links, keys, n);
-    if !ordered_among(&index.above, &index.below, n) {
-        return unformed();
-    }
-    let ps = d.pending;
-    let queue = queue::queue_of(ps, w);
-    if !queue_formed(
-        replica.site,
-        &d.table.heads,
-        &d.table.links,
-        &index.ids,
+    if !in_ranges(
+        site,
+        ids,
+        previous,
+        next,
+        code_points,
+        toggles,
         n,
-        &queue.own,
-        &queue.first,
-        &queue.second,
-        &queue.senders,
-        &queue.stamps,
+        own,
+        first,
+        second,
+        values,
         w,
     ) {
-        return unformed();
+        return false;
     }
-    Checked {
-        formed: true,
-        index,
-        queue,
+    if !table::agrees_among(heads, links, ids, n) {
+        return false;
     }
+    if !order::characters_ordered(heads, links, ids, previous, next, n) {
+        return false;
+    }
+    queue_formed(site, heads, links, ids, n, own, first, second, values, w)
 }

@@ -1,7 +1,7 @@
 -- The rule on the state that the bytes say is the call on the replica that was read: where the state is in form the
--- replica is that state as it is stored, and where it is not, refusal 3 is all that either answers.
+-- replica means it, and where it is not, refusal 3 is all that either answers.
 use Prim.Native.Nat.{ℕ}
-use mathlib.Core.Path.{_≡_, refl, sym, ap, _∙_}
+use mathlib.Core.Path.{_≡_, refl, sym, ap, _∙_, subst}
 use mathlib.Core.Bool.{Bool, true, false, not, cond}
 use mathlib.Core.List.{List, [], _∷_}
 use mathlib.Core.Option.{Option, some}
@@ -17,30 +17,34 @@ use Rattle.woot.specs.declared.Sent.the-variants.{Done as sentDone, Refused as 
 use Rattle.woot.specs.declared.Moved.{Moved}
 use Rattle.woot.specs.declared.Generated.{Generated}
 use Rattle.woot.specs.Ranges.{codePoint, characterId, inRange}
-use Rattle.woot.specs.State.{State, stored, meaning}
-use Rattle.woot.specs.Form.{wellFormed, replicaWellFormed}
+use Rattle.woot.specs.State.{State}
+use Rattle.woot.specs.Memory.{stored, meaning, replicaWellFormed}
+use Rattle.woot.specs.Form.{wellFormed}
 use Rattle.woot.specs.declared.Written.{Written}
 use Rattle.woot.specs.declared.Written.the-variants.{Length, Refused as writtenRefused}
-use Rattle.woot.specs.Answers.{reply, changes, _⇒_, first, decided}
+use Rattle.woot.specs.Answers.{reply, changes, answerOf, _⇒_, first, decided}
 use Rattle.woot.specs.Writing.{writtenNumber, writtenLength}
 use Rattle.woot.specs.Calls.{Outcome, unchanged, insertChecks, localInsertWhen, localInsert, deleteChecks, localDeleteWhen, localDelete, restoreChecks, localRestoreWhen, localRestore}
 use Rattle.woot.specs.Cursor.{receiveAtChecks, receiveAtWhen, receiveAt, shiftOf, shiftAt}
+use Rattle.woot.specs.Histories.{inserting, deleting, restoring, receivingAt, outcome}
 use Rattle.woot.specs.Text.{text}
-use Rattle.storage.specs.Replicas.{afterAnswer, afterSent, moved, generated, receivedAt, inserted, deleted, restored}
+use Rattle.woot.specs.Replicas.{afterAnswer, afterSent, moved, generated, receivedAt, inserted, deleted, restored}
 use Rattle.cursor.specs.Bits.{shiftBits}
 use Rattle.replica.specs.Texts.{textOf}
-use Rattle.replica.proofs.Runs.{meaning-stored}
+use Rattle.replica.specs.Theorems.{called, answerTo}
+use Rattle.replica.proofs.Runs.{Within, formed-within, meaning-stored}
+use Rattle.replica.proofs.Kept.{accepted-formed}
 use Rattle.codec.specs.Operations.{operationLine}
 use Rattle.saved.specs.declared.Version.{Version}
-use Rattle.saved.specs.Format.{savedState, savedBytes}
-use Rattle.saved.specs.Calls.{loadedAs, loadedState, bytesOf, held}
-use Rattle.woot.specs.Form.{raised}
+use Rattle.saved.specs.Format.{savedBytes}
+use Rattle.saved.specs.Calls.{loadedState, bytesOf}
 use Rattle.saved.specs.Conversion.{conversion, conversionRefusals, conversionChecks, converted, convertedOut}
-use Rattle.saved.proofs.Held.{held-form}
+use Rattle.convergence.proofs.Kept.{form-kept}
 use Rattle.effects.specs.Effects.{Effect, quiet, turned, writing, writingBoth, sending, afterSending, writingNoted, afterReceivingAt}
 use Rattle.results.specs.Results.{silent, result}
 use Rattle.wimtaze.specs.Calls.{inputChecks, counting, converting}
 use Rattle.wimtaze.specs.Theorems.{TripsTell}
+use Rattle.wimtaze.proofs.Refusals.{Reads, formLeft}
 use Rattle.effects.proofs.Outputs.{checked-written}
 use Rattle.effects.specs.Steps.{afterNoting, afterWriting, sentLeft, generatedLeft, textLeft, movedLeft}
 use Rattle.counts.specs.Counts.{countsOf}
@@ -55,32 +59,35 @@ pub goes-on : (out line : List ℕ) {o p : Option Refusal} (e : Effect) → o �
 goes-on out line e h = ap (λ (x : Option Refusal). decided (turned out line) x e) h
 
 -- the bytes of a state as it is stored
-pub stored-bytes : (s : State) → bytesOf (stored s) ≡ savedBytes s
-stored-bytes s = ap savedBytes (meaning-stored s)
+pub stored-bytes : (s : State) → Within s → bytesOf (stored s) ≡ savedBytes s
+stored-bytes s w = ap savedBytes (meaning-stored s w)
 
--- ---- what a rule leaves, saved
+-- ---- what a rule leaves in form, saved
 
-moved-saved : (r : Replica) (g : ℕ) (w : Outcome Answer) (out : List ℕ) → movedLeft (moved r g w) out ≡ afterReceivingAt w (shiftOf (meaning r) w g) out
+moved-saved : (r : Replica) (g : ℕ) (w : Outcome Answer) (out : List ℕ) → wellFormed (w .state) ≡ true → movedLeft (moved r g w) out ≡ afterReceivingAt w (shiftOf (meaning r) w g) out
 unfolding movedLeft moved afterReceivingAt changes afterAnswer
-moved-saved r g w out = go (w .answer)
+moved-saved r g w out f = go (w .answer)
   where
+    same : bytesOf (stored (w .state)) ≡ savedBytes (w .state)
+    same = stored-bytes (w .state) (formed-within (w .state) f)
+
     note : ℕ
     note = shiftBits (shiftOf (meaning r) w g)
 
     go : (a : Answer)
         → cond (changes a) (writingNoted a note (bytesOf (afterAnswer r (w .state) a)) out) (quiet out [] a)
         ≡ cond (changes a) (writingNoted a note (savedBytes (w .state)) out) (quiet out [] a)
-    go (Done n m) = ap (λ (bytes : List ℕ). writingNoted (Done n m) note bytes out) (stored-bytes (w .state))
-    go Deferred = ap (λ (bytes : List ℕ). writingNoted Deferred note bytes out) (stored-bytes (w .state))
+    go (Done n m) = ap (λ (bytes : List ℕ). writingNoted (Done n m) note bytes out) same
+    go Deferred = ap (λ (bytes : List ℕ). writingNoted Deferred note bytes out) same
     go Duplicate = refl
     go (Refused q) = refl
 
-sent-saved : (r : Replica) (w : Outcome Sent) (out line : List ℕ) → generatedLeft (generated r w) out line ≡ afterSending w out line
+sent-saved : (r : Replica) (w : Outcome Sent) (out line : List ℕ) → wellFormed (w .state) ≡ true → generatedLeft (generated r w) out line ≡ afterSending w out line
 unfolding generatedLeft generated afterSending sentLeft sending afterSent
-sent-saved r w out line = go (w .answer)
+sent-saved r w out line f = go (w .answer)
   where
     go : (a : Sent) → sentLeft a (afterSent r (w .state) a) out line ≡ sending (w .state) a out line
-    go (sentDone o n m) = ap (λ (bytes : List ℕ). writingBoth (Done n m) bytes (operationLine o) out line) (stored-bytes (w .state))
+    go (sentDone o n m) = ap (λ (bytes : List ℕ). writingBoth (Done n m) bytes (operationLine o) out line) (stored-bytes (w .state) (formed-within (w .state) f))
     go (sentRefused q) = refl
 
 -- ---- the form
@@ -94,22 +101,22 @@ module _ (s : State) (out line : List ℕ) (e : Effect) where
   unfolding decided
   formed-off h = rw h
 
-module _ (u : State) (h : wellFormed (raised u) ≡ true) where
-  received-held : (o : Operation) (g : ℕ) → receivedAt (held u) o g ≡ moved (held u) g (receiveAt (raised u) o g)
+module _ (r : Replica) (s : State) (read : Reads r s) (h : wellFormed s ≡ true) where
+  received-read : (o : Operation) (g : ℕ) → receivedAt r o g ≡ moved r g (receiveAt s o g)
   unfolding receivedAt receiveAt
-  received-held o g = rw (held-form u .0, held-form u .1 h .1)
+  received-read o g = rw (read .form, read .means h)
 
-  inserted-held : (g n : ℕ) → inserted (held u) g n ≡ generated (held u) (localInsert (raised u) g n)
+  inserted-read : (g n : ℕ) → inserted r g n ≡ generated r (localInsert s g n)
   unfolding inserted localInsert
-  inserted-held g n = rw (held-form u .0, held-form u .1 h .1)
+  inserted-read g n = rw (read .form, read .means h)
 
-  deleted-held : (p : ℕ) → deleted (held u) p ≡ generated (held u) (localDelete (raised u) p)
+  deleted-read : (p : ℕ) → deleted r p ≡ generated r (localDelete s p)
   unfolding deleted localDelete
-  deleted-held p = rw (held-form u .0, held-form u .1 h .1)
+  deleted-read p = rw (read .form, read .means h)
 
-  restored-held : (x : Identifier) → restored (held u) x ≡ generated (held u) (localRestore (raised u) x)
+  restored-read : (x : Identifier) → restored r x ≡ generated r (localRestore s x)
   unfolding restored localRestore
-  restored-held x = rw (held-form u .0, held-form u .1 h .1)
+  restored-read x = rw (read .form, read .means h)
 
 -- a replica out of form is refused with 3
 module _ (r : Replica) (f : replicaWellFormed r ≡ false) where
@@ -135,49 +142,70 @@ unformed r out f = rw f
 
 -- ---- the calls
 
-module _ (u : State) (out : List ℕ) where
-  pub receive-bridge : (o : Operation) (g : ℕ) → inRange o ≡ true → formed-first (raised u) out [] (afterReceivingAt (receiveAt (raised u) o g) (shiftAt (raised u) o g) out) ≡ movedLeft (receivedAt (held u) o g) out
-  unfolding shiftAt
-  receive-bridge o g ranged = go (wellFormed (raised u)) refl
+module _ (r : Replica) (s : State) (read : Reads r s) (out : List ℕ) where
+  pub receive-bridge : (o : Operation) (g : ℕ) → inRange o ≡ true → formed-first s out [] (afterReceivingAt (receiveAt s o g) (shiftAt s o g) out) ≡ movedLeft (receivedAt r o g) out
+  unfolding shiftAt outcome
+  receive-bridge o g ranged = go (wellFormed s) refl
     where
-      go : (b : Bool) → wellFormed (raised u) ≡ b → formed-first (raised u) out [] (afterReceivingAt (receiveAt (raised u) o g) (shiftAt (raised u) o g) out) ≡ movedLeft (receivedAt (held u) o g) out
+      go : (b : Bool) → wellFormed s ≡ b → formed-first s out [] (afterReceivingAt (receiveAt s o g) (shiftAt s o g) out) ≡ movedLeft (receivedAt r o g) out
       go true e =
-          formed-on (raised u) out [] _ e
-          ∙ ap (λ (t : State). afterReceivingAt (receiveAt (raised u) o g) (shiftOf t (receiveAt (raised u) o g) g) out) (sym (held-form u .1 e .1))
-          ∙ sym (moved-saved (held u) g (receiveAt (raised u) o g) out)
-          ∙ ap (λ (x : Moved). movedLeft x out) (sym (received-held u e o g))
-      go false e = formed-off (raised u) out [] _ e ∙ sym (received-off (held u) (held-form u .0 ∙ e) o g out ranged)
+          formed-on s out [] _ e
+          ∙ ap (λ (t : State). afterReceivingAt (receiveAt s o g) (shiftOf t (receiveAt s o g) g) out) (sym (read .means e))
+          ∙ sym (moved-saved r g (receiveAt s o g) out (form-kept s (receivingAt o g) e))
+          ∙ ap (λ (x : Moved). movedLeft x out) (sym (received-read r s read e o g))
+      go false e = formed-off s out [] _ e ∙ sym (received-off r (read .form ∙ e) o g out ranged)
 
-  pub text-bridge : formed-first (raised u) out [] (writing (Done 0 0) (text ((raised u) .characters)) out) ≡ textLeft (held u) out
+  pub text-bridge : formed-first s out [] (writing (Done 0 0) (text (s .characters)) out) ≡ textLeft r out
   unfolding textLeft textOf
-  text-bridge = go (wellFormed (raised u)) refl
+  text-bridge = go (wellFormed s) refl
     where
-      go : (b : Bool) → wellFormed (raised u) ≡ b → formed-first (raised u) out [] (writing (Done 0 0) (text ((raised u) .characters)) out) ≡ textLeft (held u) out
-      go true e = rw (held-form u .0, held-form u .1 e .1)
-      go false e = formed-off (raised u) out [] _ e ∙ sym (unformed (held u) out (held-form u .0 ∙ e))
+      go : (b : Bool) → wellFormed s ≡ b → formed-first s out [] (writing (Done 0 0) (text (s .characters)) out) ≡ textLeft r out
+      go true e = rw (read .form, read .means e)
+      go false e = formed-off s out [] _ e ∙ sym (unformed r out (read .form ∙ e))
 
   module _ (line : List ℕ) where
     -- a call that sends goes on as its rule does, and is refused with 3 where the form lacks
-    bridge : (w : Outcome Sent) (x : Generated) → (wellFormed (raised u) ≡ true → x ≡ generated (held u) w)
-        → (wellFormed (raised u) ≡ false → x ≡ record { answer = sentRefused Form; replica = held u })
-        → formed-first (raised u) out line (afterSending w out line) ≡ generatedLeft x out line
+    bridge : (w : Outcome Sent) (x : Generated) → (wellFormed s ≡ true → wellFormed (w .state) ≡ true) → (wellFormed s ≡ true → x ≡ generated r w)
+        → (wellFormed s ≡ false → x ≡ record { answer = sentRefused Form; replica = r })
+        → formed-first s out line (afterSending w out line) ≡ generatedLeft x out line
     unfolding generatedLeft sentLeft
-    bridge w x on off = go (wellFormed (raised u)) refl
+    bridge w x kept on off = go (wellFormed s) refl
       where
-        go : (b : Bool) → wellFormed (raised u) ≡ b → formed-first (raised u) out line (afterSending w out line) ≡ generatedLeft x out line
-        go true e = formed-on (raised u) out line _ e ∙ sym (sent-saved (held u) w out line) ∙ ap (λ (y : Generated). generatedLeft y out line) (sym (on e))
-        go false e = formed-off (raised u) out line _ e ∙ ap (λ (y : Generated). generatedLeft y out line) (sym (off e))
+        go : (b : Bool) → wellFormed s ≡ b → formed-first s out line (afterSending w out line) ≡ generatedLeft x out line
+        go true e = formed-on s out line _ e ∙ sym (sent-saved r w out line (kept e)) ∙ ap (λ (y : Generated). generatedLeft y out line) (sym (on e))
+        go false e = formed-off s out line _ e ∙ ap (λ (y : Generated). generatedLeft y out line) (sym (off e))
 
-    pub type-bridge : (g n : ℕ) → codePoint n ≡ true → formed-first (raised u) out line (afterSending (localInsert (raised u) g n) out line) ≡ generatedLeft (inserted (held u) g n) out line
+    pub type-bridge : (g n : ℕ) → codePoint n ≡ true → formed-first s out line (afterSending (localInsert s g n) out line) ≡ generatedLeft (inserted r g n) out line
+    unfolding outcome
     type-bridge g n ranged =
-        bridge (localInsert (raised u) g n) (inserted (held u) g n) (λ e. inserted-held u e g n) (λ e. inserted-off (held u) (held-form u .0 ∙ e) g n ranged)
+        bridge (localInsert s g n) (inserted r g n) (form-kept s (inserting g n)) (λ e. inserted-read r s read e g n) (λ e. inserted-off r (read .form ∙ e) g n ranged)
 
-    pub erase-bridge : (p : ℕ) → formed-first (raised u) out line (afterSending (localDelete (raised u) p) out line) ≡ generatedLeft (deleted (held u) p) out line
-    erase-bridge p = bridge (localDelete (raised u) p) (deleted (held u) p) (λ e. deleted-held u e p) (λ e. deleted-off (held u) (held-form u .0 ∙ e) p)
+    pub erase-bridge : (p : ℕ) → formed-first s out line (afterSending (localDelete s p) out line) ≡ generatedLeft (deleted r p) out line
+    unfolding outcome
+    erase-bridge p = bridge (localDelete s p) (deleted r p) (form-kept s (deleting p)) (λ e. deleted-read r s read e p) (λ e. deleted-off r (read .form ∙ e) p)
 
-    pub restore-bridge : (x : Identifier) → characterId x ≡ true → formed-first (raised u) out line (afterSending (localRestore (raised u) x) out line) ≡ generatedLeft (restored (held u) x) out line
+    pub restore-bridge : (x : Identifier) → characterId x ≡ true → formed-first s out line (afterSending (localRestore s x) out line) ≡ generatedLeft (restored r x) out line
+    unfolding outcome
     restore-bridge x ranged =
-        bridge (localRestore (raised u) x) (restored (held u) x) (λ e. restored-held u e x) (λ e. restored-off (held u) (held-form u .0 ∙ e) x ranged)
+        bridge (localRestore s x) (restored r x) (form-kept s (restoring x)) (λ e. restored-read r s read e x) (λ e. restored-off r (read .form ∙ e) x ranged)
+
+-- ---- what a call that sends leaves is in form where it changed the replica
+
+abbrev Sendable : Generated → Type 0
+Sendable x = changes (answerOf (x .answer)) ≡ true → replicaWellFormed (x .replica) ≡ true
+
+module _ (r : Replica) {x : Generated} where
+  pub insert-sendable : (g n : ℕ) → x ≡ inserted r g n → Sendable x
+  unfolding called answerTo
+  insert-sendable g n e = subst Sendable (sym e) (accepted-formed r (inserting g n))
+
+  pub delete-sendable : (p : ℕ) → x ≡ deleted r p → Sendable x
+  unfolding called answerTo
+  delete-sendable p e = subst Sendable (sym e) (accepted-formed r (deleting p))
+
+  pub restore-sendable : (y : Identifier) → x ≡ restored r y → Sendable x
+  unfolding called answerTo
+  restore-sendable y e = subst Sendable (sym e) (accepted-formed r (restoring y))
 
 -- ---- between the forms
 
@@ -197,24 +225,22 @@ trips-tell v w bytes out = rw (conversion-bridge v w bytes out) (go (converted v
 
 -- ---- the counts, which write nothing
 
-counts-bridge : (u : State) → decided (λ q. silent (Refused q)) (first ((not (wellFormed (raised u)) ⇒ Form) ∷ [])) (countsOf (raised u)) ≡ countsLeft (held u)
+counts-bridge : (r : Replica) (s : State) → Reads r s → decided (λ q. silent (Refused q)) (first ((not (wellFormed s) ⇒ Form) ∷ [])) (countsOf s) ≡ countsLeft r
 unfolding countsLeft decided
-counts-bridge u = go (wellFormed (raised u)) refl
+counts-bridge r s read = go (wellFormed s) refl
   where
-    go : (b : Bool) → wellFormed (raised u) ≡ b
-        → decided (λ q. silent (Refused q)) (first ((not (wellFormed (raised u)) ⇒ Form) ∷ [])) (countsOf (raised u)) ≡ countsLeft (held u)
-    go true e = rw (held-form u .0, held-form u .1 e .1)
-    go false e = rw (held-form u .0, e)
+    go : (b : Bool) → wellFormed s ≡ b
+        → decided (λ q. silent (Refused q)) (first ((not (wellFormed s) ⇒ Form) ∷ [])) (countsOf s) ≡ countsLeft r
+    go true e = rw (read .form, read .means e)
+    go false e = rw (read .form, e)
 
 module _ (bytes : List ℕ) where
   pub counts-refused : {q : Refusal} → first (inputChecks bytes true true) ≡ some q → counting bytes ≡ silent (Refused q)
   unfolding counting decided
   counts-refused h = rw h
 
-  pub counts-passed : {r : Replica} → first (inputChecks bytes true true) ≡ first ((not (wellFormed (loadedState bytes)) ⇒ Form) ∷ [])
-      → r ≡ held (savedState bytes) → counting bytes ≡ countsLeft r
-  unfolding counting loadedAs
-  counts-passed h e =
+  pub counts-passed : {r : Replica} → first (inputChecks bytes true true) ≡ formLeft bytes → Reads r (loadedState bytes) → counting bytes ≡ countsLeft r
+  unfolding counting
+  counts-passed h read =
       ap (λ (o : Option Refusal). decided (λ q. silent (Refused q)) o (countsOf (loadedState bytes))) h
-      ∙ counts-bridge (savedState bytes)
-      ∙ ap countsLeft (sym e)
+      ∙ counts-bridge _ (loadedState bytes) read

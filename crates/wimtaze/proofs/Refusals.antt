@@ -8,21 +8,24 @@ use lib.ListN.{length}
 use borrow.Author.Tests.{eq-eqb, ne-eqb}
 use Rattle.woot.specs.declared.Operation.{Operation}
 use Rattle.woot.specs.declared.Refusal.{Refusal}
+use Rattle.woot.specs.declared.Replica.{Replica}
 use Rattle.woot.specs.declared.Refusal.the-variants.{Layout, Range, Form}
 use Rattle.woot.specs.Answers.{_⇒_, first, decided}
 use Rattle.woot.specs.Ranges.{inRange}
 use Rattle.woot.specs.Form.{wellFormed}
 use Rattle.woot.specs.State.{State}
+use Rattle.woot.specs.Memory.{meaning, replicaWellFormed}
 use Rattle.codec.specs.declared.Read.{Read}
 use Rattle.codec.specs.declared.Read.the-variants.{Operation as readsAs, Refused as readRefused}
 use Rattle.lines.specs.Lines.{rest}
 use Rattle.codec.specs.Calls.{readChecks, readAs, readOperation, saidBy}
-use Rattle.storage.specs.Replicas.{receivedAt}
+use Rattle.woot.specs.Replicas.{receivedAt}
 use Rattle.saved.specs.declared.LoadAnswer.the-variants.{Done, Refused}
 use Rattle.saved.specs.declared.Loaded.{Loaded}
 use Rattle.saved.specs.declared.Version.the-variants.{Second}
 use Rattle.saved.specs.Format.{savedLaidOut, savedInRange, savedState}
 use Rattle.saved.specs.Calls.{loadedState, unread, held, readingChecks, savedRead}
+use Rattle.loading.proofs.Forming.{both, form-is, means-so}
 use Rattle.wimtaze.specs.Calls.{inputChecks, oneLine}
 use Rattle.wimtaze.specs.Inputs.{layoutFirst, firstOf}
 
@@ -41,12 +44,6 @@ unfolding decided unread
 alone true true c s q h = cc
 alone true false c s q h = cc
 alone false b c s q h = cc
-
-done : (a b : Bool) (s : State) → answering a b s .answer ≡ Done → (a ≡ true) × (b ≡ true) × (answering a b s .replica ≡ held s)
-unfolding decided unread
-done true true s h = (refl, refl, refl)
-done true false s h = (refl, cc, cc)
-done false b s h = (cc, cc, cc)
 
 ranged : (a b c : Bool) (s : State) → refusing (a && true) (b && false) c ≡ some (firstOf (answering a b s .answer) Range)
 unfolding decided unread firstOf layoutFirst
@@ -100,6 +97,11 @@ line-read laid o p h = read laid (inRange o) o p h
 abbrev pub formLeft : List ℕ → Option Refusal
 formLeft s = first ((not (wellFormed (loadedState s)) ⇒ Form) ∷ [])
 
+-- a replica read for a state is in form exactly when the state is, and then means it
+pub record Reads (r : Replica) (s : State) : Type 0 where
+  pub form : replicaWellFormed r ≡ wellFormed s
+  pub means : wellFormed s ≡ true → meaning r ≡ s
+
 module _ (s : List ℕ) (x : Loaded) (e : x ≡ savedRead Second s) where
   -- a saved replica that is refused, and nothing else that could be
   pub refused-alone : (q : Refusal) → x .answer ≡ Refused q → first (inputChecks s true true) ≡ some q
@@ -108,12 +110,13 @@ module _ (s : List ℕ) (x : Loaded) (e : x ≡ savedRead Second s) where
       alone (savedLaidOut s) (savedInRange s) (wellFormed (loadedState s)) (savedState s) q
       (sym (ap (λ (y : Loaded). y .answer) e) ∙ h)
 
-  -- neither refusal 1 nor 2 holds, and the replica is what the bytes say, as far as the arrays hold it
-  pub passed : x .answer ≡ Done → (first (inputChecks s true true) ≡ formLeft s) × (x .replica ≡ held (savedState s))
-  unfolding inputChecks savedRead readingChecks
+  -- neither refusal 1 nor 2 holds, and the replica is read for the state that loading makes
+  pub passed : x .answer ≡ Done → (first (inputChecks s true true) ≡ formLeft s) × Reads (x .replica) (loadedState s)
+  unfolding inputChecks
   passed h =
-      let d = done (savedLaidOut s) (savedInRange s) (savedState s) (sym (ap (λ (y : Loaded). y .answer) e) ∙ h) in
-      (rw (d .0, d .1) refl, ap (λ (y : Loaded). y .replica) e ∙ d .2)
+      let d = both Second s x e h in
+      let f = form-is Second s x e h in
+      (rw (d .0, d .1) refl, record { form = f; means = λ w. means-so Second s x e h (f ∙ w) })
 
   -- a number that is out of range beside a saved replica
   pub refused-range : first (inputChecks s true false) ≡ some (firstOf (x .answer) Range)
@@ -135,10 +138,11 @@ module _ (s : List ℕ) (x : Loaded) (e : x ≡ savedRead Second s) where
       first (inputChecks s laid (inRange o)) ≡ some q
   refused-beside laid o p h k = let l = line-read laid o p h in rw (l .0, l .1) (refused-alone _ k)
 
-  -- both are read: the operation is received by the replica that was read
+  -- both are read: the operation of the line is received by the replica
   pub passed-beside : (laid : Bool) (o p : Operation) (g : ℕ) → readAs laid o ≡ readsAs p → x .answer ≡ Done →
-      (first (inputChecks s laid (inRange o)) ≡ formLeft s) × (inRange o ≡ true) × (receivedAt (held (savedState s)) o g ≡ receivedAt (x .replica) p g)
+      (first (inputChecks s laid (inRange o)) ≡ formLeft s) × (inRange o ≡ true) × (receivedAt (x .replica) o g ≡ receivedAt (x .replica) p g)
+      × Reads (x .replica) (loadedState s)
   passed-beside laid o p g h k =
       let l = line-read laid o p h in
       let d = passed k in
-      (rw (l .0, l .1) (d .0), l .1, rw (← d .1, ← l .2) refl)
+      (rw (l .0, l .1) (d .0), l .1, ap (λ (q : Operation). receivedAt (x .replica) q g) (sym (l .2)), d .1)

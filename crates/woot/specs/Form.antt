@@ -7,12 +7,11 @@ use lib.ListN.{length}
 use Rattle.woot.specs.declared.Insert.{Insert}
 use Rattle.woot.specs.declared.Character.{Character}
 use Rattle.woot.specs.declared.Site.{Site}
-use Rattle.woot.specs.declared.Replica.{Replica}
 use Rattle.woot.specs.Limits.{lastSite, capacity, share}
 use Rattle.woot.specs.Identifiers.{same}
 use Rattle.woot.specs.Operations.{origin, inserts, togglesAmong, sameToggle}
 use Rattle.woot.specs.Ranges.{siteInRange, characterInRange, inRange}
-use Rattle.woot.specs.State.{State, meaning, counted, tableAgrees}
+use Rattle.woot.specs.State.{State}
 use Rattle.woot.specs.Clock.{ownInsert, heardAll}
 use Rattle.woot.specs.Placing.{above}
 use Rattle.woot.specs.Pending.{executable, pendingFrom}
@@ -81,8 +80,3 @@ wellFormed s =
 unfoldable pub raised : State → State
 raised s =
     record { site = heardAll (s .site) (presentInserts s); characters = s .characters; pending = s .pending }
-
--- a replica is in form when its counts are within its arrays, its meaning is in form and, as document 02 adds, its
--- table agrees: "the form gains that it agrees"
-unfoldable pub replicaWellFormed : Replica → Bool
-replicaWellFormed r = counted r && wellFormed (meaning r) && tableAgrees r

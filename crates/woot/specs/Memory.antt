@@ -11,13 +11,20 @@ use Rattle.woot.specs.declared.Identifier.{Identifier}
 use Rattle.woot.specs.declared.Character.{Character}
 use Rattle.woot.specs.declared.Operation.{Operation}
 use Rattle.woot.specs.declared.Operation.the-variants.{Insert as insert, Toggle as toggle}
-use Rattle.woot.specs.declared.memory.Document.{Document}
-use Rattle.woot.specs.declared.memory.Replica.{Replica}
+use Rattle.woot.specs.declared.Document.{Document}
+use Rattle.woot.specs.declared.Replica.{Replica}
 use Rattle.woot.specs.Table.{key, keys, agrees, tableOf}
-use Rattle.woot.specs.State.{State, characterSlots, pendingSlots}
+use Rattle.woot.specs.State.{State}
 use Rattle.woot.specs.Form.{wellFormed}
 
 -- ---- numbers
+
+-- the sizes of the arrays
+abbrev pub characterSlots : ℕ
+characterSlots = 1024
+
+abbrev pub pendingSlots : ℕ
+pendingSlots = 512
 
 -- the identifier with a key: a number of more than 24 bits is that of a site which no replica has
 unfoldable pub identifier : ℕ → Identifier

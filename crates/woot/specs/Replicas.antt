@@ -2,14 +2,14 @@
 use Prim.Native.Nat.{ℕ}
 use Rattle.woot.specs.declared.Identifier.{Identifier}
 use Rattle.woot.specs.declared.Operation.{Operation}
-use Rattle.woot.specs.declared.memory.Replica.{Replica}
+use Rattle.woot.specs.declared.Replica.{Replica}
 use Rattle.woot.specs.declared.Answer.{Answer}
 use Rattle.woot.specs.declared.Answer.the-variants.{Done, Deferred, Duplicate, Refused}
 use Rattle.woot.specs.declared.Sent.{Sent}
 use Rattle.woot.specs.declared.Sent.the-variants.{Done as sentDone, Refused as sentRefused}
-use Rattle.woot.specs.declared.memory.Receipt.{Receipt}
-use Rattle.woot.specs.declared.memory.Moved.{Moved}
-use Rattle.woot.specs.declared.memory.Generated.{Generated}
+use Rattle.woot.specs.declared.Receipt.{Receipt}
+use Rattle.woot.specs.declared.Moved.{Moved}
+use Rattle.woot.specs.declared.Generated.{Generated}
 use Rattle.woot.specs.State.{State}
 use Rattle.woot.specs.Memory.{meaning, stored, replicaWellFormed}
 use Rattle.woot.specs.Calls.{Outcome, receiveWhen, localInsertWhen, localDeleteWhen, localRestoreWhen}

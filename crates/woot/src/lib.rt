@@ -1,12 +1,11 @@
 // The types of the replicated text: identifiers, operations, characters, the document, the replica, and the answers of
 // the calls. The rules that they live by are in specs/; the crate
 // `convergence` has the theorems about them.
-pub mod memory;
-
 ghost use mathlib.Core.Path.{_≡_};
 ghost use Rattle.woot.specs.Operations.{isVisible};
 ghost use Rattle.woot.specs.Answers.{number, changes};
-ghost use Rattle.woot.specs.State.{initial, stored};
+ghost use Rattle.woot.specs.State.{initial};
+ghost use Rattle.woot.specs.Memory.{stored};
 
 // The name of a character: the site that typed it and that site's clock then. (Document 01: identifier.)
 pub struct Identifier {
@@ -75,11 +74,6 @@ impl Character {
     }
 }
 
-// An operation that waits for what it needs.
-pub struct Pending {
-    pub operation: Operation,
-}
-
 // Where characters are found by their keys, which are identifiers as numbers: each key belongs to one of 1,024 chains.
 // A chain is a tree, so that keys which share one cannot make it long: its head names its first character, and each
 // character has two links to later ones, among which the next bit of the key chooses. A link names a character by one
@@ -89,13 +83,22 @@ pub struct Table {
     pub links: [u16; 2048],
 }
 
-// The characters in order and the pending operations, earliest first, in fixed arrays of which the counts say how
-// much is in use, and the table by which a character is found through its identifier. (Document 01: the sheet without
-// its record.)
+// How many characters a document has slots for, and how many pending operations.
+pub const CHARACTERS: usize = 1024;
+
+pub const PENDING: usize = 512;
+
+// The characters in order, each in the same slot of four columns that lie one behind another in one array, 1,024 slots
+// each: its key, which is its identifier as a number, its previous's, its next's, and its code point. The counts of
+// their toggles lie beside them. The pending operations, earliest first, each in the same slot of four columns, 512
+// slots each: of an insert its own key, its previous's and its next's, and its code point; of a toggle 0, the target's
+// key, 0, and 256 times the sender and the count. The counts say how many slots are in use; a character is found by the
+// table. (Document 01: the sheet without its record.)
 pub struct Document {
-    pub characters: [Character; 1024],
+    pub characters: [u32; 4096],
+    pub toggles: [u8; CHARACTERS],
     pub length: usize,
-    pub pending: [Pending; 512],
+    pub pending: [u32; 2048],
     pub waiting: usize,
     pub table: Table,
 }
@@ -112,28 +115,13 @@ impl Replica {
     pub fn empty(number: u8) -> Self
         ensures { λ r. ⌜ r ≡ stored (initial number) ⌝ }
     {
-        let none = Identifier::BEGIN;
-        let character = Character {
-            id: none,
-            code_point: 0,
-            toggles: 0,
-            previous: none,
-            next: none,
-        };
-        let pending = Pending {
-            operation: Operation::Insert(Insert {
-                id: none,
-                code_point: 0,
-                previous: none,
-                next: none,
-            }),
-        };
         Replica {
             site: Site { number, clock: 0 },
             document: Document {
-                characters: [character; 1024],
+                characters: [0u32; 4096],
+                toggles: [0u8; CHARACTERS],
                 length: 0,
-                pending: [pending; 512],
+                pending: [0u32; 2048],
                 waiting: 0,
                 table: Table {
                     heads: [0u16; 1024],

@@ -10,7 +10,7 @@ use borrow.Author.Tests.{lt-ltb, le-ltb}
 use Rattle.woot.specs.declared.Operation.{Operation}
 use Rattle.woot.specs.declared.Answer.{Answer}
 use Rattle.woot.specs.declared.Answer.the-variants.{Done, Deferred, Duplicate, Refused}
-use Rattle.storage.specs.Replicas.{received}
+use Rattle.woot.specs.Replicas.{received}
 use Rattle.workload.specs.Workload.{insertOf, deleteOf, numbersBelow, operationOf, operationsOf, carried, Tally, tallied, talliedAll, noneTallied, carriedOut}
 
 pub carried-le : (a : Answer) → carried a ≤ 1

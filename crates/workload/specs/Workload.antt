@@ -11,8 +11,9 @@ use Rattle.woot.specs.declared.Operation.the-variants.{Insert, Toggle}
 use Rattle.woot.specs.declared.Answer.{Answer}
 use Rattle.woot.specs.declared.Answer.the-variants.{Done, Deferred, Duplicate, Refused}
 use Rattle.woot.specs.Identifiers.{begin, end}
-use Rattle.woot.specs.State.{initial, stored, characterSlots}
-use Rattle.storage.specs.Replicas.{received}
+use Rattle.woot.specs.State.{initial}
+use Rattle.woot.specs.Memory.{characterSlots, stored}
+use Rattle.woot.specs.Replicas.{received}
 
 -- ---- the operations
 

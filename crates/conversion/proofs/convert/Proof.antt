@@ -1,7 +1,15 @@
 -- `conversion::convert` meets its contract: what was read decides, and then its form and what the other form can say.
-use mathlib.Core.Path.{_∙_}
+use native.Mathlib.Omega.{arith}
+use mathlib.Core.Path.{sym, _∙_}
 use Rattle.lists.proofs.Tests.{refused, passed}
-use Rattle.conversion.proofs.Converting.{not-read, not-formed, not-representable, written-so}
+use Rattle.woot.specs.Memory.{charactersIn, operationsIn, meaning}
+use Rattle.memory.specs.Lent.{viewed}
+use Rattle.memory.proofs.Fullness.{full-view}
+use Rattle.memory.proofs.Views.{form-view}
+use Rattle.well_formed.proofs.Examining.{examined, few}
+use Rattle.loading.proofs.Forming.{read-full}
+use Rattle.saving.specs.Documents.{stateIn}
+use Rattle.conversion.proofs.Converting.{not-read, not-formed, not-representable, written-so, told-representable}
 use borrow.Author.Needs.{needs}
 use Rattle.conversion.proofs.convert.Statement.{statement}
 use Rattle.conversion.proofs.convert.Tie as tie
@@ -18,30 +26,52 @@ returns c = not-read _ _ _ _ _ (c .before .before .before .read .ensures) _ (c .
 enum-told : tie.Need-enum-told
 enum-told c = search needs
 
-well-formed-requires : tie.Need-well-formed-requires
-well-formed-requires c κs = search needs
+check-requires : tie.Need-check-requires
+check-requires c κs =
+    let full = read-full _ _ _ (c .before .before .before .before .before .before .before .before .before .before .before .before .before .before .before .read .ensures) (c .before .before .before .before .before .before .before .before .before .before .before .before .before .enum-told .given .1) in
+    (full .characters, (full .toggles, (full .pending, (full .heads, full .links))))
 
 returns-2 : tie.Need-returns-2
 returns-2 c =
-    not-formed _ _ _ _ _ (c .before .before .before .before .before .read .ensures) (c .before .before .before .enum-told .given .1) (refused (c .before .well-formed .ensures) (c .if1 .taken))
+    let r = c .before .before .before .before .before .before .before .before .before .before .before .before .before .before .before .before .before .read .result .replica in
+    not-formed _ _ _ _ _ (c .before .before .before .before .before .before .before .before .before .before .before .before .before .before .before .before .before .read .ensures) (c .before .before .before .before .before .before .before .before .before .before .before .before .before .before .before .enum-told .given .1) (refused (c .before .check .ensures ∙ sym (form-view r)) (c .if1 .taken))
 
 is-representable-requires : tie.Need-is-representable-requires
-is-representable-requires c κs = search needs
+is-representable-requires c κs =
+    let r = c .before .before .before .before .before .before .before .before .before .before .before .before .before .before .before .before .before .before .before .before .before .before .read .result .replica in
+    let full = read-full _ _ _ (c .before .before .before .before .before .before .before .before .before .before .before .before .before .before .before .before .before .before .before .before .before .before .read .ensures) (c .before .before .before .before .before .before .before .before .before .before .before .before .before .before .before .before .before .before .before .before .enum-told .given .1) in
+    let w = few (viewed r) (examined (viewed r) (full-view (r .document) full) (passed (c .before .before .before .before .before .before .check .ensures) (c .before .before .before .before .before .if1 .left))) in
+    (omega (arith, full .toggles, w .characters), (full .pending, w .pending))
 
 returns-3 : tie.Need-returns-3
 returns-3 c =
-    not-representable _ _ _ _ _ (c .before .before .before .before .before .before .before .read .ensures) (c .before .before .before .before .before .enum-told .given .1) (passed (c .before .before .before .well-formed .ensures) (c .before .before .if1 .left)) (refused (c .before .is-representable .ensures) (c .if2 .taken))
+    let r = c .before .before .before .before .before .before .before .before .before .before .before .before .before .before .before .before .before .before .before .before .before .before .before .before .read .result .replica in
+    let done = c .before .before .before .before .before .before .before .before .before .before .before .before .before .before .before .before .before .before .before .before .before .before .enum-told .given .1 in
+    let full = read-full _ _ _ (c .before .before .before .before .before .before .before .before .before .before .before .before .before .before .before .before .before .before .before .before .before .before .before .before .read .ensures) done in
+    let x = examined (viewed r) (full-view (r .document) full) (passed (c .before .before .before .before .before .before .before .before .check .ensures) (c .before .before .before .before .before .before .before .if1 .left)) in
+    not-representable _ _ _ _ _ (c .before .before .before .before .before .before .before .before .before .before .before .before .before .before .before .before .before .before .before .before .before .before .before .before .read .ensures) done (passed (c .before .before .before .before .before .before .before .before .check .ensures ∙ sym (form-view r)) (c .before .before .before .before .before .before .before .if1 .left))
+    (refused (told-representable r x _ (c .before .is-representable .ensures)) (c .if2 .taken))
 
 put-requires : tie.Need-put-requires
-put-requires c κs = search needs
+put-requires c κs =
+    let r = c .before .before .before .before .before .before .before .before .before .before .before .before .before .before .before .before .before .before .before .before .before .before .before .before .before .before .before .before .before .before .before .before .before .read .result .replica in
+    let full = read-full _ _ _ (c .before .before .before .before .before .before .before .before .before .before .before .before .before .before .before .before .before .before .before .before .before .before .before .before .before .before .before .before .before .before .before .before .before .read .ensures) (c .before .before .before .before .before .before .before .before .before .before .before .before .before .before .before .before .before .before .before .before .before .before .before .before .before .before .before .before .before .before .before .enum-told .given .1) in
+    let w = few (viewed r) (examined (viewed r) (full-view (r .document) full) (passed (c .before .before .before .before .before .before .before .before .before .before .before .before .before .before .before .before .before .check .ensures) (c .before .before .before .before .before .before .before .before .before .before .before .before .before .before .before .before .if1 .left))) in
+    (full .characters, (w .characters, (omega (arith, full .toggles, w .characters), (full .pending, w .pending))))
 
 same-length : tie.Need-same-length
 same-length c = search needs
 
 returns-4 : tie.Need-returns-4
+unfolding stateIn meaning charactersIn operationsIn
 returns-4 c =
+    let r = c .before .before .before .before .before .before .before .before .before .before .before .before .before .before .before .before .before .before .before .before .before .before .before .before .before .before .before .before .before .before .before .before .before .before .before .before .read .result .replica in
+    let done = c .before .before .before .before .before .before .before .before .before .before .before .before .before .before .before .before .before .before .before .before .before .before .before .before .before .before .before .before .before .before .before .before .before .before .enum-told .given .1 in
+    let full = read-full _ _ _ (c .before .before .before .before .before .before .before .before .before .before .before .before .before .before .before .before .before .before .before .before .before .before .before .before .before .before .before .before .before .before .before .before .before .before .before .before .read .ensures) done in
+    let x = examined (viewed r) (full-view (r .document) full) (passed (c .before .before .before .before .before .before .before .before .before .before .before .before .before .before .before .before .before .before .before .before .check .ensures) (c .before .before .before .before .before .before .before .before .before .before .before .before .before .before .before .before .before .before .before .if1 .left)) in
     let p = c .before .before .put .ensures in
-    let e = written-so _ _ _ _ _ (c .before .before .before .before .before .before .before .before .before .before .before .read .ensures) (c .before .before .before .before .before .before .before .before .before .enum-told .given .1) (passed (c .before .before .before .before .before .before .before .well-formed .ensures) (c .before .before .before .before .before .before .if1 .left)) (passed (c .before .before .before .before .before .is-representable .ensures) (c .before .before .before .before .if2 .left)) in
+    let e = written-so _ _ _ _ _ (c .before .before .before .before .before .before .before .before .before .before .before .before .before .before .before .before .before .before .before .before .before .before .before .before .before .before .before .before .before .before .before .before .before .before .before .before .read .ensures) done (passed (c .before .before .before .before .before .before .before .before .before .before .before .before .before .before .before .before .before .before .before .before .check .ensures ∙ sym (form-view r)) (c .before .before .before .before .before .before .before .before .before .before .before .before .before .before .before .before .before .before .before .if1 .left))
+    (passed (told-representable r x _ (c .before .before .before .before .before .before .before .before .before .before .before .before .before .is-representable .ensures)) (c .before .before .before .before .before .before .before .before .before .before .before .before .if2 .left)) in
     (p .0 ∙ e .0, p .1 ∙ e .1)
 
 pub convert-spec : {M : Type 1} → statement M
@@ -52,7 +82,7 @@ convert-spec =
     enum-known-answer
     returns
     enum-told
-    well-formed-requires
+    check-requires
     returns-2
     is-representable-requires
     returns-3

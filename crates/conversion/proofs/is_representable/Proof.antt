@@ -15,10 +15,10 @@ enum-told-2 : tie.Need-enum-told-2
 enum-told-2 c = search needs
 
 returns : tie.Need-returns
-returns c = rw (c .before .enum-told .given .1) (c .within-first .ensures)
+returns c s t o v ranged = rw (c .before .enum-told .given .1) (c .within-first .ensures s t o v ranged)
 
 returns-2 : tie.Need-returns-2
-returns-2 c = rw (c .enum-told2 .given .1) (sym (second-says _))
+returns-2 c s t o v ranged = rw (c .enum-told2 .given .1) (sym (second-says s))
 
 pub is-representable-spec : {M : Type 1} → statement M
 is-representable-spec =

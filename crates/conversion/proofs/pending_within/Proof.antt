@@ -1,74 +1,73 @@
--- `conversion::pending_within` meets its contract. The loop's invariant: the first i operations pass.
+-- `conversion::pending_within` meets its contract. The loop's invariant: the first j operations pass.
 use Prim.Native.Nat.{ℕ, _-_, _≤_}
-use native.Mathlib.Omega.{arith}
+use mathlib.Core.List.{List}
 use mathlib.Core.Path.{_≡_, refl, sym, _∙_}
 use mathlib.Core.Bool.{Bool, true}
-use mathlib.Core.List.{List, map}
-use lib.ListN.{length, take}
-use borrow.Author.Needs.{needs}
-use Rattle.woot.specs.declared.Pending.{Pending}
-use Rattle.saved.specs.declared.Version.the-variants.{First}
-use Rattle.saved.specs.Format.{operationWithin}
-use Rattle.lists.specs.Lists.{every}
-use Rattle.woot.specs.State.{blankPending}
-use Rattle.lists.proofs.Tests.{refused, passed}
+use borrow.Author.Tests.{not-true, not-false}
+use lib.ListN.{getD}
 use Rattle.lists.specs.Lists.{throughout}
 use Rattle.lists.proofs.Throughout.{throughout-more, throughout-fails}
-use Rattle.lists.proofs.Indices.{elementAt, every-prefix, every-map}
+use borrow.Author.Needs.{needs}
+use native.Mathlib.Omega.{arith}
+use Rattle.conversion.specs.Columns.{numbersWithin}
 use Rattle.conversion.proofs.pending_within.Statement.{statement}
 use Rattle.conversion.proofs.pending_within.Tie as tie
 
-abbrev pendingWithin : Pending → Bool
-pendingWithin p = operationWithin First (p .operation)
-
-whole : (ps : List Pending) (n : ℕ) → n ≤ length ps → every (operationWithin First) (map (λ p. p .operation) (take n ps)) ≡ throughout (elementAt pendingWithin ps blankPending) n
-whole ps n h = every-map (λ (p : Pending). p .operation) (operationWithin First) (take n ps) ∙ every-prefix pendingWithin ps blankPending n h
+-- the operation in a slot passes
+abbrev within : List ℕ → List ℕ → ℕ → Bool
+within own values j = numbersWithin (getD own j 0) (getD values j 0)
 
 abbrev Inv-loop : tie.InvT-loop
-Inv-loop n ps i₀ i = (length ps ≡ 512) × (i ≤ n) × (throughout (elementAt pendingWithin ps blankPending) i ≡ true)
+Inv-loop own values w j₀ j = (j ≤ w) × (throughout (within own values) j ≡ true)
 
 abbrev μ-loop : tie.MeasureT-loop
-μ-loop n ps i₀ i = n - i
+μ-loop own values w j₀ j = w - j
 
 loop-holds : tie.Need-loop-holds Inv-loop μ-loop
-loop-holds c = (c .good .0 .1 .0 .1, omega arith, refl)
+loop-holds c = (omega arith, refl)
 
-mul-p : tie.Need-mul-p Inv-loop μ-loop
-mul-p c = omega arith
+mul-operation-within : tie.Need-mul-operation-within Inv-loop μ-loop
+mul-operation-within c = omega arith
 
-array-copy-out-p : tie.Need-array-copy-out-p Inv-loop μ-loop
-array-copy-out-p c = omega arith
+shared-slice-read-operation-within : tie.Need-shared-slice-read-operation-within Inv-loop μ-loop
+shared-slice-read-operation-within c = omega arith
+
+mul-operation-within-2 : tie.Need-mul-operation-within-2 Inv-loop μ-loop
+mul-operation-within-2 c = omega arith
+
+shared-slice-read-operation-within-2 :
+    tie.Need-shared-slice-read-operation-within-2 Inv-loop μ-loop
+shared-slice-read-operation-within-2 c = omega arith
 
 operation-within-requires : tie.Need-operation-within-requires Inv-loop μ-loop
 operation-within-requires c κs = search needs
 
 returns : tie.Need-returns Inv-loop μ-loop
-unfolding blankPending
 returns c =
-    let a = c .before .before .before .before .before .args in
-    let l = c .before .before .before .before .loop in
-    let p = elementAt pendingWithin (a .t1) blankPending in
-    sym (whole (a .t1) (a .n) (omega arith) ∙ throughout-fails p (a .n) (l .i) (omega arith) (refused (c .before .operation-within .ensures) (c .if1 .taken)))
+    let a = c .before .before .before .before .before .before .before .before .args in
+    let l = c .before .before .before .before .before .loop in
+    let here = sym (c .before .operation-within .ensures) ∙ not-true _ (c .if1 .taken) in
+    sym (throughout-fails (within (a .own .now) (a .values .now)) (a .w) (l .j) (omega arith) here)
 
-add-i : tie.Need-add-i Inv-loop μ-loop
-add-i c = omega arith
+add-j : tie.Need-add-j Inv-loop μ-loop
+add-j c = omega arith
 
 loop-less : tie.Need-loop-less Inv-loop μ-loop
 loop-less c = omega arith
 
 loop-again : tie.Need-loop-again Inv-loop μ-loop
-unfolding blankPending
 loop-again c =
-    let a = c .before .before .before .before .before .args in
-    let l = c .before .before .before .before .loop in
-    (l .inv .0, omega arith, throughout-more (elementAt pendingWithin (a .t1) blankPending) (l .i) (l .inv .2) (passed (c .before .operation-within .ensures) (c .if1 .left)))
+    let a = c .before .before .before .before .before .before .before .before .args in
+    let l = c .before .before .before .before .before .loop in
+    let here = sym (c .before .operation-within .ensures) ∙ not-false _ (c .if1 .left) in
+    (omega arith, throughout-more (within (a .own .now) (a .values .now)) (l .j) (l .inv .1) here)
 
 returns-2 : tie.Need-returns-2 Inv-loop μ-loop
 returns-2 c =
-    let a = c .before .before .args in
+    let a = c .before .before .before .before .args in
     let l = c .before .loop in
-    let done : l .i ≡ a .n = omega arith in
-    sym (whole (a .t1) (a .n) (omega arith) ∙ rw (← done) (l .inv .2))
+    let done : l .j ≡ a .w = omega arith in
+    rw (← done) (sym (l .inv .1))
 
 pub pending-within-spec : {M : Type 1} → statement M
 pending-within-spec =
@@ -77,11 +76,13 @@ pending-within-spec =
     Inv-loop
     μ-loop
     loop-holds
-    mul-p
-    array-copy-out-p
+    mul-operation-within
+    shared-slice-read-operation-within
+    mul-operation-within-2
+    shared-slice-read-operation-within-2
     operation-within-requires
     returns
-    add-i
+    add-j
     loop-less
     loop-again
     returns-2)

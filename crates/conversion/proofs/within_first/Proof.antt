@@ -1,47 +1,62 @@
 -- `conversion::within_first` makes its tests one after the other.
-use mathlib.Core.Path.{_≡_, refl}
-use lib.ListN.{length, length-map}
+use mathlib.Core.Path.{refl, sym, _∙_}
+use native.Mathlib.Omega.{arith}
 use borrow.Author.Tests.{not-true, not-false}
-use Rattle.woot.specs.State.{characterSlots, pendingSlots}
-use Rattle.conversion.proofs.Converting.{rows-fail, rows-pass}
+use Rattle.memory.proofs.Fullness.{column-length}
+use Rattle.conversion.proofs.Numbers.{characters-said, pending-said, both-said}
 use borrow.Author.Needs.{needs}
 use Rattle.conversion.proofs.within_first.Statement.{statement}
 use Rattle.conversion.proofs.within_first.Tie as tie
-
-full : (c : tie.Start) → (length (c .args .replica .document .characters) ≡ characterSlots) × (length (c .args .replica .document .pending) ≡ pendingSlots)
-full c =
-    let g = c .good .0 .1 .1 .1 .0 .1 .1 in
-    (simp length-map at (g .0 .1 .0 .1), simp length-map at (g .1 .1 .0 .1 .0 .1))
-
-lesser-requires : tie.Need-lesser-requires
-lesser-requires c κs = search needs
 
 characters-within-requires : tie.Need-characters-within-requires
 characters-within-requires c κs = search needs
 
 returns : tie.Need-returns
-returns c =
-    let f = full (c .before .before .before .before .before) in
-    rows-fail _ (f .0) (f .1) (c .before .before .lesser .ensures) refl (c .before .characters-within .ensures) (not-true _ (c .if1 .taken))
+returns c s t o v ranged =
+    let a = c .before .before .before .before .args in
+    let p = c .before .before .before .before .pre in
+    let said = characters-said (s .characters) (a .toggles .now) (a .n) (p .0) t in
+    let e = said ∙ sym (c .before .characters-within .ensures) ∙ not-true _ (c .if1 .taken) in
+    both-said s e refl
 
-lesser-requires-2 : tie.Need-lesser-requires-2
-lesser-requires-2 c κs = search needs
+slice-aggregate-pending-within : tie.Need-slice-aggregate-pending-within
+slice-aggregate-pending-within c =
+    let a = c .before .before .before .before .before in
+    omega (arith, column-length 512 0 (a .args .pending .now) (omega (arith, a .pre .1 .0)))
+
+sub-pending-within : tie.Need-sub-pending-within
+sub-pending-within c = search needs
+
+part-pending-within-start : tie.Need-part-pending-within-start
+part-pending-within-start c = search needs
+
+part-pending-within-end : tie.Need-part-pending-within-end
+part-pending-within-end c = search needs
 
 pending-within-requires : tie.Need-pending-within-requires
-pending-within-requires c κs = search needs
+pending-within-requires c κs =
+    let a = c .before .before .before .before .before .before in (
+      omega (arith, a .pre .1 .1, column-length 512 0 (a .args .pending .now) (omega (arith, a .pre .1 .0))),
+      omega (arith, a .pre .1 .1, column-length 512 3 (a .args .pending .now) (omega (arith, a .pre .1 .0))),
+    )
 
 returns-2 : tie.Need-returns-2
-returns-2 c =
-    let f = full (c .before .before .before .before .before .before .before .before) in
-    rows-pass _ (f .0) (f .1) (c .before .before .before .before .before .lesser .ensures) (c .before .lesser2 .ensures) (c .before .before .before .before .characters-within .ensures) (not-false _ (c .before .before .before .if1 .left)) (c .pending-within .ensures)
+returns-2 c s t o v ranged =
+    let b = c .before .before .before .before .before .before .before in
+    let a = b .args in
+    let said = characters-said (s .characters) (a .toggles .now) (a .n) (b .pre .0) t in
+    let e = said ∙ sym (c .before .before .before .before .characters-within .ensures) ∙ not-false _ (c .before .before .before .if1 .left) in
+    both-said s e (pending-said (s .pending) _ _ (a .w) (omega (arith, b .pre .1 .1, column-length 512 0 (a .pending .now) (omega (arith, b .pre .1 .0)))) o v ranged ∙ sym (c .pending-within .ensures))
 
 pub within-first-spec : {M : Type 1} → statement M
 within-first-spec =
     tie.close
     (tie.spec
-    lesser-requires
     characters-within-requires
     returns
-    lesser-requires-2
+    slice-aggregate-pending-within
+    sub-pending-within
+    part-pending-within-start
+    part-pending-within-end
     pending-within-requires
     returns-2)

@@ -1,10 +1,15 @@
 -- `counts::count` meets its contract: the form decides first.
+use native.Mathlib.Omega.{arith}
 use mathlib.Core.Path.{sym, ap, _∙_}
-use borrow.Author.Needs.{needs}
-use borrow.Author.Tests.{not-true, not-false}
-use Rattle.well_formed.proofs.Examining.{check-formed, check-examined}
+use Rattle.lists.proofs.Tests.{refused, passed}
+use Rattle.memory.specs.Lent.{viewed}
+use Rattle.memory.proofs.Fullness.{full-replica, full-view}
+use Rattle.memory.proofs.Views.{form-view}
+use Rattle.well_formed.proofs.Examining.{examined, few}
+use Rattle.replica.proofs.Writing.{written-toggles}
 use Rattle.results.specs.Results.{numberOf}
-use Rattle.counts.proofs.Counting.{counts-unformed, counts-formed}
+use Rattle.counts.proofs.Counting.{counts-unformed, counts-formed, held-few, counts-told}
+use borrow.Author.Needs.{needs}
 use Rattle.counts.proofs.count.Statement.{statement}
 use Rattle.counts.proofs.count.Tie as tie
 
@@ -16,19 +21,28 @@ refused-requires c κs = search needs
 
 returns : tie.Need-returns
 returns c =
-    let k = c .before .before .before .check .ensures in
-    c .refused .ensures ∙ ap numberOf (sym (counts-unformed _ (sym (check-formed _ _ k) ∙ not-true _ (c .before .if1 .taken))))
+    let r = c .before .before .before .before .before .before .before .before .before .before .before .before .before .before .before .args .t1 in
+    c .refused .ensures ∙ ap numberOf (sym (counts-unformed r (refused (c .before .before .check .ensures ∙ sym (form-view r)) (c .before .if1 .taken))))
 
 counts-of-requires : tie.Need-counts-of-requires
 counts-of-requires c κs =
-    let k = c .before .before .before .check .ensures in
-    let f = sym (check-formed _ _ k) ∙ not-false _ (c .before .if1 .left) in
-    (f, check-examined _ _ k f .queue)
+    let start = c .before .before .before .before .before .before .before .before .before .before .before .before .before .before .before .before .before .before .before in
+    let r = start .args .t1 in
+    let full = full-replica {r = r} (start .good .0) in
+    let x = examined (viewed r) (full-view (r .document) full) (passed (c .before .before .before .before .before .before .check .ensures) (c .before .before .before .before .before .if1 .left)) in
+    let w = few (viewed r) x in
+    (omega (arith, full .toggles, w .characters), (omega (arith, full .pending, w .pending), held-few r x))
 
 returns-2 : tie.Need-returns-2
 returns-2 c =
-    let k = c .before .before .before .before .check .ensures in
-    c .counts-of .ensures ∙ ap numberOf (sym (counts-formed _ (sym (check-formed _ _ k) ∙ not-false _ (c .before .before .if1 .left))))
+    let start = c .before .before .before .before .before .before .before .before .before .before .before .before .before .before .before .before .before .before .before .before in
+    let r = start .args .t1 in
+    let full = full-replica {r = r} (start .good .0) in
+    let x = examined (viewed r) (full-view (r .document) full) (passed (c .before .before .before .before .before .before .before .check .ensures) (c .before .before .before .before .before .before .if1 .left)) in
+    c .counts-of .ensures _ (written-toggles r x)
+    ∙ ap numberOf (counts-told r x)
+    ∙ ap numberOf (sym (counts-formed r (passed (c .before .before .before .before .before .before .before .check .ensures ∙ sym (form-view r)) (c .before .before .before .before .before .before .if1 .left))))
 
 pub count-spec : {M : Type 1} → statement M
-count-spec = tie.close (tie.spec check-requires refused-requires returns counts-of-requires returns-2)
+count-spec =
+    tie.close (tie.spec check-requires refused-requires returns counts-of-requires returns-2)

@@ -1,30 +1,24 @@
 -- `counts::counts_of` meets its contract: each number is the length of one of the lists that are meant.
-use Prim.Native.Nat.{_+_, _≤_}
 use native.Mathlib.Omega.{arith}
-use mathlib.Core.Path.{ap, _∙_}
+use mathlib.Core.Path.{sym, ap, _∙_}
+use lib.Seq.{length-take-le}
 use borrow.Author.Needs.{needs}
-use Rattle.woot.specs.Limits.{capacity}
-use Rattle.woot.specs.State.{meaning}
-use Rattle.storage.proofs.Fullness.{full-replica}
 use Rattle.results.specs.Results.{numberOf}
-use Rattle.counts.proofs.Counting.{held-few, counts-told}
+use Rattle.counts.specs.Steps.{countsIn}
 use Rattle.counts.proofs.counts_of.Statement.{statement}
 use Rattle.counts.proofs.counts_of.Tie as tie
 
--- what is held is within the capacity
-within : (c : tie.After-inserts-among) → c .before .before .before .args .replica .document .length + c .inserts-among .result ≤ capacity
-within c =
-    let s = c .before .before .before in
-    held-few _ (s .pre .0) (full-replica (s .good .0)) _ (s .pre .1) (c .inserts-among .ensures)
+slice-aggregate-count-inserts : tie.Need-slice-aggregate-count-inserts
+slice-aggregate-count-inserts c = sym (length-take-le _ _ (omega (arith, c .before .before .before .pre .1 .0)))
 
-inserts-among-requires : tie.Need-inserts-among-requires
-inserts-among-requires c κs = search needs
+count-inserts-requires : tie.Need-count-inserts-requires
+count-inserts-requires c κs = search needs
 
 add-held : tie.Need-add-held
-add-held c = omega (arith, within c)
+add-held c = search needs
 
 sub-room : tie.Need-sub-room
-sub-room c = omega (arith, within c)
+sub-room c = search needs
 
 count-requires : tie.Need-count-requires
 count-requires c κs = search needs
@@ -33,12 +27,18 @@ returned-requires : tie.Need-returned-requires
 returned-requires c κs = search needs
 
 returns : tie.Need-returns
-unfolding meaning
-returns c =
-    let s = c .before .before .before .before .before in
-    c .returned .ensures
-    ∙ ap numberOf (counts-told _ (s .pre .0) (full-replica (s .good .0)) _ (s .pre .1) (c .before .before .inserts-among .ensures) (c .before .count .ensures))
+unfolding countsIn
+returns c cs e =
+    c .returned .ensures ∙ ap numberOf (rw (c .before .count .ensures cs e, c .before .before .count-inserts .ensures))
 
 pub counts-of-spec : {M : Type 1} → statement M
 counts-of-spec =
-    tie.close (tie.spec inserts-among-requires add-held sub-room count-requires returned-requires returns)
+    tie.close
+    (tie.spec
+    slice-aggregate-count-inserts
+    count-inserts-requires
+    add-held
+    sub-room
+    count-requires
+    returned-requires
+    returns)

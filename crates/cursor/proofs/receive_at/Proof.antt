@@ -1,53 +1,109 @@
--- `cursor::receive_at` meets its contract: where the answer changes nothing the very replica comes back, else what was
--- received.
+-- `cursor::receive_at` judges the operation, takes the arrays out, carries the decision out on them, counts how far the
+-- cursor moves, and puts them back.
 use mathlib.Core.Path.{_∙_}
+use native.Mathlib.Omega.{arith}
 use mir.Facts.{toZ-ofZ}
 use mir.Syntax.{w32}
+use Rattle.woot.specs.declared.Replica.{Replica}
+use Rattle.memory.proofs.Fullness.{FullArrays, full-replica}
+use Rattle.cursor.proofs.Receiving.{changed-few, moved-so}
 use borrow.Author.Needs.{needs}
-use Rattle.woot.specs.State.{meaning}
-use Rattle.lists.proofs.Tests.{refused, passed}
-use Rattle.storage.proofs.Fullness.{full-replica}
-use Rattle.cursor.proofs.Receiving.{Stepped, stepped-turned, stepped-few, stepped-changed}
 use Rattle.cursor.proofs.receive_at.Statement.{statement}
 use Rattle.cursor.proofs.receive_at.Tie as tie
 
-stepped : (c : tie.After-answered) → let a = c .before .before .before .before .args in Stepped (a .replica) (a .operation) (a .point) (c .before .before .anchored .result) (c .before .receive .result) (c .answered .result)
-unfolding meaning
-stepped c = record { kept = c .before .before .anchored .ensures; back = c .before .receive .ensures; made = c .answered .ensures }
+-- the replica before the decision is carried out, and after
+abbrev before : tie.After-answer → Replica
+before c = c .before .before .before .before .before .before .before .before .before .before .before .before .before .before .before .before .before .before .before .before .before .before .before .before .before .before .before .before .before .before .before .args .t1
 
-anchored-requires : tie.Need-anchored-requires
-anchored-requires c κs = search needs
+abbrev after : tie.After-answer → Replica
+after c =
+    let done = c .before .before .before .before .before .before .carry in
+    record {
+      site = done .result .site;
+      document =
+          record {
+            characters = done .last .0;
+            toggles = done .last .1 .0;
+            length = done .result .length;
+            pending = done .last .1 .1 .0;
+            waiting = done .result .waiting;
+            table = record { heads = done .last .1 .1 .1 .0; links = done .last .1 .1 .1 .1 .0 };
+          };
+    }
 
-receive-requires : tie.Need-receive-requires
-receive-requires c κs = search needs
+full-before : (c : tie.After-answer) → FullArrays (before c .document)
+full-before c = full-replica {r = before c} (c .before .before .before .before .before .before .before .before .before .before .before .before .before .before .before .before .before .before .before .before .before .before .before .before .before .before .before .before .before .before .before .good .0)
 
-answered-requires : tie.Need-answered-requires
-answered-requires c κs = search needs
+full-after : (c : tie.After-answer) → FullArrays (after c .document)
+full-after c =
+    let kept = c .before .before .before .before .before .before .carry .kept in
+    let full = full-before c in
+    record {
+      characters = omega (arith, kept .0, full .characters);
+      toggles = omega (arith, kept .1 .0, full .toggles);
+      pending = omega (arith, kept .1 .1 .0, full .pending);
+      heads = omega (arith, kept .1 .1 .1 .0, full .heads);
+      links = omega (arith, kept .1 .1 .1 .1 .0, full .links);
+    }
 
-is-change-requires : tie.Need-is-change-requires
-is-change-requires c κs = search needs
+judge-at-requires : tie.Need-judge-at-requires
+judge-at-requires c κs = search needs
+
+slice-aggregate-carry : tie.Need-slice-aggregate-carry
+slice-aggregate-carry c = search needs
+
+slice-aggregate-carry-2 : tie.Need-slice-aggregate-carry-2
+slice-aggregate-carry-2 c = search needs
+
+slice-aggregate-carry-3 : tie.Need-slice-aggregate-carry-3
+slice-aggregate-carry-3 c = search needs
+
+slice-aggregate-carry-4 : tie.Need-slice-aggregate-carry-4
+slice-aggregate-carry-4 c = search needs
+
+slice-aggregate-carry-5 : tie.Need-slice-aggregate-carry-5
+slice-aggregate-carry-5 c = search needs
+
+carry-requires : tie.Need-carry-requires
+carry-requires c κs =
+    let full = full-replica {r = c .before .before .before .before .before .before .before .before .before .before .before .before .before .before .before .before .before .before .before .before .before .before .before .before .args .t1} (c .before .before .before .before .before .before .before .before .before .before .before .before .before .before .before .before .before .before .before .before .before .before .before .before .good .0) in
+    (full .characters, (full .pending, c .before .before .before .before .before .before .before .before .before .before .before .judge-at .ensures .feasible))
+
+answer-requires : tie.Need-answer-requires
+answer-requires c κs = search needs
+
+slice-aggregate-shift-with : tie.Need-slice-aggregate-shift-with
+slice-aggregate-shift-with c = search needs
+
+slice-aggregate-shift-with-2 : tie.Need-slice-aggregate-shift-with-2
+slice-aggregate-shift-with-2 c = search needs
+
+shift-with-requires : tie.Need-shift-with-requires
+shift-with-requires c κs =
+    let b = c .before .before in
+    (full-after b .characters, (full-after b .toggles, λ e. changed-few (before b) (after b) (full-before b) (full-after b) _ _ _ _ _ (b .before .before .before .before .before .before .before .before .before .before .before .before .before .before .before .before .before .before .judge-at .ensures) (b .before .before .before .before .before .before .carry .ensures) _ (b .answer .ensures) e))
 
 returns : tie.Need-returns
-returns c = stepped-turned (stepped (c .before .before)) (refused (c .before .is-change .ensures) (c .if1 .taken))
-
-shift-requires : tie.Need-shift-requires
-shift-requires c κs =
-    let k = c .before .before .before .before in
-    stepped-few (stepped k) (full-replica (k .before .before .before .before .good .0)) (passed (c .before .before .before .is-change .ensures) (c .before .before .if1 .left))
-
-returns-2 : tie.Need-returns-2
-returns-2 c =
-    stepped-changed (stepped (c .before .before .before .before .before)) (passed (c .before .before .before .before .is-change .ensures) (c .before .before .before .if1 .left)) _
-    (toZ-ofZ {w = w32} {z = c .shift .result} (record { sfits = c .shift .ok }) ∙ c .shift .ensures)
+returns c =
+    let b = c .before .before .before .before in
+    let told = c .before .shift-with .ensures in
+    let read = toZ-ofZ {w = w32} {z = c .before .shift-with .result} (record { sfits = c .before .shift-with .ok }) in
+    moved-so (before b) (after b) (full-before b) (full-after b) _ _ _ _ _ (b .before .before .before .before .before .before .before .before .before .before .before .before .before .before .before .before .before .before .judge-at .ensures) (b .before .before .before .before .before .before .carry .ensures) _ (b .answer .ensures) _
+    (λ e. read ∙ told .0 e) (λ e cs k t small. read ∙ told .1 e cs k t small)
 
 pub receive-at-spec : {M : Type 1} → statement M
 receive-at-spec =
     tie.close
     (tie.spec
-    anchored-requires
-    receive-requires
-    answered-requires
-    is-change-requires
-    returns
-    shift-requires
-    returns-2)
+    judge-at-requires
+    slice-aggregate-carry
+    slice-aggregate-carry-2
+    slice-aggregate-carry-3
+    slice-aggregate-carry-4
+    slice-aggregate-carry-5
+    carry-requires
+    answer-requires
+    slice-aggregate-shift-with
+    slice-aggregate-shift-with-2
+    shift-with-requires
+    returns)

@@ -1,28 +1,232 @@
--- `delivery::step` carries out what it takes out.
+-- `delivery::step` carries out what it takes out: by the kind of the operation, and for an insert by its place.
 use native.Mathlib.Omega.{arith}
-use mathlib.Core.Path.{_∙_}
-use Rattle.delivery.proofs.Stepping.{due-within, due-carried, due-stepped}
+use mathlib.Core.Path.{_≡_, refl, sym, _∙_}
+use Rattle.index.proofs.Sound.{sound-apart}
+use Rattle.delivery.proofs.Works.{work-path}
+use Rattle.delivery.proofs.Changes.{removed-parts, placed-parts, found-parts}
+use Rattle.delivery.proofs.Stepping.{workable-parts, workable-few, workable-slots, workable-tabled, due-within, due-ranged, goes-at, goes-nowhere, toggles-becomes, toggles-found}
+use borrow.Author.Needs.{needs}
 use Rattle.delivery.proofs.step.Statement.{statement}
 use Rattle.delivery.proofs.step.Tie as tie
 
-mul-p : tie.Need-mul-p
-mul-p c = let h = due-within (c .before .before .pre .0) _ (c .before .before .pre .1) in omega arith
+operation-at-requires : tie.Need-operation-at-requires
+operation-at-requires c κs =
+    let k = c .before .before .before .before .before .before .pre .1 .1 .0 in
+    let at = c .before .before .before .before .before .before .pre .1 .1 .1 in
+    let few = workable-few k in
+    let s = workable-slots k in
+    (c .before .before .before .before .before .before .pre .1 .0, (omega (arith, due-within k _ at, few .1), due-ranged k _ at))
 
-array-copy-out-p : tie.Need-array-copy-out-p
-array-copy-out-p c = let h = due-within (c .before .before .pre .0) _ (c .before .before .pre .1) in omega arith
+remove-requires : tie.Need-remove-requires
+remove-requires c κs =
+    let k = c .before .before .before .before .before .before .before .before .pre .1 .1 .0 in
+    let at = c .before .before .before .before .before .before .before .before .pre .1 .1 .1 in
+    let few = workable-few k in
+    let s = workable-slots k in
+    (due-within k _ at, (few .1, c .before .before .before .before .before .before .before .before .pre .1 .0))
 
-take-out-requires : tie.Need-take-out-requires
-take-out-requires c κs = let h = due-within (c .before .before .before .pre .0) _ (c .before .before .before .pre .1) in (c .before .before .before .pre .0 .tidy, h)
+enum-known-operation : tie.Need-enum-known-operation
+enum-known-operation c = search needs
 
-carry-requires : tie.Need-carry-requires
-carry-requires c κs =
-    let k = c .before .before .before .before .pre in
-    due-carried (k .0) _ (k .1) _ (c .take-out .ensures) _
+find-place-requires : tie.Need-find-place-requires
+find-place-requires c κs =
+    let k = c .before .before .before .before .before .before .before .before .before .before .before .before .before .before .before .before .before .pre .1 .1 .0 in
+    let at = c .before .before .before .before .before .before .before .before .before .before .before .before .before .before .before .before .before .pre .1 .1 .1 in
+    let few = workable-few k in
+    let s = workable-slots k in
+    (few .0, (c .before .before .before .before .before .before .before .before .before .before .before .before .before .before .before .before .before .pre .0, workable-tabled k))
+
+place-of-requires : tie.Need-place-of-requires
+place-of-requires c κs = search needs
+
+enum-known-k : tie.Need-enum-known-k
+enum-known-k c = search needs
+
+put-in-requires : tie.Need-put-in-requires
+put-in-requires c κs =
+    let k = c .before .before .before .before .before .before .before .before .before .before .before .before .before .before .before .before .before .before .before .before .before .before .before .before .before .before .pre .1 .1 .0 in
+    let at = c .before .before .before .before .before .before .before .before .before .before .before .before .before .before .before .before .before .before .before .before .before .before .before .before .before .before .pre .1 .1 .1 in
+    let few = workable-few k in
+    let s = workable-slots k in
+    let g = goes-at k _ at _ (sym (c .before .before .before .before .before .before .before .before .before .before .before .before .before .before .before .before .before .before .before .operation-at .ensures) ∙ c .before .before .before .before .before .before .before .before .before .before .before .before .before .operation .given .1) _ (c .before .before .before .before .before .before .before .before .find-place .ensures) _ (sym (c .before .before .before .before .before .before .before .place-of .ensures) ∙ c .before .before .before .before .before .k .given .1) in
+    (g .place, (g .room, (c .before .before .before .before .before .before .before .before .before .before .before .before .before .before .before .before .before .before .before .before .before .before .before .before .before .before .pre .0, (s .toggles, (s .heads, s .links)))))
+
+add-t36 : tie.Need-add-t36
+add-t36 c =
+    let k = c .before .before .before .before .before .before .before .before .before .before .before .before .before .before .before .before .before .before .before .before .before .before .before .before .before .before .before .before .before .before .before .before .before .before .before .pre .1 .1 .0 in
+    let at = c .before .before .before .before .before .before .before .before .before .before .before .before .before .before .before .before .before .before .before .before .before .before .before .before .before .before .before .before .before .before .before .before .before .before .before .pre .1 .1 .1 in
+    let few = workable-few k in
+    let s = workable-slots k in
+    omega (arith, few .0, due-within k _ at, k .integrated-fits, k .discarded-fits)
+
+sub-t37 : tie.Need-sub-t37
+sub-t37 c =
+    let k = c .before .before .before .before .before .before .before .before .before .before .before .before .before .before .before .before .before .before .before .before .before .before .before .before .before .before .before .before .before .before .before .before .before .before .before .pre .1 .1 .0 in
+    let at = c .before .before .before .before .before .before .before .before .before .before .before .before .before .before .before .before .before .before .before .before .before .before .before .before .before .before .before .before .before .before .before .before .before .before .before .pre .1 .1 .1 in
+    let few = workable-few k in
+    let s = workable-slots k in
+    omega (arith, few .0, due-within k _ at, k .integrated-fits, k .discarded-fits)
+
+add-t38 : tie.Need-add-t38
+add-t38 c =
+    let k = c .before .before .before .before .before .before .before .before .before .before .before .before .before .before .before .before .before .before .before .before .before .before .before .before .before .before .before .before .before .before .before .before .before .before .before .before .pre .1 .1 .0 in
+    let at = c .before .before .before .before .before .before .before .before .before .before .before .before .before .before .before .before .before .before .before .before .before .before .before .before .before .before .before .before .before .before .before .before .before .before .before .before .pre .1 .1 .1 in
+    let few = workable-few k in
+    let s = workable-slots k in
+    omega (arith, few .0, due-within k _ at, k .integrated-fits, k .discarded-fits)
+
+same-length : tie.Need-same-length
+same-length c = search needs
+
+same-length-2 : tie.Need-same-length-2
+same-length-2 c = search needs
+
+same-length-3 : tie.Need-same-length-3
+same-length-3 c = search needs
+
+same-length-4 : tie.Need-same-length-4
+same-length-4 c = search needs
+
+same-length-5 : tie.Need-same-length-5
+same-length-5 c = search needs
 
 returns : tie.Need-returns
 returns c =
-    let k = c .before .before .before .before .before .pre in
-    c .carry .ensures ∙ due-stepped (k .0) _ (k .1) _ (c .before .take-out .ensures) _
+    let k = c .before .before .before .before .before .before .before .before .before .before .before .before .before .before .before .before .before .before .before .before .before .before .before .before .before .before .before .before .before .before .before .before .before .before .before .before .pre .1 .1 .0 in
+    let at = c .before .before .before .before .before .before .before .before .before .before .before .before .before .before .before .before .before .before .before .before .before .before .before .before .before .before .before .before .before .before .before .before .before .before .before .before .pre .1 .1 .1 in
+    let few = workable-few k in
+    let s = workable-slots k in
+    let g = goes-at k _ at _ (sym (c .before .before .before .before .before .before .before .before .before .before .before .before .before .before .before .before .before .before .before .before .before .before .before .before .before .before .before .before .before .operation-at .ensures) ∙ c .before .before .before .before .before .before .before .before .before .before .before .before .before .before .before .before .before .before .before .before .before .before .before .operation .given .1) _ (c .before .before .before .before .before .before .before .before .before .before .before .before .before .before .before .before .before .before .find-place .ensures) _ (sym (c .before .before .before .before .before .before .before .before .before .before .before .before .before .before .before .before .before .place-of .ensures) ∙ c .before .before .before .before .before .before .before .before .before .before .before .before .before .before .before .k .given .1) in
+    let e = c .before .before .before .before .before .before .before .before .before .put-in .ensures in
+    work-path (placed-parts (removed-parts (workable-parts k) _ (due-within k _ at) (few .1) (c .before .before .before .before .before .before .before .before .before .before .before .before .before .before .before .before .before .before .before .before .before .before .before .before .before .before .before .remove .ensures .0) (c .before .before .before .before .before .before .before .before .before .before .before .before .before .before .before .before .before .before .before .before .before .before .before .before .before .before .before .remove .ensures .1 .0) (c .before .before .before .before .before .before .before .before .before .before .before .before .before .before .before .before .before .before .before .before .before .before .before .before .before .before .before .remove .ensures .1 .1 .0) (c .before .before .before .before .before .before .before .before .before .before .before .before .before .before .before .before .before .before .before .before .before .before .before .before .before .before .before .remove .ensures .1 .1 .1)) _ _ (g .room) (e .0) (e .1 .0) (e .1 .1 .0) (e .1 .1 .1 .0) (e .1 .1 .1 .1 .0) (e .1 .1 .1 .1 .1)) refl refl ∙ sym (g .becomes)
+
+enum-told : tie.Need-enum-told
+enum-told c = search needs
+
+sub-t39 : tie.Need-sub-t39
+sub-t39 c =
+    let k = c .before .before .before .before .before .before .before .before .before .before .before .before .before .before .before .before .before .before .before .before .before .pre .1 .1 .0 in
+    let at = c .before .before .before .before .before .before .before .before .before .before .before .before .before .before .before .before .before .before .before .before .before .pre .1 .1 .1 in
+    let few = workable-few k in
+    let s = workable-slots k in
+    omega (arith, few .0, due-within k _ at, k .integrated-fits, k .discarded-fits)
+
+add-t40 : tie.Need-add-t40
+add-t40 c =
+    let k = c .before .before .before .before .before .before .before .before .before .before .before .before .before .before .before .before .before .before .before .before .before .before .pre .1 .1 .0 in
+    let at = c .before .before .before .before .before .before .before .before .before .before .before .before .before .before .before .before .before .before .before .before .before .before .pre .1 .1 .1 in
+    let few = workable-few k in
+    let s = workable-slots k in
+    omega (arith, few .0, due-within k _ at, k .integrated-fits, k .discarded-fits)
+
+same-length-6 : tie.Need-same-length-6
+same-length-6 c = search needs
+
+same-length-7 : tie.Need-same-length-7
+same-length-7 c = search needs
+
+same-length-8 : tie.Need-same-length-8
+same-length-8 c = search needs
+
+same-length-9 : tie.Need-same-length-9
+same-length-9 c = search needs
+
+returns-2 : tie.Need-returns-2
+returns-2 c =
+    let k = c .before .before .before .before .before .before .before .before .before .before .before .before .before .before .before .before .before .before .before .before .before .before .pre .1 .1 .0 in
+    let at = c .before .before .before .before .before .before .before .before .before .before .before .before .before .before .before .before .before .before .before .before .before .before .pre .1 .1 .1 in
+    let few = workable-few k in
+    let s = workable-slots k in
+    let g = goes-nowhere k _ at _ (sym (c .before .before .before .before .before .before .before .before .before .before .before .before .before .before .before .operation-at .ensures) ∙ c .before .before .before .before .before .before .before .before .before .operation .given .1) _ (c .before .before .before .before .find-place .ensures) (sym (c .before .before .before .place-of .ensures) ∙ c .before .enum-told .given .1) in
+    work-path (removed-parts (workable-parts k) _ (due-within k _ at) (few .1) (c .before .before .before .before .before .before .before .before .before .before .before .before .before .remove .ensures .0) (c .before .before .before .before .before .before .before .before .before .before .before .before .before .remove .ensures .1 .0) (c .before .before .before .before .before .before .before .before .before .before .before .before .before .remove .ensures .1 .1 .0) (c .before .before .before .before .before .before .before .before .before .before .before .before .before .remove .ensures .1 .1 .1)) refl refl ∙ sym g
+
+enum-known-operation-2 : tie.Need-enum-known-operation-2
+enum-known-operation-2 c = search needs
+
+carry-toggle-requires : tie.Need-carry-toggle-requires
+carry-toggle-requires c κs =
+    let k = c .before .before .before .before .before .before .before .before .before .before .before .before .before .before .before .before .before .before .pre .1 .1 .0 in
+    let at = c .before .before .before .before .before .before .before .before .before .before .before .before .before .before .before .before .before .before .pre .1 .1 .1 in
+    let few = workable-few k in
+    let s = workable-slots k in
+    (few .0, (c .before .before .before .before .before .before .before .before .before .before .before .before .before .before .before .before .before .before .pre .0, (omega (arith, few .0, s .toggles), workable-tabled k)))
+
+sub-t50 : tie.Need-sub-t50
+sub-t50 c =
+    let k = c .before .before .before .before .before .before .before .before .before .before .before .before .before .before .before .before .before .before .before .before .before .pre .1 .1 .0 in
+    let at = c .before .before .before .before .before .before .before .before .before .before .before .before .before .before .before .before .before .before .before .before .before .pre .1 .1 .1 in
+    let few = workable-few k in
+    let s = workable-slots k in
+    omega (arith, few .0, due-within k _ at, k .integrated-fits, k .discarded-fits)
+
+add-t51 : tie.Need-add-t51
+add-t51 c =
+    let k = c .before .before .before .before .before .before .before .before .before .before .before .before .before .before .before .before .before .before .before .before .before .before .pre .1 .1 .0 in
+    let at = c .before .before .before .before .before .before .before .before .before .before .before .before .before .before .before .before .before .before .before .before .before .before .pre .1 .1 .1 in
+    let few = workable-few k in
+    let s = workable-slots k in
+    omega (arith, few .0, due-within k _ at, k .integrated-fits, k .discarded-fits)
+
+same-length-10 : tie.Need-same-length-10
+same-length-10 c = search needs
+
+same-length-11 : tie.Need-same-length-11
+same-length-11 c = search needs
+
+same-length-12 : tie.Need-same-length-12
+same-length-12 c = search needs
+
+same-length-13 : tie.Need-same-length-13
+same-length-13 c = search needs
+
+same-length-14 : tie.Need-same-length-14
+same-length-14 c = search needs
+
+returns-3 : tie.Need-returns-3
+returns-3 c =
+    let k = c .before .before .before .before .before .before .before .before .before .before .before .before .before .before .before .before .before .before .before .before .before .before .pre .1 .1 .0 in
+    let at = c .before .before .before .before .before .before .before .before .before .before .before .before .before .before .before .before .before .before .before .before .before .before .pre .1 .1 .1 in
+    let few = workable-few k in
+    let s = workable-slots k in
+    let is = sym (c .before .before .before .before .before .before .before .before .before .before .before .before .before .before .before .operation-at .ensures) ∙ c .before .before .before .before .before .before .before .before .before .operation2 .given .1 in
+    let q = found-parts (removed-parts (workable-parts k) _ (due-within k _ at) (few .1) (c .before .before .before .before .before .before .before .before .before .before .before .before .before .remove .ensures .0) (c .before .before .before .before .before .before .before .before .before .before .before .before .before .remove .ensures .1 .0) (c .before .before .before .before .before .before .before .before .before .before .before .before .before .remove .ensures .1 .1 .0) (c .before .before .before .before .before .before .before .before .before .before .before .before .before .remove .ensures .1 .1 .1)) _ _ (sym (toggles-found k _ at _ is)) (sound-apart (k .sound)) (c .before .before .before .carry-toggle .ensures) in
+    work-path q refl refl ∙ sym (toggles-becomes k _ at _ is)
 
 pub step-spec : {M : Type 1} → statement M
-step-spec = tie.close (tie.spec mul-p array-copy-out-p take-out-requires carry-requires returns)
+step-spec =
+    tie.close
+    (tie.spec
+    operation-at-requires
+    remove-requires
+    enum-known-operation
+    find-place-requires
+    place-of-requires
+    enum-known-k
+    put-in-requires
+    add-t36
+    sub-t37
+    add-t38
+    same-length
+    same-length-2
+    same-length-3
+    same-length-4
+    same-length-5
+    returns
+    enum-told
+    sub-t39
+    add-t40
+    same-length-6
+    same-length-7
+    same-length-8
+    same-length-9
+    returns-2
+    enum-known-operation-2
+    carry-toggle-requires
+    sub-t50
+    add-t51
+    same-length-10
+    same-length-11
+    same-length-12
+    same-length-13
+    same-length-14
+    returns-3)

@@ -20,7 +20,7 @@ same-length c = search needs
 returns : tie.Need-returns
 returns c =
     let s = c .before .before .before .put .ensures in
-    let a = c .before .before .before .before .before .before .args in
+    let a = c .before .before .before .before .before .before .before .before .before .args in
     carried (noted-written _ _ _ _) (c .after-noting .ensures ∙ ap (λ (w : Written). numberOf (afterNoting (a .answer) (a .note) w)) (s .0), s .1, refl)
 
 pub save-noted-spec : {M : Type 1} → statement M

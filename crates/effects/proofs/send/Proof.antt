@@ -1,7 +1,11 @@
--- `effects::send` meets its contract, variant by variant.
+-- `effects::send` meets its contract, variant by variant: the arrays of the new replica stand for what it means.
+use native.Mathlib.Omega.{arith}
 use mathlib.Core.Path.{refl}
+use Rattle.woot.specs.Memory.{charactersIn, operationsIn, meaning}
+use Rattle.saving.specs.Documents.{stateIn}
 use Rattle.effects.specs.Effects.{quiet, turned}
 use Rattle.effects.proofs.Outputs.{carried, not-sent, sent-both}
+use Rattle.effects.proofs.Saving.{few-held, sent-changes, full-generated}
 use borrow.Author.Needs.{needs}
 use Rattle.effects.proofs.send.Statement.{statement}
 use Rattle.effects.proofs.send.Tie as tie
@@ -16,7 +20,12 @@ enum-known-answer-2 : tie.Need-enum-known-answer-2
 enum-known-answer-2 c = search needs
 
 save-both-requires : tie.Need-save-both-requires
-save-both-requires c κs = search needs
+save-both-requires c κs =
+    let start = c .before .before .before .before .before .before .before .before .before .before .before .before .before .before .before .before in
+    let r = start .args .generated .replica in
+    let full = full-generated (start .args .generated) (start .good .0) in
+    let w = few-held r (start .pre (sent-changes (c .before .before .before .before .before .before .before .before .before .before .before .before .answer2 .given .1))) in
+    (full .characters, (w .characters, (omega (arith, full .toggles, w .characters), (full .pending, w .pending))))
 
 returns : tie.Need-returns
 unfolding turned quiet
@@ -29,7 +38,8 @@ same-length-2 : tie.Need-same-length-2
 same-length-2 c = search needs
 
 returns-2 : tie.Need-returns-2
-returns-2 c = carried (sent-both _ _ _ (c .before .before .before .before .before .before .before .before .before .answer2 .given .1)) (c .before .before .before .before .save-both .ensures)
+unfolding stateIn meaning charactersIn operationsIn
+returns-2 c = carried (sent-both _ _ _ (c .before .before .before .before .before .before .before .before .before .before .before .before .before .before .before .before .before .answer2 .given .1)) (c .before .before .before .before .save-both .ensures)
 
 pub send-spec : {M : Type 1} → statement M
 send-spec =

@@ -10,7 +10,7 @@ slice-aggregate-text-line : tie.Need-slice-aggregate-text-line
 slice-aggregate-text-line c = search needs
 
 text-line-requires : tie.Need-text-line-requires
-text-line-requires c κs = search needs
+text-line-requires c κs = c .before .pre
 
 enum-known-written : tie.Need-enum-known-written
 enum-known-written c = search needs

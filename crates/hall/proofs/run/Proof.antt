@@ -1,15 +1,20 @@
--- `hall::run` is safe and ends: each line leaves fewer bytes, so their number stays within that of the bytes.
-use mathlib.Core.Path.{ap}
+-- `hall::run` is safe and ends: each line leaves fewer bytes, so their number stays within that of the bytes, and leaves
+-- the replica well formed.
+use mathlib.Core.Path.{_≡_, ap, _∙_}
+use mathlib.Core.Bool.{true}
 use Prim.Native.Nat.{_+_, _≤_, _<_}
 use native.Mathlib.Omega.{arith}
 use borrow.Author.Needs.{needs}
 use lib.ListN.{length}
+use Rattle.woot.specs.Memory.{replicaWellFormed}
 use Rattle.lines.proofs.Lines.{rest-shorter}
+use Rattle.transcript.proofs.Looping.{answered-formed, begun-formed}
 use Rattle.hall.proofs.run.Statement.{statement}
 use Rattle.hall.proofs.run.Tie as tie
 
 abbrev Inv-loop : tie.InvT-loop
-Inv-loop input replica₀ lines₀ number₀ replica lines number = number + length lines ≤ length input + 1
+Inv-loop input replica₀ lines₀ number₀ replica lines number =
+    (number + length lines ≤ length input + 1) × (replicaWellFormed replica ≡ true)
 
 abbrev μ-loop : tie.MeasureT-loop
 μ-loop input replica₀ lines₀ number₀ replica lines number = length lines
@@ -18,7 +23,7 @@ empty-requires : tie.Need-empty-requires Inv-loop μ-loop
 empty-requires c κs = search needs
 
 loop-holds : tie.Need-loop-holds Inv-loop μ-loop
-loop-holds c = omega arith
+loop-holds c = (omega arith, ap replicaWellFormed (c .empty .ensures) ∙ begun-formed)
 
 print-line-requires : tie.Need-print-line-requires Inv-loop μ-loop
 print-line-requires c κs = search needs
@@ -41,10 +46,10 @@ loop-less : tie.Need-loop-less Inv-loop μ-loop
 loop-less c = shorter c
 
 loop-again : tie.Need-loop-again Inv-loop μ-loop
-loop-again c = omega (arith, shorter c, c .before .before .before .before .before .before .loop .inv)
+loop-again c = (omega (arith, shorter c, c .before .before .before .before .before .before .loop .inv .0), ap replicaWellFormed (c .before .before .before .before .print-line .ensures) ∙ answered-formed _ (c .before .before .before .before .before .before .loop .inv .1) _)
 
 print-text-requires : tie.Need-print-text-requires Inv-loop μ-loop
-print-text-requires c κs = search needs
+print-text-requires c κs = c .before .loop .inv .1
 
 returns-2 : tie.Need-returns-2 Inv-loop μ-loop
 returns-2 c = search needs

@@ -2,28 +2,35 @@
 -- what the whole search gives.
 use native.Mathlib.Omega.{arith}
 use mathlib.Core.Path.{refl, ap}
+use mathlib.Core.List.{map}
 use borrow.Author.Needs.{needs}
-use Rattle.integration.specs.Passes.{locatedKeys, width, positionIn, asFound}
+use Rattle.index.specs.Keys.{placeIn}
+use Rattle.integration.specs.Passes.{locatedKeys, width, positionIn}
+use Rattle.integration.specs.Placements.{placementAt}
 use Rattle.integration.proofs.Searching.{Searching, arrived, nowhere, again}
 use Rattle.integration.proofs.position.Statement.{statement}
 use Rattle.integration.proofs.position.Tie as tie
 
 abbrev Inv-loop : tie.InvT-loop
-Inv-loop ids above below key upper lower v₀ v =
-    Searching (locatedKeys 1 ids above below) key v (positionIn ids above below key upper lower)
+Inv-loop heads links ids previous next end key v₀ v =
+    let above = map (placeIn ids) previous in
+    let below = map (placeIn ids) next in
+    Searching (locatedKeys 1 ids above below) key v (positionIn ids above below key (v₀ .upper) (v₀ .lower))
 
 abbrev μ-loop : tie.MeasureT-loop
-μ-loop ids above below key upper lower v₀ v = width v
+μ-loop heads links ids previous next end key v₀ v = width v
 
 loop-holds : tie.Need-loop-holds Inv-loop μ-loop
 unfolding positionIn
-loop-holds c = record { passes = c .before .before .before .args .lower; enough = omega arith; gives = refl }
+loop-holds c = record { passes = c .before .before .before .before .before .args .interval .lower; enough = omega arith; gives = refl }
 
 width-requires : tie.Need-width-requires Inv-loop μ-loop
 width-requires c κs = search needs
 
 pass-requires : tie.Need-pass-requires Inv-loop μ-loop
-pass-requires c κs = omega (arith, c .before .width .ensures)
+pass-requires c κs =
+    let s = c .before .before .before .before .before .before .before .before in
+    (s .pre .0, (s .pre .1 .0, (s .pre .1 .1 .0, (s .pre .1 .1 .1, omega (arith, c .before .width .ensures)))))
 
 width-requires-2 : tie.Need-width-requires-2 Inv-loop μ-loop
 width-requires-2 c κs = search needs
@@ -32,8 +39,9 @@ width-requires-3 : tie.Need-width-requires-3 Inv-loop μ-loop
 width-requires-3 c κs = search needs
 
 returns : tie.Need-returns Inv-loop μ-loop
+unfolding placementAt
 returns c =
-    ap asFound
+    ap placementAt
     (nowhere _ _ _ _ _ (c .before .before .before .pass .ensures) (omega (arith, c .before .before .before .before .before .width .ensures))
     (omega (arith, c .before .before .width2 .ensures, c .before .width3 .ensures)) (c .before .before .before .before .before .before .loop .inv))
 
@@ -46,7 +54,8 @@ loop-again c =
     (omega (arith, c .before .before .width2 .ensures, c .before .width3 .ensures)) (c .before .before .before .before .before .before .loop .inv)
 
 returns-2 : tie.Need-returns-2 Inv-loop μ-loop
-returns-2 c = ap asFound (arrived _ _ _ _ (omega (arith, c .before .width .ensures)) (c .before .before .loop .inv))
+unfolding placementAt
+returns-2 c = ap placementAt (arrived _ _ _ _ (omega (arith, c .before .width .ensures)) (c .before .before .loop .inv))
 
 pub position-spec : {M : Type 1} → statement M
 position-spec =

@@ -1,5 +1,5 @@
--- `reception::is_full` goes by the kind of the operation.
-use Rattle.reception.specs.Needs.{fullWith}
+-- `is_full` goes by the kind of the operation.
+use Rattle.reception.specs.Decisions.{fullIn, fullWith}
 use borrow.Author.Needs.{needs}
 use Rattle.reception.proofs.is_full.Statement.{statement}
 use Rattle.reception.proofs.is_full.Tie as tie
@@ -14,7 +14,7 @@ enum-told-2 : tie.Need-enum-told-2
 enum-told-2 c = search needs
 
 returns : tie.Need-returns
-unfolding fullWith
+unfolding fullIn fullWith
 returns c = rw (c .before .enum-told .given .1) (c .document-full .ensures)
 
 returns-2 : tie.Need-returns-2

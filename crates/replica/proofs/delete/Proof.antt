@@ -1,28 +1,41 @@
--- `replica::delete` meets its contract: the form is checked first.
-use mathlib.Core.Path.{sym, _∙_}
+-- `replica::delete` goes by what was made: a refusal, or an operation that is carried out.
+use mathlib.Core.Path.{_≡_, _∙_}
+use Rattle.replica.proofs.Returning.{refused-toggle, toggle-executed, toggle-sent, deleted-view}
 use borrow.Author.Needs.{needs}
-use Rattle.lists.proofs.Tests.{refused, passed}
-use Rattle.well_formed.proofs.Examining.{check-formed, check-examined}
-use Rattle.toggle_generation.proofs.Toggling.{delete-unformed}
 use Rattle.replica.proofs.delete.Statement.{statement}
 use Rattle.replica.proofs.delete.Tie as tie
 
-check-requires : tie.Need-check-requires
-check-requires c κs = search needs
+judge-delete-requires : tie.Need-judge-delete-requires
+judge-delete-requires c κs = search needs
 
-refused-requires : tie.Need-refused-requires
-refused-requires c κs = search needs
+enum-known-refusal : tie.Need-enum-known-refusal
+enum-known-refusal c = search needs
+
+enum-known-k : tie.Need-enum-known-k
+enum-known-k c = search needs
+
+send-requires : tie.Need-send-requires
+send-requires c κs =
+    let r = c .before .before .before .before .before .before .before .before .before .before .before .before .before .before .before .before .args .t1 in
+    toggle-executed r _ _ _ (rw (c .before .k .given .1) at (c .before .before .before .judge-delete .ensures))
 
 returns : tie.Need-returns
-returns c = c .refused .ensures ∙ sym (delete-unformed _ _ (refused (check-formed _ _ (c .before .before .before .check .ensures)) (c .before .if1 .taken)))
-
-delete-visible-requires : tie.Need-delete-visible-requires
-delete-visible-requires c κs =
-    let e = c .before .before .before .before .check .ensures in
-    check-examined _ _ e (passed (check-formed _ _ e) (c .before .before .if1 .left))
+returns c =
+    let r = c .before .before .before .before .before .before .before .before .before .before .before .before .before .before .before .before .args .t1 in
+    refused-toggle r _ _ (rw (c .before .refusal .given .1) at (c .before .before .before .judge-delete .ensures)) ∙ deleted-view r _
 
 returns-2 : tie.Need-returns-2
-returns-2 c = search needs
+returns-2 c =
+    let r = c .before .before .before .before .before .before .before .before .before .before .before .before .before .before .before .before .before .args .t1 in
+    c .send .ensures ∙ toggle-sent r _ _ _ (rw (c .before .before .k .given .1) at (c .before .before .before .before .judge-delete .ensures)) ∙ deleted-view r _
 
 pub delete-spec : {M : Type 1} → statement M
-delete-spec = tie.close (tie.spec check-requires refused-requires returns delete-visible-requires returns-2)
+delete-spec =
+    tie.close
+    (tie.spec
+    judge-delete-requires
+    enum-known-refusal
+    enum-known-k
+    send-requires
+    returns
+    returns-2)

@@ -1,75 +1,77 @@
--- `replica::receive` meets its contract: the range is looked at first, then the form.
-use mathlib.Core.Path.{_≡_, sym, _∙_}
-use mathlib.Core.Bool.{true}
-use Rattle.woot.specs.Ranges.{inRange}
-use Rattle.lists.proofs.Tests.{refused, passed}
-use Rattle.well_formed.specs.Examined.{Examined}
-use Rattle.reception.proofs.Outcomes.{unranged, unformed}
-use Rattle.well_formed.proofs.Examining.{check-formed, check-examined}
+-- `replica::receive` takes the arrays out, judges the operation and carries the decision out on them, and puts them back.
+use native.Mathlib.Omega.{arith}
+use Rattle.memory.proofs.Fullness.{FullArrays, full-replica}
+use Rattle.replica.proofs.Returning.{received-so}
 use borrow.Author.Needs.{needs}
 use Rattle.replica.proofs.receive.Statement.{statement}
 use Rattle.replica.proofs.receive.Tie as tie
 
--- the operation is in range, and the replica in form with what was packed of it
-ranged : (c : tie.After-struct-known) → inRange (c .before .before .before .before .args .operation) ≡ true
-ranged c = passed (c .before .before .before .in-range .ensures) (c .before .before .if1 .left)
+slice-aggregate-judge : tie.Need-slice-aggregate-judge
+slice-aggregate-judge c = search needs
 
-examined : (c : tie.Else2) → let k = c .before .before .check .result in Examined (c .before .before .before .before .before .args .replica) (k .index) (k .queue)
-examined c =
-    let e = c .before .before .check .ensures in
-    check-examined _ _ e (passed (check-formed _ _ e) (c .if2 .left))
+slice-aggregate-judge-2 : tie.Need-slice-aggregate-judge-2
+slice-aggregate-judge-2 c = search needs
 
-in-range-requires : tie.Need-in-range-requires
-in-range-requires c κs = search needs
+slice-aggregate-judge-3 : tie.Need-slice-aggregate-judge-3
+slice-aggregate-judge-3 c = search needs
 
-refused-requires : tie.Need-refused-requires
-refused-requires c κs = search needs
+slice-aggregate-judge-4 : tie.Need-slice-aggregate-judge-4
+slice-aggregate-judge-4 c = search needs
+
+slice-aggregate-judge-5 : tie.Need-slice-aggregate-judge-5
+slice-aggregate-judge-5 c = search needs
+
+judge-requires : tie.Need-judge-requires
+judge-requires c κs =
+    let r = c .before .before .before .before .before .before .before .before .before .before .args .replica in
+    let full = full-replica {r = r} (c .before .before .before .before .before .before .before .before .before .before .good .0) in
+    (full .characters, (full .toggles, (full .pending, (full .heads, full .links))))
+
+slice-aggregate-carry : tie.Need-slice-aggregate-carry
+slice-aggregate-carry c = search needs
+
+slice-aggregate-carry-2 : tie.Need-slice-aggregate-carry-2
+slice-aggregate-carry-2 c = search needs
+
+slice-aggregate-carry-3 : tie.Need-slice-aggregate-carry-3
+slice-aggregate-carry-3 c = search needs
+
+slice-aggregate-carry-4 : tie.Need-slice-aggregate-carry-4
+slice-aggregate-carry-4 c = search needs
+
+slice-aggregate-carry-5 : tie.Need-slice-aggregate-carry-5
+slice-aggregate-carry-5 c = search needs
+
+carry-requires : tie.Need-carry-requires
+carry-requires c κs =
+    let r = c .before .before .before .before .before .before .before .before .before .before .before .before .before .before .before .before .args .replica in
+    let full = full-replica {r = r} (c .before .before .before .before .before .before .before .before .before .before .before .before .before .before .before .before .good .0) in
+    (full .characters, (full .pending, c .before .before .before .before .before .judge .ensures .feasible))
+
+answer-requires : tie.Need-answer-requires
+answer-requires c κs = search needs
 
 returns : tie.Need-returns
-returns c = c .refused .ensures ∙ sym (unranged _ _ (refused (c .before .before .in-range .ensures) (c .before .if1 .taken)))
-
-check-requires : tie.Need-check-requires
-check-requires c κs = search needs
-
-refused-requires-2 : tie.Need-refused-requires-2
-refused-requires-2 c κs = search needs
-
-returns-2 : tie.Need-returns-2
-returns-2 c = c .refused2 .ensures ∙ sym (unformed _ _ (ranged (c .before .before)) (refused (check-formed _ _ (c .before .before .before .check .ensures)) (c .before .if2 .taken)))
-
-enum-known-operation : tie.Need-enum-known-operation
-enum-known-operation c = search needs
-
-receive-insert-requires : tie.Need-receive-insert-requires
-unfolding inRange
-receive-insert-requires c κs = (examined (c .before .before .before .before .before), rw (c .before .operation .given .1) at (ranged (c .before .before .before .before .before .before)))
-
-enum-known-operation-2 : tie.Need-enum-known-operation-2
-enum-known-operation-2 c = search needs
-
-receive-toggle-requires : tie.Need-receive-toggle-requires
-unfolding inRange
-receive-toggle-requires c κs = (examined (c .before .before .before .before .before), rw (c .before .operation2 .given .1) at (ranged (c .before .before .before .before .before .before)))
-
-returns-3 : tie.Need-returns-3
-returns-3 c = rw (c .before .before .operation .given .1) (c .receive-insert .ensures)
-
-returns-4 : tie.Need-returns-4
-returns-4 c = rw (c .before .before .operation2 .given .1) (c .receive-toggle .ensures)
+returns c =
+    let r = c .before .before .before .before .before .before .before .before .before .before .before .before .before .before .before .before .before .before .before .before .before .before .before .before .args .replica in
+    let full = full-replica {r = r} (c .before .before .before .before .before .before .before .before .before .before .before .before .before .before .before .before .before .before .before .before .before .before .before .before .good .0) in
+    received-so r _ full (record { characters = omega (arith, c .before .before .before .before .before .before .before .carry .kept .0, full .characters); toggles = omega (arith, c .before .before .before .before .before .before .before .carry .kept .1 .0, full .toggles); pending = omega (arith, c .before .before .before .before .before .before .before .carry .kept .1 .1 .0, full .pending); heads = omega (arith, c .before .before .before .before .before .before .before .carry .kept .1 .1 .1 .0, full .heads); links = omega (arith, c .before .before .before .before .before .before .before .carry .kept .1 .1 .1 .1 .0, full .links) }) _ _ _ _ _ (c .answer .ensures) (c .before .before .before .before .before .before .before .before .before .before .before .before .before .judge .ensures) (c .before .before .before .before .before .before .before .carry .ensures)
 
 pub receive-spec : {M : Type 1} → statement M
 receive-spec =
     tie.close
     (tie.spec
-    in-range-requires
-    refused-requires
-    returns
-    check-requires
-    refused-requires-2
-    returns-2
-    enum-known-operation
-    receive-insert-requires
-    enum-known-operation-2
-    receive-toggle-requires
-    returns-3
-    returns-4)
+    slice-aggregate-judge
+    slice-aggregate-judge-2
+    slice-aggregate-judge-3
+    slice-aggregate-judge-4
+    slice-aggregate-judge-5
+    judge-requires
+    slice-aggregate-carry
+    slice-aggregate-carry-2
+    slice-aggregate-carry-3
+    slice-aggregate-carry-4
+    slice-aggregate-carry-5
+    carry-requires
+    answer-requires
+    returns)

@@ -1,8 +1,7 @@
--- `replica::well_formed` is the first of what the check answers.
+-- `replica::well_formed` checks the columns of the replica.
+use mathlib.Core.Path.{sym, _∙_}
+use Rattle.memory.proofs.Views.{form-view}
 use borrow.Author.Needs.{needs}
-use mathlib.Core.Path.{ap, _∙_}
-use Rattle.well_formed.specs.declared.Checked.{Checked}
-use Rattle.well_formed.proofs.Checks.{checked-formed}
 use Rattle.replica.proofs.well_formed.Statement.{statement}
 use Rattle.replica.proofs.well_formed.Tie as tie
 
@@ -10,7 +9,7 @@ check-requires : tie.Need-check-requires
 check-requires c κs = search needs
 
 returns : tie.Need-returns
-returns c = ap (λ (x : Checked). x .formed) (c .check .ensures) ∙ checked-formed (c .before .args .replica)
+returns c = c .check .ensures ∙ sym (form-view (c .before .before .before .before .before .before .before .before .before .before .before .before .before .args .t1))
 
 pub well-formed-spec : {M : Type 1} → statement M
 well-formed-spec = tie.close (tie.spec check-requires returns)

@@ -1,35 +1,29 @@
--- `visible::count` meets its contract. The loop's invariant: the count, with the visible ones that are left, is all.
-use mathlib.Core.Path.{_≡_, sym, ap, _∙_}
+-- `visible::count` meets its contract. The loop's invariant: the count, with the visible ones that are left, is
+-- all.
+use Prim.Native.Nat.{ℕ, _+_, _-_, _≤_}
+use mathlib.Core.Path.{_≡_, ap}
 use mathlib.Core.Logic.{⊎-elim}
-use Prim.Native.Nat.{_+_, _-_, _≤_}
+use mathlib.Core.List.{List}
+use borrow.Author.Tests.{eq-eqb, ne-eqb}
+use lib.ListN.{length}
+use Rattle.lists.specs.Lists.{keep}
+use Rattle.visible.specs.Shown.{shown}
+use Rattle.visible.proofs.Shown.{left, kept-here, kept-not, kept-none, shown-count}
 use native.Mathlib.Omega.{arith}
-use borrow.Author.Needs.{needs}
-use lib.ListN.{length, take}
-use Rattle.visible.proofs.Visibility.{visiblesLeft, one-visible, one-hidden, none-left, first-visibles, visibles-length}
 use Rattle.visible.proofs.count.Statement.{statement}
 use Rattle.visible.proofs.count.Tie as tie
 
 abbrev Inv-loop : tie.InvT-loop
-Inv-loop n cs end number₀ i₀ number i =
-    (i ≤ end) × (number ≤ i) × (length cs ≡ 1024) × (number + length (visiblesLeft cs end i) ≡ length (visiblesLeft cs end 0))
+Inv-loop toggles n number₀ i₀ number i = (i ≤ n) × (number ≤ i) × (number + length (keep shown (left toggles n i)) ≡ length (keep shown (left toggles n 0)))
 
 abbrev μ-loop : tie.MeasureT-loop
-μ-loop n cs end number₀ i₀ number i = end - i
-
-lesser-requires : tie.Need-lesser-requires Inv-loop μ-loop
-lesser-requires c κs = search needs
+μ-loop toggles n number₀ i₀ number i = n - i
 
 loop-holds : tie.Need-loop-holds Inv-loop μ-loop
-loop-holds c = (omega arith, omega arith, c .before .good .0 .1 .0 .1, omega arith)
+loop-holds c = (omega arith, omega arith, omega arith)
 
-mul-c : tie.Need-mul-c Inv-loop μ-loop
-mul-c c = omega arith
-
-array-copy-out-c : tie.Need-array-copy-out-c Inv-loop μ-loop
-array-copy-out-c c = omega arith
-
-is-visible-requires : tie.Need-is-visible-requires Inv-loop μ-loop
-is-visible-requires c κs = search needs
+shared-slice-read-if1 : tie.Need-shared-slice-read-if1 Inv-loop μ-loop
+shared-slice-read-if1 c = omega arith
 
 add-number : tie.Need-add-number Inv-loop μ-loop
 add-number c = omega arith
@@ -42,21 +36,19 @@ loop-less c = omega arith
 
 loop-again : tie.Need-loop-again Inv-loop μ-loop
 loop-again c =
-    let a = c .before .before .before .before .before .before .args in
-    let l = c .before .before .before .before .loop in
-    let end = c .before .before .before .before .before .lesser in
-    let asked = sym (c .before .is-visible .ensures) in
-    let few : end .result ≤ length (a .t1) = omega (arith, end .ensures) in
-    ⊎-elim (λ w. (omega arith, omega arith, l .inv .2, omega (arith, ap length (one-visible (a .t1) (end .result) (l .i) _ (omega arith) few (asked ∙ w .0 .taken)))))
-    (λ w. (omega arith, omega arith, l .inv .2, omega (arith, ap length (one-hidden (a .t1) (end .result) (l .i) _ (omega arith) few (asked ∙ w .0 .left)))))
+    let a = c .before .before .before .before .args in
+    let l = c .before .before .before .loop in
+    let ts = a .toggles .now in
+    let few : a .n ≤ length ts = omega (arith, c .before .before .before .before .pre) in
+    ⊎-elim (λ w. (omega arith, omega arith, omega (arith, ap length (kept-here shown ts (a .n) (l .i) 0 (omega arith) few (eq-eqb _ _ (w .0 .taken))))))
+    (λ w. (omega arith, omega arith, omega (arith, ap length (kept-not shown ts (a .n) (l .i) 0 (omega arith) few (ne-eqb _ _ (w .0 .left))))))
     (c .if1 .came)
 
 returns : tie.Need-returns Inv-loop μ-loop
-returns c =
-    let a = c .before .before .before .args in
-    let end = c .before .before .lesser in
+returns c cs e =
+    let a = c .before .before .args in
     let l = c .before .loop in
-    omega (arith, ap length (none-left (a .t1) (end .result) (l .i) (omega arith)), ap length (first-visibles (a .t1) (a .n) (end .result) (end .ensures) (l .inv .2)), visibles-length (take (a .n) (a .t1)))
+    omega (arith, ap length (kept-none shown (a .toggles .now) (a .n) (l .i) (omega arith)), ap (λ (ts : List ℕ). length (keep shown ts)) e, shown-count cs)
 
 pub count-spec : {M : Type 1} → statement M
 count-spec =
@@ -64,11 +56,8 @@ count-spec =
     (tie.spec
     Inv-loop
     μ-loop
-    lesser-requires
     loop-holds
-    mul-c
-    array-copy-out-c
-    is-visible-requires
+    shared-slice-read-if1
     add-number
     add-i
     loop-less

@@ -1,25 +1,23 @@
 -- `visible::left` meets its contract: past the begin mark the visible characters are counted from 0.
-use borrow.Author.Needs.{needs}
-use lib.ListN.{take}
-use Rattle.woot.specs.Identifiers.{begin}
+use mathlib.Core.Path.{sym, _∙_}
+use Rattle.visible.proofs.Shown.{left-key}
 use Rattle.woot.specs.Calls.{visibles}
-use Rattle.visible.proofs.Visibility.{getD-past}
+use Rattle.index.proofs.Keys.{key-begin}
+use borrow.Author.Needs.{needs}
 use Rattle.visible.proofs.left.Statement.{statement}
 use Rattle.visible.proofs.left.Tie as tie
 
 returns : tie.Need-returns
-returns c = rw (c .if1 .taken)
+returns c cs e f = rw (c .if1 .taken) (sym key-begin)
 
-sub-identifier : tie.Need-sub-identifier
-sub-identifier c = search needs
+sub-key-of : tie.Need-sub-key-of
+sub-key-of c = search needs
 
-identifier-requires : tie.Need-identifier-requires
-identifier-requires c κs = search needs
+key-of-requires : tie.Need-key-of-requires
+key-of-requires c κs = search needs
 
 returns-2 : tie.Need-returns-2
-returns-2 c =
-    let a = c .before .before .args in
-    rw (c .identifier .ensures) (getD-past begin (visibles (take (a .n) (a .characters))) (a .point) begin (c .before .if1 .left))
+returns-2 c cs e f = c .key-of .ensures cs e f ∙ left-key (visibles cs) (c .before .before .before .before .args .point) (c .before .if1 .left)
 
 pub left-spec : {M : Type 1} → statement M
-left-spec = tie.close (tie.spec returns sub-identifier identifier-requires returns-2)
+left-spec = tie.close (tie.spec returns sub-key-of key-of-requires returns-2)

@@ -1,55 +1,37 @@
 -- `visible::nth` meets its contract. The loop's invariant: what is left of the count, sought among the visible
 -- ones that are left, gives what the whole search gives.
-use mathlib.Core.Path.{_≡_, refl, sym, ap, _∙_}
-use mathlib.Core.List.{List}
-use mathlib.Core.Logic.{⊎-elim}
 use Prim.Native.Nat.{_-_, _≤_}
+use mathlib.Core.Path.{_≡_, refl, sym, _∙_}
+use mathlib.Core.Logic.{⊎-elim}
+use borrow.Author.Tests.{eq-eqb, ne-eqb}
+use lib.ListN.{length}
+use Rattle.visible.specs.Shown.{shown}
+use Rattle.visible.proofs.Shown.{left, nthLeft, nth-here, nth-counted, nth-passed, nth-none, shown-nth}
 use native.Mathlib.Omega.{arith}
-use borrow.Author.Needs.{needs}
-use lib.ListN.{length, take, getD}
-use Rattle.woot.specs.declared.Character.{Character}
-use Rattle.woot.specs.Operations.{isVisible}
-use Rattle.lists.specs.Lists.{keep}
-use Rattle.visible.proofs.Visibility.{visiblesLeft, first-visibles, nth-here, nth-counted, nth-passed, nth-none}
 use Rattle.visible.proofs.nth.Statement.{statement}
 use Rattle.visible.proofs.nth.Tie as tie
 
 abbrev Inv-loop : tie.InvT-loop
-Inv-loop n k none cs end rest₀ i₀ rest i =
-    (i ≤ end) × (length cs ≡ 1024) × (getD (visiblesLeft cs end i) rest none ≡ getD (visiblesLeft cs end 0) k none)
+Inv-loop toggles n k rest₀ i₀ rest i = (i ≤ n) × (nthLeft shown toggles n i rest ≡ nthLeft shown toggles n 0 k)
 
 abbrev μ-loop : tie.MeasureT-loop
-μ-loop n k none cs end rest₀ i₀ rest i = end - i
-
--- the whole search goes over the first n, or all
-whole : (c : tie.After-lesser Inv-loop μ-loop) → let a = c .before .args in length (a .t1) ≡ 1024
-    → getD (visiblesLeft (a .t1) (c .lesser .result) 0) (a .k) (a .none) ≡ getD (keep isVisible (take (a .n) (a .t1))) (a .k) (a .none)
-whole c full =
-    let a = c .before .args in
-    ap (λ (xs : List Character). getD xs (a .k) (a .none)) (first-visibles (a .t1) (a .n) (c .lesser .result) (c .lesser .ensures) full)
-
-lesser-requires : tie.Need-lesser-requires Inv-loop μ-loop
-lesser-requires c κs = search needs
+μ-loop toggles n k rest₀ i₀ rest i = n - i
 
 loop-holds : tie.Need-loop-holds Inv-loop μ-loop
-loop-holds c = (omega arith, c .before .good .0 .1 .0 .1, refl)
+loop-holds c = (omega arith, refl)
 
-mul-c : tie.Need-mul-c Inv-loop μ-loop
-mul-c c = omega arith
-
-array-copy-out-c : tie.Need-array-copy-out-c Inv-loop μ-loop
-array-copy-out-c c = omega arith
-
-is-visible-requires : tie.Need-is-visible-requires Inv-loop μ-loop
-is-visible-requires c κs = search needs
+shared-slice-read-if1 : tie.Need-shared-slice-read-if1 Inv-loop μ-loop
+shared-slice-read-if1 c = omega arith
 
 returns : tie.Need-returns Inv-loop μ-loop
-returns c =
-    let b = c .before .before .before .before .before .before in
-    let a = b .before .args in
-    let l = c .before .before .before .before .before .loop in
-    let few : b .lesser .result ≤ length (a .t1) = omega (arith, b .lesser .ensures) in
-    nth-here (a .t1) (b .lesser .result) (l .i) (l .rest) (a .none) _ (omega arith) few (sym (c .before .before .is-visible .ensures) ∙ c .before .if1 .taken) (c .if2 .taken) ∙ l .inv .2 ∙ whole b (l .inv .1)
+returns c cs e =
+    let a = c .before .before .before .before .before .args in
+    let l = c .before .before .before .before .loop in
+    let ts = a .toggles .now in
+    let few : a .n ≤ length ts = omega (arith, c .before .before .before .before .before .pre) in
+    sym (nth-here shown ts (a .n) (l .i) 0 (omega arith) few (l .rest) (eq-eqb _ _ (c .before .if1 .taken)) (c .if2 .taken))
+    ∙ l .inv .1
+    ∙ shown-nth cs (a .toggles .now) (a .n) (a .k) e
 
 sub-rest : tie.Need-sub-rest Inv-loop μ-loop
 sub-rest c = omega arith
@@ -62,20 +44,25 @@ loop-less c = omega arith
 
 loop-again : tie.Need-loop-again Inv-loop μ-loop
 loop-again c =
-    let b = c .before .before .before .before .before in
-    let a = b .before .args in
-    let l = c .before .before .before .before .loop in
-    let asked = sym (c .before .is-visible .ensures) in
-    let few : b .lesser .result ≤ length (a .t1) = omega (arith, b .lesser .ensures) in
-    ⊎-elim (λ w. (omega arith, l .inv .1, rw (w .2) (nth-counted (a .t1) (b .lesser .result) (l .i) (l .rest) (a .none) _ (omega arith) few (asked ∙ w .0 .taken) (w .1 .left) ∙ l .inv .2)))
-    (λ w. (omega arith, l .inv .1, rw (w .1) (nth-passed (a .t1) (b .lesser .result) (l .i) (l .rest) (a .none) _ (omega arith) few (asked ∙ w .0 .left) ∙ l .inv .2)))
+    let a = c .before .before .before .before .args in
+    let l = c .before .before .before .loop in
+    let ts = a .toggles .now in
+    let few : a .n ≤ length ts = omega (arith, c .before .before .before .before .pre) in
+    ⊎-elim (λ w. (
+      omega arith,
+      rw (w .2) (sym (nth-counted shown ts (a .n) (l .i) 0 (omega arith) few (l .rest) (eq-eqb _ _ (w .0 .taken)) (w .1 .left))
+          ∙ l .inv .1),
+    ))
+    (λ w. (omega arith, rw (w .1) (sym (nth-passed shown ts (a .n) (l .i) 0 (omega arith) few (l .rest) (ne-eqb _ _ (w .0 .left))) ∙ l .inv .1)))
     (c .if1 .came)
 
 returns-2 : tie.Need-returns-2 Inv-loop μ-loop
-returns-2 c =
-    let a = c .before .before .before .args in
+returns-2 c cs e =
+    let a = c .before .before .args in
     let l = c .before .loop in
-    nth-none (a .t1) (c .before .before .lesser .result) (l .i) (l .rest) (a .none) (omega arith) ∙ l .inv .2 ∙ whole (c .before .before) (l .inv .1)
+    sym (nth-none shown (a .toggles .now) (a .n) (l .i) (l .rest) (omega arith))
+    ∙ l .inv .1
+    ∙ shown-nth cs (a .toggles .now) (a .n) (a .k) e
 
 pub nth-spec : {M : Type 1} → statement M
 nth-spec =
@@ -83,11 +70,8 @@ nth-spec =
     (tie.spec
     Inv-loop
     μ-loop
-    lesser-requires
     loop-holds
-    mul-c
-    array-copy-out-c
-    is-visible-requires
+    shared-slice-read-if1
     returns
     sub-rest
     add-i

@@ -1,17 +1,14 @@
 -- `visible::put` meets its contract: a hidden character leaves the slice and the offset.
-use mathlib.Core.Path.{sym, _∙_}
+use mathlib.Core.Path.{sym}
+use borrow.Author.Tests.{eq-eqb, ne-eqb}
+use Rattle.visible.proofs.Texts.{placed-none, past-none}
+use Rattle.visible.proofs.Shown.{spelt-shown, spelt-not}
 use borrow.Author.Needs.{needs}
-use borrow.Author.Tests.{not-true, not-false}
-use Rattle.visible.proofs.Texts.{spelt-visible, spelt-hidden, placed-none, past-none}
 use Rattle.visible.proofs.put.Statement.{statement}
 use Rattle.visible.proofs.put.Tie as tie
 
-is-visible-requires : tie.Need-is-visible-requires
-is-visible-requires c κs = search needs
-
 returns : tie.Need-returns
-returns c =
-    rw (spelt-hidden (c .before .before .before .args .character) (sym (c .before .is-visible .ensures) ∙ not-true _ (c .if1 .taken))) (sym (past-none _ _), sym (placed-none _ _))
+returns c = rw (spelt-not _ _ (ne-eqb _ _ (c .if1 .taken))) (sym (past-none _ _), sym (placed-none _ _))
 
 printed-requires : tie.Need-printed-requires
 printed-requires c κs = search needs
@@ -25,14 +22,8 @@ same-length c = search needs
 returns-2 : tie.Need-returns-2
 returns-2 c =
     let w = c .before .before .write .ensures in
-    let p = c .before .before .before .before in
-    let b = p .before in
-    let d = b .before .before .before .args .character in
-    rw (
-      spelt-visible d (sym (b .before .is-visible .ensures) ∙ not-false _ (b .if1 .left)),
-      sym (p .printed .ensures),
-    )
+    rw (spelt-shown _ _ (eq-eqb _ _ (c .before .before .before .before .before .if1 .left)), ← c .before .before .before .before .printed .ensures)
     (w .0, w .1)
 
 pub put-spec : {M : Type 1} → statement M
-put-spec = tie.close (tie.spec is-visible-requires returns printed-requires write-requires same-length returns-2)
+put-spec = tie.close (tie.spec returns printed-requires write-requires same-length returns-2)

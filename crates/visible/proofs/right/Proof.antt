@@ -1,19 +1,17 @@
--- `visible::right` meets its contract: the end mark after the visible characters is what stands where none does.
-use borrow.Author.Needs.{needs}
-use lib.ListN.{take}
-use Rattle.woot.specs.Identifiers.{end}
+-- `visible::right` meets its contract: the end mark after the visible characters is what stands where none
+-- does.
+use mathlib.Core.Path.{_∙_}
+use Rattle.visible.proofs.Shown.{right-key}
 use Rattle.woot.specs.Calls.{visibles}
-use Rattle.visible.proofs.Visibility.{getD-last}
+use borrow.Author.Needs.{needs}
 use Rattle.visible.proofs.right.Statement.{statement}
 use Rattle.visible.proofs.right.Tie as tie
 
-identifier-requires : tie.Need-identifier-requires
-identifier-requires c κs = search needs
+key-of-requires : tie.Need-key-of-requires
+key-of-requires c κs = search needs
 
 returns : tie.Need-returns
-returns c =
-    let a = c .before .args in
-    rw (c .identifier .ensures) (getD-last (visibles (take (a .n) (a .characters))) (a .point) end)
+returns c cs e f = c .key-of .ensures cs e f ∙ right-key (visibles cs) (c .before .before .before .args .point)
 
 pub right-spec : {M : Type 1} → statement M
-right-spec = tie.close (tie.spec identifier-requires returns)
+right-spec = tie.close (tie.spec key-of-requires returns)

@@ -1,168 +1,132 @@
--- `well_formed::check` meets its contract: the tests come out as the rules say, once the ranges are kept.
-use borrow.Author.Needs.{needs}
+-- `check` meets its contract: each test comes out as the rules say, once those before it are passed.
 use native.Mathlib.Omega.{arith}
-use mathlib.Core.Path.{_≡_, refl, ap, sym, _∙_}
-use lib.ListN.{length, take}
-use Rattle.woot.specs.Table.{keys, agrees}
-use mathlib.Core.Bool.{true, false, _&&_}
-use Rattle.woot.specs.State.{meaning, tableAgrees}
-use Rattle.woot.specs.Form.{replicaWellFormed}
+use mathlib.Core.Path.{_≡_, sym}
+use mathlib.Core.Bool.{true}
+use borrow.Author.Needs.{needs}
+use lib.ListN.{take}
+use Rattle.lists.specs.Lists.{every}
 use Rattle.lists.proofs.Tests.{refused, passed}
-use Rattle.index.specs.declared.Index.{Index}
-use Rattle.pending.specs.declared.queue.Queue.{Queue}
-use Rattle.index.specs.Keys.{AllSmall}
-use Rattle.index.specs.Packing.{keysOf}
-use Rattle.index.specs.Index.{indexOf}
-use Rattle.index.specs.Tabled.{Tabled}
-use Rattle.index.proofs.Packing.{keys-ids}
-use Rattle.index.proofs.Indexes.{index-ids}
-use Rattle.storage.proofs.Stored.{character-count}
-use Rattle.pending.specs.Queue.{queueOf}
-use Rattle.replica_ranges.specs.Ranges.{rangesKept}
-use Rattle.storage.proofs.Fullness.{full-replica}
-use Rattle.well_formed.proofs.Checks.{own-tabled, formed-path, checked-false, checked-true, out-of-range, few-characters, few-pending, indexFormed, queueFormed, in-range}
+use Rattle.memory.specs.Columns.{Replica}
+use Rattle.woot.specs.Form.{ordered}
+use Rattle.woot.specs.Table.{agrees}
+use Rattle.memory.specs.Lent.{documentAs}
+use Rattle.memory.proofs.Fullness.{FullDocument}
+use Rattle.well_formed.proofs.Checks.{charactersAs, ranged, out-of-range, few, characters-ranged, untabled, tabled, disordered, decided}
 use Rattle.well_formed.proofs.check.Statement.{statement}
 use Rattle.well_formed.proofs.check.Tie as tie
 
-kept : (c : tie.Else1) → rangesKept (c .before .before .args .replica) ≡ true
+-- the replica that the arrays make
+abbrev made : tie.Start → Replica
+made s =
+    let a = s .args in
+    record {
+      site = a .site;
+      document =
+          documentAs (a .ids .now) (a .previous .now) (a .next .now) (a .code-points .now) (a .toggles .now) (a .n)
+          (a .own .now) (a .first .now) (a .second .now) (a .values .now) (a .w) (a .heads .now) (a .links .now);
+    }
+
+-- where the function starts
+abbrev start : tie.Else1 → tie.Start
+start c = c .before .before .before .before .before .before .before .before .before .before .before .before .before
+
+full : (s : tie.Start) → FullDocument (made s .document)
+full s =
+    record {
+      ids = s .pre .0;
+      previous = s .pre .1 .0;
+      next = s .pre .1 .1 .0;
+      points = s .pre .1 .1 .1 .0;
+      toggles = s .pre .1 .1 .1 .1 .0;
+      own = s .pre .1 .1 .1 .1 .1 .0;
+      first = s .pre .1 .1 .1 .1 .1 .1 .0;
+      second = s .pre .1 .1 .1 .1 .1 .1 .1 .0;
+      values = s .pre .1 .1 .1 .1 .1 .1 .1 .1 .0;
+      heads = s .pre .1 .1 .1 .1 .1 .1 .1 .1 .1 .0;
+      links = s .pre .1 .1 .1 .1 .1 .1 .1 .1 .1 .1;
+    }
+
+kept : (c : tie.Else1) → ranged (made (start c)) ≡ true
 kept c = passed (c .before .in-ranges .ensures) (c .if1 .left)
 
-tests : (c : tie.Else1) (x : Index) (q : Queue) → let r = c .before .before .args .replica in x ≡ indexOf (meaning r .characters) → q ≡ queueOf (meaning r .pending)
-    → replicaWellFormed r ≡ tableAgrees r && (indexFormed r x && queueFormed r x q)
-tests c =
-    let f = full-replica {r = c .before .before .args .replica} (c .before .before .good .0) in
-    in-range _ (kept c) (f .characters) (f .pending)
-
--- what is packed of the characters
-packed : (c : tie.After-keys-of) → let r = c .before .before .before .before .before .args .replica in (c .keys-of .result ≡ keysOf (meaning r .characters)) × AllSmall (meaning r .characters)
-unfolding meaning
-packed c = c .keys-of .ensures
-
-size : (c : tie.Else1) → let r = c .before .before .args .replica in length (meaning r .characters) ≡ r .document .length
-size c =
-    let s = c .before .before in
-    character-count (s .args .replica) (full-replica (s .good .0)) (record { characters = few-characters _ (kept c); pending = few-pending _ (kept c) })
-
--- the keys in use
-used : (c : tie.After-keys-of) → let r = c .before .before .before .before .before .args .replica in take (r .document .length) (c .keys-of .result .ids) ≡ keys (meaning r .characters)
-used c = rw (packed c .0) (keys-ids _ _ (size (c .before .before .before)))
-
 -- the test of the table
-agree : (c : tie.After-agrees-among) → c .agrees-among .result ≡ tableAgrees (c .before .before .before .before .before .before .before .before .before .before .before .before .before .before .args .replica)
-unfolding tableAgrees
-agree c = c .agrees-among .ensures ∙ ap (agrees (c .before .before .before .before .before .before .before .before .before .before .before .before .before .before .args .replica .document .table)) (used (c .before .before .before .before .before .before .before .before .before))
+agree : (c : tie.After-agrees-among) → let d = made (start (c .before)) .document in c .agrees-among .result ≡ agrees (d .table) (take (d .length) (d .ids))
+agree c = c .agrees-among .ensures
 
-agreed : (c : tie.Else2) → tableAgrees (c .before .before .before .before .before .before .before .before .before .before .before .before .before .before .before .args .replica) ≡ true
+agreed : (c : tie.Else2) → let d = made (start (c .before .before)) .document in agrees (d .table) (take (d .length) (d .ids)) ≡ true
 agreed c = passed (agree (c .before)) (c .if2 .left)
 
--- the replica's own table finds its keys
-finds : (c : tie.Else2) → let r = c .before .before .before .before .before .before .before .before .before .before .before .before .before .before .before .args .replica in Tabled (r .document .table) (keys (meaning r .characters))
-finds c =
-    let s = c .before .before .before .before .before .before .before .before .before .before .before .before .before .before .before in
-    own-tabled (s .args .replica) (full-replica (s .good .0)) (agreed c) (omega (arith, size (c .before .before .before .before .before .before .before .before .before .before .before .before .before), few-characters _ (kept (c .before .before .before .before .before .before .before .before .before .before .before .before .before))))
-
--- the index of the characters
-indexes : (c : tie.After-index-of) → c .index-of .result ≡ indexOf (meaning (c .before .before .before .before .before .before .before .before .before .before .before .before .before .before .before .before .before .before .before .before .before .args .replica) .characters)
-indexes c =
-    let p = packed (c .before .before .before .before .before .before .before .before .before .before .before .before .before .before .before .before) in
-    c .index-of .ensures (meaning (c .before .before .before .before .before .before .before .before .before .before .before .before .before .before .before .before .before .before .before .before .before .args .replica) .characters) (p .0) (size (c .before .before .before .before .before .before .before .before .before .before .before .before .before .before .before .before .before .before .before)) (p .1)
+-- the test of the order
+order : (c : tie.After-characters-ordered) → let r = made (start (c .before .before .before)) in
+    c .characters-ordered .result ≡ every (ordered (charactersAs r)) (charactersAs r)
+order c =
+    let s = start (c .before .before .before) in
+    c .characters-ordered .ensures (s .args .code-points .now) (s .args .toggles .now) (characters-ranged (made s) (full s) (kept (c .before .before .before)))
 
 in-ranges-requires : tie.Need-in-ranges-requires
 in-ranges-requires c κs = search needs
 
-unformed-requires : tie.Need-unformed-requires
-unformed-requires c κs = search needs
-
 returns : tie.Need-returns
-returns c = c .unformed .ensures ∙ sym (checked-false _ (out-of-range _ (refused (c .before .before .in-ranges .ensures) (c .before .if1 .taken))))
-
-keys-of-requires : tie.Need-keys-of-requires
-keys-of-requires c κs = search needs
+returns c =
+    sym (out-of-range (made (c .before .before .before .before .before .before .before .before .before .before .before .before .before))
+    (refused (c .before .in-ranges .ensures) (c .if1 .taken)))
 
 agrees-among-requires : tie.Need-agrees-among-requires
-agrees-among-requires c κs = let few = few-characters _ (kept (c .before .before .before .before .before .before .before .before .before .before .before)) in (search needs, (omega arith, omega arith))
-
-unformed-requires-2 : tie.Need-unformed-requires-2
-unformed-requires-2 c κs = search needs
+agrees-among-requires c κs =
+    let s = start c in
+    let count = few (made s) (full s) (kept c) .characters in
+    (full s .heads, (omega (arith, count, full s .links), omega (arith, count, full s .ids)))
 
 returns-2 : tie.Need-returns-2
 returns-2 c =
-    let r = c .before .before .before .before .before .before .before .before .before .before .before .before .before .before .before .before .args .replica in
-    let test : tableAgrees r ≡ false = refused (agree (c .before .before)) (c .before .if2 .taken) in
-    c .unformed2 .ensures ∙ sym (checked-false r (tests (c .before .before .before .before .before .before .before .before .before .before .before .before .before .before) _ _ refl refl ∙ rw test))
+    let s = start (c .before .before) in
+    sym (untabled (made s) (full s) (kept (c .before .before)) (refused (agree (c .before)) (c .if2 .taken)))
 
-index-of-requires : tie.Need-index-of-requires
-index-of-requires c κs = (few-characters _ (kept (c .before .before .before .before .before .before .before .before .before .before .before .before .before .before .before .before .before .before)), rw (used (c .before .before .before .before .before .before .before .before .before .before .before .before .before .before .before)) (finds (c .before .before .before .before .before)))
-
-ordered-among-requires : tie.Need-ordered-among-requires
-ordered-among-requires c κs = let few = few-characters _ (kept (c .before .before .before .before .before .before .before .before .before .before .before .before .before .before .before .before .before .before .before .before .before .before .before .before)) in (omega arith, omega arith)
-
-unformed-requires-3 : tie.Need-unformed-requires-3
-unformed-requires-3 c κs = search needs
+characters-ordered-requires : tie.Need-characters-ordered-requires
+characters-ordered-requires c κs =
+    let s = start (c .before .before) in
+    let ranges = kept (c .before .before) in
+    let count = few (made s) (full s) ranges .characters in
+    let finds = tabled (made s) (full s) ranges (agreed c) in
+    (omega (arith, count, full s .ids), (omega (arith, count, full s .previous), (omega (arith, count, full s .next), finds)))
 
 returns-3 : tie.Need-returns-3
-unfolding meaning
 returns-3 c =
-    let r = c .before .before .before .before .before .before .before .before .before .before .before .before .before .before .before .before .before .before .before .before .before .before .before .before .before .before .before .before .before .args .replica in
-    let x = c .before .before .before .before .before .before .before .before .index-of .result in
-    let table = agreed (c .before .before .before .before .before .before .before .before .before .before .before .before .before .before) in
-    let test : indexFormed r x ≡ false = refused {u = indexFormed r x} (c .before .before .ordered-among .ensures) (c .before .if3 .taken) in
-    c .unformed3 .ensures ∙ sym (checked-false r (tests (c .before .before .before .before .before .before .before .before .before .before .before .before .before .before .before .before .before .before .before .before .before .before .before .before .before .before .before) x _ (indexes (c .before .before .before .before .before .before .before .before)) refl ∙ rw (table, test)))
-
-queue-of-requires : tie.Need-queue-of-requires
-queue-of-requires c κs = search needs
+    let s = start (c .before .before .before .before) in
+    sym (disordered (made s) (full s) (kept (c .before .before .before .before)) (agreed (c .before .before)) (refused (order (c .before)) (c .if3 .taken)))
 
 queue-formed-requires : tie.Need-queue-formed-requires
 queue-formed-requires c κs =
-    let few = few-characters _ (kept (c .before .before .before .before .before .before .before .before .before .before .before .before .before .before .before .before .before .before .before .before .before .before .before .before .before .before .before .before .before .before .before .before .before .before .before .before .before .before .before .before .before .before .before .before .before .before .before)) in
-    let pending = few-pending _ (kept (c .before .before .before .before .before .before .before .before .before .before .before .before .before .before .before .before .before .before .before .before .before .before .before .before .before .before .before .before .before .before .before .before .before .before .before .before .before .before .before .before .before .before .before .before .before .before .before)) in
-    let cs = meaning (c .before .before .before .before .before .before .before .before .before .before .before .before .before .before .before .before .before .before .before .before .before .before .before .before .before .before .before .before .before .before .before .before .before .before .before .before .before .before .before .before .before .before .before .before .before .before .before .before .before .args .replica) .characters in
-    (omega arith, (omega arith, (omega arith, (omega arith, (omega arith, (omega arith, rw (indexes (c .before .before .before .before .before .before .before .before .before .before .before .before .before .before .before .before .before .before .before .before .before .before .before .before .before .before .before .before), index-ids cs _ (size (c .before .before .before .before .before .before .before .before .before .before .before .before .before .before .before .before .before .before .before .before .before .before .before .before .before .before .before .before .before .before .before .before .before .before .before .before .before .before .before .before .before .before .before .before .before .before .before))) (finds (c .before .before .before .before .before .before .before .before .before .before .before .before .before .before .before .before .before .before .before .before .before .before .before .before .before .before .before .before .before .before .before .before .before .before))))))))
-
-unformed-requires-4 : tie.Need-unformed-requires-4
-unformed-requires-4 c κs = search needs
+    let s = start (c .before .before .before .before) in
+    let ranges = kept (c .before .before .before .before) in
+    let counts = few (made s) (full s) ranges in
+    let fits = counts .pending in
+    let finds = tabled (made s) (full s) ranges (agreed (c .before .before)) in (
+      omega (arith, counts .characters, full s .ids),
+      (
+        omega (arith, fits, full s .own),
+        (
+          omega (arith, fits, full s .first),
+          (omega (arith, fits, full s .second), (omega (arith, fits, full s .values), finds)),
+        ),
+      ),
+    )
 
 returns-4 : tie.Need-returns-4
-unfolding meaning
 returns-4 c =
-    let r = c .before .before .before .before .before .before .before .before .before .before .before .before .before .before .before .before .before .before .before .before .before .before .before .before .before .before .before .before .before .before .before .before .before .before .before .before .before .before .before .before .before .before .before .before .before .before .before .before .before .before .before .before .args .replica in
-    let x = c .before .before .before .before .before .before .before .before .before .before .before .before .before .before .before .before .before .before .before .before .before .before .before .before .before .before .before .before .before .before .before .index-of .result in
-    let q = c .before .before .before .before .before .before .before .before .before .before .before .before .before .before .before .before .before .before .before .before .before .before .queue-of .result in
-    let table = agreed (c .before .before .before .before .before .before .before .before .before .before .before .before .before .before .before .before .before .before .before .before .before .before .before .before .before .before .before .before .before .before .before .before .before .before .before .before .before) in
-    let first : indexFormed r x ≡ true = passed {u = indexFormed r x} (c .before .before .before .before .before .before .before .before .before .before .before .before .before .before .before .before .before .before .before .before .before .before .before .before .before .ordered-among .ensures) (c .before .before .before .before .before .before .before .before .before .before .before .before .before .before .before .before .before .before .before .before .before .before .before .before .if3 .left) in
-    let second : queueFormed r x q ≡ false = refused {u = queueFormed r x q} (c .before .before .queue-formed .ensures) (c .before .if4 .taken) in
-    c .unformed4 .ensures ∙ sym (checked-false r (tests (c .before .before .before .before .before .before .before .before .before .before .before .before .before .before .before .before .before .before .before .before .before .before .before .before .before .before .before .before .before .before .before .before .before .before .before .before .before .before .before .before .before .before .before .before .before .before .before .before .before .before) x q (indexes (c .before .before .before .before .before .before .before .before .before .before .before .before .before .before .before .before .before .before .before .before .before .before .before .before .before .before .before .before .before .before .before)) (c .before .before .before .before .before .before .before .before .before .before .before .before .before .before .before .before .before .before .before .before .before .before .queue-of .ensures) ∙ rw (table, first, second)))
-
-returns-5 : tie.Need-returns-5
-unfolding meaning
-returns-5 c =
-    let r = c .before .before .before .before .before .before .before .before .before .before .before .before .before .before .before .before .before .before .before .before .before .before .before .before .before .before .before .before .before .before .before .before .before .before .before .before .before .before .before .before .before .before .before .before .before .before .before .before .before .before .before .args .replica in
-    let x = c .before .before .before .before .before .before .before .before .before .before .before .before .before .before .before .before .before .before .before .before .before .before .before .before .before .before .before .before .before .before .index-of .result in
-    let q = c .before .before .before .before .before .before .before .before .before .before .before .before .before .before .before .before .before .before .before .before .before .queue-of .result in
-    let table = agreed (c .before .before .before .before .before .before .before .before .before .before .before .before .before .before .before .before .before .before .before .before .before .before .before .before .before .before .before .before .before .before .before .before .before .before .before .before) in
-    let first : indexFormed r x ≡ true = passed {u = indexFormed r x} (c .before .before .before .before .before .before .before .before .before .before .before .before .before .before .before .before .before .before .before .before .before .before .before .before .ordered-among .ensures) (c .before .before .before .before .before .before .before .before .before .before .before .before .before .before .before .before .before .before .before .before .before .before .before .if3 .left) in
-    let second : queueFormed r x q ≡ true = passed {u = queueFormed r x q} (c .before .queue-formed .ensures) (c .if4 .left) in
-    let e = indexes (c .before .before .before .before .before .before .before .before .before .before .before .before .before .before .before .before .before .before .before .before .before .before .before .before .before .before .before .before .before .before) in
-    let f = c .before .before .before .before .before .before .before .before .before .before .before .before .before .before .before .before .before .before .before .before .before .queue-of .ensures in
-    formed-path (meaning r) e f ∙ sym (checked-true r (tests (c .before .before .before .before .before .before .before .before .before .before .before .before .before .before .before .before .before .before .before .before .before .before .before .before .before .before .before .before .before .before .before .before .before .before .before .before .before .before .before .before .before .before .before .before .before .before .before .before .before) x q e f ∙ rw (table, first, second)))
+    let s = start (c .before .before .before .before .before) in
+    let ordered-all = passed (order (c .before .before)) (c .before .if3 .left) in
+    decided (made s) (full s) (kept (c .before .before .before .before .before)) (agreed (c .before .before .before)) ordered-all (c .queue-formed .ensures)
 
 pub check-spec : {M : Type 1} → statement M
 check-spec =
     tie.close
     (tie.spec
     in-ranges-requires
-    unformed-requires
     returns
-    keys-of-requires
     agrees-among-requires
-    unformed-requires-2
     returns-2
-    index-of-requires
-    ordered-among-requires
-    unformed-requires-3
+    characters-ordered-requires
     returns-3
-    queue-of-requires
     queue-formed-requires
-    unformed-requires-4
-    returns-4
-    returns-5)
+    returns-4)

@@ -1,4 +1,4 @@
--- `well_formed::queue_formed` lends the parts in use, and makes its tests one after the other.
+-- `queue_formed` lends the parts in use, and makes its tests one after the other.
 use native.Mathlib.Omega.{arith}
 use lib.ListN.{length-take}
 use borrow.Author.Needs.{needs}
@@ -21,37 +21,28 @@ slice-aggregate-pending-formed-4 c = simp length-take (omega arith)
 slice-aggregate-pending-formed-5 : tie.Need-slice-aggregate-pending-formed-5
 slice-aggregate-pending-formed-5 c = simp length-take (omega arith)
 
-slice-aggregate-pending-formed-6 : tie.Need-slice-aggregate-pending-formed-6
-slice-aggregate-pending-formed-6 c = simp length-take (omega arith)
-
 pending-formed-requires : tie.Need-pending-formed-requires
 pending-formed-requires c κs =
-    let s = c .before .before .before .before .before .before .before .before .before .before .before .before .before .before in
-    (s .pre .1 .1 .1 .1 .1 .1, (simp length-take (omega arith), (simp length-take (omega arith), simp length-take (omega arith))))
+    let s = c .before .before .before .before .before .before .before .before .before .before .before .before in
+    (s .pre .1 .1 .1 .1 .1, (simp length-take (omega arith), (simp length-take (omega arith), simp length-take (omega arith))))
 
 returns : tie.Need-returns
 returns c = rw (refused (c .before .pending-formed .ensures) (c .if1 .taken))
-
-slice-aggregate-reaches-all : tie.Need-slice-aggregate-reaches-all
-slice-aggregate-reaches-all c = simp length-take (omega arith)
 
 reaches-all-requires : tie.Need-reaches-all-requires
 reaches-all-requires c κs = search needs
 
 returns-2 : tie.Need-returns-2
 returns-2 c =
-    rw (passed (c .before .before .before .before .pending-formed .ensures) (c .before .before .before .if1 .left), refused (c .before .reaches-all .ensures) (c .if2 .taken))
-
-slice-aggregate-reaches-all-2 : tie.Need-slice-aggregate-reaches-all-2
-slice-aggregate-reaches-all-2 c = simp length-take (omega arith)
+    rw (passed (c .before .before .before .pending-formed .ensures) (c .before .before .if1 .left), refused (c .before .reaches-all .ensures) (c .if2 .taken))
 
 reaches-all-requires-2 : tie.Need-reaches-all-requires-2
 reaches-all-requires-2 c κs = search needs
 
 returns-3 : tie.Need-returns-3
 returns-3 c =
-    rw (passed (c .before .before .before .before .before .before .pending-formed .ensures) (c .before .before .before .before .before .if1 .left), passed (c .before .before .before .reaches-all .ensures) (c .before .before .if2 .left))
-    (c .reaches-all2 .ensures)
+    let formed = passed (c .before .before .before .before .pending-formed .ensures) (c .before .before .before .if1 .left) in
+    rw (formed, passed (c .before .before .reaches-all .ensures) (c .before .if2 .left)) (c .reaches-all2 .ensures)
 
 pub queue-formed-spec : {M : Type 1} → statement M
 queue-formed-spec =
@@ -62,12 +53,9 @@ queue-formed-spec =
     slice-aggregate-pending-formed-3
     slice-aggregate-pending-formed-4
     slice-aggregate-pending-formed-5
-    slice-aggregate-pending-formed-6
     pending-formed-requires
     returns
-    slice-aggregate-reaches-all
     reaches-all-requires
     returns-2
-    slice-aggregate-reaches-all-2
     reaches-all-requires-2
     returns-3)

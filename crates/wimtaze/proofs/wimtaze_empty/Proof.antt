@@ -9,6 +9,9 @@ use Rattle.effects.specs.Effects.{quiet, turned}
 use Rattle.woot.specs.State.{initial}
 use Rattle.saved.specs.Calls.{bytesOf}
 use Rattle.wimtaze.specs.Calls.{beginning}
+use Rattle.woot.specs.Memory.{replicaWellFormed}
+use Rattle.replica.proofs.Runs.{initial-within}
+use Rattle.replica.proofs.Kept.{empty-replica-formed}
 use Rattle.wimtaze.proofs.Bridging.{stored-bytes}
 use borrow.Author.Needs.{needs}
 use Rattle.wimtaze.proofs.wimtaze_empty.Statement.{statement}
@@ -39,7 +42,10 @@ empty-requires : tie.Need-empty-requires
 empty-requires c κs = search needs
 
 save-requires : tie.Need-save-requires
-save-requires c κs = search needs
+unfolding siteNumber within
+save-requires c κs =
+    let n : ℕ = c .before .before .before .before .before .args .number in
+    ap replicaWellFormed (c .before .empty .ensures) ∙ empty-replica-formed n ∙ rw (le-leb 1 n (omega arith), le-leb n 16 (omega arith)) refl
 
 same-length : tie.Need-same-length
 same-length c = search needs
@@ -48,7 +54,7 @@ returns-3 : tie.Need-returns-3
 unfolding beginning siteNumber within decided
 returns-3 c =
     let n : ℕ = c .before .before .before .before .before .before .before .before .args .number in
-    let bytes = ap bytesOf (c .before .before .before .before .empty .ensures) ∙ stored-bytes (initial n) in
+    let bytes = ap bytesOf (c .before .before .before .before .empty .ensures) ∙ stored-bytes (initial n) (initial-within n) in
     rw (le-leb 1 n (omega arith), le-leb n 16 (omega arith), ← bytes) (c .before .before .save .ensures)
 
 pub wimtaze-empty-spec : {M : Type 1} → statement M

@@ -1,15 +1,12 @@
 -- `wimtaze::wimtaze_erase` meets its contract: what the reader refuses is refused, and in what it reads a character is deleted.
 use mathlib.Core.Path.{refl, sym, ap, _∙_}
-use Rattle.woot.specs.declared.Replica.{Replica}
 use Rattle.woot.specs.declared.Generated.{Generated}
-use Rattle.storage.specs.Replicas.{deleted}
 use Rattle.effects.specs.Effects.{quiet, turned}
 use Rattle.effects.specs.Steps.{generatedLeft}
-use Rattle.saved.specs.Calls.{loadedAs}
 use Rattle.wimtaze.specs.Calls.{deletingHere}
 use Rattle.wimtaze.proofs.Refusals.{refused-alone, passed}
 use Rattle.effects.proofs.Outputs.{carried, turned-away}
-use Rattle.wimtaze.proofs.Bridging.{goes-on, erase-bridge}
+use Rattle.wimtaze.proofs.Bridging.{goes-on, erase-bridge, delete-sendable}
 use borrow.Author.Needs.{needs}
 use Rattle.wimtaze.proofs.wimtaze_erase.Statement.{statement}
 use Rattle.wimtaze.proofs.wimtaze_erase.Tie as tie
@@ -30,7 +27,7 @@ delete-requires : tie.Need-delete-requires
 delete-requires c κs = search needs
 
 send-requires : tie.Need-send-requires
-send-requires c κs = search needs
+send-requires c κs = delete-sendable _ _ (c .before .before .delete .ensures)
 
 returns : tie.Need-returns
 unfolding deletingHere turned quiet
@@ -44,12 +41,11 @@ same-length-2 : tie.Need-same-length-2
 same-length-2 c = search needs
 
 returns-2 : tie.Need-returns-2
-unfolding deletingHere loadedAs
+unfolding deletingHere
 returns-2 c =
     let a = c .before .before .before .before .before .before .before .before .before .before .before .before .before .before .before .args in
     let p = passed _ _ (c .before .before .before .before .before .before .before .before .before .before .before .read .ensures) (c .before .before .before .before .before .before .before .before .before .enum-told .given .1) in
-    let g = c .before .before .before .before .before .before .before .delete .ensures ∙ ap (λ (r : Replica). deleted r (a .index)) (p .1) in
-    carried (goes-on _ _ _ (p .0) ∙ erase-bridge _ _ _ _ ∙ ap (λ (x : Generated). generatedLeft x (a .out .now) (a .line-out .now)) (sym g)) (c .before .before .before .before .send .ensures)
+    carried (goes-on _ _ _ (p .0) ∙ erase-bridge _ _ (p .1) _ _ _ ∙ ap (λ (x : Generated). generatedLeft x (a .out .now) (a .line-out .now)) (sym (c .before .before .before .before .before .before .before .delete .ensures))) (c .before .before .before .before .send .ensures)
 
 pub wimtaze-erase-spec : {M : Type 1} → statement M
 wimtaze-erase-spec =

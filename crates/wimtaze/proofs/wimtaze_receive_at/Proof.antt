@@ -4,7 +4,6 @@ use mathlib.Core.Option.{some}
 use Rattle.woot.specs.declared.Moved.{Moved}
 use Rattle.effects.specs.Effects.{quiet, turned}
 use Rattle.effects.specs.Steps.{movedLeft}
-use Rattle.saved.specs.Calls.{loadedAs}
 use Rattle.wimtaze.specs.Calls.{receivingLineAt}
 use Rattle.wimtaze.proofs.Refusals.{refused-line, refused-beside, passed-beside}
 use Rattle.effects.proofs.Outputs.{carried, turned-away}
@@ -61,12 +60,12 @@ same-length : tie.Need-same-length
 same-length c = search needs
 
 returns-3 : tie.Need-returns-3
-unfolding receivingLineAt loadedAs
+unfolding receivingLineAt
 returns-3 c =
     let out = c .before .before .before .before .before .before .before .before .before .before .before .before .before .before .before .args .out .now in
     let read = sym (c .before .before .before .before .before .before .before .before .before .before .read-one .ensures) ∙ c .before .before .before .before .before .before .before .before .said2 .given .1 in
     let p = passed-beside _ _ (c .before .before .before .before .before .before .before .before .before .before .before .read .ensures) _ _ _ _ read (c .before .before .before .before .before .enum-told .given .1) in
-    carried (goes-on _ _ _ (p .0) ∙ receive-bridge _ out _ _ (p .1) ∙ ap (λ (x : Moved). movedLeft x out) (p .2)) (c .before .before .receive-at .ensures)
+    carried (goes-on _ _ _ (p .0) ∙ receive-bridge _ _ (p .3) out _ _ (p .1) ∙ ap (λ (x : Moved). movedLeft x out) (p .2)) (c .before .before .receive-at .ensures)
 
 pub wimtaze-receive-at-spec : {M : Type 1} → statement M
 wimtaze-receive-at-spec =

@@ -5,21 +5,19 @@ use mathlib.Core.Path.{_≡_, refl, sym, ap, _∙_}
 use mathlib.Core.Bool.{Bool, true}
 use mathlib.Core.Option.{some}
 use borrow.Author.Tests.{not-true, not-false}
-use Rattle.woot.specs.declared.Replica.{Replica}
 use Rattle.woot.specs.declared.Generated.{Generated}
 use Rattle.woot.specs.Limits.{lastSite, lastClock}
 use Rattle.woot.specs.Ranges.{within, siteNumber, characterId}
 use Rattle.woot.specs.Answers.{first}
 use Rattle.lists.proofs.Tests.{and-left, and-right}
 use Rattle.convergence.proofs.Ranges.{within-high}
-use Rattle.storage.specs.Replicas.{restored}
+use Rattle.woot.specs.Replicas.{restored}
 use Rattle.effects.specs.Effects.{quiet, turned}
 use Rattle.effects.specs.Steps.{generatedLeft}
-use Rattle.saved.specs.Calls.{loadedAs}
 use Rattle.wimtaze.specs.Calls.{inputChecks, named, restoringHere}
 use Rattle.wimtaze.proofs.Refusals.{refused-alone, passed, refused-range}
 use Rattle.effects.proofs.Outputs.{carried, turned-away}
-use Rattle.wimtaze.proofs.Bridging.{goes-on, restore-bridge}
+use Rattle.wimtaze.proofs.Bridging.{goes-on, restore-bridge, restore-sendable}
 use borrow.Author.Needs.{needs}
 use Rattle.wimtaze.proofs.wimtaze_restore.Statement.{statement}
 use Rattle.wimtaze.proofs.wimtaze_restore.Tie as tie
@@ -68,7 +66,7 @@ restore-requires : tie.Need-restore-requires
 restore-requires c κs = search needs
 
 send-requires : tie.Need-send-requires
-send-requires c κs = search needs
+send-requires c κs = restore-sendable _ _ (c .before .before .restore .ensures)
 
 returns-2 : tie.Need-returns-2
 unfolding restoringHere turned quiet
@@ -85,14 +83,14 @@ same-length-2 : tie.Need-same-length-2
 same-length-2 c = search needs
 
 returns-3 : tie.Need-returns-3
-unfolding restoringHere loadedAs
+unfolding restoringHere
 returns-3 c =
     let a = c .before .before .before .before .before .before .before .before .before .before .before .before .before .before .before .before .before .before .args in
     let in-range = sym (c .before .before .before .before .before .before .before .before .before .before .before .before .before .names-character .ensures) ∙ not-false _ (c .before .before .before .before .before .before .before .before .before .before .before .before .if1 .left) in
     let p = passed _ _ (c .before .before .before .before .before .before .before .before .before .before .before .before .before .before .read .ensures) (c .before .before .before .before .before .before .before .before .before .before .enum-told .given .1) in
-    let g = c .before .before .before .before .before .before .before .restore .ensures ∙ ap (restored _) (c .before .before .before .before .before .before .before .before .identifier .ensures) ∙ ap (λ (r : Replica). restored r (named (a .site) (a .clock))) (p .1) in
+    let g = c .before .before .before .before .before .before .before .restore .ensures ∙ ap (restored _) (c .before .before .before .before .before .before .before .before .identifier .ensures) in
     carried
-    (goes-on _ _ _ (ap (λ (b : Bool). first (inputChecks (a .bytes .now) true b)) in-range ∙ p .0) ∙ restore-bridge _ _ _ _ in-range ∙ ap (λ (x : Generated). generatedLeft x (a .out .now) (a .line-out .now)) (sym g))
+    (goes-on _ _ _ (ap (λ (b : Bool). first (inputChecks (a .bytes .now) true b)) in-range ∙ p .0) ∙ restore-bridge _ _ (p .1) _ _ _ in-range ∙ ap (λ (x : Generated). generatedLeft x (a .out .now) (a .line-out .now)) (sym g))
     (c .before .before .before .before .send .ensures)
 
 pub wimtaze-restore-spec : {M : Type 1} → statement M

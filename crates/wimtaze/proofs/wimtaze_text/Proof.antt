@@ -1,10 +1,7 @@
 -- `wimtaze::wimtaze_text` meets its contract: what the reader refuses is refused, and what it reads is shown.
-use mathlib.Core.Path.{refl, sym, ap, _∙_}
+use mathlib.Core.Path.{refl, _∙_}
 use mathlib.Core.List.{[]}
-use Rattle.woot.specs.declared.Replica.{Replica}
-use Rattle.effects.specs.Steps.{textLeft}
 use Rattle.effects.specs.Effects.{quiet, turned}
-use Rattle.saved.specs.Calls.{loadedAs}
 use Rattle.wimtaze.specs.Calls.{showingText}
 use Rattle.wimtaze.proofs.Refusals.{refused-alone, passed}
 use Rattle.effects.proofs.Outputs.{carried, turned-away}
@@ -37,11 +34,11 @@ same-length : tie.Need-same-length
 same-length c = search needs
 
 returns-2 : tie.Need-returns-2
-unfolding showingText loadedAs
+unfolding showingText
 returns-2 c =
     let out = c .before .before .before .before .before .before .before .before .before .before .args .out .now in
     let p = passed _ _ (c .before .before .before .before .before .before .before .read .ensures) (c .before .before .before .before .before .enum-told .given .1) in
-    carried (goes-on out [] _ (p .0) ∙ text-bridge _ out ∙ ap (λ (r : Replica). textLeft r out) (sym (p .1))) (c .before .before .show .ensures)
+    carried (goes-on out [] _ (p .0) ∙ text-bridge _ _ (p .1) out) (c .before .before .show .ensures)
 
 pub wimtaze-text-spec : {M : Type 1} → statement M
 wimtaze-text-spec =

@@ -3,17 +3,14 @@ use mathlib.Core.Path.{refl, sym, ap, _∙_}
 use mathlib.Core.Bool.{Bool, true}
 use mathlib.Core.Option.{some}
 use borrow.Author.Tests.{not-true, not-false}
-use Rattle.woot.specs.declared.Replica.{Replica}
 use Rattle.woot.specs.declared.Generated.{Generated}
 use Rattle.woot.specs.Answers.{first}
-use Rattle.storage.specs.Replicas.{inserted}
 use Rattle.effects.specs.Effects.{quiet, turned}
 use Rattle.effects.specs.Steps.{generatedLeft}
-use Rattle.saved.specs.Calls.{loadedAs}
 use Rattle.wimtaze.specs.Calls.{inputChecks, insertingHere}
 use Rattle.wimtaze.proofs.Refusals.{refused-alone, passed, refused-range}
 use Rattle.effects.proofs.Outputs.{carried, turned-away}
-use Rattle.wimtaze.proofs.Bridging.{goes-on, type-bridge}
+use Rattle.wimtaze.proofs.Bridging.{goes-on, type-bridge, insert-sendable}
 use borrow.Author.Needs.{needs}
 use Rattle.wimtaze.proofs.wimtaze_type.Statement.{statement}
 use Rattle.wimtaze.proofs.wimtaze_type.Tie as tie
@@ -51,7 +48,7 @@ insert-requires : tie.Need-insert-requires
 insert-requires c κs = search needs
 
 send-requires : tie.Need-send-requires
-send-requires c κs = search needs
+send-requires c κs = insert-sendable _ _ _ (c .before .before .insert .ensures)
 
 returns-2 : tie.Need-returns-2
 unfolding insertingHere turned quiet
@@ -68,14 +65,13 @@ same-length-2 : tie.Need-same-length-2
 same-length-2 c = search needs
 
 returns-3 : tie.Need-returns-3
-unfolding insertingHere loadedAs
+unfolding insertingHere
 returns-3 c =
     let a = c .before .before .before .before .before .before .before .before .before .before .before .before .before .before .before .before .before .args in
     let in-range = sym (c .before .before .before .before .before .before .before .before .before .before .before .before .code-point .ensures) ∙ not-false _ (c .before .before .before .before .before .before .before .before .before .before .before .if1 .left) in
     let p = passed _ _ (c .before .before .before .before .before .before .before .before .before .before .before .before .before .read .ensures) (c .before .before .before .before .before .before .before .before .before .enum-told .given .1) in
-    let g = c .before .before .before .before .before .before .before .insert .ensures ∙ ap (λ (r : Replica). inserted r (a .point) (a .code-point)) (p .1) in
     carried
-    (goes-on _ _ _ (ap (λ (b : Bool). first (inputChecks (a .bytes .now) true b)) in-range ∙ p .0) ∙ type-bridge _ _ _ _ _ in-range ∙ ap (λ (x : Generated). generatedLeft x (a .out .now) (a .line-out .now)) (sym g))
+    (goes-on _ _ _ (ap (λ (b : Bool). first (inputChecks (a .bytes .now) true b)) in-range ∙ p .0) ∙ type-bridge _ _ (p .1) _ _ _ _ in-range ∙ ap (λ (x : Generated). generatedLeft x (a .out .now) (a .line-out .now)) (sym (c .before .before .before .before .before .before .before .insert .ensures)))
     (c .before .before .before .before .send .ensures)
 
 pub wimtaze-type-spec : {M : Type 1} → statement M

@@ -1,37 +1,42 @@
--- `transcript::report::list` meets its contract, by the invariant of `proofs/Listings.antt`.
-use mathlib.Core.Path.{_≡_, sym, _∙_}
+-- `transcript::report::list` meets its contract, by the invariant of `proofs/Listings.antt`: it holds of any characters
+-- that have these code points and counts of toggles.
+use mathlib.Core.Path.{_≡_, ap, _∙_}
 use mathlib.Core.Logic.{⊎-elim}
+use mathlib.Core.List.{List}
 use Prim.Native.Nat.{_-_, _≤_}
 use native.Mathlib.Omega.{arith}
 use borrow.Author.Needs.{needs}
-use lib.ListN.{length}
-use Rattle.transcript.proofs.Listings.{Gathered, gathered-none, gathered-visible, gathered-hidden, gathered-all}
+use lib.ListN.{length, take, length-set}
+use Rattle.woot.specs.declared.Character.{Character}
+use Rattle.woot.specs.Memory.{codePoints, toggleCounts}
+use Rattle.transcript.proofs.Listings.{Gathered, gathered-none, gathered-shown, gathered-not, gathered-whole}
 use Rattle.transcript.proofs.report.list.Statement.{statement}
 use Rattle.transcript.proofs.report.list.Tie as tie
 
 abbrev Inv-loop : tie.InvT-loop
-Inv-loop n cs values₀ count₀ i₀ values count i = (i ≤ n) × (length cs ≡ 1024) × Gathered cs values count i
+Inv-loop points toggles n values₀ count₀ i₀ values count i =
+    (i ≤ n) × (count ≤ i) × (length values ≡ 1025) × ((cs : List Character) → codePoints cs ≡ take n points → toggleCounts cs ≡ take n toggles → Gathered cs values count i)
 
 abbrev μ-loop : tie.MeasureT-loop
-μ-loop n cs values₀ count₀ i₀ values count i = n - i
+μ-loop points toggles n values₀ count₀ i₀ values count i = n - i
 
 loop-holds : tie.Need-loop-holds Inv-loop μ-loop
-loop-holds c = (omega arith, c .good .0 .1 .0 .1, gathered-none _)
+loop-holds c = (omega arith, omega arith, search needs, λ cs p t. gathered-none cs)
 
-mul-character : tie.Need-mul-character Inv-loop μ-loop
-mul-character c = omega arith
-
-array-copy-out-character : tie.Need-array-copy-out-character Inv-loop μ-loop
-array-copy-out-character c = omega arith
-
-is-visible-requires : tie.Need-is-visible-requires Inv-loop μ-loop
-is-visible-requires c κs = search needs
+shared-slice-read-if1 : tie.Need-shared-slice-read-if1 Inv-loop μ-loop
+shared-slice-read-if1 c = omega arith
 
 add-count : tie.Need-add-count Inv-loop μ-loop
 add-count c = omega arith
 
-code-point-requires : tie.Need-code-point-requires Inv-loop μ-loop
-code-point-requires c κs = search needs
+mul-wide : tie.Need-mul-wide Inv-loop μ-loop
+mul-wide c = omega arith
+
+shared-slice-read-wide : tie.Need-shared-slice-read-wide Inv-loop μ-loop
+shared-slice-read-wide c = omega arith
+
+wide-requires : tie.Need-wide-requires Inv-loop μ-loop
+wide-requires c κs = search needs
 
 mul-values : tie.Need-mul-values Inv-loop μ-loop
 mul-values c = omega arith
@@ -47,18 +52,38 @@ loop-less c = omega arith
 
 loop-again : tie.Need-loop-again Inv-loop μ-loop
 loop-again c =
-    let a = c .before .before .before .before .before .args in
-    let l = c .before .before .before .before .loop in
-    let asked = sym (c .before .is-visible .ensures) in
-    (omega arith, l .inv .1, ⊎-elim (λ w. rw (w .2, w .3, w .1 .ensures) (gathered-visible (a .t1) _ _ _ (l .inv .2) _ (omega arith) (omega arith) (asked ∙ w .0 .taken))) (λ w. rw (w .1, w .2) (gathered-hidden (a .t1) _ _ _ (l .inv .2) _ (omega arith) (asked ∙ w .0 .left))) (c .if1 .came))
+    let start = c .before .before .before .before .before .before in
+    let a = start .args in
+    let l = c .before .before .before .loop in
+    let s = start .pre in
+    ⊎-elim
+    (λ w. (
+      omega arith,
+      omega arith,
+      ap length (w .3) ∙ length-set (l .values) _ _ ∙ l .inv .2,
+      λ cs p t.
+          rw (w .3, w .4, w .2 .ensures)
+          (gathered-shown cs (a .«code-points» .now) (a .toggles .now) (a .n) (l .i) p t (omega arith) (omega (arith, s .1 .0)) (omega (arith, s .1 .1)) _ _ (l .inv .3 cs p t) (omega arith) (w .0 .taken)),
+    ))
+    (λ w. (
+      omega arith,
+      omega arith,
+      ap length (w .1) ∙ l .inv .2,
+      λ cs p t.
+          rw (w .1, w .2)
+          (gathered-not cs (a .«code-points» .now) (a .toggles .now) (a .n) (l .i) p t (omega arith) (omega (arith, s .1 .0)) (omega (arith, s .1 .1)) _ _ (l .inv .3 cs p t) (w .0 .left)),
+    ))
+    (c .if1 .came)
 
 array-write-values-2 : tie.Need-array-write-values-2 Inv-loop μ-loop
 array-write-values-2 c = omega arith
 
 returns : tie.Need-returns Inv-loop μ-loop
 returns c =
-    let all : c .before .loop .i ≡ c .before .before .args .n = omega arith in
-    rw (← all) (gathered-all _ _ _ _ (c .before .loop .inv .2))
+    let start = c .before .before .before .before in
+    let a = start .args in
+    let s = start .pre in
+    (λ cs p t. gathered-whole cs (a .«code-points» .now) (a .n) p (omega (arith, s .1 .0)) _ _ _ (omega arith) (c .before .loop .inv .3 cs p t), (omega (arith, s .0), length-set (c .before .loop .values) _ _ ∙ c .before .loop .inv .2))
 
 pub list-spec : {M : Type 1} → statement M
 list-spec =
@@ -67,11 +92,11 @@ list-spec =
     Inv-loop
     μ-loop
     loop-holds
-    mul-character
-    array-copy-out-character
-    is-visible-requires
+    shared-slice-read-if1
     add-count
-    code-point-requires
+    mul-wide
+    shared-slice-read-wide
+    wide-requires
     mul-values
     array-write-values
     add-i

@@ -1,4 +1,0 @@
-pub mod Works
-pub mod Changes
-pub mod Stepping
-pub mod Carrying

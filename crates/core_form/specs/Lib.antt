@@ -1,4 +1,0 @@
-pub mod Order
-pub mod PendingForm
-pub mod Form
-pub mod Examined

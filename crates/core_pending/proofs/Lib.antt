@@ -1,3 +1,0 @@
-pub mod Searches
-pub mod Pending
-pub mod Earliest

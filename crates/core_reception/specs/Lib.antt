@@ -1,2 +1,0 @@
-pub mod Holder
-pub mod Decisions

@@ -1,0 +1,64 @@
+-- `decide_insert` goes by what the insert is to the replica, and then by its place.
+use native.Mathlib.Omega.{arith}
+use mathlib.Core.Path.{sym, _∙_}
+use borrow.Author.Needs.{needs}
+use Rattle.well_formed.proofs.Examining.{few, small, ids-used, previous-used, next-used, examined-tabled}
+use Rattle.reception.proofs.Inserting.{seen-new, placed-decided, same-decided, other-decided}
+use Rattle.reception.proofs.decide_insert.Statement.{statement}
+use Rattle.reception.proofs.decide_insert.Tie as tie
+
+seen-by-requires : tie.Need-seen-by-requires
+seen-by-requires c κs = search needs
+
+enum-told : tie.Need-enum-told
+enum-told c = search needs
+
+find-place-requires : tie.Need-find-place-requires
+find-place-requires c κs =
+    let x = c .before .before .before .before .before .before .before .before .before .before .before .before .before .before .pre .0 in
+    let n = few _ x in
+    (omega (arith, x .ids), (omega (arith, x .previous), (omega (arith, x .next), examined-tabled _ x)))
+
+placed-requires : tie.Need-placed-requires
+placed-requires c κs =
+    let x = c .before .before .before .before .before .before .before .before .before .before .before .before .before .before .before .pre .0 in
+    let n = few _ x in
+    (omega (arith, x .own), omega (arith, x .values))
+
+enum-told-2 : tie.Need-enum-told-2
+enum-told-2 c = search needs
+
+enum-told-3 : tie.Need-enum-told-3
+enum-told-3 c = search needs
+
+returns : tie.Need-returns
+returns c =
+    let s = c .before .before .before .before .before .before .before .before .before .before .before .before .before .before .before .before in
+    let x = s .pre .0 in
+    let new = seen-new _ x _ (s .pre .1) (sym (c .before .before .before .before .seen-by .ensures) ∙ c .before .before .enum-told .given .1) in
+    let place = c .before .find-place .ensures _ (ids-used _ x) (previous-used _ x) (next-used _ x) (small _ x) in
+    rw (c .placed .ensures) (placed-decided _ x _ new _ place)
+
+returns-2 : tie.Need-returns-2
+returns-2 c =
+    let s = c .before .before .before .before .before .before .before .before .before .before .before .before .before .before in
+    same-decided _ (s .pre .0) _ (s .pre .1) (sym (c .before .before .seen-by .ensures) ∙ c .enum-told2 .given .1)
+
+returns-3 : tie.Need-returns-3
+returns-3 c =
+    let s = c .before .before .before .before .before .before .before .before .before .before .before .before .before .before in
+    other-decided _ (s .pre .0) _ (s .pre .1) (sym (c .before .before .seen-by .ensures) ∙ c .enum-told3 .given .1)
+
+pub decide-insert-spec : {M : Type 1} → statement M
+decide-insert-spec =
+    tie.close
+    (tie.spec
+    seen-by-requires
+    enum-told
+    find-place-requires
+    placed-requires
+    enum-told-2
+    enum-told-3
+    returns
+    returns-2
+    returns-3)

@@ -1,0 +1,125 @@
+// Who has an identifier, whether a toggle is pending, and what a received insert is beside the one that has its
+// identifier: numbers are compared, and nothing is decoded.
+use index::Found;
+use index::table;
+use pending::counts;
+use woot::Insert;
+use woot::Toggle;
+ghost use mathlib.Core.Path.{_≡_};
+ghost use Prim.Native.Nat.{_≤_, _<_};
+ghost use lib.ListN.{length, take};
+ghost use Rattle.woot.specs.declared.Operation.the-variants.{Toggle as ofToggle};
+ghost use Rattle.woot.specs.Operations.{origin, sameInsert};
+ghost use Rattle.woot.specs.Table.{key};
+ghost use Rattle.woot.specs.Memory.{characterOf, valueOf};
+ghost use Rattle.index.specs.Tabled.{Tabled};
+ghost use Rattle.pending.specs.Counts.{hasToggle};
+ghost use Rattle.reception.specs.Holder.{holderIn, insertIn, comparedTo};
+
+// Who has an identifier: the character or the pending insert in a slot, or nobody.
+pub enum Holder {
+    Character(usize),
+    Pending(usize),
+    Nobody,
+}
+
+// What a received insert is beside those that the replica has: new, the same as one, or another with its identifier.
+pub enum Seen {
+    New,
+    Same,
+    Other,
+}
+
+// Who has the key, among the keys of n characters and of w pending operations. A step of the calls and not a call: they
+// have a table of the characters' keys.
+pub fn holder_of<'a>(
+    heads: &'a [u16],
+    links: &'a [u16],
+    ids: &'a [u32],
+    n: usize,
+    own: &'a [u32],
+    w: usize,
+    key: u32,
+) -> Holder
+    requires { ⌜ n ≤ length (now ids) ⌝ }
+    requires { ⌜ w ≤ length (now own) ⌝ }
+    requires { ⌜ Tabled (record { heads = now heads; links = now links }) (take n (now ids)) ⌝ }
+    ensures { λ r. ⌜ r ≡ holderIn (take n (now (ids .entry))) (take w (now (own .entry))) key ⌝ }
+{
+    match table::find_among(heads, links, ids, n, key) {
+        Found::At(k) => Holder::Character(k),
+        Found::Nothing => match index::find(&own[..w], key) {
+            Found::At(j) => Holder::Pending(j),
+            Found::Nothing => Holder::Nobody,
+        },
+    }
+}
+
+// Whether an equal toggle is among w pending operations. A step of the calls and not a call: they lend arrays of these
+// sizes.
+pub fn is_pending<'a>(
+    own: &'a [u32],
+    first: &'a [u32],
+    values: &'a [u32],
+    w: usize,
+    toggle: Toggle,
+) -> bool
+    requires { ⌜ w ≤ length (now own) ⌝ }
+    requires { ⌜ w ≤ length (now first) ⌝ }
+    requires { ⌜ w ≤ length (now values) ⌝ }
+    ensures { λ r. ⌜ r
+        ≡ hasToggle (key (toggle .target)) (valueOf (ofToggle toggle))
+        (take w (now (own .entry))) (take w (now (first .entry))) (take w (now (values .entry))) ⌝ }
+{
+    let target = toggle.target;
+    counts::has_toggle(
+        &own[..w],
+        &first[..w],
+        &values[..w],
+        index::key(target),
+        memory::stamp(toggle),
+    )
+}
+
+// Whether an insert has these numbers.
+fn same_insert(id: u32, previous: u32, next: u32, code_point: u32, insert: Insert) -> bool
+    ensures { λ r. ⌜ r ≡ sameInsert insert (origin (characterOf id previous next «code_point» 0)) ⌝ }
+{
+    let own = insert.id;
+    if index::key(own) != id {
+        return false;
+    }
+    if insert.code_point != code_point {
+        return false;
+    }
+    let above = insert.previous;
+    if index::key(above) != previous {
+        return false;
+    }
+    let below = insert.next;
+    index::key(below) == next
+}
+
+// What an insert is beside the one in a slot, which has its identifier. The arrays are those of the characters, or
+// those of the pending operations. A step of the calls and not a call: they have found the slot.
+pub fn compared<'a>(
+    ids: &'a [u32],
+    previous: &'a [u32],
+    next: &'a [u32],
+    code_points: &'a [u32],
+    k: usize,
+    insert: Insert,
+) -> Seen
+    requires { ⌜ k < length (now ids) ⌝ }
+    requires { ⌜ k < length (now previous) ⌝ }
+    requires { ⌜ k < length (now next) ⌝ }
+    requires { ⌜ k < length (now «code_points») ⌝ }
+    ensures { λ r. ⌜ r
+        ≡ comparedTo insert (insertIn (now (ids .entry)) (now (previous .entry)) (now (next .entry))
+        (now («code_points» .entry)) k) ⌝ }
+{
+    if same_insert(ids[k], previous[k], next[k], code_points[k], insert) {
+        return Seen::Same;
+    }
+    Seen::Other
+}

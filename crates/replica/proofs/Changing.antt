@@ -1,0 +1,114 @@
+-- What a change asks of a replica that was examined, and what its arrays hold afterwards.
+use Prim.Native.Nat.{ℕ, suc, _+_, _≤_, _<_}
+use native.Mathlib.Omega.{arith}
+use native.Mathlib.Numerals.{one-add}
+use native.Mathlib.Nat.{zero-add}
+use mathlib.Core.Path.{_≡_, refl, ap, sym, _∙_}
+use mathlib.Core.List.{List, [], _∷_, _++_}
+use lib.ListN.{length}
+use Rattle.woot.specs.declared.Site.{Site}
+use Rattle.woot.specs.declared.Insert.{Insert}
+use Rattle.woot.specs.declared.Toggle.{Toggle}
+use Rattle.woot.specs.declared.Operation.{Operation}
+use Rattle.woot.specs.declared.Operation.the-variants.{Insert as insert, Toggle as toggle}
+use Rattle.woot.specs.declared.Answer.{Answer}
+use Rattle.woot.specs.Operations.{inserts}
+use Rattle.woot.specs.Clock.{heard, heardAll}
+use Rattle.woot.specs.Placing.{integrateInsert, integrateToggle}
+use Rattle.woot.specs.Calls.{allIntegrated, insertCarried, afterDrain, withCharacters, withPending, carryOut, defer}
+use Rattle.memory.specs.Columns.{Document, Replica, meaning, stored, documentOf, charactersIn, operationsIn}
+use Rattle.well_formed.specs.Examined.{Examined}
+use Rattle.well_formed.proofs.Examining.{few, form, characters-counted, pending-counted}
+use Rattle.delivery.specs.Work.{Slots, Lent, Work, workOf, finished, Placed as Placeable, Targeted}
+use Rattle.reception.specs.Decisions.{Placed, Target}
+use Rattle.reception.specs.declared.Decision.the-variants.{Answered, Defer, Place, Toggle as toggleAt}
+use Rattle.replica.specs.Outcomes.{Executed, Feasible, Left, leftOf, leftBy}
+
+module _ (r : Replica) (e : Examined r) where
+  slots : Slots (r .document)
+  slots =
+      record {
+        ids = e .ids;
+        previous = e .previous;
+        next = e .next;
+        points = e .points;
+        toggles = e .toggles;
+        own = e .own;
+        first = e .first;
+        second = e .second;
+        values = e .values;
+        heads = e .heads;
+        links = e .links;
+      }
+
+  lent : Lent (r .document)
+  unfolding meaning
+  lent =
+      let f = few r e in
+      record { slots = slots; few = f .characters; few-pending = f .pending; ranged = form r e .sound .pending-ranges }
+
+-- ---- what is asked
+
+module _ (r : Replica) where
+  pub defer-lent : (o : Operation) → Feasible r o Defer → Lent (r .document)
+  unfolding Feasible
+  defer-lent o h = lent r (h .0)
+
+  pub defer-slot : (o : Operation) → Feasible r o Defer → r .document .waiting < 512
+  unfolding Feasible
+  defer-slot o h = omega (arith, h .1, pending-counted r (h .0))
+
+  pub placeable : (i : Insert) (k : ℕ) → Feasible r (insert i) (Place k) → Placeable (r .document) i k
+  unfolding Feasible Executed meaning
+  placeable i k h =
+      let p = h .1 in
+      record {
+        lent = lent r (h .0);
+        place = omega (arith, p .place, characters-counted r (h .0));
+        room = omega (arith, p .room, characters-counted r (h .0));
+        result = p .result;
+        sound = p .sound;
+      }
+
+  pub targeted : (t : Toggle) (k : ℕ) → Feasible r (toggle t) (toggleAt k) → Targeted (r .document) t k
+  unfolding Feasible Executed meaning
+  targeted t k h = record { lent = lent r (h .0); place = h .1 .at; apart = h .1 .apart }
+
+  -- what cannot be
+  pub no-place : {A : Type 0} (t : Toggle) (k : ℕ) → Feasible r (toggle t) (Place k) → A
+  unfolding Feasible Executed
+  no-place t k h = absurd h
+
+  pub no-target : {A : Type 0} (i : Insert) (k : ℕ) → Feasible r (insert i) (toggleAt k) → A
+  unfolding Feasible Executed
+  no-target i k h = absurd h
+
+  -- ---- what is left
+
+  pub answered-left : (o : Operation) (a : Answer) → _≡_ {A = Left} (record { replica = r; integrated = 0; discarded = 0 }) (leftBy r o (Answered a))
+  unfolding leftBy
+  answered-left o a = refl
+
+  module _ (d : Document) (t : Site) where
+    pub deferred-left : (o : Operation) → t ≡ heardAll (r .site) (inserts (o ∷ []))
+        → d ≡ documentOf (charactersIn (r .document)) (operationsIn (r .document) ++ o ∷ [])
+        → _≡_ {A = Left} (record { replica = record { site = t; document = d }; integrated = 0; discarded = 0 }) (leftBy r o Defer)
+    unfolding leftBy leftOf defer withPending stored meaning allIntegrated
+    deferred-left o h e = λ j. record { replica = record { site = h j; document = e j }; integrated = 0; discarded = 0 }
+
+    pub integrated-left : (i : Insert) (k n m : ℕ) → Feasible r (insert i) (Place k) → t ≡ heard (r .site) i
+        → _≡_ {A = Work} (record { document = d; integrated = n; discarded = m }) (finished (integrateInsert (charactersIn (r .document)) i) (operationsIn (r .document)) 1 0)
+        → _≡_ {A = Left} (record { replica = record { site = t; document = d }; integrated = n; discarded = m }) (leftBy r (insert i) (Place k))
+    unfolding Feasible Executed leftBy leftOf carryOut afterDrain insertCarried stored meaning allIntegrated finished workOf
+    integrated-left i k n m f h e =
+        λ j.
+        record {
+          replica = record { site = (h ∙ sym (f .1 .still)) j; document = ap (λ (w : Work). w .document) e j };
+          integrated = (ap (λ (w : Work). w .integrated) e ∙ one-add _) j;
+          discarded = (ap (λ (w : Work). w .discarded) e ∙ zero-add _) j;
+        }
+
+  pub toggled-left : (d : Document) (x : Toggle) (k : ℕ) → d ≡ documentOf (integrateToggle (charactersIn (r .document)) x) (operationsIn (r .document))
+      → _≡_ {A = Left} (record { replica = record { site = r .site; document = d }; integrated = 1; discarded = 0 }) (leftBy r (toggle x) (toggleAt k))
+  unfolding leftBy leftOf carryOut withCharacters stored meaning allIntegrated
+  toggled-left d x k e = λ j. record { replica = record { site = r .site; document = e j }; integrated = 1; discarded = 0 }

@@ -1,0 +1,168 @@
+-- What a call puts back is the replica that the rules leave, and what it answers is theirs.
+use Prim.Native.Nat.{ℕ}
+use mathlib.Core.Path.{_≡_, refl, ap, sym, _∙_}
+use mathlib.Core.Bool.{false, true≢false}
+use mathlib.Core.List.{List, _++_}
+use lib.ListN.{length}
+use Rattle.woot.specs.declared.Identifier.{Identifier}
+use Rattle.woot.specs.declared.Insert.{Insert}
+use Rattle.woot.specs.declared.Toggle.{Toggle}
+use Rattle.woot.specs.declared.Operation.{Operation}
+use Rattle.woot.specs.declared.Operation.the-variants.{Insert as insert, Toggle as toggle}
+use Rattle.woot.specs.declared.Refusal.{Refusal}
+use Rattle.woot.specs.declared.Answer.{Answer}
+use Rattle.woot.specs.declared.Answer.the-variants.{Done, Deferred, Duplicate, Refused}
+use Rattle.woot.specs.declared.Sent.{Sent}
+use Rattle.woot.specs.declared.Sent.the-variants.{Done as sentDone, Refused as sentRefused}
+use Rattle.woot.specs.declared.Replica.{Replica}
+use Rattle.woot.specs.declared.Receipt.{Receipt}
+use Rattle.woot.specs.declared.Generated.{Generated}
+use Rattle.woot.specs.State.{State}
+use Rattle.woot.specs.Answers.{changes}
+use Rattle.woot.specs.Calls.{Outcome, unchanged, allIntegrated, carryOut, defer, receiveWhen, sendInsert, sendToggle, localInsertWhen, localDeleteWhen, localRestoreWhen}
+use Rattle.woot.specs.Memory as memory
+use Rattle.woot.specs.Replicas.{afterAnswer, afterSent, receipt, generated, received, inserted, deleted, restored}
+use Rattle.memory.specs.Columns as columns
+use Rattle.memory.specs.Lent.{viewed}
+use Rattle.memory.proofs.Fullness.{FullArrays}
+use Rattle.memory.proofs.Views.{columns-whole, flat-path, meaning-view, form-view}
+use Rattle.reception.specs.declared.Decision.{Decision}
+use Rattle.reception.specs.declared.Decision.the-variants.{Answered, Defer, Place, Toggle as toggleAt}
+use Rattle.generation.specs.declared.MadeInsert.the-variants.{Refused as uninserted, Place as insertAt}
+use Rattle.generation.specs.declared.MadeToggle.the-variants.{Refused as untoggled, Toggle as toggledAt}
+use Rattle.replica.specs.Outcomes.{outcomeOf, Executed, Feasible, Judged, InsertJudged, ToggleJudged, Left, leftOf, leftBy, answerBy}
+
+-- ---- arrays that have the columns of others, and of a state
+
+module _ (b : Replica) (full : FullArrays (b .document)) where
+  whole : (s : State) → viewed b ≡ columns.stored s → b ≡ memory.stored s
+  unfolding memory.stored columns.stored
+  whole s e =
+      λ j.
+      record {
+        site = ap (λ (q : columns.Replica). q .site) e j;
+        document = flat-path (s .characters) (s .pending) (b .document) full (ap (λ (q : columns.Replica). q .document) e) j;
+      }
+
+  pub alike : (r : Replica) → FullArrays (r .document) → viewed b ≡ viewed r → b ≡ r
+  alike r also e =
+      λ j.
+      record {
+        site = ap (λ (q : columns.Replica). q .site) e j;
+        document =
+            record {
+              characters =
+                  (sym (columns-whole 1024 (b .document .characters) (full .characters))
+                  ∙ ap (λ (q : columns.Replica). q .document .ids ++ (q .document .previous ++ (q .document .next ++ q .document .«code_points»))) e
+                  ∙ columns-whole 1024 (r .document .characters) (also .characters)) j;
+              toggles = ap (λ (q : columns.Replica). q .document .toggles) e j;
+              length = ap (λ (q : columns.Replica). q .document .length) e j;
+              pending =
+                  (sym (columns-whole 512 (b .document .pending) (full .pending))
+                  ∙ ap (λ (q : columns.Replica). q .document .own ++ (q .document .first ++ (q .document .second ++ q .document .values))) e
+                  ∙ columns-whole 512 (r .document .pending) (also .pending)) j;
+              waiting = ap (λ (q : columns.Replica). q .document .waiting) e j;
+              table = ap (λ (q : columns.Replica). q .document .table) e j;
+            };
+      }
+
+-- ---- receiving
+
+-- an answer that changes nothing is given with the very replica
+same-after : (r : Replica) (s : State) (a : Answer) → changes a ≡ false → r ≡ afterAnswer r s a
+unfolding afterAnswer changes
+same-after r s (Done n m) h = absurd (true≢false h)
+same-after r s Deferred h = absurd (true≢false h)
+same-after r s Duplicate h = refl
+same-after r s (Refused q) h = refl
+
+module _ (r b : Replica) (also : FullArrays (r .document)) (full : FullArrays (b .document)) where
+  answered : (o : Operation) (d : Decision) (n m : ℕ) → Judged (viewed r) o d
+      → _≡_ {A = Left} (record { replica = viewed b; integrated = n; discarded = m }) (leftBy (viewed r) o d)
+      → _≡_ {A = Receipt} (record { answer = answerBy d n m; replica = b }) (receipt r (outcomeOf (columns.meaning (viewed r)) o d))
+  unfolding answerBy outcomeOf leftBy leftOf receipt unchanged defer carryOut allIntegrated afterAnswer Feasible
+  answered o (Answered a) n m h e =
+      λ j. record { answer = a; replica = (alike b full r also (ap (λ (l : Left). l .replica) e) ∙ same-after r (columns.meaning (viewed r)) a (h .feasible)) j }
+  answered o Defer n m h e =
+      λ j. record { answer = Deferred; replica = whole b full _ (ap (λ (l : Left). l .replica) e) j }
+  answered (insert i) (Place k) n m h e =
+      λ j. record { answer = Done (e j .integrated) (e j .discarded); replica = whole b full _ (ap (λ (l : Left). l .replica) e) j }
+  answered (toggle t) (Place k) n m h e =
+      λ j. record { answer = Done (e j .integrated) (e j .discarded); replica = whole b full _ (ap (λ (l : Left). l .replica) e) j }
+  answered (insert i) (toggleAt k) n m h e =
+      λ j. record { answer = Done (e j .integrated) (e j .discarded); replica = whole b full _ (ap (λ (l : Left). l .replica) e) j }
+  answered (toggle t) (toggleAt k) n m h e =
+      λ j. record { answer = Done (e j .integrated) (e j .discarded); replica = whole b full _ (ap (λ (l : Left). l .replica) e) j }
+
+  pub received-so : (o : Operation) (d : Decision) (n m : ℕ) (a : Answer) → a ≡ answerBy d n m → Judged (viewed r) o d
+      → _≡_ {A = Left} (record { replica = viewed b; integrated = n; discarded = m }) (leftBy (viewed r) o d)
+      → _≡_ {A = Receipt} (record { answer = a; replica = b }) (received r o)
+  unfolding received
+  received-so o d n m a g h e =
+      ap (λ (x : Answer). record { answer = x; replica = b }) g
+      ∙ answered o d n m h e
+      ∙ sym (ap (receipt r) (rw (form-view r, meaning-view r) (h .outcome)))
+
+  -- ---- what is made here
+
+  pub sent-so : (o : Operation) (d : Decision) (n m : ℕ) → Executed (viewed r) o d
+      → _≡_ {A = Left} (record { replica = viewed b; integrated = n; discarded = m }) (leftBy (viewed r) o d)
+      → _≡_ {A = Generated} (record { answer = sentDone o n m; replica = b }) (generated r (carryOut (sentDone o) (memory.meaning r) o))
+  unfolding Executed leftBy leftOf generated carryOut allIntegrated afterSent memory.meaning columns.meaning memory.charactersIn columns.charactersIn memory.operationsIn columns.operationsIn
+  sent-so o (Answered a) n m h e = absurd h
+  sent-so o Defer n m h e = absurd h
+  sent-so (insert i) (Place k) n m h e =
+      λ j. record { answer = sentDone (insert i) (e j .integrated) (e j .discarded); replica = whole b full _ (ap (λ (l : Left). l .replica) e) j }
+  sent-so (toggle t) (Place k) n m h e = absurd h
+  sent-so (insert i) (toggleAt k) n m h e = absurd h
+  sent-so (toggle t) (toggleAt k) n m h e =
+      λ j. record { answer = sentDone (toggle t) (e j .integrated) (e j .discarded); replica = whole b full _ (ap (λ (l : Left). l .replica) e) j }
+
+-- what is carried out can be
+pub executed-feasible : (r : Replica) (o : Operation) (d : Decision) → Executed (viewed r) o d → Feasible (viewed r) o d
+unfolding Executed Feasible
+executed-feasible r o (Answered a) h = absurd h
+executed-feasible r o Defer h = absurd h
+executed-feasible r o (Place k) h = h
+executed-feasible r o (toggleAt k) h = h
+
+module _ (r : Replica) (w : Outcome Sent) where
+  pub refused-insert : (q : Refusal) → InsertJudged (viewed r) w (uninserted q) → _≡_ {A = Generated} (record { answer = sentRefused q; replica = r }) (generated r w)
+  unfolding InsertJudged generated unchanged afterSent
+  refused-insert q h = sym (ap (generated r) h)
+
+  pub refused-toggle : (q : Refusal) → ToggleJudged (viewed r) w (untoggled q) → _≡_ {A = Generated} (record { answer = sentRefused q; replica = r }) (generated r w)
+  unfolding ToggleJudged generated unchanged afterSent
+  refused-toggle q h = sym (ap (generated r) h)
+
+  module _ (k : ℕ) (i : Insert) (h : InsertJudged (viewed r) w (insertAt k i)) where
+    pub insert-executed : Executed (viewed r) (insert i) (Place k)
+    unfolding InsertJudged
+    insert-executed = h .1
+
+    pub insert-sent : generated r (carryOut (sentDone (insert i)) (memory.meaning r) (insert i)) ≡ generated r w
+    unfolding InsertJudged sendInsert
+    insert-sent = rw (meaning-view r) (sym (ap (generated r) (h .0)))
+
+  module _ (k : ℕ) (t : Toggle) (h : ToggleJudged (viewed r) w (toggledAt k t)) where
+    pub toggle-executed : Executed (viewed r) (toggle t) (toggleAt k)
+    unfolding ToggleJudged
+    toggle-executed = h .1
+
+    pub toggle-sent : generated r (carryOut (sentDone (toggle t)) (memory.meaning r) (toggle t)) ≡ generated r w
+    unfolding ToggleJudged sendToggle
+    toggle-sent = rw (meaning-view r) (sym (ap (generated r) (h .0)))
+
+-- the calls on the columns of a replica
+module _ (r : Replica) where
+  pub inserted-view : (g n : ℕ) → generated r (localInsertWhen (columns.replicaWellFormed (viewed r)) (columns.meaning (viewed r)) g n) ≡ inserted r g n
+  unfolding inserted
+  inserted-view g n = rw (form-view r, meaning-view r)
+
+  pub deleted-view : (p : ℕ) → generated r (localDeleteWhen (columns.replicaWellFormed (viewed r)) (columns.meaning (viewed r)) p) ≡ deleted r p
+  unfolding deleted
+  deleted-view p = rw (form-view r, meaning-view r)
+
+  pub restored-view : (x : Identifier) → generated r (localRestoreWhen (columns.replicaWellFormed (viewed r)) (columns.meaning (viewed r)) x) ≡ restored r x
+  unfolding restored
+  restored-view x = rw (form-view r, meaning-view r)

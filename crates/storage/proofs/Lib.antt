@@ -1,2 +1,0 @@
-pub mod Fullness
-pub mod Stored
