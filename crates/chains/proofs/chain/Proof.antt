@@ -7,12 +7,11 @@ use Rattle.woot.specs.Table.{chainOf}
 use Rattle.chains.proofs.chain.Statement.{statement}
 use Rattle.chains.proofs.chain.Tie as tie
 
-mul-result : tie.Need-mul-result
-mul-result c = search needs
-
 returns : tie.Need-returns
 unfolding chainOf
 returns c = (refl, mod-lt _ (omega arith))
 
 pub chain-spec : {M : Type 1} → statement M
-chain-spec = tie.close (tie.spec mul-result returns)
+chain-spec =
+    tie.close
+    (tie.spec (λ c. search needs) returns)

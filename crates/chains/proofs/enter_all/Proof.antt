@@ -51,12 +51,6 @@ Inv-loop keys n heads₀ links₀ i₀ heads links i =
 abbrev μ-loop : tie.MeasureT-loop
 μ-loop keys n heads₀ links₀ i₀ heads links i = n - i
 
-clear-requires : tie.Need-clear-requires Inv-loop μ-loop
-clear-requires c κs = search needs
-
-clear-requires-2 : tie.Need-clear-requires-2 Inv-loop μ-loop
-clear-requires-2 c κs = search needs
-
 loop-holds : tie.Need-loop-holds Inv-loop μ-loop
 unfolding tableOf enteredAll
 loop-holds c =
@@ -64,60 +58,21 @@ loop-holds c =
     let first = c .before .before .before .before .before .before .clear .ensures in
     (omega arith, cleared (s .pre .1 .1 .0) (s .pre .1 .1 .1) first (c .before .before .clear2 .ensures))
 
-mul-key : tie.Need-mul-key Inv-loop μ-loop
-mul-key c = omega arith
-
-shared-slice-read-key : tie.Need-shared-slice-read-key Inv-loop μ-loop
-shared-slice-read-key c = omega arith
-
-chain-requires : tie.Need-chain-requires Inv-loop μ-loop
-chain-requires c κs = search needs
-
-mul-place : tie.Need-mul-place Inv-loop μ-loop
-mul-place c = omega arith
-
 slice-read-place : tie.Need-slice-read-place Inv-loop μ-loop
 slice-read-place c = omega (arith, c .before .chain .ensures .1, sized _ (c .before .before .before .before .loop .inv .1) .heads)
-
-place-requires : tie.Need-place-requires Inv-loop μ-loop
-place-requires c κs = search needs
 
 free-slot-requires : tie.Need-free-slot-requires Inv-loop μ-loop
 free-slot-requires c κs =
     let full = sized _ (c .before .before .before .before .before .before .before .before .loop .inv .1) .links in
     omega (arith, leb-true)
 
-add-links : tie.Need-add-links Inv-loop μ-loop
-add-links c = omega arith
-
-cast-links : tie.Need-cast-links Inv-loop μ-loop
-cast-links c = omega arith
-
-mul-links : tie.Need-mul-links Inv-loop μ-loop
-mul-links c = omega arith
-
 slice-write-links : tie.Need-slice-write-links Inv-loop μ-loop
 slice-write-links c = omega (arith, sized _ (c .before .before .before .before .before .before .before .before .before .loop .inv .1) .links)
-
-add-heads : tie.Need-add-heads Inv-loop μ-loop
-add-heads c = omega arith
-
-cast-heads : tie.Need-cast-heads Inv-loop μ-loop
-cast-heads c = omega arith
-
-mul-heads : tie.Need-mul-heads Inv-loop μ-loop
-mul-heads c = omega arith
 
 slice-write-heads : tie.Need-slice-write-heads Inv-loop μ-loop
 slice-write-heads c =
     let full = sized _ (c .before .before .before .before .before .before .loop .inv .1) .heads in
     omega (arith, c .before .before .before .chain .ensures .1)
-
-add-i : tie.Need-add-i Inv-loop μ-loop
-add-i c = omega arith
-
-loop-less : tie.Need-loop-less Inv-loop μ-loop
-loop-less c = omega arith
 
 loop-again : tie.Need-loop-again Inv-loop μ-loop
 loop-again c =
@@ -155,30 +110,8 @@ returns c =
 pub enter-all-spec : {M : Type 1} → statement M
 enter-all-spec =
     tie.close
-    (tie.spec
-    Inv-loop
-    μ-loop
-    clear-requires
-    clear-requires-2
-    loop-holds
-    mul-key
-    shared-slice-read-key
-    chain-requires
-    mul-place
-    slice-read-place
-    place-requires
-    free-slot-requires
-    add-links
-    cast-links
-    mul-links
-    slice-write-links
-    add-heads
-    cast-heads
-    mul-heads
-    slice-write-heads
-    add-i
-    loop-less
-    loop-again
-    same-length
-    same-length-2
-    returns)
+    (tie.spec Inv-loop μ-loop (λ c κs. search needs) (λ c κs. search needs) loop-holds (λ c. omega arith)
+    (λ c. omega arith) (λ c κs. search needs) (λ c. omega arith) slice-read-place (λ c κs. search needs)
+    free-slot-requires (λ c. omega arith) (λ c. omega arith) (λ c. omega arith) slice-write-links (λ c. omega arith)
+    (λ c. omega arith) (λ c. omega arith) slice-write-heads (λ c. omega arith) (λ c. omega arith) loop-again
+    same-length same-length-2 returns)

@@ -17,21 +17,10 @@ unfolding isAt
 place-is i none = ne-eqb 0 (i + 1) (λ e. omega arith)
 place-is i (some j) = agree _ _ (λ e. eq-eqb j i (omega (arith, eqb-true (suc j) (i + 1) e))) (λ e. eq-eqb (suc j) (i + 1) (omega (arith, eqb-true j i e)))
 
-mul-lookup : tie.Need-mul-lookup
-mul-lookup c = search needs
-
-shared-slice-read-lookup : tie.Need-shared-slice-read-lookup
-shared-slice-read-lookup c = search needs
-
-lookup-requires : tie.Need-lookup-requires
-lookup-requires c κs = search needs
-
-add-result : tie.Need-add-result
-add-result c = search needs
-
 returns : tie.Need-returns
 returns c = rw (c .lookup .ensures) (place-is _ _)
 
 pub found-at-spec : {M : Type 1} → statement M
 found-at-spec =
-    tie.close (tie.spec mul-lookup shared-slice-read-lookup lookup-requires add-result returns)
+    tie.close
+    (tie.spec (λ c. search needs) (λ c. search needs) (λ c κs. search needs) (λ c. search needs) returns)

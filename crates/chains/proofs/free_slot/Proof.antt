@@ -17,15 +17,6 @@ Inv-loop links n head key rest₀ at₀ free₀ next₀ rest at free next =
 abbrev μ-loop : tie.MeasureT-loop
 μ-loop links n head key rest₀ at₀ free₀ next₀ rest at free next = n - at
 
-slot-requires : tie.Need-slot-requires Inv-loop μ-loop
-slot-requires c κs = omega arith
-
-mul-next : tie.Need-mul-next Inv-loop μ-loop
-mul-next c = omega arith
-
-shared-slice-read-next : tie.Need-shared-slice-read-next Inv-loop μ-loop
-shared-slice-read-next c = omega arith
-
 cast-next : tie.Need-cast-next Inv-loop μ-loop
 cast-next c = omega (arith, c .shared-slice-known2 .given (c .before .slot .result))
 
@@ -79,19 +70,5 @@ returns-2 c =
 pub free-slot-spec : {M : Type 1} → statement M
 free-slot-spec =
     tie.close
-    (tie.spec
-    Inv-loop
-    μ-loop
-    slot-requires
-    mul-next
-    shared-slice-read-next
-    cast-next
-    loop-holds
-    slot-requires-2
-    mul-next-2
-    shared-slice-read-next-2
-    cast-next-2
-    loop-less
-    loop-again
-    returns
-    returns-2)
+    (tie.spec Inv-loop μ-loop (λ c κs. omega arith) (λ c. omega arith) (λ c. omega arith) cast-next loop-holds
+    slot-requires-2 mul-next-2 shared-slice-read-next-2 cast-next-2 loop-less loop-again returns returns-2)

@@ -23,15 +23,6 @@ Inv-loop heads links keys key rest₀ at₀ next₀ rest at next =
 abbrev μ-loop : tie.MeasureT-loop
 μ-loop heads links keys key rest₀ at₀ next₀ rest at next = length keys - at
 
-chain-requires : tie.Need-chain-requires Inv-loop μ-loop
-chain-requires c κs = search needs
-
-mul-next : tie.Need-mul-next Inv-loop μ-loop
-mul-next c = search needs
-
-shared-slice-read-next : tie.Need-shared-slice-read-next Inv-loop μ-loop
-shared-slice-read-next c = omega arith
-
 cast-next : tie.Need-cast-next Inv-loop μ-loop
 cast-next c = omega (arith, c .shared-slice-known4 .given (c .before .chain .result))
 
@@ -41,12 +32,6 @@ loop-holds c =
     let whole : length (c .before .before .before .before .before .args .keys .now) - 0 ≡ length (c .before .before .before .before .before .args .keys .now) = omega arith in
     (omega arith, omega (arith, c .shared-slice-known4 .given (c .before .chain .result)), rw (c .before .chain .ensures .0, whole))
 
-sub-if2 : tie.Need-sub-if2 Inv-loop μ-loop
-sub-if2 c = omega arith
-
-mul-if2 : tie.Need-mul-if2 Inv-loop μ-loop
-mul-if2 c = omega arith
-
 shared-slice-read-if2 : tie.Need-shared-slice-read-if2 Inv-loop μ-loop
 shared-slice-read-if2 c = omega (arith, leb-true)
 
@@ -55,12 +40,6 @@ returns c =
     let l = c .before .before .before .before .loop in
     let a = c .before .before .before .before .before .before .before .before .before .before .args in
     here _ (l .next) (omega arith) (l .inv .2 ∙ walk-here (a .links .now) (a .keys .now) (a .key) (length (a .keys .now) - l .at) (l .rest) (l .at) (l .next) (omega arith) (omega arith) (omega (arith, leb-true)) (omega (arith, c .if2 .taken)))
-
-slot-requires : tie.Need-slot-requires Inv-loop μ-loop
-slot-requires c κs = omega arith
-
-mul-next-2 : tie.Need-mul-next-2 Inv-loop μ-loop
-mul-next-2 c = omega arith
 
 shared-slice-read-next-2 : tie.Need-shared-slice-read-next-2 Inv-loop μ-loop
 shared-slice-read-next-2 c = omega (arith, leb-true)
@@ -102,23 +81,6 @@ returns-3 c =
 pub lookup-spec : {M : Type 1} → statement M
 lookup-spec =
     tie.close
-    (tie.spec
-    Inv-loop
-    μ-loop
-    chain-requires
-    mul-next
-    shared-slice-read-next
-    cast-next
-    loop-holds
-    sub-if2
-    mul-if2
-    shared-slice-read-if2
-    returns
-    slot-requires
-    mul-next-2
-    shared-slice-read-next-2
-    cast-next-2
-    loop-less
-    loop-again
-    returns-2
-    returns-3)
+    (tie.spec Inv-loop μ-loop (λ c κs. search needs) (λ c. search needs) (λ c. omega arith) cast-next loop-holds
+    (λ c. omega arith) (λ c. omega arith) shared-slice-read-if2 returns (λ c κs. omega arith) (λ c. omega arith)
+    shared-slice-read-next-2 cast-next-2 loop-less loop-again returns-2 returns-3)

@@ -9,27 +9,6 @@ use borrow.Author.Needs.{needs}
 use Rattle.characters.proofs.clear.Statement.{statement}
 use Rattle.characters.proofs.clear.Tie as tie
 
-enter-all-requires : tie.Need-enter-all-requires
-enter-all-requires c κs = search needs
-
-clear-columns-requires : tie.Need-clear-columns-requires
-clear-columns-requires c κs = search needs
-
-clear-bytes-requires : tie.Need-clear-bytes-requires
-clear-bytes-requires c κs = search needs
-
-same-length : tie.Need-same-length
-same-length c = search needs
-
-same-length-2 : tie.Need-same-length-2
-same-length-2 c = search needs
-
-same-length-3 : tie.Need-same-length-3
-same-length-3 c = search needs
-
-same-length-4 : tie.Need-same-length-4
-same-length-4 c = search needs
-
 returns : tie.Need-returns
 returns c =
     let e = c .before .before .before .before .before .before .clear-columns .ensures in
@@ -38,12 +17,5 @@ returns c =
 pub clear-spec : {M : Type 1} → statement M
 clear-spec =
     tie.close
-    (tie.spec
-    enter-all-requires
-    clear-columns-requires
-    clear-bytes-requires
-    same-length
-    same-length-2
-    same-length-3
-    same-length-4
-    returns)
+    (tie.spec (λ c κs. search needs) (λ c κs. search needs) (λ c κs. search needs) (λ c. search needs)
+    (λ c. search needs) (λ c. search needs) (λ c. search needs) returns)

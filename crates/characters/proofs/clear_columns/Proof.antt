@@ -12,9 +12,6 @@ use borrow.Author.Needs.{needs}
 use Rattle.characters.proofs.clear_columns.Statement.{statement}
 use Rattle.characters.proofs.clear_columns.Tie as tie
 
-slice-relend-prefix-clear-numbers : tie.Need-slice-relend-prefix-clear-numbers
-slice-relend-prefix-clear-numbers c = search needs
-
 slice-aggregate-clear-numbers : tie.Need-slice-aggregate-clear-numbers
 slice-aggregate-clear-numbers c =
     let size = c .before .before .pre .1 in
@@ -24,45 +21,6 @@ clear-numbers-requires : tie.Need-clear-numbers-requires
 clear-numbers-requires c κs =
     let size = c .before .before .pre .1 in
     omega (arith, c .before .before .pre .0, column-length 1024 0 (c .before .before .args .characters .now) (omega (arith, size)))
-
-sub-clear-numbers : tie.Need-sub-clear-numbers
-sub-clear-numbers c = search needs
-
-part-clear-numbers-start : tie.Need-part-clear-numbers-start
-part-clear-numbers-start c = search needs
-
-part-clear-numbers-end : tie.Need-part-clear-numbers-end
-part-clear-numbers-end c = search needs
-
-clear-numbers-requires-2 : tie.Need-clear-numbers-requires-2
-clear-numbers-requires-2 c κs = search needs
-
-sub-clear-numbers-2 : tie.Need-sub-clear-numbers-2
-sub-clear-numbers-2 c = search needs
-
-part-clear-numbers-start-2 : tie.Need-part-clear-numbers-start-2
-part-clear-numbers-start-2 c = search needs
-
-part-clear-numbers-end-2 : tie.Need-part-clear-numbers-end-2
-part-clear-numbers-end-2 c = search needs
-
-clear-numbers-requires-3 : tie.Need-clear-numbers-requires-3
-clear-numbers-requires-3 c κs = search needs
-
-sub-clear-numbers-3 : tie.Need-sub-clear-numbers-3
-sub-clear-numbers-3 c = search needs
-
-part-clear-numbers-start-3 : tie.Need-part-clear-numbers-start-3
-part-clear-numbers-start-3 c = search needs
-
-part-clear-numbers-end-3 : tie.Need-part-clear-numbers-end-3
-part-clear-numbers-end-3 c = search needs
-
-clear-numbers-requires-4 : tie.Need-clear-numbers-requires-4
-clear-numbers-requires-4 c κs = search needs
-
-same-length : tie.Need-same-length
-same-length c = search needs
 
 returns : tie.Need-returns
 returns c =
@@ -78,21 +36,7 @@ returns c =
 pub clear-columns-spec : {M : Type 1} → statement M
 clear-columns-spec =
     tie.close
-    (tie.spec
-    slice-relend-prefix-clear-numbers
-    slice-aggregate-clear-numbers
-    clear-numbers-requires
-    sub-clear-numbers
-    part-clear-numbers-start
-    part-clear-numbers-end
-    clear-numbers-requires-2
-    sub-clear-numbers-2
-    part-clear-numbers-start-2
-    part-clear-numbers-end-2
-    clear-numbers-requires-3
-    sub-clear-numbers-3
-    part-clear-numbers-start-3
-    part-clear-numbers-end-3
-    clear-numbers-requires-4
-    same-length
-    returns)
+    (tie.spec (λ c. search needs) slice-aggregate-clear-numbers clear-numbers-requires (λ c. search needs)
+    (λ c. search needs) (λ c. search needs) (λ c κs. search needs) (λ c. search needs) (λ c. search needs)
+    (λ c. search needs) (λ c κs. search needs) (λ c. search needs) (λ c. search needs) (λ c. search needs)
+    (λ c κs. search needs) (λ c. search needs) returns)

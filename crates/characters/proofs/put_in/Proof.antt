@@ -8,39 +8,6 @@ use borrow.Author.Needs.{needs}
 use Rattle.characters.proofs.put_in.Statement.{statement}
 use Rattle.characters.proofs.put_in.Tie as tie
 
-key-requires : tie.Need-key-requires
-key-requires c κs = search needs
-
-key-requires-2 : tie.Need-key-requires-2
-key-requires-2 c κs = search needs
-
-key-requires-3 : tie.Need-key-requires-3
-key-requires-3 c κs = search needs
-
-put-numbers-requires : tie.Need-put-numbers-requires
-put-numbers-requires c κs = search needs
-
-put-byte-requires : tie.Need-put-byte-requires
-put-byte-requires c κs = search needs
-
-add-enter-all : tie.Need-add-enter-all
-add-enter-all c = search needs
-
-enter-all-requires : tie.Need-enter-all-requires
-enter-all-requires c κs = search needs
-
-same-length : tie.Need-same-length
-same-length c = search needs
-
-same-length-2 : tie.Need-same-length-2
-same-length-2 c = search needs
-
-same-length-3 : tie.Need-same-length-3
-same-length-3 c = search needs
-
-same-length-4 : tie.Need-same-length-4
-same-length-4 c = search needs
-
 returns : tie.Need-returns
 returns c =
     let e = c .before .before .before .before .before .before .before .before .before .before .before .before .before .before .put-numbers .ensures in
@@ -49,16 +16,6 @@ returns c =
 pub put-in-spec : {M : Type 1} → statement M
 put-in-spec =
     tie.close
-    (tie.spec
-    key-requires
-    key-requires-2
-    key-requires-3
-    put-numbers-requires
-    put-byte-requires
-    add-enter-all
-    enter-all-requires
-    same-length
-    same-length-2
-    same-length-3
-    same-length-4
-    returns)
+    (tie.spec (λ c κs. search needs) (λ c κs. search needs) (λ c κs. search needs) (λ c κs. search needs)
+    (λ c κs. search needs) (λ c. search needs) (λ c κs. search needs) (λ c. search needs) (λ c. search needs)
+    (λ c. search needs) (λ c. search needs) returns)

@@ -11,9 +11,6 @@ use borrow.Author.Needs.{needs}
 use Rattle.characters.proofs.put_numbers.Statement.{statement}
 use Rattle.characters.proofs.put_numbers.Tie as tie
 
-slice-relend-prefix-put-number : tie.Need-slice-relend-prefix-put-number
-slice-relend-prefix-put-number c = search needs
-
 slice-aggregate-put-number : tie.Need-slice-aggregate-put-number
 slice-aggregate-put-number c =
     let size = c .before .before .pre .1 .1 in
@@ -23,45 +20,6 @@ put-number-requires : tie.Need-put-number-requires
 put-number-requires c κs =
     let size = c .before .before .pre .1 .1 in
     (c .before .before .pre .0, omega (arith, c .before .before .pre .1 .0, column-length 1024 0 (c .before .before .args .characters .now) (omega (arith, size))))
-
-sub-put-number : tie.Need-sub-put-number
-sub-put-number c = search needs
-
-part-put-number-start : tie.Need-part-put-number-start
-part-put-number-start c = search needs
-
-part-put-number-end : tie.Need-part-put-number-end
-part-put-number-end c = search needs
-
-put-number-requires-2 : tie.Need-put-number-requires-2
-put-number-requires-2 c κs = search needs
-
-sub-put-number-2 : tie.Need-sub-put-number-2
-sub-put-number-2 c = search needs
-
-part-put-number-start-2 : tie.Need-part-put-number-start-2
-part-put-number-start-2 c = search needs
-
-part-put-number-end-2 : tie.Need-part-put-number-end-2
-part-put-number-end-2 c = search needs
-
-put-number-requires-3 : tie.Need-put-number-requires-3
-put-number-requires-3 c κs = search needs
-
-sub-put-number-3 : tie.Need-sub-put-number-3
-sub-put-number-3 c = search needs
-
-part-put-number-start-3 : tie.Need-part-put-number-start-3
-part-put-number-start-3 c = search needs
-
-part-put-number-end-3 : tie.Need-part-put-number-end-3
-part-put-number-end-3 c = search needs
-
-put-number-requires-4 : tie.Need-put-number-requires-4
-put-number-requires-4 c κs = search needs
-
-same-length : tie.Need-same-length
-same-length c = search needs
 
 returns : tie.Need-returns
 returns c =
@@ -77,21 +35,7 @@ returns c =
 pub put-numbers-spec : {M : Type 1} → statement M
 put-numbers-spec =
     tie.close
-    (tie.spec
-    slice-relend-prefix-put-number
-    slice-aggregate-put-number
-    put-number-requires
-    sub-put-number
-    part-put-number-start
-    part-put-number-end
-    put-number-requires-2
-    sub-put-number-2
-    part-put-number-start-2
-    part-put-number-end-2
-    put-number-requires-3
-    sub-put-number-3
-    part-put-number-start-3
-    part-put-number-end-3
-    put-number-requires-4
-    same-length
-    returns)
+    (tie.spec (λ c. search needs) slice-aggregate-put-number put-number-requires (λ c. search needs)
+    (λ c. search needs) (λ c. search needs) (λ c κs. search needs) (λ c. search needs) (λ c. search needs)
+    (λ c. search needs) (λ c κs. search needs) (λ c. search needs) (λ c. search needs) (λ c. search needs)
+    (λ c κs. search needs) (λ c. search needs) returns)

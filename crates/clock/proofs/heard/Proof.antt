@@ -5,11 +5,10 @@ use Rattle.clock.proofs.Hearing.{heard-id}
 use Rattle.clock.proofs.heard.Statement.{statement}
 use Rattle.clock.proofs.heard.Tie as tie
 
-heard-id-requires : tie.Need-heard-id-requires
-heard-id-requires c κs = search needs
-
 returns : tie.Need-returns
 returns c = c .heard-id .ensures ∙ sym (heard-id (c .before .before .args .site) (c .before .before .args .insert))
 
 pub heard-spec : {M : Type 1} → statement M
-heard-spec = tie.close (tie.spec heard-id-requires returns)
+heard-spec =
+    tie.close
+    (tie.spec (λ c κs. search needs) returns)

@@ -9,12 +9,11 @@ returns : tie.Need-returns
 unfolding heardId
 returns c = rw (ne-eqb _ _ (c .if1 .taken))
 
-larger-requires : tie.Need-larger-requires
-larger-requires c κs = search needs
-
 returns-2 : tie.Need-returns-2
 unfolding heardId
 returns-2 c = rw (eq-eqb _ _ (c .before .if1 .left), c .larger .ensures)
 
 pub heard-id-spec : {M : Type 1} → statement M
-heard-id-spec = tie.close (tie.spec returns larger-requires returns-2)
+heard-id-spec =
+    tie.close
+    (tie.spec returns (λ c κs. search needs) returns-2)

@@ -6,22 +6,15 @@ use borrow.Author.Needs.{needs}
 use Rattle.clock.proofs.heard_key.Statement.{statement}
 use Rattle.clock.proofs.heard_key.Tie as tie
 
-cast-if1 : tie.Need-cast-if1
-cast-if1 c = search needs
-
 returns : tie.Need-returns
 unfolding heardId identifier
 returns c = rw (ne-eqb _ _ (c .if1 .taken))
-
-cast-larger : tie.Need-cast-larger
-cast-larger c = search needs
-
-larger-requires : tie.Need-larger-requires
-larger-requires c κs = search needs
 
 returns-2 : tie.Need-returns-2
 unfolding heardId identifier
 returns-2 c = rw (eq-eqb _ _ (c .before .if1 .left), c .larger .ensures)
 
 pub heard-key-spec : {M : Type 1} → statement M
-heard-key-spec = tie.close (tie.spec cast-if1 returns cast-larger larger-requires returns-2)
+heard-key-spec =
+    tie.close
+    (tie.spec (λ c. search needs) returns (λ c. search needs) (λ c κs. search needs) returns-2)

@@ -20,21 +20,6 @@ abbrev μ-loop : tie.MeasureT-loop
 loop-holds : tie.Need-loop-holds Inv-loop μ-loop
 loop-holds c = (omega arith, refl)
 
-mul-heard-key : tie.Need-mul-heard-key Inv-loop μ-loop
-mul-heard-key c = omega arith
-
-shared-slice-read-heard-key : tie.Need-shared-slice-read-heard-key Inv-loop μ-loop
-shared-slice-read-heard-key c = omega arith
-
-heard-key-requires : tie.Need-heard-key-requires Inv-loop μ-loop
-heard-key-requires c κs = search needs
-
-add-i : tie.Need-add-i Inv-loop μ-loop
-add-i c = omega arith
-
-loop-less : tie.Need-loop-less Inv-loop μ-loop
-loop-less c = omega arith
-
 loop-again : tie.Need-loop-again Inv-loop μ-loop
 loop-again c =
     let a = c .before .before .before .before .before .args in
@@ -52,14 +37,5 @@ returns c =
 pub heard-keys-spec : {M : Type 1} → statement M
 heard-keys-spec =
     tie.close
-    (tie.spec
-    Inv-loop
-    μ-loop
-    loop-holds
-    mul-heard-key
-    shared-slice-read-heard-key
-    heard-key-requires
-    add-i
-    loop-less
-    loop-again
-    returns)
+    (tie.spec Inv-loop μ-loop loop-holds (λ c. omega arith) (λ c. omega arith) (λ c κs. search needs)
+    (λ c. omega arith) (λ c. omega arith) loop-again returns)

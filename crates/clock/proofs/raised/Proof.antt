@@ -3,14 +3,10 @@ use borrow.Author.Needs.{needs}
 use Rattle.clock.proofs.raised.Statement.{statement}
 use Rattle.clock.proofs.raised.Tie as tie
 
-heard-keys-requires : tie.Need-heard-keys-requires
-heard-keys-requires c κs = search needs
-
-heard-keys-requires-2 : tie.Need-heard-keys-requires-2
-heard-keys-requires-2 c κs = search needs
-
 returns : tie.Need-returns
 returns c = rw (c .heard-keys2 .ensures, c .before .heard-keys .ensures)
 
 pub raised-spec : {M : Type 1} → statement M
-raised-spec = tie.close (tie.spec heard-keys-requires heard-keys-requires-2 returns)
+raised-spec =
+    tie.close
+    (tie.spec (λ c κs. search needs) (λ c κs. search needs) returns)

@@ -7,35 +7,14 @@ use Rattle.lines.proofs.Values.{at-most-at}
 use Rattle.codec.proofs.insert_of.Statement.{statement}
 use Rattle.codec.proofs.insert_of.Tie as tie
 
-array-read-identifier : tie.Need-array-read-identifier
-array-read-identifier c = search needs
-
-array-read-identifier-2 : tie.Need-array-read-identifier-2
-array-read-identifier-2 c = search needs
-
 identifier-requires : tie.Need-identifier-requires
 identifier-requires c κs = let b = at-most-at insertLimits (c .args .t1) (c .pre) in omega (arith, b 0 (omega arith), b 1 (omega arith))
-
-array-read-t12 : tie.Need-array-read-t12
-array-read-t12 c = search needs
 
 cast-t13 : tie.Need-cast-t13
 cast-t13 c = let b = at-most-at insertLimits (c .before .args .t1) (c .before .pre) in omega (arith, b 2 (omega arith))
 
-array-read-identifier-3 : tie.Need-array-read-identifier-3
-array-read-identifier-3 c = search needs
-
-array-read-identifier-4 : tie.Need-array-read-identifier-4
-array-read-identifier-4 c = search needs
-
 identifier-requires-2 : tie.Need-identifier-requires-2
 identifier-requires-2 c κs = let b = at-most-at insertLimits (c .before .args .t1) (c .before .pre) in omega (arith, b 3 (omega arith), b 4 (omega arith))
-
-array-read-identifier-5 : tie.Need-array-read-identifier-5
-array-read-identifier-5 c = search needs
-
-array-read-identifier-6 : tie.Need-array-read-identifier-6
-array-read-identifier-6 c = search needs
 
 identifier-requires-3 : tie.Need-identifier-requires-3
 identifier-requires-3 c κs = let b = at-most-at insertLimits (c .before .before .args .t1) (c .before .before .pre) in omega (arith, b 5 (omega arith), b 6 (omega arith))
@@ -52,16 +31,6 @@ returns c = λ j. record {
 pub insert-of-spec : {M : Type 1} → statement M
 insert-of-spec =
     tie.close
-    (tie.spec
-    array-read-identifier
-    array-read-identifier-2
-    identifier-requires
-    array-read-t12
-    cast-t13
-    array-read-identifier-3
-    array-read-identifier-4
-    identifier-requires-2
-    array-read-identifier-5
-    array-read-identifier-6
-    identifier-requires-3
-    returns)
+    (tie.spec (λ c. search needs) (λ c. search needs) identifier-requires (λ c. search needs) cast-t13
+    (λ c. search needs) (λ c. search needs) identifier-requires-2 (λ c. search needs) (λ c. search needs)
+    identifier-requires-3 returns)

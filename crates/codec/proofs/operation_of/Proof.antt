@@ -9,18 +9,6 @@ use Rattle.lines.proofs.Values.{at-most-at}
 use Rattle.codec.proofs.operation_of.Statement.{statement}
 use Rattle.codec.proofs.operation_of.Tie as tie
 
-enum-told : tie.Need-enum-told
-enum-told c = search needs
-
-insert-of-requires : tie.Need-insert-of-requires
-insert-of-requires c κs = search needs
-
-enum-told-2 : tie.Need-enum-told-2
-enum-told-2 c = search needs
-
-array-read-toggle-of : tie.Need-array-read-toggle-of
-array-read-toggle-of c = search needs
-
 cast-toggle-of : tie.Need-cast-toggle-of
 cast-toggle-of c =
     let b = at-most-at toggleLimits (c .before .before .args .t2) (rw (c .enum-told2 .given .1) at (c .before .before .pre)) in
@@ -30,9 +18,6 @@ toggle-of-requires : tie.Need-toggle-of-requires
 toggle-of-requires c κs =
     let b = at-most-at toggleLimits (c .before .before .args .t2) (rw (c .enum-told2 .given .1) at (c .before .before .pre)) in
     omega (arith, b 0 (omega arith), b 1 (omega arith), b 2 (omega arith))
-
-enum-told-3 : tie.Need-enum-told-3
-enum-told-3 c = search needs
 
 toggle-of-requires-2 : tie.Need-toggle-of-requires-2
 toggle-of-requires-2 c κs =
@@ -53,15 +38,5 @@ returns-3 c = rw (c .before .enum-told3 .given .1) (ap toggle (c .toggle-of2 .en
 pub operation-of-spec : {M : Type 1} → statement M
 operation-of-spec =
     tie.close
-    (tie.spec
-    enum-told
-    insert-of-requires
-    enum-told-2
-    array-read-toggle-of
-    cast-toggle-of
-    toggle-of-requires
-    enum-told-3
-    toggle-of-requires-2
-    returns
-    returns-2
-    returns-3)
+    (tie.spec (λ c. search needs) (λ c κs. search needs) (λ c. search needs) (λ c. search needs) cast-toggle-of
+    toggle-of-requires (λ c. search needs) toggle-of-requires-2 returns returns-2 returns-3)

@@ -5,17 +5,8 @@ use Rattle.codec.proofs.Letters.{delete-line, written-line}
 use Rattle.codec.proofs.read_line.Statement.{statement}
 use Rattle.codec.proofs.read_line.Tie as tie
 
-first-byte-requires : tie.Need-first-byte-requires
-first-byte-requires c κs = search needs
-
-read-as-requires : tie.Need-read-as-requires
-read-as-requires c κs = search needs
-
 returns : tie.Need-returns
 returns c = c .read-as .ensures ∙ delete-line _ (sym (c .before .before .first-byte .ensures) ∙ c .before .if1 .taken)
-
-read-written-requires : tie.Need-read-written-requires
-read-written-requires c κs = search needs
 
 returns-2 : tie.Need-returns-2
 returns-2 c = c .read-written .ensures ∙ written-line _ (λ q. c .before .if1 .left (c .before .before .first-byte .ensures ∙ q))
@@ -23,4 +14,4 @@ returns-2 c = c .read-written .ensures ∙ written-line _ (λ q. c .before .if1 
 pub read-line-spec : {M : Type 1} → statement M
 read-line-spec =
     tie.close
-    (tie.spec first-byte-requires read-as-requires returns read-written-requires returns-2)
+    (tie.spec (λ c κs. search needs) (λ c κs. search needs) returns (λ c κs. search needs) returns-2)

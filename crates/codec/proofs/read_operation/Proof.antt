@@ -6,14 +6,10 @@ use Rattle.codec.proofs.Letters.{by-first}
 use Rattle.codec.proofs.read_operation.Statement.{statement}
 use Rattle.codec.proofs.read_operation.Tie as tie
 
-first-line-requires : tie.Need-first-line-requires
-first-line-requires c κs = search needs
-
-read-line-requires : tie.Need-read-line-requires
-read-line-requires c κs = search needs
-
 returns : tie.Need-returns
 returns c = c .read-line .ensures ∙ ap readLine (c .before .first-line .ensures) ∙ by-first _
 
 pub read-operation-spec : {M : Type 1} → statement M
-read-operation-spec = tie.close (tie.spec first-line-requires read-line-requires returns)
+read-operation-spec =
+    tie.close
+    (tie.spec (λ c κs. search needs) (λ c κs. search needs) returns)

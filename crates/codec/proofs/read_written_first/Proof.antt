@@ -5,21 +5,13 @@ use Rattle.codec.proofs.Letters.{insert-line, delete-first}
 use Rattle.codec.proofs.read_written_first.Statement.{statement}
 use Rattle.codec.proofs.read_written_first.Tie as tie
 
-first-byte-requires : tie.Need-first-byte-requires
-first-byte-requires c κs = search needs
-
-read-as-requires : tie.Need-read-as-requires
-read-as-requires c κs = search needs
-
 returns : tie.Need-returns
 returns c = c .read-as .ensures ∙ insert-line _ (sym (c .before .before .first-byte .ensures) ∙ c .before .if1 .taken) .1
-
-read-as-requires-2 : tie.Need-read-as-requires-2
-read-as-requires-2 c κs = search needs
 
 returns-2 : tie.Need-returns-2
 returns-2 c = c .read-as2 .ensures ∙ delete-first _ (λ q. c .before .if1 .left (c .before .before .first-byte .ensures ∙ q))
 
 pub read-written-first-spec : {M : Type 1} → statement M
 read-written-first-spec =
-    tie.close (tie.spec first-byte-requires read-as-requires returns read-as-requires-2 returns-2)
+    tie.close
+    (tie.spec (λ c κs. search needs) (λ c κs. search needs) returns (λ c κs. search needs) returns-2)

@@ -14,17 +14,8 @@ use borrow.Author.Needs.{needs}
 use Rattle.conversion.proofs.convert.Statement.{statement}
 use Rattle.conversion.proofs.convert.Tie as tie
 
-read-requires : tie.Need-read-requires
-read-requires c κs = search needs
-
-enum-known-answer : tie.Need-enum-known-answer
-enum-known-answer c = search needs
-
 returns : tie.Need-returns
 returns c = not-read _ _ _ _ _ (c .before .before .before .read .ensures) _ (c .before .answer .given .1)
-
-enum-told : tie.Need-enum-told
-enum-told c = search needs
 
 check-requires : tie.Need-check-requires
 check-requires c κs =
@@ -59,9 +50,6 @@ put-requires c κs =
     let w = few (viewed r) (examined (viewed r) (full-view (r .document) full) (passed (c .before .before .before .before .before .before .before .before .before .before .before .before .before .before .before .before .before .check .ensures) (c .before .before .before .before .before .before .before .before .before .before .before .before .before .before .before .before .if1 .left))) in
     (full .characters, (w .characters, (omega (arith, full .toggles, w .characters), (full .pending, w .pending))))
 
-same-length : tie.Need-same-length
-same-length c = search needs
-
 returns-4 : tie.Need-returns-4
 unfolding stateIn meaning charactersIn operationsIn
 returns-4 c =
@@ -77,15 +65,5 @@ returns-4 c =
 pub convert-spec : {M : Type 1} → statement M
 convert-spec =
     tie.close
-    (tie.spec
-    read-requires
-    enum-known-answer
-    returns
-    enum-told
-    check-requires
-    returns-2
-    is-representable-requires
-    returns-3
-    put-requires
-    same-length
-    returns-4)
+    (tie.spec (λ c κs. search needs) (λ c. search needs) returns (λ c. search needs) check-requires returns-2
+    is-representable-requires returns-3 put-requires (λ c. search needs) returns-4)

@@ -5,15 +5,6 @@ use borrow.Author.Needs.{needs}
 use Rattle.conversion.proofs.is_representable.Statement.{statement}
 use Rattle.conversion.proofs.is_representable.Tie as tie
 
-enum-told : tie.Need-enum-told
-enum-told c = search needs
-
-within-first-requires : tie.Need-within-first-requires
-within-first-requires c κs = search needs
-
-enum-told-2 : tie.Need-enum-told-2
-enum-told-2 c = search needs
-
 returns : tie.Need-returns
 returns c s t o v ranged = rw (c .before .enum-told .given .1) (c .within-first .ensures s t o v ranged)
 
@@ -22,4 +13,5 @@ returns-2 c s t o v ranged = rw (c .enum-told2 .given .1) (sym (second-says s))
 
 pub is-representable-spec : {M : Type 1} → statement M
 is-representable-spec =
-    tie.close (tie.spec enum-told within-first-requires enum-told-2 returns returns-2)
+    tie.close
+    (tie.spec (λ c. search needs) (λ c κs. search needs) (λ c. search needs) returns returns-2)

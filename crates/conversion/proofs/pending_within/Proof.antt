@@ -26,21 +26,9 @@ abbrev μ-loop : tie.MeasureT-loop
 loop-holds : tie.Need-loop-holds Inv-loop μ-loop
 loop-holds c = (omega arith, refl)
 
-mul-operation-within : tie.Need-mul-operation-within Inv-loop μ-loop
-mul-operation-within c = omega arith
-
-shared-slice-read-operation-within : tie.Need-shared-slice-read-operation-within Inv-loop μ-loop
-shared-slice-read-operation-within c = omega arith
-
-mul-operation-within-2 : tie.Need-mul-operation-within-2 Inv-loop μ-loop
-mul-operation-within-2 c = omega arith
-
 shared-slice-read-operation-within-2 :
     tie.Need-shared-slice-read-operation-within-2 Inv-loop μ-loop
 shared-slice-read-operation-within-2 c = omega arith
-
-operation-within-requires : tie.Need-operation-within-requires Inv-loop μ-loop
-operation-within-requires c κs = search needs
 
 returns : tie.Need-returns Inv-loop μ-loop
 returns c =
@@ -48,12 +36,6 @@ returns c =
     let l = c .before .before .before .before .before .loop in
     let here = sym (c .before .operation-within .ensures) ∙ not-true _ (c .if1 .taken) in
     sym (throughout-fails (within (a .own .now) (a .values .now)) (a .w) (l .j) (omega arith) here)
-
-add-j : tie.Need-add-j Inv-loop μ-loop
-add-j c = omega arith
-
-loop-less : tie.Need-loop-less Inv-loop μ-loop
-loop-less c = omega arith
 
 loop-again : tie.Need-loop-again Inv-loop μ-loop
 loop-again c =
@@ -72,17 +54,6 @@ returns-2 c =
 pub pending-within-spec : {M : Type 1} → statement M
 pending-within-spec =
     tie.close
-    (tie.spec
-    Inv-loop
-    μ-loop
-    loop-holds
-    mul-operation-within
-    shared-slice-read-operation-within
-    mul-operation-within-2
-    shared-slice-read-operation-within-2
-    operation-within-requires
-    returns
-    add-j
-    loop-less
-    loop-again
-    returns-2)
+    (tie.spec Inv-loop μ-loop loop-holds (λ c. omega arith) (λ c. omega arith) (λ c. omega arith)
+    shared-slice-read-operation-within-2 (λ c κs. search needs) returns (λ c. omega arith) (λ c. omega arith)
+    loop-again returns-2)

@@ -8,9 +8,6 @@ use borrow.Author.Needs.{needs}
 use Rattle.conversion.proofs.within_first.Statement.{statement}
 use Rattle.conversion.proofs.within_first.Tie as tie
 
-characters-within-requires : tie.Need-characters-within-requires
-characters-within-requires c κs = search needs
-
 returns : tie.Need-returns
 returns c s t o v ranged =
     let a = c .before .before .before .before .args in
@@ -23,15 +20,6 @@ slice-aggregate-pending-within : tie.Need-slice-aggregate-pending-within
 slice-aggregate-pending-within c =
     let a = c .before .before .before .before .before in
     omega (arith, column-length 512 0 (a .args .pending .now) (omega (arith, a .pre .1 .0)))
-
-sub-pending-within : tie.Need-sub-pending-within
-sub-pending-within c = search needs
-
-part-pending-within-start : tie.Need-part-pending-within-start
-part-pending-within-start c = search needs
-
-part-pending-within-end : tie.Need-part-pending-within-end
-part-pending-within-end c = search needs
 
 pending-within-requires : tie.Need-pending-within-requires
 pending-within-requires c κs =
@@ -51,12 +39,5 @@ returns-2 c s t o v ranged =
 pub within-first-spec : {M : Type 1} → statement M
 within-first-spec =
     tie.close
-    (tie.spec
-    characters-within-requires
-    returns
-    slice-aggregate-pending-within
-    sub-pending-within
-    part-pending-within-start
-    part-pending-within-end
-    pending-within-requires
-    returns-2)
+    (tie.spec (λ c κs. search needs) returns slice-aggregate-pending-within (λ c. search needs) (λ c. search needs)
+    (λ c. search needs) pending-within-requires returns-2)

@@ -17,23 +17,11 @@ found c =
 returns : tie.Need-returns
 returns c cs e f = top-anchor cs _ (c .if1 .taken)
 
-sub-nth : tie.Need-sub-nth
-sub-nth c = search needs
-
-nth-requires : tie.Need-nth-requires
-nth-requires c κs = search needs
-
-enum-known-i : tie.Need-enum-known-i
-enum-known-i c = search needs
-
 mul-t10 : tie.Need-mul-t10
 mul-t10 c = omega (arith, found c)
 
 shared-slice-read-t12 : tie.Need-shared-slice-read-t12
 shared-slice-read-t12 c = omega (arith, found (c .before))
-
-enum-told : tie.Need-enum-told
-enum-told c = search needs
 
 returns-2 : tie.Need-returns-2
 returns-2 c cs e f =
@@ -47,13 +35,5 @@ returns-3 c cs e f = no-anchor cs _ (c .before .before .before .if1 .left) (sym 
 pub anchored-spec : {M : Type 1} → statement M
 anchored-spec =
     tie.close
-    (tie.spec
-    returns
-    sub-nth
-    nth-requires
-    enum-known-i
-    mul-t10
-    shared-slice-read-t12
-    enum-told
-    returns-2
-    returns-3)
+    (tie.spec returns (λ c. search needs) (λ c κs. search needs) (λ c. search needs) mul-t10 shared-slice-read-t12
+    (λ c. search needs) returns-2 returns-3)

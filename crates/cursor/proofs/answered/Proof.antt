@@ -11,21 +11,6 @@ use Rattle.cursor.proofs.answered.Tie as tie
 returns : tie.Need-returns
 returns c = at-within _ _ (not-true _ (c .if1 .taken))
 
-enum-told : tie.Need-enum-told
-enum-told c = search needs
-
-enum-told-2 : tie.Need-enum-told-2
-enum-told-2 c = search needs
-
-enum-told-3 : tie.Need-enum-told-3
-enum-told-3 c = search needs
-
-enum-known-answer : tie.Need-enum-known-answer
-enum-known-answer c = search needs
-
-before-4-requires : tie.Need-before-4-requires
-before-4-requires c κs = search needs
-
 returns-2 : tie.Need-returns-2
 unfolding answerAt
 returns-2 c = let a = c .before .before .before .args in at-beyond (a .beyond) (a .answer) _ (c .before .before .if1 .left) (c .enum-told .given .1)
@@ -47,14 +32,5 @@ returns-5 c =
 pub answered-spec : {M : Type 1} → statement M
 answered-spec =
     tie.close
-    (tie.spec
-    returns
-    enum-told
-    enum-told-2
-    enum-told-3
-    enum-known-answer
-    before-4-requires
-    returns-2
-    returns-3
-    returns-4
-    returns-5)
+    (tie.spec returns (λ c. search needs) (λ c. search needs) (λ c. search needs) (λ c. search needs)
+    (λ c κs. search needs) returns-2 returns-3 returns-4 returns-5)

@@ -11,9 +11,6 @@ use Rattle.cursor.specs.Steps.{before4}
 use Rattle.cursor.proofs.before_4.Statement.{statement}
 use Rattle.cursor.proofs.before_4.Tie as tie
 
-number-requires : tie.Need-number-requires
-number-requires c κs = search needs
-
 returns : tie.Need-returns
 unfolding before4
 returns c = let e : ltb (number (c .before .before .args .refusal)) 4 ≡ true = lt-ltb (number (c .before .before .args .refusal)) 4 (omega (arith, c .before .number .ensures)) in rw e
@@ -23,4 +20,6 @@ unfolding before4
 returns-2 c = let e : ltb (number (c .before .before .args .refusal)) 4 ≡ false = fails (ltb (number (c .before .before .args .refusal)) 4) (λ h. omega (arith, ltb-true (number (c .before .before .args .refusal)) 4 h, c .before .number .ensures)) in rw e
 
 pub before-4-spec : {M : Type 1} → statement M
-before-4-spec = tie.close (tie.spec number-requires returns returns-2)
+before-4-spec =
+    tie.close
+    (tie.spec (λ c κs. search needs) returns returns-2)

@@ -6,12 +6,6 @@ use Rattle.cursor.proofs.Signed.{read, not-below}
 use Rattle.cursor.proofs.bits.Statement.{statement}
 use Rattle.cursor.proofs.bits.Tie as tie
 
-down-requires : tie.Need-down-requires
-down-requires c κs = search needs
-
-sub-result : tie.Need-sub-result
-sub-result c = search needs
-
 returns : tie.Need-returns
 unfolding shiftBits
 returns c = ap shiftBits (c .down .ensures ∙ read _ (c .before .before .fits .shift))
@@ -24,4 +18,6 @@ unfolding shiftBits
 returns-2 c = ap shiftBits (c .up .ensures ∙ read _ (c .before .before .fits .shift))
 
 pub bits-spec : {M : Type 1} → statement M
-bits-spec = tie.close (tie.spec down-requires sub-result returns up-requires returns-2)
+bits-spec =
+    tie.close
+    (tie.spec (λ c κs. search needs) (λ c. search needs) returns up-requires returns-2)

@@ -7,18 +7,6 @@ use borrow.Author.Needs.{needs}
 use Rattle.cursor.proofs.judge_at.Statement.{statement}
 use Rattle.cursor.proofs.judge_at.Tie as tie
 
-judge-requires : tie.Need-judge-requires
-judge-requires c κs = search needs
-
-lesser-requires : tie.Need-lesser-requires
-lesser-requires c κs = search needs
-
-anchored-requires : tie.Need-anchored-requires
-anchored-requires c κs = search needs
-
-overrule-requires : tie.Need-overrule-requires
-overrule-requires c κs = search needs
-
 returns : tie.Need-returns
 returns c =
     let s = c .before .before .before .before .before .before .before .before .before in
@@ -31,4 +19,5 @@ returns c =
 
 pub judge-at-spec : {M : Type 1} → statement M
 judge-at-spec =
-    tie.close (tie.spec judge-requires lesser-requires anchored-requires overrule-requires returns)
+    tie.close
+    (tie.spec (λ c κs. search needs) (λ c κs. search needs) (λ c κs. search needs) (λ c κs. search needs) returns)

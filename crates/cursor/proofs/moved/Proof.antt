@@ -6,20 +6,11 @@ use Rattle.cursor.proofs.Signed.{read, not-below, moved-up, moved-down}
 use Rattle.cursor.proofs.moved.Statement.{statement}
 use Rattle.cursor.proofs.moved.Tie as tie
 
-down-requires : tie.Need-down-requires
-down-requires c κs = search needs
-
-lowered-requires : tie.Need-lowered-requires
-lowered-requires c κs = search needs
-
 returns : tie.Need-returns
 returns c = c .lowered .ensures ∙ moved-down _ _ _ (omega arith) (c .before .down .ensures ∙ read _ (c .before .before .before .fits .shift))
 
 up-requires : tie.Need-up-requires
 up-requires c κs = not-below (c .if1 .left)
-
-raised-requires : tie.Need-raised-requires
-raised-requires c κs = search needs
 
 returns-2 : tie.Need-returns-2
 returns-2 c = c .raised .ensures ∙ moved-up _ _ _ (c .before .up .ensures ∙ read _ (c .before .before .before .fits .shift))
@@ -27,4 +18,4 @@ returns-2 c = c .raised .ensures ∙ moved-up _ _ _ (c .before .up .ensures ∙ 
 pub moved-spec : {M : Type 1} → statement M
 moved-spec =
     tie.close
-    (tie.spec down-requires lowered-requires returns up-requires raised-requires returns-2)
+    (tie.spec (λ c κs. search needs) (λ c κs. search needs) returns up-requires (λ c κs. search needs) returns-2)

@@ -11,21 +11,6 @@ use Rattle.cursor.proofs.overrule.Tie as tie
 returns : tie.Need-returns
 returns c = decided-within _ _ (not-true _ (c .if1 .taken))
 
-enum-known-decision : tie.Need-enum-known-decision
-enum-known-decision c = search needs
-
-answered-requires : tie.Need-answered-requires
-answered-requires c κs = search needs
-
-enum-told : tie.Need-enum-told
-enum-told c = search needs
-
-enum-told-2 : tie.Need-enum-told-2
-enum-told-2 c = search needs
-
-enum-told-3 : tie.Need-enum-told-3
-enum-told-3 c = search needs
-
 returns-2 : tie.Need-returns-2
 unfolding overruled
 returns-2 c =
@@ -47,14 +32,5 @@ returns-5 c = let a = c .before .before .before .args in decided-beyond (a .beyo
 pub overrule-spec : {M : Type 1} → statement M
 overrule-spec =
     tie.close
-    (tie.spec
-    returns
-    enum-known-decision
-    answered-requires
-    enum-told
-    enum-told-2
-    enum-told-3
-    returns-2
-    returns-3
-    returns-4
-    returns-5)
+    (tie.spec returns (λ c. search needs) (λ c κs. search needs) (λ c. search needs) (λ c. search needs)
+    (λ c. search needs) returns-2 returns-3 returns-4 returns-5)

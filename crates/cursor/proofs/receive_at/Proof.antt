@@ -46,37 +46,10 @@ full-after c =
       links = omega (arith, kept .1 .1 .1 .1 .0, full .links);
     }
 
-judge-at-requires : tie.Need-judge-at-requires
-judge-at-requires c κs = search needs
-
-slice-aggregate-carry : tie.Need-slice-aggregate-carry
-slice-aggregate-carry c = search needs
-
-slice-aggregate-carry-2 : tie.Need-slice-aggregate-carry-2
-slice-aggregate-carry-2 c = search needs
-
-slice-aggregate-carry-3 : tie.Need-slice-aggregate-carry-3
-slice-aggregate-carry-3 c = search needs
-
-slice-aggregate-carry-4 : tie.Need-slice-aggregate-carry-4
-slice-aggregate-carry-4 c = search needs
-
-slice-aggregate-carry-5 : tie.Need-slice-aggregate-carry-5
-slice-aggregate-carry-5 c = search needs
-
 carry-requires : tie.Need-carry-requires
 carry-requires c κs =
     let full = full-replica {r = c .before .before .before .before .before .before .before .before .before .before .before .before .before .before .before .before .before .before .before .before .before .before .before .before .args .t1} (c .before .before .before .before .before .before .before .before .before .before .before .before .before .before .before .before .before .before .before .before .before .before .before .before .good .0) in
     (full .characters, (full .pending, c .before .before .before .before .before .before .before .before .before .before .before .judge-at .ensures .feasible))
-
-answer-requires : tie.Need-answer-requires
-answer-requires c κs = search needs
-
-slice-aggregate-shift-with : tie.Need-slice-aggregate-shift-with
-slice-aggregate-shift-with c = search needs
-
-slice-aggregate-shift-with-2 : tie.Need-slice-aggregate-shift-with-2
-slice-aggregate-shift-with-2 c = search needs
 
 shift-with-requires : tie.Need-shift-with-requires
 shift-with-requires c κs =
@@ -94,16 +67,6 @@ returns c =
 pub receive-at-spec : {M : Type 1} → statement M
 receive-at-spec =
     tie.close
-    (tie.spec
-    judge-at-requires
-    slice-aggregate-carry
-    slice-aggregate-carry-2
-    slice-aggregate-carry-3
-    slice-aggregate-carry-4
-    slice-aggregate-carry-5
-    carry-requires
-    answer-requires
-    slice-aggregate-shift-with
-    slice-aggregate-shift-with-2
-    shift-with-requires
-    returns)
+    (tie.spec (λ c κs. search needs) (λ c. search needs) (λ c. search needs) (λ c. search needs) (λ c. search needs)
+    (λ c. search needs) carry-requires (λ c κs. search needs) (λ c. search needs) (λ c. search needs)
+    shift-with-requires returns)

@@ -9,9 +9,6 @@ use native.Mathlib.Omega.{arith}
 use Rattle.cursor.proofs.shift.Statement.{statement}
 use Rattle.cursor.proofs.shift.Tie as tie
 
-visible-through-requires : tie.Need-visible-through-requires
-visible-through-requires c κs = search needs
-
 difference-requires : tie.Need-difference-requires
 difference-requires c κs = (omega (arith, c .visible-through .ensures .1), c .before .before .before .pre .1 .1 .1)
 
@@ -22,4 +19,6 @@ returns c cs k t small =
     ∙ ap (λ (n : ℕ). subℕ n (c .before .before .before .before .args .point)) (c .before .visible-through .ensures .0 cs k t small)
 
 pub shift-spec : {M : Type 1} → statement M
-shift-spec = tie.close (tie.spec visible-through-requires difference-requires returns)
+shift-spec =
+    tie.close
+    (tie.spec (λ c κs. search needs) difference-requires returns)

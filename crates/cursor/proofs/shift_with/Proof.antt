@@ -8,9 +8,6 @@ use Rattle.lists.proofs.Tests.{refused, passed, clash}
 use Rattle.cursor.proofs.shift_with.Statement.{statement}
 use Rattle.cursor.proofs.shift_with.Tie as tie
 
-is-change-requires : tie.Need-is-change-requires
-is-change-requires c κs = search needs
-
 returns : tie.Need-returns
 returns c = (λ e. refl, λ e. clash e (refused (c .before .is-change .ensures) (c .if1 .taken)))
 
@@ -27,4 +24,6 @@ returns-2 c = (
 )
 
 pub shift-with-spec : {M : Type 1} → statement M
-shift-with-spec = tie.close (tie.spec is-change-requires returns shift-requires returns-2)
+shift-with-spec =
+    tie.close
+    (tie.spec (λ c κs. search needs) returns shift-requires returns-2)

@@ -28,17 +28,8 @@ returns c = through-begin _ _ (many (c .before .before)) (c .if1 .taken)
 slice-aggregate-held : tie.Need-slice-aggregate-held
 slice-aggregate-held c = simp length-take (omega arith)
 
-find-requires : tie.Need-find-requires
-find-requires c κs = search needs
-
-enum-known-i : tie.Need-enum-known-i
-enum-known-i c = search needs
-
 add-result : tie.Need-add-result
 add-result c = omega (arith, placed c, c .before .before .before .before .before .before .before .fits)
-
-enum-told : tie.Need-enum-told
-enum-told c = search needs
 
 returns-2 : tie.Need-returns-2
 returns-2 c = placed c
@@ -51,12 +42,5 @@ returns-3 c =
 pub through-spec : {M : Type 1} → statement M
 through-spec =
     tie.close
-    (tie.spec
-    returns
-    slice-aggregate-held
-    find-requires
-    enum-known-i
-    add-result
-    enum-told
-    returns-2
-    returns-3)
+    (tie.spec returns slice-aggregate-held (λ c κs. search needs) (λ c. search needs) add-result (λ c. search needs)
+    returns-2 returns-3)

@@ -6,9 +6,6 @@ use native.Mathlib.Omega.{arith}
 use Rattle.cursor.proofs.visible_through.Statement.{statement}
 use Rattle.cursor.proofs.visible_through.Tie as tie
 
-through-requires : tie.Need-through-requires
-through-requires c κs = search needs
-
 count-requires : tie.Need-count-requires
 count-requires c κs = omega (arith, c .through .ensures)
 
@@ -24,4 +21,6 @@ returns c =
     )
 
 pub visible-through-spec : {M : Type 1} → statement M
-visible-through-spec = tie.close (tie.spec through-requires count-requires returns)
+visible-through-spec =
+    tie.close
+    (tie.spec (λ c κs. search needs) count-requires returns)

@@ -73,23 +73,14 @@ abbrev μ-loop : tie.MeasureT-loop
 loop-holds : tie.Need-loop-holds Inv-loop μ-loop
 loop-holds c = begun _ (omega arith)
 
-digit-requires : tie.Need-digit-requires Inv-loop μ-loop
-digit-requires c κs = omega arith
-
 array-write-bytes : tie.Need-array-write-bytes Inv-loop μ-loop
 array-write-bytes c = within _ _ _ _ 0 (c .before .before .loop .inv)
 
 sub-start : tie.Need-sub-start Inv-loop μ-loop
 sub-start c = room _ _ _ _ 0 (c .before .before .loop .inv) (c .before .loop-test .taken)
 
-loop-less : tie.Need-loop-less Inv-loop μ-loop
-loop-less c = omega arith
-
 loop-again : tie.Need-loop-again Inv-loop μ-loop
 loop-again c = more _ _ _ _ _ (c .before .before .loop .inv) (c .before .loop-test .taken) (c .digit .ensures)
-
-digit-requires-2 : tie.Need-digit-requires-2 Inv-loop μ-loop
-digit-requires-2 c κs = omega arith
 
 array-write-bytes-2 : tie.Need-array-write-bytes-2 Inv-loop μ-loop
 array-write-bytes-2 c = within _ _ _ _ 0 (c .before .before .loop .inv)
@@ -100,15 +91,5 @@ returns c = last _ _ _ _ _ (c .before .before .loop .inv) (omega arith) (c .digi
 pub align-spec : {M : Type 1} → statement M
 align-spec =
     tie.close
-    (tie.spec
-    Inv-loop
-    μ-loop
-    loop-holds
-    digit-requires
-    array-write-bytes
-    sub-start
-    loop-less
-    loop-again
-    digit-requires-2
-    array-write-bytes-2
-    returns)
+    (tie.spec Inv-loop μ-loop loop-holds (λ c κs. omega arith) array-write-bytes sub-start (λ c. omega arith)
+    loop-again (λ c κs. omega arith) array-write-bytes-2 returns)

@@ -23,11 +23,10 @@ followed s h = rw (lt-ltb 1 (length s) h)
 returns : tie.Need-returns
 returns c = sym (alone _ (omega arith))
 
-shared-slice-read-result : tie.Need-shared-slice-read-result
-shared-slice-read-result c = search needs
-
 returns-2 : tie.Need-returns-2
 returns-2 c = sym (followed _ (omega arith))
 
 pub has-leading-zero-spec : {M : Type 1} → statement M
-has-leading-zero-spec = tie.close (tie.spec returns shared-slice-read-result returns-2)
+has-leading-zero-spec =
+    tie.close
+    (tie.spec returns (λ c. search needs) returns-2)

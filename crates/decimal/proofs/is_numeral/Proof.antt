@@ -44,32 +44,17 @@ abbrev μ-loop : tie.MeasureT-loop
 returns : tie.Need-returns Inv-loop μ-loop
 returns c = sym (empty (c .before .before .args .s .now) (omega arith))
 
-has-leading-zero-requires : tie.Need-has-leading-zero-requires Inv-loop μ-loop
-has-leading-zero-requires c κs = search needs
-
 returns-2 : tie.Need-returns-2 Inv-loop μ-loop
 returns-2 c = sym (zeroed _ (omega arith) (sym (c .before .has-leading-zero .ensures) ∙ c .if2 .taken))
 
 loop-holds : tie.Need-loop-holds Inv-loop μ-loop
 loop-holds c = (zero-le, omega arith, sym (c .before .has-leading-zero .ensures) ∙ c .if2 .left, refl)
 
-shared-slice-read-is-digit : tie.Need-shared-slice-read-is-digit Inv-loop μ-loop
-shared-slice-read-is-digit c = omega arith
-
-is-digit-requires : tie.Need-is-digit-requires Inv-loop μ-loop
-is-digit-requires c κs = search needs
-
 returns-3 : tie.Need-returns-3 Inv-loop μ-loop
 returns-3 c =
     let l = c .before .before .before .before .loop in
     let other = sym (c .before .is-digit .ensures) ∙ not-true _ (c .if3 .taken) in
     sym (by-bytes _ (l .inv .1) (l .inv .2) ∙ sym (l .inv .3) ∙ stop _ (l .i) (omega arith) other)
-
-add-i : tie.Need-add-i Inv-loop μ-loop
-add-i c = omega arith
-
-loop-less : tie.Need-loop-less Inv-loop μ-loop
-loop-less c = omega arith
 
 loop-again : tie.Need-loop-again Inv-loop μ-loop
 loop-again c =
@@ -86,17 +71,5 @@ returns-4 c =
 pub is-numeral-spec : {M : Type 1} → statement M
 is-numeral-spec =
     tie.close
-    (tie.spec
-    Inv-loop
-    μ-loop
-    returns
-    has-leading-zero-requires
-    returns-2
-    loop-holds
-    shared-slice-read-is-digit
-    is-digit-requires
-    returns-3
-    add-i
-    loop-less
-    loop-again
-    returns-4)
+    (tie.spec Inv-loop μ-loop returns (λ c κs. search needs) returns-2 loop-holds (λ c. omega arith)
+    (λ c κs. search needs) returns-3 (λ c. omega arith) (λ c. omega arith) loop-again returns-4)

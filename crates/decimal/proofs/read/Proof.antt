@@ -49,9 +49,6 @@ Inv-loop s limit value₀ i₀ value i =
 abbrev μ-loop : tie.MeasureT-loop
 μ-loop s limit value₀ i₀ value i = length s - i
 
-is-numeral-requires : tie.Need-is-numeral-requires Inv-loop μ-loop
-is-numeral-requires c κs = search needs
-
 returns : tie.Need-returns Inv-loop μ-loop
 returns c = sym (malformed _ _ (sym (c .before .is-numeral .ensures) ∙ not-true _ (c .if1 .taken)))
 
@@ -59,14 +56,8 @@ loop-holds : tie.Need-loop-holds Inv-loop μ-loop
 unfolding valueOf
 loop-holds c = (zero-le, sym (c .before .is-numeral .ensures) ∙ not-false _ (c .if1 .left), refl, zero-le)
 
-shared-slice-read-digit-value : tie.Need-shared-slice-read-digit-value Inv-loop μ-loop
-shared-slice-read-digit-value c = omega arith
-
 digit-value-requires : tie.Need-digit-value-requires Inv-loop μ-loop
 digit-value-requires c κs = let l = c .before .before .loop in numeral-bytes _ (l .i) (l .inv .1) (omega arith) .0
-
-exceeds-requires : tie.Need-exceeds-requires Inv-loop μ-loop
-exceeds-requires c κs = search needs
 
 returns-2 : tie.Need-returns-2 Inv-loop μ-loop
 returns-2 c =
@@ -85,12 +76,6 @@ mul-value c = omega (arith, kept c)
 add-value : tie.Need-add-value Inv-loop μ-loop
 add-value c = omega (arith, kept c)
 
-add-i : tie.Need-add-i Inv-loop μ-loop
-add-i c = omega arith
-
-loop-less : tie.Need-loop-less Inv-loop μ-loop
-loop-less c = omega arith
-
 loop-again : tie.Need-loop-again Inv-loop μ-loop
 loop-again c =
     let l = c .before .before .before .before .before .loop in
@@ -108,19 +93,5 @@ returns-3 c =
 pub read-spec : {M : Type 1} → statement M
 read-spec =
     tie.close
-    (tie.spec
-    Inv-loop
-    μ-loop
-    is-numeral-requires
-    returns
-    loop-holds
-    shared-slice-read-digit-value
-    digit-value-requires
-    exceeds-requires
-    returns-2
-    mul-value
-    add-value
-    add-i
-    loop-less
-    loop-again
-    returns-3)
+    (tie.spec Inv-loop μ-loop (λ c κs. search needs) returns loop-holds (λ c. omega arith) digit-value-requires
+    (λ c κs. search needs) returns-2 mul-value add-value (λ c. omega arith) (λ c. omega arith) loop-again returns-3)

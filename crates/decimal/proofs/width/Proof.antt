@@ -5,9 +5,6 @@ use Rattle.decimal.proofs.Alignment.{start-lt, width-is}
 use Rattle.decimal.proofs.width.Statement.{statement}
 use Rattle.decimal.proofs.width.Tie as tie
 
-align-requires : tie.Need-align-requires
-align-requires c κs = search needs
-
 sub-result : tie.Need-sub-result
 sub-result c = omega (arith, start-lt _ (c .before .before .args .n) (omega arith) (c .before .align .ensures))
 
@@ -15,4 +12,6 @@ returns : tie.Need-returns
 returns c = width-is _ (c .before .before .args .n) (omega arith) (c .before .align .ensures)
 
 pub width-spec : {M : Type 1} → statement M
-width-spec = tie.close (tie.spec align-requires sub-result returns)
+width-spec =
+    tie.close
+    (tie.spec (λ c κs. search needs) sub-result returns)

@@ -7,9 +7,6 @@ use Rattle.decimal.proofs.Alignment.{start-lt, length-is, part-is}
 use Rattle.decimal.proofs.write.Statement.{statement}
 use Rattle.decimal.proofs.write.Tie as tie
 
-align-requires : tie.Need-align-requires
-align-requires c κs = search needs
-
 sub-put-all : tie.Need-sub-put-all
 sub-put-all c =
     omega (arith, start-lt _ (c .before .before .before .before .args .n) (omega arith) (c .before .before .align .ensures))
@@ -22,12 +19,6 @@ part-put-all-end : tie.Need-part-put-all-end
 part-put-all-end c =
     omega (arith, length-is _ (c .before .before .before .before .before .args .n) (omega arith) (c .before .before .before .align .ensures))
 
-put-all-requires : tie.Need-put-all-requires
-put-all-requires c κs = search needs
-
-same-length : tie.Need-same-length
-same-length c = search needs
-
 returns : tie.Need-returns
 returns c =
     let n = c .before .before .before .before .before .before .before .before .before .args .n in
@@ -38,11 +29,5 @@ returns c =
 pub write-spec : {M : Type 1} → statement M
 write-spec =
     tie.close
-    (tie.spec
-    align-requires
-    sub-put-all
-    part-put-all-start
-    part-put-all-end
-    put-all-requires
-    same-length
-    returns)
+    (tie.spec (λ c κs. search needs) sub-put-all part-put-all-start part-put-all-end (λ c κs. search needs)
+    (λ c. search needs) returns)

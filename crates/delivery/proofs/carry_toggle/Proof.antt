@@ -22,14 +22,8 @@ found-within x xs k e = first-says _ xs e .within
 slice-aggregate-find-among : tie.Need-slice-aggregate-find-among
 slice-aggregate-find-among c = omega (arith, column-length 1024 0 (c .before .before .before .before .before .before .args .characters .now) (omega (arith, c .before .before .before .before .before .before .pre .1 .0)))
 
-key-requires : tie.Need-key-requires
-key-requires c κs = search needs
-
 find-among-requires : tie.Need-find-among-requires
 find-among-requires c κs = (omega (arith, c .before .before .before .before .before .before .before .pre .0, column-length 1024 0 (c .before .before .before .before .before .before .before .args .characters .now) (omega (arith, c .before .before .before .before .before .before .before .pre .1 .0))), c .before .before .before .before .before .before .before .pre .1 .1 .1)
-
-enum-known-k : tie.Need-enum-known-k
-enum-known-k c = search needs
 
 toggle-requires : tie.Need-toggle-requires
 toggle-requires c κs =
@@ -37,17 +31,11 @@ toggle-requires c κs =
     let size = column-length 1024 0 (a .characters .now) (omega (arith, c .before .before .before .before .before .before .before .before .before .before .before .before .pre .1 .0)) in
     omega (arith, found-within _ (take (a .n) (column 1024 0 (a .characters .now))) _ (sym (c .before .before .before .before .find-among .ensures) ∙ c .before .before .k .given .1), length-take-le (a .n) (column 1024 0 (a .characters .now)) (omega (arith, size, c .before .before .before .before .before .before .before .before .before .before .before .before .pre .0)), c .before .before .before .before .before .before .before .before .before .before .before .before .pre .1 .1 .0)
 
-same-length : tie.Need-same-length
-same-length c = search needs
-
 returns : tie.Need-returns
 returns c =
     let a = c .before .before .before .before .before .before .before .before .before .before .before .before .before .before .before .args in
     let is : found (key (a .toggle .target)) (take (a .n) (column 1024 0 (a .characters .now))) ≡ At _ = ap (λ (x : ℕ). found x (take (a .n) (column 1024 0 (a .characters .now)))) (sym (c .before .before .before .before .before .before .before .before .key .ensures .0)) ∙ sym (c .before .before .before .before .before .before .before .find-among .ensures) ∙ c .before .before .before .before .before .k .given .1 in
     rw is (c .before .before .toggle .ensures)
-
-enum-told : tie.Need-enum-told
-enum-told c = search needs
 
 returns-2 : tie.Need-returns-2
 returns-2 c =
@@ -58,13 +46,5 @@ returns-2 c =
 pub carry-toggle-spec : {M : Type 1} → statement M
 carry-toggle-spec =
     tie.close
-    (tie.spec
-    slice-aggregate-find-among
-    key-requires
-    find-among-requires
-    enum-known-k
-    toggle-requires
-    same-length
-    returns
-    enum-told
-    returns-2)
+    (tie.spec slice-aggregate-find-among (λ c κs. search needs) find-among-requires (λ c. search needs) toggle-requires
+    (λ c. search needs) returns (λ c. search needs) returns-2)

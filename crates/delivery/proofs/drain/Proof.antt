@@ -25,9 +25,6 @@ due-requires c κs =
     let few = workable-few k in
     (few .0, (few .1, (c .before .before .before .before .loop .inv .0, (c .before .before .before .before .loop .inv .1, workable-tabled k))))
 
-enum-known-j : tie.Need-enum-known-j Inv-loop μ-loop
-enum-known-j c = search needs
-
 step-requires : tie.Need-step-requires Inv-loop μ-loop
 step-requires c κs = (c .before .before .before .before .before .before .before .before .before .before .before .before .before .loop .inv .0, (c .before .before .before .before .before .before .before .before .before .before .before .before .before .loop .inv .1, (c .before .before .before .before .before .before .before .before .before .before .before .before .before .loop .inv .2, sym (workable-due (c .before .before .before .before .before .before .before .before .before .before .before .before .before .loop .inv .2)) ∙ sym (c .before .before .before .before .before .before .before .before .due .ensures) ∙ c .before .before .before .before .before .before .j .given .1)))
 
@@ -38,9 +35,6 @@ loop-again : tie.Need-loop-again Inv-loop μ-loop
 loop-again c =
     let n = (step-nearer (c .before .before .before .before .before .before .before .before .before .before .before .before .before .before .before .before .before .before .before .before .before .before .before .before .loop .inv .2) _ (sym (workable-due (c .before .before .before .before .before .before .before .before .before .before .before .before .before .before .before .before .before .before .before .before .before .before .before .before .loop .inv .2)) ∙ sym (c .before .before .before .before .before .before .before .before .before .before .before .before .before .before .before .before .before .before .before .due .ensures) ∙ c .before .before .before .before .before .before .before .before .before .before .before .before .before .before .before .before .before .j .given .1) _ (c .before .before .before .before .before .before .before .before .before .before .step .ensures)) in
     (omega (arith, c .before .before .before .before .before .before .before .before .before .before .step .kept .0, c .before .before .before .before .before .before .before .before .before .before .before .before .before .before .before .before .before .before .before .before .before .before .before .before .loop .inv .0), omega (arith, c .before .before .before .before .before .before .before .before .before .before .step .kept .1 .1 .0, c .before .before .before .before .before .before .before .before .before .before .before .before .before .before .before .before .before .before .before .before .before .before .before .before .loop .inv .1), n .workable, n .same ∙ c .before .before .before .before .before .before .before .before .before .before .before .before .before .before .before .before .before .before .before .before .before .before .before .before .loop .inv .3)
-
-enum-told : tie.Need-enum-told Inv-loop μ-loop
-enum-told c = search needs
 
 same-length : tie.Need-same-length Inv-loop μ-loop
 same-length c = omega (arith, c .before .before .before .before .before .before .before .before .before .before .before .before .before .pre .0, c .before .before .before .before .before .before .before .loop .inv .0)
@@ -65,19 +59,5 @@ returns c =
 pub drain-spec : {M : Type 1} → statement M
 drain-spec =
     tie.close
-    (tie.spec
-    Inv-loop
-    μ-loop
-    loop-holds
-    due-requires
-    enum-known-j
-    step-requires
-    loop-less
-    loop-again
-    enum-told
-    same-length
-    same-length-2
-    same-length-3
-    same-length-4
-    same-length-5
-    returns)
+    (tie.spec Inv-loop μ-loop loop-holds due-requires (λ c. search needs) step-requires loop-less loop-again
+    (λ c. search needs) same-length same-length-2 same-length-3 same-length-4 same-length-5 returns)

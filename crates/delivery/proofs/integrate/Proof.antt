@@ -8,9 +8,6 @@ use borrow.Author.Needs.{needs}
 use Rattle.delivery.proofs.integrate.Statement.{statement}
 use Rattle.delivery.proofs.integrate.Tie as tie
 
-clear-requires : tie.Need-clear-requires
-clear-requires c κs = search needs
-
 put-in-requires : tie.Need-put-in-requires
 put-in-requires c κs =
     let p = c .before .before .before .before .before .before .before .before .before .before .before .before .before .before .before .before .before .before .before .before .before .before .before .before .before .pre .1 .1 in
@@ -55,14 +52,5 @@ returns c =
 pub integrate-spec : {M : Type 1} → statement M
 integrate-spec =
     tie.close
-    (tie.spec
-    clear-requires
-    put-in-requires
-    add-t30
-    drain-requires
-    same-length
-    same-length-2
-    same-length-3
-    same-length-4
-    same-length-5
-    returns)
+    (tie.spec (λ c κs. search needs) put-in-requires add-t30 drain-requires same-length same-length-2 same-length-3
+    same-length-4 same-length-5 returns)

@@ -25,9 +25,6 @@ remove-requires c κs =
     let s = workable-slots k in
     (due-within k _ at, (few .1, c .before .before .before .before .before .before .before .before .pre .1 .0))
 
-enum-known-operation : tie.Need-enum-known-operation
-enum-known-operation c = search needs
-
 find-place-requires : tie.Need-find-place-requires
 find-place-requires c κs =
     let k = c .before .before .before .before .before .before .before .before .before .before .before .before .before .before .before .before .before .pre .1 .1 .0 in
@@ -35,12 +32,6 @@ find-place-requires c κs =
     let few = workable-few k in
     let s = workable-slots k in
     (few .0, (c .before .before .before .before .before .before .before .before .before .before .before .before .before .before .before .before .before .pre .0, workable-tabled k))
-
-place-of-requires : tie.Need-place-of-requires
-place-of-requires c κs = search needs
-
-enum-known-k : tie.Need-enum-known-k
-enum-known-k c = search needs
 
 put-in-requires : tie.Need-put-in-requires
 put-in-requires c κs =
@@ -75,21 +66,6 @@ add-t38 c =
     let s = workable-slots k in
     omega (arith, few .0, due-within k _ at, k .integrated-fits, k .discarded-fits)
 
-same-length : tie.Need-same-length
-same-length c = search needs
-
-same-length-2 : tie.Need-same-length-2
-same-length-2 c = search needs
-
-same-length-3 : tie.Need-same-length-3
-same-length-3 c = search needs
-
-same-length-4 : tie.Need-same-length-4
-same-length-4 c = search needs
-
-same-length-5 : tie.Need-same-length-5
-same-length-5 c = search needs
-
 returns : tie.Need-returns
 returns c =
     let k = c .before .before .before .before .before .before .before .before .before .before .before .before .before .before .before .before .before .before .before .before .before .before .before .before .before .before .before .before .before .before .before .before .before .before .before .before .pre .1 .1 .0 in
@@ -99,9 +75,6 @@ returns c =
     let g = goes-at k _ at _ (sym (c .before .before .before .before .before .before .before .before .before .before .before .before .before .before .before .before .before .before .before .before .before .before .before .before .before .before .before .before .before .operation-at .ensures) ∙ c .before .before .before .before .before .before .before .before .before .before .before .before .before .before .before .before .before .before .before .before .before .before .before .operation .given .1) _ (c .before .before .before .before .before .before .before .before .before .before .before .before .before .before .before .before .before .before .find-place .ensures) _ (sym (c .before .before .before .before .before .before .before .before .before .before .before .before .before .before .before .before .before .place-of .ensures) ∙ c .before .before .before .before .before .before .before .before .before .before .before .before .before .before .before .k .given .1) in
     let e = c .before .before .before .before .before .before .before .before .before .put-in .ensures in
     work-path (placed-parts (removed-parts (workable-parts k) _ (due-within k _ at) (few .1) (c .before .before .before .before .before .before .before .before .before .before .before .before .before .before .before .before .before .before .before .before .before .before .before .before .before .before .before .remove .ensures .0) (c .before .before .before .before .before .before .before .before .before .before .before .before .before .before .before .before .before .before .before .before .before .before .before .before .before .before .before .remove .ensures .1 .0) (c .before .before .before .before .before .before .before .before .before .before .before .before .before .before .before .before .before .before .before .before .before .before .before .before .before .before .before .remove .ensures .1 .1 .0) (c .before .before .before .before .before .before .before .before .before .before .before .before .before .before .before .before .before .before .before .before .before .before .before .before .before .before .before .remove .ensures .1 .1 .1)) _ _ (g .room) (e .0) (e .1 .0) (e .1 .1 .0) (e .1 .1 .1 .0) (e .1 .1 .1 .1 .0) (e .1 .1 .1 .1 .1)) refl refl ∙ sym (g .becomes)
-
-enum-told : tie.Need-enum-told
-enum-told c = search needs
 
 sub-t39 : tie.Need-sub-t39
 sub-t39 c =
@@ -119,18 +92,6 @@ add-t40 c =
     let s = workable-slots k in
     omega (arith, few .0, due-within k _ at, k .integrated-fits, k .discarded-fits)
 
-same-length-6 : tie.Need-same-length-6
-same-length-6 c = search needs
-
-same-length-7 : tie.Need-same-length-7
-same-length-7 c = search needs
-
-same-length-8 : tie.Need-same-length-8
-same-length-8 c = search needs
-
-same-length-9 : tie.Need-same-length-9
-same-length-9 c = search needs
-
 returns-2 : tie.Need-returns-2
 returns-2 c =
     let k = c .before .before .before .before .before .before .before .before .before .before .before .before .before .before .before .before .before .before .before .before .before .before .pre .1 .1 .0 in
@@ -139,9 +100,6 @@ returns-2 c =
     let s = workable-slots k in
     let g = goes-nowhere k _ at _ (sym (c .before .before .before .before .before .before .before .before .before .before .before .before .before .before .before .operation-at .ensures) ∙ c .before .before .before .before .before .before .before .before .before .operation .given .1) _ (c .before .before .before .before .find-place .ensures) (sym (c .before .before .before .place-of .ensures) ∙ c .before .enum-told .given .1) in
     work-path (removed-parts (workable-parts k) _ (due-within k _ at) (few .1) (c .before .before .before .before .before .before .before .before .before .before .before .before .before .remove .ensures .0) (c .before .before .before .before .before .before .before .before .before .before .before .before .before .remove .ensures .1 .0) (c .before .before .before .before .before .before .before .before .before .before .before .before .before .remove .ensures .1 .1 .0) (c .before .before .before .before .before .before .before .before .before .before .before .before .before .remove .ensures .1 .1 .1)) refl refl ∙ sym g
-
-enum-known-operation-2 : tie.Need-enum-known-operation-2
-enum-known-operation-2 c = search needs
 
 carry-toggle-requires : tie.Need-carry-toggle-requires
 carry-toggle-requires c κs =
@@ -167,21 +125,6 @@ add-t51 c =
     let s = workable-slots k in
     omega (arith, few .0, due-within k _ at, k .integrated-fits, k .discarded-fits)
 
-same-length-10 : tie.Need-same-length-10
-same-length-10 c = search needs
-
-same-length-11 : tie.Need-same-length-11
-same-length-11 c = search needs
-
-same-length-12 : tie.Need-same-length-12
-same-length-12 c = search needs
-
-same-length-13 : tie.Need-same-length-13
-same-length-13 c = search needs
-
-same-length-14 : tie.Need-same-length-14
-same-length-14 c = search needs
-
 returns-3 : tie.Need-returns-3
 returns-3 c =
     let k = c .before .before .before .before .before .before .before .before .before .before .before .before .before .before .before .before .before .before .before .before .before .before .pre .1 .1 .0 in
@@ -195,38 +138,9 @@ returns-3 c =
 pub step-spec : {M : Type 1} → statement M
 step-spec =
     tie.close
-    (tie.spec
-    operation-at-requires
-    remove-requires
-    enum-known-operation
-    find-place-requires
-    place-of-requires
-    enum-known-k
-    put-in-requires
-    add-t36
-    sub-t37
-    add-t38
-    same-length
-    same-length-2
-    same-length-3
-    same-length-4
-    same-length-5
-    returns
-    enum-told
-    sub-t39
-    add-t40
-    same-length-6
-    same-length-7
-    same-length-8
-    same-length-9
-    returns-2
-    enum-known-operation-2
-    carry-toggle-requires
-    sub-t50
-    add-t51
-    same-length-10
-    same-length-11
-    same-length-12
-    same-length-13
-    same-length-14
-    returns-3)
+    (tie.spec operation-at-requires remove-requires (λ c. search needs) find-place-requires (λ c κs. search needs)
+    (λ c. search needs) put-in-requires add-t36 sub-t37 add-t38 (λ c. search needs) (λ c. search needs)
+    (λ c. search needs) (λ c. search needs) (λ c. search needs) returns (λ c. search needs) sub-t39 add-t40
+    (λ c. search needs) (λ c. search needs) (λ c. search needs) (λ c. search needs) returns-2 (λ c. search needs)
+    carry-toggle-requires sub-t50 add-t51 (λ c. search needs) (λ c. search needs) (λ c. search needs)
+    (λ c. search needs) (λ c. search needs) returns-3)

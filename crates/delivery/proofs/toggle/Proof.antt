@@ -6,28 +6,10 @@ use borrow.Author.Needs.{needs}
 use Rattle.delivery.proofs.toggle.Statement.{statement}
 use Rattle.delivery.proofs.toggle.Tie as tie
 
-clear-requires : tie.Need-clear-requires
-clear-requires c κs = search needs
-
 toggle-requires : tie.Need-toggle-requires
 toggle-requires c κs =
     let t = c .before .before .before .before .before .before .before .before .before .before .before .before .before .before .before .before .before .before .before .before .before .before .pre .1 .1 in
     omega (arith, targeted-within _ _ _ t, t .lent .few, t .lent .slots .toggles, c .before .before .before .before .before .before .before .before .before .before .before .clear .kept .1 .0)
-
-same-length : tie.Need-same-length
-same-length c = search needs
-
-same-length-2 : tie.Need-same-length-2
-same-length-2 c = search needs
-
-same-length-3 : tie.Need-same-length-3
-same-length-3 c = search needs
-
-same-length-4 : tie.Need-same-length-4
-same-length-4 c = search needs
-
-same-length-5 : tie.Need-same-length-5
-same-length-5 c = search needs
 
 returns : tie.Need-returns
 returns c =
@@ -37,12 +19,5 @@ returns c =
 pub toggle-spec : {M : Type 1} → statement M
 toggle-spec =
     tie.close
-    (tie.spec
-    clear-requires
-    toggle-requires
-    same-length
-    same-length-2
-    same-length-3
-    same-length-4
-    same-length-5
-    returns)
+    (tie.spec (λ c κs. search needs) toggle-requires (λ c. search needs) (λ c. search needs) (λ c. search needs)
+    (λ c. search needs) (λ c. search needs) returns)

@@ -4,12 +4,11 @@ use borrow.Author.Needs.{needs}
 use Rattle.effects.proofs.after_writing.Statement.{statement}
 use Rattle.effects.proofs.after_writing.Tie as tie
 
-after-noting-requires : tie.Need-after-noting-requires
-after-noting-requires c κs = search needs
-
 returns : tie.Need-returns
 unfolding afterWriting
 returns c = c .after-noting .ensures
 
 pub after-writing-spec : {M : Type 1} → statement M
-after-writing-spec = tie.close (tie.spec after-noting-requires returns)
+after-writing-spec =
+    tie.close
+    (tie.spec (λ c κs. search needs) returns)

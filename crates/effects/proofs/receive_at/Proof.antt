@@ -14,23 +14,11 @@ use Rattle.effects.proofs.Saving.{few-held, moved-formed, full-moved, s
 use Rattle.effects.proofs.receive_at.Statement.{statement}
 use Rattle.effects.proofs.receive_at.Tie as tie
 
-receive-at-requires : tie.Need-receive-at-requires
-receive-at-requires c κs = search needs
-
-is-change-requires : tie.Need-is-change-requires
-is-change-requires c κs = search needs
-
-returned-requires : tie.Need-returned-requires
-returned-requires c κs = search needs
-
 returns : tie.Need-returns
 unfolding silent quiet
 returns c =
     let e = refused (c .before .before .is-change .ensures) (c .before .if1 .taken) in
     carried (unchanged _ _ (c .before .before .before .receive-at .ensures) _ e) (c .returned .ensures, refl, refl)
-
-bits-requires : tie.Need-bits-requires
-bits-requires c κs = search needs
 
 save-noted-requires : tie.Need-save-noted-requires
 save-noted-requires c κs =
@@ -41,9 +29,6 @@ save-noted-requires c κs =
     let w = few-held (m .result .replica) f in
     (full .characters, (w .characters, (omega (arith, full .toggles, w .characters), (full .pending, w .pending))))
 
-same-length : tie.Need-same-length
-same-length c = search needs
-
 returns-2 : tie.Need-returns-2
 unfolding stateIn meaning charactersIn operationsIn
 returns-2 c =
@@ -53,12 +38,5 @@ returns-2 c =
 pub receive-at-spec : {M : Type 1} → statement M
 receive-at-spec =
     tie.close
-    (tie.spec
-    receive-at-requires
-    is-change-requires
-    returned-requires
-    returns
-    bits-requires
-    save-noted-requires
-    same-length
-    returns-2)
+    (tie.spec (λ c κs. search needs) (λ c κs. search needs) (λ c κs. search needs) returns (λ c κs. search needs)
+    save-noted-requires (λ c. search needs) returns-2)

@@ -17,12 +17,11 @@ save-noted-requires c κs =
     let w = few-held r (start .pre) in
     (full .characters, (w .characters, (omega (arith, full .toggles, w .characters), (full .pending, w .pending))))
 
-same-length : tie.Need-same-length
-same-length c = search needs
-
 returns : tie.Need-returns
 unfolding writing stateIn meaning charactersIn operationsIn
 returns c = c .before .before .save-noted .ensures
 
 pub save-spec : {M : Type 1} → statement M
-save-spec = tie.close (tie.spec save-noted-requires same-length returns)
+save-spec =
+    tie.close
+    (tie.spec save-noted-requires (λ c. search needs) returns)

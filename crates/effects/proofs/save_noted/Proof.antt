@@ -8,15 +8,6 @@ use borrow.Author.Needs.{needs}
 use Rattle.effects.proofs.save_noted.Statement.{statement}
 use Rattle.effects.proofs.save_noted.Tie as tie
 
-put-requires : tie.Need-put-requires
-put-requires c κs = search needs
-
-after-noting-requires : tie.Need-after-noting-requires
-after-noting-requires c κs = search needs
-
-same-length : tie.Need-same-length
-same-length c = search needs
-
 returns : tie.Need-returns
 returns c =
     let s = c .before .before .before .put .ensures in
@@ -24,4 +15,6 @@ returns c =
     carried (noted-written _ _ _ _) (c .after-noting .ensures ∙ ap (λ (w : Written). numberOf (afterNoting (a .answer) (a .note) w)) (s .0), s .1, refl)
 
 pub save-noted-spec : {M : Type 1} → statement M
-save-noted-spec = tie.close (tie.spec put-requires after-noting-requires same-length returns)
+save-noted-spec =
+    tie.close
+    (tie.spec (λ c κs. search needs) (λ c κs. search needs) (λ c. search needs) returns)

@@ -10,15 +10,6 @@ use borrow.Author.Needs.{needs}
 use Rattle.effects.proofs.send.Statement.{statement}
 use Rattle.effects.proofs.send.Tie as tie
 
-enum-known-answer : tie.Need-enum-known-answer
-enum-known-answer c = search needs
-
-refused-requires : tie.Need-refused-requires
-refused-requires c κs = search needs
-
-enum-known-answer-2 : tie.Need-enum-known-answer-2
-enum-known-answer-2 c = search needs
-
 save-both-requires : tie.Need-save-both-requires
 save-both-requires c κs =
     let start = c .before .before .before .before .before .before .before .before .before .before .before .before .before .before .before .before in
@@ -31,12 +22,6 @@ returns : tie.Need-returns
 unfolding turned quiet
 returns c = carried (not-sent _ _ _ (c .before .before .answer .given .1)) (c .refused .ensures, refl, refl)
 
-same-length : tie.Need-same-length
-same-length c = search needs
-
-same-length-2 : tie.Need-same-length-2
-same-length-2 c = search needs
-
 returns-2 : tie.Need-returns-2
 unfolding stateIn meaning charactersIn operationsIn
 returns-2 c = carried (sent-both _ _ _ (c .before .before .before .before .before .before .before .before .before .before .before .before .before .before .before .before .before .answer2 .given .1)) (c .before .before .before .before .save-both .ensures)
@@ -44,12 +29,5 @@ returns-2 c = carried (sent-both _ _ _ (c .before .before .before .before .befor
 pub send-spec : {M : Type 1} → statement M
 send-spec =
     tie.close
-    (tie.spec
-    enum-known-answer
-    refused-requires
-    enum-known-answer-2
-    save-both-requires
-    returns
-    same-length
-    same-length-2
-    returns-2)
+    (tie.spec (λ c. search needs) (λ c κs. search needs) (λ c. search needs) save-both-requires returns
+    (λ c. search needs) (λ c. search needs) returns-2)

@@ -8,19 +8,12 @@ use borrow.Author.Needs.{needs}
 use Rattle.effects.proofs.show.Statement.{statement}
 use Rattle.effects.proofs.show.Tie as tie
 
-visible-text-requires : tie.Need-visible-text-requires
-visible-text-requires c κs = search needs
-
-written-requires : tie.Need-written-requires
-written-requires c κs = search needs
-
-same-length : tie.Need-same-length
-same-length c = search needs
-
 returns : tie.Need-returns
 returns c =
     let t = c .before .before .before .visible-text .ensures in
     carried (text-written _ _) (c .written .ensures ∙ ap (λ (w : Written). numberOf (afterWriting _ w)) (t .0), t .1, refl)
 
 pub show-spec : {M : Type 1} → statement M
-show-spec = tie.close (tie.spec visible-text-requires written-requires same-length returns)
+show-spec =
+    tie.close
+    (tie.spec (λ c κs. search needs) (λ c κs. search needs) (λ c. search needs) returns)

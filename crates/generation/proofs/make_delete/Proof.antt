@@ -13,17 +13,11 @@ start c = c .before .before .before .before .before .before .before .before .bef
 returns : tie.Need-returns
 returns c = delete-zero _ (c .before .before .before .before .before .before .before .before .before .before .before .before .pre) _ (c .if1 .taken)
 
-sub-nth : tie.Need-sub-nth
-sub-nth c = search needs
-
 nth-requires : tie.Need-nth-requires
 nth-requires c κs =
     let x = c .before .before .before .before .before .before .before .before .before .before .before .before .pre in
     let n = few _ x in
     omega (arith, x .toggles)
-
-enum-known-k : tie.Need-enum-known-k
-enum-known-k c = search needs
 
 mul-identifier : tie.Need-mul-identifier
 mul-identifier c =
@@ -58,9 +52,6 @@ next-toggle-requires c κs =
     let x = start f .pre in
     delete-below _ x _ (f .before .if1 .left) (f .nth .ensures) _ (c .before .before .before .before .k .given .1)
 
-enum-told : tie.Need-enum-told
-enum-told c = search needs
-
 returns-2 : tie.Need-returns-2
 returns-2 c =
     let f = c .before .before .before .before .before .before .before in
@@ -77,16 +68,5 @@ returns-3 c =
 pub make-delete-spec : {M : Type 1} → statement M
 make-delete-spec =
     tie.close
-    (tie.spec
-    returns
-    sub-nth
-    nth-requires
-    enum-known-k
-    mul-identifier
-    shared-slice-read-identifier
-    identifier-requires
-    shared-slice-read-next-toggle
-    next-toggle-requires
-    enum-told
-    returns-2
-    returns-3)
+    (tie.spec returns (λ c. search needs) nth-requires (λ c. search needs) mul-identifier shared-slice-read-identifier
+    identifier-requires shared-slice-read-next-toggle next-toggle-requires (λ c. search needs) returns-2 returns-3)

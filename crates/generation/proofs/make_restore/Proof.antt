@@ -24,17 +24,11 @@ sought c = rw (c .before .key .ensures .0) at (c .find-among .ensures)
 standing : (c : tie.After-find-among) {f : Found} → c .find-among .result ≡ f → StandsAt _ (start c .pre .0) _ (start c .pre .1) f
 standing c e = stands-at _ (start c .pre .0) _ (start c .pre .1) (sought c) e
 
-key-requires : tie.Need-key-requires
-key-requires c κs = search needs
-
 find-among-requires : tie.Need-find-among-requires
 find-among-requires c κs =
     let x = c .before .before .before .before .before .before .before .before .before .before .before .before .pre .0 in
     let n = few _ x in
     (omega (arith, x .ids), examined-tabled _ x)
-
-enum-known-k : tie.Need-enum-known-k
-enum-known-k c = search needs
 
 shared-slice-read-count : tie.Need-shared-slice-read-count
 shared-slice-read-count c =
@@ -62,9 +56,6 @@ next-toggle-requires c κs =
     let p = start f .pre in
     restore-below _ (p .0) _ (p .1) _ (standing f (c .before .before .before .before .k .given .1)) (c .before .if1 .left) (c .if2 .left)
 
-enum-told : tie.Need-enum-told
-enum-told c = search needs
-
 returns-3 : tie.Need-returns-3
 returns-3 c =
     let f = c .before .before .before .before .before .before .before in
@@ -82,14 +73,5 @@ returns-4 c =
 pub make-restore-spec : {M : Type 1} → statement M
 make-restore-spec =
     tie.close
-    (tie.spec
-    key-requires
-    find-among-requires
-    enum-known-k
-    shared-slice-read-count
-    returns
-    returns-2
-    next-toggle-requires
-    enum-told
-    returns-3
-    returns-4)
+    (tie.spec (λ c κs. search needs) find-among-requires (λ c. search needs) shared-slice-read-count returns returns-2
+    next-toggle-requires (λ c. search needs) returns-3 returns-4)

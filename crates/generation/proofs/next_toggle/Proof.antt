@@ -5,11 +5,10 @@ use native.Mathlib.Omega.{arith}
 use Rattle.generation.proofs.next_toggle.Statement.{statement}
 use Rattle.generation.proofs.next_toggle.Tie as tie
 
-add-t4 : tie.Need-add-t4
-add-t4 c = search needs
-
 returns : tie.Need-returns
 returns c = ap (λ m. record { sender = c .args .site .number; target = c .args .target; toggles = m }) (omega arith)
 
 pub next-toggle-spec : {M : Type 1} → statement M
-next-toggle-spec = tie.close (tie.spec add-t4 returns)
+next-toggle-spec =
+    tie.close
+    (tie.spec (λ c. search needs) returns)

@@ -6,21 +6,6 @@ use Rattle.generation.specs.Decisions.{sentIn}
 use Rattle.generation.proofs.sent.Statement.{statement}
 use Rattle.generation.proofs.sent.Tie as tie
 
-enum-told : tie.Need-enum-told
-enum-told c = search needs
-
-enum-told-2 : tie.Need-enum-told-2
-enum-told-2 c = search needs
-
-enum-told-3 : tie.Need-enum-told-3
-enum-told-3 c = search needs
-
-enum-known-placement : tie.Need-enum-known-placement
-enum-known-placement c = search needs
-
-document-full-requires : tie.Need-document-full-requires
-document-full-requires c κs = search needs
-
 returns : tie.Need-returns
 unfolding fullIn sentIn
 returns c = rw (c .before .before .before .placement .given .1, sym (c .before .document-full .ensures) ∙ c .if1 .taken)
@@ -44,14 +29,5 @@ returns-5 c = rw (c .before .before .before .placement .given .1, sym (c .before
 pub sent-spec : {M : Type 1} → statement M
 sent-spec =
     tie.close
-    (tie.spec
-    enum-told
-    enum-told-2
-    enum-told-3
-    enum-known-placement
-    document-full-requires
-    returns
-    returns-2
-    returns-3
-    returns-4
-    returns-5)
+    (tie.spec (λ c. search needs) (λ c. search needs) (λ c. search needs) (λ c. search needs) (λ c κs. search needs)
+    returns returns-2 returns-3 returns-4 returns-5)

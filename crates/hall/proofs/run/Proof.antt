@@ -19,20 +19,8 @@ Inv-loop input replica₀ lines₀ number₀ replica lines number =
 abbrev μ-loop : tie.MeasureT-loop
 μ-loop input replica₀ lines₀ number₀ replica lines number = length lines
 
-empty-requires : tie.Need-empty-requires Inv-loop μ-loop
-empty-requires c κs = search needs
-
 loop-holds : tie.Need-loop-holds Inv-loop μ-loop
 loop-holds c = (omega arith, ap replicaWellFormed (c .empty .ensures) ∙ begun-formed)
-
-print-line-requires : tie.Need-print-line-requires Inv-loop μ-loop
-print-line-requires c κs = search needs
-
-returns : tie.Need-returns Inv-loop μ-loop
-returns c = search needs
-
-rest-requires : tie.Need-rest-requires Inv-loop μ-loop
-rest-requires c κs = search needs
 
 shorter : (c : tie.After-rest Inv-loop μ-loop) → length (c .rest .result .now) < length (c .before .before .before .before .before .before .loop .lines .now)
 shorter c =
@@ -51,22 +39,8 @@ loop-again c = (omega (arith, shorter c, c .before .before .before .before .befo
 print-text-requires : tie.Need-print-text-requires Inv-loop μ-loop
 print-text-requires c κs = c .before .loop .inv .1
 
-returns-2 : tie.Need-returns-2 Inv-loop μ-loop
-returns-2 c = search needs
-
 pub run-spec : {M : Type 1} → statement M
 run-spec =
     tie.close
-    (tie.spec
-    Inv-loop
-    μ-loop
-    empty-requires
-    loop-holds
-    print-line-requires
-    returns
-    rest-requires
-    add-number
-    loop-less
-    loop-again
-    print-text-requires
-    returns-2)
+    (tie.spec Inv-loop μ-loop (λ c κs. search needs) loop-holds (λ c κs. search needs) (λ c. search needs)
+    (λ c κs. search needs) add-number loop-less loop-again print-text-requires (λ c. search needs))

@@ -14,35 +14,13 @@ returns c = sym (begin-place _ _ (c .if1 .taken))
 returns-2 : tie.Need-returns-2
 returns-2 c = let s = c .before .before .before .before .before in s .pre .1 ∙ ap (placeIn (s .args .ids .now)) (sym (c .if2 .taken))
 
-sub-if5 : tie.Need-sub-if5
-sub-if5 c = search needs
-
-mul-if5 : tie.Need-mul-if5
-mul-if5 c = search needs
-
-shared-slice-read-if5 : tie.Need-shared-slice-read-if5
-shared-slice-read-if5 c = search needs
-
 returns-3 : tie.Need-returns-3
 returns-3 c =
     let s = c .before .before .before .before .before .before .before .before .before in
     near-place (s .pre .0) _ _ (omega arith) (omega arith) (c .if5 .taken) (c .before .before .before .before .before .if1 .left)
 
-place-of-requires : tie.Need-place-of-requires
-place-of-requires c κs = search needs
-
-returns-4 : tie.Need-returns-4
-returns-4 c = search needs
-
 pub place-near-spec : {M : Type 1} → statement M
 place-near-spec =
     tie.close
-    (tie.spec
-    returns
-    returns-2
-    sub-if5
-    mul-if5
-    shared-slice-read-if5
-    returns-3
-    place-of-requires
-    returns-4)
+    (tie.spec returns returns-2 (λ c. search needs) (λ c. search needs) (λ c. search needs) returns-3
+    (λ c κs. search needs) (λ c. search needs))

@@ -20,28 +20,16 @@ returns c = sym (begin-place _ _ (c .if1 .taken))
 find-requires : tie.Need-find-requires
 find-requires c κs = c .before .before .before .before .pre
 
-enum-known-i : tie.Need-enum-known-i
-enum-known-i c = search needs
-
 add-result : tie.Need-add-result
 unfolding found
 add-result c =
     let f = first-says _ _ (is (c .before .before .before) _ (c .before .i .given .1) .0) in
     omega (arith, f .within)
 
-enum-told : tie.Need-enum-told
-enum-told c = search needs
-
-add-end : tie.Need-add-end
-add-end c = search needs
-
 returns-2 : tie.Need-returns-2
 returns-2 c =
     let f = is (c .before .before .before) _ (c .before .enum-told .given .1) in
     omega (arith, later-place _ _ (f .1) (f .0), index-here _ 1 [] (c .if2 .taken))
-
-add-result-2 : tie.Need-add-result-2
-add-result-2 c = search needs
 
 returns-3 : tie.Need-returns-3
 returns-3 c =
@@ -55,4 +43,7 @@ returns-4 c =
     omega (arith, later-place _ _ (f .1) (f .0), index-later _ 1 [] (c .if2 .left))
 
 pub place-of-spec : {M : Type 1} → statement M
-place-of-spec = tie.close (tie.spec returns find-requires enum-known-i add-result enum-told add-end returns-2 add-result-2 returns-3 returns-4)
+place-of-spec =
+    tie.close
+    (tie.spec returns find-requires (λ c. search needs) add-result (λ c. search needs) (λ c. search needs) returns-2
+    (λ c. search needs) returns-3 returns-4)

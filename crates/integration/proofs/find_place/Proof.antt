@@ -54,35 +54,8 @@ slice-aggregate-firsts c = simp length-take (omega arith)
 slice-aggregate-seconds : tie.Need-slice-aggregate-seconds
 slice-aggregate-seconds c = simp length-take (omega arith)
 
-place-of-requires : tie.Need-place-of-requires
-place-of-requires c κs = search needs
-
-key-requires : tie.Need-key-requires
-key-requires c κs = search needs
-
-key-requires-2 : tie.Need-key-requires-2
-key-requires-2 c κs = search needs
-
-place-near-requires : tie.Need-place-near-requires
-place-near-requires c κs = search needs
-
-add-if1 : tie.Need-add-if1
-add-if1 c = search needs
-
 returns : tie.Need-returns
 returns c cs e above below s = let upper = upper-at (c .before) cs e s in sym (previous-missing cs _ (omega arith))
-
-add-place-near : tie.Need-add-place-near
-add-place-near c = search needs
-
-key-requires-3 : tie.Need-key-requires-3
-key-requires-3 c κs = search needs
-
-place-near-requires-2 : tie.Need-place-near-requires-2
-place-near-requires-2 c κs = search needs
-
-add-if2 : tie.Need-add-if2
-add-if2 c = search needs
 
 returns-2 : tie.Need-returns-2
 returns-2 c cs e above below s =
@@ -118,21 +91,7 @@ returns-4 c cs e above below s =
 pub find-place-spec : {M : Type 1} → statement M
 find-place-spec =
     tie.close
-    (tie.spec
-    slice-aggregate-ids
-    slice-aggregate-firsts
-    slice-aggregate-seconds
-    key-requires
-    place-of-requires
-    key-requires-2
-    place-near-requires
-    add-if1
-    returns
-    add-place-near
-    key-requires-3
-    place-near-requires-2
-    add-if2
-    returns-2
-    returns-3
-    position-requires
-    returns-4)
+    (tie.spec slice-aggregate-ids slice-aggregate-firsts slice-aggregate-seconds (λ c κs. search needs)
+    (λ c κs. search needs) (λ c κs. search needs) (λ c κs. search needs) (λ c. search needs) returns
+    (λ c. search needs) (λ c κs. search needs) (λ c κs. search needs) (λ c. search needs) returns-2 returns-3
+    position-requires returns-4)

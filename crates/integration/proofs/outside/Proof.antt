@@ -19,29 +19,8 @@ module _ (a b : ℕ) (v : Interval) {p : ℕ} (e : p ≡ a) where
   unfolding outside
   below-only f h = rw (← e, ← f, le-leb p (v .upper) h)
 
-mul-place-near : tie.Need-mul-place-near
-mul-place-near c = search needs
-
-shared-slice-read-place-near : tie.Need-shared-slice-read-place-near
-shared-slice-read-place-near c = search needs
-
-place-near-requires : tie.Need-place-near-requires
-place-near-requires c κs = search needs
-
 returns : tie.Need-returns
 returns c = inside _ _ _ (c .before .before .place-near .ensures) (c .if1 .taken)
-
-add-place-near : tie.Need-add-place-near
-add-place-near c = search needs
-
-mul-place-near-2 : tie.Need-mul-place-near-2
-mul-place-near-2 c = search needs
-
-shared-slice-read-place-near-2 : tie.Need-shared-slice-read-place-near-2
-shared-slice-read-place-near-2 c = search needs
-
-place-near-requires-2 : tie.Need-place-near-requires-2
-place-near-requires-2 c κs = search needs
 
 returns-2 : tie.Need-returns-2
 returns-2 c =
@@ -51,13 +30,5 @@ returns-2 c =
 pub outside-spec : {M : Type 1} → statement M
 outside-spec =
     tie.close
-    (tie.spec
-    mul-place-near
-    shared-slice-read-place-near
-    place-near-requires
-    returns
-    add-place-near
-    mul-place-near-2
-    shared-slice-read-place-near-2
-    place-near-requires-2
-    returns-2)
+    (tie.spec (λ c. search needs) (λ c. search needs) (λ c κs. search needs) returns (λ c. search needs)
+    (λ c. search needs) (λ c. search needs) (λ c κs. search needs) returns-2)

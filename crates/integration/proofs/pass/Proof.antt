@@ -41,12 +41,6 @@ Inv-loop heads links ids previous next end key v last upper₀ i₀ upper i =
 abbrev μ-loop : tie.MeasureT-loop
 μ-loop heads links ids previous next end key v last upper₀ i₀ upper i = last - i
 
-sub-lesser : tie.Need-sub-lesser Inv-loop μ-loop
-sub-lesser c = omega arith
-
-lesser-requires : tie.Need-lesser-requires Inv-loop μ-loop
-lesser-requires c κs = search needs
-
 loop-holds : tie.Need-loop-holds Inv-loop μ-loop
 loop-holds c =
     let s = c .before .before .before .before .before .before .before in
@@ -57,19 +51,10 @@ loop-holds c =
       sym (pass-from (a .ids .now) (places (a .ids .now) (a .previous .now)) (places (a .ids .now) (a .next .now)) (a .key) (a .interval)),
     )
 
-add-i : tie.Need-add-i Inv-loop μ-loop
-add-i c = omega arith
-
 outside-requires : tie.Need-outside-requires Inv-loop μ-loop
 outside-requires c κs =
     let s = c .before .before .before .before .before .before .before .before .before in
     (s .pre .0, (s .pre .1 .0, (omega arith, omega arith)))
-
-mul-if2 : tie.Need-mul-if2 Inv-loop μ-loop
-mul-if2 c = omega arith
-
-shared-slice-read-if2 : tie.Need-shared-slice-read-if2 Inv-loop μ-loop
-shared-slice-read-if2 c = omega arith
 
 returns : tie.Need-returns Inv-loop μ-loop
 returns c =
@@ -134,19 +119,5 @@ returns-2 c =
 pub pass-spec : {M : Type 1} → statement M
 pass-spec =
     tie.close
-    (tie.spec
-    Inv-loop
-    μ-loop
-    sub-lesser
-    lesser-requires
-    loop-holds
-    add-i
-    outside-requires
-    mul-if2
-    shared-slice-read-if2
-    returns
-    loop-less
-    loop-again
-    loop-less-2
-    loop-again-2
-    returns-2)
+    (tie.spec Inv-loop μ-loop (λ c. omega arith) (λ c κs. search needs) loop-holds (λ c. omega arith) outside-requires
+    (λ c. omega arith) (λ c. omega arith) returns loop-less loop-again loop-less-2 loop-again-2 returns-2)

@@ -24,19 +24,10 @@ loop-holds : tie.Need-loop-holds Inv-loop μ-loop
 unfolding positionIn
 loop-holds c = record { passes = c .before .before .before .before .before .args .interval .lower; enough = omega arith; gives = refl }
 
-width-requires : tie.Need-width-requires Inv-loop μ-loop
-width-requires c κs = search needs
-
 pass-requires : tie.Need-pass-requires Inv-loop μ-loop
 pass-requires c κs =
     let s = c .before .before .before .before .before .before .before .before in
     (s .pre .0, (s .pre .1 .0, (s .pre .1 .1 .0, (s .pre .1 .1 .1, omega (arith, c .before .width .ensures)))))
-
-width-requires-2 : tie.Need-width-requires-2 Inv-loop μ-loop
-width-requires-2 c κs = search needs
-
-width-requires-3 : tie.Need-width-requires-3 Inv-loop μ-loop
-width-requires-3 c κs = search needs
 
 returns : tie.Need-returns Inv-loop μ-loop
 unfolding placementAt
@@ -60,15 +51,5 @@ returns-2 c = ap placementAt (arrived _ _ _ _ (omega (arith, c .before .width .e
 pub position-spec : {M : Type 1} → statement M
 position-spec =
     tie.close
-    (tie.spec
-    Inv-loop
-    μ-loop
-    loop-holds
-    width-requires
-    pass-requires
-    width-requires-2
-    width-requires-3
-    returns
-    loop-less
-    loop-again
-    returns-2)
+    (tie.spec Inv-loop μ-loop loop-holds (λ c κs. search needs) pass-requires (λ c κs. search needs)
+    (λ c κs. search needs) returns loop-less loop-again returns-2)

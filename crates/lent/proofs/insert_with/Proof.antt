@@ -6,9 +6,6 @@ use Rattle.lent.proofs.Sites.{clock-after}
 use Rattle.lent.proofs.insert_with.Statement.{statement}
 use Rattle.lent.proofs.insert_with.Tie as tie
 
-insert-requires : tie.Need-insert-requires
-insert-requires c κs = search needs
-
 returns : tie.Need-returns
 unfolding returned
 returns c =
@@ -17,4 +14,6 @@ returns c =
     rw e (refl, clock-after (together (a .site) (a .document)) (a .point) (a .code-point))
 
 pub insert-with-spec : {M : Type 1} → statement M
-insert-with-spec = tie.close (tie.spec insert-requires returns)
+insert-with-spec =
+    tie.close
+    (tie.spec (λ c κs. search needs) returns)

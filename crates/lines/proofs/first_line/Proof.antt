@@ -7,17 +7,11 @@ use Rattle.lines.proofs.Bytes.{front-none, front-some}
 use Rattle.lines.proofs.first_line.Statement.{statement}
 use Rattle.lines.proofs.first_line.Tie as tie
 
-find-requires : tie.Need-find-requires
-find-requires c κs = search needs
-
 slice-aggregate-result : tie.Need-slice-aggregate-result
 slice-aggregate-result c = sym (length-take-le _ _ (omega arith))
 
 returns : tie.Need-returns
 returns c = front-some _ _ (c .before .before .find .ensures) (c .before .if1 .taken)
-
-slice-aggregate-result-2 : tie.Need-slice-aggregate-result-2
-slice-aggregate-result-2 c = search needs
 
 returns-2 : tie.Need-returns-2
 returns-2 c = front-none _ _ (c .before .before .find .ensures) (c .before .if1 .left)
@@ -25,4 +19,4 @@ returns-2 c = front-none _ _ (c .before .before .find .ensures) (c .before .if1 
 pub first-line-spec : {M : Type 1} → statement M
 first-line-spec =
     tie.close
-    (tie.spec find-requires slice-aggregate-result returns slice-aggregate-result-2 returns-2)
+    (tie.spec (λ c κs. search needs) slice-aggregate-result returns (λ c. search needs) returns-2)

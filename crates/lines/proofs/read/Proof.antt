@@ -14,26 +14,14 @@ use Rattle.lines.proofs.Heads.{other-head, same-head}
 use Rattle.lines.proofs.read.Statement.{statement}
 use Rattle.lines.proofs.read.Tie as tie
 
-find-requires : tie.Need-find-requires
-find-requires c κs = search needs
-
 slice-aggregate-same-bytes : tie.Need-slice-aggregate-same-bytes
 slice-aggregate-same-bytes c = sym (length-take-le _ _ (found-le tab (c .before .before .before .before .before .args .line .now) 0 _ (c .before .find .ensures) zero-le))
-
-same-bytes-requires : tie.Need-same-bytes-requires
-same-bytes-requires c κs = search needs
-
-without-requires : tie.Need-without-requires
-without-requires c κs = search needs
 
 returns : tie.Need-returns
 returns c =
     let a = c .before .before .before .before .before .before .before .before .args in
     c .without .ensures
     ∙ other-head (a .head .now) (take slots (a .limits .now)) (a .line .now) _ (c .before .before .before .before .find .ensures) (sym (c .before .before .same-bytes .ensures) ∙ not-true _ (c .before .if1 .taken))
-
-read-numbers-requires : tie.Need-read-numbers-requires
-read-numbers-requires c κs = search needs
 
 returns-2 : tie.Need-returns-2
 returns-2 c =
@@ -57,14 +45,5 @@ returns-3 c =
 pub read-spec : {M : Type 1} → statement M
 read-spec =
     tie.close
-    (tie.spec
-    find-requires
-    slice-aggregate-same-bytes
-    same-bytes-requires
-    without-requires
-    returns
-    read-numbers-requires
-    returns-2
-    slice-aggregate-read-numbers
-    read-numbers-requires-2
-    returns-3)
+    (tie.spec (λ c κs. search needs) slice-aggregate-same-bytes (λ c κs. search needs) (λ c κs. search needs) returns
+    (λ c κs. search needs) returns-2 slice-aggregate-read-numbers read-numbers-requires-2 returns-3)

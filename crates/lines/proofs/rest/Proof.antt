@@ -7,21 +7,6 @@ use Rattle.lines.proofs.Bytes.{rest-none, rest-some}
 use Rattle.lines.proofs.rest.Statement.{statement}
 use Rattle.lines.proofs.rest.Tie as tie
 
-find-requires : tie.Need-find-requires
-find-requires c κs = search needs
-
-add-result : tie.Need-add-result
-add-result c = search needs
-
-sub-result : tie.Need-sub-result
-sub-result c = search needs
-
-part-result-start : tie.Need-part-result-start
-part-result-start c = search needs
-
-part-result-end : tie.Need-part-result-end
-part-result-end c = search needs
-
 returns : tie.Need-returns
 returns c = rest-some _ _ (c .before .before .find .ensures) (c .before .if1 .taken)
 
@@ -31,23 +16,11 @@ sub-result-2 c = found-le lineFeed (c .before .before .before .args .s .now) 0 _
 part-result-start-2 : tie.Need-part-result-start-2
 part-result-start-2 c = found-le lineFeed (c .before .before .before .args .s .now) 0 _ (c .before .find .ensures) zero-le
 
-part-result-end-2 : tie.Need-part-result-end-2
-part-result-end-2 c = search needs
-
 returns-2 : tie.Need-returns-2
 returns-2 c = rest-none _ _ (c .before .before .find .ensures) (c .before .if1 .left)
 
 pub rest-spec : {M : Type 1} → statement M
 rest-spec =
     tie.close
-    (tie.spec
-    find-requires
-    add-result
-    sub-result
-    part-result-start
-    part-result-end
-    returns
-    sub-result-2
-    part-result-start-2
-    part-result-end-2
-    returns-2)
+    (tie.spec (λ c κs. search needs) (λ c. search needs) (λ c. search needs) (λ c. search needs) (λ c. search needs)
+    returns sub-result-2 part-result-start-2 (λ c. search needs) returns-2)

@@ -6,23 +6,8 @@ use Rattle.loading.proofs.Forming.{load-refused, load-unformed, load-fo
 use Rattle.loading.proofs.load.Statement.{statement}
 use Rattle.loading.proofs.load.Tie as tie
 
-read-requires : tie.Need-read-requires
-read-requires c κs = search needs
-
-enum-told : tie.Need-enum-told
-enum-told c = search needs
-
 returns : tie.Need-returns
 returns c = load-refused _ _ (c .before .before .read .ensures) _ (c .enum-told .given .1)
-
-enum-told-2 : tie.Need-enum-told-2
-enum-told-2 c = search needs
-
-well-formed-requires : tie.Need-well-formed-requires
-well-formed-requires c κs = search needs
-
-refuse-requires : tie.Need-refuse-requires
-refuse-requires c κs = search needs
 
 returns-2 : tie.Need-returns-2
 returns-2 c = c .refuse .ensures ∙ load-unformed _ _ (c .before .before .before .before .before .read .ensures) (c .before .before .before .enum-told2 .given .1) (refused (c .before .before .well-formed .ensures) (c .before .if1 .taken))
@@ -33,12 +18,5 @@ returns-3 c = load-formed _ _ (c .before .before .before .before .read .ensures)
 pub load-spec : {M : Type 1} → statement M
 load-spec =
     tie.close
-    (tie.spec
-    read-requires
-    enum-told
-    returns
-    enum-told-2
-    well-formed-requires
-    refuse-requires
-    returns-2
-    returns-3)
+    (tie.spec (λ c κs. search needs) (λ c. search needs) returns (λ c. search needs) (λ c κs. search needs)
+    (λ c κs. search needs) returns-2 returns-3)

@@ -7,37 +7,13 @@ use borrow.Author.Needs.{needs}
 use Rattle.loading.proofs.read.Statement.{statement}
 use Rattle.loading.proofs.read.Tie as tie
 
-slice-aggregate-read-into : tie.Need-slice-aggregate-read-into
-slice-aggregate-read-into c = search needs
-
-slice-aggregate-read-into-2 : tie.Need-slice-aggregate-read-into-2
-slice-aggregate-read-into-2 c = search needs
-
-slice-aggregate-read-into-3 : tie.Need-slice-aggregate-read-into-3
-slice-aggregate-read-into-3 c = search needs
-
-slice-aggregate-read-into-4 : tie.Need-slice-aggregate-read-into-4
-slice-aggregate-read-into-4 c = search needs
-
-slice-aggregate-read-into-5 : tie.Need-slice-aggregate-read-into-5
-slice-aggregate-read-into-5 c = search needs
-
 read-into-requires : tie.Need-read-into-requires
 read-into-requires c κs = (sym no-characters, (sym (pad-none 1024 0), (sym no-pending, (refl, refl))))
-
-enum-known-answer : tie.Need-enum-known-answer
-enum-known-answer c = search needs
-
-refuse-requires : tie.Need-refuse-requires
-refuse-requires c κs = search needs
 
 returns : tie.Need-returns
 returns c =
     let z = c .before .before .before .before .before .before .before .before .before .read-into .ensures in
     c .refuse .ensures ∙ read-refused _ _ (z .0 ∙ answer-read _ _) _ (c .before .before .answer .given .1)
-
-enum-told : tie.Need-enum-told
-enum-told c = search needs
 
 returns-2 : tie.Need-returns-2
 returns-2 c =
@@ -48,15 +24,5 @@ returns-2 c =
 pub read-spec : {M : Type 1} → statement M
 read-spec =
     tie.close
-    (tie.spec
-    slice-aggregate-read-into
-    slice-aggregate-read-into-2
-    slice-aggregate-read-into-3
-    slice-aggregate-read-into-4
-    slice-aggregate-read-into-5
-    read-into-requires
-    enum-known-answer
-    refuse-requires
-    returns
-    enum-told
-    returns-2)
+    (tie.spec (λ c. search needs) (λ c. search needs) (λ c. search needs) (λ c. search needs) (λ c. search needs)
+    read-into-requires (λ c. search needs) (λ c κs. search needs) returns (λ c. search needs) returns-2)

@@ -38,15 +38,6 @@ not-done q e d =
 judged : {a b w : Bool} (x y z : Bool) → a ≡ x && y → b ≡ a && z → b ≡ w → x && y && z ≡ w
 judged x y z e g h = sym (g ∙ ap (λ (d : Bool). d && z) e) ∙ h
 
-head-requires : tie.Need-head-requires
-head-requires c κs = search needs
-
-read-site-requires : tie.Need-read-site-requires
-read-site-requires c κs = search needs
-
-refused-requires : tie.Need-refused-requires
-refused-requires c κs = search needs
-
 returns : tie.Need-returns
 returns c =
     let u = c .before .before .before in
@@ -70,12 +61,6 @@ returns c =
       ),
     )
 
-rest-requires : tie.Need-rest-requires
-rest-requires c κs = search needs
-
-read-characters-requires : tie.Need-read-characters-requires
-read-characters-requires c κs = search needs
-
 skip-requires : tie.Need-skip-requires
 skip-requires c κs =
     let q = c .before .before .before .before in
@@ -88,17 +73,11 @@ read-operations-requires c κs =
     let u = c .before .before .before .before .before .before .before .before .before .before .before .before in
     u .before .before .before .before .before .before .before .before .pre .1 .1 .0
 
-refused-requires-2 : tie.Need-refused-requires-2
-refused-requires-2 c κs = search needs
-
 same-length : tie.Need-same-length
 same-length c = search needs
 
 same-length-2 : tie.Need-same-length-2
 same-length-2 c = search needs
-
-same-length-3 : tie.Need-same-length-3
-same-length-3 c = search needs
 
 returns-2 : tie.Need-returns-2
 returns-2 c =
@@ -131,23 +110,11 @@ returns-2 c =
       ),
     )
 
-both-requires : tie.Need-both-requires
-both-requires c κs = search needs
-
-both-requires-2 : tie.Need-both-requires-2
-both-requires-2 c κs = search needs
-
-refused-requires-3 : tie.Need-refused-requires-3
-refused-requires-3 c κs = search needs
-
 same-length-4 : tie.Need-same-length-4
 same-length-4 c = search needs
 
 same-length-5 : tie.Need-same-length-5
 same-length-5 c = search needs
-
-same-length-6 : tie.Need-same-length-6
-same-length-6 c = search needs
 
 returns-3 : tie.Need-returns-3
 returns-3 c =
@@ -206,9 +173,6 @@ same-length-7 c = search needs
 same-length-8 : tie.Need-same-length-8
 same-length-8 c = search needs
 
-same-length-9 : tie.Need-same-length-9
-same-length-9 c = search needs
-
 same-length-10 : tie.Need-same-length-10
 same-length-10 c = search needs
 
@@ -259,31 +223,8 @@ returns-4 c =
 pub read-into-spec : {M : Type 1} → statement M
 read-into-spec =
     tie.close
-    (tie.spec
-    head-requires
-    read-site-requires
-    refused-requires
-    returns
-    rest-requires
-    read-characters-requires
-    skip-requires
-    read-operations-requires
-    refused-requires-2
-    same-length
-    same-length-2
-    same-length-3
-    returns-2
-    both-requires
-    both-requires-2
-    refused-requires-3
-    same-length-4
-    same-length-5
-    same-length-6
-    returns-3
-    settle-requires
-    same-length-7
-    same-length-8
-    same-length-9
-    same-length-10
-    same-length-11
-    returns-4)
+    (tie.spec (λ c κs. search needs) (λ c κs. search needs) (λ c κs. search needs) returns (λ c κs. search needs)
+    (λ c κs. search needs) skip-requires read-operations-requires (λ c κs. search needs) same-length same-length-2
+    (λ c. search needs) returns-2 (λ c κs. search needs) (λ c κs. search needs) (λ c κs. search needs) same-length-4
+    same-length-5 (λ c. search needs) returns-3 settle-requires same-length-7 same-length-8 (λ c. search needs)
+    same-length-10 same-length-11 returns-4)

@@ -5,12 +5,11 @@ use borrow.Author.Needs.{needs}
 use Rattle.loading.proofs.refuse.Statement.{statement}
 use Rattle.loading.proofs.refuse.Tie as tie
 
-empty-requires : tie.Need-empty-requires
-empty-requires c κs = search needs
-
 returns : tie.Need-returns
 unfolding unread noReplica
 returns c = λ j. record { answer = Refused (c .before .args .reason); replica = c .empty .ensures j }
 
 pub refuse-spec : {M : Type 1} → statement M
-refuse-spec = tie.close (tie.spec empty-requires returns)
+refuse-spec =
+    tie.close
+    (tie.spec (λ c κs. search needs) returns)

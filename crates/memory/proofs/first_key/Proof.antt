@@ -4,18 +4,6 @@ use borrow.Author.Needs.{needs}
 use Rattle.memory.proofs.first_key.Statement.{statement}
 use Rattle.memory.proofs.first_key.Tie as tie
 
-enum-known-operation : tie.Need-enum-known-operation
-enum-known-operation c = search needs
-
-key-requires : tie.Need-key-requires
-key-requires c κs = search needs
-
-enum-known-operation-2 : tie.Need-enum-known-operation-2
-enum-known-operation-2 c = search needs
-
-key-requires-2 : tie.Need-key-requires-2
-key-requires-2 c κs = search needs
-
 returns : tie.Need-returns
 unfolding firstKey
 returns c = rw (c .before .before .before .operation .given .1, c .key .ensures .0)
@@ -27,10 +15,4 @@ returns-2 c = rw (c .before .before .before .operation2 .given .1, c .key2 .ensu
 pub first-key-spec : {M : Type 1} → statement M
 first-key-spec =
     tie.close
-    (tie.spec
-    enum-known-operation
-    key-requires
-    enum-known-operation-2
-    key-requires-2
-    returns
-    returns-2)
+    (tie.spec (λ c. search needs) (λ c κs. search needs) (λ c. search needs) (λ c κs. search needs) returns returns-2)

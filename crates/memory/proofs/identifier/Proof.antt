@@ -5,15 +5,11 @@ use borrow.Author.Needs.{needs}
 use Rattle.memory.proofs.identifier.Statement.{statement}
 use Rattle.memory.proofs.identifier.Tie as tie
 
-cast-t3 : tie.Need-cast-t3
-cast-t3 c = search needs
-
-cast-t5 : tie.Need-cast-t5
-cast-t5 c = search needs
-
 returns : tie.Need-returns
 unfolding identifier
 returns c = refl
 
 pub identifier-spec : {M : Type 1} → statement M
-identifier-spec = tie.close (tie.spec cast-t3 cast-t5 returns)
+identifier-spec =
+    tie.close
+    (tie.spec (λ c. search needs) (λ c. search needs) returns)

@@ -21,9 +21,6 @@ cast-t7 c = omega (arith, bits _ _ _ _ (c .if1 .taken) (c .before .pre) .sender)
 identifier-requires : tie.Need-identifier-requires
 identifier-requires c κs = bits _ _ _ _ (c .if1 .taken) (c .before .pre) .target
 
-cast-t10 : tie.Need-cast-t10
-cast-t10 c = search needs
-
 returns : tie.Need-returns
 returns c =
     let z = c .before .if1 .taken in
@@ -38,4 +35,5 @@ returns-2 c = rw (c .insert .ensures) (inserted-is _ _ _ _ (c .before .before .p
 
 pub operation-spec : {M : Type 1} → statement M
 operation-spec =
-    tie.close (tie.spec cast-t7 identifier-requires cast-t10 returns insert-requires returns-2)
+    tie.close
+    (tie.spec cast-t7 identifier-requires (λ c. search needs) returns insert-requires returns-2)

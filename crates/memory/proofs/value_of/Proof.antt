@@ -4,15 +4,6 @@ use borrow.Author.Needs.{needs}
 use Rattle.memory.proofs.value_of.Statement.{statement}
 use Rattle.memory.proofs.value_of.Tie as tie
 
-enum-known-operation : tie.Need-enum-known-operation
-enum-known-operation c = search needs
-
-enum-known-operation-2 : tie.Need-enum-known-operation-2
-enum-known-operation-2 c = search needs
-
-stamp-requires : tie.Need-stamp-requires
-stamp-requires c κs = search needs
-
 returns : tie.Need-returns
 unfolding valueOf
 returns c = rw (c .before .operation .given .1)
@@ -24,4 +15,4 @@ returns-2 c = rw (c .before .before .operation2 .given .1, c .stamp .ensures)
 pub value-of-spec : {M : Type 1} → statement M
 value-of-spec =
     tie.close
-    (tie.spec enum-known-operation enum-known-operation-2 stamp-requires returns returns-2)
+    (tie.spec (λ c. search needs) (λ c. search needs) (λ c κs. search needs) returns returns-2)

@@ -15,15 +15,6 @@ use Rattle.output.proofs.put.Tie as tie
 stored : (out : List ℕ) (at byte : ℕ) → at < length out → set out at byte ≡ placed out at (byte ∷ [])
 stored out at byte h = rw (placed-room out at (byte ∷ []) (omega arith), add-one, append-snoc) (set-split out at byte h)
 
-slice-write-out : tie.Need-slice-write-out
-slice-write-out c = search needs
-
-add-result : tie.Need-add-result
-add-result c = search needs
-
-same-length : tie.Need-same-length
-same-length c = search needs
-
 returns : tie.Need-returns
 returns c = (sym (past-room _ _ _ (omega arith)), stored _ _ _ (omega arith))
 
@@ -31,4 +22,6 @@ returns-2 : tie.Need-returns-2
 returns-2 c = (sym (past-short _ _ _ (omega arith)), sym (placed-short _ _ _ (omega arith)))
 
 pub put-spec : {M : Type 1} → statement M
-put-spec = tie.close (tie.spec slice-write-out add-result same-length returns returns-2)
+put-spec =
+    tie.close
+    (tie.spec (λ c. search needs) (λ c. search needs) (λ c. search needs) returns returns-2)

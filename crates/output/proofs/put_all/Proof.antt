@@ -19,9 +19,6 @@ Inv-loop out₀ at bytes i₀ out i =
 abbrev μ-loop : tie.MeasureT-loop
 μ-loop out₀ at bytes i₀ out i = length bytes - i
 
-has-room-requires : tie.Need-has-room-requires Inv-loop μ-loop
-has-room-requires c κs = search needs
-
 returns : tie.Need-returns Inv-loop μ-loop
 returns c =
     let a = c .before .before .before .before .args in
@@ -34,21 +31,6 @@ loop-holds c =
     let a = c .before .before .before .before .args in
     (omega (arith, has-room _ _ _ (sym (c .before .has-room .ensures) ∙ not-false _ (c .if1 .left))), zero-le, paste-zero (a .out .now) (a .at) (a .bytes .now), refl)
 
-shared-slice-read-out : tie.Need-shared-slice-read-out Inv-loop μ-loop
-shared-slice-read-out c = omega arith
-
-add-out : tie.Need-add-out Inv-loop μ-loop
-add-out c = omega arith
-
-slice-write-out : tie.Need-slice-write-out Inv-loop μ-loop
-slice-write-out c = omega arith
-
-add-i : tie.Need-add-i Inv-loop μ-loop
-add-i c = omega arith
-
-loop-less : tie.Need-loop-less Inv-loop μ-loop
-loop-less c = omega arith
-
 loop-again : tie.Need-loop-again Inv-loop μ-loop
 loop-again c =
     let a = c .before .before .before .before .before .before .before .args in
@@ -56,12 +38,6 @@ loop-again c =
     let stored : set (l .out) (a .at + l .i) (getD (a .bytes .now) (l .i) 0) ≡ paste (a .out .now) (a .at) (a .bytes .now) (l .i + 1) =
     rw (l .inv .2, add-one (l .i)) (paste-suc (a .out .now) (a .at) (a .bytes .now) (l .i) 0 (omega arith) (omega arith)) in
     (l .inv .0, omega arith, stored, simp length-set (l .inv .3))
-
-add-result : tie.Need-add-result Inv-loop μ-loop
-add-result c = omega arith
-
-same-length : tie.Need-same-length Inv-loop μ-loop
-same-length c = omega arith
 
 returns-2 : tie.Need-returns-2 Inv-loop μ-loop
 returns-2 c =
@@ -75,18 +51,5 @@ returns-2 c =
 pub put-all-spec : {M : Type 1} → statement M
 put-all-spec =
     tie.close
-    (tie.spec
-    Inv-loop
-    μ-loop
-    has-room-requires
-    returns
-    loop-holds
-    shared-slice-read-out
-    add-out
-    slice-write-out
-    add-i
-    loop-less
-    loop-again
-    add-result
-    same-length
-    returns-2)
+    (tie.spec Inv-loop μ-loop (λ c κs. search needs) returns loop-holds (λ c. omega arith) (λ c. omega arith)
+    (λ c. omega arith) (λ c. omega arith) (λ c. omega arith) loop-again (λ c. omega arith) (λ c. omega arith) returns-2)

@@ -13,18 +13,14 @@ reading : (x : Identifier) {a b : Bool} → siteNumber (x .site) ≡ a → withi
 unfolding characterId
 reading x p q = λ k. p k && q k
 
-site-number-requires : tie.Need-site-number-requires
-site-number-requires c κs = search needs
-
 returns : tie.Need-returns
 returns c = sym (reading _ (refused (c .before .site-number .ensures) (c .if1 .taken)) refl)
-
-character-clock-requires : tie.Need-character-clock-requires
-character-clock-requires c κs = search needs
 
 returns-2 : tie.Need-returns-2
 returns-2 c =
     sym (reading _ (passed (c .before .before .site-number .ensures) (c .before .if1 .left)) (sym (c .character-clock .ensures)))
 
 pub character-id-spec : {M : Type 1} → statement M
-character-id-spec = tie.close (tie.spec site-number-requires returns character-clock-requires returns-2)
+character-id-spec =
+    tie.close
+    (tie.spec (λ c κs. search needs) returns (λ c κs. search needs) returns-2)

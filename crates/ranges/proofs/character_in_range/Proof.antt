@@ -10,9 +10,6 @@ use Rattle.ranges.proofs.Laws.{and-true, within-first}
 use Rattle.ranges.proofs.character_in_range.Statement.{statement}
 use Rattle.ranges.proofs.character_in_range.Tie as tie
 
-insert-in-range-requires : tie.Need-insert-in-range-requires
-insert-in-range-requires c κs = search needs
-
 returns : tie.Need-returns
 unfolding characterInRange origin
 returns c =
@@ -21,4 +18,6 @@ returns c =
     ∙ rw (within-first lastToggles (d .toggles) (omega arith)) (sym (and-true (insertInRange (origin d))))
 
 pub character-in-range-spec : {M : Type 1} → statement M
-character-in-range-spec = tie.close (tie.spec insert-in-range-requires returns)
+character-in-range-spec =
+    tie.close
+    (tie.spec (λ c κs. search needs) returns)

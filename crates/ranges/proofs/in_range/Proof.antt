@@ -5,18 +5,6 @@ use Rattle.woot.specs.Ranges.{inRange}
 use Rattle.ranges.proofs.in_range.Statement.{statement}
 use Rattle.ranges.proofs.in_range.Tie as tie
 
-enum-known-o : tie.Need-enum-known-o
-enum-known-o c = search needs
-
-insert-in-range-requires : tie.Need-insert-in-range-requires
-insert-in-range-requires c κs = search needs
-
-enum-known-o-2 : tie.Need-enum-known-o-2
-enum-known-o-2 c = search needs
-
-toggle-in-range-requires : tie.Need-toggle-in-range-requires
-toggle-in-range-requires c κs = search needs
-
 returns : tie.Need-returns
 unfolding inRange
 returns c = c .insert-in-range .ensures ∙ sym (ap inRange (c .before .before .o .given .1))
@@ -28,10 +16,4 @@ returns-2 c = c .toggle-in-range .ensures ∙ sym (ap inRange (c .before .before
 pub in-range-spec : {M : Type 1} → statement M
 in-range-spec =
     tie.close
-    (tie.spec
-    enum-known-o
-    insert-in-range-requires
-    enum-known-o-2
-    toggle-in-range-requires
-    returns
-    returns-2)
+    (tie.spec (λ c. search needs) (λ c κs. search needs) (λ c. search needs) (λ c κs. search needs) returns returns-2)

@@ -15,47 +15,29 @@ reading : (i : Insert) {p q r s t u : Bool} → characterId (i .id) ≡ p → co
 unfolding insertInRange
 reading i e₁ e₂ e₃ e₄ e₅ e₆ = λ k. e₁ k && e₂ k && e₃ k && e₄ k && not (e₅ k) && not (e₆ k)
 
-character-id-requires : tie.Need-character-id-requires
-character-id-requires c κs = search needs
-
 returns : tie.Need-returns
 returns c = sym (reading _ (refused (c .before .character-id .ensures) (c .if1 .taken)) refl refl refl refl refl)
-
-code-point-requires : tie.Need-code-point-requires
-code-point-requires c κs = search needs
 
 returns-2 : tie.Need-returns-2
 returns-2 c =
     sym (reading _ (passed (c .before .before .before .character-id .ensures) (c .before .before .if1 .left))
     (refused (c .before .code-point .ensures) (c .if2 .taken)) refl refl refl refl)
 
-previous-id-requires : tie.Need-previous-id-requires
-previous-id-requires c κs = search needs
-
 returns-3 : tie.Need-returns-3
 returns-3 c =
     sym (reading _ (passed (c .before .before .before .before .before .character-id .ensures) (c .before .before .before .before .if1 .left)) (passed (c .before .before .before .code-point .ensures) (c .before .before .if2 .left))
     (refused (c .before .previous-id .ensures) (c .if3 .taken)) refl refl refl)
-
-next-id-requires : tie.Need-next-id-requires
-next-id-requires c κs = search needs
 
 returns-4 : tie.Need-returns-4
 returns-4 c =
     sym (reading _ (passed (c .before .before .before .before .before .before .before .character-id .ensures) (c .before .before .before .before .before .before .if1 .left)) (passed (c .before .before .before .before .before .code-point .ensures) (c .before .before .before .before .if2 .left))
     (passed (c .before .before .before .previous-id .ensures) (c .before .before .if3 .left)) (refused (c .before .next-id .ensures) (c .if4 .taken)) refl refl)
 
-same-id-requires : tie.Need-same-id-requires
-same-id-requires c κs = search needs
-
 returns-5 : tie.Need-returns-5
 returns-5 c =
     sym (reading _ (passed (c .before .before .before .before .before .before .before .before .before .character-id .ensures) (c .before .before .before .before .before .before .before .before .if1 .left)) (passed (c .before .before .before .before .before .before .before .code-point .ensures) (c .before .before .before .before .before .before .if2 .left))
     (passed (c .before .before .before .before .before .previous-id .ensures) (c .before .before .before .before .if3 .left)) (passed (c .before .before .before .next-id .ensures) (c .before .before .if4 .left))
     (sym (c .before .same-id .ensures) ∙ c .if5 .taken) refl)
-
-same-id-requires-2 : tie.Need-same-id-requires-2
-same-id-requires-2 c κs = search needs
 
 returns-6 : tie.Need-returns-6
 returns-6 c =
@@ -66,16 +48,5 @@ returns-6 c =
 pub insert-in-range-spec : {M : Type 1} → statement M
 insert-in-range-spec =
     tie.close
-    (tie.spec
-    character-id-requires
-    returns
-    code-point-requires
-    returns-2
-    previous-id-requires
-    returns-3
-    next-id-requires
-    returns-4
-    same-id-requires
-    returns-5
-    same-id-requires-2
-    returns-6)
+    (tie.spec (λ c κs. search needs) returns (λ c κs. search needs) returns-2 (λ c κs. search needs) returns-3
+    (λ c κs. search needs) returns-4 (λ c κs. search needs) returns-5 (λ c κs. search needs) returns-6)

@@ -11,18 +11,14 @@ use Rattle.ranges.proofs.neighbour_id.Tie as tie
 reading : (x m : Identifier) {a b : Bool} → same x m ≡ a → characterId x ≡ b → same x m || characterId x ≡ a || b
 reading x m p q = λ k. p k || q k
 
-same-id-requires : tie.Need-same-id-requires
-same-id-requires c κs = search needs
-
 returns : tie.Need-returns
 returns c = sym (reading _ _ (sym (c .before .same-id .ensures) ∙ c .if1 .taken) refl)
-
-character-id-requires : tie.Need-character-id-requires
-character-id-requires c κs = search needs
 
 returns-2 : tie.Need-returns-2
 returns-2 c =
     sym (reading _ _ (sym (c .before .before .same-id .ensures) ∙ c .before .if1 .left) (sym (c .character-id .ensures)))
 
 pub neighbour-id-spec : {M : Type 1} → statement M
-neighbour-id-spec = tie.close (tie.spec same-id-requires returns character-id-requires returns-2)
+neighbour-id-spec =
+    tie.close
+    (tie.spec (λ c κs. search needs) returns (λ c κs. search needs) returns-2)

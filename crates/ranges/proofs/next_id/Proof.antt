@@ -4,12 +4,11 @@ use Rattle.woot.specs.Ranges.{nextId}
 use Rattle.ranges.proofs.next_id.Statement.{statement}
 use Rattle.ranges.proofs.next_id.Tie as tie
 
-neighbour-id-requires : tie.Need-neighbour-id-requires
-neighbour-id-requires c κs = search needs
-
 returns : tie.Need-returns
 unfolding nextId
 returns c = c .neighbour-id .ensures
 
 pub next-id-spec : {M : Type 1} → statement M
-next-id-spec = tie.close (tie.spec neighbour-id-requires returns)
+next-id-spec =
+    tie.close
+    (tie.spec (λ c κs. search needs) returns)

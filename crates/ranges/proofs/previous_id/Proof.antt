@@ -4,12 +4,11 @@ use Rattle.woot.specs.Ranges.{previousId}
 use Rattle.ranges.proofs.previous_id.Statement.{statement}
 use Rattle.ranges.proofs.previous_id.Tie as tie
 
-neighbour-id-requires : tie.Need-neighbour-id-requires
-neighbour-id-requires c κs = search needs
-
 returns : tie.Need-returns
 unfolding previousId
 returns c = c .neighbour-id .ensures
 
 pub previous-id-spec : {M : Type 1} → statement M
-previous-id-spec = tie.close (tie.spec neighbour-id-requires returns)
+previous-id-spec =
+    tie.close
+    (tie.spec (λ c κs. search needs) returns)

@@ -8,9 +8,6 @@ use Rattle.ranges.proofs.Laws.{and-true, within-first}
 use Rattle.ranges.proofs.site_in_range.Statement.{statement}
 use Rattle.ranges.proofs.site_in_range.Tie as tie
 
-site-number-requires : tie.Need-site-number-requires
-site-number-requires c κs = search needs
-
 returns : tie.Need-returns
 unfolding siteInRange
 returns c =
@@ -18,4 +15,6 @@ returns c =
     c .site-number .ensures ∙ rw (within-first lastClock (s .clock) (omega arith)) (sym (and-true (siteNumber (s .number))))
 
 pub site-in-range-spec : {M : Type 1} → statement M
-site-in-range-spec = tie.close (tie.spec site-number-requires returns)
+site-in-range-spec =
+    tie.close
+    (tie.spec (λ c κs. search needs) returns)

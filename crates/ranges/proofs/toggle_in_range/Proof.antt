@@ -16,14 +16,8 @@ reading : (t : Toggle) {a b e : Bool} → siteNumber (t .sender) ≡ a → chara
 unfolding toggleInRange
 reading t p q r = λ k. p k && q k && r k
 
-site-number-requires : tie.Need-site-number-requires
-site-number-requires c κs = search needs
-
 returns : tie.Need-returns
 returns c = sym (reading _ (refused (c .before .site-number .ensures) (c .if1 .taken)) refl refl)
-
-character-id-requires : tie.Need-character-id-requires
-character-id-requires c κs = search needs
 
 returns-2 : tie.Need-returns-2
 returns-2 c =
@@ -37,4 +31,6 @@ returns-3 c =
     (within-below 1 lastToggles _ (omega arith)))
 
 pub toggle-in-range-spec : {M : Type 1} → statement M
-toggle-in-range-spec = tie.close (tie.spec site-number-requires returns character-id-requires returns-2 returns-3)
+toggle-in-range-spec =
+    tie.close
+    (tie.spec (λ c κs. search needs) returns (λ c κs. search needs) returns-2 returns-3)

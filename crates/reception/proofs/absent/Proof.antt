@@ -5,19 +5,15 @@ use borrow.Author.Needs.{needs}
 use Rattle.reception.proofs.absent.Statement.{statement}
 use Rattle.reception.proofs.absent.Tie as tie
 
-is-pending-requires : tie.Need-is-pending-requires
-is-pending-requires c κs = search needs
-
 returns : tie.Need-returns
 unfolding absentIn
 returns c = rw (sym (c .before .is-pending .ensures) ∙ c .if1 .taken)
-
-lacking-requires : tie.Need-lacking-requires
-lacking-requires c κs = search needs
 
 returns-2 : tie.Need-returns-2
 unfolding absentIn
 returns-2 c = rw (sym (c .before .before .is-pending .ensures) ∙ c .before .if1 .left) (c .lacking .ensures)
 
 pub absent-spec : {M : Type 1} → statement M
-absent-spec = tie.close (tie.spec is-pending-requires returns lacking-requires returns-2)
+absent-spec =
+    tie.close
+    (tie.spec (λ c κs. search needs) returns (λ c κs. search needs) returns-2)

@@ -4,17 +4,11 @@ use borrow.Author.Needs.{needs}
 use Rattle.reception.proofs.decide.Statement.{statement}
 use Rattle.reception.proofs.decide.Tie as tie
 
-enum-known-operation : tie.Need-enum-known-operation
-enum-known-operation c = search needs
-
 decide-insert-requires : tie.Need-decide-insert-requires
 unfolding inRange
 decide-insert-requires c κs =
     let p = c .before .before .before .before .before .before .before .before .before .before .before .before .before .before .pre in
     (p .0, rw (c .before .operation .given .1) at (p .1))
-
-enum-known-operation-2 : tie.Need-enum-known-operation-2
-enum-known-operation-2 c = search needs
 
 decide-toggle-requires : tie.Need-decide-toggle-requires
 unfolding inRange
@@ -31,10 +25,4 @@ returns-2 c = rw (c .before .before .operation2 .given .1) (c .decide-toggle .en
 pub decide-spec : {M : Type 1} → statement M
 decide-spec =
     tie.close
-    (tie.spec
-    enum-known-operation
-    decide-insert-requires
-    enum-known-operation-2
-    decide-toggle-requires
-    returns
-    returns-2)
+    (tie.spec (λ c. search needs) decide-insert-requires (λ c. search needs) decide-toggle-requires returns returns-2)

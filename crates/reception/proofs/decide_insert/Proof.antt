@@ -7,12 +7,6 @@ use Rattle.reception.proofs.Inserting.{seen-new, placed-decided, same-d
 use Rattle.reception.proofs.decide_insert.Statement.{statement}
 use Rattle.reception.proofs.decide_insert.Tie as tie
 
-seen-by-requires : tie.Need-seen-by-requires
-seen-by-requires c κs = search needs
-
-enum-told : tie.Need-enum-told
-enum-told c = search needs
-
 find-place-requires : tie.Need-find-place-requires
 find-place-requires c κs =
     let x = c .before .before .before .before .before .before .before .before .before .before .before .before .before .before .pre .0 in
@@ -24,12 +18,6 @@ placed-requires c κs =
     let x = c .before .before .before .before .before .before .before .before .before .before .before .before .before .before .before .pre .0 in
     let n = few _ x in
     (omega (arith, x .own), omega (arith, x .values))
-
-enum-told-2 : tie.Need-enum-told-2
-enum-told-2 c = search needs
-
-enum-told-3 : tie.Need-enum-told-3
-enum-told-3 c = search needs
 
 returns : tie.Need-returns
 returns c =
@@ -52,13 +40,5 @@ returns-3 c =
 pub decide-insert-spec : {M : Type 1} → statement M
 decide-insert-spec =
     tie.close
-    (tie.spec
-    seen-by-requires
-    enum-told
-    find-place-requires
-    placed-requires
-    enum-told-2
-    enum-told-3
-    returns
-    returns-2
-    returns-3)
+    (tie.spec (λ c κs. search needs) (λ c. search needs) find-place-requires placed-requires (λ c. search needs)
+    (λ c. search needs) returns returns-2 returns-3)

@@ -29,17 +29,11 @@ sought c = rw (c .before .key .ensures .0) at (c .find-among .ensures)
 standing : (c : tie.After-find-among) {f : Found} → c .find-among .result ≡ f → StandsAt _ (start c .pre .0) _ (ranged (start c)) f
 standing c e = stands-at _ (start c .pre .0) _ (ranged (start c)) (sought c) e
 
-key-requires : tie.Need-key-requires
-key-requires c κs = search needs
-
 find-among-requires : tie.Need-find-among-requires
 find-among-requires c κs =
     let x = c .before .before .before .before .before .before .before .before .before .before .before .before .before .pre .0 in
     let n = few _ x in
     (omega (arith, x .ids), examined-tabled _ x)
-
-enum-known-k : tie.Need-enum-known-k
-enum-known-k c = search needs
 
 shared-slice-read-if1 : tie.Need-shared-slice-read-if1
 shared-slice-read-if1 c =
@@ -56,9 +50,6 @@ returns c =
     let s = start f in
     let x = s .pre .0 in
     again-decided _ x _ (s .pre .1) _ (standing f (c .before .before .before .before .k .given .1)) (c .if1 .taken)
-
-enum-told : tie.Need-enum-told
-enum-told c = search needs
 
 absent-requires : tie.Need-absent-requires
 absent-requires c κs =
@@ -84,13 +75,5 @@ returns-3 c =
 pub decide-toggle-spec : {M : Type 1} → statement M
 decide-toggle-spec =
     tie.close
-    (tie.spec
-    key-requires
-    find-among-requires
-    enum-known-k
-    shared-slice-read-if1
-    returns
-    enum-told
-    absent-requires
-    returns-2
-    returns-3)
+    (tie.spec (λ c κs. search needs) find-among-requires (λ c. search needs) shared-slice-read-if1 returns
+    (λ c. search needs) absent-requires returns-2 returns-3)

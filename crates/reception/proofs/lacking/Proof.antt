@@ -5,18 +5,9 @@ use borrow.Author.Needs.{needs}
 use Rattle.reception.proofs.lacking.Statement.{statement}
 use Rattle.reception.proofs.lacking.Tie as tie
 
-sender-requires : tie.Need-sender-requires
-sender-requires c κs = search needs
-
-sender-full-requires : tie.Need-sender-full-requires
-sender-full-requires c κs = search needs
-
 returns : tie.Need-returns
 unfolding lackingIn
 returns c = rw (sym (c .before .before .sender .ensures), sym (c .before .sender-full .ensures) ∙ c .if1 .taken)
-
-is-full-requires : tie.Need-is-full-requires
-is-full-requires c κs = search needs
 
 returns-2 : tie.Need-returns-2
 unfolding lackingIn
@@ -33,4 +24,4 @@ returns-3 c =
 pub lacking-spec : {M : Type 1} → statement M
 lacking-spec =
     tie.close
-    (tie.spec sender-requires sender-full-requires returns is-full-requires returns-2 returns-3)
+    (tie.spec (λ c κs. search needs) (λ c κs. search needs) returns (λ c κs. search needs) returns-2 returns-3)

@@ -5,24 +5,6 @@ use borrow.Author.Needs.{needs}
 use Rattle.reception.proofs.placed.Statement.{statement}
 use Rattle.reception.proofs.placed.Tie as tie
 
-enum-told : tie.Need-enum-told
-enum-told c = search needs
-
-lacking-requires : tie.Need-lacking-requires
-lacking-requires c κs = search needs
-
-enum-told-2 : tie.Need-enum-told-2
-enum-told-2 c = search needs
-
-enum-told-3 : tie.Need-enum-told-3
-enum-told-3 c = search needs
-
-enum-known-placement : tie.Need-enum-known-placement
-enum-known-placement c = search needs
-
-document-full-requires : tie.Need-document-full-requires
-document-full-requires c κs = search needs
-
 returns : tie.Need-returns
 unfolding fullIn placedIn
 returns c = rw (c .before .before .before .placement .given .1, sym (c .before .document-full .ensures) ∙ c .if1 .taken)
@@ -46,15 +28,5 @@ returns-5 c = rw (c .before .before .before .placement .given .1, sym (c .before
 pub placed-spec : {M : Type 1} → statement M
 placed-spec =
     tie.close
-    (tie.spec
-    enum-told
-    lacking-requires
-    enum-told-2
-    enum-told-3
-    enum-known-placement
-    document-full-requires
-    returns
-    returns-2
-    returns-3
-    returns-4
-    returns-5)
+    (tie.spec (λ c. search needs) (λ c κs. search needs) (λ c. search needs) (λ c. search needs) (λ c. search needs)
+    (λ c κs. search needs) returns returns-2 returns-3 returns-4 returns-5)

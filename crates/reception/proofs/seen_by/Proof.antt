@@ -23,17 +23,11 @@ start c = c .before .before .before .before .before .before .before .before .bef
 held : (c : tie.After-holder-of) (h : Holder) → c .holder-of .result ≡ h → Has _ (start c .pre .0) _ (id-ranged (start c)) h
 held c h e = has _ (start c .pre .0) _ (id-ranged (start c)) (rw (c .before .key .ensures .0) at (c .holder-of .ensures)) e
 
-key-requires : tie.Need-key-requires
-key-requires c κs = search needs
-
 holder-of-requires : tie.Need-holder-of-requires
 holder-of-requires c κs =
     let x = c .before .before .before .before .before .before .before .before .before .before .before .before .before .pre .0 in
     let n = few _ x in
     (omega (arith, x .ids), (omega (arith, x .own), examined-tabled _ x))
-
-enum-known-k : tie.Need-enum-known-k
-enum-known-k c = search needs
 
 compared-requires : tie.Need-compared-requires
 compared-requires c κs =
@@ -43,9 +37,6 @@ compared-requires c κs =
     let h = character-within _ x _ (id-ranged s) _ (held (c .before .before .before) _ (c .before .k .given .1)) in
     (omega (arith, x .ids), (omega (arith, x .previous), (omega (arith, x .next), omega (arith, x .points))))
 
-enum-known-j : tie.Need-enum-known-j
-enum-known-j c = search needs
-
 compared-requires-2 : tie.Need-compared-requires-2
 compared-requires-2 c κs =
     let s = c .before .before .before .before .before .before .before .before .before .before .before .before .before .before .before .before .before in
@@ -53,9 +44,6 @@ compared-requires-2 c κs =
     let n = few _ x in
     let h = pending-within _ x _ (id-ranged s) _ (held (c .before .before .before) _ (c .before .j .given .1)) in
     (omega (arith, x .own), (omega (arith, x .first), (omega (arith, x .second), omega (arith, x .values))))
-
-enum-told : tie.Need-enum-told
-enum-told c = search needs
 
 returns : tie.Need-returns
 returns c =
@@ -75,14 +63,5 @@ returns-3 c =
 pub seen-by-spec : {M : Type 1} → statement M
 seen-by-spec =
     tie.close
-    (tie.spec
-    key-requires
-    holder-of-requires
-    enum-known-k
-    compared-requires
-    enum-known-j
-    compared-requires-2
-    enum-told
-    returns
-    returns-2
-    returns-3)
+    (tie.spec (λ c κs. search needs) holder-of-requires (λ c. search needs) compared-requires (λ c. search needs)
+    compared-requires-2 (λ c. search needs) returns returns-2 returns-3)

@@ -4,18 +4,6 @@ use Rattle.replica.specs.Outcomes.{answerBy}
 use Rattle.replica.proofs.answer.Statement.{statement}
 use Rattle.replica.proofs.answer.Tie as tie
 
-enum-known-decision : tie.Need-enum-known-decision
-enum-known-decision c = search needs
-
-enum-told : tie.Need-enum-told
-enum-told c = search needs
-
-enum-told-2 : tie.Need-enum-told-2
-enum-told-2 c = search needs
-
-enum-told-3 : tie.Need-enum-told-3
-enum-told-3 c = search needs
-
 returns : tie.Need-returns
 unfolding answerBy
 returns c = search needs
@@ -35,12 +23,5 @@ returns-4 c = rw (c .enum-told3 .given .1)
 pub answer-spec : {M : Type 1} → statement M
 answer-spec =
     tie.close
-    (tie.spec
-    enum-known-decision
-    enum-told
-    enum-told-2
-    enum-told-3
-    returns
-    returns-2
-    returns-3
-    returns-4)
+    (tie.spec (λ c. search needs) (λ c. search needs) (λ c. search needs) (λ c. search needs) returns returns-2
+    returns-3 returns-4)

@@ -5,15 +5,6 @@ use borrow.Author.Needs.{needs}
 use Rattle.replica.proofs.restore.Statement.{statement}
 use Rattle.replica.proofs.restore.Tie as tie
 
-judge-restore-requires : tie.Need-judge-restore-requires
-judge-restore-requires c κs = search needs
-
-enum-known-refusal : tie.Need-enum-known-refusal
-enum-known-refusal c = search needs
-
-enum-known-k : tie.Need-enum-known-k
-enum-known-k c = search needs
-
 send-requires : tie.Need-send-requires
 send-requires c κs =
     let r = c .before .before .before .before .before .before .before .before .before .before .before .before .before .before .before .before .args .t1 in
@@ -32,10 +23,4 @@ returns-2 c =
 pub restore-spec : {M : Type 1} → statement M
 restore-spec =
     tie.close
-    (tie.spec
-    judge-restore-requires
-    enum-known-refusal
-    enum-known-k
-    send-requires
-    returns
-    returns-2)
+    (tie.spec (λ c κs. search needs) (λ c. search needs) (λ c. search needs) send-requires returns returns-2)

@@ -7,21 +7,6 @@ use borrow.Author.Needs.{needs}
 use Rattle.replica.proofs.send.Statement.{statement}
 use Rattle.replica.proofs.send.Tie as tie
 
-slice-aggregate-carry : tie.Need-slice-aggregate-carry
-slice-aggregate-carry c = search needs
-
-slice-aggregate-carry-2 : tie.Need-slice-aggregate-carry-2
-slice-aggregate-carry-2 c = search needs
-
-slice-aggregate-carry-3 : tie.Need-slice-aggregate-carry-3
-slice-aggregate-carry-3 c = search needs
-
-slice-aggregate-carry-4 : tie.Need-slice-aggregate-carry-4
-slice-aggregate-carry-4 c = search needs
-
-slice-aggregate-carry-5 : tie.Need-slice-aggregate-carry-5
-slice-aggregate-carry-5 c = search needs
-
 carry-requires : tie.Need-carry-requires
 carry-requires c κs =
     let r = c .before .before .before .before .before .before .before .before .before .before .args .replica in
@@ -37,11 +22,5 @@ returns c =
 pub send-spec : {M : Type 1} → statement M
 send-spec =
     tie.close
-    (tie.spec
-    slice-aggregate-carry
-    slice-aggregate-carry-2
-    slice-aggregate-carry-3
-    slice-aggregate-carry-4
-    slice-aggregate-carry-5
-    carry-requires
-    returns)
+    (tie.spec (λ c. search needs) (λ c. search needs) (λ c. search needs) (λ c. search needs) (λ c. search needs)
+    carry-requires returns)

@@ -11,9 +11,6 @@ use borrow.Author.Needs.{needs}
 use Rattle.replica.proofs.visible_text.Statement.{statement}
 use Rattle.replica.proofs.visible_text.Tie as tie
 
-check-requires : tie.Need-check-requires
-check-requires c κs = search needs
-
 returns : tie.Need-returns
 returns c =
     let r = c .before .before .before .before .before .before .before .before .before .before .before .before .before .before .before .args .t1 in
@@ -26,9 +23,6 @@ write-text-requires c κs =
     let x = examined (viewed r) (full-view (r .document) full) (passed (c .before .before .before .before .before .before .before .check .ensures) (c .before .before .before .before .before .before .if1 .left)) in
     (full .characters, (full .toggles, few (viewed r) x .characters))
 
-same-length : tie.Need-same-length
-same-length c = search needs
-
 returns-2 : tie.Need-returns-2
 returns-2 c =
     let r = c .before .before .before .before .before .before .before .before .before .before .before .before .before .before .before .before .before .before .before .before .before .before .before .before .args .t1 in
@@ -40,4 +34,5 @@ returns-2 c =
 
 pub visible-text-spec : {M : Type 1} → statement M
 visible-text-spec =
-    tie.close (tie.spec check-requires returns write-text-requires same-length returns-2)
+    tie.close
+    (tie.spec (λ c κs. search needs) returns write-text-requires (λ c. search needs) returns-2)

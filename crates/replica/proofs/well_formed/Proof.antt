@@ -5,11 +5,10 @@ use borrow.Author.Needs.{needs}
 use Rattle.replica.proofs.well_formed.Statement.{statement}
 use Rattle.replica.proofs.well_formed.Tie as tie
 
-check-requires : tie.Need-check-requires
-check-requires c κs = search needs
-
 returns : tie.Need-returns
 returns c = c .check .ensures ∙ sym (form-view (c .before .before .before .before .before .before .before .before .before .before .before .before .before .args .t1))
 
 pub well-formed-spec : {M : Type 1} → statement M
-well-formed-spec = tie.close (tie.spec check-requires returns)
+well-formed-spec =
+    tie.close
+    (tie.spec (λ c κs. search needs) returns)

@@ -4,12 +4,11 @@ use borrow.Author.Needs.{needs}
 use Rattle.results.proofs.refused.Statement.{statement}
 use Rattle.results.proofs.refused.Tie as tie
 
-returned-requires : tie.Need-returned-requires
-returned-requires c κs = search needs
-
 returns : tie.Need-returns
 unfolding silent
 returns c = c .returned .ensures
 
 pub refused-spec : {M : Type 1} → statement M
-refused-spec = tie.close (tie.spec returned-requires returns)
+refused-spec =
+    tie.close
+    (tie.spec (λ c κs. search needs) returns)

@@ -9,26 +9,11 @@ use borrow.Author.Needs.{needs}
 use Rattle.saved_lines.proofs.character_of.Statement.{statement}
 use Rattle.saved_lines.proofs.character_of.Tie as tie
 
-array-read-identifier : tie.Need-array-read-identifier
-array-read-identifier c = search needs
-
-array-read-identifier-2 : tie.Need-array-read-identifier-2
-array-read-identifier-2 c = search needs
-
 identifier-requires : tie.Need-identifier-requires
 identifier-requires c κs = let b = at-most-at (characterLimits (c .args .version)) (c .args .t2) (c .pre) in omega (arith, b 0 (omega arith), b 1 (omega arith))
 
-array-read-t13 : tie.Need-array-read-t13
-array-read-t13 c = search needs
-
 cast-t14 : tie.Need-cast-t14
 cast-t14 c = let b = at-most-at (characterLimits (c .before .args .version)) (c .before .args .t2) (c .before .pre) in omega (arith, b 2 (omega arith))
-
-array-read-toggle-field : tie.Need-array-read-toggle-field
-array-read-toggle-field c = search needs
-
-toggle-field-requires : tie.Need-toggle-field-requires
-toggle-field-requires c κs = search needs
 
 cast-t19 : tie.Need-cast-t19
 cast-t19 c =
@@ -36,20 +21,8 @@ cast-t19 c =
     let b = at-most-at (characterLimits v) (c .before .before .args .t2) (c .before .before .pre) 3 (omega arith) in
     omega (arith, c .toggle-field .ensures, toggle-field-kept v _ b, last-fits v)
 
-array-read-identifier-3 : tie.Need-array-read-identifier-3
-array-read-identifier-3 c = search needs
-
-array-read-identifier-4 : tie.Need-array-read-identifier-4
-array-read-identifier-4 c = search needs
-
 identifier-requires-2 : tie.Need-identifier-requires-2
 identifier-requires-2 c κs = let b = at-most-at (characterLimits (c .before .before .args .version)) (c .before .before .args .t2) (c .before .before .pre) in omega (arith, b 4 (omega arith), b 5 (omega arith))
-
-array-read-identifier-5 : tie.Need-array-read-identifier-5
-array-read-identifier-5 c = search needs
-
-array-read-identifier-6 : tie.Need-array-read-identifier-6
-array-read-identifier-6 c = search needs
 
 identifier-requires-3 : tie.Need-identifier-requires-3
 identifier-requires-3 c κs = let b = at-most-at (characterLimits (c .before .before .before .args .version)) (c .before .before .before .args .t2) (c .before .before .before .pre) in omega (arith, b 6 (omega arith), b 7 (omega arith))
@@ -69,19 +42,6 @@ returns c =
 pub character-of-spec : {M : Type 1} → statement M
 character-of-spec =
     tie.close
-    (tie.spec
-    array-read-identifier
-    array-read-identifier-2
-    identifier-requires
-    array-read-t13
-    cast-t14
-    array-read-toggle-field
-    toggle-field-requires
-    cast-t19
-    array-read-identifier-3
-    array-read-identifier-4
-    identifier-requires-2
-    array-read-identifier-5
-    array-read-identifier-6
-    identifier-requires-3
-    returns)
+    (tie.spec (λ c. search needs) (λ c. search needs) identifier-requires (λ c. search needs) cast-t14
+    (λ c. search needs) (λ c κs. search needs) cast-t19 (λ c. search needs) (λ c. search needs) identifier-requires-2
+    (λ c. search needs) (λ c. search needs) identifier-requires-3 returns)

@@ -20,24 +20,6 @@ others = 0 ∷ 2 ∷ 3 ∷ 4 ∷ 5 ∷ 6 ∷ 7 ∷ 8 ∷ 9 ∷ 10 ∷ 11 ∷ 12 
 no-range : (r : Refusal) → OneOf others (tagOf the-type r) → r ≡ Range → ⊥
 no-range r k e = miss others 1 tt (subst (λ (q : Refusal). OneOf others (tagOf the-type q)) e k)
 
-read-pending-requires : tie.Need-read-pending-requires
-read-pending-requires c κs = search needs
-
-enum-known-read : tie.Need-enum-known-read
-enum-known-read c = search needs
-
-enum-known-read-2 : tie.Need-enum-known-read-2
-enum-known-read-2 c = search needs
-
-enum-told : tie.Need-enum-told
-enum-told c = search needs
-
-no-operation-requires : tie.Need-no-operation-requires
-no-operation-requires c κs = search needs
-
-no-operation-requires-2 : tie.Need-no-operation-requires-2
-no-operation-requires-2 c κs = search needs
-
 returns : tie.Need-returns
 unfolding judgement
 returns c = operation-done _ (c .before .before .before .before .before .args .line .now) _ (sym (c .before .before .before .read-pending .ensures) ∙ c .before .read .given .1)
@@ -51,13 +33,5 @@ returns-3 c = c .no-operation2 .ensures ∙ operation-layout _ (c .before .befor
 pub read-operation-spec : {M : Type 1} → statement M
 read-operation-spec =
     tie.close
-    (tie.spec
-    read-pending-requires
-    enum-known-read
-    enum-known-read-2
-    enum-told
-    no-operation-requires
-    no-operation-requires-2
-    returns
-    returns-2
-    returns-3)
+    (tie.spec (λ c κs. search needs) (λ c. search needs) (λ c. search needs) (λ c. search needs) (λ c κs. search needs)
+    (λ c κs. search needs) returns returns-2 returns-3)

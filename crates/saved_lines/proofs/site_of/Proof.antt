@@ -7,14 +7,8 @@ use borrow.Author.Needs.{needs}
 use Rattle.saved_lines.proofs.site_of.Statement.{statement}
 use Rattle.saved_lines.proofs.site_of.Tie as tie
 
-array-read-t5 : tie.Need-array-read-t5
-array-read-t5 c = search needs
-
 cast-t6 : tie.Need-cast-t6
 cast-t6 c = let b = at-most-at siteLimits (c .args .t1) (c .pre) in omega (arith, b 0 (omega arith))
-
-array-read-t9 : tie.Need-array-read-t9
-array-read-t9 c = search needs
 
 cast-t10 : tie.Need-cast-t10
 cast-t10 c = let b = at-most-at siteLimits (c .args .t1) (c .pre) in omega (arith, b 1 (omega arith))
@@ -24,4 +18,6 @@ unfolding siteOf
 returns c = refl
 
 pub site-of-spec : {M : Type 1} → statement M
-site-of-spec = tie.close (tie.spec array-read-t5 cast-t6 array-read-t9 cast-t10 returns)
+site-of-spec =
+    tie.close
+    (tie.spec (λ c. search needs) cast-t6 (λ c. search needs) cast-t10 returns)

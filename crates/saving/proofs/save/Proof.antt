@@ -13,9 +13,6 @@ use borrow.Author.Needs.{needs}
 use Rattle.saving.proofs.save.Statement.{statement}
 use Rattle.saving.proofs.save.Tie as tie
 
-check-requires : tie.Need-check-requires
-check-requires c κs = search needs
-
 returns : tie.Need-returns
 returns c =
     let r = c .before .before .before .before .before .before .before .before .before .before .before .before .before .before .before .args .t1 in
@@ -30,9 +27,6 @@ put-requires c κs =
     let w = few (viewed r) x in
     (full .characters, (w .characters, (omega (arith, full .toggles, w .characters), (full .pending, w .pending))))
 
-same-length : tie.Need-same-length
-same-length c = search needs
-
 returns-2 : tie.Need-returns-2
 unfolding stateIn meaning charactersIn operationsIn
 returns-2 c =
@@ -42,4 +36,6 @@ returns-2 c =
     (p .0 ∙ e .0, p .1 ∙ e .1)
 
 pub save-spec : {M : Type 1} → statement M
-save-spec = tie.close (tie.spec check-requires returns put-requires same-length returns-2)
+save-spec =
+    tie.close
+    (tie.spec (λ c κs. search needs) returns put-requires (λ c. search needs) returns-2)

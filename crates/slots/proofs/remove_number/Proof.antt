@@ -13,41 +13,11 @@ Inv-loop a₀ n j last i₀ a i = (suc last ≡ n) × Closing a₀ n j 0 a i
 abbrev μ-loop : tie.MeasureT-loop
 μ-loop a₀ n j last i₀ a i = last - i
 
-sub-last : tie.Need-sub-last Inv-loop μ-loop
-sub-last c = omega arith
-
 loop-holds : tie.Need-loop-holds Inv-loop μ-loop
 loop-holds c = (omega arith, closing-first _ _ _ _ (omega arith) (omega arith))
 
-add-a : tie.Need-add-a Inv-loop μ-loop
-add-a c = omega arith
-
-mul-a : tie.Need-mul-a Inv-loop μ-loop
-mul-a c = omega arith
-
-slice-read-a : tie.Need-slice-read-a Inv-loop μ-loop
-slice-read-a c = omega arith
-
-mul-a-2 : tie.Need-mul-a-2 Inv-loop μ-loop
-mul-a-2 c = omega arith
-
-slice-write-a : tie.Need-slice-write-a Inv-loop μ-loop
-slice-write-a c = omega arith
-
-add-i : tie.Need-add-i Inv-loop μ-loop
-add-i c = omega arith
-
-loop-less : tie.Need-loop-less Inv-loop μ-loop
-loop-less c = omega arith
-
 loop-again : tie.Need-loop-again Inv-loop μ-loop
 loop-again c = (omega arith, closing-next (omega arith) (c .before .before .loop .inv .1))
-
-mul-a-3 : tie.Need-mul-a-3 Inv-loop μ-loop
-mul-a-3 c = omega arith
-
-slice-write-a-2 : tie.Need-slice-write-a-2 Inv-loop μ-loop
-slice-write-a-2 c = omega arith
 
 same-length : tie.Need-same-length Inv-loop μ-loop
 same-length c = simp length-set (c .before .loop .inv .1 .size)
@@ -58,20 +28,6 @@ returns c = closing-last _ _ (omega arith) (omega arith) (c .before .loop .inv .
 pub remove-number-spec : {M : Type 1} → statement M
 remove-number-spec =
     tie.close
-    (tie.spec
-    Inv-loop
-    μ-loop
-    sub-last
-    loop-holds
-    add-a
-    mul-a
-    slice-read-a
-    mul-a-2
-    slice-write-a
-    add-i
-    loop-less
-    loop-again
-    mul-a-3
-    slice-write-a-2
-    same-length
-    returns)
+    (tie.spec Inv-loop μ-loop (λ c. omega arith) loop-holds (λ c. omega arith) (λ c. omega arith) (λ c. omega arith)
+    (λ c. omega arith) (λ c. omega arith) (λ c. omega arith) (λ c. omega arith) loop-again (λ c. omega arith)
+    (λ c. omega arith) same-length returns)

@@ -5,15 +5,6 @@ use Rattle.transcript.specs.Loop.{reportOn, processed, processedOut}
 use Rattle.transcript.proofs.process_line.Statement.{statement}
 use Rattle.transcript.proofs.process_line.Tie as tie
 
-answer-line-requires : tie.Need-answer-line-requires
-answer-line-requires c κs = search needs
-
-report-line-requires : tie.Need-report-line-requires
-report-line-requires c κs = search needs
-
-same-length : tie.Need-same-length
-same-length c = search needs
-
 returns : tie.Need-returns
 unfolding processed processedOut reportOn
 returns c =
@@ -22,4 +13,5 @@ returns c =
 
 pub process-line-spec : {M : Type 1} → statement M
 process-line-spec =
-    tie.close (tie.spec answer-line-requires report-line-requires same-length returns)
+    tie.close
+    (tie.spec (λ c κs. search needs) (λ c κs. search needs) (λ c. search needs) returns)

@@ -38,45 +38,21 @@ filled-four : (n a b d e : ℕ) → encodedLength n ≡ 4 → a ≡ 240 + n / 26
 unfolding fourBytes continuation
 filled-four n a b d e l p q r s = rw (encode-four n l, p, q, r, s, div-one)
 
-encoded-length-requires : tie.Need-encoded-length-requires
-encoded-length-requires c κs = search needs
-
-byte-requires : tie.Need-byte-requires
-byte-requires c κs = search needs
-
 returns : tie.Need-returns
 returns c =
     let l = c .before .before .encoded-length in
     answer _ _ _ (l .ensures) (filled-one _ _ (sym (l .ensures) ∙ c .before .if1 .taken) (c .byte .ensures))
-
-byte-requires-2 : tie.Need-byte-requires-2
-byte-requires-2 c κs = search needs
-
-byte-requires-3 : tie.Need-byte-requires-3
-byte-requires-3 c κs = search needs
 
 returns-2 : tie.Need-returns-2
 returns-2 c =
     let l = c .before .before .before .before .encoded-length in
     answer _ _ _ (l .ensures) (filled-two _ _ _ (sym (l .ensures) ∙ c .before .if2 .taken) (c .byte3 .ensures) (c .before .before .byte2 .ensures))
 
-byte-requires-4 : tie.Need-byte-requires-4
-byte-requires-4 c κs = search needs
-
-byte-requires-5 : tie.Need-byte-requires-5
-byte-requires-5 c κs = search needs
-
 returns-3 : tie.Need-returns-3
 returns-3 c =
     let l = c .before .before .before .before .before .before .encoded-length in
     answer _ _ _ (l .ensures)
     (filled-three _ _ _ _ (sym (l .ensures) ∙ c .before .if3 .taken) (c .byte5 .ensures) (c .before .before .byte4 .ensures) (c .before .before .before .before .byte2 .ensures))
-
-byte-requires-6 : tie.Need-byte-requires-6
-byte-requires-6 c κs = search needs
-
-byte-requires-7 : tie.Need-byte-requires-7
-byte-requires-7 c κs = search needs
 
 -- what is left when a length is neither 1, 2 nor 3
 fourth : (n m : ℕ) → m ≡ encodedLength n → (m ≡ 1 → ⊥) → (m ≡ 2 → ⊥) → (m ≡ 3 → ⊥) → encodedLength n ≡ 4
@@ -92,16 +68,6 @@ returns-4 c =
 pub encode-spec : {M : Type 1} → statement M
 encode-spec =
     tie.close
-    (tie.spec
-    encoded-length-requires
-    byte-requires
-    returns
-    byte-requires-2
-    byte-requires-3
-    returns-2
-    byte-requires-4
-    byte-requires-5
-    returns-3
-    byte-requires-6
-    byte-requires-7
+    (tie.spec (λ c κs. search needs) (λ c κs. search needs) returns (λ c κs. search needs) (λ c κs. search needs)
+    returns-2 (λ c κs. search needs) (λ c κs. search needs) returns-3 (λ c κs. search needs) (λ c κs. search needs)
     returns-4)

@@ -22,20 +22,11 @@ used : (e : Encoded) (n : ℕ) → e ≡ encoding n → take (e .length) (e .byt
 unfolding encoding
 used e n p = rw p (take-at (encode n) _ (encodedLength n) (length-encode n))
 
-encode-requires : tie.Need-encode-requires
-encode-requires c κs = search needs
-
 array-share-prefix-bytes : tie.Need-array-share-prefix-bytes
 array-share-prefix-bytes c = within _ _ (c .before .before .encode .ensures)
 
 slice-aggregate-put-all : tie.Need-slice-aggregate-put-all
 slice-aggregate-put-all c = sym (length-take-le _ _ (within _ _ (c .before .before .before .encode .ensures)))
-
-put-all-requires : tie.Need-put-all-requires
-put-all-requires c κs = search needs
-
-same-length : tie.Need-same-length
-same-length c = search needs
 
 returns : tie.Need-returns
 returns c =
@@ -46,10 +37,5 @@ returns c =
 pub write-spec : {M : Type 1} → statement M
 write-spec =
     tie.close
-    (tie.spec
-    encode-requires
-    array-share-prefix-bytes
-    slice-aggregate-put-all
-    put-all-requires
-    same-length
-    returns)
+    (tie.spec (λ c κs. search needs) array-share-prefix-bytes slice-aggregate-put-all (λ c κs. search needs)
+    (λ c. search needs) returns)

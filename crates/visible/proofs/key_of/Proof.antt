@@ -13,20 +13,11 @@ found c =
     let s = c .before .before .before .before .before .before in
     slot-within (s .args .toggles .now) (s .args .n) (s .args .k) _ (s .pre .1) (c .before .before .before .nth .ensures) (c .before .i .given .1)
 
-nth-requires : tie.Need-nth-requires
-nth-requires c κs = search needs
-
-enum-known-i : tie.Need-enum-known-i
-enum-known-i c = search needs
-
 mul-result : tie.Need-mul-result
 mul-result c = omega (arith, found c)
 
 shared-slice-read-result : tie.Need-shared-slice-read-result
 shared-slice-read-result c = omega (arith, found (c .before))
-
-enum-told : tie.Need-enum-told
-enum-told c = search needs
 
 returns : tie.Need-returns
 returns c cs e f =
@@ -42,11 +33,5 @@ returns-2 c cs e f =
 pub key-of-spec : {M : Type 1} → statement M
 key-of-spec =
     tie.close
-    (tie.spec
-    nth-requires
-    enum-known-i
-    mul-result
-    shared-slice-read-result
-    enum-told
-    returns
-    returns-2)
+    (tie.spec (λ c κs. search needs) (λ c. search needs) mul-result shared-slice-read-result (λ c. search needs)
+    returns returns-2)

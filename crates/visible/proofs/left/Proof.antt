@@ -10,14 +10,10 @@ use Rattle.visible.proofs.left.Tie as tie
 returns : tie.Need-returns
 returns c cs e f = rw (c .if1 .taken) (sym key-begin)
 
-sub-key-of : tie.Need-sub-key-of
-sub-key-of c = search needs
-
-key-of-requires : tie.Need-key-of-requires
-key-of-requires c κs = search needs
-
 returns-2 : tie.Need-returns-2
 returns-2 c cs e f = c .key-of .ensures cs e f ∙ left-key (visibles cs) (c .before .before .before .before .args .point) (c .before .if1 .left)
 
 pub left-spec : {M : Type 1} → statement M
-left-spec = tie.close (tie.spec returns sub-key-of key-of-requires returns-2)
+left-spec =
+    tie.close
+    (tie.spec returns (λ c. search needs) (λ c κs. search needs) returns-2)

@@ -10,15 +10,6 @@ use Rattle.visible.proofs.put.Tie as tie
 returns : tie.Need-returns
 returns c = rw (spelt-not _ _ (ne-eqb _ _ (c .if1 .taken))) (sym (past-none _ _), sym (placed-none _ _))
 
-printed-requires : tie.Need-printed-requires
-printed-requires c κs = search needs
-
-write-requires : tie.Need-write-requires
-write-requires c κs = search needs
-
-same-length : tie.Need-same-length
-same-length c = search needs
-
 returns-2 : tie.Need-returns-2
 returns-2 c =
     let w = c .before .before .write .ensures in
@@ -26,4 +17,6 @@ returns-2 c =
     (w .0, w .1)
 
 pub put-spec : {M : Type 1} → statement M
-put-spec = tie.close (tie.spec returns printed-requires write-requires same-length returns-2)
+put-spec =
+    tie.close
+    (tie.spec returns (λ c κs. search needs) (λ c κs. search needs) (λ c. search needs) returns-2)

@@ -7,11 +7,10 @@ use borrow.Author.Needs.{needs}
 use Rattle.visible.proofs.right.Statement.{statement}
 use Rattle.visible.proofs.right.Tie as tie
 
-key-of-requires : tie.Need-key-of-requires
-key-of-requires c κs = search needs
-
 returns : tie.Need-returns
 returns c cs e f = c .key-of .ensures cs e f ∙ right-key (visibles cs) (c .before .before .before .args .point)
 
 pub right-spec : {M : Type 1} → statement M
-right-spec = tie.close (tie.spec key-of-requires returns)
+right-spec =
+    tie.close
+    (tie.spec (λ c κs. search needs) returns)

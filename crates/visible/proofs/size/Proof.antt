@@ -7,12 +7,6 @@ use borrow.Author.Needs.{needs}
 use Rattle.visible.proofs.size.Statement.{statement}
 use Rattle.visible.proofs.size.Tie as tie
 
-printed-requires : tie.Need-printed-requires
-printed-requires c κs = search needs
-
-encoded-length-requires : tie.Need-encoded-length-requires
-encoded-length-requires c κs = search needs
-
 returns : tie.Need-returns
 returns c = rw (c .encoded-length .ensures, c .before .printed .ensures, spelt-shown _ _ (eq-eqb _ _ (c .before .before .if1 .taken))) (sym (length-encode _))
 
@@ -20,4 +14,6 @@ returns-2 : tie.Need-returns-2
 returns-2 c = rw (spelt-not _ _ (ne-eqb _ _ (c .if1 .left)))
 
 pub size-spec : {M : Type 1} → statement M
-size-spec = tie.close (tie.spec printed-requires encoded-length-requires returns returns-2)
+size-spec =
+    tie.close
+    (tie.spec (λ c κs. search needs) (λ c κs. search needs) returns returns-2)

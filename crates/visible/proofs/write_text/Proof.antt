@@ -18,9 +18,6 @@ use Rattle.visible.proofs.write_text.Tie as tie
 whole : (cs : List Character) (ps ts : List ℕ) → codePoints cs ≡ ps → toggleCounts cs ≡ ts → textOf ps ts ≡ text cs
 whole cs ps ts p t = rw (← p, ← t) (text-columns cs)
 
-text-length-requires : tie.Need-text-length-requires
-text-length-requires c κs = search needs
-
 returns : tie.Need-returns
 returns c =
     let a = c .before .before .before .before .before .args in
@@ -33,9 +30,6 @@ put-text-requires c κs =
     let s = c .before .before .before .before .before .before in
     (s .pre .1 .0, (s .pre .1 .1, omega (arith, c .before .before .text-length .ensures)))
 
-same-length : tie.Need-same-length
-same-length c = search needs
-
 returns-2 : tie.Need-returns-2
 returns-2 c =
     let a = c .before .before .before .before .before .before .before .before .before .args in
@@ -46,4 +40,5 @@ returns-2 c =
 
 pub write-text-spec : {M : Type 1} → statement M
 write-text-spec =
-    tie.close (tie.spec text-length-requires returns put-text-requires same-length returns-2)
+    tie.close
+    (tie.spec (λ c κs. search needs) returns put-text-requires (λ c. search needs) returns-2)

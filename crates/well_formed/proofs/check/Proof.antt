@@ -63,9 +63,6 @@ order c =
     let s = start (c .before .before .before) in
     c .characters-ordered .ensures (s .args .code-points .now) (s .args .toggles .now) (characters-ranged (made s) (full s) (kept (c .before .before .before)))
 
-in-ranges-requires : tie.Need-in-ranges-requires
-in-ranges-requires c κs = search needs
-
 returns : tie.Need-returns
 returns c =
     sym (out-of-range (made (c .before .before .before .before .before .before .before .before .before .before .before .before .before))
@@ -121,12 +118,5 @@ returns-4 c =
 pub check-spec : {M : Type 1} → statement M
 check-spec =
     tie.close
-    (tie.spec
-    in-ranges-requires
-    returns
-    agrees-among-requires
-    returns-2
-    characters-ordered-requires
-    returns-3
-    queue-formed-requires
-    returns-4)
+    (tie.spec (λ c κs. search needs) returns agrees-among-requires returns-2 characters-ordered-requires returns-3
+    queue-formed-requires returns-4)

@@ -41,25 +41,16 @@ returns c = sym (reading _ _ _ _ _ (lt-leb _ _ (c .if1 .taken)) refl refl refl r
 returns-2 : tie.Need-returns-2
 returns-2 c = sym (reading _ _ _ _ _ (few (c .before)) (lt-leb _ _ (c .if2 .taken)) refl refl refl)
 
-site-in-range-requires : tie.Need-site-in-range-requires
-site-in-range-requires c κs = search needs
-
 returns-3 : tie.Need-returns-3
 returns-3 c =
     sym (reading _ _ _ _ _ (few (c .before .before .before)) (fewer (c .before .before))
     (refused (c .before .site-in-range .ensures) (c .if3 .taken)) refl refl)
-
-characters-in-range-requires : tie.Need-characters-in-range-requires
-characters-in-range-requires c κs = search needs
 
 returns-4 : tie.Need-returns-4
 returns-4 c =
     let unranged = refused (c .before .characters-in-range .ensures) (c .if4 .taken) in
     sym (reading _ _ _ _ _ (few (c .before .before .before .before .before)) (fewer (c .before .before .before .before))
     (here (c .before .before)) unranged refl)
-
-operations-in-range-requires : tie.Need-operations-in-range-requires
-operations-in-range-requires c κs = search needs
 
 returns-5 : tie.Need-returns-5
 returns-5 c =
@@ -70,12 +61,5 @@ returns-5 c =
 pub in-ranges-spec : {M : Type 1} → statement M
 in-ranges-spec =
     tie.close
-    (tie.spec
-    returns
-    returns-2
-    site-in-range-requires
-    returns-3
-    characters-in-range-requires
-    returns-4
-    operations-in-range-requires
-    returns-5)
+    (tie.spec returns returns-2 (λ c κs. search needs) returns-3 (λ c κs. search needs) returns-4
+    (λ c κs. search needs) returns-5)

@@ -29,15 +29,9 @@ pending-formed-requires c κs =
 returns : tie.Need-returns
 returns c = rw (refused (c .before .pending-formed .ensures) (c .if1 .taken))
 
-reaches-all-requires : tie.Need-reaches-all-requires
-reaches-all-requires c κs = search needs
-
 returns-2 : tie.Need-returns-2
 returns-2 c =
     rw (passed (c .before .before .before .pending-formed .ensures) (c .before .before .if1 .left), refused (c .before .reaches-all .ensures) (c .if2 .taken))
-
-reaches-all-requires-2 : tie.Need-reaches-all-requires-2
-reaches-all-requires-2 c κs = search needs
 
 returns-3 : tie.Need-returns-3
 returns-3 c =
@@ -47,15 +41,6 @@ returns-3 c =
 pub queue-formed-spec : {M : Type 1} → statement M
 queue-formed-spec =
     tie.close
-    (tie.spec
-    slice-aggregate-pending-formed
-    slice-aggregate-pending-formed-2
-    slice-aggregate-pending-formed-3
-    slice-aggregate-pending-formed-4
-    slice-aggregate-pending-formed-5
-    pending-formed-requires
-    returns
-    reaches-all-requires
-    returns-2
-    reaches-all-requires-2
-    returns-3)
+    (tie.spec slice-aggregate-pending-formed slice-aggregate-pending-formed-2 slice-aggregate-pending-formed-3
+    slice-aggregate-pending-formed-4 slice-aggregate-pending-formed-5 pending-formed-requires returns
+    (λ c κs. search needs) returns-2 (λ c κs. search needs) returns-3)

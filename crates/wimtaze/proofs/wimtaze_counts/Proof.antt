@@ -7,21 +7,6 @@ use borrow.Author.Needs.{needs}
 use Rattle.wimtaze.proofs.wimtaze_counts.Statement.{statement}
 use Rattle.wimtaze.proofs.wimtaze_counts.Tie as tie
 
-read-requires : tie.Need-read-requires
-read-requires c κs = search needs
-
-enum-known-answer : tie.Need-enum-known-answer
-enum-known-answer c = search needs
-
-refused-requires : tie.Need-refused-requires
-refused-requires c κs = search needs
-
-enum-told : tie.Need-enum-told
-enum-told c = search needs
-
-count-requires : tie.Need-count-requires
-count-requires c κs = search needs
-
 returns : tie.Need-returns
 returns c =
     c .refused .ensures
@@ -34,4 +19,6 @@ returns-2 c =
 
 pub wimtaze-counts-spec : {M : Type 1} → statement M
 wimtaze-counts-spec =
-    tie.close (tie.spec read-requires enum-known-answer refused-requires enum-told count-requires returns returns-2)
+    tie.close
+    (tie.spec (λ c κs. search needs) (λ c. search needs) (λ c κs. search needs) (λ c. search needs)
+    (λ c κs. search needs) returns returns-2)

@@ -10,15 +10,6 @@ use borrow.Author.Needs.{needs}
 use Rattle.wimtaze.proofs.wimtaze_downgrade.Statement.{statement}
 use Rattle.wimtaze.proofs.wimtaze_downgrade.Tie as tie
 
-downgrade-requires : tie.Need-downgrade-requires
-downgrade-requires c κs = search needs
-
-written-requires : tie.Need-written-requires
-written-requires c κs = search needs
-
-same-length : tie.Need-same-length
-same-length c = search needs
-
 returns : tie.Need-returns
 returns c =
     let t = c .before .before .before .downgrade .ensures in
@@ -26,4 +17,5 @@ returns c =
 
 pub wimtaze-downgrade-spec : {M : Type 1} → statement M
 wimtaze-downgrade-spec =
-    tie.close (tie.spec downgrade-requires written-requires same-length returns)
+    tie.close
+    (tie.spec (λ c κs. search needs) (λ c κs. search needs) (λ c. search needs) returns)

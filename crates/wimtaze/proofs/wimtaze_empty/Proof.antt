@@ -17,17 +17,11 @@ use borrow.Author.Needs.{needs}
 use Rattle.wimtaze.proofs.wimtaze_empty.Statement.{statement}
 use Rattle.wimtaze.proofs.wimtaze_empty.Tie as tie
 
-refused-requires : tie.Need-refused-requires
-refused-requires c κs = search needs
-
 returns : tie.Need-returns
 unfolding beginning siteNumber within decided turned quiet
 returns c =
     let n : ℕ = c .before .before .before .args .number in
     rw (lt-leb 1 n (omega arith)) (c .refused .ensures, refl, refl)
-
-refused-requires-2 : tie.Need-refused-requires-2
-refused-requires-2 c κs = search needs
 
 returns-2 : tie.Need-returns-2
 unfolding beginning siteNumber within decided turned quiet
@@ -35,20 +29,11 @@ returns-2 c =
     let n : ℕ = c .before .before .before .before .args .number in
     rw (le-leb 1 n (omega arith), lt-leb n 16 (omega arith)) (c .refused2 .ensures, refl, refl)
 
-cast-empty : tie.Need-cast-empty
-cast-empty c = search needs
-
-empty-requires : tie.Need-empty-requires
-empty-requires c κs = search needs
-
 save-requires : tie.Need-save-requires
 unfolding siteNumber within
 save-requires c κs =
     let n : ℕ = c .before .before .before .before .before .args .number in
     ap replicaWellFormed (c .before .empty .ensures) ∙ empty-replica-formed n ∙ rw (le-leb 1 n (omega arith), le-leb n 16 (omega arith)) refl
-
-same-length : tie.Need-same-length
-same-length c = search needs
 
 returns-3 : tie.Need-returns-3
 unfolding beginning siteNumber within decided
@@ -60,13 +45,5 @@ returns-3 c =
 pub wimtaze-empty-spec : {M : Type 1} → statement M
 wimtaze-empty-spec =
     tie.close
-    (tie.spec
-    refused-requires
-    returns
-    refused-requires-2
-    returns-2
-    cast-empty
-    empty-requires
-    save-requires
-    same-length
-    returns-3)
+    (tie.spec (λ c κs. search needs) returns (λ c κs. search needs) returns-2 (λ c. search needs)
+    (λ c κs. search needs) save-requires (λ c. search needs) returns-3)

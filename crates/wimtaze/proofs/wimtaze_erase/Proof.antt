@@ -11,21 +11,6 @@ use borrow.Author.Needs.{needs}
 use Rattle.wimtaze.proofs.wimtaze_erase.Statement.{statement}
 use Rattle.wimtaze.proofs.wimtaze_erase.Tie as tie
 
-read-requires : tie.Need-read-requires
-read-requires c κs = search needs
-
-enum-known-answer : tie.Need-enum-known-answer
-enum-known-answer c = search needs
-
-refused-requires : tie.Need-refused-requires
-refused-requires c κs = search needs
-
-enum-told : tie.Need-enum-told
-enum-told c = search needs
-
-delete-requires : tie.Need-delete-requires
-delete-requires c κs = search needs
-
 send-requires : tie.Need-send-requires
 send-requires c κs = delete-sendable _ _ (c .before .before .delete .ensures)
 
@@ -33,12 +18,6 @@ returns : tie.Need-returns
 unfolding deletingHere turned quiet
 returns c =
     carried (turned-away _ _ _ (refused-alone _ _ (c .before .before .before .before .read .ensures) _ (c .before .before .answer .given .1))) (c .refused .ensures, refl, refl)
-
-same-length : tie.Need-same-length
-same-length c = search needs
-
-same-length-2 : tie.Need-same-length-2
-same-length-2 c = search needs
 
 returns-2 : tie.Need-returns-2
 unfolding deletingHere
@@ -50,14 +29,5 @@ returns-2 c =
 pub wimtaze-erase-spec : {M : Type 1} → statement M
 wimtaze-erase-spec =
     tie.close
-    (tie.spec
-    read-requires
-    enum-known-answer
-    refused-requires
-    enum-told
-    delete-requires
-    send-requires
-    returns
-    same-length
-    same-length-2
-    returns-2)
+    (tie.spec (λ c κs. search needs) (λ c. search needs) (λ c κs. search needs) (λ c. search needs)
+    (λ c κs. search needs) send-requires returns (λ c. search needs) (λ c. search needs) returns-2)

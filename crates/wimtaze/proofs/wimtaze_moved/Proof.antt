@@ -7,11 +7,10 @@ use Rattle.woot.specs.Cursor.{movedBy}
 use Rattle.wimtaze.proofs.wimtaze_moved.Statement.{statement}
 use Rattle.wimtaze.proofs.wimtaze_moved.Tie as tie
 
-moved-requires : tie.Need-moved-requires
-moved-requires c κs = search needs
-
 returns : tie.Need-returns
 returns c = c .moved .ensures ∙ ap (movedBy (c .before .args .point)) (toZ-ofZ {w = w32} (c .before .fits .shift))
 
 pub wimtaze-moved-spec : {M : Type 1} → statement M
-wimtaze-moved-spec = tie.close (tie.spec moved-requires returns)
+wimtaze-moved-spec =
+    tie.close
+    (tie.spec (λ c κs. search needs) returns)

@@ -6,14 +6,10 @@ use Rattle.wimtaze.proofs.Shifting.{top-receives}
 use Rattle.wimtaze.proofs.wimtaze_receive.Statement.{statement}
 use Rattle.wimtaze.proofs.wimtaze_receive.Tie as tie
 
-wimtaze-receive-at-requires : tie.Need-wimtaze-receive-at-requires
-wimtaze-receive-at-requires c κs = search needs
-
-same-length : tie.Need-same-length
-same-length c = search needs
-
 returns : tie.Need-returns
 returns c = carried (sym (top-receives _ _ _)) (c .before .before .wimtaze-receive-at .ensures)
 
 pub wimtaze-receive-spec : {M : Type 1} → statement M
-wimtaze-receive-spec = tie.close (tie.spec wimtaze-receive-at-requires same-length returns)
+wimtaze-receive-spec =
+    tie.close
+    (tie.spec (λ c κs. search needs) (λ c. search needs) returns)

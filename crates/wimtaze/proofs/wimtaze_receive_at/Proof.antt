@@ -12,36 +12,6 @@ use borrow.Author.Needs.{needs}
 use Rattle.wimtaze.proofs.wimtaze_receive_at.Statement.{statement}
 use Rattle.wimtaze.proofs.wimtaze_receive_at.Tie as tie
 
-read-requires : tie.Need-read-requires
-read-requires c κs = search needs
-
-read-one-requires : tie.Need-read-one-requires
-read-one-requires c κs = search needs
-
-enum-known-said : tie.Need-enum-known-said
-enum-known-said c = search needs
-
-first-of-requires : tie.Need-first-of-requires
-first-of-requires c κs = search needs
-
-refused-requires : tie.Need-refused-requires
-refused-requires c κs = search needs
-
-enum-known-said-2 : tie.Need-enum-known-said-2
-enum-known-said-2 c = search needs
-
-enum-known-answer : tie.Need-enum-known-answer
-enum-known-answer c = search needs
-
-refused-requires-2 : tie.Need-refused-requires-2
-refused-requires-2 c κs = search needs
-
-enum-told : tie.Need-enum-told
-enum-told c = search needs
-
-receive-at-requires : tie.Need-receive-at-requires
-receive-at-requires c κs = search needs
-
 returns : tie.Need-returns
 unfolding receivingLineAt turned quiet
 returns c =
@@ -56,9 +26,6 @@ returns-2 c =
     let first = refused-beside _ _ (c .before .before .before .before .before .before .before .before .read .ensures) _ _ _ read (c .before .before .answer .given .1) in
     carried (turned-away _ _ _ first) (c .refused2 .ensures, refl, refl)
 
-same-length : tie.Need-same-length
-same-length c = search needs
-
 returns-3 : tie.Need-returns-3
 unfolding receivingLineAt
 returns-3 c =
@@ -70,18 +37,6 @@ returns-3 c =
 pub wimtaze-receive-at-spec : {M : Type 1} → statement M
 wimtaze-receive-at-spec =
     tie.close
-    (tie.spec
-    read-requires
-    read-one-requires
-    enum-known-said
-    first-of-requires
-    refused-requires
-    enum-known-said-2
-    enum-known-answer
-    refused-requires-2
-    enum-told
-    receive-at-requires
-    returns
-    returns-2
-    same-length
-    returns-3)
+    (tie.spec (λ c κs. search needs) (λ c κs. search needs) (λ c. search needs) (λ c κs. search needs)
+    (λ c κs. search needs) (λ c. search needs) (λ c. search needs) (λ c κs. search needs) (λ c. search needs)
+    (λ c κs. search needs) returns returns-2 (λ c. search needs) returns-3)

@@ -30,18 +30,6 @@ named-fits site clock h =
     let q = within 1 lastClock clock in
     (omega (arith, within-high 1 lastSite site (and-left p q h)), omega (arith, within-high 1 lastClock clock (and-right p q h)))
 
-read-requires : tie.Need-read-requires
-read-requires c κs = search needs
-
-names-character-requires : tie.Need-names-character-requires
-names-character-requires c κs = search needs
-
-first-of-requires : tie.Need-first-of-requires
-first-of-requires c κs = search needs
-
-refused-requires : tie.Need-refused-requires
-refused-requires c κs = search needs
-
 returns : tie.Need-returns
 unfolding restoringHere turned quiet
 returns c =
@@ -50,20 +38,8 @@ returns c =
     let told = ap (λ (b : Bool). first (inputChecks s true b)) out-of-range ∙ refused-range _ _ (c .before .before .before .before .read .ensures) ∙ ap some (sym (c .before .first-of .ensures)) in
     carried (turned-away _ _ _ told) (c .refused .ensures, refl, refl)
 
-enum-known-answer : tie.Need-enum-known-answer
-enum-known-answer c = search needs
-
-refused-requires-2 : tie.Need-refused-requires-2
-refused-requires-2 c κs = search needs
-
-enum-told : tie.Need-enum-told
-enum-told c = search needs
-
 identifier-requires : tie.Need-identifier-requires
 identifier-requires c κs = named-fits _ _ (sym (c .before .before .before .before .names-character .ensures) ∙ not-false _ (c .before .before .before .if1 .left))
-
-restore-requires : tie.Need-restore-requires
-restore-requires c κs = search needs
 
 send-requires : tie.Need-send-requires
 send-requires c κs = restore-sendable _ _ (c .before .before .restore .ensures)
@@ -75,12 +51,6 @@ returns-2 c =
     let in-range = sym (c .before .before .before .before .before .names-character .ensures) ∙ not-false _ (c .before .before .before .before .if1 .left) in
     let told = ap (λ (b : Bool). first (inputChecks s true b)) in-range ∙ refused-alone _ _ (c .before .before .before .before .before .before .read .ensures) _ (c .before .before .answer .given .1) in
     carried (turned-away _ _ _ told) (c .refused2 .ensures, refl, refl)
-
-same-length : tie.Need-same-length
-same-length c = search needs
-
-same-length-2 : tie.Need-same-length-2
-same-length-2 c = search needs
 
 returns-3 : tie.Need-returns-3
 unfolding restoringHere
@@ -96,19 +66,6 @@ returns-3 c =
 pub wimtaze-restore-spec : {M : Type 1} → statement M
 wimtaze-restore-spec =
     tie.close
-    (tie.spec
-    read-requires
-    names-character-requires
-    first-of-requires
-    refused-requires
-    returns
-    enum-known-answer
-    refused-requires-2
-    enum-told
-    identifier-requires
-    restore-requires
-    send-requires
-    returns-2
-    same-length
-    same-length-2
-    returns-3)
+    (tie.spec (λ c κs. search needs) (λ c κs. search needs) (λ c κs. search needs) (λ c κs. search needs) returns
+    (λ c. search needs) (λ c κs. search needs) (λ c. search needs) identifier-requires (λ c κs. search needs)
+    send-requires returns-2 (λ c. search needs) (λ c. search needs) returns-3)

@@ -10,28 +10,10 @@ use borrow.Author.Needs.{needs}
 use Rattle.wimtaze.proofs.wimtaze_text.Statement.{statement}
 use Rattle.wimtaze.proofs.wimtaze_text.Tie as tie
 
-read-requires : tie.Need-read-requires
-read-requires c κs = search needs
-
-enum-known-answer : tie.Need-enum-known-answer
-enum-known-answer c = search needs
-
-refused-requires : tie.Need-refused-requires
-refused-requires c κs = search needs
-
-enum-told : tie.Need-enum-told
-enum-told c = search needs
-
-show-requires : tie.Need-show-requires
-show-requires c κs = search needs
-
 returns : tie.Need-returns
 unfolding showingText turned quiet
 returns c =
     carried (turned-away _ _ _ (refused-alone _ _ (c .before .before .before .before .read .ensures) _ (c .before .before .answer .given .1))) (c .refused .ensures, refl, refl)
-
-same-length : tie.Need-same-length
-same-length c = search needs
 
 returns-2 : tie.Need-returns-2
 unfolding showingText
@@ -43,12 +25,5 @@ returns-2 c =
 pub wimtaze-text-spec : {M : Type 1} → statement M
 wimtaze-text-spec =
     tie.close
-    (tie.spec
-    read-requires
-    enum-known-answer
-    refused-requires
-    enum-told
-    show-requires
-    returns
-    same-length
-    returns-2)
+    (tie.spec (λ c κs. search needs) (λ c. search needs) (λ c κs. search needs) (λ c. search needs)
+    (λ c κs. search needs) returns (λ c. search needs) returns-2)

@@ -15,18 +15,6 @@ use borrow.Author.Needs.{needs}
 use Rattle.wimtaze.proofs.wimtaze_type.Statement.{statement}
 use Rattle.wimtaze.proofs.wimtaze_type.Tie as tie
 
-read-requires : tie.Need-read-requires
-read-requires c κs = search needs
-
-code-point-requires : tie.Need-code-point-requires
-code-point-requires c κs = search needs
-
-first-of-requires : tie.Need-first-of-requires
-first-of-requires c κs = search needs
-
-refused-requires : tie.Need-refused-requires
-refused-requires c κs = search needs
-
 returns : tie.Need-returns
 unfolding insertingHere turned quiet
 returns c =
@@ -34,18 +22,6 @@ returns c =
     let out-of-range = sym (c .before .before .before .code-point .ensures) ∙ not-true _ (c .before .before .if1 .taken) in
     let told = ap (λ (b : Bool). first (inputChecks s true b)) out-of-range ∙ refused-range _ _ (c .before .before .before .before .read .ensures) ∙ ap some (sym (c .before .first-of .ensures)) in
     carried (turned-away _ _ _ told) (c .refused .ensures, refl, refl)
-
-enum-known-answer : tie.Need-enum-known-answer
-enum-known-answer c = search needs
-
-refused-requires-2 : tie.Need-refused-requires-2
-refused-requires-2 c κs = search needs
-
-enum-told : tie.Need-enum-told
-enum-told c = search needs
-
-insert-requires : tie.Need-insert-requires
-insert-requires c κs = search needs
 
 send-requires : tie.Need-send-requires
 send-requires c κs = insert-sendable _ _ _ (c .before .before .insert .ensures)
@@ -57,12 +33,6 @@ returns-2 c =
     let in-range = sym (c .before .before .before .before .before .code-point .ensures) ∙ not-false _ (c .before .before .before .before .if1 .left) in
     let told = ap (λ (b : Bool). first (inputChecks s true b)) in-range ∙ refused-alone _ _ (c .before .before .before .before .before .before .read .ensures) _ (c .before .before .answer .given .1) in
     carried (turned-away _ _ _ told) (c .refused2 .ensures, refl, refl)
-
-same-length : tie.Need-same-length
-same-length c = search needs
-
-same-length-2 : tie.Need-same-length-2
-same-length-2 c = search needs
 
 returns-3 : tie.Need-returns-3
 unfolding insertingHere
@@ -77,18 +47,6 @@ returns-3 c =
 pub wimtaze-type-spec : {M : Type 1} → statement M
 wimtaze-type-spec =
     tie.close
-    (tie.spec
-    read-requires
-    code-point-requires
-    first-of-requires
-    refused-requires
-    returns
-    enum-known-answer
-    refused-requires-2
-    enum-told
-    insert-requires
-    send-requires
-    returns-2
-    same-length
-    same-length-2
-    returns-3)
+    (tie.spec (λ c κs. search needs) (λ c κs. search needs) (λ c κs. search needs) (λ c κs. search needs) returns
+    (λ c. search needs) (λ c κs. search needs) (λ c. search needs) (λ c κs. search needs) send-requires returns-2
+    (λ c. search needs) (λ c. search needs) returns-3)

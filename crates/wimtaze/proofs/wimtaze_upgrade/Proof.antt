@@ -10,19 +10,12 @@ use borrow.Author.Needs.{needs}
 use Rattle.wimtaze.proofs.wimtaze_upgrade.Statement.{statement}
 use Rattle.wimtaze.proofs.wimtaze_upgrade.Tie as tie
 
-upgrade-requires : tie.Need-upgrade-requires
-upgrade-requires c κs = search needs
-
-written-requires : tie.Need-written-requires
-written-requires c κs = search needs
-
-same-length : tie.Need-same-length
-same-length c = search needs
-
 returns : tie.Need-returns
 returns c =
     let t = c .before .before .before .upgrade .ensures in
     carried (conversion-bridge _ _ _ _) (c .written .ensures ∙ ap (λ (w : Written). numberOf (afterWriting (Done 0 0) w)) (t .0), t .1, refl)
 
 pub wimtaze-upgrade-spec : {M : Type 1} → statement M
-wimtaze-upgrade-spec = tie.close (tie.spec upgrade-requires written-requires same-length returns)
+wimtaze-upgrade-spec =
+    tie.close
+    (tie.spec (λ c κs. search needs) (λ c κs. search needs) (λ c. search needs) returns)

@@ -10,15 +10,11 @@ returns : tie.Need-returns
 unfolding previousOf
 returns c = rw (c .if1 .taken)
 
-sub-identifier : tie.Need-sub-identifier
-sub-identifier c = search needs
-
-identifier-requires : tie.Need-identifier-requires
-identifier-requires c κs = search needs
-
 returns-2 : tie.Need-returns-2
 unfolding previousOf
 returns-2 c = rw (ne-eqb (c .before .before .args .k % 4) 0 (c .before .if1 .left)) (c .identifier .ensures)
 
 pub previous-spec : {M : Type 1} → statement M
-previous-spec = tie.close (tie.spec returns sub-identifier identifier-requires returns-2)
+previous-spec =
+    tie.close
+    (tie.spec returns (λ c. search needs) (λ c κs. search needs) returns-2)

@@ -20,37 +20,16 @@ Inv-loop rows n replica₀ count₀ k₀ replica count k =
 abbrev μ-loop : tie.MeasureT-loop
 μ-loop rows n replica₀ count₀ k₀ replica count k = n + n - k
 
-within-requires : tie.Need-within-requires Inv-loop μ-loop
-within-requires c κs = search needs
-
-empty-requires : tie.Need-empty-requires Inv-loop μ-loop
-empty-requires c κs = search needs
-
 loop-holds : tie.Need-loop-holds Inv-loop μ-loop
 loop-holds c = (omega arith, received-none (operationOf _) _)
 
-add-loop : tie.Need-add-loop Inv-loop μ-loop
-add-loop c = omega arith
-
 operation-requires : tie.Need-operation-requires Inv-loop μ-loop
 operation-requires c κs = (omega arith, omega arith)
-
-receive-requires : tie.Need-receive-requires Inv-loop μ-loop
-receive-requires c κs = search needs
-
-carried-requires : tie.Need-carried-requires Inv-loop μ-loop
-carried-requires c κs = search needs
 
 add-count : tie.Need-add-count Inv-loop μ-loop
 add-count c =
     let l = c .before .before .before .before .before .loop in
     omega (arith, l .inv .1 .few, carried-le (c .before .before .receive .result .answer), c .carried .ensures)
-
-add-k : tie.Need-add-k Inv-loop μ-loop
-add-k c = omega arith
-
-loop-less : tie.Need-loop-less Inv-loop μ-loop
-loop-less c = omega arith
 
 loop-again : tie.Need-loop-again Inv-loop μ-loop
 unfolding tallied
@@ -76,18 +55,6 @@ returns c =
 pub workload-run-spec : {M : Type 1} → statement M
 workload-run-spec =
     tie.close
-    (tie.spec
-    Inv-loop
-    μ-loop
-    within-requires
-    empty-requires
-    loop-holds
-    add-loop
-    operation-requires
-    receive-requires
-    carried-requires
-    add-count
-    add-k
-    loop-less
-    loop-again
-    returns)
+    (tie.spec Inv-loop μ-loop (λ c κs. search needs) (λ c κs. search needs) loop-holds (λ c. omega arith)
+    operation-requires (λ c κs. search needs) (λ c κs. search needs) add-count (λ c. omega arith) (λ c. omega arith)
+    loop-again returns)

@@ -8,36 +8,6 @@ use Rattle.codec.specs.Operations.{insertHead, toggleHead, operationLine
 use Rattle.codec.proofs.writing.measure.Statement.{statement}
 use Rattle.codec.proofs.writing.measure.Tie as tie
 
-enum-known-operation : tie.Need-enum-known-operation
-enum-known-operation c = search needs
-
-insert-numbers-requires : tie.Need-insert-numbers-requires
-insert-numbers-requires c κs = search needs
-
-slice-aggregate-measure : tie.Need-slice-aggregate-measure
-slice-aggregate-measure c = search needs
-
-slice-aggregate-measure-2 : tie.Need-slice-aggregate-measure-2
-slice-aggregate-measure-2 c = search needs
-
-measure-requires : tie.Need-measure-requires
-measure-requires c κs = search needs
-
-enum-known-operation-2 : tie.Need-enum-known-operation-2
-enum-known-operation-2 c = search needs
-
-toggle-numbers-requires : tie.Need-toggle-numbers-requires
-toggle-numbers-requires c κs = search needs
-
-slice-aggregate-measure-3 : tie.Need-slice-aggregate-measure-3
-slice-aggregate-measure-3 c = search needs
-
-slice-aggregate-measure-4 : tie.Need-slice-aggregate-measure-4
-slice-aggregate-measure-4 c = search needs
-
-measure-requires-2 : tie.Need-measure-requires-2
-measure-requires-2 c κs = search needs
-
 returns : tie.Need-returns
 unfolding operationLine
 returns c =
@@ -53,16 +23,6 @@ returns-2 c =
 pub measure-spec : {M : Type 1} → statement M
 measure-spec =
     tie.close
-    (tie.spec
-    enum-known-operation
-    insert-numbers-requires
-    slice-aggregate-measure
-    slice-aggregate-measure-2
-    measure-requires
-    enum-known-operation-2
-    toggle-numbers-requires
-    slice-aggregate-measure-3
-    slice-aggregate-measure-4
-    measure-requires-2
-    returns
+    (tie.spec (λ c. search needs) (λ c κs. search needs) (λ c. search needs) (λ c. search needs) (λ c κs. search needs)
+    (λ c. search needs) (λ c κs. search needs) (λ c. search needs) (λ c. search needs) (λ c κs. search needs) returns
     returns-2)

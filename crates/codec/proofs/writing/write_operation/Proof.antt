@@ -7,20 +7,8 @@ use Rattle.codec.proofs.Answers.{put-after, offset-fitted, not-in-range
 use Rattle.codec.proofs.writing.write_operation.Statement.{statement}
 use Rattle.codec.proofs.writing.write_operation.Tie as tie
 
-in-range-requires : tie.Need-in-range-requires
-in-range-requires c κs = search needs
-
 returns : tie.Need-returns
 returns c = not-in-range _ _ (sym (c .before .in-range .ensures) ∙ not-true _ (c .if1 .taken))
-
-put-operation-requires : tie.Need-put-operation-requires
-put-operation-requires c κs = search needs
-
-fitted-requires : tie.Need-fitted-requires
-fitted-requires c κs = search needs
-
-same-length : tie.Need-same-length
-same-length c = search needs
 
 returns-2 : tie.Need-returns-2
 returns-2 c =
@@ -31,10 +19,5 @@ returns-2 c =
 pub write-operation-spec : {M : Type 1} → statement M
 write-operation-spec =
     tie.close
-    (tie.spec
-    in-range-requires
-    returns
-    put-operation-requires
-    fitted-requires
-    same-length
+    (tie.spec (λ c κs. search needs) returns (λ c κs. search needs) (λ c κs. search needs) (λ c. search needs)
     returns-2)

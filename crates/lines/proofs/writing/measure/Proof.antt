@@ -28,9 +28,6 @@ Inv-loop head numbers size at end₀ i₀ end i =
 abbrev μ-loop : tie.MeasureT-loop
 μ-loop head numbers size at end₀ i₀ end i = length numbers - i
 
-has-room-requires : tie.Need-has-room-requires Inv-loop μ-loop
-has-room-requires c κs = search needs
-
 returns : tie.Need-returns Inv-loop μ-loop
 returns c =
     let a = c .before .before .before .before .args in
@@ -47,15 +44,6 @@ add-end c = omega (arith, fits c)
 loop-holds : tie.Need-loop-holds Inv-loop μ-loop
 loop-holds c = omega (arith, fits c)
 
-mul-width : tie.Need-mul-width Inv-loop μ-loop
-mul-width c = omega arith
-
-shared-slice-read-width : tie.Need-shared-slice-read-width Inv-loop μ-loop
-shared-slice-read-width c = omega arith
-
-width-requires : tie.Need-width-requires Inv-loop μ-loop
-width-requires c κs = search needs
-
 -- a number of 64 bits has few digits
 few : (c : tie.After-width Inv-loop μ-loop) → c .width .result ≤ 20
 few c =
@@ -65,9 +53,6 @@ few c =
 
 add-count : tie.Need-add-count Inv-loop μ-loop
 add-count c = omega (arith, few c)
-
-has-room-requires-2 : tie.Need-has-room-requires-2 Inv-loop μ-loop
-has-room-requires-2 c κs = search needs
 
 returns-2 : tie.Need-returns-2 Inv-loop μ-loop
 returns-2 c =
@@ -85,20 +70,11 @@ fits-2 c = has-room _ _ _ (sym (c .before .has-room2 .ensures) ∙ not-false _ (
 add-end-2 : tie.Need-add-end-2 Inv-loop μ-loop
 add-end-2 c = omega (arith, fits-2 c)
 
-add-i : tie.Need-add-i Inv-loop μ-loop
-add-i c = omega arith
-
-loop-less : tie.Need-loop-less Inv-loop μ-loop
-loop-less c = omega arith
-
 loop-again : tie.Need-loop-again Inv-loop μ-loop
 loop-again c =
     let l = c .before .before .before .before .before .loop in
     let ns = c .before .before .before .before .before .before .before .before .before .before .args .numbers .now in
     omega (arith, fits-2 c, c .before .before .width .ensures, l .inv .2, columns-length ns (l .i) (omega arith))
-
-add-t17 : tie.Need-add-t17 Inv-loop μ-loop
-add-t17 c = omega arith
 
 returns-3 : tie.Need-returns-3 Inv-loop μ-loop
 returns-3 c =
@@ -115,23 +91,6 @@ returns-4 c =
 pub measure-spec : {M : Type 1} → statement M
 measure-spec =
     tie.close
-    (tie.spec
-    Inv-loop
-    μ-loop
-    has-room-requires
-    returns
-    add-end
-    loop-holds
-    mul-width
-    shared-slice-read-width
-    width-requires
-    add-count
-    has-room-requires-2
-    returns-2
-    add-end-2
-    add-i
-    loop-less
-    loop-again
-    add-t17
-    returns-3
-    returns-4)
+    (tie.spec Inv-loop μ-loop (λ c κs. search needs) returns add-end loop-holds (λ c. omega arith) (λ c. omega arith)
+    (λ c κs. search needs) add-count (λ c κs. search needs) returns-2 add-end-2 (λ c. omega arith) (λ c. omega arith)
+    loop-again (λ c. omega arith) returns-3 returns-4)

@@ -17,21 +17,12 @@ Inv-loop head numbers out₀ at end₀ i₀ out end i = Putting numbers out₀ e
 abbrev μ-loop : tie.MeasureT-loop
 μ-loop head numbers out₀ at end₀ i₀ out end i = length numbers - i
 
-measure-requires : tie.Need-measure-requires Inv-loop μ-loop
-measure-requires c κs = search needs
-
-enum-told : tie.Need-enum-told Inv-loop μ-loop
-enum-told c = search needs
-
 returns : tie.Need-returns Inv-loop μ-loop
 returns c =
     let a = c .before .before .before .before .before .before .args in
     let line = lineOf (a .head .now) (a .numbers .now) in
     let low : length (a .out .now) < a .at + length line = omega (arith, short-tells _ _ line (c .before .before .measure .ensures) (c .enum-told .given .1)) in
     (sym (past-short (a .out .now) (a .at) line low), sym (placed-short (a .out .now) (a .at) line low))
-
-enum-told-2 : tie.Need-enum-told-2 Inv-loop μ-loop
-enum-told-2 c = search needs
 
 -- there is room for the line
 fits : (c : tie.After-enum-told2 Inv-loop μ-loop)
@@ -41,41 +32,17 @@ fits c =
     let line = lineOf (a .head .now) (a .numbers .now) in
     omega (arith, until-tells _ _ line (c .before .before .measure .ensures) (c .enum-told2 .given .1) .1, line-length (a .head .now) (a .numbers .now))
 
-put-all-requires : tie.Need-put-all-requires Inv-loop μ-loop
-put-all-requires c κs = search needs
-
 loop-holds : tie.Need-loop-holds Inv-loop μ-loop
 loop-holds c =
     let a = c .before .before .before .before .before .before .before .before .before .before .args in
     let p = c .before .before .put-all .ensures in
     begun (a .head .now) (a .numbers .now) (a .out .now) (a .at) (fits (c .before .before .before .before)) (p .0) (p .1)
 
-put-requires : tie.Need-put-requires Inv-loop μ-loop
-put-requires c κs = search needs
-
-mul-write : tie.Need-mul-write Inv-loop μ-loop
-mul-write c = omega arith
-
-shared-slice-read-write : tie.Need-shared-slice-read-write Inv-loop μ-loop
-shared-slice-read-write c = omega arith
-
-write-requires : tie.Need-write-requires Inv-loop μ-loop
-write-requires c κs = search needs
-
-add-i : tie.Need-add-i Inv-loop μ-loop
-add-i c = omega arith
-
-loop-less : tie.Need-loop-less Inv-loop μ-loop
-loop-less c = omega arith
-
 loop-again : tie.Need-loop-again Inv-loop μ-loop
 loop-again c =
     let p = c .before .before .before .before .before .before .before .put .ensures in
     let q = c .before .before .write .ensures in
     more (c .before .before .before .before .before .before .before .before .before .before .loop .inv) (c .before .before .before .before .before .before .before .before .before .loop-test .taken) (p .0) (p .1) (q .0) (q .1)
-
-put-requires-2 : tie.Need-put-requires-2 Inv-loop μ-loop
-put-requires-2 c κs = search needs
 
 returns-2 : tie.Need-returns-2 Inv-loop μ-loop
 unfolding lineOf
@@ -92,22 +59,7 @@ same-length c = ap length (returns-2 c .1) ∙ length-placed _ _ _
 pub put-spec : {M : Type 1} → statement M
 put-spec =
     tie.close
-    (tie.spec
-    Inv-loop
-    μ-loop
-    measure-requires
-    enum-told
-    returns
-    enum-told-2
-    put-all-requires
-    loop-holds
-    put-requires
-    mul-write
-    shared-slice-read-write
-    write-requires
-    add-i
-    loop-less
-    loop-again
-    put-requires-2
-    same-length
+    (tie.spec Inv-loop μ-loop (λ c κs. search needs) (λ c. search needs) returns (λ c. search needs)
+    (λ c κs. search needs) loop-holds (λ c κs. search needs) (λ c. omega arith) (λ c. omega arith)
+    (λ c κs. search needs) (λ c. omega arith) (λ c. omega arith) loop-again (λ c κs. search needs) same-length
     returns-2)

@@ -30,12 +30,6 @@ line-read c = c .read-character .ensures ∙ ap (characterRead (c .before .befor
 loop-holds : tie.Need-loop-holds Inv-loop μ-loop
 loop-holds c = front-begun _ _ (c .before .before .before .pre .0) (c .before .before .before .pre .1)
 
-head-requires : tie.Need-head-requires Inv-loop μ-loop
-head-requires c κs = search needs
-
-read-character-requires : tie.Need-read-character-requires Inv-loop μ-loop
-read-character-requires c κs = search needs
-
 same-length : tie.Need-same-length Inv-loop μ-loop
 same-length c =
     front-characters (c .before .before .before .before .loop .inv)
@@ -63,9 +57,6 @@ store-character-requires c κs = front-characters (c .before .before .before .be
 store-toggles-requires : tie.Need-store-toggles-requires Inv-loop μ-loop
 store-toggles-requires c κs = front-toggles (c .before .before .before .before .before .before .before .before .before .before .loop .inv)
 
-both-requires : tie.Need-both-requires Inv-loop μ-loop
-both-requires c κs = search needs
-
 add-count : tie.Need-add-count Inv-loop μ-loop
 add-count c =
     let u = c .before .before .before .before .before .before .before .before .before .before .before .before in
@@ -73,9 +64,6 @@ add-count c =
     let w = c .before .before .before .before .before .before .before .before .before .before .if1 .left in
     let some = front-left (l .inv) _ (line-read u) (not-false _ w) in
     omega (arith, l .inv .small, some)
-
-rest-requires : tie.Need-rest-requires Inv-loop μ-loop
-rest-requires c κs = search needs
 
 loop-less : tie.Need-loop-less Inv-loop μ-loop
 loop-less c =
@@ -96,19 +84,6 @@ loop-again c =
 pub read-characters-spec : {M : Type 1} → statement M
 read-characters-spec =
     tie.close
-    (tie.spec
-    Inv-loop
-    μ-loop
-    loop-holds
-    head-requires
-    read-character-requires
-    same-length
-    same-length-2
-    returns
-    store-character-requires
-    store-toggles-requires
-    both-requires
-    add-count
-    rest-requires
-    loop-less
-    loop-again)
+    (tie.spec Inv-loop μ-loop loop-holds (λ c κs. search needs) (λ c κs. search needs) same-length same-length-2
+    returns store-character-requires store-toggles-requires (λ c κs. search needs) add-count (λ c κs. search needs)
+    loop-less loop-again)

@@ -29,12 +29,6 @@ line-read c = c .read-operation .ensures ∙ ap (operationRead (c .before .befor
 loop-holds : tie.Need-loop-holds Inv-loop μ-loop
 loop-holds c = back-begun _ _ (c .before .before .pre)
 
-head-requires : tie.Need-head-requires Inv-loop μ-loop
-head-requires c κs = search needs
-
-read-operation-requires : tie.Need-read-operation-requires Inv-loop μ-loop
-read-operation-requires c κs = search needs
-
 same-length : tie.Need-same-length Inv-loop μ-loop
 same-length c =
     back-length (c .before .before .before .before .before .loop .inv)
@@ -54,9 +48,6 @@ returns c =
 store-operation-requires : tie.Need-store-operation-requires Inv-loop μ-loop
 store-operation-requires c κs = back-length (c .before .before .before .before .before .before .loop .inv)
 
-both-requires : tie.Need-both-requires Inv-loop μ-loop
-both-requires c κs = search needs
-
 add-count : tie.Need-add-count Inv-loop μ-loop
 add-count c =
     omega (
@@ -64,9 +55,6 @@ add-count c =
       c .before .before .before .before .before .before .before .before .before .before .loop .inv .small,
       c .before .before .before .before .before .before .before .before .before .loop-test .taken,
     )
-
-rest-requires : tie.Need-rest-requires Inv-loop μ-loop
-rest-requires c κs = search needs
 
 loop-less : tie.Need-loop-less Inv-loop μ-loop
 loop-less c =
@@ -93,19 +81,6 @@ returns-2 c = (back-end (c .before .loop .inv) (omega arith), (back-length (c .b
 pub read-operations-spec : {M : Type 1} → statement M
 read-operations-spec =
     tie.close
-    (tie.spec
-    Inv-loop
-    μ-loop
-    loop-holds
-    head-requires
-    read-operation-requires
-    same-length
-    returns
-    store-operation-requires
-    both-requires
-    add-count
-    rest-requires
-    loop-less
-    loop-again
-    same-length-2
+    (tie.spec Inv-loop μ-loop loop-holds (λ c κs. search needs) (λ c κs. search needs) same-length returns
+    store-operation-requires (λ c κs. search needs) add-count (λ c κs. search needs) loop-less loop-again same-length-2
     returns-2)

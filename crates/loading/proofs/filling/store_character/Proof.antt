@@ -10,21 +10,6 @@ returns : tie.Need-returns
 unfolding keptIn
 returns c = rw (le-leb _ _ (c .if1 .taken))
 
-key-requires : tie.Need-key-requires
-key-requires c κs = search needs
-
-key-requires-2 : tie.Need-key-requires-2
-key-requires-2 c κs = search needs
-
-key-requires-3 : tie.Need-key-requires-3
-key-requires-3 c κs = search needs
-
-store-requires : tie.Need-store-requires
-store-requires c κs = search needs
-
-same-length : tie.Need-same-length
-same-length c = search needs
-
 returns-2 : tie.Need-returns-2
 unfolding keptIn
 returns-2 c =
@@ -38,11 +23,5 @@ returns-2 c =
 pub store-character-spec : {M : Type 1} → statement M
 store-character-spec =
     tie.close
-    (tie.spec
-    returns
-    key-requires
-    key-requires-2
-    key-requires-3
-    store-requires
-    same-length
-    returns-2)
+    (tie.spec returns (λ c κs. search needs) (λ c κs. search needs) (λ c κs. search needs) (λ c κs. search needs)
+    (λ c. search needs) returns-2)

@@ -10,24 +10,6 @@ returns : tie.Need-returns
 unfolding keptIn
 returns c = rw (le-leb _ _ (c .if1 .taken))
 
-own-key-requires : tie.Need-own-key-requires
-own-key-requires c κs = search needs
-
-first-key-requires : tie.Need-first-key-requires
-first-key-requires c κs = search needs
-
-second-key-requires : tie.Need-second-key-requires
-second-key-requires c κs = search needs
-
-value-of-requires : tie.Need-value-of-requires
-value-of-requires c κs = search needs
-
-store-requires : tie.Need-store-requires
-store-requires c κs = search needs
-
-same-length : tie.Need-same-length
-same-length c = search needs
-
 returns-2 : tie.Need-returns-2
 unfolding keptIn
 returns-2 c =
@@ -42,12 +24,5 @@ returns-2 c =
 pub store-operation-spec : {M : Type 1} → statement M
 store-operation-spec =
     tie.close
-    (tie.spec
-    returns
-    own-key-requires
-    first-key-requires
-    second-key-requires
-    value-of-requires
-    store-requires
-    same-length
-    returns-2)
+    (tie.spec returns (λ c κs. search needs) (λ c κs. search needs) (λ c κs. search needs) (λ c κs. search needs)
+    (λ c κs. search needs) (λ c. search needs) returns-2)

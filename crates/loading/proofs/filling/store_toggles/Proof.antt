@@ -9,15 +9,11 @@ returns : tie.Need-returns
 unfolding keptAt
 returns c = rw (le-leb _ _ (c .if1 .taken))
 
-slice-write-toggles : tie.Need-slice-write-toggles
-slice-write-toggles c = search needs
-
-same-length : tie.Need-same-length
-same-length c = search needs
-
 returns-2 : tie.Need-returns-2
 unfolding keptAt
 returns-2 c = rw (lt-leb _ _ (c .if1 .left))
 
 pub store-toggles-spec : {M : Type 1} → statement M
-store-toggles-spec = tie.close (tie.spec returns slice-write-toggles same-length returns-2)
+store-toggles-spec =
+    tie.close
+    (tie.spec returns (λ c. search needs) (λ c. search needs) returns-2)

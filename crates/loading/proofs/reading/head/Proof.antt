@@ -5,11 +5,10 @@ use Rattle.lines.proofs.Lines.{head-line}
 use Rattle.loading.proofs.reading.head.Statement.{statement}
 use Rattle.loading.proofs.reading.head.Tie as tie
 
-first-line-requires : tie.Need-first-line-requires
-first-line-requires c κs = search needs
-
 returns : tie.Need-returns
 returns c = c .first-line .ensures ∙ head-line _
 
 pub head-spec : {M : Type 1} → statement M
-head-spec = tie.close (tie.spec first-line-requires returns)
+head-spec =
+    tie.close
+    (tie.spec (λ c κs. search needs) returns)

@@ -17,35 +17,8 @@ Inv-loop own values sender end count₀ i₀ count i =
 abbrev μ-loop : tie.MeasureT-loop
 μ-loop own values sender end count₀ i₀ count i = end - i
 
-lesser-requires : tie.Need-lesser-requires Inv-loop μ-loop
-lesser-requires c κs = search needs
-
 loop-holds : tie.Need-loop-holds Inv-loop μ-loop
 loop-holds c = (omega arith, c .lesser .ensures, omega arith, omega arith)
-
-mul-sender-of : tie.Need-mul-sender-of Inv-loop μ-loop
-mul-sender-of c = omega arith
-
-shared-slice-read-sender-of : tie.Need-shared-slice-read-sender-of Inv-loop μ-loop
-shared-slice-read-sender-of c = omega arith
-
-mul-sender-of-2 : tie.Need-mul-sender-of-2 Inv-loop μ-loop
-mul-sender-of-2 c = omega arith
-
-shared-slice-read-sender-of-2 : tie.Need-shared-slice-read-sender-of-2 Inv-loop μ-loop
-shared-slice-read-sender-of-2 c = omega arith
-
-sender-of-requires : tie.Need-sender-of-requires Inv-loop μ-loop
-sender-of-requires c κs = search needs
-
-add-count : tie.Need-add-count Inv-loop μ-loop
-add-count c = omega arith
-
-add-i : tie.Need-add-i Inv-loop μ-loop
-add-i c = omega arith
-
-loop-less : tie.Need-loop-less Inv-loop μ-loop
-loop-less c = omega arith
 
 loop-again : tie.Need-loop-again Inv-loop μ-loop
 loop-again c =
@@ -76,18 +49,6 @@ returns c =
 pub count-sender-spec : {M : Type 1} → statement M
 count-sender-spec =
     tie.close
-    (tie.spec
-    Inv-loop
-    μ-loop
-    lesser-requires
-    loop-holds
-    mul-sender-of
-    shared-slice-read-sender-of
-    mul-sender-of-2
-    shared-slice-read-sender-of-2
-    sender-of-requires
-    add-count
-    add-i
-    loop-less
-    loop-again
-    returns)
+    (tie.spec Inv-loop μ-loop (λ c κs. search needs) loop-holds (λ c. omega arith) (λ c. omega arith)
+    (λ c. omega arith) (λ c. omega arith) (λ c κs. search needs) (λ c. omega arith) (λ c. omega arith)
+    (λ c. omega arith) loop-again returns)

@@ -25,14 +25,8 @@ enough m n k h = sym (le-leb m (n + k) (omega arith))
 returns : tie.Need-returns
 returns c = enough _ _ _ (c .if1 .taken)
 
-sub-result : tie.Need-sub-result
-sub-result c = search needs
-
 slice-aggregate-count-inserts : tie.Need-slice-aggregate-count-inserts
 slice-aggregate-count-inserts c = simp length-take (omega arith)
-
-count-inserts-requires : tie.Need-count-inserts-requires
-count-inserts-requires c κs = search needs
 
 returns-2 : tie.Need-returns-2
 returns-2 c = rw (c .count-inserts .ensures) (left-or-sum 1024 (c .before .before .before .before .args .n) _)
@@ -40,4 +34,4 @@ returns-2 c = rw (c .count-inserts .ensures) (left-or-sum 1024 (c .before .befor
 pub document-full-spec : {M : Type 1} → statement M
 document-full-spec =
     tie.close
-    (tie.spec returns sub-result slice-aggregate-count-inserts count-inserts-requires returns-2)
+    (tie.spec returns (λ c. search needs) slice-aggregate-count-inserts (λ c κs. search needs) returns-2)

@@ -18,35 +18,8 @@ Inv-loop own first values key stamp end i₀ i =
 abbrev μ-loop : tie.MeasureT-loop
 μ-loop own first values key stamp end i₀ i = end - i
 
-lesser-requires : tie.Need-lesser-requires Inv-loop μ-loop
-lesser-requires c κs = search needs
-
-lesser-requires-2 : tie.Need-lesser-requires-2 Inv-loop μ-loop
-lesser-requires-2 c κs = search needs
-
 loop-holds : tie.Need-loop-holds Inv-loop μ-loop
 loop-holds c = (zero-le, rw (c .before .lesser .ensures) at (c .lesser2 .ensures), refl)
-
-mul-is-toggle : tie.Need-mul-is-toggle Inv-loop μ-loop
-mul-is-toggle c = omega arith
-
-shared-slice-read-is-toggle : tie.Need-shared-slice-read-is-toggle Inv-loop μ-loop
-shared-slice-read-is-toggle c = omega arith
-
-mul-is-toggle-2 : tie.Need-mul-is-toggle-2 Inv-loop μ-loop
-mul-is-toggle-2 c = omega arith
-
-shared-slice-read-is-toggle-2 : tie.Need-shared-slice-read-is-toggle-2 Inv-loop μ-loop
-shared-slice-read-is-toggle-2 c = omega arith
-
-mul-is-toggle-3 : tie.Need-mul-is-toggle-3 Inv-loop μ-loop
-mul-is-toggle-3 c = omega arith
-
-shared-slice-read-is-toggle-3 : tie.Need-shared-slice-read-is-toggle-3 Inv-loop μ-loop
-shared-slice-read-is-toggle-3 c = omega arith
-
-is-toggle-requires : tie.Need-is-toggle-requires Inv-loop μ-loop
-is-toggle-requires c κs = search needs
 
 returns : tie.Need-returns Inv-loop μ-loop
 returns c =
@@ -54,12 +27,6 @@ returns c =
     let l = c .before .before .before .before .before .before .loop in
     let here = toggle-here (a .key) (a .stamp) (a .own .now) (a .first .now) (a .values .now) (l .i) in
     sym (l .inv .2 ∙ here (omega arith) (omega arith) (omega arith) (rw (c .before .is-toggle .ensures) at (c .if1 .taken)))
-
-add-i : tie.Need-add-i Inv-loop μ-loop
-add-i c = omega arith
-
-loop-less : tie.Need-loop-less Inv-loop μ-loop
-loop-less c = omega arith
 
 loop-again : tie.Need-loop-again Inv-loop μ-loop
 loop-again c =
@@ -77,21 +44,6 @@ returns-2 c =
 pub has-toggle-spec : {M : Type 1} → statement M
 has-toggle-spec =
     tie.close
-    (tie.spec
-    Inv-loop
-    μ-loop
-    lesser-requires
-    lesser-requires-2
-    loop-holds
-    mul-is-toggle
-    shared-slice-read-is-toggle
-    mul-is-toggle-2
-    shared-slice-read-is-toggle-2
-    mul-is-toggle-3
-    shared-slice-read-is-toggle-3
-    is-toggle-requires
-    returns
-    add-i
-    loop-less
-    loop-again
-    returns-2)
+    (tie.spec Inv-loop μ-loop (λ c κs. search needs) (λ c κs. search needs) loop-holds (λ c. omega arith)
+    (λ c. omega arith) (λ c. omega arith) (λ c. omega arith) (λ c. omega arith) (λ c. omega arith)
+    (λ c κs. search needs) returns (λ c. omega arith) (λ c. omega arith) loop-again returns-2)

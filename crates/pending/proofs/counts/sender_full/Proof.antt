@@ -11,11 +11,10 @@ slice-aggregate-count-sender c = simp length-take (omega arith)
 slice-aggregate-count-sender-2 : tie.Need-slice-aggregate-count-sender-2
 slice-aggregate-count-sender-2 c = simp length-take (omega arith)
 
-count-sender-requires : tie.Need-count-sender-requires
-count-sender-requires c κs = search needs
-
 returns : tie.Need-returns
 returns c = rw (c .count-sender .ensures)
 
 pub sender-full-spec : {M : Type 1} → statement M
-sender-full-spec = tie.close (tie.spec slice-aggregate-count-sender slice-aggregate-count-sender-2 count-sender-requires returns)
+sender-full-spec =
+    tie.close
+    (tie.spec slice-aggregate-count-sender slice-aggregate-count-sender-2 (λ c κs. search needs) returns)

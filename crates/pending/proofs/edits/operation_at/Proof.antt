@@ -15,39 +15,6 @@ slotted : (xs : List ℕ) (j : ℕ) → j < 512
     ≡ operationAt (column 512 0 xs) (column 512 1 xs) (column 512 2 xs) (column 512 3 xs) j
 slotted xs j h = rw (getD-take 512 xs j 0 h, column-at 512 1 xs j h, column-at 512 2 xs j h, column-at 512 3 xs j h)
 
-mul-operation : tie.Need-mul-operation
-mul-operation c = search needs
-
-shared-slice-read-operation : tie.Need-shared-slice-read-operation
-shared-slice-read-operation c = search needs
-
-add-operation : tie.Need-add-operation
-add-operation c = search needs
-
-mul-operation-2 : tie.Need-mul-operation-2
-mul-operation-2 c = search needs
-
-shared-slice-read-operation-2 : tie.Need-shared-slice-read-operation-2
-shared-slice-read-operation-2 c = search needs
-
-add-operation-2 : tie.Need-add-operation-2
-add-operation-2 c = search needs
-
-mul-operation-3 : tie.Need-mul-operation-3
-mul-operation-3 c = search needs
-
-shared-slice-read-operation-3 : tie.Need-shared-slice-read-operation-3
-shared-slice-read-operation-3 c = search needs
-
-add-operation-3 : tie.Need-add-operation-3
-add-operation-3 c = search needs
-
-mul-operation-4 : tie.Need-mul-operation-4
-mul-operation-4 c = search needs
-
-shared-slice-read-operation-4 : tie.Need-shared-slice-read-operation-4
-shared-slice-read-operation-4 c = search needs
-
 operation-requires : tie.Need-operation-requires
 operation-requires c κs = rw (slotted (c .before .before .before .before .before .args .pending .now) (c .before .before .before .before .before .args .j) (c .before .before .before .before .before .pre .1 .0)) (c .before .before .before .before .before .pre .1 .1)
 
@@ -57,17 +24,6 @@ returns c = c .operation .ensures ∙ slotted (c .before .before .before .before
 pub operation-at-spec : {M : Type 1} → statement M
 operation-at-spec =
     tie.close
-    (tie.spec
-    mul-operation
-    shared-slice-read-operation
-    add-operation
-    mul-operation-2
-    shared-slice-read-operation-2
-    add-operation-2
-    mul-operation-3
-    shared-slice-read-operation-3
-    add-operation-3
-    mul-operation-4
-    shared-slice-read-operation-4
-    operation-requires
-    returns)
+    (tie.spec (λ c. search needs) (λ c. search needs) (λ c. search needs) (λ c. search needs) (λ c. search needs)
+    (λ c. search needs) (λ c. search needs) (λ c. search needs) (λ c. search needs) (λ c. search needs)
+    (λ c. search needs) operation-requires returns)

@@ -11,69 +11,15 @@ use borrow.Author.Needs.{needs}
 use Rattle.pending.proofs.edits.push.Statement.{statement}
 use Rattle.pending.proofs.edits.push.Tie as tie
 
-slice-relend-prefix-set-number : tie.Need-slice-relend-prefix-set-number
-slice-relend-prefix-set-number c = search needs
-
 slice-aggregate-set-number : tie.Need-slice-aggregate-set-number
 slice-aggregate-set-number c =
     let size = c .before .before .pre .1 in
     omega (arith, column-length 512 0 (c .before .before .args .pending .now) (omega (arith, size)))
 
-own-key-requires : tie.Need-own-key-requires
-own-key-requires c κs = search needs
-
 set-number-requires : tie.Need-set-number-requires
 set-number-requires c κs =
     let size = c .before .before .before .pre .1 in
     omega (arith, c .before .before .before .pre .0, column-length 512 0 (c .before .before .before .args .pending .now) (omega (arith, size)))
-
-sub-set-number : tie.Need-sub-set-number
-sub-set-number c = search needs
-
-part-set-number-start : tie.Need-part-set-number-start
-part-set-number-start c = search needs
-
-part-set-number-end : tie.Need-part-set-number-end
-part-set-number-end c = search needs
-
-first-key-requires : tie.Need-first-key-requires
-first-key-requires c κs = search needs
-
-set-number-requires-2 : tie.Need-set-number-requires-2
-set-number-requires-2 c κs = search needs
-
-sub-set-number-2 : tie.Need-sub-set-number-2
-sub-set-number-2 c = search needs
-
-part-set-number-start-2 : tie.Need-part-set-number-start-2
-part-set-number-start-2 c = search needs
-
-part-set-number-end-2 : tie.Need-part-set-number-end-2
-part-set-number-end-2 c = search needs
-
-second-key-requires : tie.Need-second-key-requires
-second-key-requires c κs = search needs
-
-set-number-requires-3 : tie.Need-set-number-requires-3
-set-number-requires-3 c κs = search needs
-
-sub-set-number-3 : tie.Need-sub-set-number-3
-sub-set-number-3 c = search needs
-
-part-set-number-start-3 : tie.Need-part-set-number-start-3
-part-set-number-start-3 c = search needs
-
-part-set-number-end-3 : tie.Need-part-set-number-end-3
-part-set-number-end-3 c = search needs
-
-value-of-requires : tie.Need-value-of-requires
-value-of-requires c κs = search needs
-
-set-number-requires-4 : tie.Need-set-number-requires-4
-set-number-requires-4 c κs = search needs
-
-same-length : tie.Need-same-length
-same-length c = search needs
 
 returns : tie.Need-returns
 returns c =
@@ -89,25 +35,8 @@ returns c =
 pub push-spec : {M : Type 1} → statement M
 push-spec =
     tie.close
-    (tie.spec
-    slice-relend-prefix-set-number
-    slice-aggregate-set-number
-    own-key-requires
-    set-number-requires
-    sub-set-number
-    part-set-number-start
-    part-set-number-end
-    first-key-requires
-    set-number-requires-2
-    sub-set-number-2
-    part-set-number-start-2
-    part-set-number-end-2
-    second-key-requires
-    set-number-requires-3
-    sub-set-number-3
-    part-set-number-start-3
-    part-set-number-end-3
-    value-of-requires
-    set-number-requires-4
-    same-length
-    returns)
+    (tie.spec (λ c. search needs) slice-aggregate-set-number (λ c κs. search needs) set-number-requires
+    (λ c. search needs) (λ c. search needs) (λ c. search needs) (λ c κs. search needs) (λ c κs. search needs)
+    (λ c. search needs) (λ c. search needs) (λ c. search needs) (λ c κs. search needs) (λ c κs. search needs)
+    (λ c. search needs) (λ c. search needs) (λ c. search needs) (λ c κs. search needs) (λ c κs. search needs)
+    (λ c. search needs) returns)

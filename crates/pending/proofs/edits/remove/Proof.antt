@@ -11,9 +11,6 @@ use borrow.Author.Needs.{needs}
 use Rattle.pending.proofs.edits.remove.Statement.{statement}
 use Rattle.pending.proofs.edits.remove.Tie as tie
 
-slice-relend-prefix-remove-number : tie.Need-slice-relend-prefix-remove-number
-slice-relend-prefix-remove-number c = search needs
-
 slice-aggregate-remove-number : tie.Need-slice-aggregate-remove-number
 slice-aggregate-remove-number c =
     let size = c .before .before .pre .1 .1 in
@@ -23,45 +20,6 @@ remove-number-requires : tie.Need-remove-number-requires
 remove-number-requires c κs =
     let size = c .before .before .pre .1 .1 in
     (c .before .before .pre .0, omega (arith, c .before .before .pre .1 .0, column-length 512 0 (c .before .before .args .pending .now) (omega (arith, size))))
-
-sub-remove-number : tie.Need-sub-remove-number
-sub-remove-number c = search needs
-
-part-remove-number-start : tie.Need-part-remove-number-start
-part-remove-number-start c = search needs
-
-part-remove-number-end : tie.Need-part-remove-number-end
-part-remove-number-end c = search needs
-
-remove-number-requires-2 : tie.Need-remove-number-requires-2
-remove-number-requires-2 c κs = search needs
-
-sub-remove-number-2 : tie.Need-sub-remove-number-2
-sub-remove-number-2 c = search needs
-
-part-remove-number-start-2 : tie.Need-part-remove-number-start-2
-part-remove-number-start-2 c = search needs
-
-part-remove-number-end-2 : tie.Need-part-remove-number-end-2
-part-remove-number-end-2 c = search needs
-
-remove-number-requires-3 : tie.Need-remove-number-requires-3
-remove-number-requires-3 c κs = search needs
-
-sub-remove-number-3 : tie.Need-sub-remove-number-3
-sub-remove-number-3 c = search needs
-
-part-remove-number-start-3 : tie.Need-part-remove-number-start-3
-part-remove-number-start-3 c = search needs
-
-part-remove-number-end-3 : tie.Need-part-remove-number-end-3
-part-remove-number-end-3 c = search needs
-
-remove-number-requires-4 : tie.Need-remove-number-requires-4
-remove-number-requires-4 c κs = search needs
-
-same-length : tie.Need-same-length
-same-length c = search needs
 
 returns : tie.Need-returns
 returns c =
@@ -77,21 +35,7 @@ returns c =
 pub remove-spec : {M : Type 1} → statement M
 remove-spec =
     tie.close
-    (tie.spec
-    slice-relend-prefix-remove-number
-    slice-aggregate-remove-number
-    remove-number-requires
-    sub-remove-number
-    part-remove-number-start
-    part-remove-number-end
-    remove-number-requires-2
-    sub-remove-number-2
-    part-remove-number-start-2
-    part-remove-number-end-2
-    remove-number-requires-3
-    sub-remove-number-3
-    part-remove-number-start-3
-    part-remove-number-end-3
-    remove-number-requires-4
-    same-length
-    returns)
+    (tie.spec (λ c. search needs) slice-aggregate-remove-number remove-number-requires (λ c. search needs)
+    (λ c. search needs) (λ c. search needs) (λ c κs. search needs) (λ c. search needs) (λ c. search needs)
+    (λ c. search needs) (λ c κs. search needs) (λ c. search needs) (λ c. search needs) (λ c. search needs)
+    (λ c κs. search needs) (λ c. search needs) returns)

@@ -8,12 +8,11 @@ use Rattle.pending.proofs.ready.is_held.Tie as tie
 place-of-requires : tie.Need-place-of-requires
 place-of-requires c κs = c .before .before .before .pre
 
-add-result : tie.Need-add-result
-add-result c = search needs
-
 returns : tie.Need-returns
 unfolding heldIn
 returns c = rw (c .place-of .ensures, add-one)
 
 pub is-held-spec : {M : Type 1} → statement M
-is-held-spec = tie.close (tie.spec place-of-requires add-result returns)
+is-held-spec =
+    tie.close
+    (tie.spec place-of-requires (λ c. search needs) returns)

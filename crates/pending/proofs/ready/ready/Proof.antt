@@ -16,23 +16,8 @@ Inv-loop heads links ids first second end i₀ i =
 abbrev μ-loop : tie.MeasureT-loop
 μ-loop heads links ids first second end i₀ i = end - i
 
-lesser-requires : tie.Need-lesser-requires Inv-loop μ-loop
-lesser-requires c κs = search needs
-
 loop-holds : tie.Need-loop-holds Inv-loop μ-loop
 loop-holds c = (zero-le, c .lesser .ensures, ready-start _ _ _)
-
-mul-are-held : tie.Need-mul-are-held Inv-loop μ-loop
-mul-are-held c = omega arith
-
-shared-slice-read-are-held : tie.Need-shared-slice-read-are-held Inv-loop μ-loop
-shared-slice-read-are-held c = omega arith
-
-mul-are-held-2 : tie.Need-mul-are-held-2 Inv-loop μ-loop
-mul-are-held-2 c = omega arith
-
-shared-slice-read-are-held-2 : tie.Need-shared-slice-read-are-held-2 Inv-loop μ-loop
-shared-slice-read-are-held-2 c = omega arith
 
 are-held-requires : tie.Need-are-held-requires Inv-loop μ-loop
 are-held-requires c κs = c .before .before .before .before .before .before .before .before .before .before .pre
@@ -43,12 +28,6 @@ returns c =
     let l = c .before .before .before .before .before .loop in
     sym (l .inv .2 ∙ ready-here (a .ids .now) (a .first .now) (a .second .now) (l .i) (omega arith) (omega arith)
     (rw (c .before .are-held .ensures) at (c .if1 .taken)))
-
-add-i : tie.Need-add-i Inv-loop μ-loop
-add-i c = omega arith
-
-loop-less : tie.Need-loop-less Inv-loop μ-loop
-loop-less c = omega arith
 
 loop-again : tie.Need-loop-again Inv-loop μ-loop
 loop-again c =
@@ -69,18 +48,6 @@ returns-2 c =
 pub ready-spec : {M : Type 1} → statement M
 ready-spec =
     tie.close
-    (tie.spec
-    Inv-loop
-    μ-loop
-    lesser-requires
-    loop-holds
-    mul-are-held
-    shared-slice-read-are-held
-    mul-are-held-2
-    shared-slice-read-are-held-2
-    are-held-requires
-    returns
-    add-i
-    loop-less
-    loop-again
+    (tie.spec Inv-loop μ-loop (λ c κs. search needs) loop-holds (λ c. omega arith) (λ c. omega arith)
+    (λ c. omega arith) (λ c. omega arith) are-held-requires returns (λ c. omega arith) (λ c. omega arith) loop-again
     returns-2)

@@ -10,23 +10,8 @@ use Rattle.reception.proofs.holder.holder_of.Tie as tie
 find-among-requires : tie.Need-find-among-requires
 find-among-requires c κs = (c .before .before .before .before .pre .0, c .before .before .before .before .pre .1 .1)
 
-enum-known-k : tie.Need-enum-known-k
-enum-known-k c = search needs
-
-enum-told : tie.Need-enum-told
-enum-told c = search needs
-
 slice-aggregate-find : tie.Need-slice-aggregate-find
 slice-aggregate-find c = simp length-take (omega arith)
-
-find-requires : tie.Need-find-requires
-find-requires c κs = search needs
-
-enum-known-j : tie.Need-enum-known-j
-enum-known-j c = search needs
-
-enum-told-2 : tie.Need-enum-told-2
-enum-told-2 c = search needs
 
 returns : tie.Need-returns
 unfolding holderIn firstHolder
@@ -48,14 +33,5 @@ returns-3 c =
 pub holder-of-spec : {M : Type 1} → statement M
 holder-of-spec =
     tie.close
-    (tie.spec
-    find-among-requires
-    enum-known-k
-    enum-told
-    slice-aggregate-find
-    find-requires
-    enum-known-j
-    enum-told-2
-    returns
-    returns-2
-    returns-3)
+    (tie.spec find-among-requires (λ c. search needs) (λ c. search needs) slice-aggregate-find (λ c κs. search needs)
+    (λ c. search needs) (λ c. search needs) returns returns-2 returns-3)

@@ -14,26 +14,11 @@ slice-aggregate-has-toggle-2 c = simp length-take (omega arith)
 slice-aggregate-has-toggle-3 : tie.Need-slice-aggregate-has-toggle-3
 slice-aggregate-has-toggle-3 c = simp length-take (omega arith)
 
-key-requires : tie.Need-key-requires
-key-requires c κs = search needs
-
-stamp-requires : tie.Need-stamp-requires
-stamp-requires c κs = search needs
-
-has-toggle-requires : tie.Need-has-toggle-requires
-has-toggle-requires c κs = search needs
-
 returns : tie.Need-returns
 returns c = rw (c .has-toggle .ensures, c .before .before .key .ensures .0, c .before .stamp .ensures)
 
 pub is-pending-spec : {M : Type 1} → statement M
 is-pending-spec =
     tie.close
-    (tie.spec
-    slice-aggregate-has-toggle
-    slice-aggregate-has-toggle-2
-    slice-aggregate-has-toggle-3
-    key-requires
-    stamp-requires
-    has-toggle-requires
-    returns)
+    (tie.spec slice-aggregate-has-toggle slice-aggregate-has-toggle-2 slice-aggregate-has-toggle-3
+    (λ c κs. search needs) (λ c κs. search needs) (λ c κs. search needs) returns)

@@ -6,9 +6,6 @@ use Rattle.reception.proofs.Comparing.{key-told, insert-read}
 use Rattle.reception.proofs.holder.same_insert.Statement.{statement}
 use Rattle.reception.proofs.holder.same_insert.Tie as tie
 
-key-requires : tie.Need-key-requires
-key-requires c κs = search needs
-
 returns : tie.Need-returns
 returns c = sym (insert-read _ _ _ _ _ (sym (key-told _ _ _ (c .before .key .ensures)) ∙ ne-eqb _ _ (c .if1 .taken)) refl refl refl)
 
@@ -18,9 +15,6 @@ returns-2 c =
     let id = sym (key-told _ _ _ own) ∙ eq-eqb _ _ (c .before .before .if1 .left) in
     sym (insert-read _ _ _ _ _ id (ne-eqb _ _ (c .if2 .taken)) refl refl)
 
-key-requires-2 : tie.Need-key-requires-2
-key-requires-2 c κs = search needs
-
 returns-3 : tie.Need-returns-3
 returns-3 c =
     let own = c .before .before .before .before .before .before .key .ensures in
@@ -28,9 +22,6 @@ returns-3 c =
     let previous = sym (key-told _ _ _ (c .before .key2 .ensures)) ∙ ne-eqb _ _ (c .if3 .taken) in
     let point = eq-eqb _ _ (c .before .before .before .if2 .left) in
     sym (insert-read _ _ _ _ _ id point previous refl)
-
-key-requires-3 : tie.Need-key-requires-3
-key-requires-3 c κs = search needs
 
 returns-4 : tie.Need-returns-4
 returns-4 c =
@@ -43,4 +34,5 @@ returns-4 c =
 pub same-insert-spec : {M : Type 1} → statement M
 same-insert-spec =
     tie.close
-    (tie.spec key-requires returns returns-2 key-requires-2 returns-3 key-requires-3 returns-4)
+    (tie.spec (λ c κs. search needs) returns returns-2 (λ c κs. search needs) returns-3 (λ c κs. search needs)
+    returns-4)

@@ -6,17 +6,11 @@ use borrow.Author.Needs.{needs}
 use Rattle.replica.proofs.looks.judge.Statement.{statement}
 use Rattle.replica.proofs.looks.judge.Tie as tie
 
-in-range-requires : tie.Need-in-range-requires
-in-range-requires c κs = search needs
-
 returns : tie.Need-returns
 returns c =
     let s = c .before .before .before .before .before .before .before .args in
     let r = replicaAs (s .site) (s .characters .now) (s .toggles .now) (s .n) (s .pending .now) (s .w) (s .heads .now) (s .links .now) in
     unranged r _ (refused (c .before .in-range .ensures) (c .if1 .taken))
-
-check-requires : tie.Need-check-requires
-check-requires c κs = search needs
 
 returns-2 : tie.Need-returns-2
 returns-2 c =
@@ -43,4 +37,4 @@ returns-3 c =
 pub judge-spec : {M : Type 1} → statement M
 judge-spec =
     tie.close
-    (tie.spec in-range-requires returns check-requires returns-2 decide-requires returns-3)
+    (tie.spec (λ c κs. search needs) returns (λ c κs. search needs) returns-2 decide-requires returns-3)

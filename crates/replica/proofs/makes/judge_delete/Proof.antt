@@ -9,9 +9,6 @@ use borrow.Author.Needs.{needs}
 use Rattle.replica.proofs.makes.judge_delete.Statement.{statement}
 use Rattle.replica.proofs.makes.judge_delete.Tie as tie
 
-check-requires : tie.Need-check-requires
-check-requires c κs = search needs
-
 returns : tie.Need-returns
 returns c =
     let s = c .before .before .before .before .before .before .before .args in
@@ -35,4 +32,6 @@ returns-2 c =
     judged-toggle r (λ (b : Bool). localDeleteWhen b (meaning r) (s .place)) _ x (c .delete .ensures)
 
 pub judge-delete-spec : {M : Type 1} → statement M
-judge-delete-spec = tie.close (tie.spec check-requires returns delete-requires returns-2)
+judge-delete-spec =
+    tie.close
+    (tie.spec (λ c κs. search needs) returns delete-requires returns-2)

@@ -6,17 +6,11 @@ use borrow.Author.Needs.{needs}
 use Rattle.replica.proofs.makes.judge_insert.Statement.{statement}
 use Rattle.replica.proofs.makes.judge_insert.Tie as tie
 
-code-point-requires : tie.Need-code-point-requires
-code-point-requires c κs = search needs
-
 returns : tie.Need-returns
 returns c =
     let s = c .before .before .before .before .before .before .before .args in
     let r = replicaAs (s .site) (s .characters .now) (s .toggles .now) (s .n) (s .pending .now) (s .w) (s .heads .now) (s .links .now) in
     unranged-insert r _ _ (refused (c .before .code-point .ensures) (c .if1 .taken))
-
-check-requires : tie.Need-check-requires
-check-requires c κs = search needs
 
 returns-2 : tie.Need-returns-2
 returns-2 c =
@@ -43,4 +37,4 @@ returns-3 c =
 pub judge-insert-spec : {M : Type 1} → statement M
 judge-insert-spec =
     tie.close
-    (tie.spec code-point-requires returns check-requires returns-2 insert-requires returns-3)
+    (tie.spec (λ c κs. search needs) returns (λ c κs. search needs) returns-2 insert-requires returns-3)

@@ -9,17 +9,11 @@ use borrow.Author.Needs.{needs}
 use Rattle.replica.proofs.makes.judge_restore.Statement.{statement}
 use Rattle.replica.proofs.makes.judge_restore.Tie as tie
 
-character-id-requires : tie.Need-character-id-requires
-character-id-requires c κs = search needs
-
 returns : tie.Need-returns
 returns c =
     let s = c .before .before .before .before .before .before .before .args in
     let r = replicaAs (s .site) (s .characters .now) (s .toggles .now) (s .n) (s .pending .now) (s .w) (s .heads .now) (s .links .now) in
     unranged-restore r _ (refused (c .before .character-id .ensures) (c .if1 .taken))
-
-check-requires : tie.Need-check-requires
-check-requires c κs = search needs
 
 returns-2 : tie.Need-returns-2
 returns-2 c =
@@ -46,4 +40,4 @@ returns-3 c =
 pub judge-restore-spec : {M : Type 1} → statement M
 judge-restore-spec =
     tie.close
-    (tie.spec character-id-requires returns check-requires returns-2 restore-requires returns-3)
+    (tie.spec (λ c κs. search needs) returns (λ c κs. search needs) returns-2 restore-requires returns-3)

@@ -4,15 +4,6 @@ use borrow.Author.Needs.{needs}
 use Rattle.saved.proofs.Version.toggle_field.Statement.{statement}
 use Rattle.saved.proofs.Version.toggle_field.Tie as tie
 
-enum-told : tie.Need-enum-told
-enum-told c = search needs
-
-enum-told-2 : tie.Need-enum-told-2
-enum-told-2 c = search needs
-
-exchanged-requires : tie.Need-exchanged-requires
-exchanged-requires c κs = search needs
-
 returns : tie.Need-returns
 returns c = rw (c .before .enum-told .given .1) (c .exchanged .ensures)
 
@@ -21,4 +12,6 @@ unfolding toggleField
 returns-2 c = rw (c .enum-told2 .given .1)
 
 pub toggle-field-spec : {M : Type 1} → statement M
-toggle-field-spec = tie.close (tie.spec enum-told exchanged-requires enum-told-2 returns returns-2)
+toggle-field-spec =
+    tie.close
+    (tie.spec (λ c. search needs) (λ c κs. search needs) (λ c. search needs) returns returns-2)

@@ -42,9 +42,6 @@ whole s =
     all-lines (a .version) (a .ids .now) (a .previous .now) (a .next .now) (a .code-points .now) (a .toggles .now) (a .n) (a .own .now)
     (a .first .now) (a .second .now) (a .values .now) (a .w)
 
-add-all : tie.Need-add-all Inv-loop μ-loop
-add-all c = omega arith
-
 loop-holds : tie.Need-loop-holds Inv-loop μ-loop
 loop-holds c =
     let s = c .before .before .before .before .before .before .before .before .before in
@@ -55,12 +52,6 @@ line-requires c κs = (c .before .before .before .before .before .before .before
 
 measure-requires : tie.Need-measure-requires Inv-loop μ-loop
 measure-requires c κs = c .line .ensures .1
-
-enum-known-room : tie.Need-enum-known-room Inv-loop μ-loop
-enum-known-room c = search needs
-
-enum-told : tie.Need-enum-told Inv-loop μ-loop
-enum-told c = search needs
 
 returns : tie.Need-returns Inv-loop μ-loop
 returns c =
@@ -98,17 +89,5 @@ returns-2 c =
 pub measure-spec : {M : Type 1} → statement M
 measure-spec =
     tie.close
-    (tie.spec
-    Inv-loop
-    μ-loop
-    add-all
-    loop-holds
-    line-requires
-    measure-requires
-    enum-known-room
-    enum-told
-    returns
-    add-i
-    loop-less
-    loop-again
-    returns-2)
+    (tie.spec Inv-loop μ-loop (λ c. omega arith) loop-holds line-requires measure-requires (λ c. search needs)
+    (λ c. search needs) returns add-i loop-less loop-again returns-2)

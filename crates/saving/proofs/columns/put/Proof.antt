@@ -32,15 +32,6 @@ whole s =
     whole-bytes (a .version) (a .site) (listsOf (a .ids .now) (a .previous .now) (a .next .now) (a .code-points .now) (a .toggles .now) (a .n)
     (a .own .now) (a .first .now) (a .second .now) (a .values .now) (a .w))
 
-measure-site-requires : tie.Need-measure-site-requires
-measure-site-requires c κs = search needs
-
-enum-known-front : tie.Need-enum-known-front
-enum-known-front c = search needs
-
-enum-told : tie.Need-enum-told
-enum-told c = search needs
-
 returns : tie.Need-returns
 returns c =
     let s = c .before .before .before .before .before .before .before .before .before .before .before .before .before in
@@ -54,20 +45,11 @@ measure-requires c κs =
           (c .before .front .given .1),
     )
 
-enum-known-room : tie.Need-enum-known-room
-enum-known-room c = search needs
-
-enum-told-2 : tie.Need-enum-told-2
-enum-told-2 c = search needs
-
 returns-2 : tie.Need-returns-2
 returns-2 c =
     let s = c .before .before .before .before .before .before .before .before .before .before .before .before .before .before .before .before .before in
     body-short (front s) (body s) (bytes s) (s .args .out .now) (whole s) (c .before .before .before .before .before .before .measure-site .ensures)
     (c .before .before .before .before .front .given .1) (c .before .before .measure .ensures) (c .enum-told2 .given .1)
-
-put-site-requires : tie.Need-put-site-requires
-put-site-requires c κs = search needs
 
 put-lines-requires : tie.Need-put-lines-requires
 put-lines-requires c κs =
@@ -78,9 +60,6 @@ put-lines-requires c κs =
           (m .before .before .front .given .1) (m .measure .ensures) (c .before .before .before .before .before .before .room .given .1)
           (c .before .before .before .put-site .ensures),
     )
-
-same-length : tie.Need-same-length
-same-length c = search needs
 
 returns-3 : tie.Need-returns-3
 returns-3 c =
@@ -93,16 +72,6 @@ returns-3 c =
 pub put-spec : {M : Type 1} → statement M
 put-spec =
     tie.close
-    (tie.spec
-    measure-site-requires
-    enum-known-front
-    enum-told
-    returns
-    measure-requires
-    enum-known-room
-    enum-told-2
-    returns-2
-    put-site-requires
-    put-lines-requires
-    same-length
+    (tie.spec (λ c κs. search needs) (λ c. search needs) (λ c. search needs) returns measure-requires
+    (λ c. search needs) (λ c. search needs) returns-2 (λ c κs. search needs) put-lines-requires (λ c. search needs)
     returns-3)

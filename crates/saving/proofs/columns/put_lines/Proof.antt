@@ -42,9 +42,6 @@ whole s =
     all-lines (a .version) (a .ids .now) (a .previous .now) (a .next .now) (a .code-points .now) (a .toggles .now) (a .n) (a .own .now)
     (a .first .now) (a .second .now) (a .values .now) (a .w)
 
-add-all : tie.Need-add-all Inv-loop μ-loop
-add-all c = omega arith
-
 loop-holds : tie.Need-loop-holds Inv-loop μ-loop
 loop-holds c =
     let s = c .before .before .before .before .before .before .before .before .before .before in
@@ -88,15 +85,5 @@ same-length c = ap length (returns c) ∙ length-placed _ _ _
 pub put-lines-spec : {M : Type 1} → statement M
 put-lines-spec =
     tie.close
-    (tie.spec
-    Inv-loop
-    μ-loop
-    add-all
-    loop-holds
-    line-requires
-    put-requires
-    add-i
-    loop-less
-    loop-again
-    same-length
-    returns)
+    (tie.spec Inv-loop μ-loop (λ c. omega arith) loop-holds line-requires put-requires add-i loop-less loop-again
+    same-length returns)

@@ -7,9 +7,6 @@ use native.Mathlib.Omega.{arith}
 use Rattle.saving.proofs.numbered.measure.Statement.{statement}
 use Rattle.saving.proofs.numbered.measure.Tie as tie
 
-slice-aggregate-measure : tie.Need-slice-aggregate-measure
-slice-aggregate-measure c = search needs
-
 array-share-prefix-numbers : tie.Need-array-share-prefix-numbers
 array-share-prefix-numbers c = omega (arith, c .before .before .pre, full-line (c .before .before .args .line) (c .before .before .good .0))
 
@@ -21,9 +18,6 @@ slice-aggregate-measure-2 c = simp length-take (omega (
       (c .before .before .before .good .0),
 ))
 
-measure-requires : tie.Need-measure-requires
-measure-requires c κs = search needs
-
 returns : tie.Need-returns
 unfolding lineBytes
 returns c = c .measure .ensures
@@ -31,9 +25,4 @@ returns c = c .measure .ensures
 pub measure-spec : {M : Type 1} → statement M
 measure-spec =
     tie.close
-    (tie.spec
-    slice-aggregate-measure
-    array-share-prefix-numbers
-    slice-aggregate-measure-2
-    measure-requires
-    returns)
+    (tie.spec (λ c. search needs) array-share-prefix-numbers slice-aggregate-measure-2 (λ c κs. search needs) returns)

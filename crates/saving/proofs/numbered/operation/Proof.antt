@@ -3,17 +3,13 @@ use borrow.Author.Needs.{needs}
 use Rattle.saving.proofs.numbered.operation.Statement.{statement}
 use Rattle.saving.proofs.numbered.operation.Tie as tie
 
-toggle-requires : tie.Need-toggle-requires
-toggle-requires c κs = search needs
-
 returns : tie.Need-returns
 returns c = let t = c .toggle .ensures in (rw (c .before .if1 .taken) (t .0), t .1)
-
-insert-requires : tie.Need-insert-requires
-insert-requires c κs = search needs
 
 returns-2 : tie.Need-returns-2
 returns-2 c = let i = c .insert .ensures in (i .0 _, i .1)
 
 pub operation-spec : {M : Type 1} → statement M
-operation-spec = tie.close (tie.spec toggle-requires returns insert-requires returns-2)
+operation-spec =
+    tie.close
+    (tie.spec (λ c κs. search needs) returns (λ c κs. search needs) returns-2)

@@ -7,9 +7,6 @@ use native.Mathlib.Omega.{arith}
 use Rattle.saving.proofs.numbered.put.Statement.{statement}
 use Rattle.saving.proofs.numbered.put.Tie as tie
 
-slice-aggregate-put : tie.Need-slice-aggregate-put
-slice-aggregate-put c = search needs
-
 array-share-prefix-numbers : tie.Need-array-share-prefix-numbers
 array-share-prefix-numbers c = omega (
   arith,
@@ -26,12 +23,6 @@ slice-aggregate-put-2 c = simp length-take (omega (
       (c .before .before .before .before .args .line) (c .before .before .before .before .good .0),
 ))
 
-put-requires : tie.Need-put-requires
-put-requires c κs = search needs
-
-same-length : tie.Need-same-length
-same-length c = search needs
-
 returns : tie.Need-returns
 unfolding lineBytes
 returns c = c .before .before .put .ensures
@@ -39,10 +30,5 @@ returns c = c .before .before .put .ensures
 pub put-spec : {M : Type 1} → statement M
 put-spec =
     tie.close
-    (tie.spec
-    slice-aggregate-put
-    array-share-prefix-numbers
-    slice-aggregate-put-2
-    put-requires
-    same-length
-    returns)
+    (tie.spec (λ c. search needs) array-share-prefix-numbers slice-aggregate-put-2 (λ c κs. search needs)
+    (λ c. search needs) returns)

@@ -8,33 +8,6 @@ use borrow.Author.Needs.{needs}
 use Rattle.saving.proofs.site_line.measure_site.Statement.{statement}
 use Rattle.saving.proofs.site_line.measure_site.Tie as tie
 
-site-numbers-requires : tie.Need-site-numbers-requires
-site-numbers-requires c κs = search needs
-
-enum-told : tie.Need-enum-told
-enum-told c = search needs
-
-slice-aggregate-measure : tie.Need-slice-aggregate-measure
-slice-aggregate-measure c = search needs
-
-slice-aggregate-measure-2 : tie.Need-slice-aggregate-measure-2
-slice-aggregate-measure-2 c = search needs
-
-measure-requires : tie.Need-measure-requires
-measure-requires c κs = search needs
-
-enum-told-2 : tie.Need-enum-told-2
-enum-told-2 c = search needs
-
-slice-aggregate-measure-3 : tie.Need-slice-aggregate-measure-3
-slice-aggregate-measure-3 c = search needs
-
-slice-aggregate-measure-4 : tie.Need-slice-aggregate-measure-4
-slice-aggregate-measure-4 c = search needs
-
-measure-requires-2 : tie.Need-measure-requires-2
-measure-requires-2 c κs = search needs
-
 returns : tie.Need-returns
 unfolding siteLine
 returns c =
@@ -50,15 +23,5 @@ returns-2 c =
 pub measure-site-spec : {M : Type 1} → statement M
 measure-site-spec =
     tie.close
-    (tie.spec
-    site-numbers-requires
-    enum-told
-    slice-aggregate-measure
-    slice-aggregate-measure-2
-    measure-requires
-    enum-told-2
-    slice-aggregate-measure-3
-    slice-aggregate-measure-4
-    measure-requires-2
-    returns
-    returns-2)
+    (tie.spec (λ c κs. search needs) (λ c. search needs) (λ c. search needs) (λ c. search needs) (λ c κs. search needs)
+    (λ c. search needs) (λ c. search needs) (λ c. search needs) (λ c κs. search needs) returns returns-2)

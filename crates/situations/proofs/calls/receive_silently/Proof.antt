@@ -5,11 +5,10 @@ use Rattle.woot.specs.declared.Receipt.{Receipt}
 use Rattle.situations.proofs.calls.receive_silently.Statement.{statement}
 use Rattle.situations.proofs.calls.receive_silently.Tie as tie
 
-receive-requires : tie.Need-receive-requires
-receive-requires c κs = search needs
-
 returns : tie.Need-returns
 returns c = ap (λ (x : Receipt). x .replica) (c .before .receive .ensures)
 
 pub receive-silently-spec : {M : Type 1} → statement M
-receive-silently-spec = tie.close (tie.spec receive-requires returns)
+receive-silently-spec =
+    tie.close
+    (tie.spec (λ c κs. search needs) returns)

@@ -14,24 +14,6 @@ use Rattle.transcript.proofs.report.put_report.Tie as tie
 abbrev start : tie.After-put-all → tie.Start
 start c = c .before .before .before .before .before .before .before .before .before .before
 
-slice-aggregate-write : tie.Need-slice-aggregate-write
-slice-aggregate-write c = search needs
-
-write-requires : tie.Need-write-requires
-write-requires c κs = search needs
-
-slice-aggregate-put : tie.Need-slice-aggregate-put
-slice-aggregate-put c = search needs
-
-put-requires : tie.Need-put-requires
-put-requires c κs = search needs
-
-slice-aggregate-put-all : tie.Need-slice-aggregate-put-all
-slice-aggregate-put-all c = search needs
-
-put-all-requires : tie.Need-put-all-requires
-put-all-requires c κs = search needs
-
 -- the head is in the array
 head : (c : tie.After-put-all) → Front (digits (start c .args .number) ++ tab ∷ start c .args .word .now) (c .put-all .last .0) (c .put-all .result)
 head c =
@@ -46,18 +28,6 @@ array-share-prefix-head c = head (c .before) .fits
 slice-aggregate-put-2 : tie.Need-slice-aggregate-put-2
 slice-aggregate-put-2 c = sym (length-take-le _ _ (head (c .before .before) .fits))
 
-slice-aggregate-put-3 : tie.Need-slice-aggregate-put-3
-slice-aggregate-put-3 c = search needs
-
-put-requires-2 : tie.Need-put-requires-2
-put-requires-2 c κs = search needs
-
-fitted-requires : tie.Need-fitted-requires
-fitted-requires c κs = search needs
-
-same-length : tie.Need-same-length
-same-length c = search needs
-
 returns : tie.Need-returns
 returns c =
     let p = c .before .before .before .put2 .ensures in
@@ -67,17 +37,6 @@ returns c =
 pub put-report-spec : {M : Type 1} → statement M
 put-report-spec =
     tie.close
-    (tie.spec
-    slice-aggregate-write
-    write-requires
-    slice-aggregate-put
-    put-requires
-    slice-aggregate-put-all
-    put-all-requires
-    array-share-prefix-head
-    slice-aggregate-put-2
-    slice-aggregate-put-3
-    put-requires-2
-    fitted-requires
-    same-length
-    returns)
+    (tie.spec (λ c. search needs) (λ c κs. search needs) (λ c. search needs) (λ c κs. search needs) (λ c. search needs)
+    (λ c κs. search needs) array-share-prefix-head slice-aggregate-put-2 (λ c. search needs) (λ c κs. search needs)
+    (λ c κs. search needs) (λ c. search needs) returns)

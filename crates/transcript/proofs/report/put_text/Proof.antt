@@ -10,38 +10,14 @@ use Rattle.transcript.proofs.Listings.{listing-front}
 use Rattle.transcript.proofs.report.put_text.Statement.{statement}
 use Rattle.transcript.proofs.report.put_text.Tie as tie
 
-sub-list : tie.Need-sub-list
-sub-list c = search needs
-
-part-list-start : tie.Need-part-list-start
-part-list-start c = search needs
-
-part-list-end : tie.Need-part-list-end
-part-list-end c = search needs
-
-list-requires : tie.Need-list-requires
-list-requires c κs = search needs
-
 add-size : tie.Need-add-size
 add-size c = omega (arith, c .before .before .list .ensures .1 .0)
-
-slice-aggregate-put : tie.Need-slice-aggregate-put
-slice-aggregate-put c = search needs
 
 array-share-prefix-values : tie.Need-array-share-prefix-values
 array-share-prefix-values c = let l = c .before .before .before .list .ensures in omega (arith, l .1 .0, l .1 .1)
 
 slice-aggregate-put-2 : tie.Need-slice-aggregate-put-2
 slice-aggregate-put-2 c = let l = c .before .before .before .before .list .ensures in sym (length-take-le _ _ (omega (arith, l .1 .0, l .1 .1)))
-
-put-requires : tie.Need-put-requires
-put-requires c κs = search needs
-
-fitted-requires : tie.Need-fitted-requires
-fitted-requires c κs = search needs
-
-same-length : tie.Need-same-length
-same-length c = search needs
 
 returns : tie.Need-returns
 unfolding textLine
@@ -55,16 +31,6 @@ returns c =
 pub put-text-spec : {M : Type 1} → statement M
 put-text-spec =
     tie.close
-    (tie.spec
-    sub-list
-    part-list-start
-    part-list-end
-    list-requires
-    add-size
-    slice-aggregate-put
-    array-share-prefix-values
-    slice-aggregate-put-2
-    put-requires
-    fitted-requires
-    same-length
-    returns)
+    (tie.spec (λ c. search needs) (λ c. search needs) (λ c. search needs) (λ c κs. search needs) add-size
+    (λ c. search needs) array-share-prefix-values slice-aggregate-put-2 (λ c κs. search needs) (λ c κs. search needs)
+    (λ c. search needs) returns)

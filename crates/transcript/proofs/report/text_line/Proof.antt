@@ -20,9 +20,6 @@ put-text-requires c κs =
     let x = examined (viewed r) (full-view (r .document) full) (sym (form-view r) ∙ start .pre) in
     (few (viewed r) x .characters, (full .characters, omega (arith, full .toggles, few (viewed r) x .characters)))
 
-same-length : tie.Need-same-length
-same-length c = search needs
-
 returns : tie.Need-returns
 unfolding meaning charactersIn columns.meaning columns.charactersIn
 returns c =
@@ -34,4 +31,6 @@ returns c =
     (w .0 _ (written-points r x) (written-toggles r x), w .1 _ (written-points r x) (written-toggles r x))
 
 pub text-line-spec : {M : Type 1} → statement M
-text-line-spec = tie.close (tie.spec put-text-requires same-length returns)
+text-line-spec =
+    tie.close
+    (tie.spec put-text-requires (λ c. search needs) returns)

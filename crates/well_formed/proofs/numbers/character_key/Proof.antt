@@ -5,14 +5,10 @@ use Rattle.well_formed.proofs.Ranging.{key-ranged}
 use Rattle.well_formed.proofs.numbers.character_key.Statement.{statement}
 use Rattle.well_formed.proofs.numbers.character_key.Tie as tie
 
-both-requires : tie.Need-both-requires
-both-requires c κs = search needs
-
-both-requires-2 : tie.Need-both-requires-2
-both-requires-2 c κs = search needs
-
 returns : tie.Need-returns
 returns c = c .both2 .ensures ∙ rw (c .before .both .ensures) (key-ranged _)
 
 pub character-key-spec : {M : Type 1} → statement M
-character-key-spec = tie.close (tie.spec both-requires both-requires-2 returns)
+character-key-spec =
+    tie.close
+    (tie.spec (λ c κs. search needs) (λ c κs. search needs) returns)

@@ -25,42 +25,6 @@ abbrev μ-loop : tie.MeasureT-loop
 loop-holds : tie.Need-loop-holds Inv-loop μ-loop
 loop-holds c = (omega arith, refl)
 
-mul-in-range : tie.Need-mul-in-range Inv-loop μ-loop
-mul-in-range c = omega arith
-
-shared-slice-read-in-range : tie.Need-shared-slice-read-in-range Inv-loop μ-loop
-shared-slice-read-in-range c = omega arith
-
-mul-in-range-2 : tie.Need-mul-in-range-2 Inv-loop μ-loop
-mul-in-range-2 c = omega arith
-
-shared-slice-read-in-range-2 : tie.Need-shared-slice-read-in-range-2 Inv-loop μ-loop
-shared-slice-read-in-range-2 c = omega arith
-
-mul-in-range-3 : tie.Need-mul-in-range-3 Inv-loop μ-loop
-mul-in-range-3 c = omega arith
-
-shared-slice-read-in-range-3 : tie.Need-shared-slice-read-in-range-3 Inv-loop μ-loop
-shared-slice-read-in-range-3 c = omega arith
-
-mul-in-range-4 : tie.Need-mul-in-range-4 Inv-loop μ-loop
-mul-in-range-4 c = omega arith
-
-shared-slice-read-in-range-4 : tie.Need-shared-slice-read-in-range-4 Inv-loop μ-loop
-shared-slice-read-in-range-4 c = omega arith
-
-in-range-requires : tie.Need-in-range-requires Inv-loop μ-loop
-in-range-requires c κs = search needs
-
-both-requires : tie.Need-both-requires Inv-loop μ-loop
-both-requires c κs = search needs
-
-add-i : tie.Need-add-i Inv-loop μ-loop
-add-i c = omega arith
-
-loop-less : tie.Need-loop-less Inv-loop μ-loop
-loop-less c = omega arith
-
 loop-again : tie.Need-loop-again Inv-loop μ-loop
 loop-again c =
     let l = c .before .before .before .before .before .before .before .loop in
@@ -79,21 +43,6 @@ returns c =
 pub characters-in-range-spec : {M : Type 1} → statement M
 characters-in-range-spec =
     tie.close
-    (tie.spec
-    Inv-loop
-    μ-loop
-    loop-holds
-    mul-in-range
-    shared-slice-read-in-range
-    mul-in-range-2
-    shared-slice-read-in-range-2
-    mul-in-range-3
-    shared-slice-read-in-range-3
-    mul-in-range-4
-    shared-slice-read-in-range-4
-    in-range-requires
-    both-requires
-    add-i
-    loop-less
-    loop-again
-    returns)
+    (tie.spec Inv-loop μ-loop loop-holds (λ c. omega arith) (λ c. omega arith) (λ c. omega arith) (λ c. omega arith)
+    (λ c. omega arith) (λ c. omega arith) (λ c. omega arith) (λ c. omega arith) (λ c κs. search needs)
+    (λ c κs. search needs) (λ c. omega arith) (λ c. omega arith) loop-again returns)

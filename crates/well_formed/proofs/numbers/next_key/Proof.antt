@@ -5,14 +5,10 @@ use Rattle.well_formed.proofs.Ranging.{next-ranged}
 use Rattle.well_formed.proofs.numbers.next_key.Statement.{statement}
 use Rattle.well_formed.proofs.numbers.next_key.Tie as tie
 
-character-key-requires : tie.Need-character-key-requires
-character-key-requires c κs = search needs
-
-either-requires : tie.Need-either-requires
-either-requires c κs = search needs
-
 returns : tie.Need-returns
 returns c = c .either .ensures ∙ rw (c .before .character-key .ensures) (next-ranged _)
 
 pub next-key-spec : {M : Type 1} → statement M
-next-key-spec = tie.close (tie.spec character-key-requires either-requires returns)
+next-key-spec =
+    tie.close
+    (tie.spec (λ c κs. search needs) (λ c κs. search needs) returns)

@@ -20,42 +20,6 @@ abbrev μ-loop : tie.MeasureT-loop
 loop-holds : tie.Need-loop-holds Inv-loop μ-loop
 loop-holds c = (omega arith, refl)
 
-mul-operation-in-range : tie.Need-mul-operation-in-range Inv-loop μ-loop
-mul-operation-in-range c = omega arith
-
-shared-slice-read-operation-in-range : tie.Need-shared-slice-read-operation-in-range Inv-loop μ-loop
-shared-slice-read-operation-in-range c = omega arith
-
-mul-operation-in-range-2 : tie.Need-mul-operation-in-range-2 Inv-loop μ-loop
-mul-operation-in-range-2 c = omega arith
-
-shared-slice-read-operation-in-range-2 : tie.Need-shared-slice-read-operation-in-range-2 Inv-loop μ-loop
-shared-slice-read-operation-in-range-2 c = omega arith
-
-mul-operation-in-range-3 : tie.Need-mul-operation-in-range-3 Inv-loop μ-loop
-mul-operation-in-range-3 c = omega arith
-
-shared-slice-read-operation-in-range-3 : tie.Need-shared-slice-read-operation-in-range-3 Inv-loop μ-loop
-shared-slice-read-operation-in-range-3 c = omega arith
-
-mul-operation-in-range-4 : tie.Need-mul-operation-in-range-4 Inv-loop μ-loop
-mul-operation-in-range-4 c = omega arith
-
-shared-slice-read-operation-in-range-4 : tie.Need-shared-slice-read-operation-in-range-4 Inv-loop μ-loop
-shared-slice-read-operation-in-range-4 c = omega arith
-
-operation-in-range-requires : tie.Need-operation-in-range-requires Inv-loop μ-loop
-operation-in-range-requires c κs = search needs
-
-both-requires : tie.Need-both-requires Inv-loop μ-loop
-both-requires c κs = search needs
-
-add-j : tie.Need-add-j Inv-loop μ-loop
-add-j c = omega arith
-
-loop-less : tie.Need-loop-less Inv-loop μ-loop
-loop-less c = omega arith
-
 loop-again : tie.Need-loop-again Inv-loop μ-loop
 loop-again c =
     let l = c .before .before .before .before .before .before .before .loop in
@@ -71,21 +35,6 @@ returns c =
 pub operations-in-range-spec : {M : Type 1} → statement M
 operations-in-range-spec =
     tie.close
-    (tie.spec
-    Inv-loop
-    μ-loop
-    loop-holds
-    mul-operation-in-range
-    shared-slice-read-operation-in-range
-    mul-operation-in-range-2
-    shared-slice-read-operation-in-range-2
-    mul-operation-in-range-3
-    shared-slice-read-operation-in-range-3
-    mul-operation-in-range-4
-    shared-slice-read-operation-in-range-4
-    operation-in-range-requires
-    both-requires
-    add-j
-    loop-less
-    loop-again
-    returns)
+    (tie.spec Inv-loop μ-loop loop-holds (λ c. omega arith) (λ c. omega arith) (λ c. omega arith) (λ c. omega arith)
+    (λ c. omega arith) (λ c. omega arith) (λ c. omega arith) (λ c. omega arith) (λ c κs. search needs)
+    (λ c κs. search needs) (λ c. omega arith) (λ c. omega arith) loop-again returns)

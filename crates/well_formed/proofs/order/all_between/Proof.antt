@@ -26,35 +26,8 @@ Inv-loop heads links ids previous next end i₀ i =
 abbrev μ-loop : tie.MeasureT-loop
 μ-loop heads links ids previous next end i₀ i = length ids - i
 
-place-of-requires : tie.Need-place-of-requires Inv-loop μ-loop
-place-of-requires c κs = search needs
-
 loop-holds : tie.Need-loop-holds Inv-loop μ-loop
 loop-holds c = (omega arith, c .place-of .ensures, refl)
-
-mul-place-near : tie.Need-mul-place-near Inv-loop μ-loop
-mul-place-near c = omega arith
-
-shared-slice-read-place-near : tie.Need-shared-slice-read-place-near Inv-loop μ-loop
-shared-slice-read-place-near c = omega arith
-
-place-near-requires : tie.Need-place-near-requires Inv-loop μ-loop
-place-near-requires c κs = search needs
-
-add-place-near : tie.Need-add-place-near Inv-loop μ-loop
-add-place-near c = omega arith
-
-mul-place-near-2 : tie.Need-mul-place-near-2 Inv-loop μ-loop
-mul-place-near-2 c = omega arith
-
-shared-slice-read-place-near-2 : tie.Need-shared-slice-read-place-near-2 Inv-loop μ-loop
-shared-slice-read-place-near-2 c = omega arith
-
-place-near-requires-2 : tie.Need-place-near-requires-2 Inv-loop μ-loop
-place-near-requires-2 c κs = search needs
-
-stands-between-requires : tie.Need-stands-between-requires Inv-loop μ-loop
-stands-between-requires c κs = search needs
 
 returns : tie.Need-returns Inv-loop μ-loop
 returns c =
@@ -63,12 +36,6 @@ returns c =
     sym (throughout-fails (betweenAt (a .ids .now) (a .previous .now) (a .next .now)) (length (a .ids .now)) (l .i) (omega arith)
     (reading (a .ids .now) (a .previous .now) (a .next .now) (l .i) (sym (c .before .before .before .before .place-near .ensures))
     (sym (c .before .before .place-near2 .ensures)) (refused (c .before .stands-between .ensures) (c .if1 .taken))))
-
-add-i : tie.Need-add-i Inv-loop μ-loop
-add-i c = omega arith
-
-loop-less : tie.Need-loop-less Inv-loop μ-loop
-loop-less c = omega arith
 
 loop-again : tie.Need-loop-again Inv-loop μ-loop
 loop-again c =
@@ -90,21 +57,6 @@ returns-2 c =
 pub all-between-spec : {M : Type 1} → statement M
 all-between-spec =
     tie.close
-    (tie.spec
-    Inv-loop
-    μ-loop
-    place-of-requires
-    loop-holds
-    mul-place-near
-    shared-slice-read-place-near
-    place-near-requires
-    add-place-near
-    mul-place-near-2
-    shared-slice-read-place-near-2
-    place-near-requires-2
-    stands-between-requires
-    returns
-    add-i
-    loop-less
-    loop-again
-    returns-2)
+    (tie.spec Inv-loop μ-loop (λ c κs. search needs) loop-holds (λ c. omega arith) (λ c. omega arith)
+    (λ c κs. search needs) (λ c. omega arith) (λ c. omega arith) (λ c. omega arith) (λ c κs. search needs)
+    (λ c κs. search needs) returns (λ c. omega arith) (λ c. omega arith) loop-again returns-2)

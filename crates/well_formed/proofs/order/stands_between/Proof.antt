@@ -13,23 +13,16 @@ reading : (n i a b : ℕ) {p q r : Bool} → ltb a (i + 1) ≡ p → ltb (i + 1)
 unfolding standsBetween
 reading n i a b e f g = λ k. e k && (f k && g k)
 
-add-if1 : tie.Need-add-if1
-add-if1 c = search needs
-
 returns : tie.Need-returns
 returns c = sym (reading _ _ _ _ (le-ltb _ _ (c .if1 .taken)) refl refl)
 
-add-if2 : tie.Need-add-if2
-add-if2 c = search needs
-
 returns-2 : tie.Need-returns-2
 returns-2 c = sym (reading _ _ _ _ (lt-ltb _ _ (c .before .if1 .left)) (le-ltb _ _ (c .if2 .taken)) refl)
-
-add-result : tie.Need-add-result
-add-result c = search needs
 
 returns-3 : tie.Need-returns-3
 returns-3 c = sym (reading _ _ _ _ (lt-ltb _ _ (c .before .if1 .left)) (lt-ltb _ _ (c .if2 .left)) refl)
 
 pub stands-between-spec : {M : Type 1} → statement M
-stands-between-spec = tie.close (tie.spec add-if1 returns add-if2 returns-2 add-result returns-3)
+stands-between-spec =
+    tie.close
+    (tie.spec (λ c. search needs) returns (λ c. search needs) returns-2 (λ c. search needs) returns-3)

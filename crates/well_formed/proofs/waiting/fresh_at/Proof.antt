@@ -9,12 +9,6 @@ use Rattle.well_formed.specs.PendingForm.{freshAt}
 use Rattle.well_formed.proofs.waiting.fresh_at.Statement.{statement}
 use Rattle.well_formed.proofs.waiting.fresh_at.Tie as tie
 
-mul-if1 : tie.Need-mul-if1
-mul-if1 c = omega arith
-
-shared-slice-read-if1 : tie.Need-shared-slice-read-if1
-shared-slice-read-if1 c = omega arith
-
 returns : tie.Need-returns
 unfolding freshAt
 returns c = rw (ne-eqb _ 0 (c .if1 .taken))
@@ -28,21 +22,6 @@ slice-aggregate-has-toggle-2 c = simp length-take (omega arith)
 slice-aggregate-has-toggle-3 : tie.Need-slice-aggregate-has-toggle-3
 slice-aggregate-has-toggle-3 c = simp length-take (omega arith)
 
-mul-has-toggle : tie.Need-mul-has-toggle
-mul-has-toggle c = omega arith
-
-shared-slice-read-has-toggle : tie.Need-shared-slice-read-has-toggle
-shared-slice-read-has-toggle c = omega arith
-
-mul-has-toggle-2 : tie.Need-mul-has-toggle-2
-mul-has-toggle-2 c = omega arith
-
-shared-slice-read-has-toggle-2 : tie.Need-shared-slice-read-has-toggle-2
-shared-slice-read-has-toggle-2 c = omega arith
-
-has-toggle-requires : tie.Need-has-toggle-requires
-has-toggle-requires c κs = search needs
-
 returns-2 : tie.Need-returns-2
 unfolding freshAt
 returns-2 c = rw (eq-eqb _ 0 (c .before .before .before .before .before .before .if1 .left)) (ap not (c .has-toggle .ensures))
@@ -50,16 +29,6 @@ returns-2 c = rw (eq-eqb _ 0 (c .before .before .before .before .before .before 
 pub fresh-at-spec : {M : Type 1} → statement M
 fresh-at-spec =
     tie.close
-    (tie.spec
-    mul-if1
-    shared-slice-read-if1
-    returns
-    slice-aggregate-has-toggle
-    slice-aggregate-has-toggle-2
-    slice-aggregate-has-toggle-3
-    mul-has-toggle
-    shared-slice-read-has-toggle
-    mul-has-toggle-2
-    shared-slice-read-has-toggle-2
-    has-toggle-requires
-    returns-2)
+    (tie.spec (λ c. omega arith) (λ c. omega arith) returns slice-aggregate-has-toggle slice-aggregate-has-toggle-2
+    slice-aggregate-has-toggle-3 (λ c. omega arith) (λ c. omega arith) (λ c. omega arith) (λ c. omega arith)
+    (λ c κs. search needs) returns-2)

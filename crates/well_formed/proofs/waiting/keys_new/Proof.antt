@@ -26,12 +26,6 @@ abbrev μ-loop : tie.MeasureT-loop
 loop-holds : tie.Need-loop-holds Inv-loop μ-loop
 loop-holds c = (omega arith, refl)
 
-mul-key : tie.Need-mul-key Inv-loop μ-loop
-mul-key c = omega arith
-
-shared-slice-read-key : tie.Need-shared-slice-read-key Inv-loop μ-loop
-shared-slice-read-key c = omega arith
-
 unheld-requires : tie.Need-unheld-requires Inv-loop μ-loop
 unheld-requires c κs = c .before .before .before .before .before .before .before .pre
 
@@ -45,9 +39,6 @@ returns c =
 slice-aggregate-unseen : tie.Need-slice-aggregate-unseen Inv-loop μ-loop
 slice-aggregate-unseen c = simp length-take (omega arith)
 
-unseen-requires : tie.Need-unseen-requires Inv-loop μ-loop
-unseen-requires c κs = search needs
-
 returns-2 : tie.Need-returns-2 Inv-loop μ-loop
 returns-2 c =
     let a = c .before .before .before .before .before .before .before .before .before .before .before .before .args in
@@ -55,12 +46,6 @@ returns-2 c =
     sym (throughout-fails (freeAt (a .ids .now) (a .own .now)) (length (a .own .now)) (l .j) (omega arith)
     (reading _ _ _ (passed (c .before .before .before .before .unheld .ensures) (c .before .before .before .if1 .left))
     (refused (c .before .unseen .ensures) (c .if2 .taken))))
-
-add-j : tie.Need-add-j Inv-loop μ-loop
-add-j c = omega arith
-
-loop-less : tie.Need-loop-less Inv-loop μ-loop
-loop-less c = omega arith
 
 loop-again : tie.Need-loop-again Inv-loop μ-loop
 loop-again c =
@@ -81,18 +66,5 @@ returns-3 c =
 pub keys-new-spec : {M : Type 1} → statement M
 keys-new-spec =
     tie.close
-    (tie.spec
-    Inv-loop
-    μ-loop
-    loop-holds
-    mul-key
-    shared-slice-read-key
-    unheld-requires
-    returns
-    slice-aggregate-unseen
-    unseen-requires
-    returns-2
-    add-j
-    loop-less
-    loop-again
-    returns-3)
+    (tie.spec Inv-loop μ-loop loop-holds (λ c. omega arith) (λ c. omega arith) unheld-requires returns
+    slice-aggregate-unseen (λ c κs. search needs) returns-2 (λ c. omega arith) (λ c. omega arith) loop-again returns-3)

@@ -8,12 +8,6 @@ use Rattle.well_formed.proofs.waiting.none_ready.Tie as tie
 ready-requires : tie.Need-ready-requires
 ready-requires c κs = c .before .before .before .before .before .pre .0
 
-enum-told : tie.Need-enum-told
-enum-told c = search needs
-
-enum-told-2 : tie.Need-enum-told-2
-enum-told-2 c = search needs
-
 returns : tie.Need-returns
 returns c = sym (ap nothing (sym (c .before .before .ready .ensures) ∙ c .enum-told .given .1))
 
@@ -21,4 +15,6 @@ returns-2 : tie.Need-returns-2
 returns-2 c = sym (ap nothing (sym (c .before .before .ready .ensures) ∙ c .enum-told2 .given .1))
 
 pub none-ready-spec : {M : Type 1} → statement M
-none-ready-spec = tie.close (tie.spec ready-requires enum-told enum-told-2 returns returns-2)
+none-ready-spec =
+    tie.close
+    (tie.spec ready-requires (λ c. search needs) (λ c. search needs) returns returns-2)

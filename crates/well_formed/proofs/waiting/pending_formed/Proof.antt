@@ -52,14 +52,8 @@ once : (c : tie.Else4) → let a = start (c .before .before .before .before .bef
     noneRepeated (a .own .now) (a .first .now) (a .values .now) ≡ true
 once c = passed (c .before .none-repeated .ensures) (c .if4 .left)
 
-shares-kept-requires : tie.Need-shares-kept-requires
-shares-kept-requires c κs = search needs
-
 returns : tie.Need-returns
 returns c = sym (reading _ _ _ _ _ (refused (c .before .shares-kept .ensures) (c .if1 .taken)) refl refl refl refl)
-
-count-inserts-requires : tie.Need-count-inserts-requires
-count-inserts-requires c κs = search needs
 
 add-if2 : tie.Need-add-if2
 add-if2 c = omega (arith, c .count-inserts .ensures, keep-length (λ (k : ℕ). not (eqb k 0)) (start (c .before) .args .own .now))
@@ -68,24 +62,15 @@ returns-2 : tie.Need-returns-2
 returns-2 c = sym (reading _ _ _ _ _ (shares (c .before .before))
     (no-room _ _ _ (c .before .count-inserts .ensures) (omega (arith, c .if2 .taken))) refl refl refl)
 
-keys-new-requires : tie.Need-keys-new-requires
-keys-new-requires c κs = search needs
-
 returns-3 : tie.Need-returns-3
 returns-3 c = sym (reading _ _ _ _ _ (shares (c .before .before .before .before)) (fits (c .before .before))
     (refused (c .before .keys-new .ensures) (c .if3 .taken)) refl refl)
-
-none-repeated-requires : tie.Need-none-repeated-requires
-none-repeated-requires c κs = search needs
 
 returns-4 : tie.Need-returns-4
 returns-4 c =
     let repeated = refused (c .before .none-repeated .ensures) (c .if4 .taken) in
     sym (reading _ _ _ _ _ (shares (c .before .before .before .before .before .before)) (fits (c .before .before .before .before))
     (fresh (c .before .before)) repeated refl)
-
-none-ready-requires : tie.Need-none-ready-requires
-none-ready-requires c κs = search needs
 
 returns-5 : tie.Need-returns-5
 returns-5 c =
@@ -95,15 +80,5 @@ returns-5 c =
 pub pending-formed-spec : {M : Type 1} → statement M
 pending-formed-spec =
     tie.close
-    (tie.spec
-    shares-kept-requires
-    returns
-    count-inserts-requires
-    add-if2
-    returns-2
-    keys-new-requires
-    returns-3
-    none-repeated-requires
-    returns-4
-    none-ready-requires
-    returns-5)
+    (tie.spec (λ c κs. search needs) returns (λ c κs. search needs) add-if2 returns-2 (λ c κs. search needs) returns-3
+    (λ c κs. search needs) returns-4 (λ c κs. search needs) returns-5)

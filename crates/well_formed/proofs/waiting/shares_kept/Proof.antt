@@ -22,12 +22,6 @@ abbrev μ-loop : tie.MeasureT-loop
 loop-holds : tie.Need-loop-holds Inv-loop μ-loop
 loop-holds c = (omega arith, refl)
 
-add-site : tie.Need-add-site Inv-loop μ-loop
-add-site c = omega arith
-
-count-sender-requires : tie.Need-count-sender-requires Inv-loop μ-loop
-count-sender-requires c κs = search needs
-
 returns : tie.Need-returns Inv-loop μ-loop
 unfolding sharesIn
 returns c =
@@ -35,9 +29,6 @@ returns c =
     let l = c .before .before .before .loop in
     sym (numbers-fail (senderWithin (a .own .now) (a .values .now)) lastSite (l .site) (omega arith)
     (rw (← c .before .count-sender .ensures) (lt-leb _ _ (c .if1 .taken))))
-
-loop-less : tie.Need-loop-less Inv-loop μ-loop
-loop-less c = omega arith
 
 loop-again : tie.Need-loop-again Inv-loop μ-loop
 loop-again c =
@@ -58,13 +49,5 @@ returns-2 c =
 pub shares-kept-spec : {M : Type 1} → statement M
 shares-kept-spec =
     tie.close
-    (tie.spec
-    Inv-loop
-    μ-loop
-    loop-holds
-    add-site
-    count-sender-requires
-    returns
-    loop-less
-    loop-again
-    returns-2)
+    (tie.spec Inv-loop μ-loop loop-holds (λ c. omega arith) (λ c κs. search needs) returns (λ c. omega arith)
+    loop-again returns-2)

@@ -14,15 +14,6 @@ returns c = rw (eq-eqb _ 0 (c .if1 .taken))
 returns-2 : tie.Need-returns-2
 returns-2 c = sym (end-held _ _ (c .if2 .taken))
 
-find-requires : tie.Need-find-requires
-find-requires c κs = search needs
-
-enum-told : tie.Need-enum-told
-enum-told c = search needs
-
-enum-told-2 : tie.Need-enum-told-2
-enum-told-2 c = search needs
-
 returns-3 : tie.Need-returns-3
 returns-3 c = sym (found-held _ _ _ (c .before .before .before .before .if1 .left) (sym (c .before .before .find .ensures) ∙ c .enum-told .given .1))
 
@@ -31,4 +22,6 @@ returns-4 c = sym (nothing-unheld _ _ (c .before .before .before .before .if1 .l
     (sym (c .before .before .find .ensures) ∙ c .enum-told2 .given .1))
 
 pub unseen-spec : {M : Type 1} → statement M
-unseen-spec = tie.close (tie.spec returns returns-2 find-requires enum-told enum-told-2 returns-3 returns-4)
+unseen-spec =
+    tie.close
+    (tie.spec returns returns-2 (λ c κs. search needs) (λ c. search needs) (λ c. search needs) returns-3 returns-4)

@@ -4,15 +4,6 @@ use borrow.Author.Needs.{needs}
 use Rattle.wimtaze.proofs.inputs.first_of.Statement.{statement}
 use Rattle.wimtaze.proofs.inputs.first_of.Tie as tie
 
-enum-told : tie.Need-enum-told
-enum-told c = search needs
-
-enum-known-answer : tie.Need-enum-known-answer
-enum-known-answer c = search needs
-
-layout-first-requires : tie.Need-layout-first-requires
-layout-first-requires c κs = search needs
-
 returns : tie.Need-returns
 unfolding firstOf
 returns c = rw (c .enum-told .given .1)
@@ -22,4 +13,6 @@ unfolding firstOf
 returns-2 c = rw (c .before .before .answer .given .1) (c .layout-first .ensures)
 
 pub first-of-spec : {M : Type 1} → statement M
-first-of-spec = tie.close (tie.spec enum-told enum-known-answer layout-first-requires returns returns-2)
+first-of-spec =
+    tie.close
+    (tie.spec (λ c. search needs) (λ c. search needs) (λ c κs. search needs) returns returns-2)

@@ -6,9 +6,6 @@ use borrow.Author.Needs.{needs}
 use Rattle.wimtaze.proofs.inputs.layout_first.Statement.{statement}
 use Rattle.wimtaze.proofs.inputs.layout_first.Tie as tie
 
-number-requires : tie.Need-number-requires
-number-requires c κs = search needs
-
 returns : tie.Need-returns
 unfolding layoutFirst
 returns c = rw (eq-eqb _ 1 (sym (c .before .number .ensures) ∙ c .if1 .taken))
@@ -18,4 +15,6 @@ unfolding layoutFirst
 returns-2 c = rw (ne-eqb _ 1 (λ e. c .if1 .left (c .before .number .ensures ∙ e)))
 
 pub layout-first-spec : {M : Type 1} → statement M
-layout-first-spec = tie.close (tie.spec number-requires returns returns-2)
+layout-first-spec =
+    tie.close
+    (tie.spec (λ c κs. search needs) returns returns-2)

@@ -6,14 +6,8 @@ use borrow.Author.Needs.{needs}
 use Rattle.wimtaze.proofs.inputs.read_one.Statement.{statement}
 use Rattle.wimtaze.proofs.inputs.read_one.Tie as tie
 
-rest-requires : tie.Need-rest-requires
-rest-requires c κs = search needs
-
 returns : tie.Need-returns
 returns c = sym (followed _ (λ e. c .if1 .taken (ap length (c .before .rest .ensures) ∙ e)))
-
-read-operation-requires : tie.Need-read-operation-requires
-read-operation-requires c κs = search needs
 
 returns-2 : tie.Need-returns-2
 returns-2 c =
@@ -21,4 +15,6 @@ returns-2 c =
     c .read-operation .ensures ∙ sym (sole _ none)
 
 pub read-one-spec : {M : Type 1} → statement M
-read-one-spec = tie.close (tie.spec rest-requires returns read-operation-requires returns-2)
+read-one-spec =
+    tie.close
+    (tie.spec (λ c κs. search needs) returns (λ c κs. search needs) returns-2)
