@@ -2,13 +2,14 @@
 ghost use mathlib.Core.Path.{_≡_};
 ghost use Prim.Native.Nat.{_*_, _<_, _≤_};
 ghost use lib.ListN.{length, take, replicate};
-ghost use Rattle.woot.specs.Table.{chainOf, slot, lookup, foundAt, agrees, freeSlot, tableOf};
+ghost use Rattle.woot.specs.Table.{chainOf, slot, lookup, foundAt, agrees, freeSlot, tableOf, chains, tableLinks};
+ghost use Rattle.woot.specs.Memory.{characterSlots};
 ghost use Rattle.chains.specs.Places.{placeFound};
 
 // The chain of a key.
 fn chain(key: u32) -> usize
     ensures { λ r. ⌜ r ≡ chainOf key ⌝ }
-    ensures { λ r. ⌜ r < 1024 ⌝ }
+    ensures { λ r. ⌜ r < chains ⌝ }
 {
     (key as u64 * 2654435769 / 4194304 % 1024) as usize
 }
@@ -27,7 +28,7 @@ fn slot(at: usize, rest: u32) -> usize
 // where the key stands there, and a link only where it leads to a later one, so that any table will do. A step of the
 // calls and not a call: they lend arrays of these sizes.
 pub fn lookup<'a>(heads: &'a [u16], links: &'a [u16], keys: &'a [u32], key: u32) -> usize
-    requires { ⌜ length (now heads) ≡ 1024 ⌝ }
+    requires { ⌜ length (now heads) ≡ chains ⌝ }
     requires { ⌜ 2 * length (now keys) ≤ length (now links) ⌝ }
     ensures { λ r. ⌜ r
         ≡ placeFound (lookup (record { heads = now (heads .entry); links = now (links .entry) })
@@ -49,7 +50,7 @@ pub fn lookup<'a>(heads: &'a [u16], links: &'a [u16], keys: &'a [u32], key: u32)
 
 // Whether the key at the index is found there.
 fn found_at<'a>(heads: &'a [u16], links: &'a [u16], keys: &'a [u32], i: usize) -> bool
-    requires { ⌜ length (now heads) ≡ 1024 ⌝ }
+    requires { ⌜ length (now heads) ≡ chains ⌝ }
     requires { ⌜ 2 * length (now keys) ≤ length (now links) ⌝ }
     requires { ⌜ i < length (now keys) ⌝ }
     ensures { λ r. ⌜ r
@@ -60,7 +61,7 @@ fn found_at<'a>(heads: &'a [u16], links: &'a [u16], keys: &'a [u32], i: usize) -
 
 // Whether each key is found at its own index. A step of the calls and not a call: they lend arrays of these sizes.
 pub fn agrees<'a>(heads: &'a [u16], links: &'a [u16], keys: &'a [u32]) -> bool
-    requires { ⌜ length (now heads) ≡ 1024 ⌝ }
+    requires { ⌜ length (now heads) ≡ chains ⌝ }
     requires { ⌜ 2 * length (now keys) ≤ length (now links) ⌝ }
     ensures { λ r. ⌜ r
         ≡ agrees (record { heads = now (heads .entry); links = now (links .entry) }) (now (keys .entry)) ⌝ }
@@ -121,9 +122,9 @@ fn clear(slots: &mut [u16])
 // places.
 pub fn enter_all(keys: &[u32], n: usize, heads: &mut [u16], links: &mut [u16])
     requires { ⌜ n ≤ length (now keys) ⌝ }
-    requires { ⌜ n ≤ 1024 ⌝ }
-    requires { ⌜ length (now heads) ≡ 1024 ⌝ }
-    requires { ⌜ length (now links) ≡ 2048 ⌝ }
+    requires { ⌜ n ≤ characterSlots ⌝ }
+    requires { ⌜ length (now heads) ≡ chains ⌝ }
+    requires { ⌜ length (now links) ≡ tableLinks ⌝ }
     ensures { λ _. ⌜ (record { heads = now (heads .exit); links = now (links .exit) })
         ≡ tableOf (take n (now (keys .entry))) ⌝ }
 {

@@ -1,13 +1,18 @@
 // The characters of a document, on the arrays that hold them: one put in, one toggled, and the slots behind them
 // cleared. Each array is edited where it lies.
+use woot::CHARACTER_NUMBERS;
+use woot::CHARACTERS;
+use woot::CODE_POINTS;
 use woot::Insert;
+use woot::NEXT_KEYS;
+use woot::PREVIOUS_KEYS;
 ghost use mathlib.Core.Path.{_≡_};
 ghost use Prim.Native.Nat.{_+_, _≤_, _<_, max};
 ghost use lib.ListN.{length, take, set, getD};
 ghost use Rattle.lists.specs.Padding.{pad};
 ghost use Rattle.slots.specs.Slots.{putAt};
-ghost use Rattle.woot.specs.Table.{key, tableOf};
-ghost use Rattle.woot.specs.Memory.{column};
+ghost use Rattle.woot.specs.Table.{key, tableOf, chains, tableLinks};
+ghost use Rattle.woot.specs.Memory.{column, characterNumbers, characterSlots, codePointColumn, keyColumn, nextColumn, previousColumn};
 
 // Puts four numbers in after the first k of the first n, one into each column.
 fn put_numbers(
@@ -20,20 +25,25 @@ fn put_numbers(
     code_point: u32,
 )
     requires { ⌜ k ≤ n ⌝ }
-    requires { ⌜ n < 1024 ⌝ }
-    requires { ⌜ length (now characters) ≡ 4096 ⌝ }
-    ensures { λ _. ⌜ column 1024 0 (now (characters .exit)) ≡ putAt n k id (column 1024 0 (now (characters .entry))) ⌝ }
-    ensures { λ _. ⌜ column 1024 1 (now (characters .exit))
-        ≡ putAt n k previous (column 1024 1 (now (characters .entry))) ⌝ }
-    ensures { λ _. ⌜ column 1024 2 (now (characters .exit))
-        ≡ putAt n k next (column 1024 2 (now (characters .entry))) ⌝ }
-    ensures { λ _. ⌜ column 1024 3 (now (characters .exit))
-        ≡ putAt n k «code_point» (column 1024 3 (now (characters .entry))) ⌝ }
+    requires { ⌜ n < characterSlots ⌝ }
+    requires { ⌜ length (now characters) ≡ characterNumbers ⌝ }
+    ensures { λ _. ⌜ keyColumn (now (characters .exit)) ≡ putAt n k id (keyColumn (now (characters .entry))) ⌝ }
+    ensures { λ _. ⌜ previousColumn (now (characters .exit))
+        ≡ putAt n k previous (previousColumn (now (characters .entry))) ⌝ }
+    ensures { λ _. ⌜ nextColumn (now (characters .exit))
+        ≡ putAt n k next (nextColumn (now (characters .entry))) ⌝ }
+    ensures { λ _. ⌜ codePointColumn (now (characters .exit))
+        ≡ putAt n k «code_point» (codePointColumn (now (characters .entry))) ⌝ }
 {
-    slots::put_number(&mut characters[..1024], n, k, id);
-    slots::put_number(&mut characters[1024..2048], n, k, previous);
-    slots::put_number(&mut characters[2048..3072], n, k, next);
-    slots::put_number(&mut characters[3072..4096], n, k, code_point);
+    slots::put_number(&mut characters[..CHARACTERS], n, k, id);
+    slots::put_number(&mut characters[PREVIOUS_KEYS..NEXT_KEYS], n, k, previous);
+    slots::put_number(&mut characters[NEXT_KEYS..CODE_POINTS], n, k, next);
+    slots::put_number(
+        &mut characters[CODE_POINTS..CHARACTER_NUMBERS],
+        n,
+        k,
+        code_point,
+    );
 }
 
 // Puts the character of an insert in after the first k of the first n, and makes the table anew. A step of the calls
@@ -48,22 +58,22 @@ pub fn put_in(
     insert: Insert,
 )
     requires { ⌜ k ≤ n ⌝ }
-    requires { ⌜ n < 1024 ⌝ }
-    requires { ⌜ length (now characters) ≡ 4096 ⌝ }
-    requires { ⌜ length (now toggles) ≡ 1024 ⌝ }
-    requires { ⌜ length (now heads) ≡ 1024 ⌝ }
-    requires { ⌜ length (now links) ≡ 2048 ⌝ }
-    ensures { λ _. ⌜ column 1024 0 (now (characters .exit))
-        ≡ putAt n k (key (insert .id)) (column 1024 0 (now (characters .entry))) ⌝ }
-    ensures { λ _. ⌜ column 1024 1 (now (characters .exit))
-        ≡ putAt n k (key (insert .previous)) (column 1024 1 (now (characters .entry))) ⌝ }
-    ensures { λ _. ⌜ column 1024 2 (now (characters .exit))
-        ≡ putAt n k (key (insert .next)) (column 1024 2 (now (characters .entry))) ⌝ }
-    ensures { λ _. ⌜ column 1024 3 (now (characters .exit))
-        ≡ putAt n k (insert .«code_point») (column 1024 3 (now (characters .entry))) ⌝ }
+    requires { ⌜ n < characterSlots ⌝ }
+    requires { ⌜ length (now characters) ≡ characterNumbers ⌝ }
+    requires { ⌜ length (now toggles) ≡ characterSlots ⌝ }
+    requires { ⌜ length (now heads) ≡ chains ⌝ }
+    requires { ⌜ length (now links) ≡ tableLinks ⌝ }
+    ensures { λ _. ⌜ keyColumn (now (characters .exit))
+        ≡ putAt n k (key (insert .id)) (keyColumn (now (characters .entry))) ⌝ }
+    ensures { λ _. ⌜ previousColumn (now (characters .exit))
+        ≡ putAt n k (key (insert .previous)) (previousColumn (now (characters .entry))) ⌝ }
+    ensures { λ _. ⌜ nextColumn (now (characters .exit))
+        ≡ putAt n k (key (insert .next)) (nextColumn (now (characters .entry))) ⌝ }
+    ensures { λ _. ⌜ codePointColumn (now (characters .exit))
+        ≡ putAt n k (insert .«code_point») (codePointColumn (now (characters .entry))) ⌝ }
     ensures { λ _. ⌜ now (toggles .exit) ≡ putAt n k 0 (now (toggles .entry)) ⌝ }
     ensures { λ _. ⌜ (record { heads = now (heads .exit); links = now (links .exit) })
-        ≡ tableOf (take (n + 1) (column 1024 0 (now (characters .exit)))) ⌝ }
+        ≡ tableOf (take (n + 1) (keyColumn (now (characters .exit)))) ⌝ }
 {
     let id = insert.id;
     let previous = insert.previous;
@@ -100,21 +110,21 @@ pub fn toggle(toggles: &mut [u8], k: usize, count: u8)
 
 // The first n of each column stay, and every slot behind them is 0.
 fn clear_columns(characters: &mut [u32], n: usize)
-    requires { ⌜ n ≤ 1024 ⌝ }
-    requires { ⌜ length (now characters) ≡ 4096 ⌝ }
-    ensures { λ _. ⌜ column 1024 0 (now (characters .exit))
-        ≡ pad 1024 0 (take n (column 1024 0 (now (characters .entry)))) ⌝ }
-    ensures { λ _. ⌜ column 1024 1 (now (characters .exit))
-        ≡ pad 1024 0 (take n (column 1024 1 (now (characters .entry)))) ⌝ }
-    ensures { λ _. ⌜ column 1024 2 (now (characters .exit))
-        ≡ pad 1024 0 (take n (column 1024 2 (now (characters .entry)))) ⌝ }
-    ensures { λ _. ⌜ column 1024 3 (now (characters .exit))
-        ≡ pad 1024 0 (take n (column 1024 3 (now (characters .entry)))) ⌝ }
+    requires { ⌜ n ≤ characterSlots ⌝ }
+    requires { ⌜ length (now characters) ≡ characterNumbers ⌝ }
+    ensures { λ _. ⌜ keyColumn (now (characters .exit))
+        ≡ pad characterSlots 0 (take n (keyColumn (now (characters .entry)))) ⌝ }
+    ensures { λ _. ⌜ previousColumn (now (characters .exit))
+        ≡ pad characterSlots 0 (take n (previousColumn (now (characters .entry)))) ⌝ }
+    ensures { λ _. ⌜ nextColumn (now (characters .exit))
+        ≡ pad characterSlots 0 (take n (nextColumn (now (characters .entry)))) ⌝ }
+    ensures { λ _. ⌜ codePointColumn (now (characters .exit))
+        ≡ pad characterSlots 0 (take n (codePointColumn (now (characters .entry)))) ⌝ }
 {
-    slots::clear_numbers(&mut characters[..1024], n);
-    slots::clear_numbers(&mut characters[1024..2048], n);
-    slots::clear_numbers(&mut characters[2048..3072], n);
-    slots::clear_numbers(&mut characters[3072..4096], n);
+    slots::clear_numbers(&mut characters[..CHARACTERS], n);
+    slots::clear_numbers(&mut characters[PREVIOUS_KEYS..NEXT_KEYS], n);
+    slots::clear_numbers(&mut characters[NEXT_KEYS..CODE_POINTS], n);
+    slots::clear_numbers(&mut characters[CODE_POINTS..CHARACTER_NUMBERS], n);
 }
 
 // The first n stay, every slot behind them is 0, and the table is made anew: a step of the calls, which have compared
@@ -126,22 +136,22 @@ pub fn clear(
     links: &mut [u16],
     n: usize,
 )
-    requires { ⌜ n ≤ 1024 ⌝ }
-    requires { ⌜ length (now characters) ≡ 4096 ⌝ }
-    requires { ⌜ length (now toggles) ≡ 1024 ⌝ }
-    requires { ⌜ length (now heads) ≡ 1024 ⌝ }
-    requires { ⌜ length (now links) ≡ 2048 ⌝ }
-    ensures { λ _. ⌜ column 1024 0 (now (characters .exit))
-        ≡ pad 1024 0 (take n (column 1024 0 (now (characters .entry)))) ⌝ }
-    ensures { λ _. ⌜ column 1024 1 (now (characters .exit))
-        ≡ pad 1024 0 (take n (column 1024 1 (now (characters .entry)))) ⌝ }
-    ensures { λ _. ⌜ column 1024 2 (now (characters .exit))
-        ≡ pad 1024 0 (take n (column 1024 2 (now (characters .entry)))) ⌝ }
-    ensures { λ _. ⌜ column 1024 3 (now (characters .exit))
-        ≡ pad 1024 0 (take n (column 1024 3 (now (characters .entry)))) ⌝ }
-    ensures { λ _. ⌜ now (toggles .exit) ≡ pad 1024 0 (take n (now (toggles .entry))) ⌝ }
+    requires { ⌜ n ≤ characterSlots ⌝ }
+    requires { ⌜ length (now characters) ≡ characterNumbers ⌝ }
+    requires { ⌜ length (now toggles) ≡ characterSlots ⌝ }
+    requires { ⌜ length (now heads) ≡ chains ⌝ }
+    requires { ⌜ length (now links) ≡ tableLinks ⌝ }
+    ensures { λ _. ⌜ keyColumn (now (characters .exit))
+        ≡ pad characterSlots 0 (take n (keyColumn (now (characters .entry)))) ⌝ }
+    ensures { λ _. ⌜ previousColumn (now (characters .exit))
+        ≡ pad characterSlots 0 (take n (previousColumn (now (characters .entry)))) ⌝ }
+    ensures { λ _. ⌜ nextColumn (now (characters .exit))
+        ≡ pad characterSlots 0 (take n (nextColumn (now (characters .entry)))) ⌝ }
+    ensures { λ _. ⌜ codePointColumn (now (characters .exit))
+        ≡ pad characterSlots 0 (take n (codePointColumn (now (characters .entry)))) ⌝ }
+    ensures { λ _. ⌜ now (toggles .exit) ≡ pad characterSlots 0 (take n (now (toggles .entry))) ⌝ }
     ensures { λ _. ⌜ (record { heads = now (heads .exit); links = now (links .exit) })
-        ≡ tableOf (take n (column 1024 0 (now (characters .entry)))) ⌝ }
+        ≡ tableOf (take n (keyColumn (now (characters .entry)))) ⌝ }
 {
     chains::enter_all(characters, n, heads, links);
     clear_columns(characters, n);

@@ -2,7 +2,10 @@
 use replica::looks;
 use saved::LoadAnswer;
 use saved::Version;
+use woot::PENDING;
+use woot::PENDING_NUMBERS;
 use woot::Refusal;
+use woot::VALUES;
 use woot::Written;
 ghost use mathlib.Core.Path.{_≡_};
 ghost use mathlib.Core.Bool.{true};
@@ -12,7 +15,7 @@ ghost use lib.ListN.{length, take, getD};
 ghost use Rattle.lists.specs.Lists.{every, throughout};
 ghost use Rattle.woot.specs.Ranges.{inRange};
 ghost use Rattle.woot.specs.State.{State};
-ghost use Rattle.woot.specs.Memory.{column, toggleCounts, ownKey, valueOf};
+ghost use Rattle.woot.specs.Memory.{toggleCounts, ownKey, valueOf, ownColumn, pendingNumbers, pendingSlots, valueColumn};
 ghost use Rattle.saved.specs.Format.{representable};
 ghost use Rattle.saved.specs.Conversion.{converted, convertedOut, upgraded, upgradedOut, downgraded, downgradedOut};
 ghost use Rattle.conversion.specs.Columns.{countWithin, numbersWithin};
@@ -63,17 +66,17 @@ fn pending_within<'a>(own: &'a [u32], values: &'a [u32], w: usize) -> bool
 // Whether the first form can say a document: it has no count of toggles above 1.
 fn within_first<'a>(toggles: &'a [u8], n: usize, pending: &'a [u32], w: usize) -> bool
     requires { ⌜ n ≤ length (now toggles) ⌝ }
-    requires { ⌜ length (now pending) ≡ 2048 ⌝ }
-    requires { ⌜ w ≤ 512 ⌝ }
+    requires { ⌜ length (now pending) ≡ pendingNumbers ⌝ }
+    requires { ⌜ w ≤ pendingSlots ⌝ }
     ensures { λ r. ⌜ ((s : State) → toggleCounts (s .characters) ≡ take n (now (toggles .entry))
-        → map ownKey (s .pending) ≡ take w (column 512 0 (now (pending .entry)))
-        → map valueOf (s .pending) ≡ take w (column 512 3 (now (pending .entry)))
+        → map ownKey (s .pending) ≡ take w (ownColumn (now (pending .entry)))
+        → map valueOf (s .pending) ≡ take w (valueColumn (now (pending .entry)))
         → every inRange (s .pending) ≡ true → r ≡ representable Version.First s) ⌝ }
 {
     if !characters_within(toggles, n) {
         return false;
     }
-    pending_within(&pending[..512], &pending[1536..2048], w)
+    pending_within(&pending[..PENDING], &pending[VALUES..PENDING_NUMBERS], w)
 }
 
 // Whether a form can say a document, of its lent arrays.
@@ -85,11 +88,11 @@ fn is_representable<'a>(
     w: usize,
 ) -> bool
     requires { ⌜ n ≤ length (now toggles) ⌝ }
-    requires { ⌜ length (now pending) ≡ 2048 ⌝ }
-    requires { ⌜ w ≤ 512 ⌝ }
+    requires { ⌜ length (now pending) ≡ pendingNumbers ⌝ }
+    requires { ⌜ w ≤ pendingSlots ⌝ }
     ensures { λ r. ⌜ ((s : State) → toggleCounts (s .characters) ≡ take n (now (toggles .entry))
-        → map ownKey (s .pending) ≡ take w (column 512 0 (now (pending .entry)))
-        → map valueOf (s .pending) ≡ take w (column 512 3 (now (pending .entry)))
+        → map ownKey (s .pending) ≡ take w (ownColumn (now (pending .entry)))
+        → map valueOf (s .pending) ≡ take w (valueColumn (now (pending .entry)))
         → every inRange (s .pending) ≡ true → r ≡ representable version s) ⌝ }
 {
     match version {

@@ -3,6 +3,7 @@
 use pending::counts;
 use replica::looks;
 use woot::Answer;
+use woot::CHARACTERS;
 use woot::Refusal;
 use woot::Replica;
 ghost use mathlib.Core.Path.{_≡_};
@@ -10,7 +11,7 @@ ghost use mathlib.Core.List.{List};
 ghost use Prim.Native.Nat.{_≤_};
 ghost use lib.ListN.{length, take};
 ghost use Rattle.woot.specs.declared.Character.{Character};
-ghost use Rattle.woot.specs.Memory.{toggleCounts};
+ghost use Rattle.woot.specs.Memory.{toggleCounts, characterSlots};
 ghost use Rattle.results.specs.Results.{numberOf};
 ghost use Rattle.counts.specs.Steps.{heldBy, countsIn, countsLeft};
 
@@ -19,12 +20,12 @@ ghost use Rattle.counts.specs.Steps.{heldBy, countsIn, countsLeft};
 fn counts_of<'a>(toggles: &'a [u8], n: usize, own: &'a [u32], w: usize) -> u64
     requires { ⌜ n ≤ length (now toggles) ⌝ }
     requires { ⌜ w ≤ length (now own) ⌝ }
-    requires { ⌜ heldBy n (take w (now own)) ≤ 1024 ⌝ }
+    requires { ⌜ heldBy n (take w (now own)) ≤ characterSlots ⌝ }
     ensures { λ r. ⌜ ((cs : List Character) → toggleCounts cs ≡ take n (now (toggles .entry))
         → r ≡ numberOf (countsIn cs n (take w (now (own .entry))) w)) ⌝ }
 {
     let held = n + counts::count_inserts(&own[..w]);
-    let room = 1024 - held;
+    let room = CHARACTERS - held;
     let shown = visible::count(toggles, n);
     let counts = Answer::Done {
         integrated: shown,

@@ -4,6 +4,7 @@
 use index::Found;
 use reception::Decision;
 use woot::Answer;
+use woot::CHARACTERS;
 use woot::Document;
 use woot::Moved;
 use woot::Operation;
@@ -21,8 +22,8 @@ ghost use lib.ListN.{length, take};
 ghost use Rattle.woot.specs.declared.Character.{Character};
 ghost use Rattle.woot.specs.Answers.{changes};
 ghost use Rattle.woot.specs.Cursor.{visibleThrough, lastNumber, movedBy};
-ghost use Rattle.woot.specs.Table.{keys};
-ghost use Rattle.woot.specs.Memory.{identifier, toggleCounts};
+ghost use Rattle.woot.specs.Table.{keys, chains, tableLinks};
+ghost use Rattle.woot.specs.Memory.{identifier, toggleCounts, characterNumbers, characterSlots, pendingNumbers};
 ghost use Rattle.woot.specs.Replicas.{receivedAt};
 ghost use Rattle.index.specs.Keys.{AllSmall, placeIn};
 ghost use Rattle.replica.specs.Outcomes.{replicaAs};
@@ -125,11 +126,11 @@ pub fn judge_at<'a>(
     operation: Operation,
     point: usize,
 ) -> Judgement
-    requires { ⌜ length (now characters) ≡ 4096 ⌝ }
-    requires { ⌜ length (now toggles) ≡ 1024 ⌝ }
-    requires { ⌜ length (now pending) ≡ 2048 ⌝ }
-    requires { ⌜ length (now heads) ≡ 1024 ⌝ }
-    requires { ⌜ length (now links) ≡ 2048 ⌝ }
+    requires { ⌜ length (now characters) ≡ characterNumbers ⌝ }
+    requires { ⌜ length (now toggles) ≡ characterSlots ⌝ }
+    requires { ⌜ length (now pending) ≡ pendingNumbers ⌝ }
+    requires { ⌜ length (now heads) ≡ chains ⌝ }
+    requires { ⌜ length (now links) ≡ tableLinks ⌝ }
     ensures { λ r. ⌜ JudgedAt (replicaAs site (now (characters .entry)) (now (toggles .entry)) n
         (now (pending .entry)) w (now (heads .entry)) (now (links .entry))) operation point r ⌝ }
 {
@@ -144,7 +145,7 @@ pub fn judge_at<'a>(
         links,
         operation,
     );
-    let anchor = anchored(characters, toggles, index::lesser(n, 1024), point);
+    let anchor = anchored(characters, toggles, index::lesser(n, CHARACTERS), point);
     Judgement {
         decision: overrule(judged, anchor.beyond),
         left: anchor.left,
@@ -183,8 +184,8 @@ fn visible_through<'a>(ids: &'a [u32], toggles: &'a [u8], n: usize, key: u32) ->
 
 // The difference of two counts, which may be below zero.
 fn difference(after: usize, before: usize) -> i32
-    requires { ⌜ after ≤ 1024 ⌝ }
-    requires { ⌜ before ≤ 1024 ⌝ }
+    requires { ⌜ after ≤ characterSlots ⌝ }
+    requires { ⌜ before ≤ characterSlots ⌝ }
     ensures { λ r. ⌜ r ≡ subℕ after before ⌝ }
 {
     after as i32 - before as i32
@@ -193,10 +194,10 @@ fn difference(after: usize, before: usize) -> i32
 // How far a cursor moves that stood at the insertion point and kept to the identifier with a key, among the characters
 // as they are now. A step of the calls and not a call: they have seen that the point was among the visible characters.
 pub fn shift<'a>(ids: &'a [u32], toggles: &'a [u8], n: usize, left: u32, point: usize) -> i32
-    requires { ⌜ n ≤ 1024 ⌝ }
+    requires { ⌜ n ≤ characterSlots ⌝ }
     requires { ⌜ n ≤ length (now ids) ⌝ }
     requires { ⌜ n ≤ length (now toggles) ⌝ }
-    requires { ⌜ point ≤ 1024 ⌝ }
+    requires { ⌜ point ≤ characterSlots ⌝ }
     ensures { λ r. ⌜ ((cs : List Character) → keys cs ≡ take n (now (ids .entry))
         → toggleCounts cs ≡ take n (now (toggles .entry)) → AllSmall cs
         → r ≡ subℕ (visibleThrough cs (identifier left)) point) ⌝ }
@@ -213,9 +214,9 @@ fn shift_with<'a>(
     left: u32,
     point: usize,
 ) -> i32
-    requires { ⌜ length (now ids) ≡ 4096 ⌝ }
-    requires { ⌜ length (now toggles) ≡ 1024 ⌝ }
-    requires { ⌜ (changes answer ≡ true → (n ≤ 1024) × (point ≤ 1024)) ⌝ }
+    requires { ⌜ length (now ids) ≡ characterNumbers ⌝ }
+    requires { ⌜ length (now toggles) ≡ characterSlots ⌝ }
+    requires { ⌜ (changes answer ≡ true → (n ≤ characterSlots) × (point ≤ characterSlots)) ⌝ }
     ensures { λ r. ⌜ (changes answer ≡ false → r ≡ pos 0) ⌝ }
     ensures { λ r. ⌜ (changes answer ≡ true → (cs : List Character) → keys cs ≡ take n (now (ids .entry))
         → toggleCounts cs ≡ take n (now (toggles .entry)) → AllSmall cs

@@ -6,9 +6,16 @@ use index::table;
 use integration::Placement;
 use pending::edits;
 use pending::ready;
+use woot::CHARACTERS;
+use woot::CODE_POINTS;
+use woot::FIRST_KEYS;
 use woot::Insert;
+use woot::NEXT_KEYS;
 use woot::Operation;
+use woot::PREVIOUS_KEYS;
+use woot::SECOND_KEYS;
 use woot::Toggle;
+use woot::VALUES;
 ghost use mathlib.Core.Path.{_≡_};
 ghost use mathlib.Core.List.{List, _++_, _∷_, []};
 ghost use Prim.Native.Nat.{_+_, _≤_, _<_};
@@ -19,7 +26,7 @@ ghost use Rattle.index.specs.Tabled.{Tabled};
 ghost use Rattle.memory.specs.Lent.{columnsAs};
 ghost use Rattle.memory.specs.Columns.{charactersIn, operationsIn, documentOf};
 ghost use Rattle.woot.specs.declared.Character.{Character};
-ghost use Rattle.woot.specs.Memory.{column, previousKeys, nextKeys};
+ghost use Rattle.woot.specs.Memory.{previousKeys, nextKeys, characterNumbers, characterSlots, firstColumn, keyColumn, nextColumn, pendingNumbers, pendingSlots, previousColumn, secondColumn};
 ghost use Rattle.pending.specs.Ready.{readyIn};
 ghost use Rattle.integration.specs.Placements.{placementOf};
 ghost use Rattle.woot.specs.Placing.{integrateInsert, integrateToggle};
@@ -47,8 +54,8 @@ fn clear(
     n: usize,
     w: usize,
 )
-    requires { ⌜ length (now characters) ≡ 4096 ⌝ }
-    requires { ⌜ length (now pending) ≡ 2048 ⌝ }
+    requires { ⌜ length (now characters) ≡ characterNumbers ⌝ }
+    requires { ⌜ length (now pending) ≡ pendingNumbers ⌝ }
     requires { ⌜ Lent (columnsAs (now characters) (now toggles) n (now pending) w (now heads) (now links)) ⌝ }
     ensures { λ _. ⌜ (columnsAs (now (characters .exit)) (now (toggles .exit)) n (now (pending .exit)) w
         (now (heads .exit)) (now (links .exit)))
@@ -69,21 +76,21 @@ fn find_place<'a>(
     n: usize,
     insert: Insert,
 ) -> Placement
-    requires { ⌜ n ≤ 1024 ⌝ }
-    requires { ⌜ length (now characters) ≡ 4096 ⌝ }
-    requires { ⌜ Tabled (record { heads = now heads; links = now links }) (take n (column 1024 0 (now characters))) ⌝ }
+    requires { ⌜ n ≤ characterSlots ⌝ }
+    requires { ⌜ length (now characters) ≡ characterNumbers ⌝ }
+    requires { ⌜ Tabled (record { heads = now heads; links = now links }) (take n (keyColumn (now characters))) ⌝ }
     ensures { λ r. ⌜ ((cs : List Character)
-        → take n (column 1024 0 (now (characters .entry))) ≡ keys cs
-        → take n (column 1024 1 (now (characters .entry))) ≡ previousKeys cs
-        → take n (column 1024 2 (now (characters .entry))) ≡ nextKeys cs → AllSmall cs
+        → take n (keyColumn (now (characters .entry))) ≡ keys cs
+        → take n (previousColumn (now (characters .entry))) ≡ previousKeys cs
+        → take n (nextColumn (now (characters .entry))) ≡ nextKeys cs → AllSmall cs
         → r ≡ placementOf cs insert) ⌝ }
 {
     integration::find_place(
         heads,
         links,
-        &characters[..1024],
-        &characters[1024..2048],
-        &characters[2048..3072],
+        &characters[..CHARACTERS],
+        &characters[PREVIOUS_KEYS..NEXT_KEYS],
+        &characters[NEXT_KEYS..CODE_POINTS],
         n,
         insert,
     )
@@ -98,22 +105,22 @@ fn due<'a>(
     pending: &'a [u32],
     w: usize,
 ) -> Found
-    requires { ⌜ n ≤ 1024 ⌝ }
-    requires { ⌜ w ≤ 512 ⌝ }
-    requires { ⌜ length (now characters) ≡ 4096 ⌝ }
-    requires { ⌜ length (now pending) ≡ 2048 ⌝ }
-    requires { ⌜ Tabled (record { heads = now heads; links = now links }) (take n (column 1024 0 (now characters))) ⌝ }
+    requires { ⌜ n ≤ characterSlots ⌝ }
+    requires { ⌜ w ≤ pendingSlots ⌝ }
+    requires { ⌜ length (now characters) ≡ characterNumbers ⌝ }
+    requires { ⌜ length (now pending) ≡ pendingNumbers ⌝ }
+    requires { ⌜ Tabled (record { heads = now heads; links = now links }) (take n (keyColumn (now characters))) ⌝ }
     ensures { λ r. ⌜ r
-        ≡ readyIn (take n (column 1024 0 (now (characters .entry)))) (take w (column 512 1 (now (pending .entry))))
-        (take w (column 512 2 (now (pending .entry)))) ⌝ }
+        ≡ readyIn (take n (keyColumn (now (characters .entry)))) (take w (firstColumn (now (pending .entry))))
+        (take w (secondColumn (now (pending .entry)))) ⌝ }
 {
     ready::ready_among(
         heads,
         links,
-        &characters[..1024],
+        &characters[..CHARACTERS],
         n,
-        &pending[512..1024],
-        &pending[1024..1536],
+        &pending[FIRST_KEYS..SECOND_KEYS],
+        &pending[SECOND_KEYS..VALUES],
         w,
     )
 }
@@ -127,16 +134,22 @@ fn carry_toggle<'a>(
     n: usize,
     toggle: Toggle,
 )
-    requires { ⌜ n ≤ 1024 ⌝ }
-    requires { ⌜ length (now characters) ≡ 4096 ⌝ }
+    requires { ⌜ n ≤ characterSlots ⌝ }
+    requires { ⌜ length (now characters) ≡ characterNumbers ⌝ }
     requires { ⌜ n ≤ length (now toggles) ⌝ }
-    requires { ⌜ Tabled (record { heads = now heads; links = now links }) (take n (column 1024 0 (now characters))) ⌝ }
+    requires { ⌜ Tabled (record { heads = now heads; links = now links }) (take n (keyColumn (now characters))) ⌝ }
     ensures { λ _. ⌜ now (toggles .exit)
-        ≡ toggledAt (found (key (toggle .target)) (take n (column 1024 0 (now (characters .entry)))))
+        ≡ toggledAt (found (key (toggle .target)) (take n (keyColumn (now (characters .entry)))))
         (toggle .toggles) (now (toggles .entry)) ⌝ }
 {
     let target = toggle.target;
-    match table::find_among(heads, links, &characters[..1024], n, index::key(target)) {
+    match table::find_among(
+        heads,
+        links,
+        &characters[..CHARACTERS],
+        n,
+        index::key(target),
+    ) {
         Found::At(k) => {
             characters::toggle(toggles, k, toggle.toggles);
             return;
@@ -169,8 +182,8 @@ fn step(
     progress: Progress,
     j: usize,
 ) -> Progress
-    requires { ⌜ length (now characters) ≡ 4096 ⌝ }
-    requires { ⌜ length (now pending) ≡ 2048 ⌝ }
+    requires { ⌜ length (now characters) ≡ characterNumbers ⌝ }
+    requires { ⌜ length (now pending) ≡ pendingNumbers ⌝ }
     requires { ⌜ Workable (workAs (now characters) (now toggles) (now pending) (now heads) (now links) progress) ⌝ }
     requires { ⌜ dueIn (workAs (now characters) (now toggles) (now pending) (now heads) (now links) progress) ≡ At j ⌝ }
     ensures { λ r. ⌜ (workAs (now (characters .exit)) (now (toggles .exit)) (now (pending .exit)) (now (heads .exit))
@@ -226,8 +239,8 @@ fn drain(
     links: &mut [u16],
     progress: Progress,
 ) -> Progress
-    requires { ⌜ length (now characters) ≡ 4096 ⌝ }
-    requires { ⌜ length (now pending) ≡ 2048 ⌝ }
+    requires { ⌜ length (now characters) ≡ characterNumbers ⌝ }
+    requires { ⌜ length (now pending) ≡ pendingNumbers ⌝ }
     requires { ⌜ Workable (workAs (now characters) (now toggles) (now pending) (now heads) (now links) progress) ⌝ }
     ensures { λ r. ⌜ (workAs (now (characters .exit)) (now (toggles .exit)) (now (pending .exit)) (now (heads .exit))
         (now (links .exit)) r)
@@ -260,8 +273,8 @@ pub fn integrate(
     k: usize,
     insert: Insert,
 ) -> Progress
-    requires { ⌜ length (now characters) ≡ 4096 ⌝ }
-    requires { ⌜ length (now pending) ≡ 2048 ⌝ }
+    requires { ⌜ length (now characters) ≡ characterNumbers ⌝ }
+    requires { ⌜ length (now pending) ≡ pendingNumbers ⌝ }
     requires { ⌜ Placed
         (columnsAs (now characters) (now toggles) n (now pending) w (now heads) (now links)) insert k ⌝ }
     ensures { λ r. ⌜ (workAs (now (characters .exit)) (now (toggles .exit)) (now (pending .exit)) (now (heads .exit))
@@ -295,8 +308,8 @@ pub fn toggle(
     k: usize,
     toggle: Toggle,
 )
-    requires { ⌜ length (now characters) ≡ 4096 ⌝ }
-    requires { ⌜ length (now pending) ≡ 2048 ⌝ }
+    requires { ⌜ length (now characters) ≡ characterNumbers ⌝ }
+    requires { ⌜ length (now pending) ≡ pendingNumbers ⌝ }
     requires { ⌜ Targeted
         (columnsAs (now characters) (now toggles) n (now pending) w (now heads) (now links)) toggle k ⌝ }
     ensures { λ _. ⌜ (columnsAs (now (characters .exit)) (now (toggles .exit)) n (now (pending .exit)) w
@@ -322,10 +335,10 @@ pub fn defer(
     w: usize,
     operation: Operation,
 )
-    requires { ⌜ length (now characters) ≡ 4096 ⌝ }
-    requires { ⌜ length (now pending) ≡ 2048 ⌝ }
+    requires { ⌜ length (now characters) ≡ characterNumbers ⌝ }
+    requires { ⌜ length (now pending) ≡ pendingNumbers ⌝ }
     requires { ⌜ Lent (columnsAs (now characters) (now toggles) n (now pending) w (now heads) (now links)) ⌝ }
-    requires { ⌜ w < 512 ⌝ }
+    requires { ⌜ w < pendingSlots ⌝ }
     ensures { λ _. ⌜ (columnsAs (now (characters .exit)) (now (toggles .exit)) n (now (pending .exit)) (w + 1)
         (now (heads .exit)) (now (links .exit)))
         ≡ documentOf (charactersIn (columnsAs (now (characters .entry)) (now (toggles .entry)) n (now (pending .entry))

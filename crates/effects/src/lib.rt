@@ -17,7 +17,7 @@ ghost use Prim.Native.Nat.{_≤_};
 ghost use lib.ListN.{length};
 ghost use Rattle.woot.specs.declared.Answer.the-variants.{Done};
 ghost use Rattle.woot.specs.Answers.{changes, answerOf};
-ghost use Rattle.woot.specs.Memory.{replicaWellFormed};
+ghost use Rattle.woot.specs.Memory.{replicaWellFormed, characterNumbers, characterSlots, pendingNumbers, pendingSlots};
 ghost use Rattle.woot.specs.Replicas.{receivedAt};
 ghost use Rattle.codec.specs.Operations.{operationLine};
 ghost use Rattle.saved.specs.Format.{savedBytes};
@@ -58,11 +58,11 @@ fn save_noted<'a>(
     w: usize,
     out: &mut [u8],
 ) -> u64
-    requires { ⌜ length (now characters) ≡ 4096 ⌝ }
-    requires { ⌜ n ≤ 1024 ⌝ }
+    requires { ⌜ length (now characters) ≡ characterNumbers ⌝ }
+    requires { ⌜ n ≤ characterSlots ⌝ }
     requires { ⌜ n ≤ length (now toggles) ⌝ }
-    requires { ⌜ length (now pending) ≡ 2048 ⌝ }
-    requires { ⌜ w ≤ 512 ⌝ }
+    requires { ⌜ length (now pending) ≡ pendingNumbers ⌝ }
+    requires { ⌜ w ≤ pendingSlots ⌝ }
     ensures { λ r. ⌜ Leaves (writingNoted answer note (savedBytes (stateIn site (now (characters .entry))
         (now (toggles .entry)) n (now (pending .entry)) w)) (now (out .entry))) r (now (out .exit)) [] ⌝ }
 {
@@ -156,11 +156,11 @@ fn save_both<'a>(
     out: &mut [u8],
     line: &mut [u8],
 ) -> u64
-    requires { ⌜ length (now characters) ≡ 4096 ⌝ }
-    requires { ⌜ n ≤ 1024 ⌝ }
+    requires { ⌜ length (now characters) ≡ characterNumbers ⌝ }
+    requires { ⌜ n ≤ characterSlots ⌝ }
     requires { ⌜ n ≤ length (now toggles) ⌝ }
-    requires { ⌜ length (now pending) ≡ 2048 ⌝ }
-    requires { ⌜ w ≤ 512 ⌝ }
+    requires { ⌜ length (now pending) ≡ pendingNumbers ⌝ }
+    requires { ⌜ w ≤ pendingSlots ⌝ }
     ensures { λ r. ⌜ Leaves (writingBoth answer (savedBytes (stateIn site (now (characters .entry))
         (now (toggles .entry)) n (now (pending .entry)) w)) (operationLine operation)
         (now (out .entry)) (now (line .entry)))

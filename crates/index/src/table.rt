@@ -3,7 +3,7 @@ use crate::Found;
 ghost use mathlib.Core.Path.{_≡_};
 ghost use Prim.Native.Nat.{_*_, _≤_};
 ghost use lib.ListN.{length, take};
-ghost use Rattle.woot.specs.Table.{agrees};
+ghost use Rattle.woot.specs.Table.{agrees, chains};
 ghost use Rattle.index.specs.Keys.{found};
 ghost use Rattle.index.specs.Tabled.{Tabled};
 
@@ -38,7 +38,7 @@ pub fn find_among<'a>(
 // Whether each of the first n keys is found at its own index. A step of the calls and not a call: they lend arrays of
 // these sizes.
 pub fn agrees_among<'a>(heads: &'a [u16], links: &'a [u16], keys: &'a [u32], n: usize) -> bool
-    requires { ⌜ length (now heads) ≡ 1024 ⌝ }
+    requires { ⌜ length (now heads) ≡ chains ⌝ }
     requires { ⌜ 2 * n ≤ length (now links) ⌝ }
     requires { ⌜ n ≤ length (now keys) ⌝ }
     ensures { λ r. ⌜ r

@@ -4,8 +4,10 @@
 use crate::reading::both;
 use crate::reading::head;
 use saved::Version;
+use woot::CHARACTERS;
 use woot::Character;
 use woot::Operation;
+use woot::PENDING;
 ghost use mathlib.Core.Path.{_≡_};
 ghost use mathlib.Core.Bool.{true};
 ghost use mathlib.Core.List.{[], map};
@@ -13,7 +15,7 @@ ghost use Prim.Native.Nat.{_*_, _<_};
 ghost use lib.ListN.{length, take};
 ghost use Rattle.lists.specs.Padding.{pad};
 ghost use Rattle.lines.specs.Lines.{lines, leading};
-ghost use Rattle.woot.specs.Memory.{toggleCounts, ownKey, firstKey, secondKey, valueOf, characterSlots, pendingSlots};
+ghost use Rattle.woot.specs.Memory.{toggleCounts, ownKey, firstKey, secondKey, valueOf, characterSlots, pendingSlots, characterNumbers, pendingNumbers};
 ghost use Rattle.woot.specs.Table.{key};
 ghost use Rattle.saved.specs.Format.{isCharacter};
 ghost use Rattle.loading.specs.Reading.{lineCharacter};
@@ -57,12 +59,12 @@ fn store(columns: &mut [u32], m: usize, i: usize, w: u32, x: u32, y: u32, z: u32
 
 // Stores the four numbers of a character in slot i, if there is one.
 fn store_character(characters: &mut [u32], i: usize, character: Character)
-    requires { ⌜ length (now characters) ≡ 4096 ⌝ }
+    requires { ⌜ length (now characters) ≡ characterNumbers ⌝ }
     ensures { λ _. ⌜ now (characters .exit)
         ≡ keptIn characterSlots i (key (character .id)) (key (character .previous)) (key (character .next))
         (character .«code_point») (now (characters .entry)) ⌝ }
 {
-    if 1024 <= i {
+    if CHARACTERS <= i {
         return;
     }
     let id = character.id;
@@ -70,7 +72,7 @@ fn store_character(characters: &mut [u32], i: usize, character: Character)
     let next = character.next;
     store(
         characters,
-        1024,
+        CHARACTERS,
         i,
         index::key(id),
         index::key(previous),
@@ -81,10 +83,10 @@ fn store_character(characters: &mut [u32], i: usize, character: Character)
 
 // Stores a count of toggles in slot i, if there is one.
 fn store_toggles(toggles: &mut [u8], i: usize, count: u8)
-    requires { ⌜ length (now toggles) ≡ 1024 ⌝ }
+    requires { ⌜ length (now toggles) ≡ characterSlots ⌝ }
     ensures { λ _. ⌜ now (toggles .exit) ≡ keptAt characterSlots i count (now (toggles .entry)) ⌝ }
 {
-    if 1024 <= i {
+    if CHARACTERS <= i {
         return;
     }
     toggles[i] = count;
@@ -92,12 +94,12 @@ fn store_toggles(toggles: &mut [u8], i: usize, count: u8)
 
 // Stores the four numbers of an operation in slot i, if there is one.
 fn store_operation(pending: &mut [u32], i: usize, operation: Operation)
-    requires { ⌜ length (now pending) ≡ 2048 ⌝ }
+    requires { ⌜ length (now pending) ≡ pendingNumbers ⌝ }
     ensures { λ _. ⌜ now (pending .exit)
         ≡ keptIn pendingSlots i (ownKey operation) (firstKey operation) (secondKey operation) (valueOf operation)
         (now (pending .entry)) ⌝ }
 {
-    if 512 <= i {
+    if PENDING <= i {
         return;
     }
     let own = memory::own_key(operation);
@@ -105,7 +107,7 @@ fn store_operation(pending: &mut [u32], i: usize, operation: Operation)
     let second = memory::second_key(operation);
     store(
         pending,
-        512,
+        PENDING,
         i,
         own,
         first,
@@ -153,7 +155,7 @@ pub(crate) fn read_characters(
 pub(crate) fn read_operations(version: Version, bytes: &[u8], pending: &mut [u32]) -> Back
     requires { ⌜ now pending ≡ pendingHeld [] ⌝ }
     ensures { λ r. ⌜ r ≡ backRead version (now (bytes .entry)) ⌝ }
-    ensures { λ _. ⌜ length (now (pending .exit)) ≡ 2048 ⌝ }
+    ensures { λ _. ⌜ length (now (pending .exit)) ≡ pendingNumbers ⌝ }
     ensures { λ _. ⌜ (operationsLaid version (now (bytes .entry)) ≡ true
         → now (pending .exit)
         ≡ pendingHeld (take pendingSlots (map (lineOperation version) (lines (now (bytes .entry)))))) ⌝ }

@@ -6,7 +6,13 @@ use reading::both;
 use saved::LoadAnswer;
 use saved::Loaded;
 use saved::Version;
+use woot::CHAINS;
+use woot::CHARACTER_NUMBERS;
+use woot::CHARACTERS;
 use woot::Document;
+use woot::LINKS;
+use woot::PENDING;
+use woot::PENDING_NUMBERS;
 use woot::Refusal;
 use woot::Replica;
 use woot::Site;
@@ -16,8 +22,8 @@ ghost use mathlib.Core.List.{[]};
 ghost use Prim.Native.Nat.{min};
 ghost use lib.ListN.{length, take};
 ghost use Rattle.lists.specs.Padding.{pad};
-ghost use Rattle.woot.specs.Memory.{characterSlots};
-ghost use Rattle.woot.specs.Table.{tableOf};
+ghost use Rattle.woot.specs.Memory.{characterSlots, characterNumbers, pendingNumbers, pendingSlots};
+ghost use Rattle.woot.specs.Table.{tableOf, chains, tableLinks};
 ghost use Rattle.clock.specs.Hearing.{heardKeys};
 ghost use Rattle.saved.specs.Format.{stateAs};
 ghost use Rattle.saved.specs.Calls.{held, unread, savedRead, loaded};
@@ -58,19 +64,19 @@ fn settle<'a>(
     heads: &mut [u16],
     links: &mut [u16],
 ) -> Site
-    requires { ⌜ length (now characters) ≡ 4096 ⌝ }
-    requires { ⌜ length (now pending) ≡ 2048 ⌝ }
-    requires { ⌜ length (now heads) ≡ 1024 ⌝ }
-    requires { ⌜ length (now links) ≡ 2048 ⌝ }
+    requires { ⌜ length (now characters) ≡ characterNumbers ⌝ }
+    requires { ⌜ length (now pending) ≡ pendingNumbers ⌝ }
+    requires { ⌜ length (now heads) ≡ chains ⌝ }
+    requires { ⌜ length (now links) ≡ tableLinks ⌝ }
     ensures { λ r. ⌜ r
-        ≡ heardKeys (heardKeys site (take (min n 1024) (now (characters .entry))))
-        (take (min w 512) (now (pending .entry))) ⌝ }
+        ≡ heardKeys (heardKeys site (take (min n characterSlots) (now (characters .entry))))
+        (take (min w pendingSlots) (now (pending .entry))) ⌝ }
     ensures { λ _. ⌜ (record { heads = now (heads .exit); links = now (links .exit) })
-        ≡ tableOf (take (min n 1024) (now (characters .entry))) ⌝ }
+        ≡ tableOf (take (min n characterSlots) (now (characters .entry))) ⌝ }
 {
-    let held = index::lesser(n, 1024);
+    let held = index::lesser(n, CHARACTERS);
     chains::enter_all(characters, held, heads, links);
-    clock::raised(site, characters, held, pending, index::lesser(w, 512))
+    clock::raised(site, characters, held, pending, index::lesser(w, PENDING))
 }
 
 // Reads a saved replica that is not checked to be well formed. A clock below that of a character or a pending insert of
@@ -88,14 +94,14 @@ pub fn read_into(
     requires { ⌜ now characters ≡ charactersHeld [] ⌝ }
     requires { ⌜ now toggles ≡ pad characterSlots 0 [] ⌝ }
     requires { ⌜ now pending ≡ pendingHeld [] ⌝ }
-    requires { ⌜ length (now heads) ≡ 1024 ⌝ }
-    requires { ⌜ length (now links) ≡ 2048 ⌝ }
+    requires { ⌜ length (now heads) ≡ chains ⌝ }
+    requires { ⌜ length (now links) ≡ tableLinks ⌝ }
     ensures { λ r. ⌜ r .answer ≡ readAnswer version (now (bytes .entry)) ⌝ }
-    ensures { λ _. ⌜ length (now (characters .exit)) ≡ 4096 ⌝ }
-    ensures { λ _. ⌜ length (now (toggles .exit)) ≡ 1024 ⌝ }
-    ensures { λ _. ⌜ length (now (pending .exit)) ≡ 2048 ⌝ }
-    ensures { λ _. ⌜ length (now (heads .exit)) ≡ 1024 ⌝ }
-    ensures { λ _. ⌜ length (now (links .exit)) ≡ 2048 ⌝ }
+    ensures { λ _. ⌜ length (now (characters .exit)) ≡ characterNumbers ⌝ }
+    ensures { λ _. ⌜ length (now (toggles .exit)) ≡ characterSlots ⌝ }
+    ensures { λ _. ⌜ length (now (pending .exit)) ≡ pendingNumbers ⌝ }
+    ensures { λ _. ⌜ length (now (heads .exit)) ≡ chains ⌝ }
+    ensures { λ _. ⌜ length (now (links .exit)) ≡ tableLinks ⌝ }
     ensures { λ r. ⌜ (r .answer ≡ LoadAnswer.Done
         → replicaIn (r .site) (now (characters .exit)) (now (toggles .exit)) (r .length) (now (pending .exit))
         (r .waiting) (now (heads .exit)) (now (links .exit))
@@ -146,11 +152,11 @@ fn refuse(reason: Refusal) -> Loaded
 pub fn read(version: Version, bytes: &[u8]) -> Loaded
     ensures { λ r. ⌜ r ≡ savedRead version (now (bytes .entry)) ⌝ }
 {
-    let mut characters = [0u32; 4096];
-    let mut toggles = [0u8; 1024];
-    let mut pending = [0u32; 2048];
-    let mut heads = [0u16; 1024];
-    let mut links = [0u16; 2048];
+    let mut characters = [0u32; CHARACTER_NUMBERS];
+    let mut toggles = [0u8; CHARACTERS];
+    let mut pending = [0u32; PENDING_NUMBERS];
+    let mut heads = [0u16; CHAINS];
+    let mut links = [0u16; LINKS];
     let found = read_into(
         version,
         bytes,

@@ -3,7 +3,7 @@ use Prim.Native.Nat.{ℕ}
 use mathlib.Core.List.{List}
 use Rattle.woot.specs.declared.Document.{Document as InMemory}
 use Rattle.woot.specs.declared.Replica.{Replica as ReplicaInMemory}
-use Rattle.woot.specs.Memory.{characterSlots, pendingSlots, column}
+use Rattle.woot.specs.Memory.{keyColumn, previousColumn, nextColumn, codePointColumn, ownColumn, firstColumn, secondColumn, valueColumn}
 use Rattle.memory.specs.Columns.{Document, Replica}
 
 -- the arrays of the characters and how many they are, those of the pending operations and how many, and the table's
@@ -28,18 +28,8 @@ documentAs ids previous next points toggles n own first second values w heads li
 -- the same of the arrays as they are lent, in which columns lie one behind another
 abbrev pub columnsAs : List ℕ → List ℕ → ℕ → List ℕ → ℕ → List ℕ → List ℕ → Document
 columnsAs characters toggles n pending w heads links =
-    documentAs (column characterSlots 0 characters) (column characterSlots 1 characters)
-    (column characterSlots 2 characters)
-    (column characterSlots 3 characters)
-    toggles
-    n
-    (column pendingSlots 0 pending)
-    (column pendingSlots 1 pending)
-    (column pendingSlots 2 pending)
-    (column pendingSlots 3 pending)
-    w
-    heads
-    links
+    documentAs (keyColumn characters) (previousColumn characters) (nextColumn characters) (codePointColumn characters)
+    toggles n (ownColumn pending) (firstColumn pending) (secondColumn pending) (valueColumn pending) w heads links
 
 -- the columns of a document in memory, and of a replica
 abbrev pub view : InMemory → Document

@@ -1,4 +1,5 @@
 // Counts and searches among the pending operations, and whether there is room for one more, on their numbers.
+use woot::CHARACTERS;
 ghost use mathlib.Core.Path.{_≡_};
 ghost use mathlib.Core.Bool.{not, _&&_};
 ghost use Prim.Native.Nat.{_+_, _≤_};
@@ -102,8 +103,8 @@ pub fn document_full(n: usize, own: &[u32], w: usize) -> bool
     requires { ⌜ w ≤ length (now own) ⌝ }
     ensures { λ r. ⌜ r ≡ leb capacity (n + length (keep (λ k. not (eqb k 0)) (take w (now (own .entry))))) ⌝ }
 {
-    if 1024 <= n {
+    if CHARACTERS <= n {
         return true;
     }
-    1024 - n <= count_inserts(&own[..w])
+    CHARACTERS - n <= count_inserts(&own[..w])
 }

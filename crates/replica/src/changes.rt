@@ -5,6 +5,7 @@ use woot::Site;
 ghost use mathlib.Core.Path.{_≡_};
 ghost use lib.ListN.{length};
 ghost use Rattle.replica.specs.Outcomes.{replicaAs, Feasible, leftAs, leftBy};
+ghost use Rattle.woot.specs.Memory.{characterNumbers, pendingNumbers};
 
 // What a call has to put back beside the arrays: the site, how many characters and pending operations there are, and
 // how many operations were carried out and how many discarded.
@@ -51,8 +52,8 @@ pub fn carry(
     operation: Operation,
     decision: Decision,
 ) -> Carried
-    requires { ⌜ length (now characters) ≡ 4096 ⌝ }
-    requires { ⌜ length (now pending) ≡ 2048 ⌝ }
+    requires { ⌜ length (now characters) ≡ characterNumbers ⌝ }
+    requires { ⌜ length (now pending) ≡ pendingNumbers ⌝ }
     requires { ⌜ Feasible (replicaAs site (now characters) (now toggles) n (now pending) w (now heads) (now links))
         operation decision ⌝ }
     ensures { λ r. ⌜ (leftAs (now (characters .exit)) (now (toggles .exit)) (now (pending .exit)) (now (heads .exit))

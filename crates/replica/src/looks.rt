@@ -2,9 +2,19 @@
 // columns that these read are parts of the replica's arrays.
 use reception::Decision;
 use woot::Answer;
+use woot::CHARACTER_NUMBERS;
+use woot::CHARACTERS;
+use woot::CODE_POINTS;
+use woot::FIRST_KEYS;
+use woot::NEXT_KEYS;
 use woot::Operation;
+use woot::PENDING;
+use woot::PENDING_NUMBERS;
+use woot::PREVIOUS_KEYS;
 use woot::Refusal;
+use woot::SECOND_KEYS;
 use woot::Site;
+use woot::VALUES;
 use woot::Written;
 ghost use Prim.Native.Nat.{_≤_};
 ghost use mathlib.Core.Path.{_≡_};
@@ -12,10 +22,11 @@ ghost use mathlib.Core.Bool.{true};
 ghost use mathlib.Core.List.{List, []};
 ghost use lib.ListN.{length, take};
 ghost use Rattle.woot.specs.declared.Character.{Character};
-ghost use Rattle.woot.specs.Memory.{column, codePoints, toggleCounts};
+ghost use Rattle.woot.specs.Memory.{codePoints, toggleCounts, characterNumbers, characterSlots, codePointColumn, pendingNumbers};
 ghost use Rattle.woot.specs.Text.{text};
 ghost use Rattle.woot.specs.Writing.{writtenAs, outputAfter};
 ghost use Rattle.woot.specs.Ranges.{inRange};
+ghost use Rattle.woot.specs.Table.{chains, tableLinks};
 ghost use Rattle.memory.specs.Columns.{replicaWellFormed};
 ghost use Rattle.well_formed.specs.Examined.{Examined};
 ghost use Rattle.reception.specs.Decisions.{Decided};
@@ -33,27 +44,27 @@ pub fn check<'a>(
     heads: &'a [u16],
     links: &'a [u16],
 ) -> bool
-    requires { ⌜ length (now characters) ≡ 4096 ⌝ }
-    requires { ⌜ length (now toggles) ≡ 1024 ⌝ }
-    requires { ⌜ length (now pending) ≡ 2048 ⌝ }
-    requires { ⌜ length (now heads) ≡ 1024 ⌝ }
-    requires { ⌜ length (now links) ≡ 2048 ⌝ }
+    requires { ⌜ length (now characters) ≡ characterNumbers ⌝ }
+    requires { ⌜ length (now toggles) ≡ characterSlots ⌝ }
+    requires { ⌜ length (now pending) ≡ pendingNumbers ⌝ }
+    requires { ⌜ length (now heads) ≡ chains ⌝ }
+    requires { ⌜ length (now links) ≡ tableLinks ⌝ }
     ensures { λ r. ⌜ r
         ≡ replicaWellFormed (replicaAs site (now (characters .entry)) (now (toggles .entry)) n
         (now (pending .entry)) w (now (heads .entry)) (now (links .entry))) ⌝ }
 {
     well_formed::check(
         site,
-        &characters[..1024],
-        &characters[1024..2048],
-        &characters[2048..3072],
-        &characters[3072..4096],
+        &characters[..CHARACTERS],
+        &characters[PREVIOUS_KEYS..NEXT_KEYS],
+        &characters[NEXT_KEYS..CODE_POINTS],
+        &characters[CODE_POINTS..CHARACTER_NUMBERS],
         toggles,
         n,
-        &pending[..512],
-        &pending[512..1024],
-        &pending[1024..1536],
-        &pending[1536..2048],
+        &pending[..PENDING],
+        &pending[FIRST_KEYS..SECOND_KEYS],
+        &pending[SECOND_KEYS..VALUES],
+        &pending[VALUES..PENDING_NUMBERS],
         w,
         heads,
         links,
@@ -73,8 +84,8 @@ fn decide<'a>(
     links: &'a [u16],
     operation: Operation,
 ) -> Decision
-    requires { ⌜ length (now characters) ≡ 4096 ⌝ }
-    requires { ⌜ length (now pending) ≡ 2048 ⌝ }
+    requires { ⌜ length (now characters) ≡ characterNumbers ⌝ }
+    requires { ⌜ length (now pending) ≡ pendingNumbers ⌝ }
     requires { ⌜ Examined
         (replicaAs site (now characters) (now toggles) n (now pending) w (now heads) (now links)) ⌝ }
     requires { ⌜ inRange operation ≡ true ⌝ }
@@ -84,16 +95,16 @@ fn decide<'a>(
     reception::decide(
         heads,
         links,
-        &characters[..1024],
-        &characters[1024..2048],
-        &characters[2048..3072],
-        &characters[3072..4096],
+        &characters[..CHARACTERS],
+        &characters[PREVIOUS_KEYS..NEXT_KEYS],
+        &characters[NEXT_KEYS..CODE_POINTS],
+        &characters[CODE_POINTS..CHARACTER_NUMBERS],
         toggles,
         n,
-        &pending[..512],
-        &pending[512..1024],
-        &pending[1024..1536],
-        &pending[1536..2048],
+        &pending[..PENDING],
+        &pending[FIRST_KEYS..SECOND_KEYS],
+        &pending[SECOND_KEYS..VALUES],
+        &pending[VALUES..PENDING_NUMBERS],
         w,
         site,
         operation,
@@ -113,11 +124,11 @@ pub fn judge<'a>(
     links: &'a [u16],
     operation: Operation,
 ) -> Decision
-    requires { ⌜ length (now characters) ≡ 4096 ⌝ }
-    requires { ⌜ length (now toggles) ≡ 1024 ⌝ }
-    requires { ⌜ length (now pending) ≡ 2048 ⌝ }
-    requires { ⌜ length (now heads) ≡ 1024 ⌝ }
-    requires { ⌜ length (now links) ≡ 2048 ⌝ }
+    requires { ⌜ length (now characters) ≡ characterNumbers ⌝ }
+    requires { ⌜ length (now toggles) ≡ characterSlots ⌝ }
+    requires { ⌜ length (now pending) ≡ pendingNumbers ⌝ }
+    requires { ⌜ length (now heads) ≡ chains ⌝ }
+    requires { ⌜ length (now links) ≡ tableLinks ⌝ }
     ensures { λ r. ⌜ Judged (replicaAs site (now (characters .entry)) (now (toggles .entry)) n
         (now (pending .entry)) w (now (heads .entry)) (now (links .entry))) operation r ⌝ }
 {
@@ -147,15 +158,15 @@ pub(crate) fn write_text<'a>(
     n: usize,
     out: &mut [u8],
 ) -> Written
-    requires { ⌜ length (now characters) ≡ 4096 ⌝ }
-    requires { ⌜ length (now toggles) ≡ 1024 ⌝ }
-    requires { ⌜ n ≤ 1024 ⌝ }
-    ensures { λ r. ⌜ ((cs : List Character) → codePoints cs ≡ take n (column 1024 3 (now (characters .entry)))
+    requires { ⌜ length (now characters) ≡ characterNumbers ⌝ }
+    requires { ⌜ length (now toggles) ≡ characterSlots ⌝ }
+    requires { ⌜ n ≤ characterSlots ⌝ }
+    ensures { λ r. ⌜ ((cs : List Character) → codePoints cs ≡ take n (codePointColumn (now (characters .entry)))
         → toggleCounts cs ≡ take n (now (toggles .entry))
         → r ≡ writtenAs [] (text cs) (now (out .entry))) ⌝ }
-    ensures { λ _. ⌜ ((cs : List Character) → codePoints cs ≡ take n (column 1024 3 (now (characters .entry)))
+    ensures { λ _. ⌜ ((cs : List Character) → codePoints cs ≡ take n (codePointColumn (now (characters .entry)))
         → toggleCounts cs ≡ take n (now (toggles .entry))
         → now (out .exit) ≡ outputAfter [] (text cs) (now (out .entry))) ⌝ }
 {
-    visible::write_text(&characters[3072..4096], toggles, n, out)
+    visible::write_text(&characters[CODE_POINTS..CHARACTER_NUMBERS], toggles, n, out)
 }

@@ -4,14 +4,26 @@
 use crate::looks;
 use generation::MadeInsert;
 use generation::MadeToggle;
+use woot::CHARACTER_NUMBERS;
+use woot::CHARACTERS;
+use woot::CODE_POINTS;
+use woot::FIRST_KEYS;
 use woot::Identifier;
+use woot::NEXT_KEYS;
+use woot::PENDING;
+use woot::PENDING_NUMBERS;
+use woot::PREVIOUS_KEYS;
 use woot::Refusal;
+use woot::SECOND_KEYS;
 use woot::Site;
+use woot::VALUES;
 ghost use mathlib.Core.Path.{_≡_};
 ghost use mathlib.Core.Bool.{true};
 ghost use lib.ListN.{length};
 ghost use Rattle.woot.specs.Ranges.{codePoint, characterId};
 ghost use Rattle.woot.specs.Calls.{localInsertWhen, localDeleteWhen, localRestoreWhen};
+ghost use Rattle.woot.specs.Memory.{characterNumbers, characterSlots, pendingNumbers};
+ghost use Rattle.woot.specs.Table.{chains, tableLinks};
 ghost use Rattle.memory.specs.Columns.{meaning, replicaWellFormed};
 ghost use Rattle.well_formed.specs.Examined.{Examined};
 ghost use Rattle.generation.specs.Decisions.{InsertDecided, DeleteDecided, RestoreDecided};
@@ -30,8 +42,8 @@ fn insert<'a>(
     point: usize,
     code_point: u32,
 ) -> MadeInsert
-    requires { ⌜ length (now characters) ≡ 4096 ⌝ }
-    requires { ⌜ length (now pending) ≡ 2048 ⌝ }
+    requires { ⌜ length (now characters) ≡ characterNumbers ⌝ }
+    requires { ⌜ length (now pending) ≡ pendingNumbers ⌝ }
     requires { ⌜ Examined
         (replicaAs site (now characters) (now toggles) n (now pending) w (now heads) (now links)) ⌝ }
     requires { ⌜ codePoint «code_point» ≡ true ⌝ }
@@ -41,16 +53,16 @@ fn insert<'a>(
     generation::make_insert(
         heads,
         links,
-        &characters[..1024],
-        &characters[1024..2048],
-        &characters[2048..3072],
-        &characters[3072..4096],
+        &characters[..CHARACTERS],
+        &characters[PREVIOUS_KEYS..NEXT_KEYS],
+        &characters[NEXT_KEYS..CODE_POINTS],
+        &characters[CODE_POINTS..CHARACTER_NUMBERS],
         toggles,
         n,
-        &pending[..512],
-        &pending[512..1024],
-        &pending[1024..1536],
-        &pending[1536..2048],
+        &pending[..PENDING],
+        &pending[FIRST_KEYS..SECOND_KEYS],
+        &pending[SECOND_KEYS..VALUES],
+        &pending[VALUES..PENDING_NUMBERS],
         w,
         site,
         point,
@@ -70,8 +82,8 @@ fn delete<'a>(
     links: &'a [u16],
     place: usize,
 ) -> MadeToggle
-    requires { ⌜ length (now characters) ≡ 4096 ⌝ }
-    requires { ⌜ length (now pending) ≡ 2048 ⌝ }
+    requires { ⌜ length (now characters) ≡ characterNumbers ⌝ }
+    requires { ⌜ length (now pending) ≡ pendingNumbers ⌝ }
     requires { ⌜ Examined
         (replicaAs site (now characters) (now toggles) n (now pending) w (now heads) (now links)) ⌝ }
     ensures { λ r. ⌜ DeleteDecided (replicaAs site (now (characters .entry)) (now (toggles .entry)) n
@@ -80,16 +92,16 @@ fn delete<'a>(
     generation::make_delete(
         heads,
         links,
-        &characters[..1024],
-        &characters[1024..2048],
-        &characters[2048..3072],
-        &characters[3072..4096],
+        &characters[..CHARACTERS],
+        &characters[PREVIOUS_KEYS..NEXT_KEYS],
+        &characters[NEXT_KEYS..CODE_POINTS],
+        &characters[CODE_POINTS..CHARACTER_NUMBERS],
         toggles,
         n,
-        &pending[..512],
-        &pending[512..1024],
-        &pending[1024..1536],
-        &pending[1536..2048],
+        &pending[..PENDING],
+        &pending[FIRST_KEYS..SECOND_KEYS],
+        &pending[SECOND_KEYS..VALUES],
+        &pending[VALUES..PENDING_NUMBERS],
         w,
         site,
         place,
@@ -108,8 +120,8 @@ fn restore<'a>(
     links: &'a [u16],
     id: Identifier,
 ) -> MadeToggle
-    requires { ⌜ length (now characters) ≡ 4096 ⌝ }
-    requires { ⌜ length (now pending) ≡ 2048 ⌝ }
+    requires { ⌜ length (now characters) ≡ characterNumbers ⌝ }
+    requires { ⌜ length (now pending) ≡ pendingNumbers ⌝ }
     requires { ⌜ Examined
         (replicaAs site (now characters) (now toggles) n (now pending) w (now heads) (now links)) ⌝ }
     requires { ⌜ characterId id ≡ true ⌝ }
@@ -119,16 +131,16 @@ fn restore<'a>(
     generation::make_restore(
         heads,
         links,
-        &characters[..1024],
-        &characters[1024..2048],
-        &characters[2048..3072],
-        &characters[3072..4096],
+        &characters[..CHARACTERS],
+        &characters[PREVIOUS_KEYS..NEXT_KEYS],
+        &characters[NEXT_KEYS..CODE_POINTS],
+        &characters[CODE_POINTS..CHARACTER_NUMBERS],
         toggles,
         n,
-        &pending[..512],
-        &pending[512..1024],
-        &pending[1024..1536],
-        &pending[1536..2048],
+        &pending[..PENDING],
+        &pending[FIRST_KEYS..SECOND_KEYS],
+        &pending[SECOND_KEYS..VALUES],
+        &pending[VALUES..PENDING_NUMBERS],
         w,
         site,
         id,
@@ -148,11 +160,11 @@ pub fn judge_insert<'a>(
     point: usize,
     code_point: u32,
 ) -> MadeInsert
-    requires { ⌜ length (now characters) ≡ 4096 ⌝ }
-    requires { ⌜ length (now toggles) ≡ 1024 ⌝ }
-    requires { ⌜ length (now pending) ≡ 2048 ⌝ }
-    requires { ⌜ length (now heads) ≡ 1024 ⌝ }
-    requires { ⌜ length (now links) ≡ 2048 ⌝ }
+    requires { ⌜ length (now characters) ≡ characterNumbers ⌝ }
+    requires { ⌜ length (now toggles) ≡ characterSlots ⌝ }
+    requires { ⌜ length (now pending) ≡ pendingNumbers ⌝ }
+    requires { ⌜ length (now heads) ≡ chains ⌝ }
+    requires { ⌜ length (now links) ≡ tableLinks ⌝ }
     ensures { λ r. ⌜ InsertJudged (replicaAs site (now (characters .entry)) (now (toggles .entry)) n
         (now (pending .entry)) w (now (heads .entry)) (now (links .entry)))
         (localInsertWhen (replicaWellFormed (replicaAs site (now (characters .entry)) (now (toggles .entry)) n
@@ -192,11 +204,11 @@ pub fn judge_delete<'a>(
     links: &'a [u16],
     place: usize,
 ) -> MadeToggle
-    requires { ⌜ length (now characters) ≡ 4096 ⌝ }
-    requires { ⌜ length (now toggles) ≡ 1024 ⌝ }
-    requires { ⌜ length (now pending) ≡ 2048 ⌝ }
-    requires { ⌜ length (now heads) ≡ 1024 ⌝ }
-    requires { ⌜ length (now links) ≡ 2048 ⌝ }
+    requires { ⌜ length (now characters) ≡ characterNumbers ⌝ }
+    requires { ⌜ length (now toggles) ≡ characterSlots ⌝ }
+    requires { ⌜ length (now pending) ≡ pendingNumbers ⌝ }
+    requires { ⌜ length (now heads) ≡ chains ⌝ }
+    requires { ⌜ length (now links) ≡ tableLinks ⌝ }
     ensures { λ r. ⌜ ToggleJudged (replicaAs site (now (characters .entry)) (now (toggles .entry)) n
         (now (pending .entry)) w (now (heads .entry)) (now (links .entry)))
         (localDeleteWhen (replicaWellFormed (replicaAs site (now (characters .entry)) (now (toggles .entry)) n
@@ -232,11 +244,11 @@ pub fn judge_restore<'a>(
     links: &'a [u16],
     id: Identifier,
 ) -> MadeToggle
-    requires { ⌜ length (now characters) ≡ 4096 ⌝ }
-    requires { ⌜ length (now toggles) ≡ 1024 ⌝ }
-    requires { ⌜ length (now pending) ≡ 2048 ⌝ }
-    requires { ⌜ length (now heads) ≡ 1024 ⌝ }
-    requires { ⌜ length (now links) ≡ 2048 ⌝ }
+    requires { ⌜ length (now characters) ≡ characterNumbers ⌝ }
+    requires { ⌜ length (now toggles) ≡ characterSlots ⌝ }
+    requires { ⌜ length (now pending) ≡ pendingNumbers ⌝ }
+    requires { ⌜ length (now heads) ≡ chains ⌝ }
+    requires { ⌜ length (now links) ≡ tableLinks ⌝ }
     ensures { λ r. ⌜ ToggleJudged (replicaAs site (now (characters .entry)) (now (toggles .entry)) n
         (now (pending .entry)) w (now (heads .entry)) (now (links .entry)))
         (localRestoreWhen (replicaWellFormed (replicaAs site (now (characters .entry)) (now (toggles .entry)) n

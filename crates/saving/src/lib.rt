@@ -5,15 +5,26 @@ mod site_line;
 
 use replica::looks;
 use saved::Version;
+use woot::CHARACTER_NUMBERS;
+use woot::CHARACTERS;
+use woot::CODE_POINTS;
+use woot::FIRST_KEYS;
+use woot::NEXT_KEYS;
+use woot::PENDING;
+use woot::PENDING_NUMBERS;
+use woot::PREVIOUS_KEYS;
 use woot::Refusal;
 use woot::Replica;
+use woot::SECOND_KEYS;
 use woot::Site;
+use woot::VALUES;
 use woot::Written;
 ghost use mathlib.Core.Path.{_≡_};
 ghost use mathlib.Core.List.{[]};
 ghost use Prim.Native.Nat.{_≤_};
 ghost use lib.ListN.{length};
 ghost use Rattle.woot.specs.Writing.{writtenAs, outputAfter};
+ghost use Rattle.woot.specs.Memory.{characterNumbers, characterSlots, pendingNumbers, pendingSlots};
 ghost use Rattle.saved.specs.Format.{bytesAs};
 ghost use Rattle.saved.specs.Calls.{saved, savedOut};
 ghost use Rattle.saving.specs.Documents.{stateIn};
@@ -32,11 +43,11 @@ pub fn put<'a>(
     w: usize,
     out: &mut [u8],
 ) -> Written
-    requires { ⌜ length (now characters) ≡ 4096 ⌝ }
-    requires { ⌜ n ≤ 1024 ⌝ }
+    requires { ⌜ length (now characters) ≡ characterNumbers ⌝ }
+    requires { ⌜ n ≤ characterSlots ⌝ }
     requires { ⌜ n ≤ length (now toggles) ⌝ }
-    requires { ⌜ length (now pending) ≡ 2048 ⌝ }
-    requires { ⌜ w ≤ 512 ⌝ }
+    requires { ⌜ length (now pending) ≡ pendingNumbers ⌝ }
+    requires { ⌜ w ≤ pendingSlots ⌝ }
     ensures { λ r. ⌜ r
         ≡ writtenAs [] (bytesAs version (stateIn site (now (characters .entry)) (now (toggles .entry)) n
         (now (pending .entry)) w)) (now (out .entry)) ⌝ }
@@ -47,16 +58,16 @@ pub fn put<'a>(
     columns::put(
         version,
         site,
-        &characters[..1024],
-        &characters[1024..2048],
-        &characters[2048..3072],
-        &characters[3072..4096],
+        &characters[..CHARACTERS],
+        &characters[PREVIOUS_KEYS..NEXT_KEYS],
+        &characters[NEXT_KEYS..CODE_POINTS],
+        &characters[CODE_POINTS..CHARACTER_NUMBERS],
         toggles,
         n,
-        &pending[..512],
-        &pending[512..1024],
-        &pending[1024..1536],
-        &pending[1536..2048],
+        &pending[..PENDING],
+        &pending[FIRST_KEYS..SECOND_KEYS],
+        &pending[SECOND_KEYS..VALUES],
+        &pending[VALUES..PENDING_NUMBERS],
         w,
         out,
     )

@@ -1,5 +1,7 @@
 // The lines that the hall program prints: one for each line of its input, and last the visible characters.
 use woot::Answer;
+use woot::CHARACTER_NUMBERS;
+use woot::CODE_POINTS;
 use woot::Replica;
 use woot::Written;
 ghost use mathlib.Core.Path.{_≡_};
@@ -10,7 +12,7 @@ ghost use lib.ListN.{length, take};
 ghost use Rattle.decimal.specs.Numeral.{digits};
 ghost use Rattle.lines.specs.Fields.{tab, lineOf};
 ghost use Rattle.woot.specs.declared.Character.{Character};
-ghost use Rattle.woot.specs.Memory.{column, meaning, codePoints, toggleCounts, replicaWellFormed};
+ghost use Rattle.woot.specs.Memory.{meaning, codePoints, toggleCounts, replicaWellFormed, characterNumbers, characterSlots, codePointColumn};
 ghost use Rattle.woot.specs.Writing.{writtenAs, outputAfter};
 ghost use Rattle.transcript.specs.Lines.{reportLine, textLine, listing};
 
@@ -72,12 +74,12 @@ fn wide(code_point: u32) -> u64
 
 // Lists the visible ones of the first n characters.
 fn list<'a>(code_points: &'a [u32], toggles: &'a [u8], n: usize) -> Listing
-    requires { ⌜ n ≤ 1024 ⌝ }
+    requires { ⌜ n ≤ characterSlots ⌝ }
     requires { ⌜ n ≤ length (now «code_points») ⌝ }
     requires { ⌜ n ≤ length (now toggles) ⌝ }
     ensures { λ r. ⌜ ((cs : List Character) → codePoints cs ≡ take n (now («code_points» .entry))
         → toggleCounts cs ≡ take n (now (toggles .entry)) → r ≡ listing cs) ⌝ }
-    ensures { λ r. ⌜ r .count ≤ 1024 ⌝ }
+    ensures { λ r. ⌜ r .count ≤ characterSlots ⌝ }
     ensures { λ r. ⌜ length (r .values) ≡ 1025 ⌝ }
 {
     let mut values = [0u64; 1025];
@@ -96,18 +98,18 @@ fn list<'a>(code_points: &'a [u32], toggles: &'a [u8], n: usize) -> Listing
 
 // Writes the line of the visible ones of the first n characters at the front of the slice, all of it or nothing.
 fn put_text<'a>(characters: &'a [u32], toggles: &'a [u8], n: usize, out: &mut [u8]) -> Written
-    requires { ⌜ n ≤ 1024 ⌝ }
-    requires { ⌜ length (now characters) ≡ 4096 ⌝ }
+    requires { ⌜ n ≤ characterSlots ⌝ }
+    requires { ⌜ length (now characters) ≡ characterNumbers ⌝ }
     requires { ⌜ n ≤ length (now toggles) ⌝ }
-    ensures { λ r. ⌜ ((cs : List Character) → codePoints cs ≡ take n (column 1024 3 (now (characters .entry)))
+    ensures { λ r. ⌜ ((cs : List Character) → codePoints cs ≡ take n (codePointColumn (now (characters .entry)))
         → toggleCounts cs ≡ take n (now (toggles .entry))
         → r ≡ writtenAs [] (textLine cs) (now (out .entry))) ⌝ }
-    ensures { λ _. ⌜ ((cs : List Character) → codePoints cs ≡ take n (column 1024 3 (now (characters .entry)))
+    ensures { λ _. ⌜ ((cs : List Character) → codePoints cs ≡ take n (codePointColumn (now (characters .entry)))
         → toggleCounts cs ≡ take n (now (toggles .entry))
         → now (out .exit) ≡ outputAfter [] (textLine cs) (now (out .entry))) ⌝ }
 {
     let head = [b'T'];
-    let listed = list(&characters[3072..4096], toggles, n);
+    let listed = list(&characters[CODE_POINTS..CHARACTER_NUMBERS], toggles, n);
     let values = listed.values;
     let size = listed.count + 1;
     codec::writing::fitted(lines::writing::put(&head, &values[..size], out, 0))

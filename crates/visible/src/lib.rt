@@ -15,7 +15,7 @@ ghost use Rattle.woot.specs.Operations.{isVisible};
 ghost use Rattle.woot.specs.Calls.{visibles};
 ghost use Rattle.woot.specs.Text.{printed, text};
 ghost use Rattle.woot.specs.Table.{key, keys};
-ghost use Rattle.woot.specs.Memory.{codePoints, toggleCounts};
+ghost use Rattle.woot.specs.Memory.{codePoints, toggleCounts, characterSlots};
 ghost use Rattle.woot.specs.Writing.{writtenAs, outputAfter};
 ghost use Rattle.visible.specs.Shown.{nthIndex, getKey, speltAs, textOf};
 
@@ -117,7 +117,7 @@ fn size(code_point: u32, toggles: u8) -> usize
 
 // How many bytes the text of the first n characters has.
 fn text_length<'a>(code_points: &'a [u32], toggles: &'a [u8], n: usize) -> usize
-    requires { ⌜ n ≤ 1024 ⌝ }
+    requires { ⌜ n ≤ characterSlots ⌝ }
     requires { ⌜ n ≤ length (now «code_points») ⌝ }
     requires { ⌜ n ≤ length (now toggles) ⌝ }
     ensures { λ r. ⌜ r
@@ -168,7 +168,7 @@ pub fn write_text<'a>(
     n: usize,
     out: &mut [u8],
 ) -> Written
-    requires { ⌜ n ≤ 1024 ⌝ }
+    requires { ⌜ n ≤ characterSlots ⌝ }
     requires { ⌜ n ≤ length (now «code_points») ⌝ }
     requires { ⌜ n ≤ length (now toggles) ⌝ }
     ensures { λ r. ⌜ ((cs : List Character) → codePoints cs ≡ take n (now («code_points» .entry))

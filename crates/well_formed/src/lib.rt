@@ -7,12 +7,15 @@ pub mod order;
 pub mod waiting;
 
 use index::table;
+use woot::CHARACTERS;
+use woot::PENDING;
 use woot::Site;
 ghost use mathlib.Core.Path.{_≡_};
 ghost use mathlib.Core.Bool.{_&&_};
 ghost use Prim.Native.Nat.{_≤_};
 ghost use lib.ListN.{length, take};
-ghost use Rattle.woot.specs.Memory.{charactersOf, operationsOf};
+ghost use Rattle.woot.specs.Memory.{charactersOf, operationsOf, characterSlots, pendingSlots};
+ghost use Rattle.woot.specs.Table.{chains, tableLinks};
 ghost use Rattle.memory.specs.Columns.{replicaWellFormed};
 ghost use Rattle.index.specs.Tabled.{Tabled};
 ghost use Rattle.memory.specs.Lent.{documentAs};
@@ -34,23 +37,23 @@ fn in_ranges<'a>(
     values: &'a [u32],
     w: usize,
 ) -> bool
-    requires { ⌜ length (now ids) ≡ 1024 ⌝ }
-    requires { ⌜ length (now previous) ≡ 1024 ⌝ }
-    requires { ⌜ length (now next) ≡ 1024 ⌝ }
-    requires { ⌜ length (now «code_points») ≡ 1024 ⌝ }
-    requires { ⌜ length (now own) ≡ 512 ⌝ }
-    requires { ⌜ length (now first) ≡ 512 ⌝ }
-    requires { ⌜ length (now second) ≡ 512 ⌝ }
-    requires { ⌜ length (now values) ≡ 512 ⌝ }
+    requires { ⌜ length (now ids) ≡ characterSlots ⌝ }
+    requires { ⌜ length (now previous) ≡ characterSlots ⌝ }
+    requires { ⌜ length (now next) ≡ characterSlots ⌝ }
+    requires { ⌜ length (now «code_points») ≡ characterSlots ⌝ }
+    requires { ⌜ length (now own) ≡ pendingSlots ⌝ }
+    requires { ⌜ length (now first) ≡ pendingSlots ⌝ }
+    requires { ⌜ length (now second) ≡ pendingSlots ⌝ }
+    requires { ⌜ length (now values) ≡ pendingSlots ⌝ }
     ensures { λ r. ⌜ r
         ≡ rangesKept site n (charactersOf (now (ids .entry)) (now (previous .entry)) (now (next .entry))
         (now («code_points» .entry)) (now (toggles .entry)) n)
         w (operationsOf (now (own .entry)) (now (first .entry)) (now (second .entry)) (now (values .entry)) w) ⌝ }
 {
-    if 1024 < n {
+    if CHARACTERS < n {
         return false;
     }
-    if 512 < w {
+    if PENDING < w {
         return false;
     }
     if !ranges::site_in_range(site) {
@@ -121,17 +124,17 @@ pub fn check<'a>(
     heads: &'a [u16],
     links: &'a [u16],
 ) -> bool
-    requires { ⌜ length (now ids) ≡ 1024 ⌝ }
-    requires { ⌜ length (now previous) ≡ 1024 ⌝ }
-    requires { ⌜ length (now next) ≡ 1024 ⌝ }
-    requires { ⌜ length (now «code_points») ≡ 1024 ⌝ }
-    requires { ⌜ length (now toggles) ≡ 1024 ⌝ }
-    requires { ⌜ length (now own) ≡ 512 ⌝ }
-    requires { ⌜ length (now first) ≡ 512 ⌝ }
-    requires { ⌜ length (now second) ≡ 512 ⌝ }
-    requires { ⌜ length (now values) ≡ 512 ⌝ }
-    requires { ⌜ length (now heads) ≡ 1024 ⌝ }
-    requires { ⌜ length (now links) ≡ 2048 ⌝ }
+    requires { ⌜ length (now ids) ≡ characterSlots ⌝ }
+    requires { ⌜ length (now previous) ≡ characterSlots ⌝ }
+    requires { ⌜ length (now next) ≡ characterSlots ⌝ }
+    requires { ⌜ length (now «code_points») ≡ characterSlots ⌝ }
+    requires { ⌜ length (now toggles) ≡ characterSlots ⌝ }
+    requires { ⌜ length (now own) ≡ pendingSlots ⌝ }
+    requires { ⌜ length (now first) ≡ pendingSlots ⌝ }
+    requires { ⌜ length (now second) ≡ pendingSlots ⌝ }
+    requires { ⌜ length (now values) ≡ pendingSlots ⌝ }
+    requires { ⌜ length (now heads) ≡ chains ⌝ }
+    requires { ⌜ length (now links) ≡ tableLinks ⌝ }
     ensures { λ r. ⌜ r
         ≡ replicaWellFormed (record {
           site = site;

@@ -6,14 +6,14 @@ ghost use Prim.Native.Nat.{ℕ, _≤_, _<_};
 ghost use lib.ListN.{length, take};
 ghost use Rattle.lists.specs.Lists.{every, throughout};
 ghost use Rattle.woot.specs.Form.{ordered};
-ghost use Rattle.woot.specs.Memory.{charactersOf};
+ghost use Rattle.woot.specs.Memory.{charactersOf, characterSlots};
 ghost use Rattle.woot.specs.Ranges.{characterInRange};
 ghost use Rattle.index.specs.Tabled.{Tabled};
 ghost use Rattle.well_formed.specs.Order.{standsBetween, betweenAt};
 
 // Whether the character with index i, of n, stands between two places.
 fn stands_between(n: usize, i: usize, above: usize, below: usize) -> bool
-    requires { ⌜ n ≤ 1024 ⌝ }
+    requires { ⌜ n ≤ characterSlots ⌝ }
     requires { ⌜ i < n ⌝ }
     ensures { λ r. ⌜ r ≡ standsBetween n i above below ⌝ }
 {

@@ -4,6 +4,7 @@
 use index::Found;
 use pending::counts;
 use pending::ready;
+use woot::CHARACTERS;
 ghost use mathlib.Core.Path.{_≡_};
 ghost use Prim.Native.Nat.{_<_};
 ghost use lib.ListN.{length};
@@ -141,7 +142,7 @@ pub fn pending_formed<'a>(
     if !shares_kept(own, values) {
         return false;
     }
-    if 1024 < ids.len() + counts::count_inserts(own) {
+    if CHARACTERS < ids.len() + counts::count_inserts(own) {
         return false;
     }
     if !keys_new(heads, links, ids, own) {

@@ -19,12 +19,18 @@ use Rattle.woot.specs.Form.{wellFormed}
 
 -- ---- numbers
 
--- the sizes of the arrays
+-- the sizes of the columns, and of the arrays in which four of them lie
 abbrev pub characterSlots : ℕ
 characterSlots = 1024
 
 abbrev pub pendingSlots : ℕ
 pendingSlots = 512
+
+abbrev pub characterNumbers : ℕ
+characterNumbers = 4096
+
+abbrev pub pendingNumbers : ℕ
+pendingNumbers = 2048
 
 -- the identifier with a key: a number of more than 24 bits is that of a site which no replica has
 unfoldable pub identifier : ℕ → Identifier
@@ -112,6 +118,32 @@ valueOf (toggle t) = t .sender * 256 + t .toggles
 abbrev pub column : ℕ → ℕ → List ℕ → List ℕ
 column m j xs = take m (drop (j * m) xs)
 
+-- those of the characters' array: their keys, their neighbours', and their code points
+abbrev pub keyColumn : List ℕ → List ℕ
+keyColumn xs = column characterSlots 0 xs
+
+abbrev pub previousColumn : List ℕ → List ℕ
+previousColumn xs = column characterSlots 1 xs
+
+abbrev pub nextColumn : List ℕ → List ℕ
+nextColumn xs = column characterSlots 2 xs
+
+abbrev pub codePointColumn : List ℕ → List ℕ
+codePointColumn xs = column characterSlots 3 xs
+
+-- those of the pending operations' array
+abbrev pub ownColumn : List ℕ → List ℕ
+ownColumn xs = column pendingSlots 0 xs
+
+abbrev pub firstColumn : List ℕ → List ℕ
+firstColumn xs = column pendingSlots 1 xs
+
+abbrev pub secondColumn : List ℕ → List ℕ
+secondColumn xs = column pendingSlots 2 xs
+
+abbrev pub valueColumn : List ℕ → List ℕ
+valueColumn xs = column pendingSlots 3 xs
+
 -- four columns one behind another, zeros in the slots that are left
 unfoldable pub inColumns : ℕ → List ℕ → List ℕ → List ℕ → List ℕ → List ℕ
 inColumns m ws xs ys zs = pad m 0 ws ++ (pad m 0 xs ++ (pad m 0 ys ++ pad m 0 zs))
@@ -119,18 +151,13 @@ inColumns m ws xs ys zs = pad m 0 ws ++ (pad m 0 xs ++ (pad m 0 ys ++ pad m 0 zs
 -- what is in use of the arrays
 unfoldable pub charactersIn : Document → List Character
 charactersIn d =
-    charactersOf (column characterSlots 0 (d .characters)) (column characterSlots 1 (d .characters))
-    (column characterSlots 2 (d .characters))
-    (column characterSlots 3 (d .characters))
-    (d .toggles)
-    (d .length)
+    charactersOf (keyColumn (d .characters)) (previousColumn (d .characters)) (nextColumn (d .characters))
+    (codePointColumn (d .characters)) (d .toggles) (d .length)
 
 unfoldable pub operationsIn : Document → List Operation
 operationsIn d =
-    operationsOf (column pendingSlots 0 (d .pending)) (column pendingSlots 1 (d .pending))
-    (column pendingSlots 2 (d .pending))
-    (column pendingSlots 3 (d .pending))
-    (d .waiting)
+    operationsOf (ownColumn (d .pending)) (firstColumn (d .pending)) (secondColumn (d .pending))
+    (valueColumn (d .pending)) (d .waiting)
 
 unfoldable pub meaning : Replica → State
 meaning r =

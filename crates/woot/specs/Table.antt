@@ -23,9 +23,12 @@ keys cs = map (λ c. key (c .id)) cs
 
 -- ---- looking up
 
--- how many chains there are
+-- how many chains there are, and how many links
 abbrev pub chains : ℕ
 chains = 1024
+
+abbrev pub tableLinks : ℕ
+tableLinks = 2048
 
 -- the chain of a key: a product with about 2^32 times the golden ratio's fraction spreads keys that follow each other
 unfoldable pub chainOf : ℕ → ℕ
@@ -78,7 +81,7 @@ agrees t ks = throughout (foundAt t ks) (length ks)
 
 -- with no key in it
 unfoldable pub noTable : Table
-noTable = record { heads = replicate chains 0; links = replicate 2048 0 }
+noTable = record { heads = replicate chains 0; links = replicate tableLinks 0 }
 
 -- where the way of a key ends among n places, m steps at most from one of them: the first slot whose link leads nowhere
 unfoldable pub freeSlot : ℕ → List ℕ → ℕ → ℕ → ℕ → ℕ

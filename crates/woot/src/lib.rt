@@ -79,26 +79,49 @@ impl Character {
 // character has two links to later ones, among which the next bit of the key chooses. A link names a character by one
 // more than its index, and 0 none.
 pub struct Table {
-    pub heads: [u16; 1024],
-    pub links: [u16; 2048],
+    pub heads: [u16; CHAINS],
+    pub links: [u16; LINKS],
 }
+
+// How many chains a table has, and how many links.
+pub const CHAINS: usize = 1024;
+
+pub const LINKS: usize = 2048;
 
 // How many characters a document has slots for, and how many pending operations.
 pub const CHARACTERS: usize = 1024;
 
 pub const PENDING: usize = 512;
 
-// The characters in order, each in the same slot of four columns that lie one behind another in one array, 1,024 slots
-// each: its key, which is its identifier as a number, its previous's, its next's, and its code point. The counts of
-// their toggles lie beside them. The pending operations, earliest first, each in the same slot of four columns, 512
-// slots each: of an insert its own key, its previous's and its next's, and its code point; of a toggle 0, the target's
-// key, 0, and 256 times the sender and the count. The counts say how many slots are in use; a character is found by the
-// table. (Document 01: the sheet without its record.)
+// Where the columns of the characters begin, behind that of their keys, and how many numbers the four have.
+pub const PREVIOUS_KEYS: usize = 1024;
+
+pub const NEXT_KEYS: usize = 2048;
+
+pub const CODE_POINTS: usize = 3072;
+
+pub const CHARACTER_NUMBERS: usize = 4096;
+
+// The same of the pending operations' columns, the first of which holds their own keys.
+pub const FIRST_KEYS: usize = 512;
+
+pub const SECOND_KEYS: usize = 1024;
+
+pub const VALUES: usize = 1536;
+
+pub const PENDING_NUMBERS: usize = 2048;
+
+// The characters in order, each in the same slot of four columns that lie one behind another in one array: its key,
+// which is its identifier as a number, its previous's, its next's, and its code point. The counts of their toggles lie
+// beside them. The pending operations, earliest first, each in the same slot of four columns: of an insert its own key,
+// its previous's and its next's, and its code point; of a toggle 0, the target's key, 0, and 256 times the sender and
+// the count. The counts say how many slots are in use; a character is found by the table. (Document 01: the sheet
+// without its record.)
 pub struct Document {
-    pub characters: [u32; 4096],
+    pub characters: [u32; CHARACTER_NUMBERS],
     pub toggles: [u8; CHARACTERS],
     pub length: usize,
-    pub pending: [u32; 2048],
+    pub pending: [u32; PENDING_NUMBERS],
     pub waiting: usize,
     pub table: Table,
 }
@@ -118,14 +141,14 @@ impl Replica {
         Replica {
             site: Site { number, clock: 0 },
             document: Document {
-                characters: [0u32; 4096],
+                characters: [0u32; CHARACTER_NUMBERS],
                 toggles: [0u8; CHARACTERS],
                 length: 0,
-                pending: [0u32; 2048],
+                pending: [0u32; PENDING_NUMBERS],
                 waiting: 0,
                 table: Table {
-                    heads: [0u16; 1024],
-                    links: [0u16; 2048],
+                    heads: [0u16; CHAINS],
+                    links: [0u16; LINKS],
                 },
             },
         }
