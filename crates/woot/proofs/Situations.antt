@@ -24,7 +24,7 @@ use Rattle.woot.specs.State.{State}
 use Rattle.woot.specs.Placing.{identifiers}
 use Rattle.woot.specs.Answers.{Reply}
 use Rattle.woot.specs.Histories.{Call, run, integratedBy}
-use Rattle.woot.specs.Situations.{Given, calling, carrying, showing, pointing, Seen, calls, operations, bytes, moved, replies, seen, Situation, table, slipCases, answerCases, clockCases, toggleCases, cursorCases, SituationsHold, LowestShift, CasesTell, LargestTells, CheckingOrder}
+use Rattle.woot.specs.Situations.{Given, calling, carrying, showing, pointing, Seen, calls, operations, bytes, moved, replies, seen, Situation, table, slipCases, answerCases, clockCases, toggleCases, cursorCases, SituationsHold, full, FullTells, LowestShift, CasesTell, LargestTells, RanksTell, CheckingOrder}
 
 -- k at xs, whose cells are computed first
 whole : {A B : Type 0} → List A → (List A → B) → B
@@ -103,6 +103,14 @@ lowest-shift = all .2
 pub largest-tells : LargestTells
 unfolding same
 largest-tells = (refl, refl, refl)
+
+-- a call on the full state goes down its rows a few times
+pub full-tells : FullTells
+unfolding full same sender character origin isVisible sameInsert sameToggle sameOperation within siteNumber codePoint characterId previousId nextId insertInRange toggleInRange inRange sequence indexOf placeOf held above adjacent search position between executable crossed unplaceable pendingFrom presentInserts reply answerOf unchanged decided duplicate conflicting senderFull documentFull receiveChecks carryOut defer accept receiveWhen visibles nextIdentifier generatedInsert beyondVisible identifierTaken insertChecks localInsertWhen
+full-tells = (refl, refl, refl, refl, refl, refl, refl)
+
+pub ranks-tell : RanksTell
+ranks-tell = (refl, refl)
 
 pub checking-order : (formed : Bool) (s : State) → CheckingOrder formed s
 unfolding receiveChecks receiveAtChecks insertChecks deleteChecks restoreChecks reply answerOf

@@ -13,12 +13,14 @@ use Rattle.woot.specs.Identifiers.{begin, end}
 use Rattle.woot.specs.Operations.{character, withToggles}
 use Rattle.woot.specs.State.{State, initial}
 use Rattle.woot.specs.Placing.{identifiers}
+use Rattle.woot.specs.declared.Refusal.{Refusal}
+use Rattle.woot.specs.declared.Refusal.the-variants.{Layout, Range, Form, Unrepresentable, Position, NotHidden, LastToggle, Clock, Taken, Conflict, Crossed, Unplaceable, SenderFull, DocumentFull, Output}
 use Rattle.woot.specs.declared.Answer.{Answer}
 use Rattle.woot.specs.declared.Answer.the-variants.{Done as answerDone, Deferred, Duplicate, Refused as answerRefused}
 use Rattle.woot.specs.declared.Sent.{Sent}
-use Rattle.woot.specs.Answers.{rank, done, waits, known, refused, Reply, reply, answerOf, Check}
-use Rattle.woot.specs.Calls.{receiveChecks, insertChecks, deleteChecks, restoreChecks}
-use Rattle.woot.specs.Cursor.{receiveAtChecks, receiveAt, shiftAt}
+use Rattle.woot.specs.Answers.{number, rank, done, waits, known, refused, Reply, reply, answerOf, Check}
+use Rattle.woot.specs.Calls.{receiveChecks, receiveWhen, insertChecks, localInsertWhen, deleteChecks, restoreChecks}
+use Rattle.woot.specs.Cursor.{receiveAtChecks, receiveAt, shiftAt, lastNumber}
 use Rattle.woot.specs.Histories.{Call, inserting, deleting, restoring, receiving, outcome, run, integratedBy, largestIn}
 use Rattle.woot.specs.Text.{text}
 
@@ -245,6 +247,9 @@ slipCases =
     -- the hall program's example
     ∷ (after (insAs 66 (2 at 1) (1 at 1) end ∷ o1 ∷ del 3 (1 at 1) ∷ o1 ∷ insAs 67 (1 at 1) begin end ∷ [])
     gives calls (Waits ∷ Done 2 0 ∷ Done 1 0 ∷ Known ∷ Refused 7 ∷ []) (1 at 1 ∷ 2 at 1 ∷ []))
+    -- an insert carried out whose neighbour only waits
+    ∷ (after (ins (2 at 1) (1 at 1) end ∷ ins (3 at 1) (2 at 1) end ∷ ins (4 at 1) begin (2 at 1) ∷ [])
+    gives calls (Waits ∷ Waits ∷ Waits ∷ []) [])
     ∷ []
 
 -- answers given too early, too late, or never
@@ -279,6 +284,9 @@ answerCases =
     -- 8 reported before 7
     ∷ (after (o1 ∷ o2 ∷ ins (3 at 1) begin end ∷ ins (3 at 1) (2 at 1) (1 at 1) ∷ [])
     gives calls (Done 1 0 ∷ Done 1 0 ∷ Done 1 0 ∷ Refused 7 ∷ []) (1 at 1 ∷ 2 at 1 ∷ 3 at 1 ∷ []))
+    -- a gap or a place that begins anew after the largest number of 64 bits
+    ∷ (calling xyz (inserting lastNumber 65 ∷ deleting lastNumber ∷ [])
+    gives calls (Refused 4 ∷ Refused 4 ∷ []) (2 at 1 ∷ 2 at 2 ∷ 2 at 3 ∷ []))
     ∷ []
 
 -- document 02, Req 04: the clock not raised, raised where it should not be, or lowered; it shows in what is typed next
@@ -336,6 +344,10 @@ toggleCases =
     ∷ (after (del 3 (1 at 1) ∷ tog 3 (1 at 1) 1 ∷ tog 3 (1 at 1) 2 ∷ o1 ∷ [])
     gives calls (Waits ∷ Known ∷ Waits ∷ Done 3 0 ∷ []) (1 at 1 ∷ []))
     ∷ (after (tog 3 (1 at 1) 2 ∷ del 5 (1 at 1) ∷ o1 ∷ []) gives calls (Waits ∷ Waits ∷ Done 3 0 ∷ []) (1 at 1 ∷ []))
+    -- a waiting one known by a larger turn of its sender that waits
+    ∷ (after (tog 3 (1 at 1) 2 ∷ tog 3 (1 at 1) 1 ∷ []) gives calls (Waits ∷ Waits ∷ []) [])
+    -- one whose row only waits carried out
+    ∷ (after (ins (1 at 1) (7 at 7) end ∷ del 3 (1 at 1) ∷ []) gives calls (Waits ∷ Waits ∷ []) [])
     -- two turns of one row counted once among a sender's 32
     ∷ (calling (stateAt 0 [] (deletesBy2 31)) (tog 2 (4 at 1) 2 ∷ tog 2 (4 at 2) 2 ∷ [])
     gives calls (Waits ∷ Refused 10 ∷ []) [])
@@ -415,6 +427,8 @@ cursorCases =
     -- hidden rows counted in a gap
     ∷ (pointing (threeRows 0 1 0) (new begin (2 at 1)) 2 gives moved (Done 1 0) (pos 1))
     ∷ (pointing (threeRows 0 1 0) (new begin (2 at 1)) 3 gives moved (Refused 4) (pos 0))
+    -- a gap that begins anew after the largest number of 64 bits
+    ∷ (pointing xyz (new begin end) lastNumber gives moved (Refused 4) (pos 0))
     -- 4 before known, before 2 or before 3, or after 7 or waits
     ∷ (pointing xyz (insert (put (2 at 1) begin end)) 4 gives moved Known (pos 0))
     ∷ (pointing xyz (new begin begin) 4 gives moved (Refused 2) (pos 0))
@@ -440,6 +454,30 @@ crowded = stateAt 99 (put (1 at 1) begin end ∷ []) (upward 512 0 (1 at 99))
 
 unfoldable pub releasing : Operation
 releasing = insert (put (1 at 99) begin (1 at 1))
+
+-- m rows between the marks, of site 1 and with clocks from n on
+abbrev pub rowsFrom : ℕ → ℕ → List Insert
+rowsFrom n zero = []
+rowsFrom n (suc m) = put (1 at n) begin end ∷ rowsFrom (suc n) m
+
+-- "1,023 rows and one waiting insert"
+unfoldable pub full : State
+full = stateAt 1023 (rowsFrom 1 1023) (stray (2 at 1) ∷ [])
+
+-- what an operation is answered there; that it is in form is too much to compute, so it is proved in `convergence`
+abbrev pub onFull : Operation → Reply
+onFull o = reply (receiveWhen true full o .answer)
+
+-- "a typed character is refusal 11; a known insert is still known"; of what is received an insert alone meets 11
+abbrev pub FullTells : Type 0
+FullTells =
+    (reply (answerOf (localInsertWhen true full 0 65 .answer)) ≡ Refused 11)
+    × (onFull (insert (put (3 at 1) begin (1 at 1))) ≡ Refused 11)
+    × (onFull (stray (3 at 1)) ≡ Refused 11)
+    × (onFull (insert (put (1 at 7) begin end)) ≡ Known)
+    × (onFull (stray (2 at 1)) ≡ Known)
+    × (onFull (deleteBy 3 (1 at 7)) ≡ Done 1 0)
+    × (onFull (deleteBy 3 (2 at 1)) ≡ Waits)
 
 -- "the shift lies between -1 and 513": -1 where the left row is hidden
 abbrev pub LowestShift : Type 0
@@ -483,6 +521,22 @@ abbrev pub rises : List ℕ → Bool
 rises [] = true
 rises (n ∷ []) = true
 rises (n ∷ m ∷ ns) = ltb n m && rises (m ∷ ns)
+
+-- all refusals in checking order: 15 "after 3", and 13 and 14 "after 4, in that order"
+abbrev pub inOrder : List Refusal
+inOrder =
+    Layout ∷ Range ∷ Form ∷ Unrepresentable ∷ Position ∷ NotHidden ∷ LastToggle ∷ Clock ∷ Taken ∷ Conflict ∷ Crossed
+    ∷ Unplaceable
+    ∷ SenderFull
+    ∷ DocumentFull
+    ∷ Output
+    ∷ []
+
+-- by their numbers, and each of a higher rank than the one before it
+abbrev pub RanksTell : Type 0
+RanksTell =
+    (map number inOrder ≡ 1 ∷ 2 ∷ 3 ∷ 15 ∷ 4 ∷ 13 ∷ 14 ∷ 5 ∷ 6 ∷ 7 ∷ 8 ∷ 9 ∷ 10 ∷ 11 ∷ 12 ∷ [])
+    × (rises (map rank inOrder) ≡ true)
 
 -- receiving meets 2, 3, known, 7, 8, 9, 10, 11, with a cursor 4 after known; typing 2, 3, 4, 5, 6 (reserved), 9, 11;
 -- erasing 3, 4; restoring 2, 3, 13, 14: in this order, on any state
