@@ -32,6 +32,7 @@ pub mod Histories
 pub mod Refusals
 pub mod Cursors
 pub mod Ends
+pub mod Full
 pub mod Grown
 pub mod Convergence
 pub mod Isolation

@@ -31,6 +31,7 @@ use Rattle.woot.specs.Answers.{number, done, waits, reply, answerOf, sentOperat
 use Rattle.woot.specs.Calls.{unchanged, allIntegrated, receiveChecks, receiveWhen, receive, insertChecks, generatedInsert, localInsertWhen, localInsert, deleteChecks, generatedDelete, localDeleteWhen, localDelete, restoreChecks, generatedToggle, localRestoreWhen, localRestore}
 use Rattle.woot.specs.Writing.{writingChecks, writtenAs, outputAfter, writtenNumber}
 use Rattle.woot.specs.Text.{text}
+use Rattle.woot.specs.Situations.{full}
 use Rattle.woot.specs.Histories.{Call, Begun, startOf, outcome, run, drainedBy, discardedBy, deferredBy, InsertedIn, largestIn, charactersAfter, historyOf, SameInserted, SameToggled}
 use Rattle.convergence.specs.Agreement.{Grown, OneMeaning}
 
@@ -218,6 +219,10 @@ FormKept = (s : State) (c : Call) → wellFormed s ≡ true → wellFormed (outc
 -- an empty replica is in form when its number is one of a site
 abbrev pub EmptyFormed : Type 0
 EmptyFormed = (n : ℕ) → wellFormed (initial n) ≡ siteNumber n
+
+-- and so is the full one of `woot/Situations`, so that `FullTells` says what receiving and typing answer there
+abbrev pub FullFormed : Type 0
+FullFormed = wellFormed full ≡ true
 
 -- "so 512 in all": what is pending in a state in form has its place in the array
 abbrev pub PendingFit : Type 0
