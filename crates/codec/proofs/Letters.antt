@@ -5,14 +5,14 @@ use mathlib.Core.Bool.{Bool, true, false, _&&_, _||_, cond}
 use Prim.Native.Nat.{ℕ}
 use lib.ListN.{getD}
 use borrow.Author.Tests.{eqb-false}
-use Rattle.woot.specs.declared.Operation.the-variants.{Insert as insert}
+use Rattle.woot.specs.declared.Operation.the-variants.{Insert as insert, Toggle as toggle}
 use Rattle.woot.specs.declared.Refusal.the-variants.{Layout}
 use Rattle.lines.specs.Lines.{ended, firstLine}
 use Rattle.lines.specs.Fields.{fields, hasLayout, valuesOf}
 use Rattle.lines.proofs.Spelling.{spelled, other-letter}
 use Rattle.codec.specs.declared.Kind.the-variants.{Insert as Inserted, Toggle as Toggled, Delete as Deleted}
 use Rattle.codec.specs.declared.Read.the-variants.{Refused as readRefused}
-use Rattle.codec.specs.Operations.{deleteHead, insertOf, isInsert, isToggle, isDelete, operationOf}
+use Rattle.codec.specs.Operations.{deleteHead, insertOf, deleteOf, isInsert, isToggle, isDelete, operationOf}
 use Rattle.codec.specs.Calls.{asWritten, asWrittenFirst, lineLaidOut, laidOut, readAs, saidBy, readWritten, readWrittenFirst, readLine, readOperation}
 use Rattle.codec.specs.Kinds.{laidOutAs, readKind}
 use Rattle.codec.proofs.Judging.{read-layout, read-same}
@@ -38,10 +38,21 @@ module _ (line : List ℕ) where
   unfolding isDelete
   no-delete h = other-letter 68 3 line h
 
-  -- a delete's head word is no toggle's
-  pub delete-alone : isDelete (fields line) ≡ true → isToggle (fields line) ≡ false
+  -- a delete's head word is no other's
+  delete-letter : isDelete (fields line) ≡ true → getD line 0 0 ≡ 68
   unfolding isDelete
-  delete-alone d = no-toggle (λ q. eqb-false 68 69 refl (sym (ap (λ (l : List ℕ). getD l 0 0) (spelled deleteHead 3 line d .0)) ∙ q))
+  delete-letter d = ap (λ (l : List ℕ). getD l 0 0) (spelled deleteHead 3 line d .0)
+
+  pub delete-alone : isDelete (fields line) ≡ true → isToggle (fields line) ≡ false
+  delete-alone d = no-toggle (λ q. eqb-false 68 69 refl (sym (delete-letter d) ∙ q))
+
+  delete-no-insert : isDelete (fields line) ≡ true → isInsert (fields line) ≡ false
+  delete-no-insert d = no-insert (λ q. eqb-false 68 73 refl (sym (delete-letter d) ∙ q))
+
+  -- so the line of a delete says that delete
+  pub delete-said : isDelete (fields line) ≡ true → operationOf (fields line) ≡ toggle (deleteOf (valuesOf (fields line)))
+  unfolding operationOf
+  delete-said d = rw (delete-no-insert d, delete-alone d)
 
   -- a line that begins with the insert's head word is an insert's, whatever other kinds are read
   insert-says : isInsert (fields line) ≡ true → insert (insertOf (valuesOf (fields line))) ≡ operationOf (fields line)

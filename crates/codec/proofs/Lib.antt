@@ -1,3 +1,4 @@
+pub mod Examples
 pub mod Bounds
 pub mod Judging
 pub mod Letters

@@ -101,15 +101,16 @@ delete-numbers-back ns e =
     (from-place ns 0 (omega arith)
     (from-place ns 1 (omega arith) (from-place ns 2 (omega arith) (drop-of-length-le ns {i = 3} (omega arith)))))
 
--- an operation that was read was laid out and is the one that the line says
-was-read : (s : List ℕ) (o : Operation) → readOperation s ≡ readsAs o → (laidOut s ≡ true) × (saidBy s ≡ o)
+-- an operation that was read was laid out, is the one that the line says, and is in range
+pub was-read : (s : List ℕ) (o : Operation) → readOperation s ≡ readsAs o → (laidOut s ≡ true) × (saidBy s ≡ o) × (inRange (saidBy s) ≡ true)
 unfolding readOperation
 was-read s o e = go (either (laidOut s)) (either (inRange (saidBy s)))
   where
-    go : (laidOut s ≡ true) ⊎ (laidOut s ≡ false) → (inRange (saidBy s) ≡ true) ⊎ (inRange (saidBy s) ≡ false) → (laidOut s ≡ true) × (saidBy s ≡ o)
-    go (inr p) r = let q : readRefused Layout ≡ readsAs o = sym (read-layout (saidBy s)) ∙ rw p at e in (cc, cc)
-    go (inl p) (inr r) = let q : readRefused Range ≡ readsAs o = sym (read-range (saidBy s) r) ∙ rw p at e in (cc, cc)
-    go (inl p) (inl r) = let q : readsAs (saidBy s) ≡ readsAs o = sym (read-operation (saidBy s) r) ∙ rw p at e in (p, cc)
+    go : (laidOut s ≡ true) ⊎ (laidOut s ≡ false) → (inRange (saidBy s) ≡ true) ⊎ (inRange (saidBy s) ≡ false)
+        → (laidOut s ≡ true) × (saidBy s ≡ o) × (inRange (saidBy s) ≡ true)
+    go (inr p) r = let q : readRefused Layout ≡ readsAs o = sym (read-layout (saidBy s)) ∙ rw p at e in (cc, cc, cc)
+    go (inl p) (inr r) = let q : readRefused Range ≡ readsAs o = sym (read-range (saidBy s) r) ∙ rw p at e in (cc, cc, cc)
+    go (inl p) (inl r) = let q : readsAs (saidBy s) ≡ readsAs o = sym (read-operation (saidBy s) r) ∙ rw p at e in (p, cc, r)
 
 module _ (s : List ℕ) (e : ended s ≡ true) where
   as-insert : isInsert (fields (firstLine s)) ≡ true → s ≡ operationLine (saidBy s) ++ rest s

@@ -48,6 +48,42 @@ ReadWritesBack =
     (s : List ℕ) (o : Operation) → readOperation s ≡ readsAs o → isDelete (fields (firstLine s)) ≡ false →
     s ≡ operationLine o ++ rest s
 
+-- ---- one line of each kind, with fields that all differ, so that letters and order show
+
+-- `I 2 7 66 3 5 4 8`
+abbrev pub exampleInsert : Operation
+exampleInsert =
+    insert (record {
+      id = record { site = 2; clock = 7 };
+      «code_point» = 66;
+      previous = record { site = 3; clock = 5 };
+      next = record { site = 4; clock = 8 };
+    })
+
+abbrev pub exampleInsertBytes : List ℕ
+exampleInsertBytes =
+    73 ∷ 9 ∷ 50 ∷ 9 ∷ 55 ∷ 9 ∷ 54 ∷ 54 ∷ 9 ∷ 51 ∷ 9 ∷ 53 ∷ 9 ∷ 52 ∷ 9 ∷ 56 ∷ 10 ∷ []
+
+-- the toggle of `E 6 4 9 k`
+abbrev pub exampleToggle : ℕ → Operation
+exampleToggle k = toggle (record { sender = 6; target = record { site = 4; clock = 9 }; toggles = k })
+
+-- `E 6 4 9 5`
+abbrev pub exampleToggleBytes : List ℕ
+exampleToggleBytes = 69 ∷ 9 ∷ 54 ∷ 9 ∷ 52 ∷ 9 ∷ 57 ∷ 9 ∷ 53 ∷ 10 ∷ []
+
+-- `D 6 4 9`
+abbrev pub exampleDeleteBytes : List ℕ
+exampleDeleteBytes = 68 ∷ 9 ∷ 54 ∷ 9 ∷ 52 ∷ 9 ∷ 57 ∷ 10 ∷ []
+
+-- `I` and `E` are written and read so, and "a `D` line is read as turn 1"
+abbrev pub LinesExample : Type 0
+LinesExample =
+    (operationLine exampleInsert ≡ exampleInsertBytes) × (readOperation exampleInsertBytes ≡ readsAs exampleInsert)
+    × (operationLine (exampleToggle 5) ≡ exampleToggleBytes)
+    × (readOperation exampleToggleBytes ≡ readsAs (exampleToggle 5))
+    × (readOperation exampleDeleteBytes ≡ readsAs (exampleToggle 1))
+
 -- ---- sizes
 
 abbrev pub longestInsert : Operation
@@ -70,6 +106,10 @@ insertMost = 37
 abbrev pub toggleMost : ℕ
 toggleMost = 18
 
+-- "Erase: `D` sender laptop clock. At most 14 bytes."
+abbrev pub deleteMost : ℕ
+deleteMost = 14
+
 -- no line of an operation in range is longer
 abbrev pub LineLengths : Type 0
 LineLengths =
@@ -81,6 +121,22 @@ abbrev pub LongestLines : Type 0
 LongestLines =
     ((inRange longestInsert ≡ true) × (length (operationLine longestInsert) ≡ insertMost))
     × ((inRange longestToggle ≡ true) × (length (operationLine longestToggle) ≡ toggleMost))
+
+-- a `D` line is read, "and is written no more": with its line feed none that is read is longer
+abbrev pub DeleteLengths : Type 0
+DeleteLengths =
+    (s : List ℕ) (o : Operation) → readOperation s ≡ readsAs o → isDelete (fields (firstLine s)) ≡ true →
+    suc (length (firstLine s)) ≤ deleteMost
+
+-- and `D 16 16 65535` has that many
+abbrev pub longestDeleteBytes : List ℕ
+longestDeleteBytes = 68 ∷ 9 ∷ 49 ∷ 54 ∷ 9 ∷ 49 ∷ 54 ∷ 9 ∷ 54 ∷ 53 ∷ 53 ∷ 51 ∷ 53 ∷ 10 ∷ []
+
+abbrev pub LongestDelete : Type 0
+LongestDelete =
+    (length longestDeleteBytes ≡ deleteMost)
+    × (readOperation longestDeleteBytes
+    ≡ readsAs (toggle (record { sender = 16; target = record { site = 16; clock = 65535 }; toggles = 1 })))
 
 -- each byte is a byte, and the last alone is a line feed
 abbrev pub LineBytes : Type 0

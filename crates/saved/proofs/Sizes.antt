@@ -24,11 +24,9 @@ use Rattle.convergence.proofs.Shares.{pending-bound}
 use Rattle.decimal.specs.Numeral.{digits, digitsIn}
 use Rattle.lines.specs.Lines.{concatenated}
 use Rattle.lines.specs.Fields.{lineOf}
-use Rattle.lines.proofs.Values.{at-most-from}
 use Rattle.lines.proofs.Sizes.{line-le}
-use Rattle.codec.specs.Operations.{deleteHead, deleteNumbers, deleteLimits, identifierAt}
-use Rattle.codec.proofs.Bounds.{toggle-bounds}
-use Rattle.codec.proofs.Sizes.{line-lengths}
+use Rattle.codec.specs.Operations.{identifierAt}
+use Rattle.codec.proofs.Sizes.{line-lengths, delete-length}
 use Rattle.saved.specs.declared.Version.{Version}
 use Rattle.saved.specs.declared.Version.the-variants.{First, Second}
 use Rattle.saved.specs.Format.{siteHead, siteNumbers, siteLimits, siteOf, siteLine, characterHead, characterNumbers, characterLimits, characterOf, characterLine, savedLine, characterWithin, operationWithin, representable, bytesAs}
@@ -63,10 +61,6 @@ unfolding lineOf digits digitsIn
 character-limits First = refl
 character-limits Second = refl
 
-delete-limits : length (lineOf deleteHead deleteLimits) ≡ 14
-unfolding lineOf digits digitsIn
-delete-limits = refl
-
 site-length : (v : Version) (s : Site) → siteInRange s ≡ true → length (siteLine v s) ≤ siteMost v
 unfolding siteLine siteNumbers siteOf
 site-length v s e = rw (site-limits v) at (line-le (siteHead v) siteLimits (siteNumbers s) (omega arith) (site-at-most (siteNumbers s) e))
@@ -82,16 +76,6 @@ character-length v c h e =
     let same = numbers-say v c in
     rw (character-limits v) at
     (line-le characterHead (characterLimits v) (characterNumbers v c) (omega arith) (character-at-most v (characterNumbers v c) (ap (characterWithin v) same ∙ h) (ap characterInRange same ∙ e)))
-
--- "D 16 16 65535" and its line feed, whatever the toggles
-delete-length : (t : Toggle) → inRange (toggle t) ≡ true → length (lineOf deleteHead (deleteNumbers t)) ≤ 14
-unfolding inRange deleteNumbers
-delete-length t e =
-    let b = toggle-bounds t e in
-    rw delete-limits at
-    (line-le deleteHead deleteLimits (deleteNumbers t) (omega arith)
-    (at-most-from 0 deleteLimits (deleteNumbers t) (b .sender-bound)
-    (at-most-from 1 deleteLimits (deleteNumbers t) (b .target-bounds .site-le) (at-most-from 2 deleteLimits (deleteNumbers t) (b .target-bounds .clock-le) refl))))
 
 toggle-length : (v : Version) (t : Toggle) → inRange (toggle t) ≡ true → length (savedLine v (toggle t)) ≤ toggleMost v
 unfolding savedLine
