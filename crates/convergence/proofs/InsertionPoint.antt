@@ -84,7 +84,7 @@ sequence-distinct {cs} s =
     and-intro (not-intro (extract-any (same begin) (extract-last end (identifiers cs)) ∙ marks-apart s 0)) tail
 
 -- reading before the last element put at the end
-get-early : (x : Identifier) (xs : List Identifier) (k : ℕ) (d e : Identifier) → k < length xs → getD (xs ++ x ∷ []) k d ≡ getD xs k e
+pub get-early : (x : Identifier) (xs : List Identifier) (k : ℕ) (d e : Identifier) → k < length xs → getD (xs ++ x ∷ []) k d ≡ getD xs k e
 get-early x [] k d e h = absurd (omega arith)
 get-early x (y ∷ ys) zero d e h = refl
 get-early x (y ∷ ys) (suc k) d e h = get-early x ys k d e (omega arith)

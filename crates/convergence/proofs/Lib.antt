@@ -38,4 +38,6 @@ pub mod Convergence
 pub mod Isolation
 pub mod Replies
 pub mod Sending
+pub mod Own
+pub mod Typing
 pub mod Writing

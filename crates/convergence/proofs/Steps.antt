@@ -159,6 +159,12 @@ inserts-member (insert j ∷ ps) (List·Memᴰ·head e) = List·Memᴰ·head (ap
 inserts-member (insert j ∷ ps) (List·Memᴰ·tail m) = List·Memᴰ·tail (inserts-member ps m)
 inserts-member (toggle d ∷ ps) m = List·Memᴰ·tail (inserts-member ps m)
 
+pub any-inserts : (i : Insert) (ps : List Operation) → any (sameInsert i) (inserts ps) ≡ any (sameOperation (insert i)) ps
+unfolding sameOperation
+any-inserts i [] = refl
+any-inserts i (insert j ∷ ps) = ap (λ b. sameInsert i j || b) (any-inserts i ps)
+any-inserts i (toggle d ∷ ps) = any-inserts i ps
+
 pub any-toggles : (d : Toggle) (ps : List Operation) → any (sameToggle d) (togglesAmong ps) ≡ any (sameOperation (toggle d)) ps
 unfolding sameOperation
 any-toggles d [] = refl

@@ -98,7 +98,7 @@ up-left (c ∷ cs) d k z h = go (isVisible c) refl k h (up-left cs (rest-distinc
 -- ---- the first of a list
 
 -- more of them have as many visible ones or more
-shown-more : (cs : List Character) (j k : ℕ) → j ≤ k → shownIn (take j cs) ≤ shownIn (take k cs)
+pub shown-more : (cs : List Character) (j k : ℕ) → j ≤ k → shownIn (take j cs) ≤ shownIn (take k cs)
 shown-more cs zero k h = omega arith
 shown-more [] (suc j) k h = omega arith
 shown-more (c ∷ cs) (suc j) zero h = absurd (omega arith)
@@ -120,7 +120,7 @@ shown-next (c ∷ cs) (suc k) z h v = go (isVisible c) (shown-next cs k z (omega
     go true e = ap suc e
     go false e = e
 
-shown-most : (cs : List Character) (k : ℕ) → shownIn (take k cs) ≤ shownIn cs
+pub shown-most : (cs : List Character) (k : ℕ) → shownIn (take k cs) ≤ shownIn cs
 shown-most cs zero = omega arith
 shown-most [] (suc k) = omega arith
 shown-most (c ∷ cs) (suc k) = go (isVisible c) (shown-most cs k)
@@ -178,22 +178,23 @@ module _ {cs : List Character} (s : Standing cs) where
       let m = visible-identifier cs (get-member (visibles cs) k begin (omega arith)) in
       through-character cs (getD (visibles cs) k begin) (not-begin (getD (visibles cs) k begin) (member-range cs (s .ranges) m)) ∙ up-left cs (s .apart) k begin (omega arith)
 
-  -- a visible character further down has one more
-  through-next : (x y : Identifier) → List·Memᴰ y (visibles cs) → placeOf cs x < placeOf cs y → suc (visibleThrough cs x) ≤ visibleThrough cs y
+  -- through a visible character further down there is one more
+  pub taken-next : (k : ℕ) (y : Identifier) → List·Memᴰ y (visibles cs) → k < placeOf cs y → suc (shownIn (take k cs)) ≤ visibleThrough cs y
   unfolding through
-  through-next x y m h =
+  taken-next k y m h =
       let w = visible-member cs m in
       let i = own-index cs s blankCharacter (w .1) in
       let here : placeOf cs y ≡ suc (i .0) = ap (placeOf cs) (sym (w .3)) ∙ i .1 in
       let seen : isVisible (getD cs (i .0) blankCharacter) ≡ true = ap isVisible (i .2) ∙ w .2 in
       let one = shown-next cs (i .0) blankCharacter (omega (arith, i .1, member-place cs s (w .1) .1)) seen in
       let all : shownIn (take (placeOf cs y) cs) ≡ shownIn (take (suc (i .0)) cs) = ap (λ (k : ℕ). shownIn (take k cs)) here in
-      omega (arith, shown-through cs x, shown-through cs y, all, one, shown-more cs (placeOf cs x) (i .0) (omega arith))
+      omega (arith, shown-through cs y, all, one, shown-more cs k (i .0) (omega arith))
 
   -- of two that are shown the one further down has more through it
   shown-next-through : (x y : Identifier) → Shown cs y → placeOf cs x < placeOf cs y → suc (visibleThrough cs x) ≤ visibleThrough cs y
+  unfolding through
   shown-next-through x y (inl e) h = absurd (omega (arith, ap (placeOf cs) e, place-begin cs))
-  shown-next-through x y (inr m) h = through-next x y m h
+  shown-next-through x y (inr m) h = omega (arith, shown-through cs x, taken-next (placeOf cs x) y m h)
 
   -- the character on the left of the gap that x comes to
   left-again : (x : Identifier) → visibleThrough cs (leftOf cs (visibleThrough cs x)) ≡ visibleThrough cs x

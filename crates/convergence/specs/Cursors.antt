@@ -1,14 +1,17 @@
 -- Document 02, Req 02: the promises about receiving with a cursor, over any state, operation and gap, each proved in
 -- proofs/ under its name in small letters.
-use Prim.Native.Nat.{ℕ, _≤_}
+use Prim.Native.Nat.{ℕ, _+_, _≤_}
 use mathlib.Core.Path.{_≡_}
-use mathlib.Core.Bool.{Bool, true, false}
+use mathlib.Core.Bool.{Bool, true, false, _||_}
 use mathlib.Core.List.{List, _∷_}
 use mathlib.Core.Logic.{_↔_, _⊎_}
+use mathlib.Core.Option.{some}
 use lib.IntN.{ℤ, pos, negsuc, _+ℤ_}
 use lib.Signed.{_≤ℤ_}
 use Rattle.woot.specs.declared.Identifier.{Identifier}
+use Rattle.woot.specs.declared.Insert.{Insert}
 use Rattle.woot.specs.declared.Operation.{Operation}
+use Rattle.woot.specs.declared.Operation.the-variants.{Insert as insert, Toggle as toggle}
 use Rattle.woot.specs.declared.Character.{Character}
 use Rattle.woot.specs.declared.Refusal.{Refusal}
 use Rattle.woot.specs.declared.Refusal.the-variants.{Position}
@@ -17,10 +20,11 @@ use Rattle.woot.specs.Identifiers.{begin, same}
 use Rattle.woot.specs.State.{State}
 use Rattle.woot.specs.Placing.{above}
 use Rattle.woot.specs.Pending.{executable}
-use Rattle.woot.specs.Answers.{number, done, waits, reply, changes, NoneHolds, Reported}
-use Rattle.woot.specs.Calls.{unchanged, receiveWhen, visibles, beyondVisible}
-use Rattle.woot.specs.Cursor.{leftOf, receiveAtChecks, receiveAtWhen, receiveAt, newGap, shiftOf, shiftAt, lastNumber, movedBy}
-use Rattle.woot.specs.Situations.{LowestShift, HighestShift}
+use Rattle.woot.specs.Answers.{number, done, waits, reply, changes, sentOperation, NoneHolds, Reported}
+use Rattle.woot.specs.Calls.{unchanged, receiveWhen, visibles, beyondVisible, localInsert, localDelete, localRestore}
+use Rattle.woot.specs.Cursor.{leftOf, visibleThrough, receiveAtChecks, receiveAtWhen, receiveAt, newGap, shiftOf, shiftAt, lastNumber, movedBy}
+use Rattle.woot.specs.Histories.{Call, inserting, deleting, restoring, receiving, receivingAt, outcome}
+use Rattle.woot.specs.Situations.{Done, LowestShift, HighestShift}
 use Rattle.lists.specs.Lists.{any}
 
 -- ---- the answer
@@ -146,3 +150,45 @@ abbrev pub TopStays : Type 0
 TopStays =
     (formed : Bool) (s : State) (o : Operation) →
     (receiveAtWhen formed s o 0 ≡ receiveWhen formed s o) × (shiftOf s (receiveAtWhen formed s o 0) 0 ≡ pos 0)
+
+-- ---- what is edited here
+
+-- an operation received does all that a call did, in its answer, in the state, and in what was carried out and thrown
+-- out; and so it does with any cursor among the visible characters
+abbrev pub DoesAs : State → Call → Operation → Type 0
+DoesAs s c o =
+    (outcome s (receiving o) ≡ outcome s c)
+    × ((g : ℕ) → beyondVisible s g ≡ false → outcome s (receivingAt o g) ≡ outcome s c)
+
+-- what typing, erasing and restoring send, received on the state from before, does as they did: so a program learns how
+-- far its own edit moves a cursor as it does of a line that comes
+abbrev pub OwnReceived : Type 0
+OwnReceived =
+    ((s : State) (g n : ℕ) (o : Operation) →
+    sentOperation (localInsert s g n .answer) ≡ some o → DoesAs s (inserting g n) o)
+    × ((s : State) (p : ℕ) (o : Operation) →
+    sentOperation (localDelete s p .answer) ≡ some o → DoesAs s (deleting p) o)
+    × ((s : State) (x : Identifier) (o : Operation) →
+    sentOperation (localRestore s x .answer) ≡ some o → DoesAs s (restoring x) o)
+
+-- a character typed at gap g, with nothing else carried out by the call: "the gap just below the row of the one before"
+-- (Req 11) is one further, with the character on its left; a cursor at g, which keeps to the row on its left, stays
+abbrev pub TypingMoves : Type 0
+TypingMoves =
+    (s : State) (g n : ℕ) (i : Insert) → sentOperation (localInsert s g n .answer) ≡ some (insert i) →
+    reply (outcome s (inserting g n) .answer) .integrated ≡ 1 →
+    (visibleThrough (outcome s (inserting g n) .state .characters) (i .id) ≡ g + 1)
+    × (leftOf (outcome s (inserting g n) .state .characters) (g + 1) ≡ i .id)
+    × (newGap s (receiveAt s (insert i) g) g ≡ g)
+
+-- x is a neighbour or the target of an operation
+abbrev pub names : Identifier → Operation → Bool
+names x (insert i) = same x (i .previous) || same x (i .next)
+names x (toggle t) = same x (t .target)
+
+-- nothing else is carried out, nor thrown out, where nothing that waits names the new character; where something does
+-- the gap may be another: `TypedElsewhere` of `woot/Situations`
+abbrev pub TypingAlone : Type 0
+TypingAlone =
+    (s : State) (g n : ℕ) (i : Insert) → sentOperation (localInsert s g n .answer) ≡ some (insert i) →
+    any (names (i .id)) (s .pending) ≡ false → reply (outcome s (inserting g n) .answer) ≡ Done 1 0

@@ -24,7 +24,7 @@ use Rattle.woot.specs.State.{State}
 use Rattle.woot.specs.Placing.{identifiers}
 use Rattle.woot.specs.Answers.{Reply}
 use Rattle.woot.specs.Histories.{Call, run, integratedBy}
-use Rattle.woot.specs.Situations.{Given, calling, carrying, showing, pointing, Seen, calls, operations, bytes, moved, replies, seen, Situation, table, slipCases, answerCases, clockCases, toggleCases, cursorCases, SituationsHold, full, FullTells, LowestShift, CasesTell, LargestTells, RanksTell, CheckingOrder}
+use Rattle.woot.specs.Situations.{Given, calling, carrying, showing, pointing, Seen, calls, operations, bytes, moved, replies, seen, Situation, table, slipCases, answerCases, clockCases, toggleCases, cursorCases, SituationsHold, full, FullTells, LowestShift, TypedElsewhere, CasesTell, LargestTells, RanksTell, CheckingOrder}
 
 -- k at xs, whose cells are computed first
 whole : {A B : Type 0} → List A → (List A → B) → B
@@ -87,9 +87,9 @@ all-computed : (ts : List Situation) → map (λ t. seen (t .given)) ts ≡ map 
 all-computed [] = refl
 all-computed (t ∷ ts) = ap₂ (λ a bs. a ∷ bs) (sym (computed-same (t .given))) (all-computed ts)
 
-all : SituationsHold × CasesTell × LowestShift
+all : SituationsHold × CasesTell × LowestShift × TypedElsewhere
 unfolding table carriedIn slipCases answerCases clockCases toggleCases cursorCases whole settled stepped computed _to_ encodedLength continuation oneByte twoBytes threeBytes fourBytes encode unprintable printed encoded text same below sender character origin isVisible withToggles toggledBy sameInsert sameToggle sameOperation within siteNumber codePoint characterId previousId nextId siteInRange insertInRange toggleInRange inRange characterInRange initial sequence indexOf placeOf held above adjacent candidate candidates narrowed search position between insertAt integrateInsert integrateToggle executable crossed unplaceable integrate pendingFrom earliest andIntegrated andDiscarded drained drainSteps drain presentInserts allInRange sharesKept capacityKept identifiersDistinct togglesDistinct ordered neighboursOrdered noneExecutable clockReaches clockKept ownInsert heard wellFormed reply answerOf unchanged decided allIntegrated withCharacters withPending afterDrain insertCarried duplicate conflicting senderFull documentFull receiveChecks carryOut defer accept receiveWhen receive visibles nextIdentifier generatedInsert beyondVisible identifierTaken insertChecks sendInsert localInsertWhen localInsert togglesOf generatedToggle sendToggle notVisible deleteChecks generatedDelete localDeleteWhen localDelete notHidden exhausted restoreChecks localRestoreWhen localRestore outcome through visibleThrough cursorAfter changes receiveAtChecks receiveAtWhen receiveAt newGap shiftOf shiftAt
-all = (all-computed table ∙ refl, (all-computed slipCases ∙ refl, all-computed answerCases ∙ refl, all-computed clockCases ∙ refl, all-computed toggleCases ∙ refl, all-computed cursorCases ∙ refl), sym (computed-same _) ∙ refl)
+all = (all-computed table ∙ refl, (all-computed slipCases ∙ refl, all-computed answerCases ∙ refl, all-computed clockCases ∙ refl, all-computed toggleCases ∙ refl, all-computed cursorCases ∙ refl), sym (computed-same _) ∙ refl, (refl, refl, refl, refl))
 
 pub situations-hold : SituationsHold
 situations-hold = all .0
@@ -99,6 +99,9 @@ cases-tell = all .1
 
 pub lowest-shift : LowestShift
 lowest-shift = all .2
+
+pub typed-elsewhere : TypedElsewhere
+typed-elsewhere = all .3
 
 pub largest-tells : LargestTells
 unfolding same

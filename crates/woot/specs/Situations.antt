@@ -20,7 +20,7 @@ use Rattle.woot.specs.declared.Answer.the-variants.{Done as answerDone, 
 use Rattle.woot.specs.declared.Sent.{Sent}
 use Rattle.woot.specs.Answers.{number, rank, done, waits, known, refused, Reply, reply, answerOf, Check}
 use Rattle.woot.specs.Calls.{receiveChecks, receiveWhen, insertChecks, localInsertWhen, deleteChecks, restoreChecks}
-use Rattle.woot.specs.Cursor.{receiveAtChecks, receiveAt, shiftAt, lastNumber}
+use Rattle.woot.specs.Cursor.{visibleThrough, receiveAtChecks, receiveAt, shiftAt, lastNumber}
 use Rattle.woot.specs.Histories.{Call, inserting, deleting, restoring, receiving, outcome, run, integratedBy, largestIn}
 use Rattle.woot.specs.Text.{text}
 
@@ -486,6 +486,20 @@ LowestShift = seen (pointing xyz (deleteBy 3 (2 at 1)) 1) ≡ moved (Done 1 0) (
 -- and 513 where one call puts as many rows above it: too many to compute with, so it is proved in `convergence`
 abbrev pub HighestShift : Type 0
 HighestShift = seen (pointing crowded releasing 1) ≡ moved (Done 513 0) (pos 513)
+
+-- the first character typed where the operation waits: the reply, and the gap just below its row
+abbrev pub typedWhere : Operation → Reply × ℕ
+typedWhere o =
+    let r = outcome (stateAt 0 [] (o ∷ [])) (inserting 0 65) in
+    (reply (r .answer), visibleThrough (r .state .characters) (1 at 1))
+
+-- one further than the gap it was typed at, but for what waited for it: it is hidden at once, or a row goes above it
+abbrev pub TypedElsewhere : Type 0
+TypedElsewhere =
+    (typedWhere (deleteBy 2 (4 at 1)) ≡ (Done 1 0, 1))
+    × (typedWhere (insert (put (2 at 1) (1 at 1) end)) ≡ (Done 2 0, 1))
+    × (typedWhere (deleteBy 2 (1 at 1)) ≡ (Done 2 0, 0))
+    × (typedWhere (insert (put (2 at 1) begin (1 at 1))) ≡ (Done 2 0, 2))
 
 -- each case tells the rule from the slip that its comment names
 abbrev pub CasesTell : Type 0
