@@ -40,4 +40,5 @@ pub mod Replies
 pub mod Sending
 pub mod Own
 pub mod Typing
+pub mod Hiding
 pub mod Writing

@@ -114,7 +114,7 @@ close-same : (b : Bool) (c : Character) (cs ds : List Character) → Close (leng
 close-same true c cs ds h = (omega arith, omega arith)
 close-same false c cs ds h = h
 
-map-still : (f : Character → Character) (cs : List Character) → ((c : Character) → List·Memᴰ c cs → f c ≡ c) → map f cs ≡ cs
+pub map-still : (f : Character → Character) (cs : List Character) → ((c : Character) → List·Memᴰ c cs → f c ≡ c) → map f cs ≡ cs
 map-still f [] h = refl
 map-still f (c ∷ cs) h = ap₂ (λ (d : Character) (ds : List Character). d ∷ ds) (h c (List·Memᴰ·head refl)) (map-still f cs (λ d m. h d (List·Memᴰ·tail m)))
 

@@ -53,7 +53,7 @@ map-same f g [] each = refl
 map-same f g (x ∷ xs) each =
     ap₂ (λ y ys. y ∷ ys) (each x (List·Memᴰ·head refl)) (map-same f g xs (λ y m. each y (List·Memᴰ·tail m)))
 
-toggle-raises : (s : State) → wellFormed s ≡ true → (x : Identifier) → integrateToggle (s .characters) (generatedToggle s x) ≡ raisedAt x (s .characters)
+pub toggle-raises : (s : State) → wellFormed s ≡ true → (x : Identifier) → integrateToggle (s .characters) (generatedToggle s x) ≡ raisedAt x (s .characters)
 unfolding integrateToggle generatedToggle toggledBy
 toggle-raises s h x = map-same _ _ (s .characters) (λ c m. go c m (same x (c .id)) refl)
   where

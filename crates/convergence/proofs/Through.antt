@@ -133,7 +133,7 @@ pub through-most : (cs : List Character) (x : Identifier) → visibleThrough cs 
 unfolding through
 through-most cs x = omega (arith, shown-through cs x, shown-visibles cs, shown-most cs (placeOf cs x))
 
-through-more : (cs : List Character) (x y : Identifier) → placeOf cs x ≤ placeOf cs y → visibleThrough cs x ≤ visibleThrough cs y
+pub through-more : (cs : List Character) (x y : Identifier) → placeOf cs x ≤ placeOf cs y → visibleThrough cs x ≤ visibleThrough cs y
 unfolding through
 through-more cs x y h = omega (arith, shown-through cs x, shown-through cs y, shown-more cs (placeOf cs x) (placeOf cs y) h)
 

@@ -1,11 +1,12 @@
 -- Document 02, Req 02: the promises about receiving with a cursor, over any state, operation and gap, each proved in
 -- proofs/ under its name in small letters.
-use Prim.Native.Nat.{ℕ, _+_, _≤_}
+use Prim.Native.Nat.{ℕ, _+_, _-_, _≤_}
 use mathlib.Core.Path.{_≡_}
-use mathlib.Core.Bool.{Bool, true, false, _||_}
+use mathlib.Core.Bool.{Bool, true, false, _||_, cond}
 use mathlib.Core.List.{List, _∷_}
 use mathlib.Core.Logic.{_↔_, _⊎_}
 use mathlib.Core.Option.{some}
+use lib.Dec.{leb}
 use lib.IntN.{ℤ, pos, negsuc, _+ℤ_}
 use lib.Signed.{_≤ℤ_}
 use Rattle.woot.specs.declared.Identifier.{Identifier}
@@ -192,3 +193,16 @@ abbrev pub TypingAlone : Type 0
 TypingAlone =
     (s : State) (g n : ℕ) (i : Insert) → sentOperation (localInsert s g n .answer) ≡ some (insert i) →
     any (names (i .id)) (s .pending) ≡ false → reply (outcome s (inserting g n) .answer) ≡ Done 1 0
+
+-- the character erased at place p moves a cursor one back if the place is at most the cursor, and else not
+abbrev pub ErasingMoves : Type 0
+ErasingMoves =
+    (s : State) (p g : ℕ) (o : Operation) → sentOperation (localDelete s p .answer) ≡ some o →
+    beyondVisible s g ≡ false → newGap s (receiveAt s o g) g ≡ cond (leb p g) (g - 1) g
+
+-- the character restored moves it one further if it stands above the row on the cursor's left, and else not
+abbrev pub RestoringMoves : Type 0
+RestoringMoves =
+    (s : State) (x : Identifier) (g : ℕ) (o : Operation) → sentOperation (localRestore s x .answer) ≡ some o →
+    beyondVisible s g ≡ false →
+    newGap s (receiveAt s o g) g ≡ cond (above (s .characters) x (leftOf (s .characters) g)) (g + 1) g
