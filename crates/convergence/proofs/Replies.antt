@@ -18,7 +18,7 @@ use Rattle.woot.specs.declared.Sent.{Sent}
 use Rattle.woot.specs.declared.Sent.the-variants.{Done as sentDone, Refused as sentRefused}
 use Rattle.woot.specs.State.{State}
 use Rattle.woot.specs.Pending.{executable}
-use Rattle.woot.specs.Answers.{number, Word, done, waits, known, refused, reply, answerOf, sentOperation, Check, first, NoneHolds, decided}
+use Rattle.woot.specs.Answers.{number, highestRefusal, Word, done, waits, known, refused, reply, answerOf, sentOperation, Check, first, NoneHolds, decided}
 use Rattle.woot.specs.Calls.{Outcome, unchanged, carryOut, defer, accept, receiveChecks, receiveWhen, generatedInsert, insertChecks, sendInsert, localInsertWhen, generatedDelete, deleteChecks, sendToggle, localDeleteWhen, generatedToggle, restoreChecks, localRestoreWhen}
 use Rattle.woot.specs.Cursor.{receiveAtChecks, receiveAtWhen}
 use Rattle.lists.proofs.Tests.{some-eq, no-some}
@@ -73,7 +73,7 @@ positive DocumentFull e = omega arith
 positive Output e = omega arith
 
 -- the highest
-pub number-few : (q : Refusal) → number q ≤ 15
+pub number-few : (q : Refusal) → number q ≤ highestRefusal
 number-few Layout = omega arith
 number-few Range = omega arith
 number-few Form = omega arith

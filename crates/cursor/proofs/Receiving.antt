@@ -30,7 +30,7 @@ use Rattle.woot.specs.Table.{keys}
 use Rattle.woot.specs.Memory as memory
 use Rattle.woot.specs.Memory.{identifier, toggleCounts}
 use Rattle.woot.specs.Pending.{executable}
-use Rattle.woot.specs.Answers.{changes, first, decided}
+use Rattle.woot.specs.Answers.{earlier, changes, first, decided}
 use Rattle.woot.specs.Calls.{Outcome, unchanged, duplicate, newChecks, receiveChecks, receiveWhen, carryOut, defer, accept, visibles, beyondVisible}
 use Rattle.woot.specs.Cursor.{leftOf, visibleThrough, cursorAfter, receiveAtChecks, receiveAtWhen, receiveAt, newGap, shiftOf}
 use Rattle.woot.specs.Histories.{receivingAt, outcome}
@@ -57,7 +57,7 @@ use Rattle.replica.proofs.Runs.{formed-within, form-meant, form-stored, meaning
 use Rattle.replica.proofs.Returning.{received-so}
 use Rattle.cursor.specs.declared.Anchor.{Anchor}
 use Rattle.cursor.specs.declared.Judgement.{Judgement}
-use Rattle.cursor.specs.Steps.{anchorOf, before4, answerAt, overruled, JudgedAt}
+use Rattle.cursor.specs.Steps.{anchorOf, answerAt, overruled, JudgedAt}
 use Rattle.replica.proofs.Returning.{alike}
 
 -- ---- the answer
@@ -76,7 +76,7 @@ accept-gives-way s o = go (executable (s .characters) o) o
     go false p = refl
 
 new-give-way : (s : State) (o : Operation) → All GivesWay (newChecks s o)
-unfolding GivesWay answerAt before4
+unfolding GivesWay answerAt earlier
 new-give-way s o = (refl, (refl, (refl, (refl, (refl, tt)))))
 
 later-gives-way : (s : State) (o : Operation) (m : Option Answer) → first (newChecks s o) ≡ m → answerAt true (decided (unchanged s) m (accept s o) .answer) ≡ Refused Position
@@ -94,7 +94,7 @@ answer-within (Refused q) = refl
 -- the gap is looked at where the replica is in form; out of form the answer is 2 or 3, which come before 4
 answered-is : (formed b : Bool) (s : State) (o : Operation) (g : ℕ) → (formed ≡ true → b ≡ beyondVisible s g)
     → answerAt b (receiveWhen formed s o .answer) ≡ receiveAtWhen formed s o g .answer
-unfolding receiveWhen receiveAtWhen receiveChecks receiveAtChecks decided unchanged answerAt before4
+unfolding receiveWhen receiveAtWhen receiveChecks receiveAtChecks decided unchanged answerAt earlier
 answered-is true b s o g e = rw (e refl) (go (not (inRange o)) (duplicate s o) (beyondVisible s g))
   where
     answerOf : Option Answer → Answer

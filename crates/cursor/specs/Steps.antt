@@ -8,11 +8,10 @@ use lib.Dec.{ltb}
 use lib.ListN.{length}
 use Rattle.woot.specs.declared.Character.{Character}
 use Rattle.woot.specs.declared.Operation.{Operation}
-use Rattle.woot.specs.declared.Refusal.{Refusal}
 use Rattle.woot.specs.declared.Refusal.the-variants.{Position}
 use Rattle.woot.specs.declared.Answer.{Answer}
 use Rattle.woot.specs.declared.Answer.the-variants.{Done, Deferred, Duplicate, Refused}
-use Rattle.woot.specs.Answers.{number}
+use Rattle.woot.specs.Answers.{earlier}
 use Rattle.woot.specs.Calls.{visibles}
 use Rattle.woot.specs.Cursor.{leftOf, receiveAtWhen}
 use Rattle.woot.specs.Table.{key}
@@ -27,16 +26,12 @@ use Rattle.cursor.specs.declared.Judgement.{Judgement}
 unfoldable pub anchorOf : List Character → ℕ → Anchor
 anchorOf cs g = record { left = key (leftOf cs g); beyond = ltb (length (visibles cs)) g }
 
--- of a refusal and 4, the one that comes first in receiving
-unfoldable pub before4 : Refusal → Refusal
-before4 q = cond (ltb (number q) 4) q Position
-
--- the answer to receiving once the gap is known to be beyond or not: known, 2 and 3 come before 4, all others after it
+-- the answer to receiving once the gap is known to be beyond or not: known stays, and of a refusal and 4 the earlier one
 unfoldable pub answerAt : Bool → Answer → Answer
 answerAt true (Done n m) = Refused Position
 answerAt true Deferred = Refused Position
 answerAt true Duplicate = Duplicate
-answerAt true (Refused q) = Refused (before4 q)
+answerAt true (Refused q) = Refused (earlier q Position)
 answerAt false (Done n m) = Done n m
 answerAt false Deferred = Deferred
 answerAt false Duplicate = Duplicate

@@ -28,7 +28,7 @@ ghost use Rattle.woot.specs.Replicas.{receivedAt};
 ghost use Rattle.index.specs.Keys.{AllSmall, placeIn};
 ghost use Rattle.replica.specs.Outcomes.{replicaAs};
 ghost use Rattle.cursor.specs.Bits.{shiftBits};
-ghost use Rattle.cursor.specs.Steps.{anchorOf, before4, answerAt, overruled, JudgedAt};
+ghost use Rattle.cursor.specs.Steps.{anchorOf, answerAt, overruled, JudgedAt};
 
 // What a cursor keeps to: the key of the visible character on its left, or of the begin mark. And whether there is such
 // an insertion point at all.
@@ -62,16 +62,6 @@ fn anchored<'a>(ids: &'a [u32], toggles: &'a [u8], n: usize, point: usize) -> An
     }
 }
 
-// Of a refusal that receiving answers and 4, the one that comes first: 2 and 3 do, and every other has a higher number.
-fn before_4(refusal: Refusal) -> Refusal
-    ensures { λ r. ⌜ r ≡ before4 refusal ⌝ }
-{
-    if refusal.number() < 4 {
-        return refusal;
-    }
-    Refusal::Position
-}
-
 // The answer with a cursor, of what is answered without one and of whether the cursor is beyond the visible characters.
 fn answered(answer: Answer, beyond: bool) -> Answer
     ensures { λ r. ⌜ r ≡ answerAt beyond answer ⌝ }
@@ -86,7 +76,7 @@ fn answered(answer: Answer, beyond: bool) -> Answer
         } => Answer::Refused(Refusal::Position),
         Answer::Deferred => Answer::Refused(Refusal::Position),
         Answer::Duplicate => Answer::Duplicate,
-        Answer::Refused(q) => Answer::Refused(before_4(q)),
+        Answer::Refused(q) => Answer::Refused(q.earlier(Refusal::Position)),
     }
 }
 

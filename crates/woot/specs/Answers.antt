@@ -5,6 +5,7 @@ use mathlib.Core.Bool.{Bool, true, false, cond}
 use mathlib.Core.Path.{_≡_}
 use mathlib.Core.List.{List, [], _∷_}
 use mathlib.Core.Option.{Option, none, some}
+use lib.Dec.{leb}
 use Rattle.woot.specs.declared.Operation.{Operation}
 use Rattle.woot.specs.declared.Refusal.{Refusal}
 use Rattle.woot.specs.declared.Refusal.the-variants.{Layout, Range, Form, Unrepresentable, Position, NotHidden, LastToggle, Clock, Taken, Conflict, Crossed, Unplaceable, SenderFull, DocumentFull, Output}
@@ -31,6 +32,10 @@ number SenderFull = 10
 number DocumentFull = 11
 number Output = 12
 
+-- the highest of these numbers
+abbrev pub highestRefusal : ℕ
+highestRefusal = 15
+
 -- the place of a refusal in the checking order: what compares two refusals compares these, since a later number may be
 -- checked earlier; 13 and 14 "come after 4, in that order", and 15 comes "after 3"
 abbrev pub rank : Refusal → ℕ
@@ -49,6 +54,10 @@ rank Unplaceable = 12
 rank SenderFull = 13
 rank DocumentFull = 14
 rank Output = 15
+
+-- of two refusals the one that comes first in the checking order
+unfoldable pub earlier : Refusal → Refusal → Refusal
+earlier p q = cond (leb (rank p) (rank q)) p q
 
 -- the words of document 01's replies
 pub data Word : Type 0 where

@@ -3,7 +3,7 @@
 // `convergence` has the theorems about them.
 ghost use mathlib.Core.Path.{_≡_};
 ghost use Rattle.woot.specs.Operations.{isVisible};
-ghost use Rattle.woot.specs.Answers.{number, changes};
+ghost use Rattle.woot.specs.Answers.{number, rank, earlier, changes};
 ghost use Rattle.woot.specs.State.{initial};
 ghost use Rattle.woot.specs.Memory.{stored};
 
@@ -211,6 +211,39 @@ impl Refusal {
             Refusal::DocumentFull => 11,
             Refusal::Output => 12,
         }
+    }
+
+    // Its place in the checking order.
+    pub fn rank(self) -> u64
+        ensures { λ r. ⌜ r ≡ rank self ⌝ }
+    {
+        match self {
+            Refusal::Layout => 1,
+            Refusal::Range => 2,
+            Refusal::Form => 3,
+            Refusal::Unrepresentable => 4,
+            Refusal::Position => 5,
+            Refusal::NotHidden => 6,
+            Refusal::LastToggle => 7,
+            Refusal::Clock => 8,
+            Refusal::Taken => 9,
+            Refusal::Conflict => 10,
+            Refusal::Crossed => 11,
+            Refusal::Unplaceable => 12,
+            Refusal::SenderFull => 13,
+            Refusal::DocumentFull => 14,
+            Refusal::Output => 15,
+        }
+    }
+
+    // The one of two that comes first in the checking order.
+    pub fn earlier(self, other: Refusal) -> Refusal
+        ensures { λ r. ⌜ r ≡ earlier self other ⌝ }
+    {
+        if self.rank() <= other.rank() {
+            return self;
+        }
+        other
     }
 }
 

@@ -27,7 +27,7 @@ returns-5 : tie.Need-returns-5
 unfolding answerAt
 returns-5 c =
     let a = c .before .before .before .before .before .args in
-    ap Refused (c .before-4 .ensures) ∙ at-beyond (a .beyond) (a .answer) _ (c .before .before .before .before .if1 .left) (c .before .before .answer .given .1)
+    ap Refused (c .earlier .ensures) ∙ at-beyond (a .beyond) (a .answer) _ (c .before .before .before .before .if1 .left) (c .before .before .answer .given .1)
 
 pub answered-spec : {M : Type 1} → statement M
 answered-spec =
