@@ -1,194 +1,166 @@
--- A call on saved bytes: what they say is read back, and the effect is a refusal, known, or the bytes of the state that
--- the rules leave.
-use Prim.Native.Nat.{ℕ, _<_}
-use native.Mathlib.Omega.{arith}
-use mathlib.Core.Path.{_≡_, refl, ap}
-use mathlib.Core.Bool.{Bool, true, false, _||_, cond, false≢true}
+-- A call on saved bytes: turned away, it leaves them; where it makes something, that is the bytes of the state which its
+-- calls of the rules leave.
+use Prim.Native.Nat.{ℕ}
+use mathlib.Core.Path.{_≡_, refl, sym, ap, _∙_}
+use mathlib.Core.Bool.{Bool, true, false, cond, false≢true}
 use mathlib.Core.List.{List, [], _∷_}
-use mathlib.Core.Option.{Option, none, some}
 use borrow.Author.Tests.{ltb-false}
-use lib.Dec.{ltb}
 use lib.ListN.{length, take}
-use Rattle.output.specs.Output.{placed}
-use Rattle.woot.specs.declared.Operation.{Operation}
-use Rattle.woot.specs.declared.Refusal.{Refusal}
-use Rattle.woot.specs.declared.Refusal.the-variants.{Output}
+use Rattle.lists.proofs.Tests.{or-false-left}
 use Rattle.woot.specs.declared.Answer.{Answer}
 use Rattle.woot.specs.declared.Answer.the-variants.{Done, Deferred, Duplicate, Refused}
-use Rattle.woot.specs.declared.Sent.{Sent}
-use Rattle.woot.specs.declared.Sent.the-variants.{Done as sentDone, Refused as sentRefused}
+use Rattle.woot.specs.declared.Refusal.the-variants.{Layout, Output}
+use Rattle.output.specs.Output.{placed}
 use Rattle.woot.specs.State.{State, initial}
 use Rattle.woot.specs.Form.{wellFormed}
-use Rattle.woot.specs.Answers.{reply, changes, answerOf, _⇒_, first, decided}
-use Rattle.woot.specs.Calls.{receive, localInsert, localDelete, localRestore}
-use Rattle.woot.specs.Cursor.{receiveAt, shiftAt}
-use Rattle.woot.specs.Histories.{inserting, deleting, restoring, receiving, receivingAt, outcome}
-use Rattle.woot.specs.Histories.{Call as RuleCall}
+use Rattle.woot.specs.Answers.{Word, done, waits, known, refused, Reply, reply, _⇒_, first, NoneHolds, decided}
+use Rattle.woot.specs.Histories.{inserting, deleting, restoring, receiving, receivingAt, outcome, run, Call as RuleCall}
+use Rattle.convergence.proofs.Kept.{form-kept}
+use Rattle.convergence.proofs.Steps.{Turned}
 use Rattle.replica.proofs.Runs.{formed-within}
 use Rattle.lines.specs.Lines.{closed}
 use Rattle.lines.specs.Fields.{hasLayout}
-use Rattle.cursor.specs.Bits.{shiftBits}
-use Rattle.codec.specs.Operations.{operationLine}
 use Rattle.codec.specs.Calls.{saidBy}
 use Rattle.saved.specs.Format.{isSite, headLine, laidOutAs, savedLaidOut, savedBytes}
-use Rattle.saved.specs.Calls.{loadedState}
 use Rattle.saved.specs.Calls.{loadChecks, unread, loaded}
 use Rattle.saved.proofs.Trips.{saved-loads, saved-reads-back}
-use Rattle.results.specs.Results.{result, silent, inBits, numberOf}
-use Rattle.effects.specs.Effects.{Effect, quiet, turned, writingNoted, writing, writingBoth, afterReceiving, afterReceivingAt, sending, afterSending}
-use Rattle.wimtaze.specs.Calls.{inputChecks, receivingLine, receivingLineAt, insertingHere, deletingHere, named, restoringHere}
-use Rattle.wimtaze.specs.Theorems.{Fits}
-use Rattle.wimtaze.proofs.Fitting.{results-fit}
-use Rattle.consistency.specs.Copies.{BytesCall, load, receiveLine, receiveLineAt, type, erase, restore, bytesCall, asBytes, bytesAfter, wordRead, writtenRead, wordOf, keptBytes, afterLoading, whenDone, byEffect, onBytes, stepOn}
-use Rattle.consistency.proofs.Holding.{Holds, memory, bytes, nothing, Step, left, made, Steps, carries, changed-formed}
+use Rattle.results.specs.Results.{result, silent}
+use Rattle.effects.specs.Effects.{Effect, quiet}
+use Rattle.wimtaze.specs.Calls.{CCall, «wimtaze_empty», «wimtaze_receive», «wimtaze_receive_at», «wimtaze_type», «wimtaze_erase», «wimtaze_restore», «wimtaze_text», «wimtaze_counts», «wimtaze_upgrade», «wimtaze_downgrade», inputChecks, named, ruleChecks, handedChecks, earlierChecks, callChecks, productOf, effectOf}
+use Rattle.wimtaze.proofs.Fitting.{front}
+use Rattle.wimtaze.proofs.Listing.{Earlier, Made, Went, away, lacking, through, went, product-made}
+use Rattle.consistency.specs.Copies.{BytesCall, load, forC, bytesCall, asBytes, bytesAfter, wordOf, keptBytes, afterLoading, whenMade, rulesOf, renews, onBytes, stepOn}
+use Rattle.consistency.proofs.Holding.{Holds, memory, bytes, nothing, Steps, made-none}
 use Rattle.consistency.proofs.Returned.{kept, word-returned, effect-returned}
-use Rattle.wimtaze.proofs.Kept.{front}
 
--- the effect e on the bytes b, as a step by the call c of the rules
-Follows : State → List ℕ → RuleCall → Effect → Type 0
-Follows s b c e = Step s (kept b e) (whenDone (e .result .reply .word) s c)
+-- ---- what is made
 
--- a call that is turned away leaves the bytes
-away : {s : State} {b : List ℕ} → Holds s (asBytes b) → (c : RuleCall) (out line : List ℕ) (q : Refusal) →
-    Follows s b c (turned out line q)
-unfolding Follows turned quiet silent result bytesAfter whenDone reply
-away h c out line q = left h refl
+-- the bytes of the state that the calls of the rules leave
+pub record Ruled (s : State) (c : CCall) : Type 0 where
+  pub output : productOf c (savedBytes s) .output ≡ savedBytes (run s (rulesOf c))
+  pub told : productOf c (savedBytes s) .result .written ≡ length (productOf c (savedBytes s) .output)
+  pub formed : wellFormed (run s (rulesOf c)) ≡ true
 
-handed-away : {s : State} {b : List ℕ} → Holds s (asBytes b) → (c : RuleCall) (out line : List ℕ) →
-    (m : Option Refusal) (e : Effect) → Follows s b c e → Follows s b c (decided (turned out line) m e)
-unfolding decided
-handed-away h c out line none e f = f
-handed-away h c out line (some q) e f = away h c out line q
+ruled : (s : State) → wellFormed s ≡ true → (c : CCall) → renews c ≡ true → Ruled s c
+unfolding productOf rulesOf renews outcome result
+ruled s h («wimtaze_empty» n) k = absurd (false≢true k)
+ruled s h («wimtaze_receive» l) k = record { output = rw (saved-loads s h); told = refl; formed = form-kept s (receiving (saidBy l)) h }
+ruled s h («wimtaze_receive_at» l g) k = record { output = rw (saved-loads s h); told = refl; formed = form-kept s (receivingAt (saidBy l) g) h }
+ruled s h («wimtaze_type» g n) k = record { output = rw (saved-loads s h); told = refl; formed = form-kept s (inserting g n) h }
+ruled s h («wimtaze_erase» p) k = record { output = rw (saved-loads s h); told = refl; formed = form-kept s (deleting p) h }
+ruled s h («wimtaze_restore» n t) k = record { output = rw (saved-loads s h); told = refl; formed = form-kept s (restoring (named n t)) h }
+ruled s h «wimtaze_text» k = absurd (false≢true k)
+ruled s h «wimtaze_counts» k = absurd (false≢true k)
+ruled s h «wimtaze_upgrade» k = absurd (false≢true k)
+ruled s h «wimtaze_downgrade» k = absurd (false≢true k)
 
-module _ (s : State) (h : wellFormed s ≡ true) (c : RuleCall) where
-  -- the bytes of the state that the rules leave
-  abbrev after : List ℕ
-  after = savedBytes (outcome s c .state)
+-- ---- by how the call went
 
-  -- they are written
-  written-step : (a : Answer) → outcome s c .answer ≡ a → changes a ≡ true → (n m : ℕ) (out line : List ℕ) →
-      take n out ≡ after →
-      Follows s (savedBytes s) c (record { result = result a n m; output = out; line = line })
-  unfolding Follows bytesAfter result reply changes
-  written-step (Done i j) e f n m out line t =
-      rw t (made c (bytes (outcome s c .state) (changed-formed s c (ap changes e))) (carries s c (Done i j) e refl))
-  written-step Deferred e f n m out line t =
-      rw t (made c (bytes (outcome s c .state) (changed-formed s c (ap changes e))) (carries s c Deferred e refl))
-  written-step Duplicate e f n m out line t = absurd (false≢true f)
-  written-step (Refused q) e f n m out line t = absurd (false≢true f)
+-- a word that is neither known nor refused: the new bytes are kept, and the calls of the rules made
+made-word : (x : Reply) → Made x → (b new : List ℕ) (rs : List RuleCall) → (bytesAfter (x .word) b new ≡ new) × (whenMade (x .word) rs ≡ rs)
+unfolding bytesAfter whenMade
+made-word x m b new rs = go (x .word) (m .unknown) (m .untold)
+  where
+    go : (w : Word) → (w ≡ known → ⊥) → (w ≡ refused → ⊥) → (bytesAfter w b new ≡ new) × (whenMade w rs ≡ rs)
+    go done k t = (refl, refl)
+    go waits k t = (refl, refl)
+    go known k t = absurd (k refl)
+    go refused k t = absurd (t refl)
 
-  -- into one output, unless it is short
-  writing-step : (a : Answer) → outcome s c .answer ≡ a → changes a ≡ true → (note : ℕ) (out : List ℕ) →
-      Follows s (savedBytes s) c (writingNoted a note after out)
-  unfolding decided
-  writing-step a e f note out = go (ltb (length out) (length after)) refl
-    where
-      go : (b : Bool) → ltb (length out) (length after) ≡ b
-          → Follows s (savedBytes s) c (decided (turned out []) (first ((b ⇒ Output) ∷ [])) (record { result = result a (length after) note; output = placed out 0 after; line = [] }))
-      go true k = away (bytes s h) c out [] Output
-      go false k = written-step a e f (length after) note (placed out 0 after) [] (front out after (ltb-false (length out) (length after) k))
+quiet-word : (a : Answer) → Turned a → (b new : List ℕ) (rs : List RuleCall) →
+    (bytesAfter (reply a .word) b new ≡ b) × (whenMade (reply a .word) rs ≡ [])
+unfolding bytesAfter whenMade reply
+quiet-word Duplicate t b new rs = (refl, refl)
+quiet-word (Refused q) t b new rs = (refl, refl)
 
-  -- into both, unless either is short
-  both-step : (o : Operation) (i j : ℕ) → outcome s c .answer ≡ Done i j → (out line : List ℕ) →
-      Follows s (savedBytes s) c (writingBoth (Done i j) after (operationLine o) out line)
-  unfolding writingBoth decided changes
-  both-step o i j e out line = go (ltb (length out) (length after)) (ltb (length line) (length (operationLine o))) refl
-    where
-      go : (b d : Bool) → ltb (length out) (length after) ≡ b
-          → Follows s (savedBytes s) c (decided (turned out line) (first ((b || d ⇒ Output) ∷ [])) (record { result = result (Done i j) (length after) (length (operationLine o)); output = placed out 0 after; line = placed line 0 (operationLine o) }))
-      go true d k = away (bytes s h) c out line Output
-      go false true k = away (bytes s h) c out line Output
-      go false false k = written-step (Done i j) e refl (length after) (length (operationLine o)) (placed out 0 after) (placed line 0 (operationLine o)) (front out after (ltb-false (length out) (length after) k))
+-- a call that does not renew the copy makes no call of the rules
+no-rules : (c : CCall) → renews c ≡ false → rulesOf c ≡ []
+unfolding renews rulesOf
+no-rules («wimtaze_empty» n) k = refl
+no-rules («wimtaze_receive» l) k = absurd (false≢true (sym k))
+no-rules («wimtaze_receive_at» l g) k = absurd (false≢true (sym k))
+no-rules («wimtaze_type» g n) k = absurd (false≢true (sym k))
+no-rules («wimtaze_erase» p) k = absurd (false≢true (sym k))
+no-rules («wimtaze_restore» n t) k = absurd (false≢true (sym k))
+no-rules «wimtaze_text» k = refl
+no-rules «wimtaze_counts» k = refl
+no-rules «wimtaze_upgrade» k = refl
+no-rules «wimtaze_downgrade» k = refl
 
-  -- receiving, with a cursor or without: known and refused write nothing
-  received-step : (a : Answer) → outcome s c .answer ≡ a → (note : ℕ) (out : List ℕ) →
-      Follows s (savedBytes s) c (cond (changes a) (writingNoted a note after out) (quiet out [] a))
-  unfolding Follows changes quiet bytesAfter silent result reply whenDone
-  received-step (Done n m) e note out = writing-step (Done n m) e refl note out
-  received-step Deferred e note out = writing-step Deferred e refl note out
-  received-step Duplicate e note out = left (bytes s h) refl
-  received-step (Refused q) e note out = left (bytes s h) refl
-
-  sent-step : (a : Sent) → outcome s c .answer ≡ answerOf a → (out line : List ℕ) →
-      Follows s (savedBytes s) c (sending (outcome s c .state) a out line)
-  unfolding sending answerOf
-  sent-step (sentDone o i j) e out line = both-step o i j e out line
-  sent-step (sentRefused q) e out line = away (bytes s h) c out line q
-
--- ---- the calls
+-- refused, there are no bytes still
+refused-holds : (c : CCall) (out line : List ℕ) →
+    Holds (run (initial 0) (whenMade (quiet out line (Refused Layout) .result .reply .word) (rulesOf c))) (asBytes (kept [] (quiet out line (Refused Layout))))
+unfolding quiet silent result reply whenMade bytesAfter
+refused-holds c out line = nothing
 
 module _ (s : State) (h : wellFormed s ≡ true) where
-  receive-step : (line out : List ℕ) →
-      Follows s (savedBytes s) (receiving (saidBy line)) (receivingLine (savedBytes s) line out)
-  unfolding receivingLine afterReceiving writing outcome
-  receive-step line out =
-      handed-away (bytes s h) _ out [] _ _ (rw (saved-loads s h) (received-step s h (receiving (saidBy line)) (receive s (saidBy line) .answer) refl 0 out))
+  went-step : (c : CCall) {out line : List ℕ} {e : Effect} → renews c ≡ true → Went c (savedBytes s) out line e →
+      Holds (run s (whenMade (e .result .reply .word) (rulesOf c))) (asBytes (kept (savedBytes s) e))
+  unfolding quiet silent result
+  went-step c {out} {line} k (away a t r) =
+      let q = quiet-word a (t .turned) (savedBytes s) (take 0 out) (rulesOf c) in rw (q .0, q .1) (bytes s h)
+  went-step c {out} {line} k (lacking w f) =
+      let q = quiet-word (Refused Output) tt (savedBytes s) (take 0 out) (rulesOf c) in rw (q .0, q .1) (bytes s h)
+  went-step c {out} {line} k (through w f) =
+      let p = productOf c (savedBytes s) in
+      let v = ruled s h c k in
+      let room = ltb-false (length out) (length (p .output)) (or-false-left _ _ f) in
+      let m = made-word (p .result .reply) (product-made c (savedBytes s) w) (savedBytes s) (take (p .result .written) (placed out 0 (p .output))) (rulesOf c) in
+      rw (m .0, m .1, v .told, front out (p .output) room, v .output) (bytes (run s (rulesOf c)) (v .formed))
 
-  receive-at-step : (line : List ℕ) (g : ℕ) (out : List ℕ) →
-      Follows s (savedBytes s) (receivingAt (saidBy line) g) (receivingLineAt (savedBytes s) line g out)
-  unfolding receivingLineAt afterReceivingAt outcome
-  receive-at-step line g out =
-      handed-away (bytes s h) _ out [] _ _ (rw (saved-loads s h) (received-step s h (receivingAt (saidBy line) g) (receiveAt s (saidBy line) g .answer) refl (shiftBits (shiftAt s (saidBy line) g)) out))
+  c-step : (c : CCall) (out line : List ℕ) → Steps s (asBytes (savedBytes s)) (bytesCall (forC c out line))
+  unfolding stepOn onBytes
+  c-step c out line =
+      let b : List ℕ = savedBytes s in
+      rw (effect-returned c b out line b, word-returned c b out line) (go (renews c) refl)
+    where
+      e : Effect
+      e = effectOf c (savedBytes s) out line
 
-  type-step : (g n : ℕ) (out line : List ℕ) →
-      Follows s (savedBytes s) (inserting g n) (insertingHere (savedBytes s) g n out line)
-  unfolding insertingHere afterSending outcome
-  type-step g n out line =
-      handed-away (bytes s h) _ out line _ _ (rw (saved-loads s h) (sent-step s h (inserting g n) (localInsert s g n .answer) refl out line))
-
-  erase-step : (p : ℕ) (out line : List ℕ) → Follows s (savedBytes s) (deleting p) (deletingHere (savedBytes s) p out line)
-  unfolding deletingHere afterSending outcome
-  erase-step p out line =
-      handed-away (bytes s h) _ out line _ _ (rw (saved-loads s h) (sent-step s h (deleting p) (localDelete s p .answer) refl out line))
-
-  restore-step : (n t : ℕ) (out line : List ℕ) →
-      Follows s (savedBytes s) (restoring (named n t)) (restoringHere (savedBytes s) n t out line)
-  unfolding restoringHere afterSending outcome
-  restore-step n t out line =
-      handed-away (bytes s h) _ out line _ _ (rw (saved-loads s h) (sent-step s h (restoring (named n t)) (localRestore s (named n t) .answer) refl out line))
+      go : (r : Bool) → renews c ≡ r → Holds (run s (whenMade (e .result .reply .word) (rulesOf c))) (asBytes (cond r (kept (savedBytes s) e) (savedBytes s)))
+      go true k = went-step c k (went c (savedBytes s) out line)
+      go false k = rw (no-rules c k, made-none (e .result .reply .word)) (bytes s h)
 
   load-step : Steps s (asBytes (savedBytes s)) (bytesCall load)
   unfolding stepOn onBytes afterLoading
   load-step =
       let d = saved-reads-back s h in
-      rw (d .0, d .1) (left (memory s (formed-within s h)) refl)
-
-  -- the effect as it is read off the returned number
-  read : {m k : ℕ} (e : Effect) → Fits m k (e .result) → m < 65536 → k < 65536 → (c : RuleCall) →
-      Follows s (savedBytes s) c e → Step s (keptBytes (savedBytes s) e) (whenDone (wordOf e) (loadedState (savedBytes s)) c)
-  unfolding Follows
-  read e f hm hk c t = rw (saved-loads s h, effect-returned e f hm hk (savedBytes s), word-returned e f hm hk) t
+      rw (d .0, d .1) (memory s (formed-within s h))
 
   pub bytes-step : (c : BytesCall) → Steps s (asBytes (savedBytes s)) (bytesCall c)
-  unfolding stepOn onBytes byEffect Follows
   bytes-step load = load-step
-  bytes-step (receiveLine line out) =
-      let b = savedBytes s in
-      read (receivingLine b line out) (results-fit .1 b line out) (omega arith) (omega arith) _ (receive-step line out)
-  bytes-step (receiveLineAt line g out) =
-      let b = savedBytes s in
-      read (receivingLineAt b line g out) (results-fit .6 b line g out) (omega arith) (omega arith) _ (receive-at-step line g out)
-  bytes-step (type g n out line) =
-      let b = savedBytes s in
-      read (insertingHere b g n out line) (results-fit .2 b g n out line) (omega arith) (omega arith) _ (type-step g n out line)
-  bytes-step (erase p out line) =
-      let b = savedBytes s in
-      read (deletingHere b p out line) (results-fit .3 b p out line) (omega arith) (omega arith) _ (erase-step p out line)
-  bytes-step (restore n t out line) =
-      let b = savedBytes s in
-      read (restoringHere b n t out line) (results-fit .4 b n t out line) (omega arith) (omega arith) _ (restore-step n t out line)
+  bytes-step (forC c out line) = c-step c out line
 
--- no bytes lack the layout, whatever else is handed
+-- ---- no bytes
+
+-- they lack the layout, whatever else is handed
 pub no-bytes : savedLaidOut [] ≡ false
 unfolding laidOutAs closed headLine isSite hasLayout
 no-bytes = refl
 
+no-bytes-refused : (c : CCall) → renews c ≡ true → (out line : List ℕ) → effectOf c [] out line ≡ quiet out line (Refused Layout)
+unfolding renews effectOf callChecks handedChecks inputChecks decided
+no-bytes-refused («wimtaze_empty» n) k out line = absurd (false≢true k)
+no-bytes-refused («wimtaze_receive» l) k out line = rw no-bytes
+no-bytes-refused («wimtaze_receive_at» l g) k out line = rw no-bytes
+no-bytes-refused («wimtaze_type» g n) k out line = rw no-bytes
+no-bytes-refused («wimtaze_erase» p) k out line = rw no-bytes
+no-bytes-refused («wimtaze_restore» n t) k out line = rw no-bytes
+no-bytes-refused «wimtaze_text» k out line = absurd (false≢true k)
+no-bytes-refused «wimtaze_counts» k out line = absurd (false≢true k)
+no-bytes-refused «wimtaze_upgrade» k out line = absurd (false≢true k)
+no-bytes-refused «wimtaze_downgrade» k out line = absurd (false≢true k)
+
+nothing-c : (c : CCall) (out line : List ℕ) → Steps (initial 0) (asBytes []) (bytesCall (forC c out line))
+unfolding stepOn onBytes
+nothing-c c out line = rw (effect-returned c [] out line [], word-returned c [] out line) (go (renews c) refl)
+  where
+    go : (r : Bool) → renews c ≡ r →
+        Holds (run (initial 0) (whenMade (effectOf c [] out line .result .reply .word) (rulesOf c))) (asBytes (cond r (kept [] (effectOf c [] out line)) []))
+    go true k = rw (no-bytes-refused c k out line) (refused-holds c out line)
+    go false k = rw (no-rules c k, made-none (effectOf c [] out line .result .reply .word)) nothing
+
 pub nothing-step : (c : BytesCall) → Steps (initial 0) (asBytes []) (bytesCall c)
-unfolding stepOn onBytes byEffect afterLoading loaded loadChecks unread receivingLine receivingLineAt insertingHere deletingHere restoringHere inputChecks decided
-    turned quiet silent result keptBytes wordOf wordRead writtenRead numberOf inBits bytesAfter reply whenDone
-nothing-step load = rw no-bytes (left nothing refl)
-nothing-step (receiveLine line out) = rw no-bytes (left nothing refl)
-nothing-step (receiveLineAt line g out) = rw no-bytes (left nothing refl)
-nothing-step (type g n out line) = rw no-bytes (left nothing refl)
-nothing-step (erase p out line) = rw no-bytes (left nothing refl)
-nothing-step (restore n t out line) = rw no-bytes (left nothing refl)
+unfolding stepOn onBytes afterLoading loaded loadChecks unread decided
+nothing-step load = rw no-bytes nothing
+nothing-step (forC c out line) = nothing-c c out line

@@ -1,22 +1,26 @@
--- The calls of the rules that the calls on a copy make, gathered one by one, lead to the state that the copy holds; so
+-- The calls of the rules that the calls on a copy make, one after another, lead to the state that the copy holds; so
 -- demand 3 of the rules is demand 3 of copies.
 use Prim.Native.Nat.{ℕ}
 use native.Mathlib.Omega.{arith}
 use mathlib.Core.Path.{_≡_, refl, sym, ap, ap₂, _∙_}
-use mathlib.Core.Bool.{Bool, true, false, false≢true}
+use mathlib.Core.Bool.{true, false, false≢true}
 use mathlib.Core.Logic.{_⊎_, inl, inr, ⊎-elim}
-use mathlib.Core.List.{List, [], _∷_, _++_}
-use borrow.Author.Tests.{ltb-false}
-use lib.Dec.{ltb}
+use mathlib.Core.List.{List, [], _∷_, _++_, append-assoc}
+use borrow.Author.Tests.{ltb-false, not-false}
 use lib.ListN.{length}
+use Rattle.lists.proofs.Tests.{or-false-left}
+use Rattle.woot.specs.declared.Answer.{Answer}
+use Rattle.woot.specs.declared.Answer.the-variants.{Done, Deferred, Duplicate, Refused}
+use Rattle.woot.specs.declared.Operation.{Operation}
 use Rattle.woot.specs.Ranges.{siteNumber}
 use Rattle.woot.specs.State.{State, initial}
-use Rattle.woot.specs.Answers.{reply, decided}
+use Rattle.woot.specs.Form.{wellFormed}
+use Rattle.woot.specs.Answers.{Word, done, waits, known, refused, reply}
+use Rattle.woot.specs.Calls.{allIntegrated}
 use Rattle.woot.specs.Text.{text}
-use Rattle.woot.specs.Histories.{empty, outcome, run, integratedBy, Call as RuleCall}
+use Rattle.woot.specs.Histories.{startOf, beforehand, outcome, run, integratedBy, Call as RuleCall}
 use Rattle.convergence.proofs.Forms.{empty-formed}
 use Rattle.convergence.proofs.Convergence.{convergence}
-use Rattle.woot.specs.Form.{wellFormed}
 use Rattle.lines.specs.Lines.{rest}
 use Rattle.saved.specs.declared.Version.the-variants.{First, Second}
 use Rattle.saved.specs.Format.{siteLine, savedLaidOut, savedBytes}
@@ -26,85 +30,99 @@ use Rattle.saved.proofs.Sizes.{saved-length}
 use Rattle.saved.proofs.Trips.{loaded-again, unraised-again, unraised, second-says}
 use Rattle.replica.proofs.Runs.{initial-within}
 use Rattle.results.specs.Results.{result, silent}
-use Rattle.effects.specs.Effects.{quiet, turned, writing}
-use Rattle.wimtaze.specs.Calls.{beginning, upgrading, downgrading}
-use Rattle.wimtaze.specs.Theorems.{bytesWritten}
-use Rattle.wimtaze.proofs.Fitting.{results-fit}
-use Rattle.consistency.specs.Copies.{Copy, asBytes, Call, memoryCall, bytesCall, bytesAfter, stepOn, ran, carriedBy, Empty, emptyReplica, emptyBytes, begun, charactersOf, textOf}
+use Rattle.effects.specs.Effects.{Effect, quiet}
+use Rattle.wimtaze.specs.Calls.{«wimtaze_empty», handedChecks, productOf, effectOf}
+use Rattle.wimtaze.specs.Theorems.{bytesWritten, convertedFrom}
+use Rattle.wimtaze.proofs.Fitting.{front}
+use Rattle.wimtaze.proofs.Listing.{Went, away, lacking, through, went}
+use Rattle.wimtaze.proofs.Trips.{from-done, trips-return}
+use Rattle.consistency.specs.Copies.{Copy, asBytes, Call, memoryCall, bytesCall, bytesAfter, wordOf, stepOn, ran, rulesBy, carriedBy, Empty, emptyReplica, emptyBytes, begun, begunAs, beginningOf, charactersOf, textOf}
 use Rattle.consistency.specs.Theorems.{CopiesFollow, TripsKeep, CopiesConverge}
-use Rattle.consistency.proofs.Holding.{Holds, memory, bytes, nothing, left, made, Steps, says}
-use Rattle.consistency.proofs.Returned.{kept, effect-returned}
-use Rattle.wimtaze.proofs.Kept.{front, converted-done, trips-return}
+use Rattle.consistency.proofs.Holding.{Holds, memory, bytes, nothing, Steps, says, works}
+use Rattle.consistency.proofs.Returned.{kept, word-returned, effect-returned}
 use Rattle.consistency.proofs.Memory.{memory-step}
 use Rattle.consistency.proofs.Bytes.{no-bytes, bytes-step, nothing-step}
 
--- ---- lists of calls
+-- ---- one call after another
 
 step : {s : State} {p : Copy} → Holds s p → (c : Call) → Steps s p c
 unfolding stepOn
 step (memory s w) (memoryCall c) = memory-step s w c
-step (memory s w) (bytesCall c) = left (memory s w) refl
-step (bytes s h) (memoryCall c) = left (bytes s h) refl
+step (memory s w) (bytesCall c) = memory s w
+step (bytes s h) (memoryCall c) = bytes s h
 step (bytes s h) (bytesCall c) = bytes-step s h c
-step nothing (memoryCall c) = left nothing refl
+step nothing (memoryCall c) = nothing
 step nothing (bytesCall c) = nothing-step c
 
--- calls of the rules that lead to what the copy holds and carry out what was carried out on it
-record Made (s : State) (p : Copy) (cs : List Call) : Type 0 where
-  calls : List RuleCall
-  holds : Holds (run s calls) (ran p cs)
-  carries : carriedBy p cs ≡ integratedBy s calls
+run-on : (s : State) (xs ys : List RuleCall) → run s (xs ++ ys) ≡ run (run s xs) ys
+run-on s [] ys = refl
+run-on s (x ∷ xs) ys = run-on (outcome s x .state) xs ys
 
-gathered : {s : State} {p : Copy} (c : Call) (cs : List Call) → Steps s p c →
-    ((t : State) → Holds t (stepOn p c .copy) → Made t (stepOn p c .copy) cs) → Made s p (c ∷ cs)
-gathered {s} {p} c cs (left h e) others =
-    let m = others s h in
-    record { calls = m .calls; holds = m .holds; carries = ap₂ _++_ e (m .carries) }
-gathered {s} {p} c cs (made r h e) others =
-    let m = others (outcome s r .state) h in
-    record { calls = r ∷ m .calls; holds = m .holds; carries = ap₂ _++_ e (m .carries) }
+integrated-on : (s : State) (xs ys : List RuleCall) → integratedBy s (xs ++ ys) ≡ integratedBy s xs ++ integratedBy (run s xs) ys
+integrated-on s [] ys = refl
+integrated-on s (x ∷ xs) ys =
+    ap (_++_ (allIntegrated (outcome s x))) (integrated-on (outcome s x .state) xs ys)
+    ∙ sym (append-assoc (allIntegrated (outcome s x)) (integratedBy (outcome s x .state) xs) (integratedBy (run s (x ∷ xs)) ys))
 
-follow : {s : State} {p : Copy} → Holds s p → (cs : List Call) → Made s p cs
-follow h [] = record { calls = []; holds = h; carries = refl }
-follow h (c ∷ cs) = gathered c cs (step h c) (λ t k. follow k cs)
+pub follow-holds : {s : State} {p : Copy} → Holds s p → (cs : List Call) → Holds (run s (rulesBy p cs)) (ran p cs)
+follow-holds h [] = h
+follow-holds {s} {p} h (c ∷ cs) = rw (run-on s (stepOn p c .rules) (rulesBy (stepOn p c .copy) cs)) (follow-holds (step h c) cs)
+
+follow-carries : {s : State} {p : Copy} → Holds s p → (cs : List Call) → carriedBy p cs ≡ integratedBy s (rulesBy p cs)
+follow-carries h [] = refl
+follow-carries {s} {p} h (c ∷ cs) =
+    ap₂ _++_ (ap (λ (t : State). integratedBy t (stepOn p c .rules)) (works h)) (follow-carries (step h c) cs)
+    ∙ sym (integrated-on s (stepOn p c .rules) (rulesBy (stepOn p c .copy) cs))
 
 -- ---- from the empty copies
 
 -- no bytes where beginning a copy is refused
-kept-begun : (n : ℕ) (out : List ℕ) → (k : ℕ) × Holds (initial k) (kept [] (beginning n out))
-unfolding beginning decided turned quiet writing silent result bytesAfter reply
-kept-begun n out = go (siteNumber n) refl (ltb (length out) (length (savedBytes (initial n)))) refl
+went-begun : (n : ℕ) {out : List ℕ} {e : Effect} → Went («wimtaze_empty» n) [] out [] e →
+    Holds (startOf (begunAs (e .result .reply .word) n)) (asBytes (kept [] e))
+unfolding quiet silent result reply bytesAfter productOf handedChecks
+went-begun n (away (Done i j) t r) = absurd (t .turned)
+went-begun n (away Deferred t r) = absurd (t .turned)
+went-begun n (away Duplicate t r) = nothing
+went-begun n (away (Refused q) t r) = nothing
+went-begun n (lacking w f) = nothing
+went-begun n {out} (through w f) =
+    let b : List ℕ = savedBytes (initial n) in
+    rw (front out b (ltb-false (length out) (length b) (or-false-left _ _ f))) (bytes (initial n) (empty-formed n ∙ not-false (siteNumber n) (w .0)))
+
+holds-begun : (a : Empty) → Holds (startOf (beginningOf a)) (begun a)
+unfolding begun beginningOf
+holds-begun (emptyReplica n) = memory (initial n) (initial-within n)
+holds-begun (emptyBytes n out) =
+    rw (effect-returned («wimtaze_empty» n) [] out [] [], word-returned («wimtaze_empty» n) [] out [])
+    (went-begun n (went («wimtaze_empty» n) [] out []))
+
+-- nothing was carried out to make them
+empty-before : (a : Empty) → beforehand (beginningOf a) ≡ []
+unfolding beginningOf
+empty-before (emptyReplica n) = refl
+empty-before (emptyBytes n out) = go (wordOf (effectOf («wimtaze_empty» n) [] out []))
   where
-    go : (b : Bool) → siteNumber n ≡ b → (d : Bool) → ltb (length out) (length (savedBytes (initial n))) ≡ d → (k : ℕ) × Holds (initial k) (kept [] (beginning n out))
-    go false e d k = rw e (0, nothing)
-    go true e true k = rw (e, k) (0, nothing)
-    go true e false k =
-        let whole = front out (savedBytes (initial n)) (ltb-false (length out) (length (savedBytes (initial n))) k) in
-        rw (e, k, whole) (n, bytes (initial n) (empty-formed n ∙ e))
-
-bytes-begun : (n : ℕ) (out : List ℕ) → (k : ℕ) × Holds (initial k) (begun (emptyBytes n out))
-unfolding begun
-bytes-begun n out = rw (effect-returned (beginning n out) (results-fit .0 n out) (omega arith) (omega arith) []) (kept-begun n out)
-
-holds-begun : (a : Empty) → (n : ℕ) × Holds (initial n) (begun a)
-unfolding begun
-holds-begun (emptyReplica n) = (n, memory (initial n) (initial-within n))
-holds-begun (emptyBytes n out) = bytes-begun n out
+    go : (w : Word) → beforehand (begunAs w n) ≡ []
+    go done = refl
+    go waits = refl
+    go known = refl
+    go refused = refl
 
 pub copies-follow : CopiesFollow
 copies-follow a cs =
-    let b = holds-begun a in
-    let m = follow (b .1) cs in
-    (empty (b .0), m .calls, says (m .holds), m .carries)
+    record {
+      says = says (follow-holds (holds-begun a) cs);
+      carries = follow-carries (holds-begun a) cs ∙ ap (λ (os : List Operation). os ++ integratedBy (startOf (beginningOf a)) (rulesBy (begun a) cs)) (sym (empty-before a));
+    }
 
 pub copies-converge : CopiesConverge
 unfolding charactersOf textOf
 copies-converge a b cs ds inserted toggled =
     let f = copies-follow a cs in
     let g = copies-follow b ds in
-    let same = convergence (f .0) (g .0) (f .1) (g .1) (rw (f .3, g .3) at inserted) (rw (f .3, g .3) at toggled) .0 in
-    let e = ap (λ (s : State). s .characters) (f .2) ∙ same ∙ sym (ap (λ (s : State). s .characters) (g .2)) in
-    (e, ap text e)
+    let same = convergence (beginningOf a) (beginningOf b) (rulesBy (begun a) cs) (rulesBy (begun b) ds) (rw (f .carries, g .carries) at inserted) (rw (f .carries, g .carries) at toggled) .0 in
+    let e = ap (λ (s : State). s .characters) (f .says) ∙ same ∙ sym (ap (λ (s : State). s .characters) (g .says)) in
+    record { characters = e; text = ap text e }
 
 -- ---- both trips of a copy
 
@@ -116,17 +134,17 @@ as-saved nothing b e = let same : [] ≡ b = cc in inl (sym same)
 
 pub trips-keep : TripsKeep
 trips-keep a cs b out back e d room =
-    let m = follow (holds-begun a .1) cs in
-    ⊎-elim (λ n. absurd (no-trip n)) (returned (run (initial (holds-begun a .0)) (m .calls))) (as-saved (m .holds) b e)
+    let s : State = run (startOf (beginningOf a)) (rulesBy (begun a) cs) in
+    ⊎-elim (λ n. absurd (no-trip n)) (returned s) (as-saved (follow-holds (holds-begun a) cs) b e)
   where
     there : Converts Second First b
-    there = converted-done Second First b out d .0
+    there = from-done Second b out d .0
 
     no-trip : b ≡ [] → ⊥
     no-trip n = false≢true (sym (ap savedLaidOut n ∙ no-bytes) ∙ there .0)
 
-    returned : (s : State) → (wellFormed s ≡ true) × (b ≡ savedBytes s) → bytesWritten (upgrading (bytesWritten (downgrading b out)) back) ≡ b
+    returned : (s : State) → (wellFormed s ≡ true) × (b ≡ savedBytes s) → bytesWritten (convertedFrom First (bytesWritten (convertedFrom Second b out)) back) ≡ b
     returned s w =
         let still : raisingAs Second b ≡ false = ap (raisingAs Second) (w .1) ∙ unraised Second s (w .0) (second-says s) in
         let same : siteLine Second (loadedAs Second b .site) ++ rest b ≡ b = sym (loaded-again Second b (there .0)) ∙ unraised-again Second b (there .0) still in
-        trips-return .1 b out back d (omega (arith, ap length same, ap length (w .1), saved-length s (w .0))) .4 still
+        trips-return Second b out back d (omega (arith, ap length same, ap length (w .1), saved-length s (w .0))) .same-bytes still

@@ -1,28 +1,26 @@
--- A copy holds a state of the rules, as it is stored or as it is saved, and says that state; a call on the copy makes
--- one call of the rules, or leaves the state and carries nothing out.
-use native.Mathlib.Omega.{arith}
-use mathlib.Core.Path.{_≡_, refl, sym, ap, _∙_}
+-- A copy holds a state of the rules, as it is stored or as it is saved, and says that state; a call on the copy leaves
+-- one that holds what the rules make of it.
+use mathlib.Core.Path.{_≡_, refl}
 use mathlib.Core.Bool.{true, false≢true}
 use mathlib.Core.List.{List, []}
-use lib.ListN.{length, drop-of-length-le}
-use Rattle.woot.specs.declared.Operation.{Operation}
 use Rattle.woot.specs.declared.Answer.{Answer}
 use Rattle.woot.specs.declared.Answer.the-variants.{Done, Deferred, Duplicate, Refused}
 use Rattle.woot.specs.State.{State, initial}
 use Rattle.woot.specs.Memory.{stored}
-use Rattle.woot.specs.Form.{wellFormed}
-use Rattle.woot.specs.Answers.{changes, reply}
-use Rattle.woot.specs.Calls.{Outcome, unchanged, allIntegrated}
-use Rattle.woot.specs.Histories.{outcome, Call as RuleCall}
+use Rattle.woot.specs.Form.{presentInserts, wellFormed, raised}
+use Rattle.woot.specs.Answers.{Word, done, waits, known, refused, changes, reply}
+use Rattle.woot.specs.Calls.{Outcome, unchanged}
+use Rattle.woot.specs.Histories.{outcome, run, Call as RuleCall}
 use Rattle.convergence.proofs.Forms.{reformed}
 use Rattle.convergence.proofs.Steps.{turned, adds, raises, defers, step, Step as RuleStep}
-use Rattle.convergence.proofs.Kept.{form-kept, counts-true}
+use Rattle.convergence.proofs.Kept.{form-kept}
 use Rattle.lines.specs.Fields.{valuesOf}
 use Rattle.replica.proofs.Runs.{Within, meaning-stored}
 use Rattle.saved.specs.Format.{siteOf, siteSaid, headLine, characterLines, operationLines, stateAs, savedBytes}
+use Rattle.saved.specs.Calls.{loadedAs}
 use Rattle.saved.specs.declared.Version.the-variants.{Second}
-use Rattle.saved.proofs.Trips.{says-back, second-says}
-use Rattle.consistency.specs.Copies.{Copy, inMemory, asBytes, Call, stateOf, whenDone, stepOn}
+use Rattle.saved.proofs.Trips.{says-back, second-says, saved-loads}
+use Rattle.consistency.specs.Copies.{Copy, inMemory, asBytes, Call, stateOf, worksOn, whenMade, stepOn}
 
 -- the copy holds the state: in memory, saved, or as no bytes, where `wimtaze_empty` refused to begin one
 pub data Holds : State → Copy → Type 0 where
@@ -30,14 +28,9 @@ pub data Holds : State → Copy → Type 0 where
   bytes : (s : State) → wellFormed s ≡ true → Holds s (asBytes (savedBytes s))
   nothing : Holds (initial 0) (asBytes [])
 
--- what a call on a copy that holds s leaves, and the operations that it carried out
-pub data Step (s : State) (p : Copy) (os : List Operation) : Type 0 where
-  left : Holds s p → os ≡ [] → Step s p os
-  made : (c : RuleCall) → Holds (outcome s c .state) p → os ≡ allIntegrated (outcome s c) → Step s p os
-
--- a call on a copy that holds s
+-- a call on a copy that holds s leaves one that holds what the calls of the rules make of s which it made
 abbrev pub Steps : State → Copy → Call → Type 0
-Steps s p c = Step s (stepOn p c .copy) (stepOn p c .carried)
+Steps s p c = Holds (run s (stepOn p c .rules)) (stepOn p c .copy)
 
 pub says : {s : State} {p : Copy} → Holds s p → stateOf p ≡ s
 unfolding stateOf initial stateAs siteSaid siteOf valuesOf headLine characterLines operationLines
@@ -45,22 +38,30 @@ says (memory s w) = meaning-stored s w
 says (bytes s h) = says-back Second s h (second-says s)
 says nothing = refl
 
+-- a call works with the state that the copy holds
+pub works : {s : State} {p : Copy} → Holds s p → worksOn p ≡ s
+unfolding worksOn loadedAs raised initial presentInserts stateAs siteSaid siteOf valuesOf headLine characterLines operationLines
+works (memory s w) = meaning-stored s w
+works (bytes s h) = saved-loads s h
+works nothing = refl
+
 -- ---- what an answer tells of the call
 
--- an operation that waits is not carried out, and the counts say so
-waits-carries : (s : State) (c : RuleCall) → outcome s c .answer ≡ Deferred → allIntegrated (outcome s c) ≡ []
-unfolding reply
-waits-carries s c e =
-    let counted : 0 ≡ length (allIntegrated (outcome s c)) = sym (ap (λ a. reply a .integrated) e) ∙ counts-true s c .0 in
-    drop-of-length-le (allIntegrated (outcome s c)) {i = 0} (omega arith)
+-- the calls of the rules that a call with an answer made
+pub made-changed : (a : Answer) (rs : List RuleCall) → changes a ≡ true → whenMade (reply a .word) rs ≡ rs
+unfolding changes whenMade reply
+made-changed (Done n m) rs h = refl
+made-changed Deferred rs h = refl
+made-changed Duplicate rs h = absurd (false≢true h)
+made-changed (Refused q) rs h = absurd (false≢true h)
 
-pub carries : (s : State) (c : RuleCall) (a : Answer) → outcome s c .answer ≡ a → changes a ≡ true →
-    whenDone (reply a .word) s c ≡ allIntegrated (outcome s c)
-unfolding changes whenDone reply
-carries s c (Done n m) e h = refl
-carries s c Deferred e h = sym (waits-carries s c e)
-carries s c Duplicate e h = absurd (false≢true h)
-carries s c (Refused q) e h = absurd (false≢true h)
+-- none, whatever the word, where there are none to make
+pub made-none : (w : Word) → whenMade w [] ≡ []
+unfolding whenMade
+made-none done = refl
+made-none waits = refl
+made-none known = refl
+made-none refused = refl
 
 -- only a state in form is changed
 changes-formed : (s : State) {r : Outcome Answer} → RuleStep s r → changes (r .answer) ≡ true → wellFormed s ≡ true

@@ -1,3 +1,4 @@
+pub mod Examples
 pub mod Holding
 pub mod Returned
 pub mod Saving

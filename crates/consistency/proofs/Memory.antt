@@ -3,7 +3,7 @@
 use Prim.Native.Nat.{ℕ}
 use mathlib.Core.Path.{_≡_, refl, ap, _∙_}
 use mathlib.Core.Bool.{Bool, true, false}
-use mathlib.Core.List.{List}
+use mathlib.Core.List.{List, [], _∷_}
 use Rattle.woot.specs.declared.Identifier.{Identifier}
 use Rattle.woot.specs.declared.Operation.{Operation}
 use Rattle.woot.specs.declared.Replica.{Replica}
@@ -17,7 +17,7 @@ use Rattle.woot.specs.Memory.{stored}
 use Rattle.woot.specs.Answers.{reply, changes, answerOf}
 use Rattle.woot.specs.Calls.{receive, localInsert, localDelete, localRestore}
 use Rattle.woot.specs.Cursor.{receiveAt}
-use Rattle.woot.specs.Histories.{inserting, deleting, restoring, receiving, receivingAt, outcome, Call as RuleCall}
+use Rattle.woot.specs.Histories.{inserting, deleting, restoring, receiving, receivingAt, outcome, run, Call as RuleCall}
 use Rattle.woot.specs.Replicas.{afterAnswer, afterSent, receipt, moved, generated, received, receivedAt, inserted, deleted, restored}
 use Rattle.replica.specs.Theorems.{called, answerTo}
 use Rattle.replica.proofs.Runs.{Within, formed-within, meaning-stored, form-stored}
@@ -26,8 +26,8 @@ use Rattle.lent.proofs.Sites.{lent-follows}
 use Rattle.codec.specs.Calls.{laidOut, saidBy, readOperation}
 use Rattle.codec.proofs.Judging.{read-layout, read-range, read-operation}
 use Rattle.transcript.specs.Calls.{answeredAs, answered}
-use Rattle.consistency.specs.Copies.{MemoryCall, onReplica, onRecord, onLine, save, memoryCall, inMemory, afterRecord, afterSaving, whenDone, onMemory, stepOn}
-use Rattle.consistency.proofs.Holding.{memory, bytes, Step, left, made, Steps, carries, changed-formed}
+use Rattle.consistency.specs.Copies.{MemoryCall, onReplica, onRecord, onLine, save, memoryCall, inMemory, afterRecord, afterSaving, whenMade, onMemory, stepOn}
+use Rattle.consistency.proofs.Holding.{Holds, memory, bytes, Steps, changed-formed}
 use Rattle.consistency.proofs.Saving.{Saving, fits, refuses, saving}
 
 -- ---- the calls on what stores a state
@@ -87,22 +87,20 @@ module _ (s : State) (w : Within s) where
       (ap (λ x. x .replica) e, ap (λ x. x .answer) e)
 
   answered-step : (c : RuleCall) (a : Answer) → outcome s c .answer ≡ a →
-      Step s (inMemory (afterAnswer (stored s) (outcome s c .state) a)) (whenDone (reply a .word) s c)
-  unfolding afterAnswer changes whenDone reply
+      Holds (run s (whenMade (reply a .word) (c ∷ []))) (inMemory (afterAnswer (stored s) (outcome s c .state) a))
+  unfolding afterAnswer changes whenMade reply
   answered-step c (Done n m) e =
-      let f = changed-formed s c (ap changes e) in
-      made c (memory (outcome s c .state) (formed-within (outcome s c .state) f)) (carries s c (Done n m) e refl)
+      let f = changed-formed s c (ap changes e) in memory (outcome s c .state) (formed-within (outcome s c .state) f)
   answered-step c Deferred e =
-      let f = changed-formed s c (ap changes e) in
-      made c (memory (outcome s c .state) (formed-within (outcome s c .state) f)) (carries s c Deferred e refl)
-  answered-step c Duplicate e = left (memory s w) refl
-  answered-step c (Refused q) e = left (memory s w) refl
+      let f = changed-formed s c (ap changes e) in memory (outcome s c .state) (formed-within (outcome s c .state) f)
+  answered-step c Duplicate e = memory s w
+  answered-step c (Refused q) e = memory s w
 
   replica-step : (c : RuleCall) → Steps s (inMemory (stored s)) (memoryCall (onReplica c))
   unfolding stepOn onMemory
   replica-step c =
       let d = called-stored c in
-      rw (d .0, d .1, meaning-stored s w) (answered-step c (outcome s c .answer) refl)
+      rw (d .0, d .1) (answered-step c (outcome s c .answer) refl)
 
   -- the lent record and the document together are what the call returns
   record-step : (g n : ℕ) → Steps s (inMemory (stored s)) (memoryCall (onRecord g n))
@@ -112,12 +110,12 @@ module _ (s : State) (w : Within s) where
 
   -- a line that is not read is refused
   line-step : (l : List ℕ) → Steps s (inMemory (stored s)) (memoryCall (onLine l))
-  unfolding stepOn onMemory answered answeredAs readOperation whenDone reply called answerTo
+  unfolding stepOn onMemory answered answeredAs readOperation whenMade reply called answerTo
   line-step l = go (laidOut l) refl (inRange (saidBy l)) refl
     where
       go : (a : Bool) → laidOut l ≡ a → (b : Bool) → inRange (saidBy l) ≡ b → Steps s (inMemory (stored s)) (memoryCall (onLine l))
-      go false e b f = rw (e, read-layout (saidBy l)) (left (memory s w) refl)
-      go true e false f = rw (e, read-range (saidBy l) f) (left (memory s w) refl)
+      go false e b f = rw (e, read-layout (saidBy l)) (memory s w)
+      go true e false f = rw (e, read-range (saidBy l) f) (memory s w)
       go true e true f = rw (e, read-operation (saidBy l) f) (replica-step (receiving (saidBy l)))
 
   save-step : (out : List ℕ) → Steps s (inMemory (stored s)) (memoryCall (save out))
@@ -125,8 +123,8 @@ module _ (s : State) (w : Within s) where
   save-step out = go (saving s w out)
     where
       go : Saving s out → Steps s (inMemory (stored s)) (memoryCall (save out))
-      go (fits f e t) = rw (e, t) (left (bytes s f) refl)
-      go (refuses e) = rw e (left (memory s w) refl)
+      go (fits f e t) = rw (e, t) (bytes s f)
+      go (refuses e) = rw e (memory s w)
 
   pub memory-step : (c : MemoryCall) → Steps s (inMemory (stored s)) (memoryCall c)
   memory-step (onReplica c) = replica-step c

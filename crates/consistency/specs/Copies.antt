@@ -1,6 +1,7 @@
--- A copy of the document as a program holds it, in memory or saved as bytes, and every kind of call that may change it.
+-- A copy of the document as a program holds it, in memory or saved as bytes, and every kind of call that may change it:
+-- the copy that the next call gets, and the calls of the rules that were made on it.
 use Prim.Native.Nat.{ℕ, _/_, _%_, _^_}
-use mathlib.Core.Bool.{cond}
+use mathlib.Core.Bool.{Bool, true, false, cond}
 use mathlib.Core.List.{List, [], _∷_, _++_}
 use lib.Dec.{eqb}
 use lib.ListN.{take}
@@ -12,9 +13,8 @@ use Rattle.woot.specs.declared.Written.the-variants.{Length, Refused as written
 use Rattle.woot.specs.State.{State, initial}
 use Rattle.woot.specs.Memory.{meaning, stored}
 use Rattle.woot.specs.Answers.{Word, done, waits, known, refused, reply, answerOf}
-use Rattle.woot.specs.Calls.{allIntegrated}
 use Rattle.woot.specs.Text.{text}
-use Rattle.woot.specs.Histories.{inserting, deleting, restoring, receiving, receivingAt, outcome, Call as RuleCall}
+use Rattle.woot.specs.Histories.{inserting, deleting, restoring, receiving, receivingAt, integratedBy, Begun, empty, Call as RuleCall}
 use Rattle.replica.specs.Theorems.{called, answerTo}
 use Rattle.lent.specs.declared.Returned.{Returned}
 use Rattle.lent.specs.Lent.{together, returned, siteAfter}
@@ -26,7 +26,7 @@ use Rattle.saved.specs.Format.{savedState}
 use Rattle.saved.specs.Calls.{loadedState, loaded, saved, savedOut}
 use Rattle.results.specs.Results.{numberOf}
 use Rattle.effects.specs.Effects.{Effect}
-use Rattle.wimtaze.specs.Calls.{beginning, receivingLine, receivingLineAt, insertingHere, deletingHere, named, restoringHere}
+use Rattle.wimtaze.specs.Calls.{CCall, «wimtaze_empty», «wimtaze_receive», «wimtaze_receive_at», «wimtaze_type», «wimtaze_erase», «wimtaze_restore», «wimtaze_text», «wimtaze_counts», «wimtaze_upgrade», «wimtaze_downgrade», named, effectOf}
 
 -- a replica in memory, or the bytes of a saved one
 pub data Copy : Type 0 where
@@ -48,26 +48,18 @@ pub data MemoryCall : Type 0 where
 pub data BytesCall : Type 0 where
   -- `loading::load`
   load : BytesCall
-  -- `wimtaze_receive`: a line; the output
-  receiveLine : List ℕ → List ℕ → BytesCall
-  -- `wimtaze_receive_at`: a line, a gap; the output
-  receiveLineAt : List ℕ → ℕ → List ℕ → BytesCall
-  -- `wimtaze_type`: a gap, a code point; both outputs
-  type : ℕ → ℕ → List ℕ → List ℕ → BytesCall
-  -- `wimtaze_erase`: a place; both outputs
-  erase : ℕ → List ℕ → List ℕ → BytesCall
-  -- `wimtaze_restore`: the two numbers of an identifier; both outputs
-  restore : ℕ → ℕ → List ℕ → List ℕ → BytesCall
+  -- a call for C, with whatever its two outputs hold before it
+  forC : CCall → List ℕ → List ℕ → BytesCall
 
 -- every kind of call
 pub data Call : Type 0 where
   memoryCall : MemoryCall → Call
   bytesCall : BytesCall → Call
 
--- what a call comes to: the copy that the next call gets, and the operations that this one carried out
+-- what a call comes to: the copy that the next call gets, and the calls of the rules that it made
 pub record Stepped : Type 0 where
   pub copy : Copy
-  pub carried : List Operation
+  pub rules : List RuleCall
 
 -- ---- what a call leaves
 
@@ -89,9 +81,9 @@ writtenRead r = r / 2 ^ 32 % 65536
 unfoldable pub wordOf : Effect → Word
 wordOf e = wordRead (numberOf (e .result))
 
--- the bytes that a C program keeps
-unfoldable pub keptBytes : List ℕ → Effect → Copy
-keptBytes bytes e = asBytes (bytesAfter (wordOf e) bytes (take (writtenRead (numberOf (e .result))) (e .output)))
+-- the bytes that a C program has then
+unfoldable pub keptBytes : List ℕ → Effect → List ℕ
+keptBytes bytes e = bytesAfter (wordOf e) bytes (take (writtenRead (numberOf (e .result))) (e .output))
 
 -- inserting on the lent record: the record as it is left, and the document that came back
 unfoldable pub afterRecord : Replica → Returned → Replica
@@ -106,55 +98,81 @@ unfoldable pub afterLoading : List ℕ → Replica → LoadAnswer → Copy
 afterLoading bytes r loadDone = inMemory r
 afterLoading bytes r (loadRefused q) = asBytes bytes
 
--- what a copy says
+-- what a copy says, and what a call on it works with: of saved bytes the state that loading makes of them
 unfoldable pub stateOf : Copy → State
 stateOf (inMemory r) = meaning r
 stateOf (asBytes b) = savedState b
 
--- the operations that the call of the rules carries out, its own and those it drains, where the reply was done
-unfoldable pub whenDone : Word → State → RuleCall → List Operation
-whenDone done s c = allIntegrated (outcome s c)
-whenDone waits s c = []
-whenDone known s c = []
-whenDone refused s c = []
+unfoldable pub worksOn : Copy → State
+worksOn (inMemory r) = meaning r
+worksOn (asBytes b) = loadedState b
+
+-- ---- the calls of the rules
+
+-- they are made where the reply is done or waits; a call that is known or refused makes none
+unfoldable pub whenMade : Word → List RuleCall → List RuleCall
+whenMade done rs = rs
+whenMade waits rs = rs
+whenMade known rs = []
+whenMade refused rs = []
+
+-- the calls of the rules that a call for C makes
+unfoldable pub rulesOf : CCall → List RuleCall
+rulesOf («wimtaze_empty» n) = []
+rulesOf («wimtaze_receive» line) = receiving (saidBy line) ∷ []
+rulesOf («wimtaze_receive_at» line gap) = receivingAt (saidBy line) gap ∷ []
+rulesOf («wimtaze_type» gap n) = inserting gap n ∷ []
+rulesOf («wimtaze_erase» place) = deleting place ∷ []
+rulesOf («wimtaze_restore» site clock) = restoring (named site clock) ∷ []
+rulesOf «wimtaze_text» = []
+rulesOf «wimtaze_counts» = []
+rulesOf «wimtaze_upgrade» = []
+rulesOf «wimtaze_downgrade» = []
+
+-- whether its first output is the copy as the call leaves it
+unfoldable pub renews : CCall → Bool
+renews («wimtaze_empty» n) = false
+renews («wimtaze_receive» line) = true
+renews («wimtaze_receive_at» line gap) = true
+renews («wimtaze_type» gap n) = true
+renews («wimtaze_erase» place) = true
+renews («wimtaze_restore» site clock) = true
+renews «wimtaze_text» = false
+renews «wimtaze_counts» = false
+renews «wimtaze_upgrade» = false
+renews «wimtaze_downgrade» = false
 
 -- ---- one step
 
 -- on a replica in memory
 unfoldable pub onMemory : Replica → MemoryCall → Stepped
 onMemory r (onReplica c) =
-    record { copy = inMemory (called r c); carried = whenDone (reply (answerTo r c) .word) (meaning r) c }
+    record { copy = inMemory (called r c); rules = whenMade (reply (answerTo r c) .word) (c ∷ []) }
 onMemory r (onRecord g n) =
     let x : Returned = returned (r .site) (r .document) g n in
     record {
       copy = inMemory (afterRecord r x);
-      carried = whenDone (reply (answerOf (x .answer)) .word) (meaning r) (inserting g n);
+      rules = whenMade (reply (answerOf (x .answer)) .word) (inserting g n ∷ []);
     }
 onMemory r (onLine s) =
     record {
       copy = inMemory (answered r s .replica);
-      carried = whenDone (reply (answered r s .answer) .word) (meaning r) (receiving (saidBy s));
+      rules = whenMade (reply (answered r s .answer) .word) (receiving (saidBy s) ∷ []);
     }
-onMemory r (save out) = record { copy = afterSaving r (savedOut r out) (saved r out); carried = [] }
-
--- a C call on bytes, which makes the call of the rules on the state that loading makes of them
-unfoldable pub byEffect : List ℕ → Effect → RuleCall → Stepped
-byEffect b e c = record { copy = keptBytes b e; carried = whenDone (wordOf e) (loadedState b) c }
+onMemory r (save out) = record { copy = afterSaving r (savedOut r out) (saved r out); rules = [] }
 
 -- on saved bytes
 unfoldable pub onBytes : List ℕ → BytesCall → Stepped
-onBytes b load = record { copy = afterLoading b (loaded b .replica) (loaded b .answer); carried = [] }
-onBytes b (receiveLine line out) = byEffect b (receivingLine b line out) (receiving (saidBy line))
-onBytes b (receiveLineAt line g out) = byEffect b (receivingLineAt b line g out) (receivingAt (saidBy line) g)
-onBytes b (type g n out line) = byEffect b (insertingHere b g n out line) (inserting g n)
-onBytes b (erase p out line) = byEffect b (deletingHere b p out line) (deleting p)
-onBytes b (restore n t out line) = byEffect b (restoringHere b n t out line) (restoring (named n t))
+onBytes b load = record { copy = afterLoading b (loaded b .replica) (loaded b .answer); rules = [] }
+onBytes b (forC c out line) =
+    let e : Effect = effectOf c b out line in
+    record { copy = asBytes (cond (renews c) (keptBytes b e) b); rules = whenMade (wordOf e) (rulesOf c) }
 
 -- a call that takes the other kind of copy is not made on it
 unfoldable pub stepOn : Copy → Call → Stepped
 stepOn (inMemory r) (memoryCall c) = onMemory r c
-stepOn (inMemory r) (bytesCall c) = record { copy = inMemory r; carried = [] }
-stepOn (asBytes b) (memoryCall c) = record { copy = asBytes b; carried = [] }
+stepOn (inMemory r) (bytesCall c) = record { copy = inMemory r; rules = [] }
+stepOn (asBytes b) (memoryCall c) = record { copy = asBytes b; rules = [] }
 stepOn (asBytes b) (bytesCall c) = onBytes b c
 
 -- ---- lists of calls
@@ -164,10 +182,15 @@ abbrev pub ran : Copy → List Call → Copy
 ran p [] = p
 ran p (c ∷ cs) = ran (stepOn p c .copy) cs
 
--- the operations carried out over the calls, in order
+-- the calls of the rules that were made over them, in order
+abbrev pub rulesBy : Copy → List Call → List RuleCall
+rulesBy p [] = []
+rulesBy p (c ∷ cs) = stepOn p c .rules ++ rulesBy (stepOn p c .copy) cs
+
+-- the operations carried out over them, in order: what the rules carried out, each call on what the copy was then
 abbrev pub carriedBy : Copy → List Call → List Operation
 carriedBy p [] = []
-carriedBy p (c ∷ cs) = stepOn p c .carried ++ carriedBy (stepOn p c .copy) cs
+carriedBy p (c ∷ cs) = integratedBy (worksOn p) (stepOn p c .rules) ++ carriedBy (stepOn p c .copy) cs
 
 -- an empty copy of any number: `Replica::empty`, or what `wimtaze_empty` writes into a lent slice, no bytes if it
 -- refuses
@@ -177,7 +200,18 @@ pub data Empty : Type 0 where
 
 unfoldable pub begun : Empty → Copy
 begun (emptyReplica n) = inMemory (stored (initial n))
-begun (emptyBytes n out) = keptBytes [] (beginning n out)
+begun (emptyBytes n out) = asBytes (keptBytes [] (effectOf («wimtaze_empty» n) [] out []))
+
+-- what the rules begin with: the empty state of that number, or of number 0, which no site has, where there are no bytes
+abbrev pub begunAs : Word → ℕ → Begun
+begunAs done n = empty n
+begunAs waits n = empty 0
+begunAs known n = empty 0
+begunAs refused n = empty 0
+
+unfoldable pub beginningOf : Empty → Begun
+beginningOf (emptyReplica n) = empty n
+beginningOf (emptyBytes n out) = begunAs (wordOf (effectOf («wimtaze_empty» n) [] out [])) n
 
 -- the characters of a copy, and the bytes of its visible text
 unfoldable pub charactersOf : Copy → List Character

@@ -4,26 +4,33 @@ use mathlib.Core.Path.{_≡_}
 use mathlib.Core.List.{List}
 use lib.ListN.{length}
 use Rattle.woot.specs.Answers.{done}
-use Rattle.woot.specs.Histories.{Begun, startOf, run, historyOf, SameInserted, SameToggled, Call as RuleCall}
+use Rattle.woot.specs.Histories.{startOf, run, historyOf, SameInserted, SameToggled}
+use Rattle.saved.specs.declared.Version.the-variants.{First, Second}
 use Rattle.saved.specs.Theorems.{savedMost}
-use Rattle.wimtaze.specs.Calls.{upgrading, downgrading}
-use Rattle.wimtaze.specs.Theorems.{bytesWritten}
-use Rattle.consistency.specs.Copies.{asBytes, Call, Empty, begun, ran, carriedBy, stateOf, charactersOf, textOf}
+use Rattle.wimtaze.specs.Theorems.{bytesWritten, convertedFrom}
+use Rattle.consistency.specs.Copies.{asBytes, Call, Empty, begun, beginningOf, ran, rulesBy, carriedBy, stateOf, charactersOf, textOf}
 
--- a copy begun empty says at every moment what the rules leave after some calls, which carried out the same operations
+-- a copy begun empty says at every moment what the calls of the rules leave that were made by the calls on it, and what
+-- they carried out was carried out on it
+pub record Follows (a : Empty) (cs : List Call) : Type 0 where
+  pub says : stateOf (ran (begun a) cs) ≡ run (startOf (beginningOf a)) (rulesBy (begun a) cs)
+  pub carries : carriedBy (begun a) cs ≡ historyOf (beginningOf a) (rulesBy (begun a) cs)
+
 abbrev pub CopiesFollow : Type 0
-CopiesFollow =
-    (a : Empty) (cs : List Call) →
-    (b : Begun) × (rs : List RuleCall) × (stateOf (ran (begun a) cs) ≡ run (startOf b) rs)
-    × (carriedBy (begun a) cs ≡ historyOf b rs)
+CopiesFollow = (a : Empty) (cs : List Call) → Follows a cs
 
 -- document 02, Req 06: a saved copy begun empty that goes back to the first form and forward again is the one that it
 -- was, so that a list of calls may go on with it
 abbrev pub TripsKeep : Type 0
 TripsKeep =
     (a : Empty) (cs : List Call) (bytes out back : List ℕ) → ran (begun a) cs ≡ asBytes bytes →
-    downgrading bytes out .result .reply .word ≡ done → savedMost ≤ length back →
-    bytesWritten (upgrading (bytesWritten (downgrading bytes out)) back) ≡ bytes
+    convertedFrom Second bytes out .result .reply .word ≡ done → savedMost ≤ length back →
+    bytesWritten (convertedFrom First (bytesWritten (convertedFrom Second bytes out)) back) ≡ bytes
+
+-- equal rows and equal visible texts
+pub record SameCopies (a b : Empty) (cs ds : List Call) : Type 0 where
+  pub characters : charactersOf (ran (begun a) cs) ≡ charactersOf (ran (begun b) ds)
+  pub text : textOf (ran (begun a) cs) ≡ textOf (ran (begun b) ds)
 
 -- demand 3, read with Req 05 of document 02: the same inserts carried out and for each "the same largest turn carried
 -- out" give equal characters and equal visible bytes
@@ -31,6 +38,4 @@ abbrev pub CopiesConverge : Type 0
 CopiesConverge =
     (a b : Empty) (cs ds : List Call) →
     SameInserted (carriedBy (begun a) cs) (carriedBy (begun b) ds) →
-    SameToggled (carriedBy (begun a) cs) (carriedBy (begun b) ds) →
-    (charactersOf (ran (begun a) cs) ≡ charactersOf (ran (begun b) ds))
-    × (textOf (ran (begun a) cs) ≡ textOf (ran (begun b) ds))
+    SameToggled (carriedBy (begun a) cs) (carriedBy (begun b) ds) → SameCopies a b cs ds

@@ -42,8 +42,8 @@ use Rattle.saved.specs.Conversion.{conversion, conversionRefusals, conversionCh
 use Rattle.convergence.proofs.Kept.{form-kept}
 use Rattle.effects.specs.Effects.{Effect, quiet, turned, writing, writingBoth, sending, afterSending, writingNoted, afterReceivingAt}
 use Rattle.results.specs.Results.{silent, result}
-use Rattle.wimtaze.specs.Calls.{inputChecks, counting, converting}
-use Rattle.wimtaze.specs.Theorems.{TripsTell}
+use Rattle.wimtaze.specs.Calls.{inputChecks}
+use Rattle.wimtaze.specs.Steps.{counting, converting}
 use Rattle.wimtaze.proofs.Refusals.{Reads, formLeft}
 use Rattle.effects.proofs.Outputs.{checked-written}
 use Rattle.effects.specs.Steps.{afterNoting, afterWriting, sentLeft, generatedLeft, textLeft, movedLeft}
@@ -214,9 +214,12 @@ pub conversion-bridge : (v w : Version) (bytes out : List ℕ)
 unfolding converting converted convertedOut conversionChecks
 conversion-bridge v w bytes out = checked-written (conversionRefusals v w bytes) (conversion v w bytes) out
 
-pub trips-tell : TripsTell
+pub converting-tells : (v w : Version) (bytes out : List ℕ) →
+    (converting v w bytes out .result .reply .refusal ≡ writtenNumber (converted v w bytes out))
+    × (converting v w bytes out .result .written ≡ writtenLength (converted v w bytes out))
+    × (converting v w bytes out .output ≡ convertedOut v w bytes out)
 unfolding afterWriting afterNoting silent result reply writtenNumber writtenLength
-trips-tell v w bytes out = rw (conversion-bridge v w bytes out) (go (converted v w bytes out))
+converting-tells v w bytes out = rw (conversion-bridge v w bytes out) (go (converted v w bytes out))
   where
     go : (x : Written)
         → (afterWriting (Done 0 0) x .reply .refusal ≡ writtenNumber x) × (afterWriting (Done 0 0) x .written ≡ writtenLength x) × (convertedOut v w bytes out ≡ convertedOut v w bytes out)

@@ -10,7 +10,7 @@ use Rattle.woot.specs.declared.Operation.{Operation}
 use Rattle.woot.specs.declared.Refusal.{Refusal}
 use Rattle.woot.specs.declared.Replica.{Replica}
 use Rattle.woot.specs.declared.Refusal.the-variants.{Layout, Range, Form}
-use Rattle.woot.specs.Answers.{_⇒_, first, decided}
+use Rattle.woot.specs.Answers.{earlier, _⇒_, first, decided}
 use Rattle.woot.specs.Ranges.{inRange}
 use Rattle.woot.specs.Form.{wellFormed}
 use Rattle.woot.specs.State.{State}
@@ -27,7 +27,7 @@ use Rattle.saved.specs.Format.{savedLaidOut, savedInRange, savedState}
 use Rattle.saved.specs.Calls.{loadedState, unread, held, readingChecks, savedRead}
 use Rattle.loading.proofs.Forming.{both, form-is, means-so}
 use Rattle.wimtaze.specs.Calls.{inputChecks, oneLine}
-use Rattle.wimtaze.specs.Inputs.{layoutFirst, firstOf}
+use Rattle.wimtaze.specs.Inputs.{firstOf}
 
 -- ---- over the tests alone
 
@@ -46,13 +46,13 @@ alone true false c s q h = cc
 alone false b c s q h = cc
 
 ranged : (a b c : Bool) (s : State) → refusing (a && true) (b && false) c ≡ some (firstOf (answering a b s .answer) Range)
-unfolding decided unread firstOf layoutFirst
+unfolding decided unread firstOf earlier
 ranged true true c s = refl
 ranged true false c s = refl
 ranged false b c s = refl
 
 laid-out : (a b c d : Bool) (s : State) → refusing (a && false) (b && d) c ≡ some (firstOf (answering a b s .answer) Layout)
-unfolding decided unread firstOf layoutFirst
+unfolding decided unread firstOf earlier
 laid-out true true c d s = refl
 laid-out true false c d s = refl
 laid-out false b c d s = refl

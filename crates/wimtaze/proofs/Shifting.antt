@@ -2,29 +2,25 @@
 use Prim.Native.Nat.{ℕ, _≤_}
 use native.Mathlib.Omega.{arith}
 use mathlib.Core.Path.{_≡_, refl, sym, ap, _∙_}
-use mathlib.Core.Bool.{Bool, true, false, cond, false≢true}
-use mathlib.Core.List.{List, [], _∷_}
-use mathlib.Core.Option.{Option, none, some}
-use lib.Dec.{ltb}
+use mathlib.Core.Bool.{Bool, true, false, false≢true}
+use mathlib.Core.List.{List, []}
 use lib.IntN.{pos, negsuc}
 use lib.ListN.{length}
 use lib.Signed.{_≤ℤ_}
-use borrow.Author.Tests.{ltb-false, not-false}
-use Rattle.output.specs.Output.{placed}
+use borrow.Author.Tests.{ltb-false}
+use Rattle.lists.proofs.Tests.{or-false-left}
 use Rattle.woot.specs.declared.Operation.{Operation}
-use Rattle.woot.specs.declared.Refusal.{Refusal}
-use Rattle.woot.specs.declared.Refusal.the-variants.{Output}
 use Rattle.woot.specs.declared.Answer.{Answer}
 use Rattle.woot.specs.declared.Answer.the-variants.{Done, Deferred, Duplicate, Refused}
+use Rattle.woot.specs.declared.Refusal.the-variants.{Output}
 use Rattle.woot.specs.State.{State}
 use Rattle.woot.specs.Form.{wellFormed}
-use Rattle.woot.specs.Ranges.{inRange}
-use Rattle.woot.specs.Answers.{Word, done, waits, known, refused, reply, changes, _⇒_, first, decided}
+use Rattle.woot.specs.Answers.{Word, done, waits, known, refused, reply, changes, NoneHolds}
 use Rattle.woot.specs.Calls.{Outcome, receive}
 use Rattle.woot.specs.Cursor.{cursorAfter, receiveAt, newGap, shiftAt, movedBy}
 use Rattle.woot.specs.Histories.{receivingAt, outcome}
 use Rattle.convergence.proofs.Kept.{form-kept}
-use Rattle.convergence.proofs.Steps.{first-none}
+use Rattle.convergence.proofs.Steps.{Turned}
 use Rattle.convergence.proofs.Cursors.{shift-bounds, shift-still, moved-to-new-gap, top-stays}
 use Rattle.cursor.specs.Bits.{shiftBits, shiftRead}
 use Rattle.cursor.proofs.Moving.{small-back}
@@ -33,104 +29,37 @@ use Rattle.saved.specs.Format.{savedBytes}
 use Rattle.saved.specs.Calls.{loadedState}
 use Rattle.saved.proofs.Trips.{saved-loads}
 use Rattle.results.specs.Results.{wordNumber, result, silent}
-use Rattle.effects.specs.Effects.{Effect, quiet, turned, writingNoted, writing, afterReceiving, afterReceivingAt}
-use Rattle.wimtaze.specs.Calls.{inputChecks, oneLine, receivingLine, receivingLineAt}
-use Rattle.wimtaze.specs.Theorems.{bytesWritten, shiftGiven, ShiftReadsBack, ReturnedShiftBounds, CursorReturned, TopReceives}
-use Rattle.wimtaze.proofs.Fitting.{results-fit}
-use Rattle.wimtaze.proofs.Kept.{front}
-use Rattle.wimtaze.proofs.Parts.{returned-reads-back}
+use Rattle.effects.specs.Effects.{Effect, quiet, writing, afterReceiving, afterReceivingAt}
+use Rattle.wimtaze.specs.Calls.{«wimtaze_receive_at», earlierChecks, productOf}
+use Rattle.wimtaze.specs.Steps.{receivingLine, receivingLineAt}
+use Rattle.wimtaze.specs.Theorems.{bytesWritten, shiftGiven, shiftReturned, receivedAtBy, ShiftReadsBack, ShiftWithin, ReturnedShiftBounds, CursorReturned, TopReceives}
+use Rattle.wimtaze.proofs.Listing.{Went, away, lacking, through, went, receive-at-taken}
+use Rattle.wimtaze.proofs.Fitting.{front, returned-reads-back}
+use Rattle.wimtaze.proofs.Bodies.{accept-changes, receive-body, receive-at-body}
 
 pub top-receives : TopReceives
 unfolding receivingLine receivingLineAt afterReceiving afterReceivingAt writing receive receiveAt shiftAt shiftBits
 top-receives bytes line out =
     let t = top-stays (wellFormed (loadedState bytes)) (loadedState bytes) (saidBy line) in
-    rw (t .1, t .0)
+    receive-at-body bytes out line 0 ∙ rw (t .1, t .0) refl ∙ sym (receive-body bytes out line)
 
 -- what the bits of an effect say is the shift that goes with its word
 Tells : State → Operation → ℕ → Effect → Type 0
 Tells s o g e = shiftRead (e .result .line) ≡ shiftGiven s o g (e .result .reply .word)
 
 module _ (s : State) (o : Operation) (g : ℕ) where
-  turned-tells : (out line : List ℕ) (q : Refusal) → Tells s o g (turned out line q)
-  unfolding Tells turned quiet silent result reply shiftRead
-  turned-tells out line q = refl
+  quiet-tells : (out line : List ℕ) (a : Answer) → Turned a → Tells s o g (quiet out line a)
+  unfolding Tells quiet silent result reply shiftRead
+  quiet-tells out line Duplicate t = refl
+  quiet-tells out line (Refused q) t = refl
 
-  written-tells : (a : Answer) → receiveAt s o g .answer ≡ a → changes a ≡ true → (n : ℕ) (out : List ℕ) → Tells s o g (record { result = result a n (shiftBits (shiftAt s o g)); output = out; line = [] })
+  made-tells : (a : Answer) → receiveAt s o g .answer ≡ a → changes a ≡ true → (n : ℕ) (out line : List ℕ) →
+      Tells s o g (record { result = result a n (shiftBits (shiftAt s o g)); output = out; line = line })
   unfolding Tells result reply changes
-  written-tells (Done i j) e f n out = small-back (shiftAt s o g) (shift-bounds s o g .0) (shift-bounds s o g .1)
-  written-tells Deferred e f n out = small-back (shiftAt s o g) (shift-bounds s o g .0) (shift-bounds s o g .1) ∙ shift-still .1 s o g e
-  written-tells Duplicate e f n out = absurd (false≢true f)
-  written-tells (Refused q) e f n out = absurd (false≢true f)
-
-  noted-tells : (a : Answer) → receiveAt s o g .answer ≡ a → changes a ≡ true → (bytes out : List ℕ) → Tells s o g (writingNoted a (shiftBits (shiftAt s o g)) bytes out)
-  unfolding decided
-  noted-tells a e f bytes out = go (ltb (length out) (length bytes))
-    where
-      go : (b : Bool) → Tells s o g (decided (turned out []) (first ((b ⇒ Output) ∷ [])) (record { result = result a (length bytes) (shiftBits (shiftAt s o g)); output = placed out 0 bytes; line = [] }))
-      go true = turned-tells out [] Output
-      go false = written-tells a e f (length bytes) (placed out 0 bytes)
-
-  received-tells : (a : Answer) → receiveAt s o g .answer ≡ a → (bytes out : List ℕ) → Tells s o g (cond (changes a) (writingNoted a (shiftBits (shiftAt s o g)) bytes out) (quiet out [] a))
-  unfolding Tells changes quiet silent result reply shiftRead
-  received-tells (Done i j) e bytes out = noted-tells (Done i j) e refl bytes out
-  received-tells Deferred e bytes out = noted-tells Deferred e refl bytes out
-  received-tells Duplicate e bytes out = refl
-  received-tells (Refused q) e bytes out = refl
-
-line-tells : (bytes line : List ℕ) (gap : ℕ) (out : List ℕ) → Tells (loadedState bytes) (saidBy line) gap (receivingLineAt bytes line gap out)
-unfolding receivingLineAt afterReceivingAt decided
-line-tells bytes line gap out = go (first (inputChecks bytes (oneLine line) (inRange o)))
-  where
-    s : State
-    s = loadedState bytes
-
-    o : Operation
-    o = saidBy line
-
-    go : (m : Option Refusal) → Tells s o gap (decided (turned out []) m (afterReceivingAt (receiveAt s o gap) (shiftAt s o gap) out))
-    go none = received-tells s o gap (receiveAt s o gap .answer) refl (savedBytes (receiveAt s o gap .state)) out
-    go (some q) = turned-tells s o gap out [] q
-
-pub shift-reads-back : ShiftReadsBack
-unfolding Tells
-shift-reads-back bytes line gap out =
-    ap shiftRead (returned-reads-back _ _ (receivingLineAt bytes line gap out .result) (omega arith) (omega arith) (results-fit .6 bytes line gap out) .5)
-    ∙ line-tells bytes line gap out
-
-given-bounds : (s : State) (o : Operation) (g : ℕ) (w : Word) → (negsuc 0 ≤ℤ shiftGiven s o g w) × (shiftGiven s o g w ≤ℤ pos 513)
-given-bounds s o g done = shift-bounds s o g
-given-bounds s o g waits = (record { le = tt }, record { le = tt })
-given-bounds s o g known = (record { le = tt }, record { le = tt })
-given-bounds s o g refused = (record { le = tt }, record { le = tt })
-
-pub returned-shift-bounds : ReturnedShiftBounds
-returned-shift-bounds bytes line gap out =
-    rw (shift-reads-back bytes line gap out) (given-bounds (loadedState bytes) (saidBy line) gap (receivingLineAt bytes line gap out .result .reply .word))
-
--- ---- on the bytes that were written
-
-not-done : {A : Type 0} (w : Word) → 1 ≤ wordNumber w → w ≡ done → A
-not-done w few e = absurd (omega (arith, few, ap wordNumber e))
-
--- done, so that the bytes of the new state were written
-noted-done : (a : Answer) (note : ℕ) (bytes out : List ℕ) → writingNoted a note bytes out .result .reply .word ≡ done
-    → (reply a .word ≡ done) × (bytesWritten (writingNoted a note bytes out) ≡ bytes)
-unfolding decided turned quiet silent result reply
-noted-done a note bytes out = go (ltb (length out) (length bytes)) refl
-  where
-    go : (b : Bool) → ltb (length out) (length bytes) ≡ b
-        → decided (turned out []) (first ((b ⇒ Output) ∷ [])) (record { result = result a (length bytes) note; output = placed out 0 bytes; line = [] }) .result .reply .word ≡ done
-        → (reply a .word ≡ done) × (bytesWritten (decided (turned out []) (first ((b ⇒ Output) ∷ [])) (record { result = result a (length bytes) note; output = placed out 0 bytes; line = [] })) ≡ bytes)
-    go true k e = not-done refused (omega arith) e
-    go false k e = (e, front out bytes (ltb-false (length out) (length bytes) k))
-
-received-done : (a : Answer) (note : ℕ) (bytes out : List ℕ) → cond (changes a) (writingNoted a note bytes out) (quiet out [] a) .result .reply .word ≡ done
-    → (changes a ≡ true) × (bytesWritten (cond (changes a) (writingNoted a note bytes out) (quiet out [] a)) ≡ bytes)
-unfolding changes quiet silent result reply
-received-done (Done i j) note bytes out e = (refl, noted-done (Done i j) note bytes out e .1)
-received-done Deferred note bytes out e = not-done waits (omega arith) (noted-done Deferred note bytes out e .0)
-received-done Duplicate note bytes out e = not-done known (omega arith) e
-received-done (Refused q) note bytes out e = not-done refused (omega arith) e
+  made-tells (Done i j) e f n out line = small-back (shiftAt s o g) (shift-bounds s o g .0) (shift-bounds s o g .1)
+  made-tells Deferred e f n out line = small-back (shiftAt s o g) (shift-bounds s o g .0) (shift-bounds s o g .1) ∙ shift-still .1 s o g e
+  made-tells Duplicate e f n out line = absurd (false≢true f)
+  made-tells (Refused q) e f n out line = absurd (false≢true f)
 
 module _ (bytes line : List ℕ) (gap : ℕ) (out : List ℕ) where
   abbrev before : State
@@ -139,20 +68,30 @@ module _ (bytes line : List ℕ) (gap : ℕ) (out : List ℕ) where
   abbrev after : Outcome Answer
   after = receiveAt before (saidBy line) gap
 
-  line-done : receivingLineAt bytes line gap out .result .reply .word ≡ done
-      → (wellFormed before ≡ true) × (changes (after .answer) ≡ true) × (bytesWritten (receivingLineAt bytes line gap out) ≡ savedBytes (after .state))
-  unfolding receivingLineAt afterReceivingAt decided turned quiet silent result reply inputChecks
-  line-done = go (first (inputChecks bytes (oneLine line) (inRange (saidBy line)))) refl
-    where
-      effect : Option Refusal → Effect
-      effect m = decided (turned out []) m (afterReceivingAt after (shiftAt before (saidBy line) gap) out)
+  changed : NoneHolds (earlierChecks («wimtaze_receive_at» line gap) bytes) → changes (after .answer) ≡ true
+  changed w =
+      ap (λ (v : Outcome Answer). changes (v .answer)) (receive-at-taken bytes line gap w .1) ∙ accept-changes before (saidBy line)
 
-      go : (m : Option Refusal) → first (inputChecks bytes (oneLine line) (inRange (saidBy line))) ≡ m → effect m .result .reply .word ≡ done
-          → (wellFormed before ≡ true) × (changes (after .answer) ≡ true) × (bytesWritten (effect m) ≡ savedBytes (after .state))
-      go none h e =
-          let r = received-done (after .answer) (shiftBits (shiftAt before (saidBy line) gap)) (savedBytes (after .state)) out e in
-          (not-false (wellFormed before) (first-none (inputChecks bytes (oneLine line) (inRange (saidBy line))) h .1 .1 .0), r .0, r .1)
-      go (some q) h e = not-done refused (omega arith) e
+  went-tells : {e : Effect} → Went («wimtaze_receive_at» line gap) bytes out [] e → Tells before (saidBy line) gap e
+  unfolding productOf
+  went-tells (away a t r) = quiet-tells before (saidBy line) gap out [] a (t .turned)
+  went-tells (lacking w h) = quiet-tells before (saidBy line) gap out [] (Refused Output) tt
+  went-tells (through w h) = made-tells before (saidBy line) gap (after .answer) refl (changed w) _ _ _
+
+  -- done, so that the bytes of the new state were written
+  went-done : {e : Effect} → Went («wimtaze_receive_at» line gap) bytes out [] e → e .result .reply .word ≡ done →
+      (wellFormed before ≡ true) × (changes (after .answer) ≡ true) × (bytesWritten e ≡ savedBytes (after .state))
+  unfolding quiet silent result reply productOf
+  went-done (away (Done n m) t r) e = absurd (t .turned)
+  went-done (away Deferred t r) e = absurd (t .turned)
+  went-done (away Duplicate t r) e = absurd (let z : _≡_ {A = ℕ} 0 1 = cc in omega arith)
+  went-done (away (Refused q) t r) e = absurd (let z : _≡_ {A = ℕ} 0 1 = cc in omega arith)
+  went-done (lacking w h) e = absurd (let z : _≡_ {A = ℕ} 0 1 = cc in omega arith)
+  went-done (through w h) e = (
+    receive-at-taken bytes line gap w .0,
+    changed w,
+    front out (savedBytes (after .state)) (ltb-false (length out) (length (savedBytes (after .state))) (or-false-left _ _ h)),
+  )
 
   -- what was written says the new state
   says-after : wellFormed before ≡ true → loadedState (savedBytes (after .state)) ≡ after .state
@@ -163,10 +102,29 @@ module _ (bytes line : List ℕ) (gap : ℕ) (out : List ℕ) where
   unfolding newGap
   moves e = rw e
 
+pub shift-reads-back : ShiftReadsBack
+unfolding Tells
+shift-reads-back bytes line gap out =
+    ap shiftRead (returned-reads-back («wimtaze_receive_at» line gap) bytes out [] .line-read)
+    ∙ went-tells bytes line gap out (went («wimtaze_receive_at» line gap) bytes out [])
+
+given-bounds : (s : State) (o : Operation) (g : ℕ) (w : Word) → ShiftWithin (shiftGiven s o g w)
+given-bounds s o g done = let b = shift-bounds s o g in record { lowest = b .0; highest = b .1 }
+given-bounds s o g waits = record { lowest = record { le = tt }; highest = record { le = tt } }
+given-bounds s o g known = record { lowest = record { le = tt }; highest = record { le = tt } }
+given-bounds s o g refused = record { lowest = record { le = tt }; highest = record { le = tt } }
+
+pub returned-shift-bounds : ReturnedShiftBounds
+returned-shift-bounds bytes line gap out =
+    rw (shift-reads-back bytes line gap out)
+    (given-bounds (loadedState bytes) (saidBy line) gap (receivedAtBy bytes line gap out .result .reply .word))
+
+-- ---- on the bytes that were written
+
 pub cursor-returned : CursorReturned
 cursor-returned bytes line gap out few e =
     let s = loadedState bytes in
-    let d = line-done bytes line gap out e in
+    let d = went-done bytes line gap out (went («wimtaze_receive_at» line gap) bytes out []) e in
     ap (movedBy gap) (shift-reads-back bytes line gap out ∙ ap (shiftGiven s (saidBy line) gap) e)
     ∙ moved-to-new-gap s (saidBy line) gap few
     ∙ moves bytes line gap out (d .1)

@@ -1,67 +1,77 @@
--- Typing through the C call never answers 6: what is handed is refused with 1, 2 or 3, the rule never meets 6, and the
--- outputs are refused with 12.
+-- No call answers 6: typing alone has it in its list, and on a state in form its condition never holds.
 use Prim.Native.Nat.{ℕ}
 use native.Mathlib.Omega.{arith}
-use mathlib.Core.Path.{_≡_, refl, ap}
-use mathlib.Core.Bool.{true, _||_}
-use mathlib.Core.List.{List, [], _∷_}
-use mathlib.Core.Option.{Option, none, some}
-use lib.Dec.{ltb}
-use lib.ListN.{length}
-use Rattle.output.specs.Output.{placed}
+use mathlib.Core.Path.{_≡_, refl, sym, ap, _∙_}
+use mathlib.Core.Bool.{Bool, true, false, not, _||_, false≢true}
+use mathlib.Core.List.{List, [], _∷_, _++_}
+use lib.Dec.{eqb}
+use lib.ListN.{drop}
+use borrow.Author.Tests.{not-false, eq-eqb}
+use Rattle.lists.specs.Lists.{any}
+use Rattle.lists.proofs.Tests.{and-right, or-right}
 use Rattle.woot.specs.declared.Refusal.{Refusal}
-use Rattle.woot.specs.declared.Refusal.the-variants.{Taken, Output}
+use Rattle.woot.specs.declared.Refusal.the-variants.{Taken}
+use Rattle.woot.specs.declared.Answer.{Answer}
+use Rattle.woot.specs.declared.Answer.the-variants.{Refused}
 use Rattle.woot.specs.declared.Sent.{Sent}
-use Rattle.woot.specs.declared.Sent.the-variants.{Done as sentDone, Refused as sentRefused}
-use Rattle.woot.specs.declared.Answer.the-variants.{Done}
+use Rattle.woot.specs.declared.Sent.the-variants.{Refused as sentRefused}
 use Rattle.woot.specs.Ranges.{codePoint}
+use Rattle.woot.specs.Form.{wellFormed}
 use Rattle.woot.specs.State.{State}
-use Rattle.woot.specs.Answers.{number, reply, answerOf, _⇒_, first, decided}
-use Rattle.woot.specs.Calls.{localInsert}
-use Rattle.woot.specs.Histories.{inserting, outcome}
-use Rattle.convergence.proofs.Steps.{first-some}
-use Rattle.convergence.proofs.Replies.{numbers-differ}
-use Rattle.convergence.proofs.Hearing.{never-taken}
-use Rattle.codec.specs.Operations.{operationLine}
-use Rattle.saved.specs.Format.{savedBytes}
+use Rattle.woot.specs.Answers.{number, reply, answerOf, Check, Reported, here, later}
+use Rattle.woot.specs.Calls.{insertChecks}
+use Rattle.woot.specs.Situations.{numbersOf}
+use Rattle.convergence.proofs.Forms.{formed}
+use Rattle.convergence.proofs.Hearing.{insert-untaken}
+use Rattle.convergence.proofs.Refusals.{skipped, other, answer-refused}
+use Rattle.saved.specs.Format.{savedInRange}
 use Rattle.saved.specs.Calls.{loadedState}
-use Rattle.results.specs.Results.{result, silent}
-use Rattle.effects.specs.Effects.{Effect, quiet, turned, writingBoth, sending, afterSending}
-use Rattle.wimtaze.specs.Calls.{inputChecks, insertingHere}
-use Rattle.wimtaze.specs.Theorems.{TypeNeverTaken}
+use Rattle.wimtaze.specs.Calls.{CCall, «wimtaze_empty», «wimtaze_receive», «wimtaze_receive_at», «wimtaze_type», «wimtaze_erase», «wimtaze_restore», «wimtaze_text», «wimtaze_counts», «wimtaze_upgrade», «wimtaze_downgrade», inputChecks, answering, handedChecks, ruleChecks, callChecks}
+use Rattle.wimtaze.specs.Theorems.{meets, CallsNeverTaken}
+use Rattle.wimtaze.proofs.Listing.{calls-meet, calls-refuse}
 
--- an effect whose refusal is not 6
-abbrev Free : Effect → Type 0
-Free e = e .result .reply .refusal ≡ number Taken → ⊥
-
-turned-free : (out line : List ℕ) (q : Refusal) → (number q ≡ number Taken → ⊥) → Free (turned out line q)
-unfolding turned quiet silent result reply
-turned-free out line q f = f
-
-both-free : (n m : ℕ) (bytes sent out line : List ℕ) → Free (writingBoth (Done n m) bytes sent out line)
-unfolding writingBoth decided turned quiet silent result reply
-both-free n m bytes sent out line = go (first ((ltb (length out) (length bytes) || ltb (length line) (length sent) ⇒ Output) ∷ [])) refl
+-- what is reported is among the numbers of the list
+met : {a : Answer} {cs : List (Check Answer)} → Reported a cs → any (eqb (reply a .refusal)) (numbersOf cs) ≡ true
+met {a} (here {c = c} {cs = cs} h e) = rw (e, eqb-same (reply a .refusal))
   where
-    go : (o : Option Refusal) → first ((ltb (length out) (length bytes) || ltb (length line) (length sent) ⇒ Output) ∷ []) ≡ o → Free (decided (turned out line) o (record { result = result (Done n m) (length bytes) (length sent); output = placed out 0 bytes; line = placed line 0 sent }))
-    go none e = λ h. omega arith
-    go (some q) e = first-some (λ q. number q ≡ number Taken → ⊥) ((ltb (length out) (length bytes) || ltb (length line) (length sent) ⇒ Output) ∷ []) (λ h. omega arith, tt) q e
+    eqb-same : (n : ℕ) → eqb n n ≡ true
+    eqb-same n = eq-eqb n n refl
+met {a} (later {c = c} {cs = cs} h r) = or-right (eqb (reply a .refusal) (reply (c .answer) .refusal)) _ (met r)
 
-sent-free : (t : State) (a : Sent) (out line : List ℕ) → (a ≡ sentRefused Taken → ⊥) → Free (sending t a out line)
-unfolding sending
-sent-free t (sentDone o n m) out line f = both-free n m (savedBytes t) (operationLine o) out line
-sent-free t (sentRefused q) out line f = turned-free out line q (λ h. f (ap sentRefused (numbers-differ q Taken h)))
+unmet : (c : CCall) (bytes out line : List ℕ) → any (eqb 6) (meets c) ≡ false → Reported (Refused Taken) (callChecks c bytes out line) → ⊥
+unfolding reply
+unmet c bytes out line h r = false≢true (sym h ∙ ap (any (eqb 6)) (sym (calls-meet c bytes out line)) ∙ met r)
 
-rule-free : (s : State) (g n : ℕ) → localInsert s g n .answer ≡ sentRefused Taken → ⊥
-unfolding outcome answerOf
-rule-free s g n e = never-taken .1 s (inserting g n) (ap answerOf e)
+-- a refusal that is reported of the answers is reported of what is sent
+unanswered : (q : Refusal) (cs : List (Check Sent)) (last : Check Answer) → (last .answer ≡ Refused q → ⊥) →
+    Reported (Refused q) (answering cs ++ last ∷ []) → Reported (sentRefused q) cs
+unanswered q [] last apart (here h e) = absurd (apart e)
+unanswered q (c ∷ cs) last apart (here h e) = here h (answer-refused (c .answer) q e)
+unanswered q (c ∷ cs) last apart (later h r) = later h (unanswered q cs last apart r)
 
-pub type-never-taken : TypeNeverTaken
-unfolding insertingHere inputChecks afterSending decided
-type-never-taken bytes point n out line = go (first (inputChecks bytes true (codePoint n))) refl
+type-untaken : (bytes : List ℕ) (g n : ℕ) (out line : List ℕ) → Reported (Refused Taken) (callChecks («wimtaze_type» g n) bytes out line) → ⊥
+unfolding callChecks handedChecks ruleChecks inputChecks insertChecks
+type-untaken bytes g n out line r =
+    let s : State = loadedState bytes in
+    let a = skipped (other (λ h. omega arith)) r in
+    let b = skipped (other (λ h. omega arith)) (a .1) in
+    let d = skipped (other (λ h. omega arith)) (b .1) in
+    let ranged = and-right (savedInRange bytes) (codePoint n) (not-false _ (b .0)) in
+    let f = not-false (wellFormed s) (d .0) in
+    insert-untaken true s g n (λ _. formed s f)
+    (later (ap not ranged) (later refl (unanswered Taken (drop 2 (insertChecks true s g n)) _ (other (λ h. omega arith)) (d .1))))
+
+pub calls-never-taken : CallsNeverTaken
+calls-never-taken c bytes out line h = go c (calls-refuse c bytes out line Taken .0 h)
   where
-    s : State
-    s = loadedState bytes
-
-    go : (o : Option Refusal) → first (inputChecks bytes true (codePoint n)) ≡ o → Free (decided (turned out line) o (afterSending (localInsert s point n) out line))
-    go none e = sent-free (localInsert s point n .state) (localInsert s point n .answer) out line (rule-free s point n)
-    go (some q) e = turned-free out line q (first-some (λ q. number q ≡ number Taken → ⊥) (inputChecks bytes true (codePoint n)) (λ h. omega arith, (λ h. omega arith, (λ h. omega arith, tt))) q e)
+    go : (d : CCall) → Reported (Refused Taken) (callChecks d bytes out line) → ⊥
+    go («wimtaze_empty» n) r = unmet («wimtaze_empty» n) bytes out line refl r
+    go («wimtaze_receive» l) r = unmet («wimtaze_receive» l) bytes out line refl r
+    go («wimtaze_receive_at» l g) r = unmet («wimtaze_receive_at» l g) bytes out line refl r
+    go («wimtaze_type» g n) r = type-untaken bytes g n out line r
+    go («wimtaze_erase» p) r = unmet («wimtaze_erase» p) bytes out line refl r
+    go («wimtaze_restore» n t) r = unmet («wimtaze_restore» n t) bytes out line refl r
+    go «wimtaze_text» r = unmet «wimtaze_text» bytes out line refl r
+    go «wimtaze_counts» r = unmet «wimtaze_counts» bytes out line refl r
+    go «wimtaze_upgrade» r = unmet «wimtaze_upgrade» bytes out line refl r
+    go «wimtaze_downgrade» r = unmet «wimtaze_downgrade» bytes out line refl r

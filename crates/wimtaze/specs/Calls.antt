@@ -1,31 +1,59 @@
--- The calls on any bytes and numbers: refusals 1, 2 and 3 over what was handed, then the rule on the state that loading
--- makes of the saved bytes, then 12, then the bytes of the new state.
+-- The calls for programs in C, in one list: what each is handed, the conditions that turn it away in checking order, and
+-- what it returns and writes where none of them holds.
 use Prim.Native.Nat.{ℕ}
-use mathlib.Core.Bool.{Bool, true, _&&_, not}
-use mathlib.Core.List.{List, [], _∷_}
-use lib.Dec.{eqb}
-use lib.ListN.{length}
+use mathlib.Core.Bool.{Bool, true, _&&_, _||_, not}
+use mathlib.Core.List.{List, [], _∷_, _++_, map}
+use lib.Dec.{eqb, ltb}
+use lib.ListN.{length, drop}
+use Rattle.output.specs.Output.{placed}
 use Rattle.woot.specs.declared.Identifier.{Identifier}
+use Rattle.woot.specs.declared.Operation.{Operation}
+use Rattle.woot.specs.declared.Operation.the-variants.{Insert as insert, Toggle as toggle}
 use Rattle.woot.specs.declared.Refusal.{Refusal}
-use Rattle.woot.specs.declared.Refusal.the-variants.{Layout, Range, Form}
+use Rattle.woot.specs.declared.Refusal.the-variants.{Layout, Range, Form, Output}
+use Rattle.woot.specs.declared.Answer.{Answer}
 use Rattle.woot.specs.declared.Answer.the-variants.{Done, Refused}
+use Rattle.woot.specs.declared.Sent.{Sent}
 use Rattle.woot.specs.Ranges.{siteNumber, codePoint, characterId, inRange}
-use Rattle.woot.specs.State.{initial}
+use Rattle.woot.specs.State.{State, initial}
 use Rattle.woot.specs.Form.{wellFormed}
-use Rattle.woot.specs.Answers.{Check, _⇒_, first, decided}
-use Rattle.woot.specs.Calls.{receive, localInsert, localDelete, localRestore}
-use Rattle.woot.specs.Cursor.{receiveAt, shiftAt}
+use Rattle.woot.specs.Answers.{answerOf, Check, _⇒_, first, decided}
+use Rattle.woot.specs.Calls.{Outcome, receiveChecks, receive, insertChecks, generatedInsert, localInsert, deleteChecks, generatedDelete, localDelete, restoreChecks, generatedToggle, localRestore}
+use Rattle.woot.specs.Cursor.{receiveAtChecks, receiveAt, shiftAt}
 use Rattle.woot.specs.Text.{text}
 use Rattle.lines.specs.Lines.{rest}
+use Rattle.cursor.specs.Bits.{shiftBits}
+use Rattle.codec.specs.Operations.{operationLine}
 use Rattle.codec.specs.Calls.{laidOut, saidBy}
-use Rattle.saved.specs.declared.Version.{Version}
 use Rattle.saved.specs.declared.Version.the-variants.{First, Second}
 use Rattle.saved.specs.Format.{savedLaidOut, savedInRange, savedBytes}
 use Rattle.saved.specs.Calls.{loadedState}
 use Rattle.saved.specs.Conversion.{conversion, conversionRefusals}
-use Rattle.results.specs.Results.{Result, silent}
-use Rattle.effects.specs.Effects.{Effect, turned, writing, afterReceiving, afterReceivingAt, afterSending}
+use Rattle.results.specs.Results.{Result, result}
+use Rattle.effects.specs.Effects.{Effect, quiet}
 use Rattle.counts.specs.Counts.{countsOf}
+
+-- each call under its name in C, with the numbers and the line that it is handed beside a saved replica
+pub data CCall : Type 0 where
+  -- a site's number; it takes no saved replica
+  «wimtaze_empty» : ℕ → CCall
+  -- a line
+  «wimtaze_receive» : List ℕ → CCall
+  -- a line and a gap
+  «wimtaze_receive_at» : List ℕ → ℕ → CCall
+  -- a gap and a code point
+  «wimtaze_type» : ℕ → ℕ → CCall
+  -- a place
+  «wimtaze_erase» : ℕ → CCall
+  -- the laptop and the clock of an identifier
+  «wimtaze_restore» : ℕ → ℕ → CCall
+  «wimtaze_text» : CCall
+  «wimtaze_counts» : CCall
+  -- what is saved in the first form
+  «wimtaze_upgrade» : CCall
+  «wimtaze_downgrade» : CCall
+
+-- ---- conditions on what is handed
 
 -- conditions 1, 2 and 3 over a saved replica and what else was handed, of which the two Bools say whether it has its
 -- layout and is in range
@@ -35,70 +63,113 @@ inputChecks bytes laid ranged =
     ∷ (not (wellFormed (loadedState bytes)) ⇒ Form)
     ∷ []
 
--- one line that has its layout, and nothing after its line feed
+-- one line that has its layout: "bytes after the line's line feed are refusal 1"
 unfoldable pub oneLine : List ℕ → Bool
 oneLine line = eqb (length (rest line)) 0 && laidOut line
-
--- `wimtaze_empty`
-unfoldable pub beginning : ℕ → List ℕ → Effect
-beginning number out =
-    decided (turned out []) (first ((not (siteNumber number) ⇒ Range) ∷ []))
-    (writing (Done 0 0) (savedBytes (initial number)) out)
-
--- `wimtaze_receive`
-unfoldable pub receivingLine : List ℕ → List ℕ → List ℕ → Effect
-receivingLine bytes line out =
-    decided (turned out []) (first (inputChecks bytes (oneLine line) (inRange (saidBy line))))
-    (afterReceiving (receive (loadedState bytes) (saidBy line)) out)
-
--- `wimtaze_receive_at`: document 02, Req 02
-unfoldable pub receivingLineAt : List ℕ → List ℕ → ℕ → List ℕ → Effect
-receivingLineAt bytes line gap out =
-    decided (turned out []) (first (inputChecks bytes (oneLine line) (inRange (saidBy line))))
-    (afterReceivingAt (receiveAt (loadedState bytes) (saidBy line) gap) (shiftAt (loadedState bytes) (saidBy line) gap)
-    out)
-
--- `wimtaze_type`
-unfoldable pub insertingHere : List ℕ → ℕ → ℕ → List ℕ → List ℕ → Effect
-insertingHere bytes point n out line =
-    decided (turned out line) (first (inputChecks bytes true (codePoint n)))
-    (afterSending (localInsert (loadedState bytes) point n) out line)
-
--- `wimtaze_erase`
-unfoldable pub deletingHere : List ℕ → ℕ → List ℕ → List ℕ → Effect
-deletingHere bytes index out line =
-    decided (turned out line) (first (inputChecks bytes true true))
-    (afterSending (localDelete (loadedState bytes) index) out line)
 
 -- the identifier that two numbers name
 abbrev pub named : ℕ → ℕ → Identifier
 named site clock = record { site = site; clock = clock }
 
--- `wimtaze_restore`
-unfoldable pub restoringHere : List ℕ → ℕ → ℕ → List ℕ → List ℕ → Effect
-restoringHere bytes site clock out line =
-    decided (turned out line) (first (inputChecks bytes true (characterId (named site clock))))
-    (afterSending (localRestore (loadedState bytes) (named site clock)) out line)
+-- what is turned away before any rule is asked
+unfoldable pub handedChecks : CCall → List ℕ → List (Check Refusal)
+handedChecks («wimtaze_empty» n) bytes = (not (siteNumber n) ⇒ Range) ∷ []
+handedChecks («wimtaze_receive» line) bytes = inputChecks bytes (oneLine line) (inRange (saidBy line))
+handedChecks («wimtaze_receive_at» line gap) bytes = inputChecks bytes (oneLine line) (inRange (saidBy line))
+handedChecks («wimtaze_type» gap n) bytes = inputChecks bytes true (codePoint n)
+handedChecks («wimtaze_erase» place) bytes = inputChecks bytes true true
+handedChecks («wimtaze_restore» site clock) bytes = inputChecks bytes true (characterId (named site clock))
+handedChecks «wimtaze_text» bytes = inputChecks bytes true true
+handedChecks «wimtaze_counts» bytes = inputChecks bytes true true
+handedChecks «wimtaze_upgrade» bytes = conversionRefusals First Second bytes
+handedChecks «wimtaze_downgrade» bytes = conversionRefusals Second First bytes
 
--- `wimtaze_text`
-unfoldable pub showingText : List ℕ → List ℕ → Effect
-showingText bytes out =
-    decided (turned out []) (first (inputChecks bytes true true))
-    (writing (Done 0 0) (text (loadedState bytes .characters)) out)
+-- ---- conditions of the rules
 
--- between the two forms
-unfoldable pub converting : Version → Version → List ℕ → List ℕ → Effect
-converting v w bytes out =
-    decided (turned out []) (first (conversionRefusals v w bytes)) (writing (Done 0 0) (conversion v w bytes) out)
+-- those of a call that sends, by their answers
+abbrev pub answering : List (Check Sent) → List (Check Answer)
+answering cs = map (λ c. c .holds ⇒ answerOf (c .answer)) cs
 
--- `wimtaze_upgrade`
-abbrev pub upgrading : List ℕ → List ℕ → Effect
-upgrading bytes out = converting First Second bytes out
+-- what the rule turns away, or knows, on the state that loading makes of the saved bytes: all its conditions but 2 and 3,
+-- which begin its list and were looked at over all that was handed
+unfoldable pub ruleChecks : CCall → State → List (Check Answer)
+ruleChecks («wimtaze_empty» n) s = []
+ruleChecks («wimtaze_receive» line) s = drop 2 (receiveChecks true s (saidBy line))
+ruleChecks («wimtaze_receive_at» line gap) s = drop 2 (receiveAtChecks true s (saidBy line) gap)
+ruleChecks («wimtaze_type» gap n) s = answering (drop 2 (insertChecks true s gap n))
+ruleChecks («wimtaze_erase» place) s = answering (drop 1 (deleteChecks true s place))
+ruleChecks («wimtaze_restore» site clock) s = answering (drop 2 (restoreChecks true s (named site clock)))
+ruleChecks «wimtaze_text» s = []
+ruleChecks «wimtaze_counts» s = []
+ruleChecks «wimtaze_upgrade» s = []
+ruleChecks «wimtaze_downgrade» s = []
 
--- `wimtaze_downgrade`
-abbrev pub downgrading : List ℕ → List ℕ → Effect
-downgrading bytes out = converting Second First bytes out
+-- ---- what is made
 
--- `wimtaze_counts`
-unfoldable pub counting : List ℕ → Result
-counting bytes = decided (λ q. silent (Refused q)) (first (inputChecks bytes true true)) (countsOf (loadedState bytes))
+-- what a call returns, and the bytes for its first output and for its second, none where it has none
+pub record Product : Type 0 where
+  pub result : Result
+  pub output : List ℕ
+  pub line : List ℕ
+
+-- bytes, and nothing else to tell
+abbrev pub bytesAlone : List ℕ → Product
+bytesAlone bytes = record { result = result (Done 0 0) (length bytes) 0; output = bytes; line = [] }
+
+-- the saved replica that receiving leaves, with a note where the length of the second output stands
+abbrev pub replicaAfter : Outcome Answer → ℕ → Product
+replicaAfter w note =
+    record { result = result (w .answer) (length (savedBytes (w .state))) note; output = savedBytes (w .state); line = [] }
+
+-- the saved replica that typing, erasing or restoring leaves, and the line of the operation to be sent
+abbrev pub replicaAndLine : Outcome Sent → Operation → Product
+replicaAndLine w o =
+    record {
+      result = result (answerOf (w .answer)) (length (savedBytes (w .state))) (length (operationLine o));
+      output = savedBytes (w .state);
+      line = operationLine o;
+    }
+
+-- where no condition holds
+unfoldable pub productOf : CCall → List ℕ → Product
+productOf («wimtaze_empty» n) bytes = bytesAlone (savedBytes (initial n))
+productOf («wimtaze_receive» line) bytes = replicaAfter (receive (loadedState bytes) (saidBy line)) 0
+productOf («wimtaze_receive_at» line gap) bytes =
+    replicaAfter (receiveAt (loadedState bytes) (saidBy line) gap) (shiftBits (shiftAt (loadedState bytes) (saidBy line) gap))
+productOf («wimtaze_type» gap n) bytes =
+    replicaAndLine (localInsert (loadedState bytes) gap n) (insert (generatedInsert (loadedState bytes) gap n))
+productOf («wimtaze_erase» place) bytes =
+    replicaAndLine (localDelete (loadedState bytes) place) (toggle (generatedDelete (loadedState bytes) place))
+productOf («wimtaze_restore» site clock) bytes =
+    replicaAndLine (localRestore (loadedState bytes) (named site clock))
+    (toggle (generatedToggle (loadedState bytes) (named site clock)))
+productOf «wimtaze_text» bytes = bytesAlone (text (loadedState bytes .characters))
+productOf «wimtaze_counts» bytes = record { result = countsOf (loadedState bytes); output = []; line = [] }
+productOf «wimtaze_upgrade» bytes = bytesAlone (conversion First Second bytes)
+productOf «wimtaze_downgrade» bytes = bytesAlone (conversion Second First bytes)
+
+-- ---- what a call does
+
+-- condition 12: "the lent output is shorter than the result"; "refusal 12 if either output is short"
+abbrev pub short : Product → List ℕ → List ℕ → Bool
+short p out line = ltb (length out) (length (p .output)) || ltb (length line) (length (p .line))
+
+-- the conditions on what is handed, and then those of the rule
+abbrev pub earlierChecks : CCall → List ℕ → List (Check Answer)
+earlierChecks c bytes =
+    map (λ q. q .holds ⇒ Refused (q .answer)) (handedChecks c bytes) ++ ruleChecks c (loadedState bytes)
+
+-- every condition of a call, in checking order: 12 is the last
+unfoldable pub callChecks : CCall → List ℕ → List ℕ → List ℕ → List (Check Answer)
+callChecks c bytes out line = earlierChecks c bytes ++ (short (productOf c bytes) out line ⇒ Refused Output) ∷ []
+
+-- the bytes at the front of the outputs; "an output longer than the result has its further bytes unchanged"
+abbrev pub delivered : Product → List ℕ → List ℕ → Effect
+delivered p out line =
+    record { result = p .result; output = placed out 0 (p .output); line = placed line 0 (p .line) }
+
+-- what a call returns and leaves in its outputs: at the first condition that holds its answer, and "every output byte as
+-- before"; where none does, what is made
+unfoldable pub effectOf : CCall → List ℕ → List ℕ → List ℕ → Effect
+effectOf c bytes out line =
+    decided (quiet out line) (first (callChecks c bytes out line)) (delivered (productOf c bytes) out line)

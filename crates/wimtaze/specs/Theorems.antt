@@ -1,109 +1,236 @@
--- The promises about what the calls return, each proved in proofs/ under its name in small letters.
-use Prim.Native.Nat.{ℕ, _+_, _%_, _/_, _^_, _≤_, _<_}
+-- The promises about what the calls return and leave, over the one list of calls, each proved in proofs/ under its name in
+-- small letters.
+use Prim.Native.Nat.{ℕ, _+_, _%_, _/_, _^_, _≤_}
 use mathlib.Core.Path.{_≡_}
-use mathlib.Core.Bool.{true, false}
-use mathlib.Core.List.{List, _++_}
+use mathlib.Core.Bool.{Bool, true, false}
+use mathlib.Core.Logic.{_↔_}
+use mathlib.Core.List.{List, [], _∷_, _++_, map}
 use lib.ListN.{length, take}
+use lib.IntN.{ℤ, pos, negsuc}
+use lib.Signed.{_≤ℤ_}
+use Rattle.woot.specs.declared.Operation.{Operation}
+use Rattle.woot.specs.declared.Refusal.{Refusal}
 use Rattle.woot.specs.declared.Refusal.the-variants.{Taken}
-use Rattle.woot.specs.Answers.{number, done, known, refused, Word, waits}
+use Rattle.woot.specs.declared.Answer.the-variants.{Duplicate, Refused}
+use Rattle.woot.specs.Limits.{capacity}
+use Rattle.woot.specs.State.{State}
+use Rattle.woot.specs.Form.{wellFormed}
+use Rattle.woot.specs.Answers.{number, highestRefusal, Word, done, waits, known, refused, Reported}
+use Rattle.woot.specs.Cursor.{cursorAfter, shiftAt, lastNumber, movedBy}
+use Rattle.woot.specs.Text.{text}
+use Rattle.woot.specs.Memory.{pendingSlots}
+use Rattle.woot.specs.Situations.{numbersOf, ranksOf, rises}
+use Rattle.woot.specs.Writing.{writtenNumber, writtenLength}
+use Rattle.lines.specs.Lines.{rest}
+use Rattle.cursor.specs.Bits.{shiftRead}
+use Rattle.codec.specs.Calls.{saidBy}
+use Rattle.codec.specs.Theorems.{insertMost, toggleMost}
 use Rattle.saved.specs.declared.LoadAnswer.the-variants.{Done as loadDone}
 use Rattle.saved.specs.declared.Version.{Version}
 use Rattle.saved.specs.declared.Version.the-variants.{First, Second}
 use Rattle.saved.specs.Format.{siteLine}
 use Rattle.saved.specs.Calls.{loadedAs, raisingAs, needsRaising, loaded, loadedState}
 use Rattle.saved.specs.Conversion.{converted, convertedOut, firstMost}
-use Rattle.effects.specs.Effects.{Effect}
-use Rattle.woot.specs.State.{State}
-use Rattle.woot.specs.Form.{wellFormed}
-use Rattle.woot.specs.Writing.{writtenNumber, writtenLength}
-use lib.IntN.{ℤ, pos, negsuc}
-use lib.Signed.{_≤ℤ_}
-use Rattle.woot.specs.declared.Operation.{Operation}
-use Rattle.codec.specs.Calls.{saidBy}
-use Rattle.cursor.specs.Bits.{shiftRead}
-use Rattle.woot.specs.Cursor.{cursorAfter, shiftAt, lastNumber, movedBy}
-use Rattle.woot.specs.Text.{text}
-use Rattle.lines.specs.Lines.{rest}
-use Rattle.codec.specs.Theorems.{insertMost, toggleMost}
 use Rattle.saved.specs.Theorems.{savedMost}
 use Rattle.results.specs.Results.{Result, wordNumber, inBits, numberOf}
-use Rattle.wimtaze.specs.Calls.{beginning, receivingLine, insertingHere, deletingHere, restoringHere, showingText, counting, converting, upgrading, downgrading, receivingLineAt}
+use Rattle.effects.specs.Effects.{Effect}
+use Rattle.wimtaze.specs.Calls.{CCall, «wimtaze_empty», «wimtaze_receive», «wimtaze_receive_at», «wimtaze_type», «wimtaze_erase», «wimtaze_restore», «wimtaze_text», «wimtaze_counts», «wimtaze_upgrade», «wimtaze_downgrade», callChecks, effectOf}
 
--- ---- sizes: the header's WIMTAZE_SHEET_MAX, WIMTAZE_OLD_SHEET_MAX, WIMTAZE_INSERT_MAX, WIMTAZE_ERASE_MAX and
--- WIMTAZE_TEXT_MAX
+-- ---- refusals: any call, any bytes, numbers and slices
+
+-- what a call may be turned away for, by number and in checking order, with 0 where known is answered
+abbrev pub meets : CCall → List ℕ
+meets («wimtaze_empty» n) = 2 ∷ 12 ∷ []
+meets («wimtaze_receive» line) = 1 ∷ 2 ∷ 3 ∷ 0 ∷ 7 ∷ 8 ∷ 9 ∷ 10 ∷ 11 ∷ 12 ∷ []
+meets («wimtaze_receive_at» line gap) = 1 ∷ 2 ∷ 3 ∷ 0 ∷ 4 ∷ 7 ∷ 8 ∷ 9 ∷ 10 ∷ 11 ∷ 12 ∷ []
+meets («wimtaze_type» gap n) = 1 ∷ 2 ∷ 3 ∷ 4 ∷ 5 ∷ 6 ∷ 9 ∷ 11 ∷ 12 ∷ []
+meets («wimtaze_erase» place) = 1 ∷ 2 ∷ 3 ∷ 4 ∷ 12 ∷ []
+meets («wimtaze_restore» site clock) = 1 ∷ 2 ∷ 3 ∷ 13 ∷ 14 ∷ 12 ∷ []
+meets «wimtaze_text» = 1 ∷ 2 ∷ 3 ∷ 12 ∷ []
+meets «wimtaze_counts» = 1 ∷ 2 ∷ 3 ∷ 12 ∷ []
+meets «wimtaze_upgrade» = 1 ∷ 2 ∷ 3 ∷ 15 ∷ 12 ∷ []
+meets «wimtaze_downgrade» = 1 ∷ 2 ∷ 3 ∷ 15 ∷ 12 ∷ []
+
+abbrev pub CallsMeet : Type 0
+CallsMeet = (c : CCall) (bytes out line : List ℕ) → numbersOf (callChecks c bytes out line) ≡ meets c
+
+-- "in checking order": the ranks rise, so that the first condition that holds is the lowest
+abbrev pub CallsRise : Type 0
+CallsRise =
+    (c : CCall) (bytes out line : List ℕ) →
+    rises (ranksOf (map (λ q. q .answer) (callChecks c bytes out line))) ≡ true
+
+-- refusal q is answered, by its number, exactly when its condition holds and none before it
+abbrev pub CallsRefuse : Type 0
+CallsRefuse =
+    (c : CCall) (bytes out line : List ℕ) (q : Refusal) →
+    (effectOf c bytes out line .result .reply .refusal ≡ number q) ↔ Reported (Refused q) (callChecks c bytes out line)
+
+-- and known exactly when the operation is known and no condition before that holds
+abbrev pub CallsKnow : Type 0
+CallsKnow =
+    (c : CCall) (bytes out line : List ℕ) →
+    (effectOf c bytes out line .result .reply .word ≡ known) ↔ Reported Duplicate (callChecks c bytes out line)
+
+-- an effect that writes nothing
+pub record Untouched (e : Effect) (out line : List ℕ) : Type 0 where
+  pub output-kept : e .output ≡ out
+  pub line-kept : e .line ≡ line
+
+-- with either, "every output byte is as before"
+abbrev pub TurnedUntouched : Type 0
+TurnedUntouched =
+    (c : CCall) (bytes out line : List ℕ) →
+    (effectOf c bytes out line .result .reply .word ≡ known → Untouched (effectOf c bytes out line) out line)
+    × (effectOf c bytes out line .result .reply .word ≡ refused → Untouched (effectOf c bytes out line) out line)
+
+-- document 02, Req 04: refusal 6 is never answered, though typing has it in its list; so the header has it as reserved
+abbrev pub CallsNeverTaken : Type 0
+CallsNeverTaken =
+    (c : CCall) (bytes out line : List ℕ) → effectOf c bytes out line .result .reply .refusal ≡ number Taken → ⊥
+
+-- ---- the parts of what is returned
+
+-- the most that the parts of a result can be
+pub record Bounds : Type 0 where
+  pub integrated : ℕ
+  pub discarded : ℕ
+  pub written : ℕ
+  pub line : ℕ
 
 -- a text: 1,024 characters of 4 bytes each
 abbrev pub textMost : ℕ
 textMost = 4096
 
--- the visible text of a state in form is no longer
+-- what a call that writes these many bytes at most, and nothing else, returns at most
+abbrev pub boundsOfBytes : ℕ → Bounds
+boundsOfBytes most = record { integrated = 0; discarded = 0; written = most; line = 0 }
+
+-- carried is at most 513 and thrown 512: an insert with all that waits; the last is the line's length, or the bits of a
+-- shift. A call that counts gives counts in their place
+abbrev pub boundsOf : CCall → Bounds
+boundsOf («wimtaze_empty» n) = boundsOfBytes savedMost
+boundsOf («wimtaze_receive» line) = record { integrated = 513; discarded = pendingSlots; written = savedMost; line = 0 }
+boundsOf («wimtaze_receive_at» line gap) =
+    record { integrated = 513; discarded = pendingSlots; written = savedMost; line = 65535 }
+boundsOf («wimtaze_type» gap n) =
+    record { integrated = 513; discarded = pendingSlots; written = savedMost; line = insertMost }
+boundsOf («wimtaze_erase» place) = record { integrated = 1; discarded = 0; written = savedMost; line = toggleMost }
+boundsOf («wimtaze_restore» site clock) =
+    record { integrated = 1; discarded = 0; written = savedMost; line = toggleMost }
+boundsOf «wimtaze_text» = boundsOfBytes textMost
+boundsOf «wimtaze_counts» =
+    record { integrated = capacity; discarded = pendingSlots; written = capacity; line = capacity }
+boundsOf «wimtaze_upgrade» = boundsOfBytes savedMost
+boundsOf «wimtaze_downgrade» = boundsOfBytes firstMost
+
+-- a result is within its bounds
+pub record Fits (b : Bounds) (x : Result) : Type 0 where
+  pub refusal-fits : x .reply .refusal ≤ highestRefusal
+  pub integrated-fits : x .reply .integrated ≤ b .integrated
+  pub discarded-fits : x .reply .discarded ≤ b .discarded
+  pub written-fits : x .written ≤ b .written
+  pub line-fits : x .line ≤ b .line
+
+-- every call's is
+abbrev pub ResultsFit : Type 0
+ResultsFit = (c : CCall) (bytes out line : List ℕ) → Fits (boundsOf c) (effectOf c bytes out line .result)
+
+-- each part is read back from its bits, whatever the parts are
+pub record PartsBack (w q n m a b : ℕ) : Type 0 where
+  pub word-back : inBits w q n m a b % 4 ≡ w % 4
+  pub refusal-back : inBits w q n m a b / 4 % 64 ≡ q % 64
+  pub integrated-back : inBits w q n m a b / 256 % 4096 ≡ n % 4096
+  pub discarded-back : inBits w q n m a b / 2 ^ 20 % 4096 ≡ m % 4096
+  pub written-back : inBits w q n m a b / 2 ^ 32 % 65536 ≡ a % 65536
+  pub line-back : inBits w q n m a b / 2 ^ 48 ≡ b % 65536
+
+abbrev pub PartsReadBack : Type 0
+PartsReadBack = (w q n m a b : ℕ) → PartsBack w q n m a b
+
+-- no part of a result is cut: each is read back as it is
+pub record ReadsBack (x : Result) : Type 0 where
+  pub word-read : numberOf x % 4 ≡ wordNumber (x .reply .word)
+  pub refusal-read : numberOf x / 4 % 64 ≡ x .reply .refusal
+  pub integrated-read : numberOf x / 256 % 4096 ≡ x .reply .integrated
+  pub discarded-read : numberOf x / 2 ^ 20 % 4096 ≡ x .reply .discarded
+  pub written-read : numberOf x / 2 ^ 32 % 65536 ≡ x .written
+  pub line-read : numberOf x / 2 ^ 48 ≡ x .line
+
+abbrev pub ReturnedReadsBack : Type 0
+ReturnedReadsBack = (c : CCall) (bytes out line : List ℕ) → ReadsBack (effectOf c bytes out line .result)
+
+-- the counts besides: the visible characters are as many as all of them at most, and those with the room at most 1,024
+pub record CountsWithin (x : Result) : Type 0 where
+  pub visible-fits : x .reply .integrated ≤ x .written
+  pub full-fits : x .written + x .line ≤ capacity
+
+abbrev pub CountsFit : Type 0
+CountsFit = (bytes : List ℕ) → CountsWithin (effectOf «wimtaze_counts» bytes [] [] .result)
+
+-- ---- sizes: the header's WIMTAZE_SHEET_MAX, WIMTAZE_OLD_SHEET_MAX, WIMTAZE_INSERT_MAX, WIMTAZE_ERASE_MAX and
+-- WIMTAZE_TEXT_MAX
+
+-- the visible text of a state in form is no longer than a text
 abbrev pub TextLength : Type 0
 TextLength = (s : State) → wellFormed s ≡ true → length (text (s .characters)) ≤ textMost
 
--- ---- document 02, Req 04
+-- the lengths that are enough for a call's outputs, 0 where it has none
+pub record Room : Type 0 where
+  pub output : ℕ
+  pub line : ℕ
 
--- `wimtaze_type` never answers refusal 6, on any bytes, numbers and slices
-abbrev pub TypeNeverTaken : Type 0
-TypeNeverTaken =
-    (bytes : List ℕ) (point n : ℕ) (out line : List ℕ) →
-    insertingHere bytes point n out line .result .reply .refusal ≡ number Taken → ⊥
+abbrev pub roomOf : CCall → Room
+roomOf («wimtaze_empty» n) = record { output = savedMost; line = 0 }
+roomOf («wimtaze_receive» line) = record { output = savedMost; line = 0 }
+roomOf («wimtaze_receive_at» line gap) = record { output = savedMost; line = 0 }
+roomOf («wimtaze_type» gap n) = record { output = savedMost; line = insertMost }
+roomOf («wimtaze_erase» place) = record { output = savedMost; line = toggleMost }
+roomOf («wimtaze_restore» site clock) = record { output = savedMost; line = toggleMost }
+roomOf «wimtaze_text» = record { output = textMost; line = 0 }
+roomOf «wimtaze_counts» = record { output = 0; line = 0 }
+roomOf «wimtaze_upgrade» = record { output = savedMost; line = 0 }
+roomOf «wimtaze_downgrade» = record { output = firstMost; line = 0 }
 
--- ---- the parts of what is returned
+-- with outputs of these lengths no call answers 12, whatever else is handed
+abbrev pub BuffersSuffice : Type 0
+BuffersSuffice =
+    (c : CCall) (bytes out line : List ℕ) → roomOf c .output ≤ length out → roomOf c .line ≤ length line →
+    effectOf c bytes out line .result .reply .refusal ≡ 12 → ⊥
 
--- the bounds of a result, with at most m bytes written to the first output and k to the second, or at most k for the
--- bits of a shift
-pub record Fits (m k : ℕ) (x : Result) : Type 0 where
-  pub refusal-fits : x .reply .refusal ≤ 15
-  pub integrated-fits : x .reply .integrated ≤ 513
-  pub discarded-fits : x .reply .discarded ≤ 512
-  pub written-fits : x .written ≤ m
-  pub line-fits : x .line ≤ k
+-- ---- the form is kept
 
--- the result of each call is within its bounds, on any bytes, numbers and slices
-abbrev pub ResultsFit : Type 0
-ResultsFit =
-    ((number : ℕ) (out : List ℕ) → Fits savedMost 0 (beginning number out .result))
-    × ((bytes line out : List ℕ) → Fits savedMost 0 (receivingLine bytes line out .result))
-    × ((bytes : List ℕ) (point n : ℕ) (out line : List ℕ) →
-    Fits savedMost insertMost (insertingHere bytes point n out line .result))
-    × ((bytes : List ℕ) (index : ℕ) (out line : List ℕ) →
-    Fits savedMost toggleMost (deletingHere bytes index out line .result))
-    × ((bytes : List ℕ) (site clock : ℕ) (out line : List ℕ) →
-    Fits savedMost toggleMost (restoringHere bytes site clock out line .result))
-    × ((bytes out : List ℕ) → Fits textMost 0 (showingText bytes out .result))
-    × ((bytes line : List ℕ) (gap : ℕ) (out : List ℕ) →
-    Fits savedMost 65535 (receivingLineAt bytes line gap out .result))
-    × ((bytes out : List ℕ) → Fits savedMost 0 (upgrading bytes out .result))
-    × ((bytes out : List ℕ) → Fits firstMost 0 (downgrading bytes out .result))
-
--- each part is read back from its bits, whatever the parts are
-abbrev pub PartsReadBack : Type 0
-PartsReadBack =
-    (w q n m a b : ℕ) →
-    (inBits w q n m a b % 4 ≡ w % 4) × (inBits w q n m a b / 4 % 64 ≡ q % 64)
-    × (inBits w q n m a b / 256 % 4096 ≡ n % 4096)
-    × (inBits w q n m a b / 2 ^ 20 % 4096 ≡ m % 4096)
-    × (inBits w q n m a b / 2 ^ 32 % 65536 ≡ a % 65536)
-    × (inBits w q n m a b / 2 ^ 48 ≡ b % 65536)
-
--- no part of a result is cut: each is read back as it is
-abbrev pub ReadsBack : Result → Type 0
-ReadsBack x =
-    (numberOf x % 4 ≡ wordNumber (x .reply .word)) × (numberOf x / 4 % 64 ≡ x .reply .refusal)
-    × (numberOf x / 256 % 4096 ≡ x .reply .integrated)
-    × (numberOf x / 2 ^ 20 % 4096 ≡ x .reply .discarded)
-    × (numberOf x / 2 ^ 32 % 65536 ≡ x .written)
-    × (numberOf x / 2 ^ 48 ≡ x .line)
-
--- of a result that fits
-abbrev pub ReturnedReadsBack : Type 0
-ReturnedReadsBack = (m k : ℕ) (x : Result) → m < 65536 → k < 65536 → Fits m k x → ReadsBack x
-
--- ---- document 02, Req 02
-
--- the bytes that a call wrote
+-- the bytes that a call wrote to its first output
 abbrev pub bytesWritten : Effect → List ℕ
 bytesWritten e = take (e .result .written) (e .output)
+
+-- these bytes are a saved replica in form: they are loaded, and their clock needs no raising
+pub record Formed (bytes : List ℕ) : Type 0 where
+  pub loads : loaded bytes .answer ≡ loadDone
+  pub unraised : needsRaising bytes ≡ false
+
+-- whether the first output is a saved replica
+abbrev pub saves : CCall → Bool
+saves («wimtaze_empty» n) = true
+saves («wimtaze_receive» line) = true
+saves («wimtaze_receive_at» line gap) = true
+saves («wimtaze_type» gap n) = true
+saves («wimtaze_erase» place) = true
+saves («wimtaze_restore» site clock) = true
+saves «wimtaze_text» = false
+saves «wimtaze_counts» = false
+saves «wimtaze_upgrade» = true
+saves «wimtaze_downgrade» = false
+
+-- "every call keeps the form", of the bytes that it writes where the word is done or waits, whatever was handed
+abbrev pub Loads : Effect → Type 0
+Loads e =
+    (e .result .reply .word ≡ known → ⊥) → (e .result .reply .word ≡ refused → ⊥) → Formed (bytesWritten e)
+
+abbrev pub WrittenLoads : Type 0
+WrittenLoads = (c : CCall) (bytes out line : List ℕ) → saves c ≡ true → Loads (effectOf c bytes out line)
+
+-- ---- document 02, Req 02
 
 -- the shift that a call gives with a word: 0 with all but done
 abbrev pub shiftGiven : State → Operation → ℕ → Word → ℤ
@@ -116,121 +243,80 @@ shiftGiven s o g refused = pos 0
 abbrev pub shiftReturned : Effect → ℤ
 shiftReturned e = shiftRead (numberOf (e .result) / 2 ^ 48)
 
--- it is read back from those of `wimtaze_receive_at`
+-- what `wimtaze_receive_at` returns and leaves
+abbrev pub receivedAtBy : List ℕ → List ℕ → ℕ → List ℕ → Effect
+receivedAtBy bytes line gap out = effectOf («wimtaze_receive_at» line gap) bytes out []
+
+-- the shift is read back from its bits
 abbrev pub ShiftReadsBack : Type 0
 ShiftReadsBack =
     (bytes line : List ℕ) (gap : ℕ) (out : List ℕ) →
-    shiftReturned (receivingLineAt bytes line gap out)
-    ≡ shiftGiven (loadedState bytes) (saidBy line) gap (receivingLineAt bytes line gap out .result .reply .word)
+    shiftReturned (receivedAtBy bytes line gap out)
+    ≡ shiftGiven (loadedState bytes) (saidBy line) gap (receivedAtBy bytes line gap out .result .reply .word)
 
 -- "the shift lies between -1 and 513"
+pub record ShiftWithin (z : ℤ) : Type 0 where
+  pub lowest : negsuc 0 ≤ℤ z
+  pub highest : z ≤ℤ pos 513
+
 abbrev pub ReturnedShiftBounds : Type 0
 ReturnedShiftBounds =
-    (bytes line : List ℕ) (gap : ℕ) (out : List ℕ) →
-    (negsuc 0 ≤ℤ shiftReturned (receivingLineAt bytes line gap out))
-    × (shiftReturned (receivingLineAt bytes line gap out) ≤ℤ pos 513)
+    (bytes line : List ℕ) (gap : ℕ) (out : List ℕ) → ShiftWithin (shiftReturned (receivedAtBy bytes line gap out))
 
 -- "gap plus shift is the new gap", on the bytes that were written
 abbrev pub CursorReturned : Type 0
 CursorReturned =
     (bytes line : List ℕ) (gap : ℕ) (out : List ℕ) → gap ≤ lastNumber →
-    receivingLineAt bytes line gap out .result .reply .word ≡ done →
-    movedBy gap (shiftReturned (receivingLineAt bytes line gap out))
+    receivedAtBy bytes line gap out .result .reply .word ≡ done →
+    movedBy gap (shiftReturned (receivedAtBy bytes line gap out))
     ≡ cursorAfter (loadedState bytes .characters)
-    (loadedState (bytesWritten (receivingLineAt bytes line gap out)) .characters)
+    (loadedState (bytesWritten (receivedAtBy bytes line gap out)) .characters)
     gap
 
 -- with the gap at the top `wimtaze_receive_at` is `wimtaze_receive`
 abbrev pub TopReceives : Type 0
-TopReceives = (bytes line out : List ℕ) → receivingLineAt bytes line 0 out ≡ receivingLine bytes line out
-
--- ---- the counts
-
--- the bounds of the counts: the visible characters are as many as all of them at most, and those as the capacity
-pub record CountsWithin (x : Result) : Type 0 where
-  pub refusal-fits : x .reply .refusal ≤ 15
-  pub visible-fits : x .reply .integrated ≤ x .written
-  pub pending-fits : x .reply .discarded ≤ 512
-  pub full-fits : x .written + x .line ≤ 1024
-
--- the counts are within them, on any bytes
-abbrev pub CountsFit : Type 0
-CountsFit = (bytes : List ℕ) → CountsWithin (counting bytes)
-
--- and none is cut
-abbrev pub CountsReadBack : Type 0
-CountsReadBack = (bytes : List ℕ) → ReadsBack (counting bytes)
-
--- ---- the form is kept
-
--- these bytes are a saved replica in form: they are loaded, and their clock needs no raising
-abbrev pub Formed : List ℕ → Type 0
-Formed bytes = (loaded bytes .answer ≡ loadDone) × (needsRaising bytes ≡ false)
-
--- the bytes that a call wrote, where the word is done or waits, are
-abbrev pub Loads : Effect → Type 0
-Loads e =
-    (e .result .reply .word ≡ known → ⊥) → (e .result .reply .word ≡ refused → ⊥) → Formed (bytesWritten e)
-
--- "every call keeps the form", of the bytes that a call writes, whatever was handed
-abbrev pub WrittenLoads : Type 0
-WrittenLoads =
-    ((number : ℕ) (out : List ℕ) → Loads (beginning number out))
-    × ((bytes line out : List ℕ) → Loads (receivingLine bytes line out))
-    × ((bytes : List ℕ) (point n : ℕ) (out line : List ℕ) → Loads (insertingHere bytes point n out line))
-    × ((bytes : List ℕ) (index : ℕ) (out line : List ℕ) → Loads (deletingHere bytes index out line))
-    × ((bytes : List ℕ) (site clock : ℕ) (out line : List ℕ) → Loads (restoringHere bytes site clock out line))
-    × ((bytes line : List ℕ) (gap : ℕ) (out : List ℕ) → Loads (receivingLineAt bytes line gap out))
-    × ((bytes out : List ℕ) → Loads (upgrading bytes out))
+TopReceives =
+    (bytes line out : List ℕ) → receivedAtBy bytes line 0 out ≡ effectOf («wimtaze_receive» line) bytes out []
 
 -- ---- document 02, Req 06
 
--- each way answers as the conversion does, whose refusals `ConversionNumbers` has by number
+-- the call that takes what is saved in a form to the other form, and what it leaves
+abbrev pub conversionFrom : Version → CCall
+conversionFrom First = «wimtaze_upgrade»
+conversionFrom Second = «wimtaze_downgrade»
+
+abbrev pub convertedFrom : Version → List ℕ → List ℕ → Effect
+convertedFrom v bytes out = effectOf (conversionFrom v) bytes out []
+
+abbrev pub other : Version → Version
+other First = Second
+other Second = First
+
+-- what a way returns and writes is what the conversion does, whose refusals `ConversionNumbers` has by number
+pub record Converting (v : Version) (bytes out : List ℕ) : Type 0 where
+  pub refusal-told : convertedFrom v bytes out .result .reply .refusal ≡ writtenNumber (converted v (other v) bytes out)
+  pub written-told : convertedFrom v bytes out .result .written ≡ writtenLength (converted v (other v) bytes out)
+  pub output-told : convertedFrom v bytes out .output ≡ convertedOut v (other v) bytes out
+
 abbrev pub TripsTell : Type 0
-TripsTell =
-    (v w : Version) (bytes out : List ℕ) →
-    (converting v w bytes out .result .reply .refusal ≡ writtenNumber (converted v w bytes out))
-    × (converting v w bytes out .result .written ≡ writtenLength (converted v w bytes out))
-    × (converting v w bytes out .output ≡ convertedOut v w bytes out)
+TripsTell = (v : Version) (bytes out : List ℕ) → Converting v bytes out
 
 -- where the one way wrote its bytes, they say the same state and need no raising, and the other way writes of them
 -- those that were handed, with the raised clock in their first line, if its output is long enough
-abbrev pub ReturnsBytes : Version → Version → Type 0
-ReturnsBytes v w =
-    (bytes out back : List ℕ) →
-    converting v w bytes out .result .reply .word ≡ done →
-    length (siteLine v (loadedAs v bytes .site) ++ rest bytes) ≤ length back →
-    (loadedAs w (bytesWritten (converting v w bytes out)) ≡ loadedAs v bytes)
-    × (raisingAs w (bytesWritten (converting v w bytes out)) ≡ false)
-    × (converting w v (bytesWritten (converting v w bytes out)) back .result .reply .word ≡ done)
-    × (bytesWritten (converting w v (bytesWritten (converting v w bytes out)) back)
-    ≡ siteLine v (loadedAs v bytes .site) ++ rest bytes)
-    × (raisingAs v bytes ≡ false →
-    bytesWritten (converting w v (bytesWritten (converting v w bytes out)) back) ≡ bytes)
+pub record ReturnsBytes (v : Version) (bytes out back : List ℕ) : Type 0 where
+  pub same-state : loadedAs (other v) (bytesWritten (convertedFrom v bytes out)) ≡ loadedAs v bytes
+  pub unraised : raisingAs (other v) (bytesWritten (convertedFrom v bytes out)) ≡ false
+  pub way-back :
+      convertedFrom (other v) (bytesWritten (convertedFrom v bytes out)) back .result .reply .word ≡ done
+  pub line-raised :
+      bytesWritten (convertedFrom (other v) (bytesWritten (convertedFrom v bytes out)) back)
+      ≡ siteLine v (loadedAs v bytes .site) ++ rest bytes
+  pub same-bytes :
+      raisingAs v bytes ≡ false →
+      bytesWritten (convertedFrom (other v) (bytesWritten (convertedFrom v bytes out)) back) ≡ bytes
 
 -- the way back after the way forward, and the way forward after the way back
 abbrev pub TripsReturn : Type 0
-TripsReturn = ReturnsBytes First Second × ReturnsBytes Second First
-
--- ---- outputs of the header's sizes
-
--- the result is not refusal 12
-abbrev pub HasRoom : Result → Type 0
-HasRoom x = x .reply .refusal ≡ 12 → ⊥
-
--- they are long enough, whatever else is handed
-abbrev pub BuffersSuffice : Type 0
-BuffersSuffice =
-    ((number : ℕ) (out : List ℕ) → savedMost ≤ length out → HasRoom (beginning number out .result))
-    × ((bytes line out : List ℕ) → savedMost ≤ length out → HasRoom (receivingLine bytes line out .result))
-    × ((bytes : List ℕ) (point n : ℕ) (out line : List ℕ) → savedMost ≤ length out → insertMost ≤ length line →
-    HasRoom (insertingHere bytes point n out line .result))
-    × ((bytes : List ℕ) (index : ℕ) (out line : List ℕ) → savedMost ≤ length out → toggleMost ≤ length line →
-    HasRoom (deletingHere bytes index out line .result))
-    × ((bytes : List ℕ) (site clock : ℕ) (out line : List ℕ) → savedMost ≤ length out → toggleMost ≤ length line →
-    HasRoom (restoringHere bytes site clock out line .result))
-    × ((bytes out : List ℕ) → textMost ≤ length out → HasRoom (showingText bytes out .result))
-    × ((bytes line : List ℕ) (gap : ℕ) (out : List ℕ) → savedMost ≤ length out →
-    HasRoom (receivingLineAt bytes line gap out .result))
-    × ((bytes out : List ℕ) → savedMost ≤ length out → HasRoom (upgrading bytes out .result))
-    × ((bytes out : List ℕ) → firstMost ≤ length out → HasRoom (downgrading bytes out .result))
+TripsReturn =
+    (v : Version) (bytes out back : List ℕ) → convertedFrom v bytes out .result .reply .word ≡ done →
+    length (siteLine v (loadedAs v bytes .site) ++ rest bytes) ≤ length back → ReturnsBytes v bytes out back

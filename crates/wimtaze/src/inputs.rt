@@ -6,7 +6,7 @@ ghost use mathlib.Core.Path.{_≡_};
 ghost use Rattle.codec.specs.Calls.{readAs, saidBy};
 ghost use Rattle.woot.specs.Ranges.{characterId};
 ghost use Rattle.wimtaze.specs.Calls.{oneLine, named};
-ghost use Rattle.wimtaze.specs.Inputs.{layoutFirst, firstOf};
+ghost use Rattle.wimtaze.specs.Inputs.{firstOf};
 
 // Reads one line, after which no byte may follow.
 pub(crate) fn read_one(line: &[u8]) -> Read
@@ -35,22 +35,12 @@ pub(crate) fn names_character(site: u64, clock: u64) -> bool
     clock <= 65535
 }
 
-// Of two refusals of what was handed, 1 comes first.
-fn layout_first(one: Refusal, other: Refusal) -> Refusal
-    ensures { λ r. ⌜ r ≡ layoutFirst one other ⌝ }
-{
-    if one.number() == 1 {
-        return one;
-    }
-    other
-}
-
-// The refusal of a saved replica or of what else was handed.
+// The refusal of a saved replica or of what else was handed, the earlier one where both have one.
 pub(crate) fn first_of(answer: LoadAnswer, other: Refusal) -> Refusal
     ensures { λ r. ⌜ r ≡ firstOf answer other ⌝ }
 {
     match answer {
         LoadAnswer::Done => other,
-        LoadAnswer::Refused(one) => layout_first(one, other),
+        LoadAnswer::Refused(one) => one.earlier(other),
     }
 }

@@ -1,24 +1,16 @@
--- `wimtaze::wimtaze_counts` meets its contract: what the reader refuses is refused, and what it reads is counted.
+-- `wimtaze::wimtaze_counts` meets its contract: its body leaves what the list of its conditions says.
+use mathlib.Core.List.{[]}
 use mathlib.Core.Path.{sym, ap, _∙_}
 use Rattle.results.specs.Results.{numberOf}
-use Rattle.wimtaze.proofs.Refusals.{refused-alone, passed}
-use Rattle.wimtaze.proofs.Bridging.{counts-refused, counts-passed}
+use Rattle.wimtaze.proofs.Bodies.{counts-body}
 use borrow.Author.Needs.{needs}
 use Rattle.wimtaze.proofs.wimtaze_counts.Statement.{statement}
 use Rattle.wimtaze.proofs.wimtaze_counts.Tie as tie
 
 returns : tie.Need-returns
-returns c =
-    c .refused .ensures
-    ∙ ap numberOf (sym (counts-refused _ (refused-alone _ _ (c .before .before .before .before .read .ensures) _ (c .before .before .answer .given .1))))
-
-returns-2 : tie.Need-returns-2
-returns-2 c =
-    let p = passed _ _ (c .before .before .before .before .read .ensures) (c .before .before .enum-told .given .1) in
-    c .count .ensures ∙ ap numberOf (sym (counts-passed _ (p .0) (p .1)))
+returns c = c .count .ensures ∙ ap numberOf (sym (counts-body _ []))
 
 pub wimtaze-counts-spec : {M : Type 1} → statement M
 wimtaze-counts-spec =
     tie.close
-    (tie.spec (λ c κs. search needs) (λ c. search needs) (λ c κs. search needs) (λ c. search needs)
-    (λ c κs. search needs) returns returns-2)
+    (tie.spec (λ c κs. search needs) returns)

@@ -1,49 +1,15 @@
--- `wimtaze::wimtaze_empty` meets its contract: the number decides first.
-use mathlib.Core.Path.{refl, ap, _∙_}
-use Prim.Native.Nat.{ℕ}
-use borrow.Author.Tests.{le-leb, lt-leb}
-use native.Mathlib.Omega.{arith}
-use Rattle.woot.specs.Ranges.{within, siteNumber}
-use Rattle.woot.specs.Answers.{decided}
-use Rattle.effects.specs.Effects.{quiet, turned}
-use Rattle.woot.specs.State.{initial}
-use Rattle.saved.specs.Calls.{bytesOf}
-use Rattle.wimtaze.specs.Calls.{beginning}
-use Rattle.woot.specs.Memory.{replicaWellFormed}
-use Rattle.replica.proofs.Runs.{initial-within}
-use Rattle.replica.proofs.Kept.{empty-replica-formed}
-use Rattle.wimtaze.proofs.Bridging.{stored-bytes}
+-- `wimtaze::wimtaze_empty` meets its contract: its body leaves what the list of its conditions says.
+use mathlib.Core.List.{[]}
+use Rattle.effects.proofs.Outputs.{carried}
+use Rattle.wimtaze.proofs.Bodies.{empty-body}
 use borrow.Author.Needs.{needs}
 use Rattle.wimtaze.proofs.wimtaze_empty.Statement.{statement}
 use Rattle.wimtaze.proofs.wimtaze_empty.Tie as tie
 
 returns : tie.Need-returns
-unfolding beginning siteNumber within decided turned quiet
-returns c =
-    let n : ℕ = c .before .before .before .args .number in
-    rw (lt-leb 1 n (omega arith)) (c .refused .ensures, refl, refl)
-
-returns-2 : tie.Need-returns-2
-unfolding beginning siteNumber within decided turned quiet
-returns-2 c =
-    let n : ℕ = c .before .before .before .before .args .number in
-    rw (le-leb 1 n (omega arith), lt-leb n 16 (omega arith)) (c .refused2 .ensures, refl, refl)
-
-save-requires : tie.Need-save-requires
-unfolding siteNumber within
-save-requires c κs =
-    let n : ℕ = c .before .before .before .before .before .args .number in
-    ap replicaWellFormed (c .before .empty .ensures) ∙ empty-replica-formed n ∙ rw (le-leb 1 n (omega arith), le-leb n 16 (omega arith)) refl
-
-returns-3 : tie.Need-returns-3
-unfolding beginning siteNumber within decided
-returns-3 c =
-    let n : ℕ = c .before .before .before .before .before .before .before .before .args .number in
-    let bytes = ap bytesOf (c .before .before .before .before .empty .ensures) ∙ stored-bytes (initial n) (initial-within n) in
-    rw (le-leb 1 n (omega arith), le-leb n 16 (omega arith), ← bytes) (c .before .before .save .ensures)
+returns c = carried (empty-body [] _ _) (c .before .before .begin .ensures)
 
 pub wimtaze-empty-spec : {M : Type 1} → statement M
 wimtaze-empty-spec =
     tie.close
-    (tie.spec (λ c κs. search needs) returns (λ c κs. search needs) returns-2 (λ c. search needs)
-    (λ c κs. search needs) save-requires (λ c. search needs) returns-3)
+    (tie.spec (λ c κs. search needs) (λ c. search needs) returns)

@@ -10,7 +10,7 @@ returns c = rw (c .enum-told .given .1)
 
 returns-2 : tie.Need-returns-2
 unfolding firstOf
-returns-2 c = rw (c .before .before .answer .given .1) (c .layout-first .ensures)
+returns-2 c = rw (c .before .before .answer .given .1) (c .earlier .ensures)
 
 pub first-of-spec : {M : Type 1} → statement M
 first-of-spec =

@@ -1,0 +1,47 @@
+-- The list of calls is computed: every definition on its way is opened.
+use mathlib.Core.Path.{refl}
+use Rattle.codec.specs.Calls.{asWritten, lineLaidOut, laidOut, saidBy}
+use Rattle.codec.specs.Operations.{insertNumbers, toggleNumbers, identifierAt, insertOf, toggleOf, deleteOf, isInsert, isToggle, isDelete, operationOf, operationLine}
+use Rattle.consistency.specs.Copies.{bytesAfter, wordRead, writtenRead, wordOf, keptBytes, whenMade, rulesOf, renews, onBytes, stepOn, begun}
+use Rattle.cursor.specs.Bits.{shiftBits}
+use Rattle.decimal.specs.Numeral.{isDigit, leadingZero, isNumeral, valueOf, digitsIn, digits}
+use Rattle.effects.specs.Effects.{quiet}
+use Rattle.lines.specs.Answers.{holding, verdictOn, numbersOf, goesOn, numbersAfter}
+use Rattle.lines.specs.Fields.{numerals, hasLayout, valuesOf, lineOf}
+use Rattle.lines.specs.Lines.{ended, firstLine, rest, closed}
+use Rattle.output.specs.Output.{hasRoom, placed}
+use Rattle.results.specs.Results.{result, silent, inBits, numberOf}
+use Rattle.saved.specs.Calls.{loadedAs}
+use Rattle.saved.specs.Format.{siteNumbers, siteOf, isSite, siteSaid, siteLine, toggleField, characterNumbers, characterOf, isCharacter, characterSaid, characterLine, isOperation, operationSaid, savedLine, headLine, characterLines, operationLines, laidOutAs, stateAs, characterWithin, operationWithin, inRangeAs, bytesAs}
+use Rattle.wimtaze.specs.Calls.{inputChecks, oneLine, handedChecks, ruleChecks, productOf, callChecks, effectOf}
+use Rattle.woot.specs.Answers.{decided, reply, changes, answerOf}
+use Rattle.woot.specs.Calls.{unchanged, withCharacters, withPending, afterDrain, insertCarried, duplicate, conflicting, senderFull, documentFull, receiveChecks, carryOut, defer, accept, receiveWhen, receive, visibles, nextIdentifier, generatedInsert, beyondVisible, identifierTaken, insertChecks, sendInsert, localInsertWhen, localInsert, togglesOf, generatedToggle, sendToggle, notVisible, deleteChecks, generatedDelete, localDeleteWhen, localDelete, notHidden, exhausted, restoreChecks, localRestoreWhen, localRestore}
+use Rattle.woot.specs.Clock.{ownInsert, heard}
+use Rattle.woot.specs.Cursor.{through, visibleThrough, cursorAfter, receiveAtChecks, receiveAtWhen, receiveAt, newGap, shiftOf, shiftAt}
+use Rattle.woot.specs.Form.{presentInserts, allInRange, sharesKept, capacityKept, identifiersDistinct, togglesDistinct, ordered, neighboursOrdered, noneExecutable, clockReaches, clockKept, wellFormed, raised}
+use Rattle.woot.specs.Identifiers.{same, below}
+use Rattle.woot.specs.Operations.{sender, character, origin, isVisible, withToggles, toggledBy, sameInsert, sameToggle, sameOperation}
+use Rattle.woot.specs.Pending.{executable, crossed, unplaceable, integrate, pendingFrom, earliest, andIntegrated, andDiscarded, drained, drainSteps, drain}
+use Rattle.woot.specs.Placing.{sequence, indexOf, placeOf, held as placing-held, above, adjacent, candidate, candidates, narrowed, search, position, between, insertAt, integrateInsert, integrateToggle}
+use Rattle.woot.specs.Ranges.{within, siteNumber, codePoint, characterId, previousId, nextId, siteInRange, insertInRange, toggleInRange, inRange, characterInRange}
+use Rattle.woot.specs.State.{initial, blankCharacter, blankOperation}
+use Rattle.consistency.specs.Examples.{CallsExample}
+
+pub calls-example : CallsExample
+unfolding asWritten lineLaidOut laidOut saidBy insertNumbers toggleNumbers identifierAt insertOf toggleOf deleteOf isInsert isToggle isDelete
+    operationOf operationLine bytesAfter wordRead writtenRead wordOf keptBytes whenMade rulesOf renews onBytes stepOn begun shiftBits isDigit
+    leadingZero isNumeral valueOf digitsIn digits quiet holding verdictOn numbersOf goesOn numbersAfter numerals hasLayout valuesOf lineOf ended
+    firstLine rest closed hasRoom placed result silent inBits numberOf loadedAs siteNumbers siteOf isSite siteSaid siteLine toggleField
+    characterNumbers characterOf isCharacter characterSaid characterLine isOperation operationSaid savedLine headLine characterLines operationLines
+    laidOutAs stateAs characterWithin operationWithin inRangeAs bytesAs inputChecks oneLine handedChecks ruleChecks productOf callChecks effectOf
+    reply changes answerOf unchanged withCharacters withPending afterDrain insertCarried duplicate conflicting senderFull documentFull receiveChecks
+    carryOut defer accept receiveWhen receive visibles nextIdentifier generatedInsert beyondVisible identifierTaken insertChecks sendInsert
+    localInsertWhen localInsert togglesOf generatedToggle sendToggle notVisible deleteChecks generatedDelete localDeleteWhen localDelete notHidden
+    exhausted restoreChecks localRestoreWhen localRestore ownInsert heard through visibleThrough cursorAfter receiveAtChecks receiveAtWhen receiveAt
+    newGap shiftOf shiftAt presentInserts allInRange sharesKept capacityKept identifiersDistinct togglesDistinct ordered neighboursOrdered
+    noneExecutable clockReaches clockKept wellFormed raised same below sender character origin isVisible withToggles toggledBy sameInsert sameToggle
+    sameOperation executable crossed unplaceable integrate pendingFrom earliest andIntegrated andDiscarded drained drainSteps drain sequence indexOf
+    placeOf placing-held above adjacent candidate candidates narrowed search position between insertAt integrateInsert integrateToggle within
+    siteNumber codePoint characterId previousId nextId siteInRange insertInRange toggleInRange inRange characterInRange initial blankCharacter
+    blankOperation decided
+calls-example = record { bytes-left = refl; replies = refl; rules-made = refl }

@@ -1,0 +1,90 @@
+-- One list of calls for C, computed to the bytes that it leaves: a step that does nothing, or does something else, is told
+-- by it. Proved in proofs/ under its name in small letters.
+use Prim.Native.Nat.{ℕ, _/_, _%_}
+use mathlib.Core.Path.{_≡_}
+use mathlib.Core.List.{List, [], _∷_, _++_, map}
+use lib.ListN.{replicate}
+use Rattle.woot.specs.Answers.{Word, done, waits, known, refused}
+use Rattle.woot.specs.Histories.{inserting, deleting, restoring, receiving, receivingAt}
+use Rattle.codec.specs.Calls.{saidBy}
+use Rattle.results.specs.Results.{numberOf}
+use Rattle.effects.specs.Effects.{Effect}
+use Rattle.wimtaze.specs.Calls.{CCall, «wimtaze_receive», «wimtaze_receive_at», «wimtaze_type», «wimtaze_erase», «wimtaze_restore», named, effectOf}
+use Rattle.consistency.specs.Copies.{asBytes, Call, bytesCall, forC, emptyBytes, begun, ran, rulesBy, keptBytes, wordOf}
+
+-- outputs that are long enough, with nothing in them
+abbrev pub room : List ℕ
+room = replicate 120 0
+
+-- `I 2 1 66 1 1 0 1`: laptop 2 typed B below 1/1
+abbrev pub insertedLine : List ℕ
+insertedLine =
+    73 ∷ 9 ∷ 50 ∷ 9 ∷ 49 ∷ 9 ∷ 54 ∷ 54 ∷ 9 ∷ 49 ∷ 9 ∷ 49 ∷ 9 ∷ 48 ∷ 9 ∷ 49 ∷ 10 ∷ []
+
+-- `E 2 1 2 1`: and erased 1/2
+abbrev pub erasedLine : List ℕ
+erasedLine =
+    69 ∷ 9 ∷ 50 ∷ 9 ∷ 49 ∷ 9 ∷ 50 ∷ 9 ∷ 49 ∷ 10 ∷ []
+
+-- `E 2 7 7 1`: and something that has not come
+abbrev pub strayLine : List ℕ
+strayLine =
+    69 ∷ 9 ∷ 50 ∷ 9 ∷ 55 ∷ 9 ∷ 55 ∷ 9 ∷ 49 ∷ 10 ∷ []
+
+-- laptop 1 types N and o, erases N and brings it back; B comes, and a cursor below N is kept as o is erased. What is
+-- turned away leaves the copy: a gap that is not there, a surrogate, an identifier that no character has, one that is
+-- shown, bytes behind a line. B is known when it comes again, and what has not come is waited for
+abbrev pub exampleCalls : List CCall
+exampleCalls =
+    «wimtaze_type» 0 78 ∷ «wimtaze_type» 1 111 ∷ «wimtaze_erase» 1 ∷ «wimtaze_restore» 1 1
+    ∷ «wimtaze_receive» insertedLine
+    ∷ «wimtaze_receive_at» erasedLine 1
+    ∷ «wimtaze_type» 9 65
+    ∷ «wimtaze_type» 0 55296
+    ∷ «wimtaze_restore» 0 1
+    ∷ «wimtaze_restore» 1 1
+    ∷ «wimtaze_receive» (erasedLine ++ 10 ∷ [])
+    ∷ «wimtaze_receive» insertedLine
+    ∷ «wimtaze_receive» strayLine
+    ∷ []
+
+abbrev pub withRoom : CCall → Call
+withRoom c = bytesCall (forC c room room)
+
+-- S2 1 2; C 1 1 78 2 0 0 0 1; C 1 2 111 1 1 1 0 1; C 2 1 66 0 1 1 0 1; E 2 7 7 1
+abbrev pub exampleBytes : List ℕ
+exampleBytes =
+    (83 ∷ 50 ∷ 9 ∷ 49 ∷ 9 ∷ 50 ∷ 10 ∷ [])
+    ++ (67 ∷ 9 ∷ 49 ∷ 9 ∷ 49 ∷ 9 ∷ 55 ∷ 56 ∷ 9 ∷ 50 ∷ 9 ∷ 48 ∷ 9 ∷ 48 ∷ 9 ∷ 48 ∷ 9 ∷ 49 ∷ 10 ∷ [])
+    ++ (67 ∷ 9 ∷ 49 ∷ 9 ∷ 50 ∷ 9 ∷ 49 ∷ 49 ∷ 49 ∷ 9 ∷ 49 ∷ 9 ∷ 49 ∷ 9 ∷ 49 ∷ 9 ∷ 48 ∷ 9 ∷ 49 ∷ 10 ∷ [])
+    ++ (67 ∷ 9 ∷ 50 ∷ 9 ∷ 49 ∷ 9 ∷ 54 ∷ 54 ∷ 9 ∷ 48 ∷ 9 ∷ 49 ∷ 9 ∷ 49 ∷ 9 ∷ 48 ∷ 9 ∷ 49 ∷ 10 ∷ [])
+    ++ (69 ∷ 9 ∷ 50 ∷ 9 ∷ 55 ∷ 9 ∷ 55 ∷ 9 ∷ 49 ∷ 10 ∷ [])
+
+-- the refusal's number, as a C program reads it off the returned number
+abbrev pub refusalRead : ℕ → ℕ
+refusalRead r = r / 4 % 64
+
+-- the words and refusals that the calls reply with, each given the bytes that the one before left
+abbrev pub repliesOf : List ℕ → List CCall → List (Word × ℕ)
+repliesOf bytes [] = []
+repliesOf bytes (c ∷ cs) =
+    let e : Effect = effectOf c bytes room room in
+    (wordOf e, refusalRead (numberOf (e .result))) ∷ repliesOf (keptBytes bytes e) cs
+
+-- the copy is these bytes then, the calls said so, and these calls of the rules were made; they begin with S2 1 0
+pub record CallsExample : Type 0 where
+  pub bytes-left : ran (begun (emptyBytes 1 room)) (map withRoom exampleCalls) ≡ asBytes exampleBytes
+  pub replies :
+      repliesOf (83 ∷ 50 ∷ 9 ∷ 49 ∷ 9 ∷ 48 ∷ 10 ∷ []) exampleCalls
+      ≡ (done, 0) ∷ (done, 0) ∷ (done, 0) ∷ (done, 0) ∷ (done, 0) ∷ (done, 0) ∷ (refused, 4) ∷ (refused, 2) ∷ (refused, 2)
+      ∷ (refused, 13)
+      ∷ (refused, 1)
+      ∷ (known, 0)
+      ∷ (waits, 0)
+      ∷ []
+  pub rules-made :
+      rulesBy (begun (emptyBytes 1 room)) (map withRoom exampleCalls)
+      ≡ inserting 0 78 ∷ inserting 1 111 ∷ deleting 1 ∷ restoring (named 1 1) ∷ receiving (saidBy insertedLine)
+      ∷ receivingAt (saidBy erasedLine) 1
+      ∷ receiving (saidBy strayLine)
+      ∷ []

@@ -1,0 +1,29 @@
+-- `wimtaze::sheets::show` meets its contract: what the reader refuses is refused, and what it reads is shown.
+use mathlib.Core.Path.{refl, _∙_}
+use mathlib.Core.List.{[]}
+use Rattle.effects.specs.Effects.{quiet, turned}
+use Rattle.wimtaze.specs.Steps.{showingText}
+use Rattle.wimtaze.proofs.Refusals.{refused-alone, passed}
+use Rattle.effects.proofs.Outputs.{carried, turned-away}
+use Rattle.wimtaze.proofs.Bridging.{goes-on, text-bridge}
+use borrow.Author.Needs.{needs}
+use Rattle.wimtaze.proofs.sheets.show.Statement.{statement}
+use Rattle.wimtaze.proofs.sheets.show.Tie as tie
+
+returns : tie.Need-returns
+unfolding showingText turned quiet
+returns c =
+    carried (turned-away _ _ _ (refused-alone _ _ (c .before .before .before .before .read .ensures) _ (c .before .before .answer .given .1))) (c .refused .ensures, refl, refl)
+
+returns-2 : tie.Need-returns-2
+unfolding showingText
+returns-2 c =
+    let out = c .before .before .before .before .before .before .before .before .before .before .args .out .now in
+    let p = passed _ _ (c .before .before .before .before .before .before .before .read .ensures) (c .before .before .before .before .before .enum-told .given .1) in
+    carried (goes-on out [] _ (p .0) ∙ text-bridge _ _ (p .1) out) (c .before .before .show .ensures)
+
+pub show-spec : {M : Type 1} → statement M
+show-spec =
+    tie.close
+    (tie.spec (λ c κs. search needs) (λ c. search needs) (λ c κs. search needs) (λ c. search needs)
+    (λ c κs. search needs) returns (λ c. search needs) returns-2)

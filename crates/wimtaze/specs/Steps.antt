@@ -1,0 +1,83 @@
+-- For the proofs of the code alone: what the bodies of the calls leave, of the refusals over what was handed and then of
+-- the rule.
+use Prim.Native.Nat.{ℕ}
+use mathlib.Core.Bool.{true, not}
+use mathlib.Core.List.{List, [], _∷_}
+use Rattle.woot.specs.declared.Refusal.the-variants.{Range}
+use Rattle.woot.specs.declared.Answer.the-variants.{Done, Refused}
+use Rattle.woot.specs.Ranges.{siteNumber, codePoint, characterId, inRange}
+use Rattle.woot.specs.State.{initial}
+use Rattle.woot.specs.Answers.{_⇒_, first, decided}
+use Rattle.woot.specs.Calls.{receive, localInsert, localDelete, localRestore}
+use Rattle.woot.specs.Cursor.{receiveAt, shiftAt}
+use Rattle.woot.specs.Text.{text}
+use Rattle.codec.specs.Calls.{saidBy}
+use Rattle.saved.specs.declared.Version.{Version}
+use Rattle.saved.specs.declared.Version.the-variants.{First, Second}
+use Rattle.saved.specs.Format.{savedBytes}
+use Rattle.saved.specs.Calls.{loadedState}
+use Rattle.saved.specs.Conversion.{conversion, conversionRefusals}
+use Rattle.results.specs.Results.{Result, silent}
+use Rattle.effects.specs.Effects.{Effect, turned, writing, afterReceiving, afterReceivingAt, afterSending}
+use Rattle.counts.specs.Counts.{countsOf}
+use Rattle.wimtaze.specs.Calls.{inputChecks, oneLine, named}
+
+-- `wimtaze_empty`
+unfoldable pub beginning : ℕ → List ℕ → Effect
+beginning number out =
+    decided (turned out []) (first ((not (siteNumber number) ⇒ Range) ∷ []))
+    (writing (Done 0 0) (savedBytes (initial number)) out)
+
+-- `wimtaze_receive`
+unfoldable pub receivingLine : List ℕ → List ℕ → List ℕ → Effect
+receivingLine bytes line out =
+    decided (turned out []) (first (inputChecks bytes (oneLine line) (inRange (saidBy line))))
+    (afterReceiving (receive (loadedState bytes) (saidBy line)) out)
+
+-- `wimtaze_receive_at`: document 02, Req 02
+unfoldable pub receivingLineAt : List ℕ → List ℕ → ℕ → List ℕ → Effect
+receivingLineAt bytes line gap out =
+    decided (turned out []) (first (inputChecks bytes (oneLine line) (inRange (saidBy line))))
+    (afterReceivingAt (receiveAt (loadedState bytes) (saidBy line) gap) (shiftAt (loadedState bytes) (saidBy line) gap)
+    out)
+
+-- `wimtaze_type`
+unfoldable pub insertingHere : List ℕ → ℕ → ℕ → List ℕ → List ℕ → Effect
+insertingHere bytes point n out line =
+    decided (turned out line) (first (inputChecks bytes true (codePoint n)))
+    (afterSending (localInsert (loadedState bytes) point n) out line)
+
+-- `wimtaze_erase`
+unfoldable pub deletingHere : List ℕ → ℕ → List ℕ → List ℕ → Effect
+deletingHere bytes index out line =
+    decided (turned out line) (first (inputChecks bytes true true))
+    (afterSending (localDelete (loadedState bytes) index) out line)
+
+-- `wimtaze_restore`
+unfoldable pub restoringHere : List ℕ → ℕ → ℕ → List ℕ → List ℕ → Effect
+restoringHere bytes site clock out line =
+    decided (turned out line) (first (inputChecks bytes true (characterId (named site clock))))
+    (afterSending (localRestore (loadedState bytes) (named site clock)) out line)
+
+-- `wimtaze_text`
+unfoldable pub showingText : List ℕ → List ℕ → Effect
+showingText bytes out =
+    decided (turned out []) (first (inputChecks bytes true true))
+    (writing (Done 0 0) (text (loadedState bytes .characters)) out)
+
+-- between the two forms
+unfoldable pub converting : Version → Version → List ℕ → List ℕ → Effect
+converting v w bytes out =
+    decided (turned out []) (first (conversionRefusals v w bytes)) (writing (Done 0 0) (conversion v w bytes) out)
+
+-- `wimtaze_upgrade`
+abbrev pub upgrading : List ℕ → List ℕ → Effect
+upgrading bytes out = converting First Second bytes out
+
+-- `wimtaze_downgrade`
+abbrev pub downgrading : List ℕ → List ℕ → Effect
+downgrading bytes out = converting Second First bytes out
+
+-- `wimtaze_counts`
+unfoldable pub counting : List ℕ → Result
+counting bytes = decided (λ q. silent (Refused q)) (first (inputChecks bytes true true)) (countsOf (loadedState bytes))

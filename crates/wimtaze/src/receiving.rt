@@ -1,0 +1,29 @@
+// What the calls do that receive a line.
+use crate::inputs;
+use codec::Read;
+use saved::LoadAnswer;
+use saved::Version;
+ghost use mathlib.Core.List.{[]};
+ghost use Rattle.effects.specs.Effects.{Leaves};
+ghost use Rattle.wimtaze.specs.Steps.{receivingLineAt};
+
+// Receives the operation of a line with a cursor at an insertion point, and writes the new saved replica. The shift
+// goes into the last sixteen bits of what is returned. (Document 02, Req 02.)
+pub(crate) fn receive_at(bytes: &[u8], line: &[u8], point: u64, out: &mut [u8]) -> u64
+    ensures { λ r. ⌜ Leaves (receivingLineAt (now (bytes .entry)) (now (line .entry)) point (now (out .entry)))
+        r (now (out .exit)) [] ⌝ }
+{
+    let loaded = loading::read(Version::Second, bytes);
+    let answer = loaded.answer;
+    let said = inputs::read_one(line);
+    match said {
+        Read::Refused(q) => results::refused(inputs::first_of(answer, q)),
+        Read::Operation(o) => match answer {
+            LoadAnswer::Refused(q) => results::refused(q),
+            LoadAnswer::Done => {
+                let replica = loaded.replica;
+                effects::receive_at(replica, o, point as usize, out)
+            }
+        },
+    }
+}

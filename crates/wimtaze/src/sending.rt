@@ -1,0 +1,80 @@
+// What the calls do that make an operation here and give its line: inserting, deleting and restoring.
+use crate::inputs;
+use saved::LoadAnswer;
+use saved::Version;
+use woot::Refusal;
+ghost use Rattle.effects.specs.Effects.{Leaves};
+ghost use Rattle.wimtaze.specs.Steps.{insertingHere, deletingHere, restoringHere};
+
+// Inserts a character, and writes the new saved replica and the line to be sent.
+pub(crate) fn insert(
+    bytes: &[u8],
+    point: u64,
+    code_point: u32,
+    out: &mut [u8],
+    line_out: &mut [u8],
+) -> u64
+    ensures { λ r. ⌜ Leaves (insertingHere (now (bytes .entry)) point «code_point»
+        (now (out .entry)) (now («line_out» .entry)))
+        r (now (out .exit)) (now («line_out» .exit)) ⌝ }
+{
+    let loaded = loading::read(Version::Second, bytes);
+    let answer = loaded.answer;
+    if !ranges::code_point(code_point) {
+        return results::refused(inputs::first_of(answer, Refusal::Range));
+    }
+    match answer {
+        LoadAnswer::Refused(q) => results::refused(q),
+        LoadAnswer::Done => {
+            let replica = loaded.replica;
+            effects::send(
+                replica::insert(replica, point as usize, code_point),
+                out,
+                line_out,
+            )
+        }
+    }
+}
+
+// Deletes a visible character, and writes the new saved replica and the line to be sent.
+pub(crate) fn delete(bytes: &[u8], index: u64, out: &mut [u8], line_out: &mut [u8]) -> u64
+    ensures { λ r. ⌜ Leaves (deletingHere (now (bytes .entry)) index (now (out .entry)) (now («line_out» .entry)))
+        r (now (out .exit)) (now («line_out» .exit)) ⌝ }
+{
+    let loaded = loading::read(Version::Second, bytes);
+    let answer = loaded.answer;
+    match answer {
+        LoadAnswer::Refused(q) => results::refused(q),
+        LoadAnswer::Done => {
+            let replica = loaded.replica;
+            effects::send(replica::delete(replica, index as usize), out, line_out)
+        }
+    }
+}
+
+// Restores the hidden character that two numbers name, and writes the new saved replica and the line to be sent.
+pub(crate) fn restore(
+    bytes: &[u8],
+    site: u64,
+    clock: u64,
+    out: &mut [u8],
+    line_out: &mut [u8],
+) -> u64
+    ensures { λ r. ⌜ Leaves (restoringHere (now (bytes .entry)) site clock
+        (now (out .entry)) (now («line_out» .entry)))
+        r (now (out .exit)) (now («line_out» .exit)) ⌝ }
+{
+    let loaded = loading::read(Version::Second, bytes);
+    let answer = loaded.answer;
+    if !inputs::names_character(site, clock) {
+        return results::refused(inputs::first_of(answer, Refusal::Range));
+    }
+    match answer {
+        LoadAnswer::Refused(q) => results::refused(q),
+        LoadAnswer::Done => {
+            let replica = loaded.replica;
+            let id = codec::identifier(site, clock);
+            effects::send(replica::restore(replica, id), out, line_out)
+        }
+    }
+}
