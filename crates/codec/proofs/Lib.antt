@@ -6,3 +6,4 @@ pub mod Trips
 pub mod Sizes
 pub mod Refusals
 pub mod Answers
+pub mod Fitting

@@ -10,7 +10,7 @@ use woot::Refusal;
 use woot::Toggle;
 ghost use mathlib.Core.Path.{_≡_};
 ghost use mathlib.Core.Bool.{true};
-ghost use Prim.Native.Nat.{_<_};
+ghost use Prim.Native.Nat.{_<_, _%_};
 ghost use lib.ListN.{getD};
 ghost use Rattle.lines.specs.Lines.{rest};
 ghost use Rattle.lines.specs.Fields.{atMost};
@@ -39,12 +39,11 @@ pub enum Read {
     Refused(Refusal),
 }
 
-// The identifier of two numbers that fit it. A step of the calls and not a call: they have checked the numbers.
+// The identifier of the low bits of two numbers, which are the numbers where these fit it.
 pub fn identifier(site: u64, clock: u64) -> Identifier
-    requires { ⌜ (site < 256) × (clock < 65536) ⌝ }
-    ensures { λ r. ⌜ r ≡ record { site = site; clock = clock } ⌝ }
+    ensures { λ r. ⌜ r ≡ record { site = site % 256; clock = clock % 65536 } ⌝ }
 {
-    Identifier::new(site as u8, clock as u16)
+    Identifier::new((site % 256) as u8, (clock % 65536) as u16)
 }
 
 // The insert that numbers within their limits say.

@@ -12,6 +12,7 @@ use Rattle.woot.specs.Answers.{first}
 use Rattle.lists.proofs.Tests.{and-left, and-right}
 use Rattle.convergence.proofs.Ranges.{within-high}
 use Rattle.woot.specs.Replicas.{restored}
+use Rattle.codec.proofs.Fitting.{fits-whole}
 use Rattle.effects.specs.Effects.{quiet, turned}
 use Rattle.effects.specs.Steps.{generatedLeft}
 use Rattle.wimtaze.specs.Calls.{inputChecks, named}
@@ -39,9 +40,6 @@ returns c =
     let told = ap (λ (b : Bool). first (inputChecks s true b)) out-of-range ∙ refused-range _ _ (c .before .before .before .before .read .ensures) ∙ ap some (sym (c .before .first-of .ensures)) in
     carried (turned-away _ _ _ told) (c .refused .ensures, refl, refl)
 
-identifier-requires : tie.Need-identifier-requires
-identifier-requires c κs = named-fits _ _ (sym (c .before .before .before .before .names-character .ensures) ∙ not-false _ (c .before .before .before .if1 .left))
-
 send-requires : tie.Need-send-requires
 send-requires c κs = restore-sendable _ _ (c .before .before .restore .ensures)
 
@@ -59,7 +57,8 @@ returns-3 c =
     let a = c .before .before .before .before .before .before .before .before .before .before .before .before .before .before .before .before .before .before .args in
     let in-range = sym (c .before .before .before .before .before .before .before .before .before .before .before .before .before .names-character .ensures) ∙ not-false _ (c .before .before .before .before .before .before .before .before .before .before .before .before .if1 .left) in
     let p = passed _ _ (c .before .before .before .before .before .before .before .before .before .before .before .before .before .before .read .ensures) (c .before .before .before .before .before .before .before .before .before .before .enum-told .given .1) in
-    let g = c .before .before .before .before .before .before .before .restore .ensures ∙ ap (restored _) (c .before .before .before .before .before .before .before .before .identifier .ensures) in
+    let fit = named-fits _ _ in-range in
+    let g = c .before .before .before .before .before .before .before .restore .ensures ∙ ap (restored _) (fits-whole (c .before .before .before .before .before .before .before .before .identifier .ensures) (fit .0) (fit .1)) in
     carried
     (goes-on _ _ _ (ap (λ (b : Bool). first (inputChecks (a .bytes .now) true b)) in-range ∙ p .0) ∙ restore-bridge _ _ (p .1) _ _ _ in-range ∙ ap (λ (x : Generated). generatedLeft x (a .out .now) (a .line-out .now)) (sym g))
     (c .before .before .before .before .send .ensures)
@@ -68,5 +67,5 @@ pub restore-spec : {M : Type 1} → statement M
 restore-spec =
     tie.close
     (tie.spec (λ c κs. search needs) (λ c κs. search needs) (λ c κs. search needs) (λ c κs. search needs) returns
-    (λ c. search needs) (λ c κs. search needs) (λ c. search needs) identifier-requires (λ c κs. search needs)
+    (λ c. search needs) (λ c κs. search needs) (λ c. search needs) (λ c κs. search needs) (λ c κs. search needs)
     send-requires returns-2 (λ c. search needs) (λ c. search needs) returns-3)
