@@ -260,7 +260,7 @@ static enum wimtaze_refusals laptop_made(struct laptop *laptop, uint64_t reply, 
 
 /*
  * Types a character; refused with 11 also at the end of the laptop's share, and as long as it awaits others. The cursor
- * goes behind a character that is typed at it.
+ * goes behind a character that is typed at it, unless something that waited for the character came with it.
  */
 static enum wimtaze_refusals laptop_type(struct laptop *laptop, uint64_t gap, uint32_t code_point)
 {
@@ -271,7 +271,7 @@ static enum wimtaze_refusals laptop_type(struct laptop *laptop, uint64_t gap, ui
     uint64_t reply = wimtaze_type(laptop->sheet, laptop->length, gap, code_point, laptop->after, sizeof laptop->after,
                                   line, sizeof line);
     enum wimtaze_refusals refusal = laptop_made(laptop, reply, line);
-    if (at_cursor && refusal == WIMTAZE_REFUSAL_NONE)
+    if (at_cursor && wimtaze_carried(reply) == 1)
         laptop->cursor = wimtaze_moved(laptop->cursor, 1);
     return refusal;
 }

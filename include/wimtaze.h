@@ -112,12 +112,14 @@
  *
  * What is edited here moves the cursor too:
  *
- *     typing at the cursor     one further, behind the new character
+ *     typing at the cursor     one further, behind the new character, if wimtaze_carried is 1
  *     erasing                  one back if the place is at most the cursor, and else not
  *     restoring                one further if the character is above the cursor, and else not
  *
  * Whether it is above, and how far any edit made here moves another cursor, is learnt as for a line that comes: hand
  * the line that the edit wrote to wimtaze_receive_at, with the sheet as it was before. It writes the same new sheet.
+ * The same goes for typing where wimtaze_carried is more than 1: something that waited for the new character came with
+ * it, and may have erased it at once or put another above it.
  *
  *
  * The layouts

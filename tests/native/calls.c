@@ -1301,6 +1301,29 @@ static void own_edits(void)
     }
 }
 
+/*
+ * What waits for the character about to be typed comes with it: it is erased at once, or another goes above it. Then its
+ * own line, received with the cursor on the sheet as it was, says where a cursor goes that keeps to its left.
+ */
+static void typed_with_others(void)
+{
+    static const struct {
+        const char *before, *text;
+        unsigned carried;
+    } cases[] = {{"S2 16 0\n", "n", 1}, {"S2 16 0\nE 2 16 1 1\n", "", 2}, {"S2 16 0\nI 2 1 98 0 0 16 1\n", "bn", 2},
+        {"S2 16 0\nI 2 1 98 16 1 0 1\n", "nb", 2}, {"S2 16 0\nE 2 16 1 2\n", "n", 2}};
+    char line[LINE_ROOM];
+    for (size_t k = 0; k < sizeof cases / sizeof *cases; k++) {
+        load(cases[k].before);
+        uint64_t made = type(0, 'n');
+        line_written(made, line);
+        CHECK(done(made, cases[k].carried, 0) && first_is(text(), cases[k].text));
+        load(cases[k].before);
+        uint64_t reply = receive_at(0, line);
+        CHECK(done(reply, cases[k].carried, 0) && wimtaze_shift(reply) == 0 && first_is(text(), cases[k].text));
+    }
+}
+
 /* The shift is read off sixteen bits, whatever the others are, and added to any gap. */
 static void shifts_and_sums(void)
 {
@@ -1774,6 +1797,7 @@ static const struct {
     {"Req 02: refusals of receiving with a cursor", not_received_at},
     {"Req 02: the first of two refusals", first_of_two_at_a_gap},
     {"Req 02: edits that are made here", own_edits},
+    {"Req 02: what waits for a typed character", typed_with_others},
     {"Req 02: shifts and sums", shifts_and_sums},
     {"what an insert releases", released},
     {"placing", placing},
