@@ -16,6 +16,7 @@ use Rattle.woot.specs.Limits.{capacity}
 use Rattle.woot.specs.State.{State}
 use Rattle.woot.specs.Form.{wellFormed}
 use Rattle.woot.specs.Answers.{number, highestRefusal, Word, done, waits, known, refused, Reported}
+use Rattle.woot.specs.Calls.{beyondVisible}
 use Rattle.woot.specs.Cursor.{cursorAfter, shiftAt, lastNumber, movedBy}
 use Rattle.woot.specs.Text.{text}
 use Rattle.woot.specs.Memory.{pendingSlots}
@@ -272,6 +273,37 @@ CursorReturned =
     ≡ cursorAfter (loadedState bytes .characters)
     (loadedState (bytesWritten (receivedAtBy bytes line gap out)) .characters)
     gap
+
+-- the line that a call wrote to its second output
+abbrev pub lineWritten : Effect → List ℕ
+lineWritten e = take (e .result .line) (e .line)
+
+-- whether a call makes an edit here, and writes its line
+abbrev pub sends : CCall → Bool
+sends («wimtaze_empty» n) = false
+sends («wimtaze_receive» line) = false
+sends («wimtaze_receive_at» line gap) = false
+sends («wimtaze_type» gap n) = true
+sends («wimtaze_erase» place) = true
+sends («wimtaze_restore» site clock) = true
+sends «wimtaze_text» = false
+sends «wimtaze_counts» = false
+sends «wimtaze_upgrade» = false
+sends «wimtaze_downgrade» = false
+
+-- an effect replies and saves as another does
+pub record SavesAs (e f : Effect) : Type 0 where
+  pub same-reply : f .result .reply ≡ e .result .reply
+  pub same-bytes : bytesWritten f ≡ bytesWritten e
+
+-- the line of an edit made here, received with any cursor on the saved replica from before, does as the edit did: so the
+-- header tells programs to learn how far their own edits move a cursor
+abbrev pub OwnLineReceived : Type 0
+OwnLineReceived =
+    (c : CCall) (bytes out line : List ℕ) (gap : ℕ) (again : List ℕ) → sends c ≡ true →
+    effectOf c bytes out line .result .reply .word ≡ done → beyondVisible (loadedState bytes) gap ≡ false →
+    effectOf c bytes out line .result .written ≤ length again →
+    SavesAs (effectOf c bytes out line) (receivedAtBy bytes (lineWritten (effectOf c bytes out line)) gap again)
 
 -- with the gap at the top `wimtaze_receive_at` is `wimtaze_receive`
 abbrev pub TopReceives : Type 0
