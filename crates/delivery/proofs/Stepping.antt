@@ -46,7 +46,8 @@ use Rattle.pending.specs.Ready.{readyIn}
 use Rattle.pending.proofs.Earliest.{ready-executable, takes}
 use Rattle.memory.proofs.Operations.{operations-at, range-keyed}
 use Rattle.memory.proofs.Stored.{Parts}
-use Rattle.delivery.specs.Work.{Slots, Work, workOf, charactersAt, pendingAt, Workable, carried, stepped, finished, dueIn, takenFrom, steppedIn, finishedIn}
+use Rattle.memory.specs.Lent.{Slots}
+use Rattle.delivery.specs.Work.{Work, workOf, charactersAt, pendingAt, Workable, carried, stepped, finished, dueIn, takenFrom, steppedIn, finishedIn}
 use Rattle.delivery.specs.Steps.{placeOf}
 use Rattle.delivery.proofs.Works.{sound-small, sound-tabled, parts, parts-slots, used, ranged-at, work-characters, work-pending, work-waiting, work-integrated, work-discarded, work-tidy, work-path, carried-discarded, carried-integrated, carried-toggle, judged, carried-insert}
 

@@ -37,10 +37,10 @@ use Rattle.integration.specs.declared.Placement.{Placement}
 use Rattle.integration.specs.declared.Placement.the-variants.{Missing, Crossed, Unplaceable, Below}
 use Rattle.integration.specs.Placements.{placementOf}
 use Rattle.integration.proofs.Placements.{Says, says}
-use Rattle.memory.specs.Lent.{documentAs}
+use Rattle.memory.specs.Lent.{documentAs, Slots}
 use Rattle.memory.proofs.Operations.{AllKeyed, all-keyed, operations-every}
 use Rattle.memory.proofs.Stored.{Parts, document-path, document-parts, stored-characters, stored-operations, character-count, pending-count, ids-in, previous-in, next-in, points-in, toggles-in, own-in, first-in, second-in, values-in}
-use Rattle.delivery.specs.Work.{Slots, Lent, TidyDocument, Work, workOf, charactersAt, pendingAt, Workable, carried}
+use Rattle.delivery.specs.Work.{Lent, TidyDocument, Work, workOf, charactersAt, pendingAt, Workable, carried}
 
 -- ---- what sound lists are
 

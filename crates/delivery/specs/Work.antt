@@ -24,24 +24,10 @@ use Rattle.convergence.specs.Invariants.{Sound}
 use Rattle.index.specs.declared.Found.{Found}
 use Rattle.index.specs.declared.Found.the-variants.{At}
 use Rattle.index.specs.Keys.{firstIndex}
-use Rattle.memory.specs.Lent.{columnsAs}
+use Rattle.memory.specs.Lent.{columnsAs, Slots}
 use Rattle.delivery.specs.declared.Progress.{Progress}
 
 -- ---- lent arrays
-
--- their slots
-pub record Slots (d : Document) : Type 0 where
-  pub ids : length (d .ids) ≡ 1024
-  pub previous : length (d .previous) ≡ 1024
-  pub next : length (d .next) ≡ 1024
-  pub points : length (d .«code_points») ≡ 1024
-  pub toggles : length (d .toggles) ≡ 1024
-  pub own : length (d .own) ≡ 512
-  pub first : length (d .first) ≡ 512
-  pub second : length (d .second) ≡ 512
-  pub values : length (d .values) ≡ 512
-  pub heads : length (d .table .heads) ≡ 1024
-  pub links : length (d .table .links) ≡ 2048
 
 -- the counts are within the slots, and the numbers of the pending operations are theirs
 pub record Lent (d : Document) : Type 0 where

@@ -30,7 +30,6 @@ use Rattle.memory.specs.Columns.{charactersIn, operationsIn, meaning, do
 use Rattle.index.specs.Keys.{AllSmall}
 use Rattle.memory.proofs.Characters.{identifier-key, each-cong, each-all, rows-length, rows-keys, rows-previous, rows-next, rows-codes, rows-toggles}
 use Rattle.memory.proofs.Operations.{AllKeyed, operation-stored, operations-length, own-column, first-column, second-column, value-column}
-use Rattle.memory.proofs.Fullness.{FullDocument}
 
 -- ---- what is stored is meant
 

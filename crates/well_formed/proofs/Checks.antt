@@ -22,7 +22,7 @@ use Rattle.memory.specs.Columns.{charactersIn, operationsIn, meaning, counted, 
 use Rattle.memory.specs.Columns.{replicaWellFormed}
 use Rattle.index.specs.Tabled.{Tabled}
 use Rattle.index.proofs.Agreement.{agreeing-apart}
-use Rattle.memory.proofs.Fullness.{FullDocument}
+use Rattle.memory.specs.Lent.{Slots}
 use Rattle.memory.proofs.Stored.{Counts, counts, ids-in, own-in, first-in, second-in, values-in}
 use Rattle.well_formed.specs.Form.{rangesKept, clockReached}
 use Rattle.well_formed.specs.PendingForm.{pendingFormed}
@@ -63,7 +63,7 @@ module _ (r : Replica) where
       within : counted r ≡ true → replicaWellFormed r ≡ false
       within e = let f : allInRange (meaning r) ≡ false = and-false (counted r) (allInRange (meaning r)) (sym ranged-is ∙ h) e in rw (e, f)
 
-  module _ (full : FullDocument (r .document)) (h : ranged ≡ true) where
+  module _ (full : Slots (r .document)) (h : ranged ≡ true) where
     within-arrays : counted r ≡ true
     within-arrays = and-left (counted r) (allInRange (meaning r)) (sym ranged-is ∙ h)
 

@@ -3,12 +3,13 @@ use Prim.Native.Nat.{ℕ, _+_, _<_}
 use native.Mathlib.Omega.{arith}
 use mathlib.Core.Path.{_≡_, sym, ap, _∙_}
 use mathlib.Core.Bool.{true, not}
-use mathlib.Core.List.{map}
+use mathlib.Core.List.{List, map}
 use lib.Dec.{leb, eqb}
 use lib.ListN.{length, take, getD}
 use lib.Seq.{length-take-le}
 use Rattle.lists.specs.Lists.{keep}
 use Rattle.lists.proofs.Members.{get-member, every-member}
+use Rattle.woot.specs.declared.Site.{Site}
 use Rattle.woot.specs.declared.Character.{Character}
 use Rattle.woot.specs.declared.Operation.{Operation}
 use Rattle.memory.specs.Columns.{Replica}
@@ -27,7 +28,8 @@ use Rattle.index.specs.Keys.{AllSmall}
 use Rattle.index.specs.Tabled.{Tabled}
 use Rattle.memory.proofs.Characters.{rows-small, rows-at}
 use Rattle.memory.proofs.Operations.{AllKeyed, all-keyed, operations-at}
-use Rattle.memory.proofs.Fullness.{FullDocument}
+use Rattle.memory.specs.Lent.{Sized, Slots, replicaAs}
+use Rattle.memory.proofs.Fullness.{sized-slots}
 use Rattle.memory.proofs.Stored.{Storable, Counts, counts, form-counted, form-meant, form-table, character-count, pending-count, ids-in, previous-in, next-in}
 use Rattle.memory.proofs.Stored.{points-in, toggles-in, own-in, first-in, second-in, values-in}
 use Rattle.pending.specs.Counts.{sendersOf}
@@ -35,22 +37,14 @@ use Rattle.pending.proofs.Pending.{senders-are, count-sent, count-own}
 use Rattle.well_formed.specs.Examined.{Examined}
 
 -- what a call has of a replica that passed
-pub examined : (r : Replica) → FullDocument (r .document) → replicaWellFormed r ≡ true → Examined r
-examined r f h =
-    record {
-      form = h;
-      ids = f .ids;
-      previous = f .previous;
-      next = f .next;
-      points = f .points;
-      toggles = f .toggles;
-      own = f .own;
-      first = f .first;
-      second = f .second;
-      values = f .values;
-      heads = f .heads;
-      links = f .links;
-    }
+pub examined : (r : Replica) → Slots (r .document) → replicaWellFormed r ≡ true → Examined r
+examined r f h = record { form = h; slots = f }
+
+-- and of lent arrays that did
+pub lent-examined : (site : Site) {characters toggles pending heads links : List ℕ} (n w : ℕ) → Sized characters toggles pending heads links
+    → replicaWellFormed (replicaAs site characters toggles n pending w heads links) ≡ true
+    → Examined (replicaAs site characters toggles n pending w heads links)
+lent-examined site n w s h = record { form = h; slots = sized-slots n w s }
 
 module _ (r : Replica) (x : Examined r) where
   pub few : Counts (r .document)
@@ -81,40 +75,40 @@ module _ (r : Replica) (x : Examined r) where
   -- the slots in use hold the columns of the characters
   pub ids-used : take (r .document .length) (r .document .ids) ≡ keys (meaning r .characters)
   unfolding meaning
-  ids-used = sym (ids-in (r .document) (omega (arith, few .characters, x .ids)))
+  ids-used = sym (ids-in (r .document) (omega (arith, few .characters, x .slots .ids)))
 
   pub previous-used : take (r .document .length) (r .document .previous) ≡ previousKeys (meaning r .characters)
   unfolding meaning
-  previous-used = sym (previous-in (r .document) (omega (arith, few .characters, x .previous)))
+  previous-used = sym (previous-in (r .document) (omega (arith, few .characters, x .slots .previous)))
 
   pub next-used : take (r .document .length) (r .document .next) ≡ nextKeys (meaning r .characters)
   unfolding meaning
-  next-used = sym (next-in (r .document) (omega (arith, few .characters, x .next)))
+  next-used = sym (next-in (r .document) (omega (arith, few .characters, x .slots .next)))
 
   pub points-used : take (r .document .length) (r .document .«code_points») ≡ codePoints (meaning r .characters)
   unfolding meaning
-  points-used = sym (points-in (r .document) (omega (arith, few .characters, x .points)))
+  points-used = sym (points-in (r .document) (omega (arith, few .characters, x .slots .points)))
 
   pub toggles-used : take (r .document .length) (r .document .toggles) ≡ toggleCounts (meaning r .characters)
   unfolding meaning
-  toggles-used = sym (toggles-in (r .document) (omega (arith, few .characters, x .toggles)))
+  toggles-used = sym (toggles-in (r .document) (omega (arith, few .characters, x .slots .toggles)))
 
   -- and those of the pending operations
   pub own-used : take (r .document .waiting) (r .document .own) ≡ map ownKey (meaning r .pending)
   unfolding meaning
-  own-used = sym (own-in (r .document) (form .sound .pending-ranges) (omega (arith, few .pending, x .own)))
+  own-used = sym (own-in (r .document) (form .sound .pending-ranges) (omega (arith, few .pending, x .slots .own)))
 
   pub first-used : take (r .document .waiting) (r .document .first) ≡ map firstKey (meaning r .pending)
   unfolding meaning
-  first-used = sym (first-in (r .document) (form .sound .pending-ranges) (omega (arith, few .pending, x .first)))
+  first-used = sym (first-in (r .document) (form .sound .pending-ranges) (omega (arith, few .pending, x .slots .first)))
 
   pub second-used : take (r .document .waiting) (r .document .second) ≡ map secondKey (meaning r .pending)
   unfolding meaning
-  second-used = sym (second-in (r .document) (form .sound .pending-ranges) (omega (arith, few .pending, x .second)))
+  second-used = sym (second-in (r .document) (form .sound .pending-ranges) (omega (arith, few .pending, x .slots .second)))
 
   pub values-used : take (r .document .waiting) (r .document .values) ≡ map valueOf (meaning r .pending)
   unfolding meaning
-  values-used = sym (values-in (r .document) (form .sound .pending-ranges) (omega (arith, few .pending, x .values)))
+  values-used = sym (values-in (r .document) (form .sound .pending-ranges) (omega (arith, few .pending, x .slots .values)))
 
   -- what a slot in use holds
   pub character-read : (k : ℕ) (d : Character) → k < r .document .length
@@ -141,9 +135,9 @@ module _ (r : Replica) (x : Examined r) where
   unfolding tableAgrees
   examined-tabled =
       record {
-        heads = x .heads;
-        links = x .links;
-        few = omega (arith, few .characters, length-take-le (r .document .length) (r .document .ids) (omega (arith, few .characters, x .ids)));
+        heads = x .slots .heads;
+        links = x .slots .links;
+        few = omega (arith, few .characters, length-take-le (r .document .length) (r .document .ids) (omega (arith, few .characters, x .slots .ids)));
         agree = ap (agrees (r .document .table)) ids-used ∙ form-table r (x .form);
       }
 

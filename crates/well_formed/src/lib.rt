@@ -7,48 +7,47 @@ pub mod order;
 pub mod waiting;
 
 use index::table;
+use woot::CHARACTER_NUMBERS;
 use woot::CHARACTERS;
+use woot::CODE_POINTS;
+use woot::FIRST_KEYS;
+use woot::NEXT_KEYS;
 use woot::PENDING;
+use woot::PENDING_NUMBERS;
+use woot::PREVIOUS_KEYS;
+use woot::SECOND_KEYS;
 use woot::Site;
+use woot::VALUES;
 ghost use mathlib.Core.Path.{_≡_};
 ghost use mathlib.Core.Bool.{_&&_};
 ghost use Prim.Native.Nat.{_≤_};
 ghost use lib.ListN.{length, take};
-ghost use Rattle.woot.specs.Memory.{charactersOf, operationsOf, characterSlots, pendingSlots};
-ghost use Rattle.woot.specs.Table.{chains, tableLinks};
+ghost use Rattle.woot.specs.Memory.{charactersOf, operationsOf, characterNumbers, pendingNumbers, pendingSlots};
+ghost use Rattle.woot.specs.Memory.{keyColumn, previousColumn, nextColumn, codePointColumn};
+ghost use Rattle.woot.specs.Memory.{ownColumn, firstColumn, secondColumn, valueColumn};
 ghost use Rattle.memory.specs.Columns.{replicaWellFormed};
+ghost use Rattle.memory.specs.Lent.{replicaAs, Sized};
 ghost use Rattle.index.specs.Tabled.{Tabled};
-ghost use Rattle.memory.specs.Lent.{documentAs};
 ghost use Rattle.well_formed.specs.Form.{rangesKept, clockReached};
 ghost use Rattle.well_formed.specs.PendingForm.{pendingFormed};
 
 // Whether the counts are within the arrays, and refusal 2 would let every number, mark and neighbour pass.
 fn in_ranges<'a>(
     site: Site,
-    ids: &'a [u32],
-    previous: &'a [u32],
-    next: &'a [u32],
-    code_points: &'a [u32],
+    characters: &'a [u32],
     toggles: &'a [u8],
     n: usize,
-    own: &'a [u32],
-    first: &'a [u32],
-    second: &'a [u32],
-    values: &'a [u32],
+    pending: &'a [u32],
     w: usize,
 ) -> bool
-    requires { ⌜ length (now ids) ≡ characterSlots ⌝ }
-    requires { ⌜ length (now previous) ≡ characterSlots ⌝ }
-    requires { ⌜ length (now next) ≡ characterSlots ⌝ }
-    requires { ⌜ length (now «code_points») ≡ characterSlots ⌝ }
-    requires { ⌜ length (now own) ≡ pendingSlots ⌝ }
-    requires { ⌜ length (now first) ≡ pendingSlots ⌝ }
-    requires { ⌜ length (now second) ≡ pendingSlots ⌝ }
-    requires { ⌜ length (now values) ≡ pendingSlots ⌝ }
+    requires { ⌜ length (now characters) ≡ characterNumbers ⌝ }
+    requires { ⌜ length (now pending) ≡ pendingNumbers ⌝ }
     ensures { λ r. ⌜ r
-        ≡ rangesKept site n (charactersOf (now (ids .entry)) (now (previous .entry)) (now (next .entry))
-        (now («code_points» .entry)) (now (toggles .entry)) n)
-        w (operationsOf (now (own .entry)) (now (first .entry)) (now (second .entry)) (now (values .entry)) w) ⌝ }
+        ≡ rangesKept site n (charactersOf (keyColumn (now (characters .entry)))
+        (previousColumn (now (characters .entry))) (nextColumn (now (characters .entry)))
+        (codePointColumn (now (characters .entry))) (now (toggles .entry)) n)
+        w (operationsOf (ownColumn (now (pending .entry))) (firstColumn (now (pending .entry)))
+        (secondColumn (now (pending .entry))) (valueColumn (now (pending .entry))) w) ⌝ }
 {
     if CHARACTERS < n {
         return false;
@@ -59,10 +58,23 @@ fn in_ranges<'a>(
     if !ranges::site_in_range(site) {
         return false;
     }
-    if !numbers::characters_in_range(ids, previous, next, code_points, toggles, n) {
+    if !numbers::characters_in_range(
+        &characters[0..CHARACTERS],
+        &characters[PREVIOUS_KEYS..NEXT_KEYS],
+        &characters[NEXT_KEYS..CODE_POINTS],
+        &characters[CODE_POINTS..CHARACTER_NUMBERS],
+        toggles,
+        n,
+    ) {
         return false;
     }
-    numbers::operations_in_range(own, first, second, values, w)
+    numbers::operations_in_range(
+        &pending[0..PENDING],
+        &pending[FIRST_KEYS..SECOND_KEYS],
+        &pending[SECOND_KEYS..VALUES],
+        &pending[VALUES..PENDING_NUMBERS],
+        w,
+    )
 }
 
 // The conditions on w pending operations, with n characters, and that the clock reaches the inserts of both.
@@ -72,23 +84,23 @@ fn queue_formed<'a>(
     links: &'a [u16],
     ids: &'a [u32],
     n: usize,
-    own: &'a [u32],
-    first: &'a [u32],
-    second: &'a [u32],
-    values: &'a [u32],
+    pending: &'a [u32],
     w: usize,
 ) -> bool
     requires { ⌜ n ≤ length (now ids) ⌝ }
-    requires { ⌜ w ≤ length (now own) ⌝ }
-    requires { ⌜ w ≤ length (now first) ⌝ }
-    requires { ⌜ w ≤ length (now second) ⌝ }
-    requires { ⌜ w ≤ length (now values) ⌝ }
+    requires { ⌜ length (now pending) ≡ pendingNumbers ⌝ }
+    requires { ⌜ w ≤ pendingSlots ⌝ }
     requires { ⌜ Tabled (record { heads = now heads; links = now links }) (take n (now ids)) ⌝ }
     ensures { λ r. ⌜ r
-        ≡ pendingFormed (take n (now (ids .entry))) (take w (now (own .entry))) (take w (now (first .entry)))
-        (take w (now (second .entry))) (take w (now (values .entry)))
-        && clockReached site (take n (now (ids .entry))) (take w (now (own .entry))) ⌝ }
+        ≡ pendingFormed (take n (now (ids .entry))) (take w (ownColumn (now (pending .entry))))
+        (take w (firstColumn (now (pending .entry)))) (take w (secondColumn (now (pending .entry))))
+        (take w (valueColumn (now (pending .entry))))
+        && clockReached site (take n (now (ids .entry))) (take w (ownColumn (now (pending .entry)))) ⌝ }
 {
+    let own = &pending[0..PENDING];
+    let first = &pending[FIRST_KEYS..SECOND_KEYS];
+    let second = &pending[SECOND_KEYS..VALUES];
+    let values = &pending[VALUES..PENDING_NUMBERS];
     if !waiting::pending_formed(
         heads,
         links,
@@ -106,65 +118,34 @@ fn queue_formed<'a>(
     clock::reaches_all(site, own, w)
 }
 
-// Whether the replica that these arrays make is in form. A step of the calls and not a call: they lend a replica's
-// arrays, which have these sizes.
+// Whether the replica with these arrays is in form. A step of the calls and not a call: they lend a replica's arrays,
+// which have these sizes.
 pub fn check<'a>(
     site: Site,
-    ids: &'a [u32],
-    previous: &'a [u32],
-    next: &'a [u32],
-    code_points: &'a [u32],
+    characters: &'a [u32],
     toggles: &'a [u8],
     n: usize,
-    own: &'a [u32],
-    first: &'a [u32],
-    second: &'a [u32],
-    values: &'a [u32],
+    pending: &'a [u32],
     w: usize,
     heads: &'a [u16],
     links: &'a [u16],
 ) -> bool
-    requires { ⌜ length (now ids) ≡ characterSlots ⌝ }
-    requires { ⌜ length (now previous) ≡ characterSlots ⌝ }
-    requires { ⌜ length (now next) ≡ characterSlots ⌝ }
-    requires { ⌜ length (now «code_points») ≡ characterSlots ⌝ }
-    requires { ⌜ length (now toggles) ≡ characterSlots ⌝ }
-    requires { ⌜ length (now own) ≡ pendingSlots ⌝ }
-    requires { ⌜ length (now first) ≡ pendingSlots ⌝ }
-    requires { ⌜ length (now second) ≡ pendingSlots ⌝ }
-    requires { ⌜ length (now values) ≡ pendingSlots ⌝ }
-    requires { ⌜ length (now heads) ≡ chains ⌝ }
-    requires { ⌜ length (now links) ≡ tableLinks ⌝ }
+    requires { ⌜ Sized (now characters) (now toggles) (now pending) (now heads) (now links) ⌝ }
     ensures { λ r. ⌜ r
-        ≡ replicaWellFormed (record {
-          site = site;
-          document = documentAs (now (ids .entry)) (now (previous .entry)) (now (next .entry))
-              (now («code_points» .entry)) (now (toggles .entry)) n
-              (now (own .entry)) (now (first .entry)) (now (second .entry)) (now (values .entry)) w
-              (now (heads .entry)) (now (links .entry));
-        }) ⌝ }
+        ≡ replicaWellFormed (replicaAs site (now (characters .entry)) (now (toggles .entry)) n
+        (now (pending .entry)) w (now (heads .entry)) (now (links .entry))) ⌝ }
 {
-    if !in_ranges(
-        site,
-        ids,
-        previous,
-        next,
-        code_points,
-        toggles,
-        n,
-        own,
-        first,
-        second,
-        values,
-        w,
-    ) {
+    if !in_ranges(site, characters, toggles, n, pending, w) {
         return false;
     }
+    let ids = &characters[0..CHARACTERS];
     if !table::agrees_among(heads, links, ids, n) {
         return false;
     }
+    let previous = &characters[PREVIOUS_KEYS..NEXT_KEYS];
+    let next = &characters[NEXT_KEYS..CODE_POINTS];
     if !order::characters_ordered(heads, links, ids, previous, next, n) {
         return false;
     }
-    queue_formed(site, heads, links, ids, n, own, first, second, values, w)
+    queue_formed(site, heads, links, ids, n, pending, w)
 }

@@ -1,11 +1,13 @@
--- `in_ranges` makes its tests one after the other.
+-- `in_ranges` makes its tests one after the other, on the columns that it lends.
 use borrow.Author.Needs.{needs}
 use Prim.Native.Nat.{ℕ}
+use native.Mathlib.Omega.{arith}
 use mathlib.Core.Path.{_≡_, refl, sym}
 use mathlib.Core.Bool.{Bool, true, _&&_}
 use mathlib.Core.List.{List}
 use borrow.Author.Tests.{lt-leb, le-leb}
 use lib.Dec.{leb}
+use lib.ListN.{length-take, length-drop}
 use Rattle.lists.specs.Lists.{every}
 use Rattle.lists.proofs.Tests.{refused, passed}
 use Rattle.woot.specs.declared.Site.{Site}
@@ -25,14 +27,13 @@ unfolding rangesKept
 reading t n cs w os e₁ e₂ e₃ e₄ e₅ = λ i. (e₁ i && e₂ i) && (e₃ i && e₄ i && e₅ i)
 
 -- the tests that are passed
-few : (c : tie.Else1) → leb (c .before .before .before .before .before .before .before .before .before .before .args .n) characterSlots ≡ true
+few : (c : tie.Else1) → leb (c .before .before .before .before .args .n) characterSlots ≡ true
 few c = le-leb _ _ (c .if1 .left)
 
-fewer : (c : tie.Else2) → leb (c .before .before .before .before .before .before .before .before .before .before .before .args .w) pendingSlots ≡ true
+fewer : (c : tie.Else2) → leb (c .before .before .before .before .before .args .w) pendingSlots ≡ true
 fewer c = le-leb _ _ (c .if2 .left)
 
-here : (c : tie.Else3) → siteInRange (c .before .before .before .before .before .before .before .before .before .before .before .before .before .args .site)
-    ≡ true
+here : (c : tie.Else3) → siteInRange (c .before .before .before .before .before .before .before .args .site) ≡ true
 here c = passed (c .before .site-in-range .ensures) (c .if3 .left)
 
 returns : tie.Need-returns
@@ -46,20 +47,33 @@ returns-3 c =
     sym (reading _ _ _ _ _ (few (c .before .before .before)) (fewer (c .before .before))
     (refused (c .before .site-in-range .ensures) (c .if3 .taken)) refl refl)
 
+characters-in-range-requires : tie.Need-characters-in-range-requires
+characters-in-range-requires c κs = simp (length-take, length-drop) (omega arith, (omega arith, (omega arith, omega arith)))
+
 returns-4 : tie.Need-returns-4
 returns-4 c =
+    let site = c .before .before .before .before .before .before in
     let unranged = refused (c .before .characters-in-range .ensures) (c .if4 .taken) in
-    sym (reading _ _ _ _ _ (few (c .before .before .before .before .before)) (fewer (c .before .before .before .before))
-    (here (c .before .before)) unranged refl)
+    sym (reading _ _ _ _ _ (few (site .before .before .before)) (fewer (site .before .before)) (here site) unranged refl)
+
+operations-in-range-requires : tie.Need-operations-in-range-requires
+operations-in-range-requires c κs = simp (length-take, length-drop) (omega arith, (omega arith, (omega arith, omega arith)))
 
 returns-5 : tie.Need-returns-5
 returns-5 c =
-    sym (reading _ _ _ _ _ (few (c .before .before .before .before .before .before)) (fewer (c .before .before .before .before .before))
-    (here (c .before .before .before)) (passed (c .before .before .characters-in-range .ensures) (c .before .if4 .left))
-    (sym (c .operations-in-range .ensures)))
+    let site = c .before .before .before .before .before .before .before .before .before .before .before in
+    let passes = c .before .before .before .before .before in
+    let ranged = passed (passes .before .characters-in-range .ensures) (passes .if4 .left) in
+    let last = sym (c .operations-in-range .ensures) in
+    sym (reading _ _ _ _ _ (few (site .before .before .before)) (fewer (site .before .before)) (here site) ranged last)
 
 pub in-ranges-spec : {M : Type 1} → statement M
 in-ranges-spec =
     tie.close
-    (tie.spec returns returns-2 (λ c κs. search needs) returns-3 (λ c κs. search needs) returns-4
-    (λ c κs. search needs) returns-5)
+    (tie.spec returns returns-2 (λ c κs. search needs) returns-3 (λ c. search needs) (λ c. search needs)
+    (λ c. search needs) (λ c. search needs) (λ c. search needs) (λ c. search needs) (λ c. search needs)
+    (λ c. search needs) (λ c. search needs) (λ c. search needs) (λ c. search needs) (λ c. search needs)
+    characters-in-range-requires returns-4 (λ c. search needs) (λ c. search needs) (λ c. search needs)
+    (λ c. search needs) (λ c. search needs) (λ c. search needs) (λ c. search needs) (λ c. search needs)
+    (λ c. search needs) (λ c. search needs) (λ c. search needs) (λ c. search needs) operations-in-range-requires
+    returns-5)
