@@ -27,7 +27,8 @@ use Rattle.well_formed.specs.Examined.{Examined}
 use Rattle.well_formed.proofs.Examining.{form, share-counted, room-counted}
 use Rattle.reception.specs.declared.Decision.{Decision}
 use Rattle.reception.specs.declared.Decision.the-variants.{Answered, Defer}
-use Rattle.reception.specs.Decisions.{fullIn, fullWith, lackingIn, Decided}
+use Rattle.reception.specs.Decisions.{fullIn, fullWith, lackingIn}
+use Rattle.reception.proofs.Judging.{Decided}
 use Rattle.reception.proofs.Outcomes as outcomes
 
 -- an operation that is in range, and neither known nor in conflict

@@ -28,7 +28,8 @@ use Rattle.reception.specs.declared.holder.Seen.the-variants.{New as uns
 use Rattle.reception.specs.declared.Decision.{Decision}
 use Rattle.reception.specs.declared.Decision.the-variants.{Answered, Place}
 use Rattle.reception.specs.Holder.{seenOf}
-use Rattle.reception.specs.Decisions.{fullIn, placedIn, Placed, Decided}
+use Rattle.reception.specs.Decisions.{fullIn, placedIn, Placed}
+use Rattle.reception.proofs.Judging.{Decided}
 use Rattle.reception.proofs.Deferring.{New, lacking-decided}
 use Rattle.reception.proofs.Outcomes as outcomes
 

@@ -40,7 +40,8 @@ use Rattle.pending.proofs.Pending.{toggle-found}
 use Rattle.well_formed.specs.Examined.{Examined}
 use Rattle.well_formed.proofs.Examining.{form, keyed, own-used, first-used, values-used}
 use Rattle.reception.specs.declared.Decision.the-variants.{Answered, Toggle as toggleAt}
-use Rattle.reception.specs.Decisions.{lackingIn, absentIn, Decided}
+use Rattle.reception.specs.Decisions.{lackingIn, absentIn}
+use Rattle.reception.proofs.Judging.{Decided}
 use Rattle.reception.proofs.Holders.{CharacterAt}
 use Rattle.reception.proofs.Having.{inSlot, character-member, character-named, characters-apart}
 use Rattle.reception.proofs.Deferring.{lacking-decided}

@@ -12,8 +12,8 @@ use Rattle.woot.specs.declared.Toggle.{Toggle}
 use Rattle.woot.specs.declared.Operation.{Operation}
 use Rattle.woot.specs.declared.Operation.the-variants.{Insert as insert, Toggle as toggle}
 use Rattle.woot.specs.declared.Refusal.the-variants.{Crossed, Unplaceable, SenderFull, DocumentFull}
+use Rattle.woot.specs.declared.Answer.{Answer}
 use Rattle.woot.specs.declared.Answer.the-variants.{Done, Duplicate, Refused}
-use Rattle.memory.specs.Columns.{Replica}
 use Rattle.woot.specs.Limits.{capacity, share}
 use Rattle.woot.specs.Identifiers.{same}
 use Rattle.woot.specs.Operations.{sender, character, inserts}
@@ -22,9 +22,9 @@ use Rattle.woot.specs.Memory.{pendingSlots, valueOf}
 use Rattle.woot.specs.Placing.{identifiers, insertAt, integrateInsert}
 use Rattle.woot.specs.Clock.{heard, heardAll}
 use Rattle.woot.specs.Answers.{changes}
-use Rattle.woot.specs.Calls.{unchanged, insertCarried, carryOut, defer, receiveWhen}
+use Rattle.woot.specs.Calls.{Outcome, unchanged, insertCarried, carryOut, defer, receiveWhen}
 use Rattle.woot.specs.Table.{key}
-use Rattle.memory.specs.Columns.{meaning}
+use Rattle.memory.specs.Columns.{Replica, meaning, replicaWellFormed}
 use Rattle.convergence.specs.Invariants.{Sound}
 use Rattle.index.specs.declared.Found.the-variants.{At}
 use Rattle.index.specs.Keys.{firstIndex}
@@ -32,6 +32,7 @@ use Rattle.integration.specs.declared.Placement.{Placement}
 use Rattle.integration.specs.declared.Placement.the-variants.{Missing, Crossed as crossing, Unplaceable as placeless}
 use Rattle.integration.specs.declared.Placement.the-variants.{Below}
 use Rattle.pending.specs.Counts.{sendersOf, hasToggle}
+use Rattle.well_formed.specs.Examined.{Examined}
 use Rattle.reception.specs.declared.Decision.{Decision}
 use Rattle.reception.specs.declared.Decision.the-variants.{Answered, Defer, Place, Toggle as toggleAt}
 
@@ -81,14 +82,30 @@ pub record Target (s : State) (t : Toggle) (k : ℕ) : Type 0 where
   pub at : firstIndex (λ c. same (t .target) (c .id)) (s .characters) ≡ At k
   pub apart : distinct same (identifiers (s .characters)) ≡ true
 
--- the rules answer what was decided: nothing is changed, the operation is put off and has a slot, or it is carried out
-unfoldable pub Decided : Replica → Operation → Decision → Type 0
-Decided r o (Answered a) = (receiveWhen true (meaning r) o ≡ unchanged (meaning r) a) × (changes a ≡ false)
-Decided r o Defer =
-    (receiveWhen true (meaning r) o ≡ defer (meaning r) o) × (length (meaning r .pending) < pendingSlots)
-Decided r (insert i) (Place k) =
-    (receiveWhen true (meaning r) (insert i) ≡ carryOut Done (meaning r) (insert i)) × Placed (meaning r) i k
-Decided r (toggle t) (Place k) = ⊥
-Decided r (insert i) (toggleAt k) = ⊥
-Decided r (toggle t) (toggleAt k) =
-    (receiveWhen true (meaning r) (toggle t) ≡ carryOut Done (meaning r) (toggle t)) × Target (meaning r) t k
+-- what the rules answer and leave by a decision
+unfoldable pub outcomeOf : State → Operation → Decision → Outcome Answer
+outcomeOf s o (Answered a) = unchanged s a
+outcomeOf s o Defer = defer s o
+outcomeOf s o (Place k) = carryOut Done s o
+outcomeOf s o (toggleAt k) = carryOut Done s o
+
+-- the operation is carried out at the place, on a replica in form
+unfoldable pub Executed : Replica → Operation → Decision → Type 0
+Executed r o (Answered a) = ⊥
+Executed r o Defer = ⊥
+Executed r (insert i) (Place k) = Examined r × Placed (meaning r) i k
+Executed r (toggle t) (Place k) = ⊥
+Executed r (insert i) (toggleAt k) = ⊥
+Executed r (toggle t) (toggleAt k) = Examined r × Target (meaning r) t k
+
+-- or it is put off and has a slot, or nothing is changed
+unfoldable pub Feasible : Replica → Operation → Decision → Type 0
+Feasible r o (Answered a) = changes a ≡ false
+Feasible r o Defer = Examined r × (length (meaning r .pending) < pendingSlots)
+Feasible r o (Place k) = Executed r o (Place k)
+Feasible r o (toggleAt k) = Executed r o (toggleAt k)
+
+-- a decision that the rules make, whether or not the replica is in form
+pub record Judged (r : Replica) (o : Operation) (d : Decision) : Type 0 where
+  pub outcome : receiveWhen (replicaWellFormed r) (meaning r) o ≡ outcomeOf (meaning r) o d
+  pub feasible : Feasible r o d

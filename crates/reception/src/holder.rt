@@ -6,12 +6,12 @@ use pending::counts;
 use woot::Insert;
 use woot::Toggle;
 ghost use mathlib.Core.Path.{_≡_};
-ghost use Prim.Native.Nat.{_≤_, _<_};
+ghost use Prim.Native.Nat.{_*_, _≤_, _<_};
 ghost use lib.ListN.{length, take};
 ghost use Rattle.woot.specs.declared.Operation.the-variants.{Toggle as ofToggle};
 ghost use Rattle.woot.specs.Operations.{origin, sameInsert};
 ghost use Rattle.woot.specs.Table.{key};
-ghost use Rattle.woot.specs.Memory.{characterOf, valueOf};
+ghost use Rattle.woot.specs.Memory.{characterOf, valueOf, column};
 ghost use Rattle.index.specs.Tabled.{Tabled};
 ghost use Rattle.pending.specs.Counts.{hasToggle};
 ghost use Rattle.reception.specs.Holder.{holderIn, insertIn, comparedTo};
@@ -100,25 +100,20 @@ fn same_insert(id: u32, previous: u32, next: u32, code_point: u32, insert: Inser
     index::key(below) == next
 }
 
-// What an insert is beside the one in a slot, which has its identifier. The arrays are those of the characters, or
-// those of the pending operations. A step of the calls and not a call: they have found the slot.
-pub fn compared<'a>(
-    ids: &'a [u32],
-    previous: &'a [u32],
-    next: &'a [u32],
-    code_points: &'a [u32],
-    k: usize,
-    insert: Insert,
-) -> Seen
-    requires { ⌜ k < length (now ids) ⌝ }
-    requires { ⌜ k < length (now previous) ⌝ }
-    requires { ⌜ k < length (now next) ⌝ }
-    requires { ⌜ k < length (now «code_points») ⌝ }
+// What an insert is beside the one in a slot, which has its identifier. The numbers are those of the characters, or
+// those of the pending operations: four columns of so many slots. A step of the calls and not a call: they have found
+// the slot.
+pub fn compared(numbers: &[u32], slots: usize, k: usize, insert: Insert) -> Seen
+    requires { ⌜ length (now numbers) ≡ 4 * slots ⌝ }
+    requires { ⌜ k < slots ⌝ }
     ensures { λ r. ⌜ r
-        ≡ comparedTo insert (insertIn (now (ids .entry)) (now (previous .entry)) (now (next .entry))
-        (now («code_points» .entry)) k) ⌝ }
+        ≡ comparedTo insert (insertIn (column slots 0 (now (numbers .entry))) (column slots 1 (now (numbers .entry)))
+        (column slots 2 (now (numbers .entry))) (column slots 3 (now (numbers .entry))) k) ⌝ }
 {
-    if same_insert(ids[k], previous[k], next[k], code_points[k], insert) {
+    let previous = numbers[slots + k];
+    let next = numbers[2 * slots + k];
+    let value = numbers[3 * slots + k];
+    if same_insert(numbers[k], previous, next, value, insert) {
         return Seen::Same;
     }
     Seen::Other

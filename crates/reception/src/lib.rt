@@ -9,11 +9,20 @@ use index::table;
 use integration::Placement;
 use pending::counts;
 use woot::Answer;
+use woot::CHARACTERS;
+use woot::CODE_POINTS;
+use woot::FIRST_KEYS;
 use woot::Insert;
+use woot::NEXT_KEYS;
 use woot::Operation;
+use woot::PENDING;
+use woot::PENDING_NUMBERS;
+use woot::PREVIOUS_KEYS;
 use woot::Refusal;
+use woot::SECOND_KEYS;
 use woot::Site;
 use woot::Toggle;
+use woot::VALUES;
 ghost use mathlib.Core.Path.{_≡_};
 ghost use mathlib.Core.Bool.{true};
 ghost use Prim.Native.Nat.{_≤_};
@@ -22,10 +31,10 @@ ghost use Rattle.woot.specs.declared.Operation.the-variants.{Insert as ofInsert
 ghost use Rattle.woot.specs.Operations.{sender};
 ghost use Rattle.woot.specs.Ranges.{insertInRange, toggleInRange, inRange};
 ghost use Rattle.memory.specs.Columns.{meaning};
-ghost use Rattle.memory.specs.Lent.{documentAs};
+ghost use Rattle.memory.specs.Lent.{replicaAs, Sized};
 ghost use Rattle.well_formed.specs.Examined.{Examined};
 ghost use Rattle.reception.specs.Holder.{seenOf};
-ghost use Rattle.reception.specs.Decisions.{fullWith, lackingIn, placedIn, absentIn, Decided};
+ghost use Rattle.reception.specs.Decisions.{fullWith, lackingIn, placedIn, absentIn, Judged};
 
 pub enum Decision {
     // The answer that changes nothing: known, or a refusal.
@@ -132,95 +141,71 @@ fn absent<'a>(
 
 // What a received insert is to the replica: the one that has its identifier decides.
 fn seen_by<'a>(
-    heads: &'a [u16],
-    links: &'a [u16],
-    ids: &'a [u32],
-    previous: &'a [u32],
-    next: &'a [u32],
-    code_points: &'a [u32],
+    site: Site,
+    characters: &'a [u32],
     toggles: &'a [u8],
     n: usize,
-    own: &'a [u32],
-    first: &'a [u32],
-    second: &'a [u32],
-    values: &'a [u32],
+    pending: &'a [u32],
     w: usize,
-    site: Site,
+    heads: &'a [u16],
+    links: &'a [u16],
     insert: Insert,
 ) -> Seen
-    requires { ⌜ Examined (record {
-      site = site;
-      document = documentAs (now ids) (now previous) (now next) (now «code_points») (now toggles) n
-          (now own) (now first) (now second) (now values) w (now heads) (now links);
-    }) ⌝ }
+    requires { ⌜ Sized (now characters) (now toggles) (now pending) (now heads) (now links) ⌝ }
+    requires { ⌜ Examined
+        (replicaAs site (now characters) (now toggles) n (now pending) w (now heads) (now links)) ⌝ }
     requires { ⌜ insertInRange insert ≡ true ⌝ }
-    ensures { λ r. ⌜ r ≡ seenOf (meaning (record {
-      site = site;
-      document = documentAs (now (ids .entry)) (now (previous .entry)) (now (next .entry))
-          (now («code_points» .entry)) (now (toggles .entry)) n
-          (now (own .entry)) (now (first .entry)) (now (second .entry)) (now (values .entry)) w
-          (now (heads .entry)) (now (links .entry));
-    })) insert ⌝ }
+    ensures { λ r. ⌜ r
+        ≡ seenOf (meaning (replicaAs site (now (characters .entry)) (now (toggles .entry)) n
+        (now (pending .entry)) w (now (heads .entry)) (now (links .entry)))) insert ⌝ }
 {
     let id = insert.id;
+    let ids = &characters[0..CHARACTERS];
+    let own = &pending[0..PENDING];
     match holder::holder_of(heads, links, ids, n, own, w, index::key(id)) {
-        Holder::Character(k) => holder::compared(ids, previous, next, code_points, k, insert),
-        Holder::Pending(j) => holder::compared(own, first, second, values, j, insert),
+        Holder::Character(k) => holder::compared(characters, CHARACTERS, k, insert),
+        Holder::Pending(j) => holder::compared(pending, PENDING, j, insert),
         Holder::Nobody => Seen::New,
     }
 }
 
 // Decides on an insert: what it is to the replica is looked at before its place.
 fn decide_insert<'a>(
-    heads: &'a [u16],
-    links: &'a [u16],
-    ids: &'a [u32],
-    previous: &'a [u32],
-    next: &'a [u32],
-    code_points: &'a [u32],
+    site: Site,
+    characters: &'a [u32],
     toggles: &'a [u8],
     n: usize,
-    own: &'a [u32],
-    first: &'a [u32],
-    second: &'a [u32],
-    values: &'a [u32],
+    pending: &'a [u32],
     w: usize,
-    site: Site,
+    heads: &'a [u16],
+    links: &'a [u16],
     insert: Insert,
 ) -> Decision
-    requires { ⌜ Examined (record {
-      site = site;
-      document = documentAs (now ids) (now previous) (now next) (now «code_points») (now toggles) n
-          (now own) (now first) (now second) (now values) w (now heads) (now links);
-    }) ⌝ }
+    requires { ⌜ Sized (now characters) (now toggles) (now pending) (now heads) (now links) ⌝ }
+    requires { ⌜ Examined
+        (replicaAs site (now characters) (now toggles) n (now pending) w (now heads) (now links)) ⌝ }
     requires { ⌜ insertInRange insert ≡ true ⌝ }
-    ensures { λ r. ⌜ Decided (record {
-      site = site;
-      document = documentAs (now (ids .entry)) (now (previous .entry)) (now (next .entry))
-          (now («code_points» .entry)) (now (toggles .entry)) n
-          (now (own .entry)) (now (first .entry)) (now (second .entry)) (now (values .entry)) w
-          (now (heads .entry)) (now (links .entry));
-    }) (ofInsert insert) r ⌝ }
+    ensures { λ r. ⌜ Judged (replicaAs site (now (characters .entry)) (now (toggles .entry)) n
+        (now (pending .entry)) w (now (heads .entry)) (now (links .entry))) (ofInsert insert) r ⌝ }
 {
     match seen_by(
-        heads,
-        links,
-        ids,
-        previous,
-        next,
-        code_points,
+        site,
+        characters,
         toggles,
         n,
-        own,
-        first,
-        second,
-        values,
+        pending,
         w,
-        site,
+        heads,
+        links,
         insert,
     ) {
         Seen::New => {
+            let ids = &characters[0..CHARACTERS];
+            let previous = &characters[PREVIOUS_KEYS..NEXT_KEYS];
+            let next = &characters[NEXT_KEYS..CODE_POINTS];
             let placement = integration::find_place(heads, links, ids, previous, next, n, insert);
+            let own = &pending[0..PENDING];
+            let values = &pending[VALUES..PENDING_NUMBERS];
             placed(n, own, values, w, insert, placement)
         }
         Seen::Same => Decision::Answered(Answer::Duplicate),
@@ -230,37 +215,25 @@ fn decide_insert<'a>(
 
 // Decides on a toggle: it is known where its target has as many toggles.
 fn decide_toggle<'a>(
-    heads: &'a [u16],
-    links: &'a [u16],
-    ids: &'a [u32],
-    previous: &'a [u32],
-    next: &'a [u32],
-    code_points: &'a [u32],
+    site: Site,
+    characters: &'a [u32],
     toggles: &'a [u8],
     n: usize,
-    own: &'a [u32],
-    first: &'a [u32],
-    second: &'a [u32],
-    values: &'a [u32],
+    pending: &'a [u32],
     w: usize,
-    site: Site,
+    heads: &'a [u16],
+    links: &'a [u16],
     toggle: Toggle,
 ) -> Decision
-    requires { ⌜ Examined (record {
-      site = site;
-      document = documentAs (now ids) (now previous) (now next) (now «code_points») (now toggles) n
-          (now own) (now first) (now second) (now values) w (now heads) (now links);
-    }) ⌝ }
+    requires { ⌜ Sized (now characters) (now toggles) (now pending) (now heads) (now links) ⌝ }
+    requires { ⌜ Examined
+        (replicaAs site (now characters) (now toggles) n (now pending) w (now heads) (now links)) ⌝ }
     requires { ⌜ toggleInRange toggle ≡ true ⌝ }
-    ensures { λ r. ⌜ Decided (record {
-      site = site;
-      document = documentAs (now (ids .entry)) (now (previous .entry)) (now (next .entry))
-          (now («code_points» .entry)) (now (toggles .entry)) n
-          (now (own .entry)) (now (first .entry)) (now (second .entry)) (now (values .entry)) w
-          (now (heads .entry)) (now (links .entry));
-    }) (ofToggle toggle) r ⌝ }
+    ensures { λ r. ⌜ Judged (replicaAs site (now (characters .entry)) (now (toggles .entry)) n
+        (now (pending .entry)) w (now (heads .entry)) (now (links .entry))) (ofToggle toggle) r ⌝ }
 {
     let target = toggle.target;
+    let ids = &characters[0..CHARACTERS];
     match table::find_among(heads, links, ids, n, index::key(target)) {
         Found::At(k) => {
             if toggle.toggles <= toggles[k] {
@@ -268,76 +241,92 @@ fn decide_toggle<'a>(
             }
             Decision::Toggle(k)
         }
-        Found::Nothing => absent(n, own, first, values, w, toggle),
+        Found::Nothing => {
+            let own = &pending[0..PENDING];
+            let first = &pending[FIRST_KEYS..SECOND_KEYS];
+            let values = &pending[VALUES..PENDING_NUMBERS];
+            absent(n, own, first, values, w, toggle)
+        }
     }
 }
 
-// Decides on a received operation. A step of the calls and not a call: they have checked the replica and the ranges.
-pub fn decide<'a>(
-    heads: &'a [u16],
-    links: &'a [u16],
-    ids: &'a [u32],
-    previous: &'a [u32],
-    next: &'a [u32],
-    code_points: &'a [u32],
+// Decides on an operation by its kind. The replica and the operation's ranges were checked.
+fn decide<'a>(
+    site: Site,
+    characters: &'a [u32],
     toggles: &'a [u8],
     n: usize,
-    own: &'a [u32],
-    first: &'a [u32],
-    second: &'a [u32],
-    values: &'a [u32],
+    pending: &'a [u32],
     w: usize,
-    site: Site,
+    heads: &'a [u16],
+    links: &'a [u16],
     operation: Operation,
 ) -> Decision
-    requires { ⌜ Examined (record {
-      site = site;
-      document = documentAs (now ids) (now previous) (now next) (now «code_points») (now toggles) n
-          (now own) (now first) (now second) (now values) w (now heads) (now links);
-    }) ⌝ }
+    requires { ⌜ Sized (now characters) (now toggles) (now pending) (now heads) (now links) ⌝ }
+    requires { ⌜ Examined
+        (replicaAs site (now characters) (now toggles) n (now pending) w (now heads) (now links)) ⌝ }
     requires { ⌜ inRange operation ≡ true ⌝ }
-    ensures { λ r. ⌜ Decided (record {
-      site = site;
-      document = documentAs (now (ids .entry)) (now (previous .entry)) (now (next .entry))
-          (now («code_points» .entry)) (now (toggles .entry)) n
-          (now (own .entry)) (now (first .entry)) (now (second .entry)) (now (values .entry)) w
-          (now (heads .entry)) (now (links .entry));
-    }) operation r ⌝ }
+    ensures { λ r. ⌜ Judged (replicaAs site (now (characters .entry)) (now (toggles .entry)) n
+        (now (pending .entry)) w (now (heads .entry)) (now (links .entry))) operation r ⌝ }
 {
     match operation {
         Operation::Insert(insert) => decide_insert(
-            heads,
-            links,
-            ids,
-            previous,
-            next,
-            code_points,
+            site,
+            characters,
             toggles,
             n,
-            own,
-            first,
-            second,
-            values,
+            pending,
             w,
-            site,
+            heads,
+            links,
             insert,
         ),
         Operation::Toggle(toggle) => decide_toggle(
-            heads,
-            links,
-            ids,
-            previous,
-            next,
-            code_points,
+            site,
+            characters,
             toggles,
             n,
-            own,
-            first,
-            second,
-            values,
+            pending,
             w,
-            site,
+            heads,
+            links,
             toggle,
         ),
     }
+}
+
+// What is to be done with a received operation: its ranges are looked at, then the form of the replica with these
+// arrays, and then what the operation is to it. A step of the calls and not a call: they lend arrays of these sizes.
+pub fn judge<'a>(
+    site: Site,
+    characters: &'a [u32],
+    toggles: &'a [u8],
+    n: usize,
+    pending: &'a [u32],
+    w: usize,
+    heads: &'a [u16],
+    links: &'a [u16],
+    operation: Operation,
+) -> Decision
+    requires { ⌜ Sized (now characters) (now toggles) (now pending) (now heads) (now links) ⌝ }
+    ensures { λ r. ⌜ Judged (replicaAs site (now (characters .entry)) (now (toggles .entry)) n
+        (now (pending .entry)) w (now (heads .entry)) (now (links .entry))) operation r ⌝ }
+{
+    if !ranges::in_range(operation) {
+        return Decision::Answered(Answer::Refused(Refusal::Range));
+    }
+    if !well_formed::check(site, characters, toggles, n, pending, w, heads, links) {
+        return Decision::Answered(Answer::Refused(Refusal::Form));
+    }
+    decide(
+        site,
+        characters,
+        toggles,
+        n,
+        pending,
+        w,
+        heads,
+        links,
+        operation,
+    )
 }

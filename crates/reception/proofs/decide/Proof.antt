@@ -7,14 +7,14 @@ use Rattle.reception.proofs.decide.Tie as tie
 decide-insert-requires : tie.Need-decide-insert-requires
 unfolding inRange
 decide-insert-requires c κs =
-    let p = c .before .before .before .before .before .before .before .before .before .before .before .before .before .before .pre in
-    (p .0, rw (c .before .operation .given .1) at (p .1))
+    let p = c .before .before .before .before .before .before .before .before .pre in
+    (p .0, (p .1 .0, rw (c .before .operation .given .1) at (p .1 .1)))
 
 decide-toggle-requires : tie.Need-decide-toggle-requires
 unfolding inRange
 decide-toggle-requires c κs =
-    let p = c .before .before .before .before .before .before .before .before .before .before .before .before .before .before .pre in
-    (p .0, rw (c .before .operation2 .given .1) at (p .1))
+    let p = c .before .before .before .before .before .before .before .before .pre in
+    (p .0, (p .1 .0, rw (c .before .operation2 .given .1) at (p .1 .1)))
 
 returns : tie.Need-returns
 returns c = rw (c .before .before .operation .given .1) (c .decide-insert .ensures)

@@ -3,42 +3,49 @@ use native.Mathlib.Omega.{arith}
 use mathlib.Core.Path.{sym, _∙_}
 use borrow.Author.Needs.{needs}
 use Rattle.well_formed.proofs.Examining.{few, small, ids-used, previous-used, next-used, examined-tabled}
+use Rattle.reception.proofs.Judging.{judged}
 use Rattle.reception.proofs.Inserting.{seen-new, placed-decided, same-decided, other-decided}
 use Rattle.reception.proofs.decide_insert.Statement.{statement}
 use Rattle.reception.proofs.decide_insert.Tie as tie
 
 find-place-requires : tie.Need-find-place-requires
 find-place-requires c κs =
-    let x = c .before .before .before .before .before .before .before .before .before .before .before .before .before .before .pre .0 in
+    let x = c .before .before .before .before .before .before .before .before .before .before .before .pre .1 .0 in
     let n = few _ x in
-    (omega (arith, x .ids), (omega (arith, x .previous), (omega (arith, x .next), examined-tabled _ x)))
+    (omega (arith, x .slots .ids), (omega (arith, x .slots .previous), (omega (arith, x .slots .next), examined-tabled _ x)))
 
 placed-requires : tie.Need-placed-requires
 placed-requires c κs =
-    let x = c .before .before .before .before .before .before .before .before .before .before .before .before .before .before .before .pre .0 in
+    let x = c .before .before .before .before .before .before .before .before .before .before .before .before .before .before .pre .1 .0 in
     let n = few _ x in
-    (omega (arith, x .own), omega (arith, x .values))
+    (omega (arith, x .slots .own), omega (arith, x .slots .values))
 
 returns : tie.Need-returns
 returns c =
-    let s = c .before .before .before .before .before .before .before .before .before .before .before .before .before .before .before .before in
-    let x = s .pre .0 in
-    let new = seen-new _ x _ (s .pre .1) (sym (c .before .before .before .before .seen-by .ensures) ∙ c .before .before .enum-told .given .1) in
-    let place = c .before .find-place .ensures _ (ids-used _ x) (previous-used _ x) (next-used _ x) (small _ x) in
-    rw (c .placed .ensures) (placed-decided _ x _ new _ place)
+    let s = c .before .before .before .before .before .before .before .before .before .before .before .before .before .before .before in
+    let x = s .pre .1 .0 in
+    let told = c .before .before .before .before .before .before .before in
+    let new = seen-new _ x _ (s .pre .1 .1) (sym (told .before .before .seen-by .ensures) ∙ told .enum-told .given .1) in
+    let place = c .before .before .before .find-place .ensures _ (ids-used _ x) (previous-used _ x) (next-used _ x) (small _ x) in
+    rw (c .placed .ensures) (judged _ _ _ x (placed-decided _ x _ new _ place))
 
 returns-2 : tie.Need-returns-2
 returns-2 c =
-    let s = c .before .before .before .before .before .before .before .before .before .before .before .before .before .before in
-    same-decided _ (s .pre .0) _ (s .pre .1) (sym (c .before .before .seen-by .ensures) ∙ c .enum-told2 .given .1)
+    let s = c .before .before .before .before .before .before .before .before in
+    let x = s .pre .1 .0 in
+    judged _ _ _ x (same-decided _ x _ (s .pre .1 .1) (sym (c .before .before .seen-by .ensures) ∙ c .enum-told2 .given .1))
 
 returns-3 : tie.Need-returns-3
 returns-3 c =
-    let s = c .before .before .before .before .before .before .before .before .before .before .before .before .before .before in
-    other-decided _ (s .pre .0) _ (s .pre .1) (sym (c .before .before .seen-by .ensures) ∙ c .enum-told3 .given .1)
+    let s = c .before .before .before .before .before .before .before .before in
+    let x = s .pre .1 .0 in
+    judged _ _ _ x (other-decided _ x _ (s .pre .1 .1) (sym (c .before .before .seen-by .ensures) ∙ c .enum-told3 .given .1))
 
 pub decide-insert-spec : {M : Type 1} → statement M
 decide-insert-spec =
     tie.close
-    (tie.spec (λ c κs. search needs) (λ c. search needs) find-place-requires placed-requires (λ c. search needs)
+    (tie.spec (λ c κs. search needs) (λ c. search needs) (λ c. search needs) (λ c. search needs) (λ c. search needs)
+    (λ c. search needs) (λ c. search needs) (λ c. search needs) (λ c. search needs) (λ c. search needs)
+    (λ c. search needs) find-place-requires (λ c. search needs) (λ c. search needs) (λ c. search needs)
+    (λ c. search needs) (λ c. search needs) (λ c. search needs) placed-requires (λ c. search needs)
     (λ c. search needs) returns returns-2 returns-3)

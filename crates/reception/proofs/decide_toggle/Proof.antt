@@ -6,74 +6,79 @@ use borrow.Author.Needs.{needs}
 use lib.ListN.{take}
 use Rattle.woot.specs.Ranges.{characterId}
 use Rattle.woot.specs.Table.{key}
+use Rattle.woot.specs.Memory.{keyColumn}
 use Rattle.index.specs.declared.Found.{Found}
 use Rattle.index.specs.Keys.{found}
 use Rattle.well_formed.proofs.Examining.{few, examined-tabled}
 use Rattle.reception.proofs.Having.{StandsAt, stands-at, found-first, character-within}
+use Rattle.reception.proofs.Judging.{judged}
 use Rattle.reception.proofs.Toggling.{target-ranged, again-decided, toggle-decided, absent-decided}
 use Rattle.reception.proofs.decide_toggle.Statement.{statement}
 use Rattle.reception.proofs.decide_toggle.Tie as tie
 
 ranged : (s : tie.Start) → characterId (s .args .toggle .target) ≡ true
-ranged s = target-ranged _ (s .pre .1)
+ranged s = target-ranged _ (s .pre .1 .1)
 
 -- where the function starts
 abbrev start : tie.After-find-among → tie.Start
-start c = c .before .before .before .before .before .before .before .before .before .before .before .before .before .before
+start c = c .before .before .before .before .before .before .before .before .before
 
 -- what is found is what is sought
-sought : (c : tie.After-find-among) → let a = start c .args in c .find-among .result ≡ found (key (a .toggle .target)) (take (a .n) (a .ids .now))
+sought : (c : tie.After-find-among) → let a = start c .args in
+    c .find-among .result ≡ found (key (a .toggle .target)) (take (a .n) (keyColumn (a .characters .now)))
 sought c = rw (c .before .key .ensures .0) at (c .find-among .ensures)
 
 -- what it says of the characters
-standing : (c : tie.After-find-among) {f : Found} → c .find-among .result ≡ f → StandsAt _ (start c .pre .0) _ (ranged (start c)) f
-standing c e = stands-at _ (start c .pre .0) _ (ranged (start c)) (sought c) e
+standing : (c : tie.After-find-among) {f : Found} → c .find-among .result ≡ f → StandsAt _ (start c .pre .1 .0) _ (ranged (start c)) f
+standing c e = stands-at _ (start c .pre .1 .0) _ (ranged (start c)) (sought c) e
 
 find-among-requires : tie.Need-find-among-requires
 find-among-requires c κs =
-    let x = c .before .before .before .before .before .before .before .before .before .before .before .before .before .pre .0 in
+    let x = c .before .before .before .before .before .before .before .before .pre .1 .0 in
     let n = few _ x in
-    (omega (arith, x .ids), examined-tabled _ x)
+    (omega (arith, x .slots .ids), examined-tabled _ x)
 
 shared-slice-read-if1 : tie.Need-shared-slice-read-if1
 shared-slice-read-if1 c =
     let f = c .before .before .before .before in
     let s = start f in
-    let x = s .pre .0 in
+    let x = s .pre .1 .0 in
     let n = few _ x in
     let h = character-within _ x _ (ranged s) _ (standing f (c .before .before .k .given .1)) in
-    omega (arith, x .toggles)
+    omega (arith, x .slots .toggles)
 
 returns : tie.Need-returns
 returns c =
     let f = c .before .before .before .before .before .before in
     let s = start f in
-    let x = s .pre .0 in
-    again-decided _ x _ (s .pre .1) _ (standing f (c .before .before .before .before .k .given .1)) (c .if1 .taken)
+    let x = s .pre .1 .0 in
+    judged _ _ _ x (again-decided _ x _ (s .pre .1 .1) _ (standing f (c .before .before .before .before .k .given .1)) (c .if1 .taken))
 
 absent-requires : tie.Need-absent-requires
 absent-requires c κs =
-    let x = c .before .before .before .before .before .before .before .before .before .before .before .before .before .before .before .before .pre .0 in
+    let x = c .before .before .before .before .before .before .before .before .before .before .before .before .before .before .pre .1 .0 in
     let n = few _ x in
-    (omega (arith, x .own), (omega (arith, x .first), omega (arith, x .values)))
+    (omega (arith, x .slots .own), (omega (arith, x .slots .first), omega (arith, x .slots .values)))
 
 returns-2 : tie.Need-returns-2
 returns-2 c =
     let f = c .before .before .before .before .before .before in
     let s = start f in
-    let x = s .pre .0 in
+    let x = s .pre .1 .0 in
     let first = sym (found-first _ x _ (ranged s)) ∙ sym (sought f) ∙ c .before .before .before .before .k .given .1 in
-    toggle-decided _ x _ (s .pre .1) _ (standing f (c .before .before .before .before .k .given .1)) first (c .if1 .left)
+    judged _ _ _ x (toggle-decided _ x _ (s .pre .1 .1) _ (standing f (c .before .before .before .before .k .given .1)) first (c .if1 .left))
 
 returns-3 : tie.Need-returns-3
 returns-3 c =
-    let f = c .before .before .before in
+    let f = c .before .before .before .before .before .before in
     let s = start f in
-    let x = s .pre .0 in
-    rw (c .absent .ensures) (absent-decided _ (s .pre .0) _ (s .pre .1) (standing f (c .before .enum-told .given .1)))
+    let stands = standing f (c .before .before .before .before .enum-told .given .1) in
+    rw (c .absent .ensures) (judged _ _ _ (s .pre .1 .0) (absent-decided _ (s .pre .1 .0) _ (s .pre .1 .1) stands))
 
 pub decide-toggle-spec : {M : Type 1} → statement M
 decide-toggle-spec =
     tie.close
-    (tie.spec (λ c κs. search needs) find-among-requires (λ c. search needs) shared-slice-read-if1 returns
-    (λ c. search needs) absent-requires returns-2 returns-3)
+    (tie.spec (λ c. search needs) (λ c. search needs) (λ c. search needs) (λ c κs. search needs) find-among-requires
+    (λ c. search needs) shared-slice-read-if1 returns (λ c. search needs) (λ c. search needs) (λ c. search needs)
+    (λ c. search needs) (λ c. search needs) (λ c. search needs) (λ c. search needs) (λ c. search needs)
+    (λ c. search needs) (λ c. search needs) absent-requires returns-2 returns-3)
