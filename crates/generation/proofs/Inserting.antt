@@ -37,10 +37,11 @@ use Rattle.memory.proofs.Operations.{KeyedInsert, range-keyed}
 use Rattle.memory.proofs.Bits.{previous-bits, next-bits}
 use Rattle.well_formed.specs.Examined.{Examined}
 use Rattle.well_formed.proofs.Examining.{form, toggles-used, room-counted}
-use Rattle.reception.specs.Decisions.{fullIn}
+use Rattle.reception.specs.declared.Decision.the-variants.{Place}
+use Rattle.reception.specs.Decisions.{fullIn, Executed}
 use Rattle.reception.proofs.Inserting.{addable-placed}
-use Rattle.generation.specs.declared.MadeInsert.the-variants.{Refused, Place}
-use Rattle.generation.specs.Decisions.{sentIn, InsertDecided}
+use Rattle.generation.specs.declared.Made.the-variants.{Refused, Send}
+use Rattle.generation.specs.Decisions.{sentIn, MadeFor, InsertMade}
 
 -- ---- what inserting is, by the conditions of its list
 
@@ -76,18 +77,18 @@ module _ (r : Replica) (x : Examined r) (g n : ℕ) (coded : codePoint n ≡ tru
     counted : count ≡ length (visibles (meaning r .characters))
     counted = e (meaning r .characters) (sym (toggles-used r x))
 
-    pub insert-beyond : count < g → InsertDecided r g n (Refused Position)
-    unfolding InsertDecided beyondVisible
-    insert-beyond h = beyond (meaning r) g n coded (rw (← counted) (lt-ltb count g h))
+    pub insert-beyond : count < g → InsertMade r g n (Refused Position)
+    unfolding MadeFor beyondVisible
+    insert-beyond h = rw (x .form) (beyond (meaning r) g n coded (rw (← counted) (lt-ltb count g h)))
 
     pub insert-within : g ≤ count → beyondVisible (meaning r) g ≡ false
     unfolding beyondVisible
     insert-within h = rw (← counted) (le-ltb count g h)
 
   module _ (visible : beyondVisible (meaning r) g ≡ false) where
-    pub insert-late : lastClock ≤ r .site .clock → InsertDecided r g n (Refused Clock)
-    unfolding InsertDecided meaning
-    insert-late h = late (meaning r) g n coded visible (le-leb lastClock (r .site .clock) h)
+    pub insert-late : lastClock ≤ r .site .clock → InsertMade r g n (Refused Clock)
+    unfolding MadeFor meaning
+    insert-late h = rw (x .form) (late (meaning r) g n coded visible (le-leb lastClock (r .site .clock) h))
 
     module _ (low : r .site .clock < lastClock) where
       early : leb lastClock (meaning r .site .clock) ≡ false
@@ -131,9 +132,10 @@ module _ (r : Replica) (x : Examined r) (g n : ℕ) (coded : codePoint n ≡ tru
       -- ---- its place
 
       by-room : (k : ℕ) → placementOf (meaning r .characters) here ≡ Below k → (b : Bool) → documentFull (meaning r) (insert here) ≡ b
-          → InsertDecided r g n (cond b (Refused DocumentFull) (Place k here))
-      unfolding InsertDecided
-      by-room k p true q = full (meaning r) g n coded visible early (form r x) (says (meaning r .characters) here (Below k) p .2) q
+          → InsertMade r g n (cond b (Refused DocumentFull) (Send (insert here) (Place k)))
+      unfolding MadeFor Executed sendInsert
+      by-room k p true q =
+          rw (x .form) (full (meaning r) g n coded visible early (form r x) (says (meaning r .characters) here (Below k) p .2) q)
       by-room k p false q =
           let placeable = says (meaning r .characters) here (Below k) p .2 in
           let able : Addable (meaning r) here =
@@ -147,17 +149,17 @@ module _ (r : Replica) (x : Examined r) (g n : ℕ) (coded : codePoint n ≡ tru
             placeable = placeable;
           }
           in
-          (carried (meaning r) g n coded visible early (form r x) placeable q, addable-placed (meaning r) here k able p)
+          rw (x .form) (carried (meaning r) g n coded visible early (form r x) placeable q, (x, addable-placed (meaning r) here k able p))
 
       placed-decided : (p : Placement) → p ≡ placementOf (meaning r .characters) here
-          → InsertDecided r g n (sentIn (r .document .length) (take (r .document .waiting) (r .document .own)) here p)
-      unfolding sentIn InsertDecided fullIn documentFull
+          → InsertMade r g n (sentIn (r .document .length) (take (r .document .waiting) (r .document .own)) here p)
+      unfolding sentIn MadeFor fullIn documentFull
       placed-decided Missing e = clash (made .ready) (says (meaning r .characters) here Missing (sym e))
       placed-decided Crossed e = clash (says (meaning r .characters) here Crossed (sym e) .1) (made .uncrossed)
       placed-decided Unplaceable e =
-          nowhere (meaning r) g n coded visible early (form r x) (says (meaning r .characters) here Unplaceable (sym e) .2)
+          rw (x .form) (nowhere (meaning r) g n coded visible early (form r x) (says (meaning r .characters) here Unplaceable (sym e) .2))
       placed-decided (Below k) e = rw (room-counted r x) (by-room k (sym e) _ refl)
 
       pub sent-decided : (i : Insert) → i ≡ here → (p : Placement) → p ≡ placementOf (meaning r .characters) i
-          → InsertDecided r g n (sentIn (r .document .length) (take (r .document .waiting) (r .document .own)) i p)
+          → InsertMade r g n (sentIn (r .document .length) (take (r .document .waiting) (r .document .own)) i p)
       sent-decided i e p q = rw e (placed-decided p (rw e at q))

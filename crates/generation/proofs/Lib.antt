@@ -1,2 +1,3 @@
 pub mod Inserting
 pub mod Toggling
+pub mod Judging

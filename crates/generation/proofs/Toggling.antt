@@ -12,6 +12,7 @@ use Rattle.lists.proofs.Members.{any-none, get-member, keep-member}
 use Rattle.woot.specs.declared.Identifier.{Identifier}
 use Rattle.woot.specs.declared.Toggle.{Toggle}
 use Rattle.woot.specs.declared.Character.{Character}
+use Rattle.woot.specs.declared.Operation.the-variants.{Toggle as toggle}
 use Rattle.woot.specs.declared.Refusal.the-variants.{Position, NotHidden, LastToggle}
 use Rattle.memory.specs.Columns.{Replica}
 use Rattle.woot.specs.Limits.{lastToggles}
@@ -21,7 +22,7 @@ use Rattle.woot.specs.Ranges.{characterId}
 use Rattle.woot.specs.State.{blankCharacter}
 use Rattle.woot.specs.Placing.{identifiers}
 use Rattle.woot.specs.Answers.{decided}
-use Rattle.woot.specs.Calls.{visibles, beyondVisible, togglesOf, generatedToggle, notVisible, deleteChecks, generatedDelete, localDeleteWhen}
+use Rattle.woot.specs.Calls.{visibles, beyondVisible, togglesOf, generatedToggle, sendToggle, notVisible, deleteChecks, generatedDelete, localDeleteWhen}
 use Rattle.woot.specs.Calls.{notHidden, exhausted, restoreChecks, localRestoreWhen}
 use Rattle.woot.specs.Memory.{identifier, characterOf, characterAt, toggleCounts}
 use Rattle.memory.specs.Columns.{meaning}
@@ -41,10 +42,12 @@ use Rattle.well_formed.proofs.Examining.{form, characters-counted, toggles-used
 use Rattle.visible.specs.Shown.{nthIndex}
 use Rattle.visible.proofs.Visibility.{visibles-length, visible-identifier, getD-past}
 use Rattle.visible.proofs.Shown.{NthAt, nth-says}
+use Rattle.reception.specs.declared.Decision.the-variants.{Toggle as toggleAt}
+use Rattle.reception.specs.Decisions.{Executed}
 use Rattle.reception.proofs.Holders.{CharacterAt}
 use Rattle.reception.proofs.Having.{characters-apart, inSlot, character-member, character-named}
-use Rattle.generation.specs.declared.MadeToggle.the-variants.{Refused, Toggle as toggleAt}
-use Rattle.generation.specs.Decisions.{ToggleDecided, DeleteDecided, RestoreDecided}
+use Rattle.generation.specs.declared.Made.the-variants.{Refused, Send}
+use Rattle.generation.specs.Decisions.{MadeFor, DeleteMade, RestoreMade}
 
 -- where no identifier stands twice, the first that has that of the character with an index is this character
 first-apart : (cs : List Character) → distinct same (identifiers cs) ≡ true → (k : ℕ) (d : Character) → k < length cs
@@ -71,11 +74,11 @@ module _ (r : Replica) (x : Examined r) {c : Character} (m : List·Memᴰ c (mea
 -- ---- deleting
 
 module _ (r : Replica) (x : Examined r) (p : ℕ) where
-  nowhere : notVisible (meaning r) p ≡ true → DeleteDecided r p (Refused Position)
-  unfolding ToggleDecided localDeleteWhen deleteChecks decided
-  nowhere e = rw e
+  nowhere : notVisible (meaning r) p ≡ true → DeleteMade r p (Refused Position)
+  unfolding MadeFor localDeleteWhen deleteChecks decided
+  nowhere e = rw (x .form, e)
 
-  pub delete-zero : p ≡ 0 → DeleteDecided r p (Refused Position)
+  pub delete-zero : p ≡ 0 → DeleteMade r p (Refused Position)
   unfolding notVisible
   delete-zero e = nowhere (rw (eq-eqb p 0 e))
 
@@ -88,7 +91,7 @@ module _ (r : Replica) (x : Examined r) (p : ℕ) where
       found : f ≡ nthIndex isVisible (meaning r .characters) (p - 1)
       found = e (meaning r .characters) (sym (toggles-used r x))
 
-      pub delete-beyond : f ≡ Nothing → DeleteDecided r p (Refused Position)
+      pub delete-beyond : f ≡ Nothing → DeleteMade r p (Refused Position)
       unfolding notVisible beyondVisible
       delete-beyond h =
           let few = nth-says isVisible (meaning r .characters) (p - 1) (sym found ∙ h) in
@@ -144,26 +147,29 @@ module _ (r : Replica) (x : Examined r) (p : ℕ) where
 
         pub delete-decided : (t : Toggle)
             → t ≡ record { sender = r .site .number; target = identifier (getD (r .document .ids) k 0); toggles = getD (r .document .toggles) k 0 + 1 }
-            → DeleteDecided r p (toggleAt k t)
-        unfolding ToggleDecided localDeleteWhen deleteChecks decided generatedDelete characterOf
+            → DeleteMade r p (Send (toggle t) (toggleAt k))
+        unfolding MadeFor Executed localDeleteWhen deleteChecks decided generatedDelete sendToggle characterOf
         delete-decided t e =
             let target = ap (λ (u : Toggle). u .target) e in
             let is : t .target ≡ getD (meaning r .characters) k blankCharacter .id = target ∙ ap (λ (c : Character). c .id) (sym slot-read) in (
-              rw (seen, slot-named, next-toggle r x slot-member, e),
-              record {
-                at = rw is (first-apart (meaning r .characters) (characters-apart r x) k blankCharacter (nth .within));
-                apart = characters-apart r x;
-              },
+              rw (x .form, seen, slot-named, next-toggle r x slot-member, e),
+              (
+                x,
+                record {
+                  at = rw is (first-apart (meaning r .characters) (characters-apart r x) k blankCharacter (nth .within));
+                  apart = characters-apart r x;
+                },
+              ),
             )
 
 -- ---- restoring
 
 module _ (r : Replica) (x : Examined r) (id : Identifier) (ranged : characterId id ≡ true) where
-  restore-shown : notHidden (meaning r) id ≡ true → RestoreDecided r id (Refused NotHidden)
-  unfolding ToggleDecided localRestoreWhen restoreChecks decided
-  restore-shown e = rw (ranged, e)
+  restore-shown : notHidden (meaning r) id ≡ true → RestoreMade r id (Refused NotHidden)
+  unfolding MadeFor localRestoreWhen restoreChecks decided
+  restore-shown e = rw (ranged, x .form, e)
 
-  pub restore-nowhere : any (same id) (identifiers (meaning r .characters)) ≡ false → RestoreDecided r id (Refused NotHidden)
+  pub restore-nowhere : any (same id) (identifiers (meaning r .characters)) ≡ false → RestoreMade r id (Refused NotHidden)
   unfolding notHidden
   restore-nowhere e =
       let none = sym (any-map (same id) (λ c. c .id) (meaning r .characters)) ∙ e in
@@ -184,7 +190,7 @@ module _ (r : Replica) (x : Examined r) (id : Identifier) (ranged : characterId 
     unfolding notHidden
     hides = ap not (one-named (λ z. z .id) (λ z. not (isVisible z)) id (meaning r .characters) (characters-apart r x) member is)
 
-    pub restore-visible : getD (r .document .toggles) k 0 % 2 ≡ 0 → RestoreDecided r id (Refused NotHidden)
+    pub restore-visible : getD (r .document .toggles) k 0 % 2 ≡ 0 → RestoreMade r id (Refused NotHidden)
     unfolding isVisible characterOf
     restore-visible v = restore-shown (hides ∙ rw (eq-eqb (here .toggles % 2) 0 v))
 
@@ -197,9 +203,9 @@ module _ (r : Replica) (x : Examined r) (id : Identifier) (ranged : characterId 
       unfolding characterOf
       counted = rw is (toggles-found (meaning r .characters) (characters-apart r x) member)
 
-      pub restore-last : getD (r .document .toggles) k 0 ≡ lastToggles → RestoreDecided r id (Refused LastToggle)
-      unfolding ToggleDecided localRestoreWhen restoreChecks exhausted decided
-      restore-last e = rw (ranged, hidden, counted, eq-eqb (getD (r .document .toggles) k 0) lastToggles e)
+      pub restore-last : getD (r .document .toggles) k 0 ≡ lastToggles → RestoreMade r id (Refused LastToggle)
+      unfolding MadeFor localRestoreWhen restoreChecks exhausted decided
+      restore-last e = rw (ranged, x .form, hidden, counted, eq-eqb (getD (r .document .toggles) k 0) lastToggles e)
 
       module _ (more : getD (r .document .toggles) k 0 ≡ lastToggles → ⊥) where
         pub restore-below : getD (r .document .toggles) k 0 < lastToggles
@@ -208,9 +214,9 @@ module _ (r : Replica) (x : Examined r) (id : Identifier) (ranged : characterId 
 
         pub restore-decided : firstIndex (λ c. same id (c .id)) (meaning r .characters) ≡ At k → (t : Toggle)
             → t ≡ record { sender = r .site .number; target = id; toggles = getD (r .document .toggles) k 0 + 1 }
-            → RestoreDecided r id (toggleAt k t)
-        unfolding ToggleDecided localRestoreWhen restoreChecks exhausted decided generatedToggle meaning
+            → RestoreMade r id (Send (toggle t) (toggleAt k))
+        unfolding MadeFor Executed localRestoreWhen restoreChecks exhausted decided generatedToggle sendToggle meaning
         restore-decided f t e = (
-          rw (ranged, hidden, counted, ne-eqb (getD (r .document .toggles) k 0) lastToggles more, e),
-          record { at = rw (ap (λ (u : Toggle). u .target) e) f; apart = characters-apart r x },
+          rw (ranged, x .form, hidden, counted, ne-eqb (getD (r .document .toggles) k 0) lastToggles more, e),
+          (x, record { at = rw (ap (λ (u : Toggle). u .target) e) f; apart = characters-apart r x }),
         )

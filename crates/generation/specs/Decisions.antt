@@ -1,46 +1,41 @@
 -- For the proofs of the code alone: what is made here before anything is changed, and what the calls then know.
 use Prim.Native.Nat.{ℕ}
 use mathlib.Core.Path.{_≡_}
-use mathlib.Core.Bool.{true, cond}
+use mathlib.Core.Bool.{cond}
 use mathlib.Core.List.{List}
 use Rattle.woot.specs.declared.Identifier.{Identifier}
 use Rattle.woot.specs.declared.Insert.{Insert}
+use Rattle.woot.specs.declared.Operation.the-variants.{Insert as insert}
 use Rattle.woot.specs.declared.Refusal.the-variants.{Unplaceable, DocumentFull}
 use Rattle.woot.specs.declared.Sent.{Sent}
-use Rattle.woot.specs.declared.Sent.the-variants.{Refused as sentRefused}
-use Rattle.memory.specs.Columns.{Replica}
-use Rattle.woot.specs.State.{State}
-use Rattle.woot.specs.Calls.{Outcome, unchanged, sendInsert, localInsertWhen, sendToggle, localDeleteWhen}
-use Rattle.woot.specs.Calls.{localRestoreWhen}
-use Rattle.memory.specs.Columns.{meaning}
+use Rattle.woot.specs.declared.Sent.the-variants.{Done as sentDone, Refused as sentRefused}
+use Rattle.woot.specs.Calls.{Outcome, unchanged, carryOut, localInsertWhen, localDeleteWhen, localRestoreWhen}
+use Rattle.memory.specs.Columns.{Replica, meaning, replicaWellFormed}
 use Rattle.integration.specs.declared.Placement.{Placement}
 use Rattle.integration.specs.declared.Placement.the-variants.{Missing, Crossed, Unplaceable as placeless, Below}
-use Rattle.reception.specs.Decisions.{fullIn, Placed, Target}
-use Rattle.generation.specs.declared.MadeInsert.{MadeInsert}
-use Rattle.generation.specs.declared.MadeInsert.the-variants.{Refused, Place}
-use Rattle.generation.specs.declared.MadeToggle.{MadeToggle}
-use Rattle.generation.specs.declared.MadeToggle.the-variants.{Refused as untoggled, Toggle as toggleAt}
+use Rattle.reception.specs.declared.Decision.the-variants.{Place}
+use Rattle.reception.specs.Decisions.{fullIn, Executed}
+use Rattle.generation.specs.declared.Made.{Made}
+use Rattle.generation.specs.declared.Made.the-variants.{Refused, Send}
 
 -- an insert that was made here, with its place: conditions 9 and 11
-unfoldable pub sentIn : ℕ → List ℕ → Insert → Placement → MadeInsert
+unfoldable pub sentIn : ℕ → List ℕ → Insert → Placement → Made
 sentIn n own i Missing = Refused Unplaceable
 sentIn n own i Crossed = Refused Unplaceable
 sentIn n own i placeless = Refused Unplaceable
-sentIn n own i (Below k) = cond (fullIn n own) (Refused DocumentFull) (Place k i)
+sentIn n own i (Below k) = cond (fullIn n own) (Refused DocumentFull) (Send (insert i) (Place k))
 
--- the rules refuse, or the insert is carried out at the place
-unfoldable pub InsertDecided : Replica → ℕ → ℕ → MadeInsert → Type 0
-InsertDecided r g n (Refused q) = localInsertWhen true (meaning r) g n ≡ unchanged (meaning r) (sentRefused q)
-InsertDecided r g n (Place k i) =
-    (localInsertWhen true (meaning r) g n ≡ sendInsert (meaning r) i) × Placed (meaning r) i k
+-- the rules refuse, or the operation is carried out where it goes, on a replica in form
+unfoldable pub MadeFor : Replica → Outcome Sent → Made → Type 0
+MadeFor r w (Refused q) = w ≡ unchanged (meaning r) (sentRefused q)
+MadeFor r w (Send o d) = (w ≡ carryOut (sentDone o) (meaning r) o) × Executed r o d
 
--- they refuse, or the toggle is carried out on the character with the index
-unfoldable pub ToggleDecided : State → Outcome Sent → MadeToggle → Type 0
-ToggleDecided s o (untoggled q) = o ≡ unchanged s (sentRefused q)
-ToggleDecided s o (toggleAt k t) = (o ≡ sendToggle s t) × Target s t k
+-- of the three calls, whether or not the replica is in form
+abbrev pub InsertMade : Replica → ℕ → ℕ → Made → Type 0
+InsertMade r g n m = MadeFor r (localInsertWhen (replicaWellFormed r) (meaning r) g n) m
 
-abbrev pub DeleteDecided : Replica → ℕ → MadeToggle → Type 0
-DeleteDecided r p m = ToggleDecided (meaning r) (localDeleteWhen true (meaning r) p) m
+abbrev pub DeleteMade : Replica → ℕ → Made → Type 0
+DeleteMade r p m = MadeFor r (localDeleteWhen (replicaWellFormed r) (meaning r) p) m
 
-abbrev pub RestoreDecided : Replica → Identifier → MadeToggle → Type 0
-RestoreDecided r x m = ToggleDecided (meaning r) (localRestoreWhen true (meaning r) x) m
+abbrev pub RestoreMade : Replica → Identifier → Made → Type 0
+RestoreMade r x m = MadeFor r (localRestoreWhen (replicaWellFormed r) (meaning r) x) m

@@ -1,12 +1,18 @@
-// What inserting, deleting and restoring here make, on lent arrays, before any of them is changed: a refusal, or an
-// operation and where it goes. (Document 01: typing and erasing; document 02, Req 05: restoring.) The public functions
-// are steps of the calls and not calls: the calls have checked the range and the form.
+// What inserting, deleting and restoring here come to, on lent arrays, before any of them is changed: a refusal, or an
+// operation and where it goes. (Document 01: typing and erasing; document 02, Req 05: restoring.)
 use index::Found;
 use index::table;
 use integration::Placement;
 use pending::counts;
+use reception::Decision;
+use woot::CHARACTERS;
+use woot::CODE_POINTS;
 use woot::Identifier;
 use woot::Insert;
+use woot::NEXT_KEYS;
+use woot::Operation;
+use woot::PENDING;
+use woot::PREVIOUS_KEYS;
 use woot::Refusal;
 use woot::Site;
 use woot::Toggle;
@@ -18,20 +24,14 @@ ghost use Rattle.woot.specs.Limits.{lastClock, lastToggles};
 ghost use Rattle.woot.specs.Ranges.{codePoint, characterId};
 ghost use Rattle.woot.specs.Calls.{nextIdentifier};
 ghost use Rattle.woot.specs.Memory.{identifier};
-ghost use Rattle.memory.specs.Lent.{documentAs};
+ghost use Rattle.memory.specs.Lent.{replicaAs, Sized};
 ghost use Rattle.well_formed.specs.Examined.{Examined};
-ghost use Rattle.generation.specs.Decisions.{sentIn, InsertDecided, DeleteDecided, RestoreDecided};
+ghost use Rattle.generation.specs.Decisions.{sentIn, InsertMade, DeleteMade, RestoreMade};
 
-// What inserting here makes: nothing, or an insert that goes in after the first so many characters.
-pub enum MadeInsert {
+// What inserting, deleting and restoring here come to: nothing, or an operation that is carried out as was decided.
+pub enum Made {
     Refused(Refusal),
-    Place(usize, Insert),
-}
-
-// What deleting and restoring here make: nothing, or a toggle whose target stands in the slot.
-pub enum MadeToggle {
-    Refused(Refusal),
-    Toggle(usize, Toggle),
+    Send(Operation, Decision),
 }
 
 // The insert that a site makes next, between the identifiers with two keys.
@@ -60,69 +60,97 @@ fn next_insert(site: Site, left: u32, right: u32, code_point: u32) -> Insert
 
 // An insert that was made here goes by its place, which is looked at before the room. Its neighbours are held and in
 // order.
-fn sent(n: usize, own: &[u32], w: usize, insert: Insert, placement: Placement) -> MadeInsert
+fn sent(n: usize, own: &[u32], w: usize, insert: Insert, placement: Placement) -> Made
     requires { ⌜ w ≤ length (now own) ⌝ }
     ensures { λ r. ⌜ r ≡ sentIn n (take w (now (own .entry))) insert placement ⌝ }
 {
     match placement {
-        Placement::Missing => MadeInsert::Refused(Refusal::Unplaceable),
-        Placement::Crossed => MadeInsert::Refused(Refusal::Unplaceable),
-        Placement::Unplaceable => MadeInsert::Refused(Refusal::Unplaceable),
+        Placement::Missing => Made::Refused(Refusal::Unplaceable),
+        Placement::Crossed => Made::Refused(Refusal::Unplaceable),
+        Placement::Unplaceable => Made::Refused(Refusal::Unplaceable),
         Placement::Below(k) => {
             if counts::document_full(n, own, w) {
-                return MadeInsert::Refused(Refusal::DocumentFull);
+                return Made::Refused(Refusal::DocumentFull);
             }
-            MadeInsert::Place(k, insert)
+            Made::Send(Operation::Insert(insert), Decision::Place(k))
         }
     }
 }
 
 // Makes the insert of a code point at an insertion point among the visible characters. The clock of a replica that is
-// well formed reaches every identifier of the site's, so that the next one is nobody's (refusal 6). A step of the calls
-// and not a call: they have checked the replica and the code point.
-pub fn make_insert<'a>(
-    heads: &'a [u16],
-    links: &'a [u16],
-    ids: &'a [u32],
-    previous: &'a [u32],
-    next: &'a [u32],
-    code_points: &'a [u32],
+// well formed reaches every identifier of the site's, so that the next one is nobody's (refusal 6). The replica and the
+// code point were checked.
+fn make_insert<'a>(
+    site: Site,
+    characters: &'a [u32],
     toggles: &'a [u8],
     n: usize,
-    own: &'a [u32],
-    first: &'a [u32],
-    second: &'a [u32],
-    values: &'a [u32],
+    pending: &'a [u32],
     w: usize,
-    site: Site,
+    heads: &'a [u16],
+    links: &'a [u16],
     point: usize,
     code_point: u32,
-) -> MadeInsert
-    requires { ⌜ Examined (record {
-      site = site;
-      document = documentAs (now ids) (now previous) (now next) (now «code_points») (now toggles) n
-          (now own) (now first) (now second) (now values) w (now heads) (now links);
-    }) ⌝ }
+) -> Made
+    requires { ⌜ Sized (now characters) (now toggles) (now pending) (now heads) (now links) ⌝ }
+    requires { ⌜ Examined
+        (replicaAs site (now characters) (now toggles) n (now pending) w (now heads) (now links)) ⌝ }
     requires { ⌜ codePoint «code_point» ≡ true ⌝ }
-    ensures { λ r. ⌜ InsertDecided (record {
-      site = site;
-      document = documentAs (now (ids .entry)) (now (previous .entry)) (now (next .entry))
-          (now («code_points» .entry)) (now (toggles .entry)) n
-          (now (own .entry)) (now (first .entry)) (now (second .entry)) (now (values .entry)) w
-          (now (heads .entry)) (now (links .entry));
-    }) point «code_point» r ⌝ }
+    ensures { λ r. ⌜ InsertMade (replicaAs site (now (characters .entry)) (now (toggles .entry)) n
+        (now (pending .entry)) w (now (heads .entry)) (now (links .entry))) point «code_point» r ⌝ }
 {
     if visible::count(toggles, n) < point {
-        return MadeInsert::Refused(Refusal::Position);
+        return Made::Refused(Refusal::Position);
     }
     if 65535 <= site.clock {
-        return MadeInsert::Refused(Refusal::Clock);
+        return Made::Refused(Refusal::Clock);
     }
+    let ids = &characters[0..CHARACTERS];
     let left = visible::left(ids, toggles, n, point);
     let right = visible::right(ids, toggles, n, point);
     let insert = next_insert(site, left, right, code_point);
+    let previous = &characters[PREVIOUS_KEYS..NEXT_KEYS];
+    let next = &characters[NEXT_KEYS..CODE_POINTS];
     let placement = integration::find_place(heads, links, ids, previous, next, n, insert);
-    sent(n, own, w, insert, placement)
+    sent(n, &pending[0..PENDING], w, insert, placement)
+}
+
+// What inserting a code point comes to: its range is looked at, then the form of the replica with these arrays, and
+// then what is made. A step of the calls and not a call: they lend arrays of these sizes.
+pub fn judge_insert<'a>(
+    site: Site,
+    characters: &'a [u32],
+    toggles: &'a [u8],
+    n: usize,
+    pending: &'a [u32],
+    w: usize,
+    heads: &'a [u16],
+    links: &'a [u16],
+    point: usize,
+    code_point: u32,
+) -> Made
+    requires { ⌜ Sized (now characters) (now toggles) (now pending) (now heads) (now links) ⌝ }
+    ensures { λ r. ⌜ InsertMade (replicaAs site (now (characters .entry)) (now (toggles .entry)) n
+        (now (pending .entry)) w (now (heads .entry)) (now (links .entry))) point «code_point» r ⌝ }
+{
+    if !ranges::code_point(code_point) {
+        return Made::Refused(Refusal::Range);
+    }
+    if !well_formed::check(site, characters, toggles, n, pending, w, heads, links) {
+        return Made::Refused(Refusal::Form);
+    }
+    make_insert(
+        site,
+        characters,
+        toggles,
+        n,
+        pending,
+        w,
+        heads,
+        links,
+        point,
+        code_point,
+    )
 }
 
 // The toggle that a site makes of a character with so many.
@@ -138,93 +166,128 @@ fn next_toggle(site: Site, target: Identifier, toggles: u8) -> Toggle
 }
 
 // Makes the toggle that deletes the visible character at the place, counted from 1. Its count is even, so that there is
-// a higher one. A step of the calls and not a call: they have checked the replica.
-pub fn make_delete<'a>(
-    heads: &'a [u16],
-    links: &'a [u16],
-    ids: &'a [u32],
-    previous: &'a [u32],
-    next: &'a [u32],
-    code_points: &'a [u32],
+// a higher one. The replica was checked.
+fn make_delete<'a>(
+    site: Site,
+    characters: &'a [u32],
     toggles: &'a [u8],
     n: usize,
-    own: &'a [u32],
-    first: &'a [u32],
-    second: &'a [u32],
-    values: &'a [u32],
+    pending: &'a [u32],
     w: usize,
-    site: Site,
+    heads: &'a [u16],
+    links: &'a [u16],
     place: usize,
-) -> MadeToggle
-    requires { ⌜ Examined (record {
-      site = site;
-      document = documentAs (now ids) (now previous) (now next) (now «code_points») (now toggles) n
-          (now own) (now first) (now second) (now values) w (now heads) (now links);
-    }) ⌝ }
-    ensures { λ r. ⌜ DeleteDecided (record {
-      site = site;
-      document = documentAs (now (ids .entry)) (now (previous .entry)) (now (next .entry))
-          (now («code_points» .entry)) (now (toggles .entry)) n
-          (now (own .entry)) (now (first .entry)) (now (second .entry)) (now (values .entry)) w
-          (now (heads .entry)) (now (links .entry));
-    }) place r ⌝ }
+) -> Made
+    requires { ⌜ Sized (now characters) (now toggles) (now pending) (now heads) (now links) ⌝ }
+    requires { ⌜ Examined
+        (replicaAs site (now characters) (now toggles) n (now pending) w (now heads) (now links)) ⌝ }
+    ensures { λ r. ⌜ DeleteMade (replicaAs site (now (characters .entry)) (now (toggles .entry)) n
+        (now (pending .entry)) w (now (heads .entry)) (now (links .entry))) place r ⌝ }
 {
     if place == 0 {
-        return MadeToggle::Refused(Refusal::Position);
+        return Made::Refused(Refusal::Position);
     }
     match visible::nth(toggles, n, place - 1) {
         Found::At(k) => {
+            let ids = &characters[0..CHARACTERS];
             let target = memory::identifier(ids[k]);
-            MadeToggle::Toggle(k, next_toggle(site, target, toggles[k]))
+            let toggle = next_toggle(site, target, toggles[k]);
+            Made::Send(Operation::Toggle(toggle), Decision::Toggle(k))
         }
-        Found::Nothing => MadeToggle::Refused(Refusal::Position),
+        Found::Nothing => Made::Refused(Refusal::Position),
     }
 }
 
-// Makes the toggle that restores the hidden character with the identifier. A step of the calls and not a call: they
-// have checked the replica and the identifier.
-pub fn make_restore<'a>(
-    heads: &'a [u16],
-    links: &'a [u16],
-    ids: &'a [u32],
-    previous: &'a [u32],
-    next: &'a [u32],
-    code_points: &'a [u32],
+// What deleting a visible character comes to: the form is looked at, and then what is made. A step of the calls too.
+pub fn judge_delete<'a>(
+    site: Site,
+    characters: &'a [u32],
     toggles: &'a [u8],
     n: usize,
-    own: &'a [u32],
-    first: &'a [u32],
-    second: &'a [u32],
-    values: &'a [u32],
+    pending: &'a [u32],
     w: usize,
-    site: Site,
-    id: Identifier,
-) -> MadeToggle
-    requires { ⌜ Examined (record {
-      site = site;
-      document = documentAs (now ids) (now previous) (now next) (now «code_points») (now toggles) n
-          (now own) (now first) (now second) (now values) w (now heads) (now links);
-    }) ⌝ }
-    requires { ⌜ characterId id ≡ true ⌝ }
-    ensures { λ r. ⌜ RestoreDecided (record {
-      site = site;
-      document = documentAs (now (ids .entry)) (now (previous .entry)) (now (next .entry))
-          (now («code_points» .entry)) (now (toggles .entry)) n
-          (now (own .entry)) (now (first .entry)) (now (second .entry)) (now (values .entry)) w
-          (now (heads .entry)) (now (links .entry));
-    }) id r ⌝ }
+    heads: &'a [u16],
+    links: &'a [u16],
+    place: usize,
+) -> Made
+    requires { ⌜ Sized (now characters) (now toggles) (now pending) (now heads) (now links) ⌝ }
+    ensures { λ r. ⌜ DeleteMade (replicaAs site (now (characters .entry)) (now (toggles .entry)) n
+        (now (pending .entry)) w (now (heads .entry)) (now (links .entry))) place r ⌝ }
 {
+    if !well_formed::check(site, characters, toggles, n, pending, w, heads, links) {
+        return Made::Refused(Refusal::Form);
+    }
+    make_delete(
+        site,
+        characters,
+        toggles,
+        n,
+        pending,
+        w,
+        heads,
+        links,
+        place,
+    )
+}
+
+// Makes the toggle that restores the hidden character with the identifier. The replica and the identifier were checked.
+fn make_restore<'a>(
+    site: Site,
+    characters: &'a [u32],
+    toggles: &'a [u8],
+    n: usize,
+    pending: &'a [u32],
+    w: usize,
+    heads: &'a [u16],
+    links: &'a [u16],
+    id: Identifier,
+) -> Made
+    requires { ⌜ Sized (now characters) (now toggles) (now pending) (now heads) (now links) ⌝ }
+    requires { ⌜ Examined
+        (replicaAs site (now characters) (now toggles) n (now pending) w (now heads) (now links)) ⌝ }
+    requires { ⌜ characterId id ≡ true ⌝ }
+    ensures { λ r. ⌜ RestoreMade (replicaAs site (now (characters .entry)) (now (toggles .entry)) n
+        (now (pending .entry)) w (now (heads .entry)) (now (links .entry))) id r ⌝ }
+{
+    let ids = &characters[0..CHARACTERS];
     match table::find_among(heads, links, ids, n, index::key(id)) {
         Found::At(k) => {
             let count = toggles[k];
             if count % 2 == 0 {
-                return MadeToggle::Refused(Refusal::NotHidden);
+                return Made::Refused(Refusal::NotHidden);
             }
             if count == 255 {
-                return MadeToggle::Refused(Refusal::LastToggle);
+                return Made::Refused(Refusal::LastToggle);
             }
-            MadeToggle::Toggle(k, next_toggle(site, id, count))
+            let toggle = next_toggle(site, id, count);
+            Made::Send(Operation::Toggle(toggle), Decision::Toggle(k))
         }
-        Found::Nothing => MadeToggle::Refused(Refusal::NotHidden),
+        Found::Nothing => Made::Refused(Refusal::NotHidden),
     }
+}
+
+// What restoring a hidden character comes to: the identifier is looked at, then the form, and then what is made. A step
+// of the calls too.
+pub fn judge_restore<'a>(
+    site: Site,
+    characters: &'a [u32],
+    toggles: &'a [u8],
+    n: usize,
+    pending: &'a [u32],
+    w: usize,
+    heads: &'a [u16],
+    links: &'a [u16],
+    id: Identifier,
+) -> Made
+    requires { ⌜ Sized (now characters) (now toggles) (now pending) (now heads) (now links) ⌝ }
+    ensures { λ r. ⌜ RestoreMade (replicaAs site (now (characters .entry)) (now (toggles .entry)) n
+        (now (pending .entry)) w (now (heads .entry)) (now (links .entry))) id r ⌝ }
+{
+    if !ranges::character_id(id) {
+        return Made::Refused(Refusal::Range);
+    }
+    if !well_formed::check(site, characters, toggles, n, pending, w, heads, links) {
+        return Made::Refused(Refusal::Form);
+    }
+    make_restore(site, characters, toggles, n, pending, w, heads, links, id)
 }
