@@ -1,5 +1,4 @@
 // Saved replicas from one form to the other: the way forward reads the first form, and the way back writes it.
-use replica::looks;
 use saved::LoadAnswer;
 use saved::Version;
 use woot::PENDING;
@@ -112,7 +111,7 @@ fn convert(from: Version, to: Version, bytes: &[u8], out: &mut [u8]) -> Written
         return Written::Refused(reason);
     }
     let replica = found.replica;
-    if !looks::check(
+    if !well_formed::check(
         replica.site,
         &replica.document.characters,
         &replica.document.toggles,

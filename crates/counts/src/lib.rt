@@ -1,7 +1,6 @@
 // How much a replica holds, as the number that a call for C returns: its visible characters, its pending operations,
 // all its characters, and how many more it has room for.
 use pending::counts;
-use replica::looks;
 use woot::Answer;
 use woot::CHARACTERS;
 use woot::Refusal;
@@ -38,7 +37,7 @@ fn counts_of<'a>(toggles: &'a [u8], n: usize, own: &'a [u32], w: usize) -> u64
 pub fn count(replica: Replica) -> u64
     ensures { λ r. ⌜ r ≡ numberOf (countsLeft replica) ⌝ }
 {
-    if !looks::check(
+    if !well_formed::check(
         replica.site,
         &replica.document.characters,
         &replica.document.toggles,

@@ -18,7 +18,7 @@ use Rattle.woot.specs.Table.{key}
 use Rattle.memory.specs.Columns.{Replica, meaning, replicaWellFormed}
 use Rattle.reception.specs.declared.Decision.{Decision}
 use Rattle.reception.specs.declared.Decision.the-variants.{Answered, Defer, Place, Toggle as toggleAt}
-use Rattle.replica.specs.Outcomes.{outcomeOf, Feasible}
+use Rattle.reception.specs.Decisions.{outcomeOf, Feasible}
 use Rattle.cursor.specs.declared.Anchor.{Anchor}
 use Rattle.cursor.specs.declared.Judgement.{Judgement}
 

@@ -22,11 +22,11 @@ ghost use lib.ListN.{length, take};
 ghost use Rattle.woot.specs.declared.Character.{Character};
 ghost use Rattle.woot.specs.Answers.{changes};
 ghost use Rattle.woot.specs.Cursor.{visibleThrough, lastNumber, movedBy};
-ghost use Rattle.woot.specs.Table.{keys, chains, tableLinks};
-ghost use Rattle.woot.specs.Memory.{identifier, toggleCounts, characterNumbers, characterSlots, pendingNumbers};
+ghost use Rattle.woot.specs.Table.{keys};
+ghost use Rattle.woot.specs.Memory.{identifier, toggleCounts, characterNumbers, characterSlots};
 ghost use Rattle.woot.specs.Replicas.{receivedAt};
 ghost use Rattle.index.specs.Keys.{AllSmall, placeIn};
-ghost use Rattle.replica.specs.Outcomes.{replicaAs};
+ghost use Rattle.memory.specs.Lent.{replicaAs, Sized};
 ghost use Rattle.cursor.specs.Bits.{shiftBits};
 ghost use Rattle.cursor.specs.Steps.{anchorOf, answerAt, overruled, JudgedAt};
 
@@ -116,15 +116,11 @@ pub fn judge_at<'a>(
     operation: Operation,
     point: usize,
 ) -> Judgement
-    requires { ⌜ length (now characters) ≡ characterNumbers ⌝ }
-    requires { ⌜ length (now toggles) ≡ characterSlots ⌝ }
-    requires { ⌜ length (now pending) ≡ pendingNumbers ⌝ }
-    requires { ⌜ length (now heads) ≡ chains ⌝ }
-    requires { ⌜ length (now links) ≡ tableLinks ⌝ }
+    requires { ⌜ Sized (now characters) (now toggles) (now pending) (now heads) (now links) ⌝ }
     ensures { λ r. ⌜ JudgedAt (replicaAs site (now (characters .entry)) (now (toggles .entry)) n
         (now (pending .entry)) w (now (heads .entry)) (now (links .entry))) operation point r ⌝ }
 {
-    let judged = replica::looks::judge(
+    let judged = reception::judge(
         site,
         characters,
         toggles,

@@ -19,37 +19,25 @@ use Rattle.woot.specs.Calls.{allIntegrated, insertCarried, afterDrain, withChar
 use Rattle.memory.specs.Columns.{Document, Replica, meaning, stored, documentOf, charactersIn, operationsIn}
 use Rattle.well_formed.specs.Examined.{Examined}
 use Rattle.well_formed.proofs.Examining.{few, form, characters-counted, pending-counted}
-use Rattle.delivery.specs.Work.{Slots, Lent, Work, workOf, finished, Placed as Placeable, Targeted}
-use Rattle.reception.specs.Decisions.{Placed, Target}
+use Rattle.delivery.specs.Work.{Lent, Work, workOf, finished, Placed as Placeable, Targeted}
+use Rattle.reception.specs.Decisions.{Executed, Feasible}
+use Rattle.reception.specs.declared.Decision.{Decision}
 use Rattle.reception.specs.declared.Decision.the-variants.{Answered, Defer, Place, Toggle as toggleAt}
-use Rattle.replica.specs.Outcomes.{Executed, Feasible, Left, leftOf, leftBy}
+use Rattle.replica.specs.Outcomes.{Left, leftOf, leftBy}
 
-module _ (r : Replica) (e : Examined r) where
-  slots : Slots (r .document)
-  slots =
-      record {
-        ids = e .ids;
-        previous = e .previous;
-        next = e .next;
-        points = e .points;
-        toggles = e .toggles;
-        own = e .own;
-        first = e .first;
-        second = e .second;
-        values = e .values;
-        heads = e .heads;
-        links = e .links;
-      }
-
-  lent : Lent (r .document)
-  unfolding meaning
-  lent =
-      let f = few r e in
-      record { slots = slots; few = f .characters; few-pending = f .pending; ranged = form r e .sound .pending-ranges }
+lent : (r : Replica) → Examined r → Lent (r .document)
+unfolding meaning
+lent r e =
+    let f = few r e in
+    record { slots = e .slots; few = f .characters; few-pending = f .pending; ranged = form r e .sound .pending-ranges }
 
 -- ---- what is asked
 
 module _ (r : Replica) where
+  -- by the kinds that a branch tells
+  pub told : {o p : Operation} {d e : Decision} → Feasible r o d → o ≡ p → d ≡ e → Feasible r p e
+  told h a c = rw (a, c) at h
+
   pub defer-lent : (o : Operation) → Feasible r o Defer → Lent (r .document)
   unfolding Feasible
   defer-lent o h = lent r (h .0)

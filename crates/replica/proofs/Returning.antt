@@ -23,16 +23,24 @@ use Rattle.woot.specs.Calls.{Outcome, unchanged, allIntegrated, carryOut, defer
 use Rattle.woot.specs.Memory as memory
 use Rattle.woot.specs.Replicas.{afterAnswer, afterSent, receipt, generated, received, inserted, deleted, restored}
 use Rattle.memory.specs.Columns as columns
-use Rattle.memory.specs.Lent.{viewed}
+use Rattle.memory.specs.Lent.{Sized, viewed}
 use Rattle.memory.proofs.Fullness.{FullArrays}
 use Rattle.memory.proofs.Views.{columns-whole, flat-path, meaning-view, form-view}
 use Rattle.reception.specs.declared.Decision.{Decision}
 use Rattle.reception.specs.declared.Decision.the-variants.{Answered, Defer, Place, Toggle as toggleAt}
-use Rattle.generation.specs.declared.MadeInsert.the-variants.{Refused as uninserted, Place as insertAt}
-use Rattle.generation.specs.declared.MadeToggle.the-variants.{Refused as untoggled, Toggle as toggledAt}
-use Rattle.replica.specs.Outcomes.{outcomeOf, Executed, Feasible, Judged, InsertJudged, ToggleJudged, Left, leftOf, leftBy, answerBy}
+use Rattle.generation.specs.declared.Made.{Made}
+use Rattle.generation.specs.declared.Made.the-variants.{Refused as madeNothing, Send}
+use Rattle.reception.specs.Decisions.{outcomeOf, Executed, Feasible, Judged}
+use Rattle.generation.specs.Decisions.{MadeFor, InsertMade, DeleteMade, RestoreMade}
+use Rattle.replica.specs.Outcomes.{Left, leftOf, leftBy, answerBy, Sendable, sentBy}
 
 -- ---- arrays that have the columns of others, and of a state
+
+-- arrays that keep their lengths
+pub sized-still : {cs ts ps hs ls ds us qs is ms : List ℕ} → Sized cs ts ps hs ls → length ds ≡ length cs → length us ≡ length ts
+    → length qs ≡ length ps → length is ≡ length hs → length ms ≡ length ls → Sized ds us qs is ms
+sized-still s c t p h l =
+    record { characters = c ∙ s .characters; toggles = t ∙ s .toggles; pending = p ∙ s .pending; heads = h ∙ s .heads; links = l ∙ s .links }
 
 module _ (b : Replica) (full : FullArrays (b .document)) where
   whole : (s : State) → viewed b ≡ columns.stored s → b ≡ memory.stored s
@@ -126,43 +134,29 @@ executed-feasible r o Defer h = absurd h
 executed-feasible r o (Place k) h = h
 executed-feasible r o (toggleAt k) h = h
 
-module _ (r : Replica) (w : Outcome Sent) where
-  pub refused-insert : (q : Refusal) → InsertJudged (viewed r) w (uninserted q) → _≡_ {A = Generated} (record { answer = sentRefused q; replica = r }) (generated r w)
-  unfolding InsertJudged generated unchanged afterSent
-  refused-insert q h = sym (ap (generated r) h)
+-- ---- what the calls answer
 
-  pub refused-toggle : (q : Refusal) → ToggleJudged (viewed r) w (untoggled q) → _≡_ {A = Generated} (record { answer = sentRefused q; replica = r }) (generated r w)
-  unfolding ToggleJudged generated unchanged afterSent
-  refused-toggle q h = sym (ap (generated r) h)
-
-  module _ (k : ℕ) (i : Insert) (h : InsertJudged (viewed r) w (insertAt k i)) where
-    pub insert-executed : Executed (viewed r) (insert i) (Place k)
-    unfolding InsertJudged
-    insert-executed = h .1
-
-    pub insert-sent : generated r (carryOut (sentDone (insert i)) (memory.meaning r) (insert i)) ≡ generated r w
-    unfolding InsertJudged sendInsert
-    insert-sent = rw (meaning-view r) (sym (ap (generated r) (h .0)))
-
-  module _ (k : ℕ) (t : Toggle) (h : ToggleJudged (viewed r) w (toggledAt k t)) where
-    pub toggle-executed : Executed (viewed r) (toggle t) (toggleAt k)
-    unfolding ToggleJudged
-    toggle-executed = h .1
-
-    pub toggle-sent : generated r (carryOut (sentDone (toggle t)) (memory.meaning r) (toggle t)) ≡ generated r w
-    unfolding ToggleJudged sendToggle
-    toggle-sent = rw (meaning-view r) (sym (ap (generated r) (h .0)))
-
--- the calls on the columns of a replica
 module _ (r : Replica) where
-  pub inserted-view : (g n : ℕ) → generated r (localInsertWhen (columns.replicaWellFormed (viewed r)) (columns.meaning (viewed r)) g n) ≡ inserted r g n
+  module _ (w : Outcome Sent) where
+    pub sendable : (m : Made) → MadeFor (viewed r) w m → Sendable (viewed r) m
+    unfolding MadeFor Sendable
+    sendable (madeNothing q) h = tt
+    sendable (Send o d) h = h .1
+
+    made-answer : (m : Made) → MadeFor (viewed r) w m → sentBy r m ≡ generated r w
+    unfolding MadeFor sentBy generated unchanged afterSent
+    made-answer (madeNothing q) h = sym (ap (generated r) h)
+    made-answer (Send o d) h = rw (meaning-view r) (sym (ap (generated r) (h .0)))
+
+  -- the calls on the columns of a replica
+  pub insert-so : (g n : ℕ) (m : Made) → InsertMade (viewed r) g n m → sentBy r m ≡ inserted r g n
   unfolding inserted
-  inserted-view g n = rw (form-view r, meaning-view r)
+  insert-so g n m h = made-answer _ m h ∙ rw (form-view r, meaning-view r)
 
-  pub deleted-view : (p : ℕ) → generated r (localDeleteWhen (columns.replicaWellFormed (viewed r)) (columns.meaning (viewed r)) p) ≡ deleted r p
+  pub delete-so : (p : ℕ) (m : Made) → DeleteMade (viewed r) p m → sentBy r m ≡ deleted r p
   unfolding deleted
-  deleted-view p = rw (form-view r, meaning-view r)
+  delete-so p m h = made-answer _ m h ∙ rw (form-view r, meaning-view r)
 
-  pub restored-view : (x : Identifier) → generated r (localRestoreWhen (columns.replicaWellFormed (viewed r)) (columns.meaning (viewed r)) x) ≡ restored r x
+  pub restore-so : (x : Identifier) (m : Made) → RestoreMade (viewed r) x m → sentBy r m ≡ restored r x
   unfolding restored
-  restored-view x = rw (form-view r, meaning-view r)
+  restore-so x m h = made-answer _ m h ∙ rw (form-view r, meaning-view r)

@@ -4,8 +4,10 @@ use woot::Operation;
 use woot::Site;
 ghost use mathlib.Core.Path.{_≡_};
 ghost use lib.ListN.{length};
-ghost use Rattle.replica.specs.Outcomes.{replicaAs, Feasible, leftAs, leftBy};
 ghost use Rattle.woot.specs.Memory.{characterNumbers, pendingNumbers};
+ghost use Rattle.memory.specs.Lent.{replicaAs};
+ghost use Rattle.reception.specs.Decisions.{Feasible};
+ghost use Rattle.replica.specs.Outcomes.{leftAs, leftBy};
 
 // What a call has to put back beside the arrays: the site, how many characters and pending operations there are, and
 // how many operations were carried out and how many discarded.

@@ -1,13 +1,12 @@
 // The calls on a replica: receiving, inserting, deleting, restoring, the check of its form and the visible text. What
 // is asked is looked at on the replica's arrays and decided on, and then carried out where they lie.
 pub mod changes;
-pub mod looks;
-mod makes;
 
-use generation::MadeInsert;
-use generation::MadeToggle;
+use generation::Made;
 use reception::Decision;
 use woot::Answer;
+use woot::CHARACTER_NUMBERS;
+use woot::CODE_POINTS;
 use woot::Document;
 use woot::Generated;
 use woot::Identifier;
@@ -19,19 +18,24 @@ use woot::Sent;
 use woot::Table;
 use woot::Written;
 ghost use mathlib.Core.Path.{_≡_};
-ghost use Rattle.woot.specs.declared.Sent.the-variants.{Done as sentDone};
-ghost use Rattle.woot.specs.Calls.{carryOut};
-ghost use Rattle.woot.specs.Memory.{meaning, replicaWellFormed};
-ghost use Rattle.woot.specs.Replicas.{generated, received, inserted, deleted, restored};
+ghost use mathlib.Core.List.{List, []};
+ghost use Prim.Native.Nat.{_≤_};
+ghost use lib.ListN.{length, take};
+ghost use Rattle.woot.specs.declared.Character.{Character};
+ghost use Rattle.woot.specs.Memory.{replicaWellFormed};
+ghost use Rattle.woot.specs.Memory.{characterNumbers, characterSlots, codePoints, codePointColumn, toggleCounts};
+ghost use Rattle.woot.specs.Text.{text};
+ghost use Rattle.woot.specs.Writing.{writtenAs, outputAfter};
+ghost use Rattle.woot.specs.Replicas.{received, inserted, deleted, restored};
 ghost use Rattle.memory.specs.Lent.{viewed};
-ghost use Rattle.replica.specs.Outcomes.{Executed, answerBy};
+ghost use Rattle.replica.specs.Outcomes.{answerBy, Sendable, sentBy};
 ghost use Rattle.replica.specs.Texts.{textWritten, textOut};
 
 // Whether a replica is well formed. (Document 01: in form.)
 pub fn well_formed(replica: Replica) -> bool
     ensures { λ r. ⌜ r ≡ replicaWellFormed replica ⌝ }
 {
-    looks::check(
+    well_formed::check(
         replica.site,
         &replica.document.characters,
         &replica.document.toggles,
@@ -70,7 +74,7 @@ pub fn receive(replica: Replica, operation: Operation) -> Receipt
     let mut pending = replica.document.pending;
     let mut heads = replica.document.table.heads;
     let mut links = replica.document.table.links;
-    let decision = looks::judge(
+    let decision = reception::judge(
         replica.site,
         &characters,
         &toggles,
@@ -110,46 +114,54 @@ pub fn receive(replica: Replica, operation: Operation) -> Receipt
     }
 }
 
-// Carries out an operation that was made here, and answers it with the counts.
-fn send(replica: Replica, operation: Operation, decision: Decision) -> Generated
-    requires { ⌜ Executed (viewed replica) operation decision ⌝ }
-    ensures { λ r. ⌜ r ≡ generated replica (carryOut (sentDone operation) (meaning replica) operation) ⌝ }
+// Carries out an operation that was made here and answers it with the counts, or answers the refusal.
+fn send(replica: Replica, made: Made) -> Generated
+    requires { ⌜ Sendable (viewed replica) made ⌝ }
+    ensures { λ r. ⌜ r ≡ sentBy replica made ⌝ }
 {
-    let mut characters = replica.document.characters;
-    let mut toggles = replica.document.toggles;
-    let mut pending = replica.document.pending;
-    let mut heads = replica.document.table.heads;
-    let mut links = replica.document.table.links;
-    let carried = changes::carry(
-        &mut characters,
-        &mut toggles,
-        &mut pending,
-        &mut heads,
-        &mut links,
-        replica.site,
-        replica.document.length,
-        replica.document.waiting,
-        operation,
-        decision,
-    );
-    let site = carried.site;
-    Generated {
-        answer: Sent::Done {
-            operation,
-            integrated: carried.integrated,
-            discarded: carried.discarded,
+    match made {
+        Made::Refused(refusal) => Generated {
+            answer: Sent::Refused(refusal),
+            replica,
         },
-        replica: Replica {
-            site,
-            document: Document {
-                characters,
-                toggles,
-                length: carried.length,
-                pending,
-                waiting: carried.waiting,
-                table: Table { heads, links },
-            },
-        },
+        Made::Send(operation, decision) => {
+            let mut characters = replica.document.characters;
+            let mut toggles = replica.document.toggles;
+            let mut pending = replica.document.pending;
+            let mut heads = replica.document.table.heads;
+            let mut links = replica.document.table.links;
+            let carried = changes::carry(
+                &mut characters,
+                &mut toggles,
+                &mut pending,
+                &mut heads,
+                &mut links,
+                replica.site,
+                replica.document.length,
+                replica.document.waiting,
+                operation,
+                decision,
+            );
+            let site = carried.site;
+            Generated {
+                answer: Sent::Done {
+                    operation,
+                    integrated: carried.integrated,
+                    discarded: carried.discarded,
+                },
+                replica: Replica {
+                    site,
+                    document: Document {
+                        characters,
+                        toggles,
+                        length: carried.length,
+                        pending,
+                        waiting: carried.waiting,
+                        table: Table { heads, links },
+                    },
+                },
+            }
+        }
     }
 }
 
@@ -158,7 +170,7 @@ fn send(replica: Replica, operation: Operation, decision: Decision) -> Generated
 pub fn insert(replica: Replica, point: usize, code_point: u32) -> Generated
     ensures { λ r. ⌜ r ≡ inserted replica point «code_point» ⌝ }
 {
-    match makes::judge_insert(
+    let made = generation::judge_insert(
         replica.site,
         &replica.document.characters,
         &replica.document.toggles,
@@ -169,13 +181,8 @@ pub fn insert(replica: Replica, point: usize, code_point: u32) -> Generated
         &replica.document.table.links,
         point,
         code_point,
-    ) {
-        MadeInsert::Refused(refusal) => Generated {
-            answer: Sent::Refused(refusal),
-            replica,
-        },
-        MadeInsert::Place(k, i) => send(replica, Operation::Insert(i), Decision::Place(k)),
-    }
+    );
+    send(replica, made)
 }
 
 // Deletes the visible character at the place, counted from 1, and answers the operation to be sent. (Document 01:
@@ -183,7 +190,7 @@ pub fn insert(replica: Replica, point: usize, code_point: u32) -> Generated
 pub fn delete(replica: Replica, place: usize) -> Generated
     ensures { λ r. ⌜ r ≡ deleted replica place ⌝ }
 {
-    match makes::judge_delete(
+    let made = generation::judge_delete(
         replica.site,
         &replica.document.characters,
         &replica.document.toggles,
@@ -193,13 +200,8 @@ pub fn delete(replica: Replica, place: usize) -> Generated
         &replica.document.table.heads,
         &replica.document.table.links,
         place,
-    ) {
-        MadeToggle::Refused(refusal) => Generated {
-            answer: Sent::Refused(refusal),
-            replica,
-        },
-        MadeToggle::Toggle(k, t) => send(replica, Operation::Toggle(t), Decision::Toggle(k)),
-    }
+    );
+    send(replica, made)
 }
 
 // Restores the hidden character with the identifier, and answers the operation to be sent. (Document 02, Req 05:
@@ -207,7 +209,7 @@ pub fn delete(replica: Replica, place: usize) -> Generated
 pub fn restore(replica: Replica, id: Identifier) -> Generated
     ensures { λ r. ⌜ r ≡ restored replica id ⌝ }
 {
-    match makes::judge_restore(
+    let made = generation::judge_restore(
         replica.site,
         &replica.document.characters,
         &replica.document.toggles,
@@ -217,13 +219,24 @@ pub fn restore(replica: Replica, id: Identifier) -> Generated
         &replica.document.table.heads,
         &replica.document.table.links,
         id,
-    ) {
-        MadeToggle::Refused(refusal) => Generated {
-            answer: Sent::Refused(refusal),
-            replica,
-        },
-        MadeToggle::Toggle(k, t) => send(replica, Operation::Toggle(t), Decision::Toggle(k)),
-    }
+    );
+    send(replica, made)
+}
+
+// Writes the text of the first n characters of a replica that is well formed. The column of their code points is a part
+// of the array.
+fn write_text<'a>(characters: &'a [u32], toggles: &'a [u8], n: usize, out: &mut [u8]) -> Written
+    requires { ⌜ length (now characters) ≡ characterNumbers ⌝ }
+    requires { ⌜ length (now toggles) ≡ characterSlots ⌝ }
+    requires { ⌜ n ≤ characterSlots ⌝ }
+    ensures { λ r. ⌜ ((cs : List Character) → codePoints cs ≡ take n (codePointColumn (now (characters .entry)))
+        → toggleCounts cs ≡ take n (now (toggles .entry))
+        → r ≡ writtenAs [] (text cs) (now (out .entry))) ⌝ }
+    ensures { λ _. ⌜ ((cs : List Character) → codePoints cs ≡ take n (codePointColumn (now (characters .entry)))
+        → toggleCounts cs ≡ take n (now (toggles .entry))
+        → now (out .exit) ≡ outputAfter [] (text cs) (now (out .entry))) ⌝ }
+{
+    visible::write_text(&characters[CODE_POINTS..CHARACTER_NUMBERS], toggles, n, out)
 }
 
 // The visible text of a replica as UTF-8 into the slice: its length, or refusal 3 or 12, and then no byte is changed.
@@ -231,7 +244,7 @@ pub fn visible_text(replica: Replica, out: &mut [u8]) -> Written
     ensures { λ r. ⌜ r ≡ textWritten replica (now (out .entry)) ⌝ }
     ensures { λ _. ⌜ now (out .exit) ≡ textOut replica (now (out .entry)) ⌝ }
 {
-    if !looks::check(
+    if !well_formed::check(
         replica.site,
         &replica.document.characters,
         &replica.document.toggles,
@@ -243,7 +256,7 @@ pub fn visible_text(replica: Replica, out: &mut [u8]) -> Written
     ) {
         return Written::Refused(Refusal::Form);
     }
-    looks::write_text(
+    write_text(
         &replica.document.characters,
         &replica.document.toggles,
         replica.document.length,

@@ -3,7 +3,6 @@ mod columns;
 mod numbered;
 mod site_line;
 
-use replica::looks;
 use saved::Version;
 use woot::CHARACTER_NUMBERS;
 use woot::CHARACTERS;
@@ -78,7 +77,7 @@ pub fn save(replica: Replica, out: &mut [u8]) -> Written
     ensures { λ r. ⌜ r ≡ saved replica (now (out .entry)) ⌝ }
     ensures { λ r. ⌜ now (out .exit) ≡ savedOut replica (now (out .entry)) ⌝ }
 {
-    if !looks::check(
+    if !well_formed::check(
         replica.site,
         &replica.document.characters,
         &replica.document.toggles,

@@ -1,7 +1,7 @@
 -- `cursor::judge_at` overrules what was judged by what was taken down of the arrays, which tell it where the form was checked.
 use mathlib.Core.Path.{refl}
-use Rattle.replica.specs.Outcomes.{replicaAs}
-use Rattle.replica.proofs.Judging.{lent-examined}
+use Rattle.memory.specs.Lent.{replicaAs}
+use Rattle.well_formed.proofs.Examining.{lent-examined}
 use Rattle.cursor.proofs.Receiving.{judged-at, anchor-told}
 use borrow.Author.Needs.{needs}
 use Rattle.cursor.proofs.judge_at.Statement.{statement}
@@ -11,10 +11,9 @@ returns : tie.Need-returns
 returns c =
     let s = c .before .before .before .before .before .before .before .before .before in
     let a = s .args in
-    let p = s .pre in
     let r = replicaAs (a .site) (a .characters .now) (a .toggles .now) (a .n) (a .pending .now) (a .w) (a .heads .now) (a .links .now) in
     judged-at r (a .operation) (a .point) _ _ (c .before .anchored .result) (c .before .before .before .judge .ensures)
-    (λ f. anchor-told r (a .characters .now) (a .point) _ _ (lent-examined (a .site) (a .characters .now) (a .toggles .now) (a .n) (a .pending .now) (a .w) (a .heads .now) (a .links .now) (p .0) (p .1 .0) (p .1 .1 .0) (p .1 .1 .1 .0) (p .1 .1 .1 .1) f) refl (c .before .before .lesser .ensures) (c .before .anchored .ensures))
+    (λ f. anchor-told r _ (a .point) _ _ (lent-examined _ _ _ (s .pre) f) refl (c .before .before .lesser .ensures) (c .before .anchored .ensures))
     (c .overrule .ensures)
 
 pub judge-at-spec : {M : Type 1} → statement M

@@ -1,26 +1,22 @@
--- `replica::delete` goes by what was made: a refusal, or an operation that is carried out.
-use mathlib.Core.Path.{_≡_, _∙_}
-use Rattle.replica.proofs.Returning.{refused-toggle, toggle-executed, toggle-sent, deleted-view}
+-- `replica::delete` sends what was made.
+use mathlib.Core.Path.{_∙_}
+use Rattle.woot.specs.declared.Replica.{Replica}
+use Rattle.replica.proofs.Returning.{sendable, delete-so}
 use borrow.Author.Needs.{needs}
 use Rattle.replica.proofs.delete.Statement.{statement}
 use Rattle.replica.proofs.delete.Tie as tie
 
+-- the replica that was passed
+abbrev passedIn : tie.After-judge-delete → Replica
+passedIn c = c .before .before .before .before .before .before .before .before .before .before .before .before .before .args .t1
+
 send-requires : tie.Need-send-requires
-send-requires c κs =
-    let r = c .before .before .before .before .before .before .before .before .before .before .before .before .before .before .before .before .args .t1 in
-    toggle-executed r _ _ _ (rw (c .before .k .given .1) at (c .before .before .before .judge-delete .ensures))
+send-requires c κs = sendable (passedIn c) _ _ (c .judge-delete .ensures)
 
 returns : tie.Need-returns
-returns c =
-    let r = c .before .before .before .before .before .before .before .before .before .before .before .before .before .before .before .before .args .t1 in
-    refused-toggle r _ _ (rw (c .before .refusal .given .1) at (c .before .before .before .judge-delete .ensures)) ∙ deleted-view r _
-
-returns-2 : tie.Need-returns-2
-returns-2 c =
-    let r = c .before .before .before .before .before .before .before .before .before .before .before .before .before .before .before .before .before .args .t1 in
-    c .send .ensures ∙ toggle-sent r _ _ _ (rw (c .before .before .k .given .1) at (c .before .before .before .before .judge-delete .ensures)) ∙ deleted-view r _
+returns c = c .send .ensures ∙ delete-so (passedIn (c .before)) _ _ (c .before .judge-delete .ensures)
 
 pub delete-spec : {M : Type 1} → statement M
 delete-spec =
     tie.close
-    (tie.spec (λ c κs. search needs) (λ c. search needs) (λ c. search needs) send-requires returns returns-2)
+    (tie.spec (λ c κs. search needs) send-requires returns)

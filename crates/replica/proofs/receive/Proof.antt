@@ -1,28 +1,30 @@
 -- `replica::receive` takes the arrays out, judges the operation and carries the decision out on them, and puts them back.
-use native.Mathlib.Omega.{arith}
 use Rattle.memory.proofs.Fullness.{FullArrays, full-replica}
-use Rattle.replica.proofs.Returning.{received-so}
+use Rattle.replica.proofs.Returning.{sized-still, received-so}
 use borrow.Author.Needs.{needs}
 use Rattle.replica.proofs.receive.Statement.{statement}
 use Rattle.replica.proofs.receive.Tie as tie
 
+-- the arrays that were passed
+full : (s : tie.Start) → FullArrays (s .args .replica .document)
+full s = full-replica (s .good .0)
+
 judge-requires : tie.Need-judge-requires
-judge-requires c κs =
-    let r = c .before .before .before .before .before .before .before .before .before .before .args .replica in
-    let full = full-replica {r = r} (c .before .before .before .before .before .before .before .before .before .before .good .0) in
-    (full .characters, (full .toggles, (full .pending, (full .heads, full .links))))
+judge-requires c κs = full (c .before .before .before .before .before .before .before .before .before .before)
 
 carry-requires : tie.Need-carry-requires
 carry-requires c κs =
-    let r = c .before .before .before .before .before .before .before .before .before .before .before .before .before .before .before .before .args .replica in
-    let full = full-replica {r = r} (c .before .before .before .before .before .before .before .before .before .before .before .before .before .before .before .before .good .0) in
-    (full .characters, (full .pending, c .before .before .before .before .before .judge .ensures .feasible))
+    let f = full (c .before .before .before .before .before .before .before .before .before .before .before .before .before .before .before .before) in
+    (f .characters, (f .pending, c .before .before .before .before .before .judge .ensures .feasible))
 
 returns : tie.Need-returns
 returns c =
-    let r = c .before .before .before .before .before .before .before .before .before .before .before .before .before .before .before .before .before .before .before .before .before .before .before .before .args .replica in
-    let full = full-replica {r = r} (c .before .before .before .before .before .before .before .before .before .before .before .before .before .before .before .before .before .before .before .before .before .before .before .before .good .0) in
-    received-so r _ full (record { characters = omega (arith, c .before .before .before .before .before .before .before .carry .kept .0, full .characters); toggles = omega (arith, c .before .before .before .before .before .before .before .carry .kept .1 .0, full .toggles); pending = omega (arith, c .before .before .before .before .before .before .before .carry .kept .1 .1 .0, full .pending); heads = omega (arith, c .before .before .before .before .before .before .before .carry .kept .1 .1 .1 .0, full .heads); links = omega (arith, c .before .before .before .before .before .before .before .carry .kept .1 .1 .1 .1 .0, full .links) }) _ _ _ _ _ (c .answer .ensures) (c .before .before .before .before .before .before .before .before .before .before .before .before .before .judge .ensures) (c .before .before .before .before .before .before .before .carry .ensures)
+    let j = c .before .before .before .before .before .before .before .before .before .before .before .before .before in
+    let s = j .before .before .before .before .before .before .before .before .before .before .before in
+    let done = c .before .before .before .before .before .before .before .carry in
+    let k = done .kept in
+    let still = sized-still (full s) (k .0) (k .1 .0) (k .1 .1 .0) (k .1 .1 .1 .0) (k .1 .1 .1 .1 .0) in
+    received-so (s .args .replica) _ (full s) still _ _ _ _ _ (c .answer .ensures) (j .judge .ensures) (done .ensures)
 
 pub receive-spec : {M : Type 1} → statement M
 receive-spec =

@@ -1,26 +1,22 @@
--- `replica::restore` goes by what was made: a refusal, or an operation that is carried out.
-use mathlib.Core.Path.{_≡_, _∙_}
-use Rattle.replica.proofs.Returning.{refused-toggle, toggle-executed, toggle-sent, restored-view}
+-- `replica::restore` sends what was made.
+use mathlib.Core.Path.{_∙_}
+use Rattle.woot.specs.declared.Replica.{Replica}
+use Rattle.replica.proofs.Returning.{sendable, restore-so}
 use borrow.Author.Needs.{needs}
 use Rattle.replica.proofs.restore.Statement.{statement}
 use Rattle.replica.proofs.restore.Tie as tie
 
+-- the replica that was passed
+abbrev passedIn : tie.After-judge-restore → Replica
+passedIn c = c .before .before .before .before .before .before .before .before .before .before .before .before .before .args .t1
+
 send-requires : tie.Need-send-requires
-send-requires c κs =
-    let r = c .before .before .before .before .before .before .before .before .before .before .before .before .before .before .before .before .args .t1 in
-    toggle-executed r _ _ _ (rw (c .before .k .given .1) at (c .before .before .before .judge-restore .ensures))
+send-requires c κs = sendable (passedIn c) _ _ (c .judge-restore .ensures)
 
 returns : tie.Need-returns
-returns c =
-    let r = c .before .before .before .before .before .before .before .before .before .before .before .before .before .before .before .before .args .t1 in
-    refused-toggle r _ _ (rw (c .before .refusal .given .1) at (c .before .before .before .judge-restore .ensures)) ∙ restored-view r _
-
-returns-2 : tie.Need-returns-2
-returns-2 c =
-    let r = c .before .before .before .before .before .before .before .before .before .before .before .before .before .before .before .before .before .args .t1 in
-    c .send .ensures ∙ toggle-sent r _ _ _ (rw (c .before .before .k .given .1) at (c .before .before .before .before .judge-restore .ensures)) ∙ restored-view r _
+returns c = c .send .ensures ∙ restore-so (passedIn (c .before)) _ _ (c .before .judge-restore .ensures)
 
 pub restore-spec : {M : Type 1} → statement M
 restore-spec =
     tie.close
-    (tie.spec (λ c κs. search needs) (λ c. search needs) (λ c. search needs) send-requires returns returns-2)
+    (tie.spec (λ c κs. search needs) send-requires returns)

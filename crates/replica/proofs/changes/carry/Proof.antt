@@ -1,76 +1,108 @@
 -- `changes::carry` goes by the decision: each change leaves what the rules leave.
 use native.Mathlib.Omega.{arith}
-use mathlib.Core.Path.{_≡_, ap, _∙_}
-use Rattle.replica.specs.Outcomes.{replicaAs, leftAs}
-use Rattle.replica.proofs.Changing.{defer-lent, defer-slot, placeable, targeted, no-place, no-target, answered-left, deferred-left, integrated-left, toggled-left}
+use mathlib.Core.Path.{refl, ap, _∙_}
+use Rattle.woot.specs.declared.Operation.the-variants.{Insert as insert, Toggle as toggle}
+use Rattle.memory.specs.Columns.{Replica}
+use Rattle.memory.specs.Lent.{replicaAs}
+use Rattle.reception.specs.declared.Decision.the-variants.{Defer, Place, Toggle as toggleAt}
+use Rattle.reception.specs.Decisions.{Feasible}
+use Rattle.replica.specs.Outcomes.{leftAs}
+use Rattle.replica.proofs.Changing.{told, defer-lent, defer-slot, placeable, targeted, no-place, no-target}
+use Rattle.replica.proofs.Changing.{answered-left, deferred-left, integrated-left, toggled-left}
 use borrow.Author.Needs.{needs}
 use Rattle.replica.proofs.changes.carry.Statement.{statement}
 use Rattle.replica.proofs.changes.carry.Tie as tie
 
+-- the replica with the arrays
+abbrev made : tie.Start → Replica
+made s =
+    let a = s .args in
+    replicaAs (a .site) (a .characters .now) (a .toggles .now) (a .n) (a .pending .now) (a .w) (a .heads .now) (a .links .now)
+
+-- where the function starts, seen from each branch
+abbrev deferring : tie.After-enum-told2 → tie.Start
+deferring c = c .before .before .before .before .before .before .before
+
+abbrev placing : tie.After-operation → tie.Start
+placing c = c .before .before .before .before .before .before .before .before .before .before
+
+abbrev toggling : tie.After-operation2 → tie.Start
+toggling c = c .before .before .before .before .before .before .before .before .before .before
+
+-- what the branch knows
+defers : (c : tie.After-enum-told2) → Feasible (made (deferring c)) (deferring c .args .operation) Defer
+defers c = told (made (deferring c)) (deferring c .pre .1 .1) refl (c .enum-told2 .given .1)
+
+places : (c : tie.After-operation) → let k = c .before .before .before .decision .given .0 .0 in
+    Feasible (made (placing c)) (insert (c .operation .given .0 .0)) (Place k)
+places c = told (made (placing c)) (placing c .pre .1 .1) (c .operation .given .1) (c .before .before .before .decision .given .1)
+
+toggles : (c : tie.After-operation2) → let k = c .before .before .before .decision2 .given .0 .0 in
+    Feasible (made (toggling c)) (toggle (c .operation2 .given .0 .0)) (toggleAt k)
+toggles c = told (made (toggling c)) (toggling c .pre .1 .1) (c .operation2 .given .1) (c .before .before .before .decision2 .given .1)
+
 defer-requires : tie.Need-defer-requires
 defer-requires c κs =
-    let s = c .before .before .before .before .before .before .before .before .before .before .before .before .args in
-    let r = replicaAs (s .site) (s .characters .now) (s .toggles .now) (s .n) (s .pending .now) (s .w) (s .heads .now) (s .links .now) in
-    let f = rw (c .before .before .before .before .before .enum-told2 .given .1) at (c .before .before .before .before .before .before .before .before .before .before .before .before .pre .1 .1) in
-    (c .before .before .before .before .before .before .before .before .before .before .before .before .pre .0, (c .before .before .before .before .before .before .before .before .before .before .before .before .pre .1 .0, (defer-lent r _ f, defer-slot r _ f)))
+    let d = c .before .before .before .before .before in
+    let s = deferring d in
+    (s .pre .0, (s .pre .1 .0, (defer-lent (made s) _ (defers d), defer-slot (made s) _ (defers d))))
 
 add-left : tie.Need-add-left
 add-left c =
-    let s = c .before .before .before .before .before .before .before .before .before .before .before .before .before .before .before .before .before .before .before .before .before .before .before .before .args in
-    let r = replicaAs (s .site) (s .characters .now) (s .toggles .now) (s .n) (s .pending .now) (s .w) (s .heads .now) (s .links .now) in
-    let f = rw (c .before .before .before .before .before .before .before .before .before .before .before .before .before .before .before .before .before .enum-told2 .given .1) at (c .before .before .before .before .before .before .before .before .before .before .before .before .before .before .before .before .before .before .before .before .before .before .before .before .pre .1 .1) in
-    omega (arith, defer-slot r _ f)
+    let d = c .before .before .before .before .before .before .before .before .before .before .before .before .before .before .before .before .before in
+    omega (arith, defer-slot (made (deferring d)) _ (defers d))
 
 integrate-requires : tie.Need-integrate-requires
 integrate-requires c κs =
-    let s = c .before .before .before .before .before .before .before .before .before .before .before .before .before .before .before .before .args in
-    let r = replicaAs (s .site) (s .characters .now) (s .toggles .now) (s .n) (s .pending .now) (s .w) (s .heads .now) (s .links .now) in
-    let f = rw (c .before .before .before .before .before .before .operation .given .1, c .before .before .before .before .before .before .before .before .before .decision .given .1) at (c .before .before .before .before .before .before .before .before .before .before .before .before .before .before .before .before .pre .1 .1) in
-    (c .before .before .before .before .before .before .before .before .before .before .before .before .before .before .before .before .pre .0, (c .before .before .before .before .before .before .before .before .before .before .before .before .before .before .before .before .pre .1 .0, placeable r _ _ f))
+    let d = c .before .before .before .before .before .before in
+    let s = placing d in
+    (s .pre .0, (s .pre .1 .0, placeable (made s) _ _ (places d)))
 
 toggle-requires : tie.Need-toggle-requires
 toggle-requires c κs =
-    let s = c .before .before .before .before .before .before .before .before .before .before .before .before .before .before .before .before .args in
-    let r = replicaAs (s .site) (s .characters .now) (s .toggles .now) (s .n) (s .pending .now) (s .w) (s .heads .now) (s .links .now) in
-    let f = rw (c .before .before .before .before .before .before .operation2 .given .1, c .before .before .before .before .before .before .before .before .before .decision2 .given .1) at (c .before .before .before .before .before .before .before .before .before .before .before .before .before .before .before .before .pre .1 .1) in
-    (c .before .before .before .before .before .before .before .before .before .before .before .before .before .before .before .before .pre .0, (c .before .before .before .before .before .before .before .before .before .before .before .before .before .before .before .before .pre .1 .0, targeted r _ _ f))
+    let d = c .before .before .before .before .before .before in
+    let s = toggling d in
+    (s .pre .0, (s .pre .1 .0, targeted (made s) _ _ (toggles d)))
 
 returns : tie.Need-returns
 returns c =
-    let s = c .before .before .before .before .before .before .before .before .args in
-    let r = replicaAs (s .site) (s .characters .now) (s .toggles .now) (s .n) (s .pending .now) (s .w) (s .heads .now) (s .links .now) in
-    rw (c .before .enum-told .given .1) (ap (leftAs (s .characters .now) _ (s .pending .now) _ _) (c .left .ensures) ∙ answered-left r _ _)
+    let s = c .before .before .before .before .before .before .before .before in
+    rw (c .before .enum-told .given .1)
+    (ap (leftAs (s .args .characters .now) _ (s .args .pending .now) _ _) (c .left .ensures) ∙ answered-left (made s) _ _)
 
 returns-2 : tie.Need-returns-2
 returns-2 c =
-    let s = c .before .before .before .before .before .before .before .before .before .before .before .before .before .before .before .before .before .before .before .before .before .before .before .before .before .args in
-    let r = replicaAs (s .site) (s .characters .now) (s .toggles .now) (s .n) (s .pending .now) (s .w) (s .heads .now) (s .links .now) in
-    rw (c .before .before .before .before .before .before .before .before .before .before .before .before .before .before .before .before .before .before .enum-told2 .given .1) (ap (leftAs (c .before .before .before .before .before .before .before .before .before .before .before .before .defer .last .0) _ (c .before .before .before .before .before .before .before .before .before .before .before .before .defer .last .1 .1 .0) _ _) (c .left2 .ensures) ∙ deferred-left r _ _ _ (c .before .heard-operation .ensures) (c .before .before .before .before .before .before .before .before .before .before .before .before .defer .ensures))
+    let d = c .before .before .before .before .before .before .before .before .before .before .before .before .before .before .before .before .before .before in
+    let done = c .before .before .before .before .before .before .before .before .before .before .before .before .defer in
+    rw (d .enum-told2 .given .1)
+    (ap (leftAs (done .last .0) _ (done .last .1 .1 .0) _ _) (c .left2 .ensures)
+    ∙ deferred-left (made (deferring d)) _ _ _ (c .before .heard-operation .ensures) (done .ensures))
 
 returns-3 : tie.Need-returns-3
 returns-3 c =
-    let s = c .before .before .before .before .before .before .before .before .before .before .before .before .before .before .before .before .before .before .before .before .before .before .before .before .before .before .before .before .before .args in
-    let r = replicaAs (s .site) (s .characters .now) (s .toggles .now) (s .n) (s .pending .now) (s .w) (s .heads .now) (s .links .now) in
-    let f = rw (c .before .before .before .before .before .before .before .before .before .before .before .before .before .before .before .before .before .before .before .operation .given .1, c .before .before .before .before .before .before .before .before .before .before .before .before .before .before .before .before .before .before .before .before .before .before .decision .given .1) at (c .before .before .before .before .before .before .before .before .before .before .before .before .before .before .before .before .before .before .before .before .before .before .before .before .before .before .before .before .before .pre .1 .1) in
-    rw (c .before .before .before .before .before .before .before .before .before .before .before .before .before .before .before .before .before .before .before .operation .given .1, c .before .before .before .before .before .before .before .before .before .before .before .before .before .before .before .before .before .before .before .before .before .before .decision .given .1) (ap (leftAs (c .before .before .before .before .before .before .before .before .before .before .before .before .integrate .last .0) _ (c .before .before .before .before .before .before .before .before .before .before .before .before .integrate .last .1 .1 .0) _ _) (c .left3 .ensures) ∙ integrated-left r _ _ _ _ _ _ f (c .before .heard .ensures) (c .before .before .before .before .before .before .before .before .before .before .before .before .integrate .ensures))
+    let d = c .before .before .before .before .before .before .before .before .before .before .before .before .before .before .before .before .before .before .before in
+    let done = c .before .before .before .before .before .before .before .before .before .before .before .before .integrate in
+    rw (d .operation .given .1, d .before .before .before .decision .given .1)
+    (ap (leftAs (done .last .0) _ (done .last .1 .1 .0) _ _) (c .left3 .ensures)
+    ∙ integrated-left (made (placing d)) _ _ _ _ _ _ (places d) (c .before .heard .ensures) (done .ensures))
 
 returns-4 : tie.Need-returns-4
 returns-4 c =
-    let s = c .before .before .before .before .before .before .before .before .before .before .before .args in
-    let r = replicaAs (s .site) (s .characters .now) (s .toggles .now) (s .n) (s .pending .now) (s .w) (s .heads .now) (s .links .now) in
-    no-place r _ _ (rw (c .before .enum-told3 .given .1, c .before .before .before .before .decision .given .1) at (c .before .before .before .before .before .before .before .before .before .before .before .pre .1 .1))
+    let s = c .before .before .before .before .before .before .before .before .before .before .before in
+    no-place (made s) _ _ (told (made s) (s .pre .1 .1) (c .before .enum-told3 .given .1) (c .before .before .before .before .decision .given .1))
 
 returns-5 : tie.Need-returns-5
 returns-5 c =
-    let s = c .before .before .before .before .before .before .before .before .before .before .before .args in
-    let r = replicaAs (s .site) (s .characters .now) (s .toggles .now) (s .n) (s .pending .now) (s .w) (s .heads .now) (s .links .now) in
-    no-target r _ _ (rw (c .before .enum-told4 .given .1, c .before .before .before .before .decision2 .given .1) at (c .before .before .before .before .before .before .before .before .before .before .before .pre .1 .1))
+    let s = c .before .before .before .before .before .before .before .before .before .before .before in
+    no-target (made s) _ _ (told (made s) (s .pre .1 .1) (c .before .enum-told4 .given .1) (c .before .before .before .before .decision2 .given .1))
 
 returns-6 : tie.Need-returns-6
 returns-6 c =
-    let s = c .before .before .before .before .before .before .before .before .before .before .before .before .before .before .before .before .before .before .before .before .before .before .before .before .before .before .before .before .args in
-    let r = replicaAs (s .site) (s .characters .now) (s .toggles .now) (s .n) (s .pending .now) (s .w) (s .heads .now) (s .links .now) in
-    rw (c .before .before .before .before .before .before .before .before .before .before .before .before .before .before .before .before .before .before .operation2 .given .1, c .before .before .before .before .before .before .before .before .before .before .before .before .before .before .before .before .before .before .before .before .before .decision2 .given .1) (ap (leftAs (c .before .before .before .before .before .before .before .before .before .before .before .toggle .last .0) _ (c .before .before .before .before .before .before .before .before .before .before .before .toggle .last .1 .1 .0) _ _) (c .left6 .ensures) ∙ toggled-left r _ _ _ (c .before .before .before .before .before .before .before .before .before .before .before .toggle .ensures))
+    let d = c .before .before .before .before .before .before .before .before .before .before .before .before .before .before .before .before .before .before in
+    let done = c .before .before .before .before .before .before .before .before .before .before .before .toggle in
+    rw (d .operation2 .given .1, d .before .before .before .decision2 .given .1)
+    (ap (leftAs (done .last .0) _ (done .last .1 .1 .0) _ _) (c .left6 .ensures)
+    ∙ toggled-left (made (toggling d)) _ _ _ (done .ensures))
 
 pub carry-spec : {M : Type 1} → statement M
 carry-spec =
@@ -78,7 +110,22 @@ carry-spec =
     (tie.spec (λ c. search needs) (λ c κs. search needs) (λ c. search needs) defer-requires (λ c κs. search needs)
     add-left (λ c κs. search needs) (λ c. search needs) (λ c. search needs) integrate-requires (λ c κs. search needs)
     (λ c κs. search needs) (λ c. search needs) (λ c κs. search needs) (λ c. search needs) (λ c. search needs)
-    (λ c κs. search needs) (λ c. search needs) toggle-requires (λ c κs. search needs) returns (λ c. search needs)
-    (λ c. search needs) (λ c. search needs) (λ c. search needs) (λ c. search needs) returns-2 (λ c. search needs)
-    (λ c. search needs) (λ c. search needs) (λ c. search needs) (λ c. search needs) returns-3 returns-4 returns-5
-    (λ c. search needs) (λ c. search needs) (λ c. search needs) (λ c. search needs) (λ c. search needs) returns-6)
+    (λ c κs. search needs) (λ c. search needs) toggle-requires (λ c κs. search needs) returns
+    (λ c. c .before .before .before .before .before .before .before .before .before .before .before .before .defer .kept .0)
+    (λ c. c .before .before .before .before .before .before .before .before .before .before .before .before .defer .kept .1 .0)
+    (λ c. c .before .before .before .before .before .before .before .before .before .before .before .before .defer .kept .1 .1 .0)
+    (λ c. c .before .before .before .before .before .before .before .before .before .before .before .before .defer .kept .1 .1 .1 .0)
+    (λ c. c .before .before .before .before .before .before .before .before .before .before .before .before .defer .kept .1 .1 .1 .1 .0)
+    returns-2
+    (λ c. c .before .before .before .before .before .before .before .before .before .before .before .before .integrate .kept .0)
+    (λ c. c .before .before .before .before .before .before .before .before .before .before .before .before .integrate .kept .1 .0)
+    (λ c. c .before .before .before .before .before .before .before .before .before .before .before .before .integrate .kept .1 .1 .0)
+    (λ c. c .before .before .before .before .before .before .before .before .before .before .before .before .integrate .kept .1 .1 .1 .0)
+    (λ c. c .before .before .before .before .before .before .before .before .before .before .before .before .integrate .kept .1 .1 .1 .1 .0)
+    returns-3 returns-4 returns-5
+    (λ c. c .before .before .before .before .before .before .before .before .before .before .before .toggle .kept .0)
+    (λ c. c .before .before .before .before .before .before .before .before .before .before .before .toggle .kept .1 .0)
+    (λ c. c .before .before .before .before .before .before .before .before .before .before .before .toggle .kept .1 .1 .0)
+    (λ c. c .before .before .before .before .before .before .before .before .before .before .before .toggle .kept .1 .1 .1 .0)
+    (λ c. c .before .before .before .before .before .before .before .before .before .before .before .toggle .kept .1 .1 .1 .1 .0)
+    returns-6)
