@@ -24,7 +24,8 @@ use Rattle.woot.specs.Calls.{Outcome, unchanged, unlessKnown, newChecks,
 abbrev pub leftOf : List Character → ℕ → Identifier
 leftOf cs g = getD (begin ∷ visibles cs) g begin
 
--- the characters from the top through x, none for the begin mark
+-- the characters from the top through x, none for the begin mark: places count from 1, since the sequence in which they
+-- are looked up begins with that mark
 unfoldable pub through : List Character → Identifier → List Character
 through cs x = take (placeOf cs x) cs
 
