@@ -88,7 +88,7 @@ pub fn put_in(
         insert.code_point,
     );
     slots::put_byte(toggles, n, k, 0);
-    chains::enter_all(characters, n + 1, heads, links);
+    index::chains::enter_all(characters, n + 1, heads, links);
 }
 
 // The larger of two counts of toggles.
@@ -153,7 +153,7 @@ pub fn clear(
     ensures { λ _. ⌜ (record { heads = now (heads .exit); links = now (links .exit) })
         ≡ tableOf (take n (keyColumn (now (characters .entry)))) ⌝ }
 {
-    chains::enter_all(characters, n, heads, links);
+    index::chains::enter_all(characters, n, heads, links);
     clear_columns(characters, n);
     slots::clear_bytes(toggles, n);
 }

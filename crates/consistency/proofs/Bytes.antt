@@ -24,7 +24,7 @@ use Rattle.codec.specs.Calls.{saidBy}
 use Rattle.saved.specs.Format.{isSite, headLine, laidOutAs, savedLaidOut, savedBytes}
 use Rattle.saved.specs.Calls.{loadChecks, unread, loaded}
 use Rattle.saved.proofs.Trips.{saved-loads, saved-reads-back}
-use Rattle.results.specs.Results.{result, silent}
+use Rattle.effects.specs.Results.{result, silent}
 use Rattle.effects.specs.Effects.{Effect, quiet}
 use Rattle.wimtaze.specs.Calls.{CCall, «wimtaze_empty», «wimtaze_receive», «wimtaze_receive_at», «wimtaze_type», «wimtaze_erase», «wimtaze_restore», «wimtaze_text», «wimtaze_counts», «wimtaze_upgrade», «wimtaze_downgrade», inputChecks, named, ruleChecks, handedChecks, earlierChecks, callChecks, productOf, effectOf}
 use Rattle.wimtaze.proofs.Fitting.{front}

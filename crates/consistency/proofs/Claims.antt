@@ -29,7 +29,7 @@ use Rattle.saved.specs.Conversion.{Converts}
 use Rattle.saved.proofs.Sizes.{saved-length}
 use Rattle.saved.proofs.Trips.{loaded-again, unraised-again, unraised, second-says}
 use Rattle.replica.proofs.Runs.{initial-within}
-use Rattle.results.specs.Results.{result, silent}
+use Rattle.effects.specs.Results.{result, silent}
 use Rattle.effects.specs.Effects.{Effect, quiet}
 use Rattle.wimtaze.specs.Calls.{«wimtaze_empty», handedChecks, productOf, effectOf}
 use Rattle.wimtaze.specs.Theorems.{bytesWritten, convertedFrom}

@@ -10,7 +10,7 @@ use Rattle.lines.specs.Answers.{holding, verdictOn, numbersOf, goesOn, numbersA
 use Rattle.lines.specs.Fields.{numerals, hasLayout, valuesOf, lineOf}
 use Rattle.lines.specs.Lines.{ended, firstLine, rest, closed}
 use Rattle.output.specs.Output.{hasRoom, placed}
-use Rattle.results.specs.Results.{result, silent, inBits, numberOf}
+use Rattle.effects.specs.Results.{result, silent, inBits, numberOf}
 use Rattle.saved.specs.Calls.{loadedAs}
 use Rattle.saved.specs.Format.{siteNumbers, siteOf, isSite, siteSaid, siteLine, toggleField, characterNumbers, characterOf, isCharacter, characterSaid, characterLine, isOperation, operationSaid, savedLine, headLine, characterLines, operationLines, laidOutAs, stateAs, characterWithin, operationWithin, inRangeAs, bytesAs}
 use Rattle.wimtaze.specs.Calls.{inputChecks, oneLine, handedChecks, ruleChecks, productOf, callChecks, effectOf}

@@ -4,7 +4,7 @@ use mathlib.Core.Path.{_≡_}
 use mathlib.Core.List.{List}
 use lib.ListN.{take}
 use Rattle.woot.specs.Answers.{Word, done, waits, known, refused}
-use Rattle.results.specs.Results.{wordNumber, numberOf}
+use Rattle.effects.specs.Results.{wordNumber, numberOf}
 use Rattle.effects.specs.Effects.{Effect}
 use Rattle.wimtaze.specs.Calls.{CCall, effectOf}
 use Rattle.wimtaze.proofs.Fitting.{returned-reads-back}

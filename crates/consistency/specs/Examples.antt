@@ -7,7 +7,7 @@ use lib.ListN.{replicate}
 use Rattle.woot.specs.Answers.{Word, done, waits, known, refused}
 use Rattle.woot.specs.Histories.{inserting, deleting, restoring, receiving, receivingAt}
 use Rattle.codec.specs.Calls.{saidBy}
-use Rattle.results.specs.Results.{numberOf}
+use Rattle.effects.specs.Results.{numberOf}
 use Rattle.effects.specs.Effects.{Effect}
 use Rattle.wimtaze.specs.Calls.{CCall, «wimtaze_receive», «wimtaze_receive_at», «wimtaze_type», «wimtaze_erase», «wimtaze_restore», named, effectOf}
 use Rattle.consistency.specs.Copies.{asBytes, Call, bytesCall, forC, emptyBytes, begun, ran, rulesBy, keptBytes, wordOf}

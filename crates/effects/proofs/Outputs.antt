@@ -33,7 +33,7 @@ use Rattle.codec.specs.Operations.{operationLine}
 use Rattle.woot.specs.Memory.{replicaWellFormed}
 use Rattle.replica.specs.Texts.{textOf, textChecks, textWritten, textOut}
 use Rattle.saved.specs.Calls.{bytesOf}
-use Rattle.results.specs.Results.{result}
+use Rattle.effects.specs.Results.{result}
 use Rattle.effects.specs.Effects.{Effect, Leaves, quiet, turned, writingNoted, writing, writingBoth}
 use Rattle.effects.specs.Steps.{afterNoting, afterWriting, movedLeft, sentLeft, generatedLeft, textLeft}
 

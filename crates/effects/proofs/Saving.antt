@@ -29,7 +29,7 @@ use Rattle.woot.specs.declared.Replica.{Replica}
 use Rattle.woot.specs.Memory.{previousKeys, nextKeys, codePoints, toggleCounts, ownKey, firstKey, secondKey, valueOf, inColumns}
 use Rattle.woot.specs.Memory.{documentOf, stored, replicaWellFormed}
 use Rattle.woot.specs.Replicas.{receivedAt}
-use Rattle.chains.proofs.Tables.{table-sized}
+use Rattle.index.proofs.Tables.{table-sized}
 use Rattle.replica.proofs.Runs.{Within, formed-within}
 use Rattle.cursor.proofs.Moving.{replica-shift-bounds}
 use Rattle.cursor.proofs.Receiving.{left-formed, left-stored, left-in-form}

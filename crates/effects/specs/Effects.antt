@@ -19,7 +19,7 @@ use Rattle.woot.specs.Calls.{Outcome}
 use Rattle.cursor.specs.Bits.{shiftBits}
 use Rattle.codec.specs.Operations.{operationLine}
 use Rattle.saved.specs.Format.{savedBytes}
-use Rattle.results.specs.Results.{Result, result, silent, numberOf}
+use Rattle.effects.specs.Results.{Result, result, silent, numberOf}
 
 -- `line` is the second output; a call that has none leaves the empty one
 pub record Effect : Type 0 where

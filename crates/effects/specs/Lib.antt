@@ -1,2 +1,5 @@
+pub mod Results
 pub mod Effects
 pub mod Steps
+pub mod Counts
+pub mod Counting

@@ -18,7 +18,7 @@ use Rattle.cursor.specs.Bits.{shiftBits}
 use Rattle.codec.specs.Operations.{operationLine}
 use Rattle.replica.specs.Texts.{textOf}
 use Rattle.saved.specs.Calls.{bytesOf}
-use Rattle.results.specs.Results.{Result, result, silent}
+use Rattle.effects.specs.Results.{Result, result, silent}
 use Rattle.effects.specs.Effects.{Effect, quiet, turned, writingNoted, writing, writingBoth}
 
 -- an answer with so many bytes written and a note, unless writing was refused

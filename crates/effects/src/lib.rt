@@ -1,5 +1,8 @@
 // What the calls do once nothing that was handed is refused for its layout or range: the rule, and then the bytes of
 // what it leaves.
+pub mod counting;
+pub mod results;
+
 use lines::writing::Room;
 use saved::Version;
 use woot::Answer;
@@ -23,7 +26,7 @@ ghost use Rattle.codec.specs.Operations.{operationLine};
 ghost use Rattle.saved.specs.Format.{savedBytes};
 ghost use Rattle.saved.specs.Calls.{bytesOf};
 ghost use Rattle.saving.specs.Documents.{stateIn};
-ghost use Rattle.results.specs.Results.{numberOf};
+ghost use Rattle.effects.specs.Results.{numberOf};
 ghost use Rattle.effects.specs.Effects.{Leaves, writingNoted, writing, writingBoth};
 ghost use Rattle.effects.specs.Steps.{afterNoting, afterWriting, movedLeft};
 ghost use Rattle.effects.specs.Steps.{generatedLeft, textLeft};

@@ -14,16 +14,16 @@ use Rattle.woot.specs.declared.Character.{Character}
 use Rattle.woot.specs.Identifiers.{same}
 use Rattle.woot.specs.Placing.{identifiers}
 use Rattle.woot.specs.Table.{lookup, searched, foundAt, agrees, key, keys, tableOf}
-use Rattle.chains.specs.Places.{placeFound}
-use Rattle.chains.proofs.Tables.{table-sized}
-use Rattle.chains.proofs.Agreement.{table-agrees}
+use Rattle.index.specs.Places.{placeFound}
+use Rattle.index.proofs.Tables.{table-sized}
+use Rattle.index.proofs.Agreeing.{table-agrees}
 use Rattle.index.specs.declared.Found.{Found}
 use Rattle.index.specs.declared.Found.the-variants.{At, Nothing}
 use Rattle.index.specs.Keys.{AllSmall, further, firstIndex, found, placeIn}
 use Rattle.index.specs.Tabled.{Tabled}
 use Rattle.index.proofs.Indices.{distinct-keys}
 use Rattle.index.proofs.Searches.{later-place}
-pub use Rattle.chains.proofs.Agreement.{is-at, at-is, lookup-is-search, agreeing-apart}
+pub use Rattle.index.proofs.Agreeing.{is-at, at-is, lookup-is-search, agreeing-apart}
 
 -- ---- what the code finds
 

@@ -1,3 +1,8 @@
+pub mod Walks
+pub mod Slots
+pub mod Tables
+pub mod Agreeing
+pub mod Depths
 pub mod Keys
 pub mod Indices
 pub mod Agreement

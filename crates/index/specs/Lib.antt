@@ -1,2 +1,4 @@
+pub mod Places
+pub mod Theorems
 pub mod Keys
 pub mod Tabled

@@ -1,4 +1,6 @@
-// Identifiers as numbers, and where a character stands among those whose numbers are lent.
+// Identifiers as numbers, and where a character stands among those whose numbers are lent: by a plain search, and by
+// the table, whose chains are made and walked here.
+pub mod chains;
 pub mod table;
 
 use woot::Identifier;

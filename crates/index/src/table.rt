@@ -1,5 +1,6 @@
 // Looking up a key by the table, as a plain search finds it, and whether the table agrees with the keys.
 use crate::Found;
+use crate::chains;
 ghost use mathlib.Core.Path.{_≡_};
 ghost use Prim.Native.Nat.{_*_, _≤_};
 ghost use lib.ListN.{length, take};

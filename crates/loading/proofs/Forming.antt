@@ -24,7 +24,7 @@ use Rattle.saved.proofs.Held.{read-form}
 use Rattle.saved.proofs.Refusals.{load-layout, load-range, load-form, load-done, never-done, read-lacks, read-out, read-done, read-well}
 use Rattle.loading.specs.Filling.{readAnswer, charactersHeld, pendingHeld}
 use Rattle.memory.proofs.Fullness.{FullArrays}
-use Rattle.chains.proofs.Tables.{table-sized}
+use Rattle.index.proofs.Tables.{table-sized}
 use Rattle.woot.specs.State.{State}
 use Rattle.woot.specs.Table.{keys}
 use Rattle.loading.proofs.Collecting.{characters-length, toggles-length, pending-length}

@@ -75,7 +75,7 @@ fn settle<'a>(
         ≡ tableOf (take (min n characterSlots) (now (characters .entry))) ⌝ }
 {
     let held = index::lesser(n, CHARACTERS);
-    chains::enter_all(characters, held, heads, links);
+    index::chains::enter_all(characters, held, heads, links);
     clock::raised(site, characters, held, pending, index::lesser(w, PENDING))
 }
 

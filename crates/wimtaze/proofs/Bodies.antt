@@ -35,10 +35,10 @@ use Rattle.saved.specs.Format.{savedInRange, savedBytes}
 use Rattle.saved.specs.Calls.{loadedState}
 use Rattle.saved.specs.declared.Version.the-variants.{First, Second}
 use Rattle.saved.specs.Conversion.{conversion}
-use Rattle.results.specs.Results.{Result, result, silent}
+use Rattle.effects.specs.Results.{Result, result, silent}
 use Rattle.effects.specs.Effects.{Effect, quiet, turned, writingNoted, writing, writingBoth, afterReceiving, afterReceivingAt, sending, afterSending}
 use Rattle.wimtaze.specs.Calls.{CCall, «wimtaze_empty», «wimtaze_receive», «wimtaze_receive_at», «wimtaze_type», «wimtaze_erase», «wimtaze_restore», «wimtaze_text», «wimtaze_counts», «wimtaze_upgrade», «wimtaze_downgrade», inputChecks, oneLine, named, answering, handedChecks, ruleChecks, callChecks, Product, bytesAlone, replicaAfter, replicaAndLine, productOf, short, delivered, effectOf}
-use Rattle.counts.specs.Counts.{countsOf}
+use Rattle.effects.specs.Counts.{countsOf}
 use Rattle.wimtaze.specs.Steps.{beginning, receivingLine, receivingLineAt, insertingHere, deletingHere, restoringHere, showingText, counting, converting, upgrading, downgrading}
 use Rattle.wimtaze.proofs.Listing.{first-behind}
 

@@ -41,14 +41,14 @@ use Rattle.saved.specs.Calls.{loadedState, bytesOf}
 use Rattle.saved.specs.Conversion.{conversion, conversionRefusals, conversionChecks, converted, convertedOut}
 use Rattle.convergence.proofs.Kept.{form-kept}
 use Rattle.effects.specs.Effects.{Effect, quiet, turned, writing, writingBoth, sending, afterSending, writingNoted, afterReceivingAt}
-use Rattle.results.specs.Results.{silent, result}
+use Rattle.effects.specs.Results.{silent, result}
 use Rattle.wimtaze.specs.Calls.{inputChecks}
 use Rattle.wimtaze.specs.Steps.{counting, converting}
 use Rattle.wimtaze.proofs.Refusals.{Reads, formLeft}
 use Rattle.effects.proofs.Outputs.{checked-written}
 use Rattle.effects.specs.Steps.{afterNoting, afterWriting, sentLeft, generatedLeft, textLeft, movedLeft}
-use Rattle.counts.specs.Counts.{countsOf}
-use Rattle.counts.specs.Steps.{countsLeft}
+use Rattle.effects.specs.Counts.{countsOf}
+use Rattle.effects.specs.Counting.{countsLeft}
 
 -- the form first, and then the rest
 abbrev pub formed-first : State → List ℕ → List ℕ → Effect → Effect

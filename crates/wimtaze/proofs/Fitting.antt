@@ -21,7 +21,7 @@ use Rattle.convergence.proofs.Replies.{number-few}
 use Rattle.convergence.proofs.Steps.{Turned}
 use Rattle.saved.specs.Format.{savedBytes}
 use Rattle.saved.proofs.Trips.{saved-reads-back}
-use Rattle.results.specs.Results.{Result, result, silent, wordNumber, inBits, numberOf}
+use Rattle.effects.specs.Results.{Result, result, silent, wordNumber, inBits, numberOf}
 use Rattle.effects.specs.Effects.{Effect, quiet}
 use Rattle.wimtaze.specs.Calls.{CCall, «wimtaze_empty», «wimtaze_receive», «wimtaze_receive_at», «wimtaze_type», «wimtaze_erase», «wimtaze_restore», «wimtaze_text», «wimtaze_counts», «wimtaze_upgrade», «wimtaze_downgrade», productOf, short, delivered, effectOf}
 use Rattle.wimtaze.specs.Theorems.{Bounds, boundsOf, roomOf, saves, Fits, ResultsFit, PartsReadBack, ReadsBack, ReturnedReadsBack, CountsWithin, CountsFit, BuffersSuffice, bytesWritten, Formed, Loads, WrittenLoads}

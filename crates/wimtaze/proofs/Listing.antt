@@ -31,9 +31,9 @@ use Rattle.codec.specs.Calls.{saidBy}
 use Rattle.saved.specs.Format.{savedInRange}
 use Rattle.saved.specs.Calls.{loadedState}
 use Rattle.saved.specs.Conversion.{conversionRefusals}
-use Rattle.results.specs.Results.{Result, result, silent}
+use Rattle.effects.specs.Results.{Result, result, silent}
 use Rattle.effects.specs.Effects.{Effect, quiet}
-use Rattle.counts.specs.Counts.{countsOf}
+use Rattle.effects.specs.Counts.{countsOf}
 use Rattle.wimtaze.specs.Calls.{CCall, «wimtaze_empty», «wimtaze_receive», «wimtaze_receive_at», «wimtaze_type», «wimtaze_erase», «wimtaze_restore», «wimtaze_text», «wimtaze_counts», «wimtaze_upgrade», «wimtaze_downgrade», inputChecks, named, answering, handedChecks, ruleChecks, earlierChecks, callChecks, Product, productOf, short, delivered, effectOf}
 use Rattle.wimtaze.specs.Theorems.{CallsMeet, CallsRise, CallsRefuse, CallsKnow, Untouched, TurnedUntouched}
 

@@ -33,7 +33,7 @@ use Rattle.codec.specs.Calls.{laidOut, saidBy}
 use Rattle.codec.proofs.Trips.{written-reads-back, was-read}
 use Rattle.saved.specs.Format.{savedLaidOut, savedInRange, savedBytes}
 use Rattle.saved.specs.Calls.{loadedState}
-use Rattle.results.specs.Results.{result, silent}
+use Rattle.effects.specs.Results.{result, silent}
 use Rattle.effects.specs.Effects.{Effect, quiet, turned, writingNoted, afterReceivingAt}
 use Rattle.wimtaze.specs.Calls.{CCall, «wimtaze_empty», «wimtaze_receive», «wimtaze_receive_at», «wimtaze_type», «wimtaze_erase», «wimtaze_restore», «wimtaze_text», «wimtaze_counts», «wimtaze_upgrade», «wimtaze_downgrade», inputChecks, oneLine, named, handedChecks, earlierChecks, replicaAndLine, productOf, short, delivered, effectOf}
 use Rattle.wimtaze.specs.Steps.{receivingLineAt}

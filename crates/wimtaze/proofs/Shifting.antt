@@ -28,7 +28,7 @@ use Rattle.codec.specs.Calls.{saidBy}
 use Rattle.saved.specs.Format.{savedBytes}
 use Rattle.saved.specs.Calls.{loadedState}
 use Rattle.saved.proofs.Trips.{saved-loads}
-use Rattle.results.specs.Results.{wordNumber, result, silent}
+use Rattle.effects.specs.Results.{wordNumber, result, silent}
 use Rattle.effects.specs.Effects.{Effect, quiet, writing, afterReceiving, afterReceivingAt}
 use Rattle.wimtaze.specs.Calls.{«wimtaze_receive_at», earlierChecks, productOf}
 use Rattle.wimtaze.specs.Steps.{receivingLine, receivingLineAt}

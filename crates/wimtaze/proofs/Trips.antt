@@ -16,7 +16,7 @@ use Rattle.saved.specs.Format.{laidOutAs, inRangeAs, representable}
 use Rattle.saved.specs.Calls.{loadedAs, raisingAs}
 use Rattle.saved.specs.Conversion.{conversion, conversionRefusals, Converts, Returns}
 use Rattle.saved.proofs.Conversions.{down-after-up, up-after-down}
-use Rattle.results.specs.Results.{result, silent}
+use Rattle.effects.specs.Results.{result, silent}
 use Rattle.effects.specs.Effects.{Effect, quiet, turned, writing}
 use Rattle.wimtaze.specs.Calls.{effectOf}
 use Rattle.wimtaze.specs.Steps.{converting}

@@ -29,9 +29,9 @@ use Rattle.saved.specs.declared.Version.the-variants.{First, Second}
 use Rattle.saved.specs.Format.{savedLaidOut, savedInRange, savedBytes}
 use Rattle.saved.specs.Calls.{loadedState}
 use Rattle.saved.specs.Conversion.{conversion, conversionRefusals}
-use Rattle.results.specs.Results.{Result, result}
+use Rattle.effects.specs.Results.{Result, result}
 use Rattle.effects.specs.Effects.{Effect, quiet}
-use Rattle.counts.specs.Counts.{countsOf}
+use Rattle.effects.specs.Counts.{countsOf}
 
 -- each call under its name in C, with the numbers and the line that it is handed beside a saved replica
 pub data CCall : Type 0 where

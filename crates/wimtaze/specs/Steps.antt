@@ -17,9 +17,9 @@ use Rattle.saved.specs.declared.Version.the-variants.{First, Second}
 use Rattle.saved.specs.Format.{savedBytes}
 use Rattle.saved.specs.Calls.{loadedState}
 use Rattle.saved.specs.Conversion.{conversion, conversionRefusals}
-use Rattle.results.specs.Results.{Result, silent}
+use Rattle.effects.specs.Results.{Result, silent}
 use Rattle.effects.specs.Effects.{Effect, turned, writing, afterReceiving, afterReceivingAt, afterSending}
-use Rattle.counts.specs.Counts.{countsOf}
+use Rattle.effects.specs.Counts.{countsOf}
 use Rattle.wimtaze.specs.Calls.{inputChecks, oneLine, named}
 
 -- `wimtaze_empty`

@@ -33,7 +33,7 @@ use Rattle.saved.specs.Format.{siteLine}
 use Rattle.saved.specs.Calls.{loadedAs, raisingAs, needsRaising, loaded, loadedState}
 use Rattle.saved.specs.Conversion.{converted, convertedOut, firstMost}
 use Rattle.saved.specs.Theorems.{savedMost}
-use Rattle.results.specs.Results.{Result, wordNumber, inBits, numberOf}
+use Rattle.effects.specs.Results.{Result, wordNumber, inBits, numberOf}
 use Rattle.effects.specs.Effects.{Effect}
 use Rattle.wimtaze.specs.Calls.{CCall, «wimtaze_empty», «wimtaze_receive», «wimtaze_receive_at», «wimtaze_type», «wimtaze_erase», «wimtaze_restore», «wimtaze_text», «wimtaze_counts», «wimtaze_upgrade», «wimtaze_downgrade», callChecks, effectOf}
 

@@ -8,7 +8,7 @@ mod sheets;
 
 ghost use mathlib.Core.Path.{_≡_};
 ghost use mathlib.Core.List.{[]};
-ghost use Rattle.results.specs.Results.{numberOf};
+ghost use Rattle.effects.specs.Results.{numberOf};
 ghost use Rattle.effects.specs.Effects.{Leaves};
 ghost use Rattle.woot.specs.Cursor.{movedBy};
 ghost use Rattle.wimtaze.specs.Calls.{effectOf, «wimtaze_empty», «wimtaze_receive», «wimtaze_receive_at»};

@@ -21,10 +21,10 @@ pub(crate) fn insert(
     let loaded = loading::read(Version::Second, bytes);
     let answer = loaded.answer;
     if !ranges::code_point(code_point) {
-        return results::refused(inputs::first_of(answer, Refusal::Range));
+        return effects::results::refused(inputs::first_of(answer, Refusal::Range));
     }
     match answer {
-        LoadAnswer::Refused(q) => results::refused(q),
+        LoadAnswer::Refused(q) => effects::results::refused(q),
         LoadAnswer::Done => {
             let replica = loaded.replica;
             effects::send(
@@ -44,7 +44,7 @@ pub(crate) fn delete(bytes: &[u8], index: u64, out: &mut [u8], line_out: &mut [u
     let loaded = loading::read(Version::Second, bytes);
     let answer = loaded.answer;
     match answer {
-        LoadAnswer::Refused(q) => results::refused(q),
+        LoadAnswer::Refused(q) => effects::results::refused(q),
         LoadAnswer::Done => {
             let replica = loaded.replica;
             effects::send(replica::delete(replica, index as usize), out, line_out)
@@ -67,10 +67,10 @@ pub(crate) fn restore(
     let loaded = loading::read(Version::Second, bytes);
     let answer = loaded.answer;
     if !inputs::names_character(site, clock) {
-        return results::refused(inputs::first_of(answer, Refusal::Range));
+        return effects::results::refused(inputs::first_of(answer, Refusal::Range));
     }
     match answer {
-        LoadAnswer::Refused(q) => results::refused(q),
+        LoadAnswer::Refused(q) => effects::results::refused(q),
         LoadAnswer::Done => {
             let replica = loaded.replica;
             let id = codec::identifier(site, clock);

@@ -7,7 +7,7 @@ use woot::Refusal;
 use woot::Replica;
 ghost use mathlib.Core.Path.{_≡_};
 ghost use mathlib.Core.List.{[]};
-ghost use Rattle.results.specs.Results.{numberOf};
+ghost use Rattle.effects.specs.Results.{numberOf};
 ghost use Rattle.effects.specs.Effects.{Leaves};
 ghost use Rattle.wimtaze.specs.Steps.{beginning, showingText, counting};
 
@@ -16,10 +16,10 @@ pub(crate) fn begin(number: u64, out: &mut [u8]) -> u64
     ensures { λ r. ⌜ Leaves (beginning number (now (out .entry))) r (now (out .exit)) [] ⌝ }
 {
     if number < 1 {
-        return results::refused(Refusal::Range);
+        return effects::results::refused(Refusal::Range);
     }
     if 16 < number {
-        return results::refused(Refusal::Range);
+        return effects::results::refused(Refusal::Range);
     }
     let none = Answer::Done {
         integrated: 0,
@@ -35,7 +35,7 @@ pub(crate) fn show(bytes: &[u8], out: &mut [u8]) -> u64
     let loaded = loading::read(Version::Second, bytes);
     let answer = loaded.answer;
     match answer {
-        LoadAnswer::Refused(q) => results::refused(q),
+        LoadAnswer::Refused(q) => effects::results::refused(q),
         LoadAnswer::Done => {
             let replica = loaded.replica;
             effects::show(replica, out)
@@ -51,10 +51,10 @@ pub(crate) fn count(bytes: &[u8]) -> u64
     let loaded = loading::read(Version::Second, bytes);
     let answer = loaded.answer;
     match answer {
-        LoadAnswer::Refused(q) => results::refused(q),
+        LoadAnswer::Refused(q) => effects::results::refused(q),
         LoadAnswer::Done => {
             let replica = loaded.replica;
-            counts::count(replica)
+            effects::counting::count(replica)
         }
     }
 }

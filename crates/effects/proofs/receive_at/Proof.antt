@@ -7,7 +7,7 @@ use Rattle.woot.specs.Memory.{charactersIn, operationsIn, meaning}
 use Rattle.lists.proofs.Tests.{refused, passed}
 use Rattle.saving.specs.Documents.{stateIn}
 use Rattle.cursor.specs.Bits.{shiftBits}
-use Rattle.results.specs.Results.{silent}
+use Rattle.effects.specs.Results.{silent}
 use Rattle.effects.specs.Effects.{quiet}
 use Rattle.effects.proofs.Outputs.{carried, unchanged, changed}
 use Rattle.effects.proofs.Saving.{few-held, moved-formed, full-moved, shift-read}

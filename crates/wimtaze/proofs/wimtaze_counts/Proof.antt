@@ -1,7 +1,7 @@
 -- `wimtaze::wimtaze_counts` meets its contract: its body leaves what the list of its conditions says.
 use mathlib.Core.List.{[]}
 use mathlib.Core.Path.{sym, ap, _∙_}
-use Rattle.results.specs.Results.{numberOf}
+use Rattle.effects.specs.Results.{numberOf}
 use Rattle.wimtaze.proofs.Bodies.{counts-body}
 use borrow.Author.Needs.{needs}
 use Rattle.wimtaze.proofs.wimtaze_counts.Statement.{statement}

@@ -2,7 +2,7 @@
 use mathlib.Core.Path.{refl, ap, _∙_}
 use Rattle.woot.specs.declared.Answer.the-variants.{Done}
 use Rattle.woot.specs.declared.Written.{Written}
-use Rattle.results.specs.Results.{numberOf}
+use Rattle.effects.specs.Results.{numberOf}
 use Rattle.effects.specs.Steps.{afterWriting}
 use Rattle.effects.proofs.Outputs.{carried}
 use Rattle.wimtaze.proofs.Bodies.{downgrade-body}

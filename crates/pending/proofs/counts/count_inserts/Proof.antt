@@ -1,4 +1,4 @@
--- `counts::count_inserts` meets its contract. The loop's invariant: the count, with what is left to count, is all.
+-- `effects::counting::count_inserts` meets its contract. The loop's invariant: the count, with what is left to count, is all.
 use mathlib.Core.Path.{_≡_}
 use mathlib.Core.Bool.{Bool, not}
 use mathlib.Core.Logic.{⊎-elim}

@@ -1,4 +1,4 @@
--- `counts::count_sender` meets its contract. The loop's invariant: the count, with what is left to count, is all.
+-- `effects::counting::count_sender` meets its contract. The loop's invariant: the count, with what is left to count, is all.
 use native.Mathlib.Omega.{arith}
 use borrow.Author.Needs.{needs}
 use mathlib.Core.Path.{_≡_}

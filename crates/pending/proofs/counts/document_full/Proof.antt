@@ -1,4 +1,4 @@
--- `counts::document_full` compares the inserts among the operations that are in use with the slots that are left.
+-- `effects::counting::document_full` compares the inserts among the operations that are in use with the slots that are left.
 use Prim.Native.Nat.{ℕ, _+_, _-_, _≤_}
 use native.Mathlib.Omega.{arith}
 use mathlib.Core.Path.{_≡_, sym, _∙_}

@@ -1,4 +1,4 @@
--- `counts::has_toggle` meets its contract. The loop's invariant: what is asked of the whole is asked of what is
+-- `effects::counting::has_toggle` meets its contract. The loop's invariant: what is asked of the whole is asked of what is
 -- left.
 use mathlib.Core.Path.{_≡_, refl, sym, _∙_}
 use Prim.Native.Nat.{_-_, _≤_, min, zero-le}

@@ -1,4 +1,4 @@
--- `counts::is_toggle` makes the three tests one after the other.
+-- `effects::counting::is_toggle` makes the three tests one after the other.
 use native.Mathlib.Omega.{arith}
 use borrow.Author.Tests.{eq-eqb, ne-eqb}
 use Rattle.pending.proofs.counts.is_toggle.Statement.{statement}

@@ -1,4 +1,4 @@
--- `counts::sender_full` counts among the operations that are in use.
+-- `effects::counting::sender_full` counts among the operations that are in use.
 use native.Mathlib.Omega.{arith}
 use lib.ListN.{length-take}
 use borrow.Author.Needs.{needs}

@@ -1,4 +1,4 @@
--- `counts::sender_of` tells a toggle by its own key.
+-- `effects::counting::sender_of` tells a toggle by its own key.
 use borrow.Author.Tests.{eq-eqb, ne-eqb}
 use Rattle.pending.specs.Counts.{senderOf}
 use Rattle.pending.proofs.counts.sender_of.Statement.{statement}

@@ -1,6 +1,6 @@
 -- `wimtaze::sheets::count` meets its contract: what the reader refuses is refused, and what it reads is counted.
 use mathlib.Core.Path.{sym, ap, _∙_}
-use Rattle.results.specs.Results.{numberOf}
+use Rattle.effects.specs.Results.{numberOf}
 use Rattle.wimtaze.proofs.Refusals.{refused-alone, passed}
 use Rattle.wimtaze.proofs.Bridging.{counts-refused, counts-passed}
 use borrow.Author.Needs.{needs}
