@@ -4,7 +4,8 @@
 # make run        the hall program on document 01's example
 # make native     the programs in C and Rust over the library
 # make soak       the library against the plain Rust of tests/native, for SECONDS (60) from SEED (the time of day) on
-# make bench      times receiving and the C calls against Rust, prints a table, and draws docs/receive.svg
+# make bench      times receiving and the C calls against Rust, counts what a call copies and, where there is valgrind, its
+#                 instructions, prints a table, and draws docs/receive.svg
 # make test       the gate: it proves every crate from nothing and runs what there is to run
 .DEFAULT_GOAL := all
 .DELETE_ON_ERROR:
@@ -90,7 +91,12 @@ bench: library target/staticlib/libworkload.a
 	mkdir -p target/bench
 	rustc --edition 2021 -O -D warnings bench/receive.rs -L target/staticlib -l static=workload -o target/bench/receive
 	rustc --edition 2021 -O -D warnings bench/calls.rs -L target/staticlib -l static=wimtaze -o target/bench/calls
+	$(CC) $(CFLAGS) bench/copies.c target/staticlib/libworkload.a -Wl,--wrap=memcpy -o target/bench/copies
 	target/bench/receive docs/receive.svg
+	target/bench/copies
+	@if command -v valgrind >/dev/null; then for side in table library; do \
+		echo "instructions of the same work, $$side: $$(valgrind --tool=callgrind --callgrind-out-file=/dev/null \
+		target/bench/receive only $$side 2>&1 | sed -n 's/.*Collected : //p')"; done; fi
 	target/bench/calls
 
 test:

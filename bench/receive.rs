@@ -1,6 +1,7 @@
 //! Times inserts and then deletes through the library's `receive` against two Rust programs, the plain one of
 //! tests/native/reference.rs and the one with a table in tabled.rs: the same operations, the same checks, all
-//! optimised. With a file's name it also draws the time of a call over the rows there.
+//! optimised. With a file's name it also draws the time of a call over the rows there. With `only` and a side, which is
+//! `library` or `table`, it does the work of that side once and prints nothing, for a counter of instructions.
 
 mod plot;
 #[path = "../tests/native/reference.rs"]
@@ -70,7 +71,19 @@ fn per_call(run: fn(u64) -> u64, rows: u64) -> f64 {
     shortest.as_secs_f64() * 1e6 / (2 * COUNT) as f64
 }
 
+/// The work of one side, once.
+fn only(side: &str) {
+    let run = if side == "library" { library_run } else { tabled_run };
+    assert_eq!(run(COUNT), 2 * COUNT);
+}
+
 fn main() {
+    let words: Vec<String> = std::env::args().skip(1).collect();
+    if let [first, side] = &words[..] {
+        if first == "only" {
+            return only(side);
+        }
+    }
     table::head();
     table::row("receive, 1,024 inserts and 1,024 deletes", &|| plain_run(COUNT), &|| library_run(COUNT));
     table::row("the same, against the Rust with a table", &|| tabled_run(COUNT), &|| library_run(COUNT));
@@ -84,7 +97,7 @@ fn main() {
     let growth = |side: usize| points[4].1[side] / points[0].1[side];
     println!("{:<44} {:>12.1} {:>12.1} {:>12.1}", "1,024 rows to 64", growth(0), growth(1), growth(2));
     println!();
-    if let Some(file) = std::env::args().nth(1) {
+    if let Some(file) = words.first() {
         std::fs::write(file, plot::drawn(&points)).expect("the picture cannot be written");
     }
 }
