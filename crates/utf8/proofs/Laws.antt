@@ -6,7 +6,8 @@ use native.Mathlib.Omega.{arith}
 use lib.ListN.{length}
 use lib.Pow.{areBytes}
 use borrow.Author.Tests.{lt-ltb}
-use Rattle.utf8.specs.Encoding.{_to_, encodedLength, encode, continuation, oneByte, twoBytes, threeBytes, fourBytes}
+use Rattle.utf8.specs.CodePoints.{within}
+use Rattle.utf8.specs.Encoding.{encodedLength, encode, continuation, oneByte, twoBytes, threeBytes, fourBytes}
 
 -- a length is one of four
 pub data Length (m : ℕ) : Type 0 where
@@ -24,7 +25,7 @@ chosen false false false false = four refl
 
 pub lengths : (n : ℕ) → Length (encodedLength n)
 unfolding encodedLength
-lengths n = chosen ((0 to 127) n) ((128 to 2047) n) ((2048 to 65535) n) ((65536 to 1114111) n)
+lengths n = chosen (within 0 127 n) (within 128 2047 n) (within 2048 65535 n) (within 65536 1114111 n)
 
 -- the bytes by their number
 pub encode-one : (n : ℕ) → encodedLength n ≡ 1 → encode n ≡ oneByte n

@@ -1,3 +1,4 @@
--- `Laws` and `Ranges` are for the crates that link this one.
+-- What stands here is for the crates that link this one.
+pub mod CodePoints
 pub mod Laws
 pub mod Ranges

@@ -9,41 +9,33 @@ use borrow.Author.Tests.{le-leb, lt-leb, leb-true, leb-false}
 use lib.Dec.{leb}
 use lib.Pow.{pow-mono}
 use lib.Count.{leadingZeros, leading-length}
-use Rattle.utf8.specs.Encoding.{_to_, encodedLength, continuation, oneByte, twoBytes, threeBytes, fourBytes}
+use Rattle.utf8.specs.Encoding.{encodedLength, continuation, oneByte, twoBytes, threeBytes, fourBytes}
 use Rattle.utf8.specs.Ranges.{LengthByRanges, LengthByBits, EncodeByRanges}
+use Rattle.utf8.proofs.CodePoints.{inside, over}
 use Rattle.utf8.proofs.Laws.{encode-one, encode-two, encode-three, encode-four}
 
 -- ---- by ranges
-
-module _ (first last n : ℕ) (l : first ≤ n) where
-  inside : n ≤ last → (first to last) n ≡ true
-  unfolding _to_
-  inside h = rw (le-leb first n l, le-leb n last h)
-
-  above : last < n → (first to last) n ≡ false
-  unfolding _to_
-  above h = rw (le-leb first n l, lt-leb n last h)
 
 pub length-by-ranges : LengthByRanges
 unfolding encodedLength
 length-by-ranges = record {
   one = λ n h. rw (inside 0 127 n (omega arith) h);
-  two = λ n l h. rw (above 0 127 n (omega arith) (omega arith), inside 128 2047 n l h);
+  two = λ n l h. rw (over 0 127 n (omega arith), inside 128 2047 n l h);
   three = λ n l h.
-      rw (above 0 127 n (omega arith) (omega arith), above 128 2047 n (omega arith) (omega arith), inside 2048 65535 n l h);
+      rw (over 0 127 n (omega arith), over 128 2047 n (omega arith), inside 2048 65535 n l h);
   four = λ n l h.
       rw (
-        above 0 127 n (omega arith) (omega arith),
-        above 128 2047 n (omega arith) (omega arith),
-        above 2048 65535 n (omega arith) (omega arith),
+        over 0 127 n (omega arith),
+        over 128 2047 n (omega arith),
+        over 2048 65535 n (omega arith),
         inside 65536 1114111 n l h,
       );
   beyond = λ n h.
       rw (
-        above 0 127 n (omega arith) (omega arith),
-        above 128 2047 n (omega arith) (omega arith),
-        above 2048 65535 n (omega arith) (omega arith),
-        above 65536 1114111 n (omega arith) h,
+        over 0 127 n (omega arith),
+        over 128 2047 n (omega arith),
+        over 2048 65535 n (omega arith),
+        over 65536 1114111 n h,
       );
 }
 

@@ -1,21 +1,17 @@
 -- A code point's length and bytes in UTF-8: the ranges and the table of RFC 3629, section 3.
 use Prim.Native.Nat.{ℕ, _+_, _/_, _%_}
 use mathlib.Core.List.{List, [], _∷_}
-use mathlib.Core.Bool.{Bool, _&&_, cond}
-use lib.Dec.{leb, eqb}
-
-infix 90 _to_
--- the test for a number of a range, both ends in it
-unfoldable pub _to_ : ℕ → ℕ → ℕ → Bool
-first to last = λ n. leb first n && leb n last
+use mathlib.Core.Bool.{cond}
+use lib.Dec.{eqb}
+use Rattle.utf8.specs.CodePoints.{within}
 
 -- "a list of cases on the RFC's own ranges"; a number above 1,114,111 is no code point, and counts 4
 unfoldable pub encodedLength : ℕ → ℕ
 encodedLength n =
-    cond ((0 to 127) n) 1
-    (cond ((128 to 2047) n) 2
-    (cond ((2048 to 65535) n) 3
-    (cond ((65536 to 1114111) n) 4
+    cond (within 0 127 n) 1
+    (cond (within 128 2047 n) 2
+    (cond (within 2048 65535 n) 3
+    (cond (within 65536 1114111 n) 4
     4)))
 
 -- the byte 10xxxxxx with the six bits of n from the given weight up

@@ -1,3 +1,4 @@
+pub mod CodePoints
 pub mod Encoding
 pub mod Encoded
 pub mod Ranges

@@ -3,7 +3,7 @@
 use mathlib.Core.Bool.{Bool}
 use mathlib.Core.Path.{_≡_, refl, ap, ap₂, sym, _∙_}
 use mathlib.Core.List.{List, [], _∷_, _++_, map}
-use Rattle.utf8.specs.Encoding.{_to_, encodedLength, continuation, oneByte, twoBytes, threeBytes, fourBytes, encode}
+use Rattle.utf8.specs.Encoding.{encodedLength, continuation, oneByte, twoBytes, threeBytes, fourBytes, encode}
 use Rattle.woot.specs.Identifiers.{same, below}
 use Rattle.woot.specs.Operations.{sender, character, origin, isVisible, withToggles, toggledBy, sameInsert, sameToggle, sameOperation}
 use Rattle.woot.specs.Ranges.{within, siteNumber, codePoint, characterId, previousId, nextId, siteInRange, insertInRange, toggleInRange, inRange, characterInRange}
@@ -88,7 +88,7 @@ all-computed [] = refl
 all-computed (t ∷ ts) = ap₂ (λ a bs. a ∷ bs) (sym (computed-same (t .given))) (all-computed ts)
 
 all : SituationsHold × CasesTell × LowestShift × TypedElsewhere
-unfolding table carriedIn slipCases answerCases clockCases toggleCases cursorCases whole settled stepped computed _to_ encodedLength continuation oneByte twoBytes threeBytes fourBytes encode unprintable printed encoded text same below sender character origin isVisible withToggles toggledBy sameInsert sameToggle sameOperation within siteNumber codePoint characterId previousId nextId siteInRange insertInRange toggleInRange inRange characterInRange initial sequence indexOf placeOf held above adjacent candidate candidates narrowed search position between insertAt integrateInsert integrateToggle executable crossed unplaceable integrate pendingFrom earliest andIntegrated andDiscarded drained drainSteps drain presentInserts allInRange sharesKept capacityKept identifiersDistinct togglesDistinct ordered neighboursOrdered noneExecutable clockReaches clockKept ownInsert heard wellFormed reply answerOf unchanged decided allIntegrated withCharacters withPending afterDrain insertCarried duplicate conflicting senderFull documentFull receiveChecks carryOut defer accept receiveWhen receive visibles nextIdentifier generatedInsert beyondVisible identifierTaken insertChecks sendInsert localInsertWhen localInsert togglesOf generatedToggle sendToggle notVisible deleteChecks generatedDelete localDeleteWhen localDelete notHidden exhausted restoreChecks localRestoreWhen localRestore outcome through visibleThrough cursorAfter changes receiveAtChecks receiveAtWhen receiveAt newGap shiftOf shiftAt
+unfolding table carriedIn slipCases answerCases clockCases toggleCases cursorCases whole settled stepped computed encodedLength continuation oneByte twoBytes threeBytes fourBytes encode unprintable printed encoded text same below sender character origin isVisible withToggles toggledBy sameInsert sameToggle sameOperation within siteNumber codePoint characterId previousId nextId siteInRange insertInRange toggleInRange inRange characterInRange initial sequence indexOf placeOf held above adjacent candidate candidates narrowed search position between insertAt integrateInsert integrateToggle executable crossed unplaceable integrate pendingFrom earliest andIntegrated andDiscarded drained drainSteps drain presentInserts allInRange sharesKept capacityKept identifiersDistinct togglesDistinct ordered neighboursOrdered noneExecutable clockReaches clockKept ownInsert heard wellFormed reply answerOf unchanged decided allIntegrated withCharacters withPending afterDrain insertCarried duplicate conflicting senderFull documentFull receiveChecks carryOut defer accept receiveWhen receive visibles nextIdentifier generatedInsert beyondVisible identifierTaken insertChecks sendInsert localInsertWhen localInsert togglesOf generatedToggle sendToggle notVisible deleteChecks generatedDelete localDeleteWhen localDelete notHidden exhausted restoreChecks localRestoreWhen localRestore outcome through visibleThrough cursorAfter changes receiveAtChecks receiveAtWhen receiveAt newGap shiftOf shiftAt
 all = (all-computed table ∙ refl, (all-computed slipCases ∙ refl, all-computed answerCases ∙ refl, all-computed clockCases ∙ refl, all-computed toggleCases ∙ refl, all-computed cursorCases ∙ refl), sym (computed-same _) ∙ refl, (refl, refl, refl, refl))
 
 pub situations-hold : SituationsHold

@@ -1,11 +1,11 @@
 -- What goes out for a code point, by the range that it is in.
 use mathlib.Core.Path.{_≡_, refl}
-use mathlib.Core.Bool.{true, false}
 use Prim.Native.Nat.{ℕ, _≤_, _<_}
 use native.Mathlib.Omega.{arith}
-use borrow.Author.Tests.{le-leb, lt-leb, ne-eqb}
-use Rattle.utf8.specs.Encoding.{_to_, encodedLength, continuation, threeBytes, encode}
+use borrow.Author.Tests.{ne-eqb}
+use Rattle.utf8.specs.Encoding.{encodedLength, continuation, threeBytes, encode}
 use Rattle.woot.specs.Ranges.{within}
+use Rattle.utf8.proofs.CodePoints.{inside, under, over}
 use Rattle.woot.specs.Text.{unprintable, printed, EdgesPrinted, Substitution}
 
 pub edges-printed : EdgesPrinted
@@ -13,21 +13,8 @@ unfolding within unprintable printed
 edges-printed = refl
 
 pub substitution : Substitution
-unfolding printed _to_ encodedLength continuation threeBytes encode
+unfolding printed within encodedLength continuation threeBytes encode
 substitution = record { replaced = λ n e. rw e; kept = λ n e. rw e }
-
-module _ (low high n : ℕ) where
-  inside : low ≤ n → n ≤ high → within low high n ≡ true
-  unfolding within
-  inside l h = rw (le-leb low n l, le-leb n high h)
-
-  under : n < low → within low high n ≡ false
-  unfolding within
-  under h = rw (lt-leb low n h)
-
-  over : low ≤ n → high < n → within low high n ≡ false
-  unfolding within
-  over l h = rw (le-leb low n l, lt-leb n high h)
 
 module _ (n : ℕ) where
   pub printed-low : n ≤ 8 → printed n ≡ 65533
@@ -36,7 +23,7 @@ module _ (n : ℕ) where
 
   pub printed-middle : 11 ≤ n → n ≤ 31 → printed n ≡ 65533
   unfolding printed unprintable
-  printed-middle l h = rw (over 0 8 n (omega arith) (omega arith), inside 11 31 n l h)
+  printed-middle l h = rw (over 0 8 n (omega arith), inside 11 31 n l h)
 
   pub printed-delete : n ≡ 127 → printed n ≡ 65533
   unfolding printed unprintable within
@@ -44,8 +31,8 @@ module _ (n : ℕ) where
 
   pub printed-between : 8 < n → n < 11 → printed n ≡ n
   unfolding printed unprintable
-  printed-between l h = rw (over 0 8 n (omega arith) l, under 11 31 n h, ne-eqb n 127 (λ e. absurd (omega (arith, e))))
+  printed-between l h = rw (over 0 8 n l, under 11 31 n h, ne-eqb n 127 (λ e. absurd (omega (arith, e))))
 
   pub printed-above : 31 < n → (n ≡ 127 → ⊥) → printed n ≡ n
   unfolding printed unprintable
-  printed-above l other = rw (over 0 8 n (omega arith) (omega arith), over 11 31 n (omega arith) l, ne-eqb n 127 other)
+  printed-above l other = rw (over 0 8 n (omega arith), over 11 31 n l, ne-eqb n 127 other)

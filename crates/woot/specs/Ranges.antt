@@ -1,7 +1,7 @@
 -- What refusal 2 lets pass: the ranges of the numbers, and where a mark may stand.
 use Prim.Native.Nat.{ℕ}
 use mathlib.Core.Bool.{Bool, _&&_, _||_, not}
-use lib.Dec.{leb}
+unfoldable pub use Rattle.utf8.specs.CodePoints.{within, codePoint}
 use Rattle.woot.specs.declared.Identifier.{Identifier}
 use Rattle.woot.specs.declared.Site.{Site}
 use Rattle.woot.specs.declared.Insert.{Insert}
@@ -9,21 +9,13 @@ use Rattle.woot.specs.declared.Toggle.{Toggle}
 use Rattle.woot.specs.declared.Operation.{Operation}
 use Rattle.woot.specs.declared.Operation.the-variants.{Insert as insert, Toggle as toggle}
 use Rattle.woot.specs.declared.Character.{Character}
-use Rattle.woot.specs.Limits.{lastSite, lastClock, lastCodePoint, firstSurrogate, lastSurrogate, lastToggles}
+use Rattle.woot.specs.Limits.{lastSite, lastClock, lastToggles}
 use Rattle.woot.specs.Identifiers.{begin, end, same}
 use Rattle.woot.specs.Operations.{origin}
-
--- low and high are the first and last of a range
-unfoldable pub within : ℕ → ℕ → ℕ → Bool
-within low high n = leb low n && leb n high
 
 -- "a number, 1 to 16"
 unfoldable pub siteNumber : ℕ → Bool
 siteNumber n = within 1 lastSite n
-
--- "0 to 1,114,111, but not 55,296 to 57,343"
-unfoldable pub codePoint : ℕ → Bool
-codePoint n = within 0 lastCodePoint n && not (within firstSurrogate lastSurrogate n)
 
 -- "no character has these", the marks, "and a character's clock is at least 1"
 unfoldable pub characterId : Identifier → Bool
