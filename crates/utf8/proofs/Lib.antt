@@ -2,3 +2,5 @@
 pub mod CodePoints
 pub mod Laws
 pub mod Ranges
+pub mod Decoding
+pub mod Offsets
