@@ -8,7 +8,7 @@ use mathlib.Core.Option.{Option, none, some}
 use lib.Dec.{leb}
 use Rattle.woot.specs.declared.Operation.{Operation}
 use Rattle.woot.specs.declared.Refusal.{Refusal}
-use Rattle.woot.specs.declared.Refusal.the-variants.{Layout, Range, Form, Unrepresentable, Position, NotHidden, LastToggle, Clock, Taken, Conflict, Crossed, Unplaceable, SenderFull, DocumentFull, Output}
+use Rattle.woot.specs.declared.Refusal.the-variants.{Layout, Range, NotUtf8, Form, Unrepresentable, Position, NotHidden, LastToggle, Clock, Taken, Conflict, Crossed, Unplaceable, SenderFull, DocumentFull, Output}
 use Rattle.woot.specs.declared.Answer.{Answer}
 use Rattle.woot.specs.declared.Answer.the-variants.{Done, Deferred, Duplicate, Refused}
 use Rattle.woot.specs.declared.Sent.{Sent}
@@ -18,6 +18,7 @@ use Rattle.woot.specs.declared.Sent.the-variants.{Done as sentDone, Refu
 abbrev pub number : Refusal → ℕ
 number Layout = 1
 number Range = 2
+number NotUtf8 = 20
 number Form = 3
 number Unrepresentable = 15
 number Position = 4
@@ -34,26 +35,27 @@ number Output = 12
 
 -- the highest of these numbers
 abbrev pub highestRefusal : ℕ
-highestRefusal = 15
+highestRefusal = 20
 
 -- the place of a refusal in the checking order: what compares two refusals compares these, since a later number may be
--- checked earlier; 13 and 14 "come after 4, in that order", and 15 comes "after 3"
+-- checked earlier; 13 and 14 "come after 4, in that order", 15 comes "after 3", and 20 "after 2"
 abbrev pub rank : Refusal → ℕ
 rank Layout = 1
 rank Range = 2
-rank Form = 3
-rank Unrepresentable = 4
-rank Position = 5
-rank NotHidden = 6
-rank LastToggle = 7
-rank Clock = 8
-rank Taken = 9
-rank Conflict = 10
-rank Crossed = 11
-rank Unplaceable = 12
-rank SenderFull = 13
-rank DocumentFull = 14
-rank Output = 15
+rank NotUtf8 = 3
+rank Form = 4
+rank Unrepresentable = 5
+rank Position = 6
+rank NotHidden = 7
+rank LastToggle = 8
+rank Clock = 9
+rank Taken = 10
+rank Conflict = 11
+rank Crossed = 12
+rank Unplaceable = 13
+rank SenderFull = 14
+rank DocumentFull = 15
+rank Output = 16
 
 -- of two refusals the one that comes first in the checking order
 unfoldable pub earlier : Refusal → Refusal → Refusal

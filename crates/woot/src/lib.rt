@@ -161,6 +161,8 @@ pub enum Refusal {
     Layout,
     // 2: a number, a mark or a neighbour that may not stand where it does.
     Range,
+    // 20: a text that is to be pasted is not UTF-8.
+    NotUtf8,
     // 3: the replica is not well formed.
     Form,
     // 15: toggles above 1, which the first form of a saved replica cannot say.
@@ -197,6 +199,7 @@ impl Refusal {
         match self {
             Refusal::Layout => 1,
             Refusal::Range => 2,
+            Refusal::NotUtf8 => 20,
             Refusal::Form => 3,
             Refusal::Unrepresentable => 15,
             Refusal::Position => 4,
@@ -220,19 +223,20 @@ impl Refusal {
         match self {
             Refusal::Layout => 1,
             Refusal::Range => 2,
-            Refusal::Form => 3,
-            Refusal::Unrepresentable => 4,
-            Refusal::Position => 5,
-            Refusal::NotHidden => 6,
-            Refusal::LastToggle => 7,
-            Refusal::Clock => 8,
-            Refusal::Taken => 9,
-            Refusal::Conflict => 10,
-            Refusal::Crossed => 11,
-            Refusal::Unplaceable => 12,
-            Refusal::SenderFull => 13,
-            Refusal::DocumentFull => 14,
-            Refusal::Output => 15,
+            Refusal::NotUtf8 => 3,
+            Refusal::Form => 4,
+            Refusal::Unrepresentable => 5,
+            Refusal::Position => 6,
+            Refusal::NotHidden => 7,
+            Refusal::LastToggle => 8,
+            Refusal::Clock => 9,
+            Refusal::Taken => 10,
+            Refusal::Conflict => 11,
+            Refusal::Crossed => 12,
+            Refusal::Unplaceable => 13,
+            Refusal::SenderFull => 14,
+            Refusal::DocumentFull => 15,
+            Refusal::Output => 16,
         }
     }
 
