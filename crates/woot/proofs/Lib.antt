@@ -1,3 +1,4 @@
 pub mod Situations
 pub mod Text
 pub mod Ends
+pub mod PasteCases

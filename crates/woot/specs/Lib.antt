@@ -17,3 +17,5 @@ pub mod Replicas
 pub mod Text
 pub mod Histories
 pub mod Situations
+pub mod Pasting
+pub mod PasteCases
