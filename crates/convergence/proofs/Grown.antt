@@ -61,7 +61,7 @@ grown-step s (adds i a) g =
 grown-step s (raises d a) g = grown-toggle (s .characters) d (a .ranged) g
 grown-step s (defers o a) g = g
 
-grown-run : (s : State) (cs : List Call) → Grown (s .characters) → Grown (run s cs .characters)
+pub grown-run : (s : State) (cs : List Call) → Grown (s .characters) → Grown (run s cs .characters)
 grown-run s [] g = g
 grown-run s (c ∷ cs) g = grown-run (outcome s c .state) cs (grown-step s (step s c) g)
 
@@ -110,7 +110,7 @@ restore-placeable : (s : State) (x : Identifier) → Reported (sentRefused Unpla
 unfolding restoreChecks
 restore-placeable s x = unreported (restoreChecks (wellFormed s) s x) (other-sent (λ h. omega arith), (other-sent (λ h. omega arith), (other-sent (λ h. omega arith), (other-sent (λ h. omega arith), tt))))
 
-placeable : (s : State) (c : Call) → Grown (s .characters) → outcome s c .answer ≡ Refused Unplaceable → ⊥
+pub placeable : (s : State) (c : Call) → Grown (s .characters) → outcome s c .answer ≡ Refused Unplaceable → ⊥
 unfolding outcome receive receiveAt unchanged localInsert localDelete localRestore
 placeable s (inserting g n) w e = insert-placeable s g n w (insert-refuses (wellFormed s) s g n Unplaceable .0 (answer-refused _ Unplaceable e))
 placeable s (deleting p) w e = delete-placeable s p (delete-refuses (wellFormed s) s p Unplaceable .0 (answer-refused _ Unplaceable e))

@@ -42,3 +42,5 @@ pub mod Own
 pub mod Typing
 pub mod Hiding
 pub mod Writing
+pub mod Typings
+pub mod Pasting

@@ -3,3 +3,4 @@ pub mod Theorems
 pub mod Clocks
 pub mod Invariants
 pub mod Cursors
+pub mod Pasting
