@@ -32,7 +32,9 @@ use Rattle.convergence.proofs.Steps.{first-none, All, first-some, Turne
 -- the refusal of a number
 refusalOf : ℕ → Refusal
 refusalOf n =
-    getD (Layout ∷ Layout ∷ Range ∷ Form ∷ Position ∷ Clock ∷ Taken ∷ Conflict ∷ Crossed ∷ Unplaceable ∷ SenderFull ∷ DocumentFull ∷ Output ∷ NotHidden ∷ LastToggle ∷ Unrepresentable ∷ Layout ∷ Layout ∷ Layout ∷ Layout ∷ NotUtf8 ∷ []) n Layout
+    getD
+    (Layout ∷ Layout ∷ Range ∷ Form ∷ Position ∷ Clock ∷ Taken ∷ Conflict ∷ Crossed ∷ Unplaceable ∷ SenderFull ∷ DocumentFull ∷ Output
+    ∷ NotHidden ∷ LastToggle ∷ Unrepresentable ∷ Layout ∷ Layout ∷ Layout ∷ Layout ∷ NotUtf8 ∷ []) n Layout
 
 refusal-of : (r : Refusal) → refusalOf (number r) ≡ r
 unfolding refusalOf

@@ -116,7 +116,8 @@ sentTyping s g (n ∷ ns) =
     let t = outcome s (inserting g n) .state in
     sentOperation (localInsert s g n .answer) ∷ sentTyping t (gapBelow t (nextIdentifier (s .site))) ns
 
--- it "gives their insert lines in sequence": one for each character, with its code point, and the clock reaches the last
+-- it "gives their insert lines in sequence": one for each character, with its code point, and the clock reaches the
+-- last
 abbrev pub PasteSends : Type 0
 PasteSends =
     (s : State) (g : ℕ) (block ns : List ℕ) → Encodes block ns → reply (paste s g block .answer) .word ≡ done →

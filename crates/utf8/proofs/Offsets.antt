@@ -11,12 +11,13 @@ use lib.ListN.{length, drop, getD, drop-of-length-le, length-drop, length-append
 use lib.Seq.{drop-cons, drop-drop, drop-at}
 use borrow.Author.Tests.{eqb-true, eq-eqb, ne-eqb}
 use Rattle.lists.proofs.Tests.{and-right, fails}
+use Rattle.utf8.specs.declared.Decoded.{Decoded}
 use Rattle.utf8.specs.declared.Decoded.the-variants.{CodePoint, End, Malformed}
 use Rattle.utf8.specs.declared.Counted.the-variants.{Characters, Malformed as countMalformed}
 use Rattle.utf8.specs.CodePoints.{codePoint}
 use Rattle.utf8.specs.Encoding.{encode, encodedLength}
 use Rattle.utf8.specs.Decoding.{Head, ended, character, malformed, accepted, continues, continued, headOf, before, readOn, decoded}
-use Rattle.utf8.specs.Offsets.{answerAt, decodedAt, RestFollows, countAfter, countOf, tailBits, tailAt, acceptedAt}
+use Rattle.utf8.specs.Offsets.{answerAt, decodedAt, onFrom, DecodedOn, countAfter, countOf, tailBits, tailAt, acceptedAt}
 use Rattle.utf8.proofs.CodePoints.{inside, under, over}
 use Rattle.utf8.proofs.Laws.{length-encode, length-bounds}
 use Rattle.utf8.proofs.Ranges.{length-by-ranges}
@@ -174,35 +175,31 @@ module _ (bytes : List ℕ) (at b : ℕ) (h : at < length bytes) (e : b ≡ getD
   unfolding decodedAt headOf answerAt
   decoded-over l = rw (front, over 0 127 b (omega arith), over 192 223 b (omega arith), over 224 239 b (omega arith), over 240 247 b (omega arith))
 
--- ---- the next offset
+-- ---- from an offset on
 
-pub rest-follows : RestFollows
+rest-follows : (bytes : List ℕ) (at n : ℕ) (rest : List ℕ) → headOf (drop at bytes) ≡ character n rest → rest ≡ drop (at + encodedLength n) bytes
 rest-follows bytes at n rest e =
     let w = head-back (drop at bytes) n rest e in
     sym (drop-at (encode n) rest (encodedLength n) (length-encode n)) ∙ ap (drop (encodedLength n)) (sym (w .bytes-are)) ∙ drop-drop (encodedLength n) at bytes
 
--- ---- a whole text
-
--- from an offset on, with so many characters before it
-pub record Counting (bytes : List ℕ) (at count : ℕ) : Type 0 where
-  pub same : countAfter count (decoded (drop at bytes)) ≡ countOf (decoded bytes)
-  pub few : count ≤ at
-  pub within : at ≤ length bytes
-
-pub counting-begun : (bytes : List ℕ) → Counting bytes 0 0
-unfolding countOf
-counting-begun bytes = record { same = refl; few = omega arith; within = omega arith }
+pub decoded-on : DecodedOn
+unfolding decodedAt answerAt
+decoded-on bytes at = decoding-recurs (drop at bytes) ∙ go (headOf (drop at bytes)) refl
+  where
+    go : (h : Head) → headOf (drop at bytes) ≡ h → readOn decoded h ≡ onFrom bytes (answerAt at h)
+    go ended e = refl
+    go malformed e = refl
+    go (character n rest) e = ap (λ (l : List ℕ). before n (decoded l)) (rest-follows bytes at n rest e)
 
 -- a character of the text at an offset, and the offset past it
-pub record Stands (bytes : List ℕ) (at n next : ℕ) : Type 0 where
-  pub rest : List ℕ
-  pub head : headOf (drop at bytes) ≡ character n rest
-  pub past : next ≡ at + encodedLength n
+record Stands (bytes : List ℕ) (at n next : ℕ) : Type 0 where
+  rest : List ℕ
+  head : headOf (drop at bytes) ≡ character n rest
+  past : next ≡ at + encodedLength n
 
--- what `decode` answered there
-pub decoded-answer : (bytes : List ℕ) (at n next : ℕ) → CodePoint n next ≡ decodedAt bytes at → Stands bytes at n next
+stands : (bytes : List ℕ) (at n next : ℕ) → CodePoint n next ≡ decodedAt bytes at → Stands bytes at n next
 unfolding decodedAt answerAt
-decoded-answer bytes at n next = go (headOf (drop at bytes)) refl
+stands bytes at n next = go (headOf (drop at bytes)) refl
   where
     go : (h : Head) → headOf (drop at bytes) ≡ h → CodePoint n next ≡ answerAt at h → Stands bytes at n next
     go ended p e = absurd (let z : _≡_ {A = ℕ} 0 1 = cc in omega arith)
@@ -216,66 +213,73 @@ decoded-answer bytes at n next = go (headOf (drop at bytes)) refl
           past = place ∙ ap (λ (k : ℕ). at + encodedLength k) (sym number);
         }
 
+-- it goes on, and stays within the text
+module _ (bytes : List ℕ) (at n next : ℕ) (e : CodePoint n next ≡ decodedAt bytes at) where
+  pub next-further : at < next
+  next-further = omega (arith, stands bytes at n next e .past, length-bounds n)
+
+  pub next-within : at ≤ length bytes → next ≤ length bytes
+  next-within h =
+      let w = stands bytes at n next e in
+      let b = head-back (drop at bytes) n (w .rest) (w .head) .bytes-are in
+      omega (
+        arith,
+        w .past,
+        length-encode n,
+        length-append (encode n) (w .rest),
+        ap (λ (l : List ℕ). length l) b,
+        length-drop at bytes,
+        length-bounds n,
+      )
+
+-- ---- a whole text
+
+-- from an offset on, with so many characters before it
+pub record Counting (bytes : List ℕ) (at count : ℕ) : Type 0 where
+  pub same : countAfter count (decoded (drop at bytes)) ≡ countOf (decoded bytes)
+  pub few : count ≤ at
+  pub within : at ≤ length bytes
+
+pub counting-begun : (bytes : List ℕ) → Counting bytes 0 0
+unfolding countOf
+counting-begun bytes = record { same = refl; few = omega arith; within = omega arith }
+
 module _ (bytes : List ℕ) (at count : ℕ) (c : Counting bytes at count) where
-  module _ (n next : ℕ) (e : CodePoint n next ≡ decodedAt bytes at) where
-    stands : Stands bytes at n next
-    stands = decoded-answer bytes at n next e
+  -- with what `decode` answered there
+  counting-on : (d : Decoded) → d ≡ decodedAt bytes at → countAfter count (onFrom bytes d) ≡ countOf (decoded bytes)
+  counting-on d e = ap (countAfter count) (ap (onFrom bytes) e ∙ sym (decoded-on bytes at)) ∙ c .same
 
-    pub counting-further : at < next
-    counting-further = omega (arith, stands .past, length-bounds n)
-
-    pub counting-within : next ≤ length bytes
-    counting-within =
-        let b = head-back (drop at bytes) n (stands .rest) (stands .head) .bytes-are in
-        omega (
-          arith,
-          stands .past,
-          length-encode n,
-          length-append (encode n) (stands .rest),
-          ap (λ (l : List ℕ). length l) b,
-          length-drop at bytes,
-          c .within,
-          length-bounds n,
-        )
-
-    -- the text from there on is the character, and the text from the next offset on
-    pub decoded-further : decoded (drop at bytes) ≡ before n (decoded (drop next bytes))
-    decoded-further =
-        let rest : stands .rest ≡ drop next bytes = rest-follows bytes at n (stands .rest) (stands .head) ∙ ap (λ (k : ℕ). drop k bytes) (sym (stands .past)) in
-        decoding-recurs (drop at bytes) ∙ ap (readOn decoded) (stands .head) ∙ ap (λ (l : List ℕ). before n (decoded l)) rest
-
-    pub counting-again : Counting bytes next (count + 1)
-    unfolding countAfter
-    counting-again =
-        record {
-          same = one-more (decoded (drop next bytes)) ∙ ap (countAfter count) (sym decoded-further) ∙ c .same;
-          few = omega (arith, counting-further, c .few);
-          within = counting-within;
-        }
-      where
-        one-more : (m : Option (List ℕ)) → countAfter (count + 1) m ≡ countAfter count (before n m)
-        one-more none = refl
-        one-more (some ns) = let sum : count + 1 + length ns ≡ count + suc (length ns) = omega arith in ap Characters sum
+  pub counting-again : (n next : ℕ) → CodePoint n next ≡ decodedAt bytes at → Counting bytes next (count + 1)
+  unfolding countAfter
+  counting-again n next e =
+      record {
+        same = one-more (decoded (drop next bytes)) ∙ counting-on (CodePoint n next) e;
+        few = omega (arith, next-further bytes at n next e, c .few);
+        within = next-within bytes at n next e (c .within);
+      }
+    where
+      one-more : (m : Option (List ℕ)) → countAfter (count + 1) m ≡ countAfter count (before n m)
+      one-more none = refl
+      one-more (some ns) = let sum : count + 1 + length ns ≡ count + suc (length ns) = omega arith in ap Characters sum
 
   pub counting-malformed : Malformed ≡ decodedAt bytes at → countMalformed ≡ countOf (decoded bytes)
-  unfolding decodedAt answerAt countAfter
-  counting-malformed e = sym (ap (countAfter count) (decoding-recurs (drop at bytes) ∙ go (headOf (drop at bytes)) e)) ∙ c .same
-    where
-      go : (h : Head) → Malformed ≡ answerAt at h → readOn decoded h ≡ none
-      go ended e = absurd (let z : _≡_ {A = ℕ} 0 1 = cc in omega arith)
-      go malformed e = refl
-      go (character m rest) e = absurd (let z : _≡_ {A = ℕ} 0 1 = cc in omega arith)
+  unfolding countAfter
+  counting-malformed e = counting-on Malformed e
 
   pub counting-ended : End ≡ decodedAt bytes at → Characters count ≡ countOf (decoded bytes)
-  unfolding decodedAt answerAt countAfter
-  counting-ended e =
-      let none-left : count ≡ count + 0 = omega arith in
-      ap Characters none-left ∙ sym (ap (countAfter count) (decoding-recurs (drop at bytes) ∙ go (headOf (drop at bytes)) e)) ∙ c .same
-    where
-      go : (h : Head) → End ≡ answerAt at h → readOn decoded h ≡ some []
-      go ended e = refl
-      go malformed e = absurd (let z : _≡_ {A = ℕ} 0 1 = cc in omega arith)
-      go (character m rest) e = absurd (let z : _≡_ {A = ℕ} 0 1 = cc in omega arith)
+  unfolding countAfter
+  counting-ended e = let none-left : count ≡ count + 0 = omega arith in ap Characters none-left ∙ counting-on End e
 
   pub counting-done : length bytes ≤ at → Characters count ≡ countOf (decoded bytes)
   counting-done h = counting-ended (sym (decoded-end bytes at h))
+
+-- what a count says of the text
+pub counted-some : (m : Option (List ℕ)) (k : ℕ) → Characters k ≡ countOf m → (ns : List ℕ) × (m ≡ some ns) × (k ≡ length ns)
+unfolding countOf countAfter
+counted-some none k e = absurd (let z : _≡_ {A = ℕ} 0 1 = cc in omega arith)
+counted-some (some ns) k e = let number : k ≡ 0 + length ns = cc in (ns, refl, omega arith)
+
+pub counted-none : (m : Option (List ℕ)) → countMalformed ≡ countOf m → m ≡ none
+unfolding countOf countAfter
+counted-none none e = refl
+counted-none (some ns) e = absurd (let z : _≡_ {A = ℕ} 0 1 = cc in omega arith)

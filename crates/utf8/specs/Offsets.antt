@@ -12,7 +12,7 @@ use Rattle.utf8.specs.declared.Counted.{Counted}
 use Rattle.utf8.specs.declared.Counted.the-variants.{Characters, Malformed as countMalformed}
 use Rattle.utf8.specs.CodePoints.{codePoint}
 use Rattle.utf8.specs.Encoding.{encodedLength}
-use Rattle.utf8.specs.Decoding.{Head, ended, character, malformed, continues, headOf}
+use Rattle.utf8.specs.Decoding.{Head, ended, character, malformed, continues, headOf, before, decoded}
 
 -- a code point with the offset just past its bytes, which start at the offset
 unfoldable pub answerAt : ℕ → Head → Decoded
@@ -24,11 +24,15 @@ answerAt at malformed = Malformed
 unfoldable pub decodedAt : List ℕ → ℕ → Decoded
 decodedAt bytes at = answerAt at (headOf (drop at bytes))
 
--- behind a character stand the bytes from the offset on that is answered
-abbrev pub RestFollows : Type 0
-RestFollows =
-    (bytes : List ℕ) (at n : ℕ) (rest : List ℕ) →
-    headOf (drop at bytes) ≡ character n rest → rest ≡ drop (at + encodedLength n) bytes
+-- the text from where this was answered: the code point, and then the text from the next offset on
+abbrev pub onFrom : List ℕ → Decoded → Option (List ℕ)
+onFrom bytes (CodePoint n next) = before n (decoded (drop next bytes))
+onFrom bytes End = some []
+onFrom bytes Malformed = none
+
+-- so a text is read by going from offset to offset. Proved in `proofs/Offsets.antt`
+abbrev pub DecodedOn : Type 0
+DecodedOn = (bytes : List ℕ) (at : ℕ) → decoded (drop at bytes) ≡ onFrom bytes (decodedAt bytes at)
 
 -- with so many characters before them
 unfoldable pub countAfter : ℕ → Option (List ℕ) → Counted

@@ -1,4 +1,4 @@
--- The limits of document 01, and of the toggles of document 02.
+-- The limits of document 01, and of the toggles of document 02. Those of code points stand in `utf8`.
 use Prim.Native.Nat.{ℕ}
 pub use Rattle.utf8.specs.CodePoints.{lastCodePoint, firstSurrogate, lastSurrogate}
 

@@ -1,4 +1,5 @@
--- What refusal 2 lets pass: the ranges of the numbers, and where a mark may stand.
+-- What refusal 2 lets pass: the ranges of the numbers, and where a mark may stand. Which numbers are code points is
+-- said in `utf8`.
 use Prim.Native.Nat.{ℕ}
 use mathlib.Core.Bool.{Bool, _&&_, _||_, not}
 unfoldable pub use Rattle.utf8.specs.CodePoints.{within, codePoint}

@@ -4,7 +4,7 @@ use Prim.Native.Nat.{_-_}
 use native.Mathlib.Omega.{arith}
 use lib.ListN.{length}
 use borrow.Author.Needs.{needs}
-use Rattle.utf8.proofs.Offsets.{Counting, counting-begun, counting-further, counting-within, counting-again, counting-malformed, counting-ended, counting-done}
+use Rattle.utf8.proofs.Offsets.{next-further, next-within, Counting, counting-begun, counting-again, counting-malformed, counting-ended, counting-done}
 use Rattle.utf8.proofs.count.Statement.{statement}
 use Rattle.utf8.proofs.count.Tie as tie
 
@@ -21,7 +21,7 @@ loop-less : tie.Need-loop-less Inv-loop μ-loop
 loop-less c =
     let i = c .before .before .before .before .before .loop .inv in
     let e = sym (c .before .head .given .1) ∙ c .before .before .before .decode .ensures in
-    omega (arith, counting-further _ _ _ i _ _ e, counting-within _ _ _ i _ _ e)
+    omega (arith, next-further _ _ _ _ e, next-within _ _ _ _ e (i .within))
 
 loop-again : tie.Need-loop-again Inv-loop μ-loop
 loop-again c =
