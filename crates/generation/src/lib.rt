@@ -17,15 +17,12 @@ use woot::Refusal;
 use woot::Site;
 use woot::Toggle;
 ghost use mathlib.Core.Path.{_≡_};
-ghost use mathlib.Core.Bool.{true};
 ghost use Prim.Native.Nat.{_+_, _≤_, _<_};
 ghost use lib.ListN.{length, take};
 ghost use Rattle.woot.specs.Limits.{lastClock, lastToggles};
-ghost use Rattle.woot.specs.Ranges.{codePoint, characterId};
 ghost use Rattle.woot.specs.Calls.{nextIdentifier};
 ghost use Rattle.woot.specs.Memory.{identifier};
 ghost use Rattle.memory.specs.Lent.{replicaAs, Sized};
-ghost use Rattle.well_formed.specs.Examined.{Examined};
 ghost use Rattle.generation.specs.Decisions.{sentIn, InsertMade, DeleteMade, RestoreMade};
 
 // What inserting, deleting and restoring here come to: nothing, or an operation that is carried out as was decided.
@@ -77,46 +74,9 @@ fn sent(n: usize, own: &[u32], w: usize, insert: Insert, placement: Placement) -
     }
 }
 
-// Makes the insert of a code point at an insertion point among the visible characters. The clock of a replica that is
-// well formed reaches every identifier of the site's, so that the next one is nobody's (refusal 6). The replica and the
-// code point were checked.
-fn make_insert<'a>(
-    site: Site,
-    characters: &'a [u32],
-    toggles: &'a [u8],
-    n: usize,
-    pending: &'a [u32],
-    w: usize,
-    heads: &'a [u16],
-    links: &'a [u16],
-    point: usize,
-    code_point: u32,
-) -> Made
-    requires { ⌜ Sized (now characters) (now toggles) (now pending) (now heads) (now links) ⌝ }
-    requires { ⌜ Examined
-        (replicaAs site (now characters) (now toggles) n (now pending) w (now heads) (now links)) ⌝ }
-    requires { ⌜ codePoint «code_point» ≡ true ⌝ }
-    ensures { λ r. ⌜ InsertMade (replicaAs site (now (characters .entry)) (now (toggles .entry)) n
-        (now (pending .entry)) w (now (heads .entry)) (now (links .entry))) point «code_point» r ⌝ }
-{
-    if visible::count(toggles, n) < point {
-        return Made::Refused(Refusal::Position);
-    }
-    if 65535 <= site.clock {
-        return Made::Refused(Refusal::Clock);
-    }
-    let ids = &characters[0..CHARACTERS];
-    let left = visible::left(ids, toggles, n, point);
-    let right = visible::right(ids, toggles, n, point);
-    let insert = next_insert(site, left, right, code_point);
-    let previous = &characters[PREVIOUS_KEYS..NEXT_KEYS];
-    let next = &characters[NEXT_KEYS..CODE_POINTS];
-    let placement = integration::find_place(heads, links, ids, previous, next, n, insert);
-    sent(n, &pending[0..PENDING], w, insert, placement)
-}
-
-// What inserting a code point comes to: its range is looked at, then the form of the replica with these arrays, and
-// then what is made. A step of the calls and not a call: they lend arrays of these sizes.
+// What inserting a code point at an insertion point among the visible characters comes to. The clock of a replica that
+// is well formed reaches every identifier of the site's, so that the next one is nobody's (refusal 6). A step of the
+// calls and not a call: they lend arrays of these sizes.
 pub fn judge_insert<'a>(
     site: Site,
     characters: &'a [u32],
@@ -139,18 +99,20 @@ pub fn judge_insert<'a>(
     if !well_formed::check(site, characters, toggles, n, pending, w, heads, links) {
         return Made::Refused(Refusal::Form);
     }
-    make_insert(
-        site,
-        characters,
-        toggles,
-        n,
-        pending,
-        w,
-        heads,
-        links,
-        point,
-        code_point,
-    )
+    if visible::count(toggles, n) < point {
+        return Made::Refused(Refusal::Position);
+    }
+    if 65535 <= site.clock {
+        return Made::Refused(Refusal::Clock);
+    }
+    let ids = &characters[0..CHARACTERS];
+    let left = visible::left(ids, toggles, n, point);
+    let right = visible::right(ids, toggles, n, point);
+    let insert = next_insert(site, left, right, code_point);
+    let previous = &characters[PREVIOUS_KEYS..NEXT_KEYS];
+    let next = &characters[NEXT_KEYS..CODE_POINTS];
+    let placement = integration::find_place(heads, links, ids, previous, next, n, insert);
+    sent(n, &pending[0..PENDING], w, insert, placement)
 }
 
 // The toggle that a site makes of a character with so many.
@@ -165,40 +127,8 @@ fn next_toggle(site: Site, target: Identifier, toggles: u8) -> Toggle
     }
 }
 
-// Makes the toggle that deletes the visible character at the place, counted from 1. Its count is even, so that there is
-// a higher one. The replica was checked.
-fn make_delete<'a>(
-    site: Site,
-    characters: &'a [u32],
-    toggles: &'a [u8],
-    n: usize,
-    pending: &'a [u32],
-    w: usize,
-    heads: &'a [u16],
-    links: &'a [u16],
-    place: usize,
-) -> Made
-    requires { ⌜ Sized (now characters) (now toggles) (now pending) (now heads) (now links) ⌝ }
-    requires { ⌜ Examined
-        (replicaAs site (now characters) (now toggles) n (now pending) w (now heads) (now links)) ⌝ }
-    ensures { λ r. ⌜ DeleteMade (replicaAs site (now (characters .entry)) (now (toggles .entry)) n
-        (now (pending .entry)) w (now (heads .entry)) (now (links .entry))) place r ⌝ }
-{
-    if place == 0 {
-        return Made::Refused(Refusal::Position);
-    }
-    match visible::nth(toggles, n, place - 1) {
-        Found::At(k) => {
-            let ids = &characters[0..CHARACTERS];
-            let target = memory::identifier(ids[k]);
-            let toggle = next_toggle(site, target, toggles[k]);
-            Made::Send(Operation::Toggle(toggle), Decision::Toggle(k))
-        }
-        Found::Nothing => Made::Refused(Refusal::Position),
-    }
-}
-
-// What deleting a visible character comes to: the form is looked at, and then what is made. A step of the calls too.
+// What deleting the visible character at the place, counted from 1, comes to. Its count is even, so that there is a
+// higher one. A step of the calls too.
 pub fn judge_delete<'a>(
     site: Site,
     characters: &'a [u32],
@@ -217,57 +147,21 @@ pub fn judge_delete<'a>(
     if !well_formed::check(site, characters, toggles, n, pending, w, heads, links) {
         return Made::Refused(Refusal::Form);
     }
-    make_delete(
-        site,
-        characters,
-        toggles,
-        n,
-        pending,
-        w,
-        heads,
-        links,
-        place,
-    )
-}
-
-// Makes the toggle that restores the hidden character with the identifier. The replica and the identifier were checked.
-fn make_restore<'a>(
-    site: Site,
-    characters: &'a [u32],
-    toggles: &'a [u8],
-    n: usize,
-    pending: &'a [u32],
-    w: usize,
-    heads: &'a [u16],
-    links: &'a [u16],
-    id: Identifier,
-) -> Made
-    requires { ⌜ Sized (now characters) (now toggles) (now pending) (now heads) (now links) ⌝ }
-    requires { ⌜ Examined
-        (replicaAs site (now characters) (now toggles) n (now pending) w (now heads) (now links)) ⌝ }
-    requires { ⌜ characterId id ≡ true ⌝ }
-    ensures { λ r. ⌜ RestoreMade (replicaAs site (now (characters .entry)) (now (toggles .entry)) n
-        (now (pending .entry)) w (now (heads .entry)) (now (links .entry))) id r ⌝ }
-{
-    let ids = &characters[0..CHARACTERS];
-    match table::find_among(heads, links, ids, n, index::key(id)) {
+    if place == 0 {
+        return Made::Refused(Refusal::Position);
+    }
+    match visible::nth(toggles, n, place - 1) {
         Found::At(k) => {
-            let count = toggles[k];
-            if count % 2 == 0 {
-                return Made::Refused(Refusal::NotHidden);
-            }
-            if count == 255 {
-                return Made::Refused(Refusal::LastToggle);
-            }
-            let toggle = next_toggle(site, id, count);
+            let ids = &characters[0..CHARACTERS];
+            let target = memory::identifier(ids[k]);
+            let toggle = next_toggle(site, target, toggles[k]);
             Made::Send(Operation::Toggle(toggle), Decision::Toggle(k))
         }
-        Found::Nothing => Made::Refused(Refusal::NotHidden),
+        Found::Nothing => Made::Refused(Refusal::Position),
     }
 }
 
-// What restoring a hidden character comes to: the identifier is looked at, then the form, and then what is made. A step
-// of the calls too.
+// What restoring the hidden character with the identifier comes to. A step of the calls too.
 pub fn judge_restore<'a>(
     site: Site,
     characters: &'a [u32],
@@ -289,5 +183,19 @@ pub fn judge_restore<'a>(
     if !well_formed::check(site, characters, toggles, n, pending, w, heads, links) {
         return Made::Refused(Refusal::Form);
     }
-    make_restore(site, characters, toggles, n, pending, w, heads, links, id)
+    let ids = &characters[0..CHARACTERS];
+    match table::find_among(heads, links, ids, n, index::key(id)) {
+        Found::At(k) => {
+            let count = toggles[k];
+            if count % 2 == 0 {
+                return Made::Refused(Refusal::NotHidden);
+            }
+            if count == 255 {
+                return Made::Refused(Refusal::LastToggle);
+            }
+            let toggle = next_toggle(site, id, count);
+            Made::Send(Operation::Toggle(toggle), Decision::Toggle(k))
+        }
+        Found::Nothing => Made::Refused(Refusal::NotHidden),
+    }
 }

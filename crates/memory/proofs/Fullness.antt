@@ -35,6 +35,28 @@ full-replica g = full-arrays (g .1 .1 .1 .0)
 pub column-length : (m j : ℕ) (xs : List ℕ) → j * m + m ≤ length xs → length (column m j xs) ≡ m
 column-length m j xs h = length-take-le m (drop (j * m) xs) (omega (arith, length-drop (j * m) xs))
 
+-- where a column begins and ends in an array of four, for the steps that lend it
+pub begins : (m j : ℕ) → j * m ≤ j * m + m
+begins m j = omega arith
+
+pub record Ends (m : ℕ) (xs : List ℕ) : Type 0 where
+  pub first : 1 * m ≤ length xs
+  pub second : 2 * m ≤ length xs
+  pub third : 3 * m ≤ length xs
+  pub fourth : 4 * m ≤ length xs
+
+pub ends : (m : ℕ) {xs : List ℕ} → length xs ≡ 4 * m → Ends m xs
+ends m h = record { first = omega arith; second = omega arith; third = omega arith; fourth = omega arith }
+
+-- as many as the slots of a column can be in use of each
+pub in-columns : (m : ℕ) {xs : List ℕ} {n : ℕ} → Ends m xs → n ≤ m
+    → (n ≤ length (column m 0 xs)) × ((n ≤ length (column m 1 xs)) × ((n ≤ length (column m 2 xs)) × (n ≤ length (column m 3 xs))))
+in-columns m {xs} {n} e h =
+    (at 0 (omega (arith, e .first)), (at 1 (omega (arith, e .second)), (at 2 (omega (arith, e .third)), at 3 (omega (arith, e .fourth)))))
+  where
+    at : (j : ℕ) → j * m + m ≤ length xs → n ≤ length (column m j xs)
+    at j f = omega (arith, column-length m j xs f)
+
 pub sized-slots : {characters toggles pending heads links : List ℕ} (n w : ℕ) → Sized characters toggles pending heads links
     → Slots (columnsAs characters toggles n pending w heads links)
 sized-slots {characters} {toggles} {pending} n w s =

@@ -29,7 +29,7 @@ ghost use Prim.Native.Nat.{_≤_};
 ghost use lib.ListN.{length, take};
 ghost use Rattle.woot.specs.declared.Operation.the-variants.{Insert as ofInsert, Toggle as ofToggle};
 ghost use Rattle.woot.specs.Operations.{sender};
-ghost use Rattle.woot.specs.Ranges.{insertInRange, toggleInRange, inRange};
+ghost use Rattle.woot.specs.Ranges.{insertInRange, toggleInRange};
 ghost use Rattle.memory.specs.Columns.{meaning};
 ghost use Rattle.memory.specs.Lent.{replicaAs, Sized};
 ghost use Rattle.well_formed.specs.Examined.{Examined};
@@ -250,8 +250,9 @@ fn decide_toggle<'a>(
     }
 }
 
-// Decides on an operation by its kind. The replica and the operation's ranges were checked.
-fn decide<'a>(
+// What is to be done with a received operation: its ranges are looked at, then the form of the replica with these
+// arrays, and then what the operation is to it. A step of the calls and not a call: they lend arrays of these sizes.
+pub fn judge<'a>(
     site: Site,
     characters: &'a [u32],
     toggles: &'a [u8],
@@ -263,12 +264,15 @@ fn decide<'a>(
     operation: Operation,
 ) -> Decision
     requires { ⌜ Sized (now characters) (now toggles) (now pending) (now heads) (now links) ⌝ }
-    requires { ⌜ Examined
-        (replicaAs site (now characters) (now toggles) n (now pending) w (now heads) (now links)) ⌝ }
-    requires { ⌜ inRange operation ≡ true ⌝ }
     ensures { λ r. ⌜ Judged (replicaAs site (now (characters .entry)) (now (toggles .entry)) n
         (now (pending .entry)) w (now (heads .entry)) (now (links .entry))) operation r ⌝ }
 {
+    if !ranges::in_range(operation) {
+        return Decision::Answered(Answer::Refused(Refusal::Range));
+    }
+    if !well_formed::check(site, characters, toggles, n, pending, w, heads, links) {
+        return Decision::Answered(Answer::Refused(Refusal::Form));
+    }
     match operation {
         Operation::Insert(insert) => decide_insert(
             site,
@@ -293,40 +297,4 @@ fn decide<'a>(
             toggle,
         ),
     }
-}
-
-// What is to be done with a received operation: its ranges are looked at, then the form of the replica with these
-// arrays, and then what the operation is to it. A step of the calls and not a call: they lend arrays of these sizes.
-pub fn judge<'a>(
-    site: Site,
-    characters: &'a [u32],
-    toggles: &'a [u8],
-    n: usize,
-    pending: &'a [u32],
-    w: usize,
-    heads: &'a [u16],
-    links: &'a [u16],
-    operation: Operation,
-) -> Decision
-    requires { ⌜ Sized (now characters) (now toggles) (now pending) (now heads) (now links) ⌝ }
-    ensures { λ r. ⌜ Judged (replicaAs site (now (characters .entry)) (now (toggles .entry)) n
-        (now (pending .entry)) w (now (heads .entry)) (now (links .entry))) operation r ⌝ }
-{
-    if !ranges::in_range(operation) {
-        return Decision::Answered(Answer::Refused(Refusal::Range));
-    }
-    if !well_formed::check(site, characters, toggles, n, pending, w, heads, links) {
-        return Decision::Answered(Answer::Refused(Refusal::Form));
-    }
-    decide(
-        site,
-        characters,
-        toggles,
-        n,
-        pending,
-        w,
-        heads,
-        links,
-        operation,
-    )
 }

@@ -1,5 +1,5 @@
 -- A replica that passed the check: its arrays hold the columns of its meaning, and its table finds the keys.
-use Prim.Native.Nat.{ℕ, _+_, _<_}
+use Prim.Native.Nat.{ℕ, _+_, _≤_, _<_}
 use native.Mathlib.Omega.{arith}
 use mathlib.Core.Path.{_≡_, sym, ap, _∙_}
 use mathlib.Core.Bool.{true, not}
@@ -12,7 +12,7 @@ use Rattle.lists.proofs.Members.{get-member, every-member}
 use Rattle.woot.specs.declared.Site.{Site}
 use Rattle.woot.specs.declared.Character.{Character}
 use Rattle.woot.specs.declared.Operation.{Operation}
-use Rattle.memory.specs.Columns.{Replica}
+use Rattle.memory.specs.Columns.{Document, Replica}
 use Rattle.woot.specs.Limits.{capacity, share}
 use Rattle.woot.specs.Operations.{sender, inserts}
 use Rattle.woot.specs.Ranges.{inRange}
@@ -46,9 +46,31 @@ pub lent-examined : (site : Site) {characters toggles pending heads links : List
     → Examined (replicaAs site characters toggles n pending w heads links)
 lent-examined site n w s h = record { form = h; slots = sized-slots n w s }
 
+-- the columns have a slot for each character and each pending operation
+pub record Fits (d : Document) : Type 0 where
+  pub ids : d .length ≤ length (d .ids)
+  pub previous : d .length ≤ length (d .previous)
+  pub next : d .length ≤ length (d .next)
+  pub toggles : d .length ≤ length (d .toggles)
+  pub own : d .waiting ≤ length (d .own)
+  pub first : d .waiting ≤ length (d .first)
+  pub values : d .waiting ≤ length (d .values)
+
 module _ (r : Replica) (x : Examined r) where
   pub few : Counts (r .document)
   few = counts r (form-counted r (x .form))
+
+  pub fits : Fits (r .document)
+  fits =
+      record {
+        ids = omega (arith, few .characters, x .slots .ids);
+        previous = omega (arith, few .characters, x .slots .previous);
+        next = omega (arith, few .characters, x .slots .next);
+        toggles = omega (arith, few .characters, x .slots .toggles);
+        own = omega (arith, few .pending, x .slots .own);
+        first = omega (arith, few .pending, x .slots .first);
+        values = omega (arith, few .pending, x .slots .values);
+      }
 
   pub form : Formed (meaning r)
   form = formed (meaning r) (form-meant r (x .form))

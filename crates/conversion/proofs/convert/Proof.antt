@@ -18,7 +18,9 @@ returns : tie.Need-returns
 returns c = not-read _ _ _ _ _ (c .before .before .before .read .ensures) _ (c .before .answer .given .1)
 
 check-requires : tie.Need-check-requires
-check-requires c κs = read-full _ _ _ (c .before .before .before .before .before .before .before .before .before .before .before .before .before .before .before .read .ensures) (c .before .before .before .before .before .before .before .before .before .before .before .before .before .enum-told .given .1)
+check-requires c κs =
+    let told = c .before .before .before .before .before .before .before .before .before .before .before .before .before in
+    read-full _ _ _ (told .before .before .read .ensures) (told .enum-told .given .1)
 
 returns-2 : tie.Need-returns-2
 returns-2 c =

@@ -9,7 +9,8 @@ use Rattle.woot.specs.Table.{key}
 use Rattle.woot.specs.Memory.{keyColumn}
 use Rattle.index.specs.declared.Found.{Found}
 use Rattle.index.specs.Keys.{found}
-use Rattle.well_formed.proofs.Examining.{few, examined-tabled}
+use Rattle.memory.proofs.Fullness.{begins, Ends, ends}
+use Rattle.well_formed.proofs.Examining.{few, fits, examined-tabled}
 use Rattle.reception.proofs.Having.{StandsAt, stands-at, found-first, character-within}
 use Rattle.reception.proofs.Judging.{judged}
 use Rattle.reception.proofs.Toggling.{target-ranged, again-decided, toggle-decided, absent-decided}
@@ -32,11 +33,17 @@ sought c = rw (c .before .key .ensures .0) at (c .find-among .ensures)
 standing : (c : tie.After-find-among) {f : Found} → c .find-among .result ≡ f → StandsAt _ (start c .pre .1 .0) _ (ranged (start c)) f
 standing c e = stands-at _ (start c .pre .1 .0) _ (ranged (start c)) (sought c) e
 
+-- the columns that are lent
+rows : (s : tie.Start) → Ends 1024 (s .args .characters .now)
+rows s = ends 1024 (s .pre .0 .characters)
+
+waits : (s : tie.Start) → Ends 512 (s .args .pending .now)
+waits s = ends 512 (s .pre .0 .pending)
+
 find-among-requires : tie.Need-find-among-requires
 find-among-requires c κs =
     let x = c .before .before .before .before .before .before .before .before .pre .1 .0 in
-    let n = few _ x in
-    (omega (arith, x .slots .ids), examined-tabled _ x)
+    (fits _ x .ids, examined-tabled _ x)
 
 shared-slice-read-if1 : tie.Need-shared-slice-read-if1
 shared-slice-read-if1 c =
@@ -57,8 +64,7 @@ returns c =
 absent-requires : tie.Need-absent-requires
 absent-requires c κs =
     let x = c .before .before .before .before .before .before .before .before .before .before .before .before .before .before .pre .1 .0 in
-    let n = few _ x in
-    (omega (arith, x .slots .own), (omega (arith, x .slots .first), omega (arith, x .slots .values)))
+    (fits _ x .own, (fits _ x .first, fits _ x .values))
 
 returns-2 : tie.Need-returns-2
 returns-2 c =
@@ -78,7 +84,12 @@ returns-3 c =
 pub decide-toggle-spec : {M : Type 1} → statement M
 decide-toggle-spec =
     tie.close
-    (tie.spec (λ c. search needs) (λ c. search needs) (λ c. search needs) (λ c κs. search needs) find-among-requires
-    (λ c. search needs) shared-slice-read-if1 returns (λ c. search needs) (λ c. search needs) (λ c. search needs)
-    (λ c. search needs) (λ c. search needs) (λ c. search needs) (λ c. search needs) (λ c. search needs)
-    (λ c. search needs) (λ c. search needs) absent-requires returns-2 returns-3)
+    (tie.spec (λ c. begins 1024 0) (λ c. begins 1024 0)
+    (λ c. rows (c .before .before .before .before .before .before) .first) (λ c κs. search needs) find-among-requires
+    (λ c. search needs) shared-slice-read-if1 returns (λ c. search needs) (λ c. begins 512 0) (λ c. begins 512 0)
+    (λ c. waits (c .before .before .before .before .before .before .before .before .before .before .before) .first)
+    (λ c. begins 512 1) (λ c. begins 512 1)
+    (λ c. waits (c .before .before .before .before .before .before .before .before .before .before .before .before) .second)
+    (λ c. begins 512 3) (λ c. begins 512 3)
+    (λ c. waits (c .before .before .before .before .before .before .before .before .before .before .before .before .before) .fourth)
+    absent-requires returns-2 returns-3)

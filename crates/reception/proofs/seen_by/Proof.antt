@@ -5,7 +5,8 @@ use mathlib.Core.Bool.{true}
 use borrow.Author.Needs.{needs}
 use Rattle.woot.specs.Ranges.{characterId}
 use Rattle.convergence.proofs.Ranges.{in-range}
-use Rattle.well_formed.proofs.Examining.{few, examined-tabled}
+use Rattle.memory.proofs.Fullness.{begins, Ends, ends}
+use Rattle.well_formed.proofs.Examining.{few, fits, examined-tabled}
 use Rattle.reception.specs.declared.holder.Holder.{Holder}
 use Rattle.reception.proofs.Having.{Has, has, character-within, pending-within}
 use Rattle.reception.proofs.Seeing.{seen-character, seen-pending, seen-nobody}
@@ -23,11 +24,17 @@ start c = c .before .before .before .before .before .before .before .before .bef
 held : (c : tie.After-holder-of) (h : Holder) → c .holder-of .result ≡ h → Has _ (start c .pre .1 .0) _ (id-ranged (start c)) h
 held c h e = has _ (start c .pre .1 .0) _ (id-ranged (start c)) (rw (c .before .key .ensures .0) at (c .holder-of .ensures)) e
 
+-- the columns that are lent
+rows : (s : tie.Start) → Ends 1024 (s .args .characters .now)
+rows s = ends 1024 (s .pre .0 .characters)
+
+waits : (s : tie.Start) → Ends 512 (s .args .pending .now)
+waits s = ends 512 (s .pre .0 .pending)
+
 holder-of-requires : tie.Need-holder-of-requires
 holder-of-requires c κs =
     let x = c .before .before .before .before .before .before .before .before .before .pre .1 .0 in
-    let n = few _ x in
-    (omega (arith, x .slots .ids), (omega (arith, x .slots .own), examined-tabled _ x))
+    (fits _ x .ids, (fits _ x .own, examined-tabled _ x))
 
 compared-requires : tie.Need-compared-requires
 compared-requires c κs =
@@ -63,6 +70,8 @@ returns-3 c =
 pub seen-by-spec : {M : Type 1} → statement M
 seen-by-spec =
     tie.close
-    (tie.spec (λ c. search needs) (λ c. search needs) (λ c. search needs) (λ c. search needs) (λ c. search needs)
-    (λ c. search needs) (λ c κs. search needs) holder-of-requires (λ c. search needs) compared-requires
-    (λ c. search needs) compared-requires-2 (λ c. search needs) returns returns-2 returns-3)
+    (tie.spec (λ c. begins 1024 0) (λ c. begins 1024 0)
+    (λ c. rows (c .before .before .before .before .before .before) .first) (λ c. begins 512 0) (λ c. begins 512 0)
+    (λ c. waits (c .before .before .before .before .before .before .before) .first) (λ c κs. search needs)
+    holder-of-requires (λ c. search needs) compared-requires (λ c. search needs) compared-requires-2
+    (λ c. search needs) returns returns-2 returns-3)

@@ -11,7 +11,7 @@ use Rattle.woot.specs.Form.{ordered}
 use Rattle.woot.specs.Table.{agrees}
 use Rattle.woot.specs.Memory.{codePointColumn}
 use Rattle.memory.specs.Lent.{Slots, replicaAs}
-use Rattle.memory.proofs.Fullness.{sized-slots}
+use Rattle.memory.proofs.Fullness.{begins, Ends, ends, sized-slots}
 use Rattle.well_formed.proofs.Checks.{charactersAs, ranged, out-of-range, few, characters-ranged, untabled, tabled, disordered, decided}
 use Rattle.well_formed.proofs.check.Statement.{statement}
 use Rattle.well_formed.proofs.check.Tie as tie
@@ -48,6 +48,10 @@ order c =
     let s = start e in
     let ranges = characters-ranged (made s) (full s) (kept e) in
     c .characters-ordered .ensures (codePointColumn (s .args .characters .now)) (s .args .toggles .now) ranges
+
+-- the columns that are lent
+rows : (c : tie.Else1) → Ends 1024 (start c .args .characters .now)
+rows c = ends 1024 (start c .pre .characters)
 
 returns : tie.Need-returns
 returns c = sym (out-of-range (made (c .before .before .before .before .before .before .before)) (refused (c .before .in-ranges .ensures) (c .if1 .taken)))
@@ -99,6 +103,8 @@ returns-4 c =
 pub check-spec : {M : Type 1} → statement M
 check-spec =
     tie.close
-    (tie.spec (λ c κs. search needs) returns (λ c. search needs) (λ c. search needs) (λ c. search needs)
-    agrees-among-requires returns-2 (λ c. search needs) (λ c. search needs) (λ c. search needs) (λ c. search needs)
-    (λ c. search needs) (λ c. search needs) characters-ordered-requires returns-3 queue-formed-requires returns-4)
+    (tie.spec (λ c κs. search needs) returns (λ c. begins 1024 0) (λ c. begins 1024 0) (λ c. rows c .first)
+    agrees-among-requires returns-2 (λ c. begins 1024 1) (λ c. begins 1024 1)
+    (λ c. rows (c .before .before .before) .second) (λ c. begins 1024 2) (λ c. begins 1024 2)
+    (λ c. rows (c .before .before .before .before) .third) characters-ordered-requires returns-3 queue-formed-requires
+    returns-4)

@@ -1,13 +1,11 @@
 -- `in_ranges` makes its tests one after the other, on the columns that it lends.
 use borrow.Author.Needs.{needs}
 use Prim.Native.Nat.{ℕ}
-use native.Mathlib.Omega.{arith}
 use mathlib.Core.Path.{_≡_, refl, sym}
 use mathlib.Core.Bool.{Bool, true, _&&_}
 use mathlib.Core.List.{List}
 use borrow.Author.Tests.{lt-leb, le-leb}
 use lib.Dec.{leb}
-use lib.ListN.{length-take, length-drop}
 use Rattle.lists.specs.Lists.{every}
 use Rattle.lists.proofs.Tests.{refused, passed}
 use Rattle.woot.specs.declared.Site.{Site}
@@ -15,6 +13,7 @@ use Rattle.woot.specs.declared.Character.{Character}
 use Rattle.woot.specs.declared.Operation.{Operation}
 use Rattle.woot.specs.Ranges.{siteInRange, characterInRange, inRange}
 use Rattle.woot.specs.Memory.{characterSlots, pendingSlots}
+use Rattle.memory.proofs.Fullness.{begins, Ends, ends, in-columns}
 use Rattle.well_formed.specs.Form.{rangesKept}
 use Rattle.well_formed.proofs.in_ranges.Statement.{statement}
 use Rattle.well_formed.proofs.in_ranges.Tie as tie
@@ -47,8 +46,18 @@ returns-3 c =
     sym (reading _ _ _ _ _ (few (c .before .before .before)) (fewer (c .before .before))
     (refused (c .before .site-in-range .ensures) (c .if3 .taken)) refl refl)
 
+-- the columns that are lent
+rows : (c : tie.Else3) → Ends 1024 (c .before .before .before .before .before .before .before .args .characters .now)
+rows c = ends 1024 (c .before .before .before .before .before .before .before .pre .0)
+
+waits : (c : tie.Else4) →
+    Ends 512 (c .before .before .before .before .before .before .before .before .before .before .before .before .before .args .pending .now)
+waits c = ends 512 (c .before .before .before .before .before .before .before .before .before .before .before .before .before .pre .1)
+
 characters-in-range-requires : tie.Need-characters-in-range-requires
-characters-in-range-requires c κs = simp (length-take, length-drop) (omega arith, (omega arith, (omega arith, omega arith)))
+characters-in-range-requires c κs =
+    let e = c .before .before .before .before in
+    in-columns 1024 (rows e) (e .before .before .before .if1 .left)
 
 returns-4 : tie.Need-returns-4
 returns-4 c =
@@ -57,7 +66,9 @@ returns-4 c =
     sym (reading _ _ _ _ _ (few (site .before .before .before)) (fewer (site .before .before)) (here site) unranged refl)
 
 operations-in-range-requires : tie.Need-operations-in-range-requires
-operations-in-range-requires c κs = simp (length-take, length-drop) (omega arith, (omega arith, (omega arith, omega arith)))
+operations-in-range-requires c κs =
+    let e = c .before .before .before .before in
+    in-columns 512 (waits e) (e .before .before .before .before .before .before .before .before .if2 .left)
 
 returns-5 : tie.Need-returns-5
 returns-5 c =
@@ -70,10 +81,11 @@ returns-5 c =
 pub in-ranges-spec : {M : Type 1} → statement M
 in-ranges-spec =
     tie.close
-    (tie.spec returns returns-2 (λ c κs. search needs) returns-3 (λ c. search needs) (λ c. search needs)
-    (λ c. search needs) (λ c. search needs) (λ c. search needs) (λ c. search needs) (λ c. search needs)
-    (λ c. search needs) (λ c. search needs) (λ c. search needs) (λ c. search needs) (λ c. search needs)
-    characters-in-range-requires returns-4 (λ c. search needs) (λ c. search needs) (λ c. search needs)
-    (λ c. search needs) (λ c. search needs) (λ c. search needs) (λ c. search needs) (λ c. search needs)
-    (λ c. search needs) (λ c. search needs) (λ c. search needs) (λ c. search needs) operations-in-range-requires
-    returns-5)
+    (tie.spec returns returns-2 (λ c κs. search needs) returns-3 (λ c. begins 1024 0) (λ c. begins 1024 0)
+    (λ c. rows c .first) (λ c. begins 1024 1) (λ c. begins 1024 1) (λ c. rows (c .before) .second)
+    (λ c. begins 1024 2) (λ c. begins 1024 2) (λ c. rows (c .before .before) .third) (λ c. begins 1024 3)
+    (λ c. begins 1024 3) (λ c. rows (c .before .before .before) .fourth) characters-in-range-requires returns-4
+    (λ c. begins 512 0) (λ c. begins 512 0) (λ c. waits c .first) (λ c. begins 512 1) (λ c. begins 512 1)
+    (λ c. waits (c .before) .second) (λ c. begins 512 2) (λ c. begins 512 2) (λ c. waits (c .before .before) .third)
+    (λ c. begins 512 3) (λ c. begins 512 3) (λ c. waits (c .before .before .before) .fourth)
+    operations-in-range-requires returns-5)

@@ -72,16 +72,18 @@ returns c =
 
 returns-2 : tie.Need-returns-2
 returns-2 c =
-    let d = c .before .before .before .before .before .before .before .before .before .before .before .before .before .before .before .before .before .before in
-    let done = c .before .before .before .before .before .before .before .before .before .before .before .before .defer in
+    let after = c .before .before .before .before .before .before .before .before .before .before .before .before in
+    let d = after .before .before .before .before .before .before in
+    let done = after .defer in
     rw (d .enum-told2 .given .1)
     (ap (leftAs (done .last .0) _ (done .last .1 .1 .0) _ _) (c .left2 .ensures)
     ∙ deferred-left (made (deferring d)) _ _ _ (c .before .heard-operation .ensures) (done .ensures))
 
 returns-3 : tie.Need-returns-3
 returns-3 c =
-    let d = c .before .before .before .before .before .before .before .before .before .before .before .before .before .before .before .before .before .before .before in
-    let done = c .before .before .before .before .before .before .before .before .before .before .before .before .integrate in
+    let after = c .before .before .before .before .before .before .before .before .before .before .before .before in
+    let d = after .before .before .before .before .before .before .before in
+    let done = after .integrate in
     rw (d .operation .given .1, d .before .before .before .decision .given .1)
     (ap (leftAs (done .last .0) _ (done .last .1 .1 .0) _ _) (c .left3 .ensures)
     ∙ integrated-left (made (placing d)) _ _ _ _ _ _ (places d) (c .before .heard .ensures) (done .ensures))
@@ -98,8 +100,9 @@ returns-5 c =
 
 returns-6 : tie.Need-returns-6
 returns-6 c =
-    let d = c .before .before .before .before .before .before .before .before .before .before .before .before .before .before .before .before .before .before in
-    let done = c .before .before .before .before .before .before .before .before .before .before .before .toggle in
+    let after = c .before .before .before .before .before .before .before .before .before .before .before in
+    let d = after .before .before .before .before .before .before .before in
+    let done = after .toggle in
     rw (d .operation2 .given .1, d .before .before .before .decision2 .given .1)
     (ap (leftAs (done .last .0) _ (done .last .1 .1 .0) _ _) (c .left6 .ensures)
     ∙ toggled-left (made (toggling d)) _ _ _ (done .ensures))
