@@ -39,7 +39,8 @@ use Rattle.wimtaze.specs.Calls.{CCall, «wimtaze_empty», «wimtaze_rece
 
 -- ---- refusals: any call, any bytes, numbers and slices
 
--- what a call may be turned away for, by number and in checking order, with 0 where known is answered
+-- the conditions that a call has, by number and in checking order, with 0 where known is answered. Three of them never
+-- hold: 6 of typing (`CallsNeverTaken`), 15 of upgrading, and 12 of counting, which has no output (`BuffersSuffice`)
 abbrev pub meets : CCall → List ℕ
 meets («wimtaze_empty» n) = 2 ∷ 12 ∷ []
 meets («wimtaze_receive» line) = 1 ∷ 2 ∷ 3 ∷ 0 ∷ 7 ∷ 8 ∷ 9 ∷ 10 ∷ 11 ∷ 12 ∷ []
