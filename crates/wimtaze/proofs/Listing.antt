@@ -330,11 +330,11 @@ module _ (c : CCall) (bytes out line : List ℕ) where
   reported-last [] x w h = here h refl
   reported-last (d ∷ cs) x w h = later (w .0) (reported-last cs x (w .1) h)
 
-  earlier-reported : (a : Answer) → Reported a (earlierChecks c bytes) → Reported a (callChecks c bytes out line)
+  pub earlier-reported : (a : Answer) → Reported a (earlierChecks c bytes) → Reported a (callChecks c bytes out line)
   unfolding callChecks
   earlier-reported a r = reported-before (earlierChecks c bytes) (lacks ⇒ Refused Output) a r
 
-  output-reported : NoneHolds (earlierChecks c bytes) → lacks ≡ true → Reported (Refused Output) (callChecks c bytes out line)
+  pub output-reported : NoneHolds (earlierChecks c bytes) → lacks ≡ true → Reported (Refused Output) (callChecks c bytes out line)
   unfolding callChecks
   output-reported w h = reported-last (earlierChecks c bytes) (lacks ⇒ Refused Output) w h
 

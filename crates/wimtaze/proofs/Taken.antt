@@ -10,7 +10,7 @@ use borrow.Author.Tests.{not-false, eq-eqb}
 use Rattle.lists.specs.Lists.{any}
 use Rattle.lists.proofs.Tests.{and-right, or-right}
 use Rattle.woot.specs.declared.Refusal.{Refusal}
-use Rattle.woot.specs.declared.Refusal.the-variants.{Taken}
+use Rattle.woot.specs.declared.Refusal.the-variants.{Taken, Output}
 use Rattle.woot.specs.declared.Answer.{Answer}
 use Rattle.woot.specs.declared.Answer.the-variants.{Refused}
 use Rattle.woot.specs.declared.Sent.{Sent}
@@ -24,11 +24,13 @@ use Rattle.woot.specs.Situations.{numbersOf}
 use Rattle.convergence.proofs.Forms.{formed}
 use Rattle.convergence.proofs.Hearing.{insert-untaken}
 use Rattle.convergence.proofs.Refusals.{skipped, other, answer-refused}
+use Rattle.effects.specs.Results.{result, silent}
+use Rattle.effects.specs.Effects.{Effect, quiet}
 use Rattle.saved.specs.Format.{savedInRange}
 use Rattle.saved.specs.Calls.{loadedState}
-use Rattle.wimtaze.specs.Calls.{CCall, «wimtaze_empty», «wimtaze_receive», «wimtaze_receive_at», «wimtaze_type», «wimtaze_erase», «wimtaze_restore», «wimtaze_text», «wimtaze_counts», «wimtaze_upgrade», «wimtaze_downgrade», inputChecks, answering, handedChecks, ruleChecks, callChecks}
-use Rattle.wimtaze.specs.Theorems.{meets, CallsNeverTaken}
-use Rattle.wimtaze.proofs.Listing.{calls-meet, calls-refuse}
+use Rattle.wimtaze.specs.Calls.{CCall, «wimtaze_empty», «wimtaze_receive», «wimtaze_receive_at», «wimtaze_type», «wimtaze_erase», «wimtaze_restore», «wimtaze_text», «wimtaze_counts», «wimtaze_upgrade», «wimtaze_downgrade», inputChecks, answering, handedChecks, ruleChecks, callChecks, effectOf}
+use Rattle.wimtaze.specs.Theorems.{meets, RefusalsMet, CallsNeverTaken}
+use Rattle.wimtaze.proofs.Listing.{Went, away, lacking, through, went, earlier-reported, output-reported, product-made, calls-meet, calls-refuse}
 
 -- what is reported is among the numbers of the list
 met : {a : Answer} {cs : List (Check Answer)} → Reported a cs → any (eqb (reply a .refusal)) (numbersOf cs) ≡ true
@@ -41,6 +43,20 @@ met {a} (later {c = c} {cs = cs} h r) = or-right (eqb (reply a .refusal) (reply 
 unmet : (c : CCall) (bytes out line : List ℕ) → any (eqb 6) (meets c) ≡ false → Reported (Refused Taken) (callChecks c bytes out line) → ⊥
 unfolding reply
 unmet c bytes out line h r = false≢true (sym h ∙ ap (any (eqb 6)) (sym (calls-meet c bytes out line)) ∙ met r)
+
+-- the refusal of an effect is 0, or among the numbers of the list
+went-met : (c : CCall) (bytes out line : List ℕ) {e : Effect} → Went c bytes out line e →
+    any (eqb (e .result .reply .refusal)) (0 ∷ numbersOf (callChecks c bytes out line)) ≡ true
+unfolding quiet silent result
+went-met c bytes out line (away a t r) = or-right (eqb (reply a .refusal) 0) _ (met (earlier-reported c bytes out line a r))
+went-met c bytes out line (lacking w f) =
+    or-right (eqb (reply (Refused Output) .refusal) 0) _ (met (output-reported c bytes out line w f))
+went-met c bytes out line (through w f) = rw (product-made c bytes w .unrefused)
+
+pub refusals-met : RefusalsMet
+refusals-met c bytes out line =
+    ap (λ (ns : List ℕ). any (eqb (effectOf c bytes out line .result .reply .refusal)) (0 ∷ ns)) (sym (calls-meet c bytes out line))
+    ∙ went-met c bytes out line (went c bytes out line)
 
 -- a refusal that is reported of the answers is reported of what is sent
 unanswered : (q : Refusal) (cs : List (Check Sent)) (last : Check Answer) → (last .answer ≡ Refused q → ⊥) →

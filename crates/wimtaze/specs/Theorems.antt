@@ -5,6 +5,7 @@ use mathlib.Core.Path.{_≡_}
 use mathlib.Core.Bool.{Bool, true, false}
 use mathlib.Core.Logic.{_↔_}
 use mathlib.Core.List.{List, [], _∷_, _++_, map}
+use lib.Dec.{eqb}
 use lib.ListN.{length, take}
 use lib.IntN.{ℤ, pos, negsuc}
 use lib.Signed.{_≤ℤ_}
@@ -22,6 +23,7 @@ use Rattle.woot.specs.Text.{text}
 use Rattle.woot.specs.Memory.{pendingSlots}
 use Rattle.woot.specs.Situations.{numbersOf, ranksOf, rises}
 use Rattle.woot.specs.Writing.{writtenNumber, writtenLength}
+use Rattle.lists.specs.Lists.{any}
 use Rattle.lines.specs.Lines.{rest}
 use Rattle.cursor.specs.Bits.{shiftRead}
 use Rattle.codec.specs.Calls.{saidBy}
@@ -67,6 +69,12 @@ abbrev pub CallsRefuse : Type 0
 CallsRefuse =
     (c : CCall) (bytes out line : List ℕ) (q : Refusal) →
     (effectOf c bytes out line .result .reply .refusal ≡ number q) ↔ Reported (Refused q) (callChecks c bytes out line)
+
+-- so no other number is answered: 0, or one that the call has
+abbrev pub RefusalsMet : Type 0
+RefusalsMet =
+    (c : CCall) (bytes out line : List ℕ) →
+    any (eqb (effectOf c bytes out line .result .reply .refusal)) (0 ∷ meets c) ≡ true
 
 -- and known exactly when the operation is known and no condition before that holds
 abbrev pub CallsKnow : Type 0
