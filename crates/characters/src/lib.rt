@@ -12,7 +12,8 @@ ghost use lib.ListN.{length, take, set, getD};
 ghost use Rattle.lists.specs.Padding.{pad};
 ghost use Rattle.slots.specs.Slots.{putAt};
 ghost use Rattle.woot.specs.Table.{key, tableOf, chains, tableLinks};
-ghost use Rattle.woot.specs.Memory.{column, characterNumbers, characterSlots, codePointColumn, keyColumn, nextColumn, previousColumn};
+ghost use Rattle.woot.specs.Memory.{column, characterNumbers, characterSlots, codePointColumn, keyColumn, nextColumn};
+ghost use Rattle.woot.specs.Memory.{previousColumn};
 
 // Puts four numbers in after the first k of the first n, one into each column.
 fn put_numbers(

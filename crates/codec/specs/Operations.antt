@@ -26,7 +26,8 @@ deleteHead = 68 ∷ []
 -- "laptop clock codepoint prevlaptop prevclock nextlaptop nextclock"
 unfoldable pub insertNumbers : Insert → List ℕ
 insertNumbers i =
-    i .id .site ∷ i .id .clock ∷ i .«code_point» ∷ i .previous .site ∷ i .previous .clock ∷ i .next .site ∷ i .next .clock ∷ []
+    i .id .site ∷ i .id .clock ∷ i .«code_point» ∷ i .previous .site ∷ i .previous .clock
+    ∷ i .next .site ∷ i .next .clock ∷ []
 
 -- the limits of those numbers
 abbrev pub insertLimits : List ℕ
@@ -55,7 +56,12 @@ identifierAt k ns = record { site = getD ns k 0; clock = getD ns (k + 1) 0 }
 -- what the numbers of an insert's line say
 unfoldable pub insertOf : List ℕ → Insert
 insertOf ns =
-    record { id = identifierAt 0 ns; «code_point» = getD ns 2 0; previous = identifierAt 3 ns; next = identifierAt 5 ns }
+    record {
+      id = identifierAt 0 ns;
+      «code_point» = getD ns 2 0;
+      previous = identifierAt 3 ns;
+      next = identifierAt 5 ns;
+    }
 
 -- what the numbers of a toggle's line say
 unfoldable pub toggleOf : List ℕ → Toggle

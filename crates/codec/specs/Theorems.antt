@@ -20,7 +20,8 @@ use Rattle.woot.specs.declared.Written.the-variants.{Refused as writtenRefused}
 use Rattle.lines.specs.Lines.{lineFeed, firstLine, rest}
 use Rattle.lines.specs.Fields.{fields, lineOf}
 use Rattle.codec.specs.Operations.{deleteHead, isDelete, operationLine}
-use Rattle.codec.specs.Calls.{laidOut, saidBy, readChecks, readAs, readOperation, readNumber, readValue, writeChecks, written, writtenOut}
+use Rattle.codec.specs.Calls.{laidOut, saidBy, readChecks, readAs, readOperation, readNumber, readValue}
+use Rattle.codec.specs.Calls.{writeChecks, written, writtenOut}
 
 -- ---- round trips
 
@@ -41,8 +42,8 @@ WrittenReadsBack =
     (o : Operation) → inRange o ≡ true → (bytes : List ℕ) →
     (readOperation (operationLine o ++ bytes) ≡ readsAs o) × (rest (operationLine o ++ bytes) ≡ bytes)
 
--- and what is read was written so: the first line with its line feed is the operation's. A `D` line "is written no more,
--- so the same-bytes claim leaves it out"
+-- and what is read was written so: the first line with its line feed is the operation's. A `D` line "is written no
+-- more, so the same-bytes claim leaves it out"
 abbrev pub ReadWritesBack : Type 0
 ReadWritesBack =
     (s : List ℕ) (o : Operation) → readOperation s ≡ readsAs o → isDelete (fields (firstLine s)) ≡ false →

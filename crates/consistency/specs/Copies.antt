@@ -14,7 +14,8 @@ use Rattle.woot.specs.State.{State, initial}
 use Rattle.woot.specs.Memory.{meaning, stored}
 use Rattle.woot.specs.Answers.{Word, done, waits, known, refused, reply, answerOf}
 use Rattle.woot.specs.Text.{text}
-use Rattle.woot.specs.Histories.{inserting, deleting, restoring, receiving, receivingAt, integratedBy, Begun, empty, Call as RuleCall}
+use Rattle.woot.specs.Histories.{inserting, deleting, restoring, receiving, receivingAt, integratedBy, Begun, empty}
+use Rattle.woot.specs.Histories.{Call as RuleCall}
 use Rattle.replica.specs.Theorems.{called, answerTo}
 use Rattle.lent.specs.declared.Returned.{Returned}
 use Rattle.lent.specs.Lent.{together, returned, siteAfter}
@@ -26,7 +27,9 @@ use Rattle.saved.specs.Format.{savedState}
 use Rattle.saved.specs.Calls.{loadedState, loaded, saved, savedOut}
 use Rattle.effects.specs.Results.{numberOf}
 use Rattle.effects.specs.Effects.{Effect}
-use Rattle.wimtaze.specs.Calls.{CCall, «wimtaze_empty», «wimtaze_receive», «wimtaze_receive_at», «wimtaze_type», «wimtaze_erase», «wimtaze_restore», «wimtaze_text», «wimtaze_counts», «wimtaze_upgrade», «wimtaze_downgrade», named, effectOf}
+use Rattle.wimtaze.specs.Calls.{CCall, «wimtaze_empty», «wimtaze_receive», «wimtaze_receive_at», «wimtaze_type»}
+use Rattle.wimtaze.specs.Calls.{«wimtaze_erase», «wimtaze_restore», «wimtaze_text», «wimtaze_counts», «wimtaze_upgrade»}
+use Rattle.wimtaze.specs.Calls.{«wimtaze_downgrade», named, effectOf}
 
 -- a replica in memory, or the bytes of a saved one
 pub data Copy : Type 0 where
@@ -202,7 +205,8 @@ unfoldable pub begun : Empty → Copy
 begun (emptyReplica n) = inMemory (stored (initial n))
 begun (emptyBytes n out) = asBytes (keptBytes [] (effectOf («wimtaze_empty» n) [] out []))
 
--- what the rules begin with: the empty state of that number, or of number 0, which no site has, where there are no bytes
+-- what the rules begin with: the empty state of that number, or of number 0, which no site has, where there are no
+-- bytes
 abbrev pub begunAs : Word → ℕ → Begun
 begunAs done n = empty n
 begunAs waits n = empty 0

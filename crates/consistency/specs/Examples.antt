@@ -1,5 +1,5 @@
--- One list of calls for C, computed to the bytes that it leaves: a step that does nothing, or does something else, is told
--- by it. Proved in proofs/ under its name in small letters.
+-- One list of calls for C, computed to the bytes that it leaves: a step that does nothing, or does something else, is
+-- told by it. Proved in proofs/ under its name in small letters.
 use Prim.Native.Nat.{ℕ, _/_, _%_}
 use mathlib.Core.Path.{_≡_}
 use mathlib.Core.List.{List, [], _∷_, _++_, map}
@@ -9,8 +9,10 @@ use Rattle.woot.specs.Histories.{inserting, deleting, restoring, receiving, rec
 use Rattle.codec.specs.Calls.{saidBy}
 use Rattle.effects.specs.Results.{numberOf}
 use Rattle.effects.specs.Effects.{Effect}
-use Rattle.wimtaze.specs.Calls.{CCall, «wimtaze_receive», «wimtaze_receive_at», «wimtaze_type», «wimtaze_erase», «wimtaze_restore», named, effectOf}
-use Rattle.consistency.specs.Copies.{asBytes, Call, bytesCall, forC, emptyBytes, begun, ran, rulesBy, keptBytes, wordOf}
+use Rattle.wimtaze.specs.Calls.{CCall, «wimtaze_receive», «wimtaze_receive_at», «wimtaze_type», «wimtaze_erase»}
+use Rattle.wimtaze.specs.Calls.{«wimtaze_restore», named, effectOf}
+use Rattle.consistency.specs.Copies.{asBytes, Call, bytesCall, forC, emptyBytes, begun, ran, rulesBy, keptBytes}
+use Rattle.consistency.specs.Copies.{wordOf}
 
 -- outputs that are long enough, with nothing in them
 abbrev pub room : List ℕ
@@ -76,7 +78,8 @@ pub record CallsExample : Type 0 where
   pub bytes-left : ran (begun (emptyBytes 1 room)) (map withRoom exampleCalls) ≡ asBytes exampleBytes
   pub replies :
       repliesOf (83 ∷ 50 ∷ 9 ∷ 49 ∷ 9 ∷ 48 ∷ 10 ∷ []) exampleCalls
-      ≡ (done, 0) ∷ (done, 0) ∷ (done, 0) ∷ (done, 0) ∷ (done, 0) ∷ (done, 0) ∷ (refused, 4) ∷ (refused, 2) ∷ (refused, 2)
+      ≡ (done, 0) ∷ (done, 0) ∷ (done, 0) ∷ (done, 0) ∷ (done, 0) ∷ (done, 0) ∷ (refused, 4) ∷ (refused, 2)
+      ∷ (refused, 2)
       ∷ (refused, 13)
       ∷ (refused, 1)
       ∷ (known, 0)

@@ -8,7 +8,8 @@ use Rattle.woot.specs.Histories.{startOf, run, historyOf, SameInserted, SameTog
 use Rattle.saved.specs.declared.Version.the-variants.{First, Second}
 use Rattle.saved.specs.Theorems.{savedMost}
 use Rattle.wimtaze.specs.Theorems.{bytesWritten, convertedFrom}
-use Rattle.consistency.specs.Copies.{asBytes, Call, Empty, begun, beginningOf, ran, rulesBy, carriedBy, stateOf, charactersOf, textOf}
+use Rattle.consistency.specs.Copies.{asBytes, Call, Empty, begun, beginningOf, ran, rulesBy, carriedBy, stateOf}
+use Rattle.consistency.specs.Copies.{charactersOf, textOf}
 
 -- a copy begun empty says at every moment what the calls of the rules leave that were made by the calls on it, and what
 -- they carried out was carried out on it

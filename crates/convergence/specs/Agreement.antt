@@ -33,7 +33,9 @@ pub record Concurrent (cs : List Character) (c d : Character) : Type 0 where
 
 -- of two concurrent characters the one with the lower identifier stands above (001, Definition 8 and Theorem 3)
 abbrev pub Sorted : List Character → Type 0
-Sorted cs = (c d : Character) → List·Memᴰ c cs → List·Memᴰ d cs → Concurrent cs c d → above cs (c .id) (d .id) ≡ below (c .id) (d .id)
+Sorted cs =
+    (c d : Character) → List·Memᴰ c cs → List·Memᴰ d cs → Concurrent cs c d →
+    above cs (c .id) (d .id) ≡ below (c .id) (d .id)
 
 -- what integration keeps from the empty list on
 pub record Grown (cs : List Character) : Type 0 where

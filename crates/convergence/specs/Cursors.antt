@@ -23,7 +23,8 @@ use Rattle.woot.specs.Placing.{above}
 use Rattle.woot.specs.Pending.{executable}
 use Rattle.woot.specs.Answers.{number, done, waits, reply, changes, sentOperation, NoneHolds, Reported}
 use Rattle.woot.specs.Calls.{unchanged, receiveWhen, visibles, beyondVisible, localInsert, localDelete, localRestore}
-use Rattle.woot.specs.Cursor.{leftOf, visibleThrough, receiveAtChecks, receiveAtWhen, receiveAt, newGap, shiftOf, shiftAt, lastNumber, movedBy}
+use Rattle.woot.specs.Cursor.{leftOf, visibleThrough, receiveAtChecks, receiveAtWhen, receiveAt, newGap, shiftOf}
+use Rattle.woot.specs.Cursor.{shiftAt, lastNumber, movedBy}
 use Rattle.woot.specs.Histories.{Call, inserting, deleting, restoring, receiving, receivingAt, outcome}
 use Rattle.woot.specs.Situations.{Done, LowestShift, HighestShift}
 use Rattle.lists.specs.Lists.{any}

@@ -24,8 +24,8 @@ use Rattle.woot.specs.declared.Operation.the-variants.{Insert as insert}
 abbrev pub pendingIds : List Operation → List Identifier
 pendingIds ps = map (λ i. i .id) (inserts ps)
 
--- the form of the lists, but for `noneExecutable`, which does not hold while pending operations are drained, and for the
--- clock, which is not theirs
+-- the form of the lists, but for `noneExecutable`, which does not hold while pending operations are drained, and for
+-- the clock, which is not theirs
 pub record Sound (cs : List Character) (ps : List Operation) : Type 0 where
   pub ranges : every characterInRange cs ≡ true
   pub ordered-all : every (ordered cs) cs ≡ true

@@ -25,14 +25,19 @@ use Rattle.woot.specs.Ranges.{siteNumber, inRange}
 use Rattle.woot.specs.State.{State, initial}
 use Rattle.woot.specs.Memory.{pendingSlots}
 use Rattle.woot.specs.Placing.{identifiers, above, Interval, adjacent, candidates, narrowed, position}
-use Rattle.woot.specs.Pending.{executable, crossed, unplaceable, integrate, sentBy, Extracted, earliest, Drained, andIntegrated, andDiscarded, drained, drain}
+use Rattle.woot.specs.Pending.{executable, crossed, unplaceable, integrate, sentBy, Extracted, earliest, Drained}
+use Rattle.woot.specs.Pending.{andIntegrated, andDiscarded, drained, drain}
 use Rattle.woot.specs.Form.{wellFormed}
 use Rattle.woot.specs.Answers.{number, done, waits, reply, answerOf, sentOperation, Check, NoneHolds, Reported}
-use Rattle.woot.specs.Calls.{unchanged, allIntegrated, receiveChecks, receiveWhen, receive, insertChecks, generatedInsert, localInsertWhen, localInsert, deleteChecks, generatedDelete, localDeleteWhen, localDelete, restoreChecks, generatedToggle, localRestoreWhen, localRestore}
+use Rattle.woot.specs.Calls.{unchanged, allIntegrated, receiveChecks, receiveWhen, receive, insertChecks}
+use Rattle.woot.specs.Calls.{generatedInsert, localInsertWhen, localInsert, deleteChecks, generatedDelete}
+use Rattle.woot.specs.Calls.{localDeleteWhen, localDelete, restoreChecks, generatedToggle, localRestoreWhen}
+use Rattle.woot.specs.Calls.{localRestore}
 use Rattle.woot.specs.Writing.{writingChecks, writtenAs, outputAfter, writtenNumber}
 use Rattle.woot.specs.Text.{text}
 use Rattle.woot.specs.Situations.{full}
-use Rattle.woot.specs.Histories.{Call, Begun, startOf, outcome, run, drainedBy, discardedBy, deferredBy, InsertedIn, largestIn, charactersAfter, historyOf, SameInserted, SameToggled}
+use Rattle.woot.specs.Histories.{Call, Begun, startOf, outcome, run, drainedBy, discardedBy, deferredBy, InsertedIn}
+use Rattle.woot.specs.Histories.{largestIn, charactersAfter, historyOf, SameInserted, SameToggled}
 use Rattle.convergence.specs.Agreement.{Grown, OneMeaning}
 
 -- ---- the rules as recursions, with no count of steps
@@ -166,20 +171,21 @@ RestoreSends =
     (sentOperation (localRestoreWhen formed s x .answer) ≡ some o)
     ↔ (NoneHolds (restoreChecks formed s x) × (toggle (generatedToggle s x) ≡ o))
 
--- what they send is in range, so that every laptop takes it in; for a deleted or restored character document 02, Req 05:
--- "with turn 1 to 255"
+-- what they send is in range, so that every laptop takes it in; for a deleted or restored character document 02, Req
+-- 05: "with turn 1 to 255"
 abbrev pub SentInRange : Type 0
 SentInRange =
     ((s : State) (g n : ℕ) (o : Operation) → sentOperation (localInsert s g n .answer) ≡ some o → inRange o ≡ true)
     × ((s : State) (p : ℕ) (o : Operation) → sentOperation (localDelete s p .answer) ≡ some o → inRange o ≡ true)
-    × ((s : State) (x : Identifier) (o : Operation) → sentOperation (localRestore s x .answer) ≡ some o → inRange o ≡ true)
+    × ((s : State) (x : Identifier) (o : Operation) → sentOperation (localRestore s x .answer) ≡ some o →
+    inRange o ≡ true)
 
 -- the turn of one character raised by one, and every other as it was
 abbrev pub raisedAt : Identifier → List Character → List Character
 raisedAt x cs = map (λ c. cond (same x (c .id)) (withToggles c (c .toggles + 1)) c) cs
 
--- document 02, Req 05: "erasing a shown row raises its turn by one. Restoring names an identifier and raises a hidden row's
--- turn by one"
+-- document 02, Req 05: "erasing a shown row raises its turn by one. Restoring names an identifier and raises a hidden
+-- row's turn by one"
 abbrev pub RaisedByOne : Type 0
 RaisedByOne =
     ((s : State) (p : ℕ) (t : Toggle) → sentOperation (localDelete s p .answer) ≡ some (toggle t) →
@@ -196,7 +202,8 @@ RefusedUnchanged =
 abbrev pub KnownUnchanged : Type 0
 KnownUnchanged = (s : State) (c : Call) → outcome s c .answer ≡ Duplicate → outcome s c ≡ unchanged s Duplicate
 
--- a writer answers refusal r exactly when its condition holds and none before it, by its number too, and changes no byte
+-- a writer answers refusal r exactly when its condition holds and none before it, by its number too, and changes no
+-- byte
 abbrev pub WritingRefuses : Type 0
 WritingRefuses =
     (own : List (Check Written)) (bytes out : List ℕ) (r : Refusal) →
@@ -278,8 +285,8 @@ TogglesAreLargest =
     (b : Begun) (cs : List Call) (c : Character) → List·Memᴰ c (charactersAfter b cs) →
     c .toggles ≡ largestIn (c .id) (historyOf b cs)
 
--- "operations answered waits equal those waiting now, plus those carried out from the list, plus those thrown out"; those
--- that wait at the start count as answered so
+-- "operations answered waits equal those waiting now, plus those carried out from the list, plus those thrown out";
+-- those that wait at the start count as answered so
 abbrev pub WaitsBalance : Type 0
 WaitsBalance =
     (s : State) (cs : List Call) →
@@ -292,7 +299,8 @@ GrownThroughout = (b : Begun) (cs : List Call) → Grown (charactersAfter b cs)
 
 -- refusal 9 is never answered
 abbrev pub NeverUnplaceable : Type 0
-NeverUnplaceable = (b : Begun) (cs : List Call) (c : Call) → outcome (run (startOf b) cs) c .answer ≡ Refused Unplaceable → ⊥
+NeverUnplaceable =
+    (b : Begun) (cs : List Call) (c : Call) → outcome (run (startOf b) cs) c .answer ≡ Refused Unplaceable → ⊥
 
 -- two characters that two replicas hold stand in the same order on both, whatever else each holds or lacks
 abbrev pub Agreement : Type 0
@@ -303,9 +311,9 @@ Agreement =
     List·Memᴰ x (identifiers (charactersAfter b ds)) → List·Memᴰ y (identifiers (charactersAfter b ds)) →
     above (charactersAfter a cs) x y ≡ above (charactersAfter b ds) x y
 
--- Demand 3, "a single claim about two lists of calls", read with document 02, Req 05: the same inserts carried out, every
--- field counted, and for each "the same largest turn carried out", by whatever sender, give equal characters and equal
--- visible bytes.
+-- Demand 3, "a single claim about two lists of calls", read with document 02, Req 05: the same inserts carried out,
+-- every field counted, and for each "the same largest turn carried out", by whatever sender, give equal characters and
+-- equal visible bytes.
 abbrev pub Convergence : Type 0
 Convergence =
     (a b : Begun) (cs ds : List Call) →

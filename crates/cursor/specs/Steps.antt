@@ -26,7 +26,8 @@ use Rattle.cursor.specs.declared.Judgement.{Judgement}
 unfoldable pub anchorOf : List Character → ℕ → Anchor
 anchorOf cs g = record { left = key (leftOf cs g); beyond = ltb (length (visibles cs)) g }
 
--- the answer to receiving once the gap is known to be beyond or not: known stays, and of a refusal and 4 the earlier one
+-- the answer to receiving once the gap is known to be beyond or not: known stays, and of a refusal and 4 the earlier
+-- one
 unfoldable pub answerAt : Bool → Answer → Answer
 answerAt true (Done n m) = Refused Position
 answerAt true Deferred = Refused Position

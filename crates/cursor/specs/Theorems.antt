@@ -47,8 +47,8 @@ charactersLeft r o g = meaning (receivedAt r o g .replica) .characters
 abbrev pub leftMoved : Replica → Operation → ℕ → Identifier
 leftMoved r o g = leftOf (charactersLeft r o g) (movedBy g (receivedAt r o g .shift))
 
--- "It keeps to the row on its left, or to the begin mark"; hidden, "the cursor goes below the nearest shown row above it, or
--- to the begin mark"
+-- "It keeps to the row on its left, or to the begin mark"; hidden, "the cursor goes below the nearest shown row above
+-- it, or to the begin mark"
 abbrev pub ReplicaKeeps : Type 0
 ReplicaKeeps =
     (r : Replica) (o : Operation) (g : ℕ) → g ≤ lastNumber →

@@ -3,8 +3,8 @@ use Prim.Native.Nat.{ℕ, _+_, _*_, _%_, _^_}
 use Rattle.woot.specs.declared.Answer.{Answer}
 use Rattle.woot.specs.Answers.{Word, done, waits, known, refused, Reply, reply}
 
--- a reply, and how many bytes were written to the first output and to the second, which takes the line; receiving with a
--- cursor has no second output, and its shift stands there in sixteen bits
+-- a reply, and how many bytes were written to the first output and to the second, which takes the line; receiving with
+-- a cursor has no second output, and its shift stands there in sixteen bits
 pub record Result : Type 0 where
   pub reply : Reply
   pub written : ℕ

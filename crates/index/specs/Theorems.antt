@@ -22,8 +22,9 @@ AgreeingApart = (t : Table) (ks : List ℕ) → agrees t ks ≡ true → distinc
 abbrev pub TableAgrees : Type 0
 TableAgrees = (ks : List ℕ) → distinct eqb ks ≡ true → length ks ≤ 1024 → agrees (tableOf ks) ks ≡ true
 
--- and a walk in it is short, whatever chains the keys share: where they have 24 bits, as keys of identifiers do, 25 steps
--- find what the whole walk finds
+-- and a walk in it is short, whatever chains the keys share: where they have 24 bits, as keys of identifiers do, 25
+-- steps find what the whole walk finds
 abbrev pub WalksShort : Type 0
 WalksShort = (ks : List ℕ) → ((i : ℕ) → i < length ks → getD ks i 0 < 16777216) → length ks ≤ 1024
-    → (k : ℕ) → k < 16777216 → walk 25 (tableOf ks .links) ks k k 0 (getD (tableOf ks .heads) (chainOf k) 0) ≡ lookup (tableOf ks) ks k
+    → (k : ℕ) → k < 16777216 → walk 25 (tableOf ks .links) ks k k 0 (getD (tableOf ks .heads) (chainOf k) 0)
+    ≡ lookup (tableOf ks) ks k

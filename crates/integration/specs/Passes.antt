@@ -30,7 +30,8 @@ outside a b v = leb a (v .upper) && leb (v .lower) b
 unfoldable pub candidateIn : Interval → LocatedKey → Bool
 candidateIn v e = ltb (v .upper) (e .place) && ltb (e .place) (v .lower) && outside (e .above) (e .below) v
 
--- what is left of a pass once the candidate at u is the last passed: k stops at the first candidate that is not below it
+-- what is left of a pass once the candidate at u is the last passed: k stops at the first candidate that is not below
+-- it
 unfoldable pub walkIn : ℕ → Interval → ℕ → List LocatedKey → Interval
 walkIn k v u [] = record { upper = u; lower = v .lower }
 walkIn k v u (e ∷ es) =
@@ -45,7 +46,8 @@ passIn es k v = walkIn k v (v .upper) es
 abbrev pub width : Interval → ℕ
 width v = v .lower - v .upper
 
--- the place just above which k goes in, after at most n passes; a pass that leaves the interval as it was met no candidate
+-- the place just above which k goes in, after at most n passes; a pass that leaves the interval as it was met no
+-- candidate
 unfoldable pub searchIn : ℕ → List LocatedKey → ℕ → Interval → Option ℕ
 searchIn zero es k v = some (v .upper)
 searchIn (suc n) es k v =

@@ -38,8 +38,10 @@ RecordFormed =
     (s : Site) (d : Document) (g n : ℕ) → replicaWellFormed (together s d) ≡ true →
     replicaWellFormed (together (siteAfter s (returned s d g n .answer)) (returned s d g n .document)) ≡ true
 
--- record and document together are what the call returns, so that inserting on a lent record is a call of demand 3's lists
+-- record and document together are what the call returns, so that inserting on a lent record is a call of demand 3's
+-- lists
 abbrev pub LentFollows : Type 0
 LentFollows =
     (s : Site) (d : Document) (g n : ℕ) →
-    together (siteAfter s (returned s d g n .answer)) (returned s d g n .document) ≡ called (together s d) (inserting g n)
+    together (siteAfter s (returned s d g n .answer)) (returned s d g n .document)
+    ≡ called (together s d) (inserting g n)

@@ -1,5 +1,5 @@
--- The lines of bytes, and lists taken apart by a test or put one after another. (Document 01, "Lines": ended by one line
--- feed.)
+-- The lines of bytes, and lists taken apart by a test or put one after another. (Document 01, "Lines": ended by one
+-- line feed.)
 use Prim.Native.Nat.{ℕ}
 use mathlib.Core.List.{List, [], _∷_, _++_}
 use mathlib.Core.Bool.{Bool, cond}

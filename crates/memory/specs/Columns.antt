@@ -14,7 +14,8 @@ use Rattle.woot.specs.Table.{keys, agrees, tableOf}
 use Rattle.woot.specs.State.{State}
 use Rattle.woot.specs.Memory.{characterSlots, pendingSlots}
 use Rattle.woot.specs.Form.{wellFormed}
-use Rattle.woot.specs.Memory.{charactersOf, operationsOf, previousKeys, nextKeys, codePoints, toggleCounts, ownKey, firstKey, secondKey, valueOf}
+use Rattle.woot.specs.Memory.{charactersOf, operationsOf, previousKeys, nextKeys, codePoints, toggleCounts, ownKey}
+use Rattle.woot.specs.Memory.{firstKey, secondKey, valueOf}
 
 pub record Document : Type 0 where
   pub ids : List ℕ

@@ -8,7 +8,8 @@ use Rattle.woot.specs.declared.Document.{Document as InMemory}
 use Rattle.woot.specs.declared.Replica.{Replica as ReplicaInMemory}
 use Rattle.woot.specs.Table.{chains, tableLinks}
 use Rattle.woot.specs.Memory.{characterNumbers, characterSlots, pendingNumbers, pendingSlots}
-use Rattle.woot.specs.Memory.{keyColumn, previousColumn, nextColumn, codePointColumn, ownColumn, firstColumn, secondColumn, valueColumn}
+use Rattle.woot.specs.Memory.{keyColumn, previousColumn, nextColumn, codePointColumn, ownColumn, firstColumn}
+use Rattle.woot.specs.Memory.{secondColumn, valueColumn}
 use Rattle.memory.specs.Columns.{Document, Replica}
 
 -- the arrays of the characters and how many they are, those of the pending operations and how many, and the table's

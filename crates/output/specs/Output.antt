@@ -1,5 +1,5 @@
--- Bytes put into a lent slice, one run after another. What has no room is not written at all, so that a slice that is too
--- short keeps every byte.
+-- Bytes put into a lent slice, one run after another. What has no room is not written at all, so that a slice that is
+-- too short keeps every byte.
 use Prim.Native.Nat.{ℕ, _+_}
 use mathlib.Core.List.{List, _++_}
 use mathlib.Core.Bool.{Bool, cond}

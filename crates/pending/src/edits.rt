@@ -12,7 +12,8 @@ ghost use lib.ListN.{length, take, set};
 ghost use Rattle.lists.specs.Padding.{pad};
 ghost use Rattle.slots.specs.Slots.{takenAt};
 ghost use Rattle.woot.specs.Ranges.{inRange};
-ghost use Rattle.woot.specs.Memory.{operationAt, ownKey, firstKey, secondKey, valueOf, firstColumn, ownColumn, pendingNumbers, pendingSlots, secondColumn, valueColumn};
+ghost use Rattle.woot.specs.Memory.{operationAt, ownKey, firstKey, secondKey, valueOf, firstColumn, ownColumn};
+ghost use Rattle.woot.specs.Memory.{pendingNumbers, pendingSlots, secondColumn, valueColumn};
 
 // The pending operation in a slot. A step of the calls and not a call: they have checked the ranges.
 pub fn operation_at(pending: &[u32], j: usize) -> Operation

@@ -24,7 +24,8 @@ lookedUp r x = lookup (r .document .table) (keys (meaning r .characters)) (key x
 -- the same by a plain search down the characters
 unfoldable pub searchedFor : Identifier → List Character → Option ℕ
 searchedFor x [] = none
-searchedFor x (c ∷ cs) = cond (same x (c .id)) (some 0) (elim (searchedFor x cs) [ none ↦ none | some i ↦ some (suc i) ])
+searchedFor x (c ∷ cs) =
+    cond (same x (c .id)) (some 0) (elim (searchedFor x cs) [ none ↦ none | some i ↦ some (suc i) ])
 
 -- "it must be shown to agree with a plain search, found or not": of any identifier there is
 abbrev pub Searches : Replica → Type 0

@@ -12,7 +12,8 @@ use Rattle.woot.specs.State.{initial}
 use Rattle.woot.specs.Memory.{meaning, stored, replicaWellFormed}
 use Rattle.woot.specs.Ranges.{siteNumber}
 use Rattle.woot.specs.Answers.{changes, answerOf}
-use Rattle.woot.specs.Histories.{Call, Begun, startOf, inserting, deleting, restoring, receiving, receivingAt, run, historyOf, SameInserted, SameToggled}
+use Rattle.woot.specs.Histories.{Call, Begun, startOf, inserting, deleting, restoring, receiving, receivingAt, run}
+use Rattle.woot.specs.Histories.{historyOf, SameInserted, SameToggled}
 use Rattle.woot.specs.Replicas.{received, receivedAt, inserted, deleted, restored}
 use Rattle.replica.specs.Texts.{textOf}
 

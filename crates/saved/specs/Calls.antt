@@ -93,7 +93,8 @@ readingChecks v s = (not (laidOutAs v s) ⇒ Refused Layout) ∷ (not (inRangeAs
 
 -- what the bytes say, its clock raised and its form not checked
 unfoldable pub savedRead : Version → List ℕ → Loaded
-savedRead v s = decided unread (first (readingChecks v s)) (record { answer = Done; replica = held (stateAs v s) })
+savedRead v s =
+    decided unread (first (readingChecks v s)) (record { answer = Done; replica = held (stateAs v s) })
 
 -- the refusal's number, or 0
 unfoldable pub loadNumber : LoadAnswer → ℕ

@@ -21,7 +21,8 @@ use Rattle.replica.specs.Tables.{Searches}
 use Rattle.saved.specs.declared.LoadAnswer.the-variants.{Done, Refused}
 use Rattle.saved.specs.declared.Version.the-variants.{Second}
 use Rattle.saved.specs.Format.{siteLine, savedLaidOut, savedInRange, savedBytes}
-use Rattle.saved.specs.Calls.{loadedState, needsRaising, loadChecks, noReplica, held, loaded, loadNumber, loadValue, bytesOf, saveChecks, saved, savedOut, savedRead, loadedAs}
+use Rattle.saved.specs.Calls.{loadedState, needsRaising, loadChecks, noReplica, held, loaded, loadNumber}
+use Rattle.saved.specs.Calls.{loadValue, bytesOf, saveChecks, saved, savedOut, savedRead, loadedAs}
 use Rattle.saved.specs.declared.Version.{Version}
 
 -- ---- round trips

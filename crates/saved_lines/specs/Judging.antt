@@ -1,5 +1,5 @@
--- For the proofs of the code alone: what is read of a line, as values of the code's types. Its layout comes first, then its
--- range, then what it says.
+-- For the proofs of the code alone: what is read of a line, as values of the code's types. Its layout comes first, then
+-- its range, then what it says.
 use Prim.Native.Nat.{ℕ}
 use mathlib.Core.List.{List}
 use mathlib.Core.Bool.{Bool, true, false, cond}
@@ -17,7 +17,8 @@ use Rattle.lines.specs.Answers.{byVerdict, numbersOf}
 use Rattle.codec.specs.declared.Read.{Read}
 use Rattle.codec.specs.Calls.{readAs}
 use Rattle.saved.specs.declared.Version.{Version}
-use Rattle.saved.specs.Format.{siteHead, siteLimits, siteOf, characterHead, characterLimits, characterOf, isOperation, operationSaid}
+use Rattle.saved.specs.Format.{siteHead, siteLimits, siteOf, characterHead, characterLimits, characterOf, isOperation}
+use Rattle.saved.specs.Format.{operationSaid}
 
 unfoldable pub judgement : Bool → Bool → Judged
 judgement laid passes = record { «laid_out» = laid; «in_range» = passes }

@@ -12,7 +12,8 @@ ghost use lib.ListN.{length, take};
 ghost use Rattle.decimal.specs.Numeral.{digits};
 ghost use Rattle.lines.specs.Fields.{tab, lineOf};
 ghost use Rattle.woot.specs.declared.Character.{Character};
-ghost use Rattle.woot.specs.Memory.{meaning, codePoints, toggleCounts, replicaWellFormed, characterNumbers, characterSlots, codePointColumn};
+ghost use Rattle.woot.specs.Memory.{meaning, codePoints, toggleCounts, replicaWellFormed, characterNumbers};
+ghost use Rattle.woot.specs.Memory.{characterSlots, codePointColumn};
 ghost use Rattle.woot.specs.Writing.{writtenAs, outputAfter};
 ghost use Rattle.transcript.specs.Lines.{reportLine, textLine, listing};
 

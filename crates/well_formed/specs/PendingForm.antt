@@ -41,7 +41,8 @@ keysNew ids own = throughout (freeAt ids own) (length own)
 -- the operation with index j is no toggle that stands before it too
 unfoldable pub freshAt : List ℕ → List ℕ → List ℕ → ℕ → Bool
 freshAt own first values j =
-    not (eqb (getD own j 0) 0 && hasToggle (getD first j 0) (getD values j 0) (take j own) (take j first) (take j values))
+    not (eqb (getD own j 0) 0
+    && hasToggle (getD first j 0) (getD values j 0) (take j own) (take j first) (take j values))
 
 abbrev pub noneRepeated : List ℕ → List ℕ → List ℕ → Bool
 noneRepeated own first values = throughout (freshAt own first values) (length own)

@@ -1,5 +1,5 @@
--- The calls for programs in C, in one list: what each is handed, the conditions that turn it away in checking order, and
--- what it returns and writes where none of them holds.
+-- The calls for programs in C, in one list: what each is handed, the conditions that turn it away in checking order,
+-- and what it returns and writes where none of them holds.
 use Prim.Native.Nat.{ℕ}
 use mathlib.Core.Bool.{Bool, true, _&&_, _||_, not}
 use mathlib.Core.List.{List, [], _∷_, _++_, map}
@@ -18,7 +18,8 @@ use Rattle.woot.specs.Ranges.{siteNumber, codePoint, characterId, inRange}
 use Rattle.woot.specs.State.{State, initial}
 use Rattle.woot.specs.Form.{wellFormed}
 use Rattle.woot.specs.Answers.{answerOf, Check, _⇒_, first, decided}
-use Rattle.woot.specs.Calls.{Outcome, receiveChecks, receive, insertChecks, generatedInsert, localInsert, deleteChecks, generatedDelete, localDelete, restoreChecks, generatedToggle, localRestore}
+use Rattle.woot.specs.Calls.{Outcome, receiveChecks, receive, insertChecks, generatedInsert, localInsert, deleteChecks}
+use Rattle.woot.specs.Calls.{generatedDelete, localDelete, restoreChecks, generatedToggle, localRestore}
 use Rattle.woot.specs.Cursor.{receiveAtChecks, receiveAt, shiftAt}
 use Rattle.woot.specs.Text.{text}
 use Rattle.lines.specs.Lines.{rest}
@@ -90,8 +91,8 @@ handedChecks «wimtaze_downgrade» bytes = conversionRefusals Second First bytes
 abbrev pub answering : List (Check Sent) → List (Check Answer)
 answering cs = map (λ c. c .holds ⇒ answerOf (c .answer)) cs
 
--- what the rule turns away, or knows, on the state that loading makes of the saved bytes: all its conditions but 2 and 3,
--- which begin its list and were looked at over all that was handed
+-- what the rule turns away, or knows, on the state that loading makes of the saved bytes: all its conditions but 2 and
+-- 3, which begin its list and were looked at over all that was handed
 unfoldable pub ruleChecks : CCall → State → List (Check Answer)
 ruleChecks («wimtaze_empty» n) s = []
 ruleChecks («wimtaze_receive» line) s = drop 2 (receiveChecks true s (saidBy line))
@@ -119,7 +120,11 @@ bytesAlone bytes = record { result = result (Done 0 0) (length bytes) 0; output 
 -- the saved replica that receiving leaves, with a note where the length of the second output stands
 abbrev pub replicaAfter : Outcome Answer → ℕ → Product
 replicaAfter w note =
-    record { result = result (w .answer) (length (savedBytes (w .state))) note; output = savedBytes (w .state); line = [] }
+    record {
+      result = result (w .answer) (length (savedBytes (w .state))) note;
+      output = savedBytes (w .state);
+      line = [];
+    }
 
 -- the saved replica that typing, erasing or restoring leaves, and the line of the operation to be sent
 abbrev pub replicaAndLine : Outcome Sent → Operation → Product
@@ -135,7 +140,8 @@ unfoldable pub productOf : CCall → List ℕ → Product
 productOf («wimtaze_empty» n) bytes = bytesAlone (savedBytes (initial n))
 productOf («wimtaze_receive» line) bytes = replicaAfter (receive (loadedState bytes) (saidBy line)) 0
 productOf («wimtaze_receive_at» line gap) bytes =
-    replicaAfter (receiveAt (loadedState bytes) (saidBy line) gap) (shiftBits (shiftAt (loadedState bytes) (saidBy line) gap))
+    replicaAfter (receiveAt (loadedState bytes) (saidBy line) gap)
+    (shiftBits (shiftAt (loadedState bytes) (saidBy line) gap))
 productOf («wimtaze_type» gap n) bytes =
     replicaAndLine (localInsert (loadedState bytes) gap n) (insert (generatedInsert (loadedState bytes) gap n))
 productOf («wimtaze_erase» place) bytes =
@@ -168,8 +174,8 @@ abbrev pub delivered : Product → List ℕ → List ℕ → Effect
 delivered p out line =
     record { result = p .result; output = placed out 0 (p .output); line = placed line 0 (p .line) }
 
--- what a call returns and leaves in its outputs: at the first condition that holds its answer, and "every output byte as
--- before"; where none does, what is made
+-- what a call returns and leaves in its outputs: at the first condition that holds its answer, and "every output byte
+-- as before"; where none does, what is made
 unfoldable pub effectOf : CCall → List ℕ → List ℕ → List ℕ → Effect
 effectOf c bytes out line =
     decided (quiet out line) (first (callChecks c bytes out line)) (delivered (productOf c bytes) out line)

@@ -1,5 +1,5 @@
--- For the proofs of the code alone: what the bodies of the calls leave, of the refusals over what was handed and then of
--- the rule.
+-- For the proofs of the code alone: what the bodies of the calls leave, of the refusals over what was handed and then
+-- of the rule.
 use Prim.Native.Nat.{ℕ}
 use mathlib.Core.Bool.{true, not}
 use mathlib.Core.List.{List, [], _∷_}

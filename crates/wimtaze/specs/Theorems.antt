@@ -1,5 +1,5 @@
--- The promises about what the calls return and leave, over the one list of calls, each proved in proofs/ under its name in
--- small letters.
+-- The promises about what the calls return and leave, over the one list of calls, each proved in proofs/ under its name
+-- in small letters.
 use Prim.Native.Nat.{ℕ, _+_, _%_, _/_, _^_, _≤_}
 use mathlib.Core.Path.{_≡_}
 use mathlib.Core.Bool.{Bool, true, false}
@@ -37,7 +37,9 @@ use Rattle.saved.specs.Conversion.{converted, convertedOut, firstMost}
 use Rattle.saved.specs.Theorems.{savedMost}
 use Rattle.effects.specs.Results.{Result, wordNumber, inBits, numberOf}
 use Rattle.effects.specs.Effects.{Effect}
-use Rattle.wimtaze.specs.Calls.{CCall, «wimtaze_empty», «wimtaze_receive», «wimtaze_receive_at», «wimtaze_type», «wimtaze_erase», «wimtaze_restore», «wimtaze_text», «wimtaze_counts», «wimtaze_upgrade», «wimtaze_downgrade», callChecks, effectOf}
+use Rattle.wimtaze.specs.Calls.{CCall, «wimtaze_empty», «wimtaze_receive», «wimtaze_receive_at», «wimtaze_type»}
+use Rattle.wimtaze.specs.Calls.{«wimtaze_erase», «wimtaze_restore», «wimtaze_text», «wimtaze_counts»}
+use Rattle.wimtaze.specs.Calls.{«wimtaze_upgrade», «wimtaze_downgrade», callChecks, effectOf}
 
 -- ---- refusals: any call, any bytes, numbers and slices
 
@@ -305,8 +307,8 @@ pub record SavesAs (e f : Effect) : Type 0 where
   pub same-reply : f .result .reply ≡ e .result .reply
   pub same-bytes : bytesWritten f ≡ bytesWritten e
 
--- the line of an edit made here, received with any cursor on the saved replica from before, does as the edit did: so the
--- header tells programs to learn how far their own edits move a cursor
+-- the line of an edit made here, received with any cursor on the saved replica from before, does as the edit did: so
+-- the header tells programs to learn how far their own edits move a cursor
 abbrev pub OwnLineReceived : Type 0
 OwnLineReceived =
     (c : CCall) (bytes out line : List ℕ) (gap : ℕ) (again : List ℕ) → sends c ≡ true →

@@ -54,7 +54,8 @@ pub extern "C" fn wimtaze_receive_at(bytes: &[u8], line: &[u8], point: u64, out:
 // Receives the operation of a line, and writes the new saved replica: as with a cursor at the top, which stays there.
 #[no_mangle]
 pub extern "C" fn wimtaze_receive(bytes: &[u8], line: &[u8], out: &mut [u8]) -> u64
-    ensures { λ r. ⌜ Leaves (effectOf («wimtaze_receive» (now (line .entry))) (now (bytes .entry)) (now (out .entry)) [])
+    ensures { λ r. ⌜ Leaves (effectOf («wimtaze_receive» (now (line .entry))) (now (bytes .entry))
+        (now (out .entry)) [])
         r (now (out .exit)) [] ⌝ }
 {
     wimtaze_receive_at(bytes, line, 0, out)

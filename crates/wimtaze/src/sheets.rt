@@ -1,5 +1,5 @@
-// What the calls do that ask no rule: an empty replica is saved, the visible text of a saved one is written, and what it
-// holds is counted.
+// What the calls do that ask no rule: an empty replica is saved, the visible text of a saved one is written, and what
+// it holds is counted.
 use saved::LoadAnswer;
 use saved::Version;
 use woot::Answer;

@@ -1,5 +1,5 @@
--- The four calls: typing, erasing, restoring and receiving. Each has its conditions in checking order; where none holds,
--- what is done stands below them.
+-- The four calls: typing, erasing, restoring and receiving. Each has its conditions in checking order; where none
+-- holds, what is done stands below them.
 use Prim.Native.Nat.{ℕ, suc, _+_}
 use mathlib.Core.Bool.{Bool, false, _&&_, _||_, not, cond}
 use mathlib.Core.List.{List, [], _∷_, _++_}
@@ -13,7 +13,8 @@ use Rattle.woot.specs.declared.Toggle.{Toggle}
 use Rattle.woot.specs.declared.Operation.{Operation}
 use Rattle.woot.specs.declared.Operation.the-variants.{Insert as insert, Toggle as toggle}
 use Rattle.woot.specs.declared.Character.{Character}
-use Rattle.woot.specs.declared.Refusal.the-variants.{Range, Form, Position, NotHidden, LastToggle, Clock, Taken, Conflict, Crossed, Unplaceable, SenderFull, DocumentFull}
+use Rattle.woot.specs.declared.Refusal.the-variants.{Range, Form, Position, NotHidden, LastToggle, Clock, Taken}
+use Rattle.woot.specs.declared.Refusal.the-variants.{Conflict, Crossed, Unplaceable, SenderFull, DocumentFull}
 use Rattle.woot.specs.declared.Answer.{Answer}
 use Rattle.woot.specs.declared.Answer.the-variants.{Done, Deferred, Duplicate, Refused}
 use Rattle.woot.specs.declared.Sent.{Sent}
@@ -80,7 +81,8 @@ insertCarried s i = let cs : List Character = integrateInsert (s .characters) i 
 -- "known": a held or waiting insert equal in every field; a row whose turn is as large, "if the line's isn't larger the
 -- answer is known"; an equal waiting erase
 unfoldable pub duplicate : State → Operation → Bool
-duplicate s (insert i) = any (λ c. sameInsert i (origin c)) (s .characters) || any (sameOperation (insert i)) (s .pending)
+duplicate s (insert i) =
+    any (λ c. sameInsert i (origin c)) (s .characters) || any (sameOperation (insert i)) (s .pending)
 duplicate s (toggle t) =
     any (λ c. same (t .target) (c .id) && leb (t .toggles) (c .toggles)) (s .characters)
     || any (sameOperation (toggle t)) (s .pending)
@@ -250,7 +252,8 @@ exhausted s x = eqb (togglesOf (s .characters) x) lastToggles
 -- "these come after 4, in that order"
 unfoldable pub restoreChecks : Bool → State → Identifier → List (Check Sent)
 restoreChecks formed s x =
-    (not (characterId x) ⇒ sentRefused Range) ∷ (not formed ⇒ sentRefused Form) ∷ (notHidden s x ⇒ sentRefused NotHidden)
+    (not (characterId x) ⇒ sentRefused Range) ∷ (not formed ⇒ sentRefused Form)
+    ∷ (notHidden s x ⇒ sentRefused NotHidden)
     ∷ (exhausted s x ⇒ sentRefused LastToggle)
     ∷ []
 

@@ -17,8 +17,8 @@ use Rattle.woot.specs.Answers.{answerOf}
 use Rattle.woot.specs.Calls.{Outcome, allIntegrated, receive, localInsert, localDelete, localRestore}
 use Rattle.woot.specs.Cursor.{receiveAt}
 
--- the kinds of call, with any arguments: typing at a gap, erasing at a place, receiving; document 02, Req 05, "restoring
--- calls, with any identifier, stand in its lists too"; Req 02, receiving with a cursor at a gap
+-- the kinds of call, with any arguments: typing at a gap, erasing at a place, receiving; document 02, Req 05,
+-- "restoring calls, with any identifier, stand in its lists too"; Req 02, receiving with a cursor at a gap
 pub data Call : Type 0 where
   inserting : ℕ → ℕ → Call
   deleting : ℕ → Call

@@ -84,7 +84,13 @@ unfoldable pub operationOf : ℕ → ℕ → ℕ → ℕ → Operation
 operationOf own first second value =
     cond (eqb own 0)
     (toggle (record { sender = second * 256 + value / 256; target = identifier first; toggles = value % 256 }))
-    (insert (record { id = identifier own; «code_point» = value; previous = identifier first; next = identifier second }))
+    (insert
+    (record {
+      id = identifier own;
+      «code_point» = value;
+      previous = identifier first;
+      next = identifier second;
+    }))
 
 -- the operation in a slot of the four arrays
 abbrev pub operationAt : List ℕ → List ℕ → List ℕ → List ℕ → ℕ → Operation

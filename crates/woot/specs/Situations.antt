@@ -14,14 +14,19 @@ use Rattle.woot.specs.Operations.{character, withToggles}
 use Rattle.woot.specs.State.{State, initial}
 use Rattle.woot.specs.Placing.{identifiers}
 use Rattle.woot.specs.declared.Refusal.{Refusal}
-use Rattle.woot.specs.declared.Refusal.the-variants.{Layout, Range, NotUtf8, Form, Unrepresentable, Position, NotHidden, LastToggle, Clock, Taken, Conflict, Crossed, Unplaceable, SenderFull, DocumentFull, Output}
+use Rattle.woot.specs.declared.Refusal.the-variants.{Layout, Range, NotUtf8, Form, Unrepresentable, Position}
+use Rattle.woot.specs.declared.Refusal.the-variants.{NotHidden, LastToggle, Clock, Taken, Conflict, Crossed}
+use Rattle.woot.specs.declared.Refusal.the-variants.{Unplaceable, SenderFull, DocumentFull, Output}
 use Rattle.woot.specs.declared.Answer.{Answer}
-use Rattle.woot.specs.declared.Answer.the-variants.{Done as answerDone, Deferred, Duplicate, Refused as answerRefused}
+use Rattle.woot.specs.declared.Answer.the-variants.{Done as answerDone, Deferred, Duplicate}
+use Rattle.woot.specs.declared.Answer.the-variants.{Refused as answerRefused}
 use Rattle.woot.specs.declared.Sent.{Sent}
 use Rattle.woot.specs.Answers.{number, rank, done, waits, known, refused, Reply, reply, answerOf, Check}
-use Rattle.woot.specs.Calls.{receiveChecks, receiveWhen, insertChecks, localInsertWhen, deleteChecks, restoreChecks}
+use Rattle.woot.specs.Calls.{receiveChecks, receiveWhen, insertChecks, localInsertWhen, deleteChecks}
+use Rattle.woot.specs.Calls.{restoreChecks}
 use Rattle.woot.specs.Cursor.{visibleThrough, receiveAtChecks, receiveAt, shiftAt, lastNumber}
-use Rattle.woot.specs.Histories.{Call, inserting, deleting, restoring, receiving, outcome, run, integratedBy, largestIn}
+use Rattle.woot.specs.Histories.{Call, inserting, deleting, restoring, receiving, outcome, run, integratedBy}
+use Rattle.woot.specs.Histories.{largestIn}
 use Rattle.woot.specs.Text.{text}
 
 infix 90 _at_
@@ -376,7 +381,8 @@ toggleCases =
     ∷ (after (o1 ∷ del 3 (1 at 1) ∷ tog 4 (1 at 1) 2 ∷ tog 5 (1 at 1) 3 ∷ tog 6 (1 at 1) 5 ∷ [])
     gives calls (Done 1 0 ∷ Done 1 0 ∷ Done 1 0 ∷ Done 1 0 ∷ Done 1 0 ∷ []) (1 at 1 ∷ []))
     -- 2 lets pass an identifier that is no character's
-    ∷ (after (restoring end ∷ restoring (0 at 5) ∷ restoring (17 at 1) ∷ restoring (1 at 0) ∷ restoring (1 at 65536) ∷ [])
+    ∷ (after (restoring end ∷ restoring (0 at 5) ∷ restoring (17 at 1) ∷ restoring (1 at 0)
+    ∷ restoring (1 at 65536) ∷ [])
     gives calls (Refused 2 ∷ Refused 2 ∷ Refused 2 ∷ Refused 2 ∷ Refused 2 ∷ []) [])
     -- the user's story: what was erased is brought back, and stands where it stood
     ∷ (showing (initial 16)
@@ -390,7 +396,8 @@ threeRows a b c =
     record {
       site = record { number = 1; clock = 9 };
       characters =
-          withToggles (character (put (2 at 1) begin end)) a ∷ withToggles (character (put (2 at 2) (2 at 1) end)) b
+          withToggles (character (put (2 at 1) begin end)) a
+          ∷ withToggles (character (put (2 at 2) (2 at 1) end)) b
           ∷ withToggles (character (put (2 at 3) (2 at 2) end)) c
           ∷ [];
       pending = [];
@@ -505,8 +512,8 @@ TypedElsewhere =
 abbrev pub CasesTell : Type 0
 CasesTell = AllHold slipCases × AllHold answerCases × AllHold clockCases × AllHold toggleCases × AllHold cursorCases
 
--- the largest turn is of all that were carried out of that character, whoever sent them and in whatever order; and of what
--- was carried out, whatever turn its row has
+-- the largest turn is of all that were carried out of that character, whoever sent them and in whatever order; and of
+-- what was carried out, whatever turn its row has
 abbrev pub LargestTells : Type 0
 LargestTells =
     (largestIn (1 at 1) (deleteBy 3 (1 at 1) ∷ toggleBy 4 (1 at 1) 2 ∷ toggleBy 5 (2 at 1) 9 ∷ []) ≡ 2)

@@ -63,7 +63,10 @@ pub record Tally : Type 0 where
 -- one operation more
 unfoldable pub tallied : Tally → Operation → Tally
 tallied t o =
-    record { replica = received (t .replica) o .replica; count = t .count + carried (received (t .replica) o .answer) }
+    record {
+      replica = received (t .replica) o .replica;
+      count = t .count + carried (received (t .replica) o .answer);
+    }
 
 -- several more, one after another
 unfoldable pub talliedAll : Tally → List Operation → Tally
