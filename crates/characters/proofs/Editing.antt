@@ -13,7 +13,7 @@ use Rattle.lists.specs.Lists.{any, distinct}
 use Rattle.lists.specs.Padding.{pad}
 use Rattle.lists.proofs.Padding.{pad-take}
 use Rattle.lists.proofs.Tests.{and-left, and-right, or-false-left, or-false-right}
-use Rattle.slots.specs.Slots.{put}
+use Rattle.slots.specs.Slots.{putAfter}
 use Rattle.slots.proofs.Slots.{put-map, put-length, put-padded, set-padded}
 use Rattle.woot.specs.declared.Identifier.{Identifier}
 use Rattle.woot.specs.declared.Toggle.{Toggle}
@@ -31,7 +31,7 @@ use Rattle.index.specs.Keys.{further, firstIndex}
 
 -- ---- a character put in
 
-insert-put : (k : ℕ) (c : Character) (cs : List Character) → insertAt k c cs ≡ put k c cs
+insert-put : (k : ℕ) (c : Character) (cs : List Character) → insertAt k c cs ≡ putAfter k c cs
 unfolding insertAt
 insert-put zero c cs = refl
 insert-put (suc k) c [] = refl
@@ -43,7 +43,7 @@ inserted-length k c cs = rw (insert-put k c cs) (omega (arith, put-length k c cs
 -- the number of the character put into the column of the others, where they are in an array of m slots
 pub column-put : (m : ℕ) (f : Character → ℕ) (k : ℕ) (c : Character) (cs : List Character) (n : ℕ) {xs : List ℕ}
     → xs ≡ pad m 0 (map f cs) → length cs ≡ n → n < m
-    → put k (f c) (take n xs) ++ drop (suc n) xs ≡ pad m 0 (map f (insertAt k c cs))
+    → putAfter k (f c) (take n xs) ++ drop (suc n) xs ≡ pad m 0 (map f (insertAt k c cs))
 column-put m f k c cs n e size room =
     rw (e, insert-put k c cs, put-map f k c cs) (put-padded m 0 k (f c) (map f cs) n (length-map cs f ∙ size) room)
 

@@ -70,12 +70,12 @@ pub fn put_operation(operation: Operation, out: &mut [u8], at: usize) -> usize
         Operation::Insert(insert) => {
             let head = [INSERT];
             let numbers = insert_numbers(insert);
-            lines::writing::put(&head, &numbers, out, at)
+            lines::writing::put_line(&head, &numbers, out, at)
         }
         Operation::Toggle(toggle) => {
             let head = [TOGGLE];
             let numbers = toggle_numbers(toggle);
-            lines::writing::put(&head, &numbers, out, at)
+            lines::writing::put_line(&head, &numbers, out, at)
         }
     }
 }

@@ -22,7 +22,7 @@ use Rattle.woot.specs.Form.{presentInserts, allInRange, sharesKept, capacityKep
 use Rattle.woot.specs.Identifiers.{same, below}
 use Rattle.woot.specs.Operations.{sender, character, origin, isVisible, withToggles, toggledBy, sameInsert, sameToggle, sameOperation}
 use Rattle.woot.specs.Pending.{executable, crossed, unplaceable, integrate, pendingFrom, earliest, andIntegrated, andDiscarded, drained, drainSteps, drain}
-use Rattle.woot.specs.Placing.{sequence, indexOf, placeOf, held as placing-held, above, adjacent, candidate, candidates, narrowed, search, position, between, insertAt, integrateInsert, integrateToggle}
+use Rattle.woot.specs.Placing.{sequence, indexOf, placeOf, held, above, adjacent, candidate, candidates, narrowed, search, position, between, insertAt, integrateInsert, integrateToggle}
 use Rattle.woot.specs.Ranges.{within, siteNumber, codePoint, characterId, previousId, nextId, siteInRange, insertInRange, toggleInRange, inRange, characterInRange}
 use Rattle.woot.specs.State.{initial, blankCharacter, blankOperation}
 use Rattle.consistency.specs.Examples.{CallsExample}
@@ -41,7 +41,7 @@ unfolding asWritten lineLaidOut laidOut saidBy insertNumbers toggleNumbers ident
     newGap shiftOf shiftAt presentInserts allInRange sharesKept capacityKept identifiersDistinct togglesDistinct ordered neighboursOrdered
     noneExecutable clockReaches clockKept wellFormed raised same below sender character origin isVisible withToggles toggledBy sameInsert sameToggle
     sameOperation executable crossed unplaceable integrate pendingFrom earliest andIntegrated andDiscarded drained drainSteps drain sequence indexOf
-    placeOf placing-held above adjacent candidate candidates narrowed search position between insertAt integrateInsert integrateToggle within
+    placeOf held above adjacent candidate candidates narrowed search position between insertAt integrateInsert integrateToggle within
     siteNumber codePoint characterId previousId nextId siteInRange insertInRange toggleInRange inRange characterInRange initial blankCharacter
     blankOperation decided
 calls-example = record { bytes-left = refl; replies = refl; rules-made = refl }

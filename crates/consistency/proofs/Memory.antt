@@ -18,14 +18,14 @@ use Rattle.woot.specs.Answers.{reply, changes, answerOf}
 use Rattle.woot.specs.Calls.{receive, localInsert, localDelete, localRestore}
 use Rattle.woot.specs.Cursor.{receiveAt}
 use Rattle.woot.specs.Histories.{inserting, deleting, restoring, receiving, receivingAt, outcome, run, Call as RuleCall}
-use Rattle.woot.specs.Replicas.{afterAnswer, afterSent, receipt, moved, generated, received, receivedAt, inserted, deleted, restored}
+use Rattle.woot.specs.Replicas.{afterAnswer, afterSent, receipt, receiptAt, generated, received, receivedAt, inserted, deleted, restored}
 use Rattle.replica.specs.Theorems.{called, answerTo}
 use Rattle.replica.proofs.Runs.{Within, formed-within, meaning-stored, form-stored}
 use Rattle.lent.specs.Lent.{returned}
 use Rattle.lent.proofs.Sites.{lent-follows}
 use Rattle.codec.specs.Calls.{laidOut, saidBy, readOperation}
 use Rattle.codec.proofs.Judging.{read-layout, read-range, read-operation}
-use Rattle.transcript.specs.Calls.{answeredAs, answered}
+use Rattle.transcript.specs.Calls.{receivedAs, receivedLine}
 use Rattle.consistency.specs.Copies.{MemoryCall, onReplica, onRecord, onLine, save, memoryCall, inMemory, afterRecord, afterSaving, whenMade, onMemory, stepOn}
 use Rattle.consistency.proofs.Holding.{Holds, memory, bytes, Steps, changed-formed}
 use Rattle.consistency.proofs.Saving.{Saving, fits, refuses, saving}
@@ -37,7 +37,7 @@ module _ (s : State) (w : Within s) where
   unfolding received receive
   received-stored o = rw (form-stored s w, meaning-stored s w)
 
-  pub received-at-stored : (o : Operation) (g : ℕ) → receivedAt (stored s) o g ≡ moved (stored s) g (receiveAt s o g)
+  pub received-at-stored : (o : Operation) (g : ℕ) → receivedAt (stored s) o g ≡ receiptAt (stored s) g (receiveAt s o g)
   unfolding receivedAt receiveAt
   received-at-stored o g = rw (form-stored s w, meaning-stored s w)
 
@@ -63,7 +63,7 @@ module _ (s : State) (w : Within s) where
   called-stored : (c : RuleCall) →
       (called (stored s) c ≡ afterAnswer (stored s) (outcome s c .state) (outcome s c .answer))
       × (answerTo (stored s) c ≡ outcome s c .answer)
-  unfolding called answerTo outcome receipt moved generated
+  unfolding called answerTo outcome receipt receiptAt generated
   called-stored (inserting g n) =
       let e = inserted-stored s w g n in (
         ap (λ x. x .replica) e ∙ sent-answer (stored s) (localInsert s g n .state) (localInsert s g n .answer),
@@ -110,7 +110,7 @@ module _ (s : State) (w : Within s) where
 
   -- a line that is not read is refused
   line-step : (l : List ℕ) → Steps s (inMemory (stored s)) (memoryCall (onLine l))
-  unfolding stepOn onMemory answered answeredAs readOperation whenMade reply called answerTo
+  unfolding stepOn onMemory receivedLine receivedAs readOperation whenMade reply called answerTo
   line-step l = go (laidOut l) refl (inRange (saidBy l)) refl
     where
       go : (a : Bool) → laidOut l ≡ a → (b : Bool) → inRange (saidBy l) ≡ b → Steps s (inMemory (stored s)) (memoryCall (onLine l))

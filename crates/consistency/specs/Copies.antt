@@ -20,7 +20,7 @@ use Rattle.replica.specs.Theorems.{called, answerTo}
 use Rattle.lent.specs.declared.Returned.{Returned}
 use Rattle.lent.specs.Lent.{together, returned, siteAfter}
 use Rattle.codec.specs.Calls.{saidBy}
-use Rattle.transcript.specs.Calls.{answered}
+use Rattle.transcript.specs.Calls.{receivedLine}
 use Rattle.saved.specs.declared.LoadAnswer.{LoadAnswer}
 use Rattle.saved.specs.declared.LoadAnswer.the-variants.{Done as loadDone, Refused as loadRefused}
 use Rattle.saved.specs.Format.{savedState}
@@ -159,8 +159,8 @@ onMemory r (onRecord g n) =
     }
 onMemory r (onLine s) =
     record {
-      copy = inMemory (answered r s .replica);
-      rules = whenMade (reply (answered r s .answer) .word) (receiving (saidBy s) ∷ []);
+      copy = inMemory (receivedLine r s .replica);
+      rules = whenMade (reply (receivedLine r s .answer) .word) (receiving (saidBy s) ∷ []);
     }
 onMemory r (save out) = record { copy = afterSaving r (savedOut r out) (saved r out); rules = [] }
 

@@ -54,12 +54,12 @@ module _ (cs ds : List Character) (g : Grown cs) (h : Grown ds) where
   born = g .births .birth
 
   -- what is to be shown of two that both hold: they stand in the other list as in the first
-  abbrev Carried : Identifier → Identifier → Type 0
-  Carried x y = placeOf cs x < placeOf cs y → placeOf ds x < placeOf ds y
+  abbrev OrderKept : Identifier → Identifier → Type 0
+  OrderKept x y = placeOf cs x < placeOf cs y → placeOf ds x < placeOf ds y
 
   -- it is shown of those with a lower sum of births
   abbrev Settled : ℕ → Type 0
-  Settled n = (x y : Identifier) → Common cs ds x → Common cs ds y → born x + born y < n → Carried x y
+  Settled n = (x y : Identifier) → Common cs ds x → Common cs ds y → born x + born y < n → OrderKept x y
 
   common-id : {c : Character} → Shared cs ds c → Common cs ds (c .id)
   common-id {c} t =
@@ -130,8 +130,8 @@ module _ (cs ds : List Character) (g : Grown cs) (h : Grown ds) where
             (λ f. below-asym (c .id) (d .id) lower (higher f))
             (side (placeOf ds (c .id)) (placeOf ds (d .id)))
 
-    characters-carried : Carried (c .id) (d .id)
-    characters-carried p =
+    characters-kept : OrderKept (c .id) (d .id)
+    characters-kept p =
         ⊎-elim by-previous (λ q. ⊎-elim by-next (by-identifier p q) (side (placeOf cs (c .next)) (placeOf cs (d .id))))
         (side (placeOf cs (c .id)) (placeOf cs (d .previous)))
 
@@ -141,14 +141,14 @@ module _ (cs ds : List Character) (g : Grown cs) (h : Grown ds) where
         let r = held-is-character ds (h .standing) (c .id) (id-in-range cs (g .standing) m) e in
         record { member = m; other = r .0; other-member = r .1; alike = sym (one c (r .0) m (r .1) (r .2)) }
 
-    carried : (n : ℕ) → Settled n
-    carried zero x y i j b = absurd (omega arith)
-    carried (suc n) x y i j b = go (carried n) (holding cs x (i .left)) (holding cs y (j .left))
+    order-kept : (n : ℕ) → Settled n
+    order-kept zero x y i j b = absurd (omega arith)
+    order-kept (suc n) x y i j b = go (order-kept n) (holding cs x (i .left)) (holding cs y (j .left))
       where
         sharing : {z : Identifier} (c : Character) → List·Memᴰ c cs → z ≡ c .id → Common cs ds z → Shared cs ds c
         sharing c m e k = shared m (subst (λ (z : Identifier). held ds z ≡ true) e (k .right))
 
-        go : Settled n → Holding cs x → Holding cs y → Carried x y
+        go : Settled n → Holding cs x → Holding cs y → OrderKept x y
         go r (is-begin e) w p =
             let f = ne-same y begin (λ f. omega (arith, p, ap (placeOf cs) f, place-begin cs)) in
             omega (arith, ap (placeOf ds) e, place-begin ds, place-later ds y f)
@@ -159,13 +159,13 @@ module _ (cs ds : List Character) (g : Grown cs) (h : Grown ds) where
             let q = above-place ds (c .id) (c .next) (shared-next cs ds (h .standing) t) in
             omega (arith, ap (placeOf ds) e, ap (placeOf ds) f, place-end ds (h .standing), q, held-place ds (c .next) (common-next t .right))
         go r (is-character c m e) (is-character d k f) p =
-            subst₂ (λ (a b : Identifier). born a + born b < suc n → Carried a b) (sym e) (sym f)
-            (characters-carried n r c d (sharing c m e i) (sharing d k f j))
+            subst₂ (λ (a b : Identifier). born a + born b < suc n → OrderKept a b) (sym e) (sym f)
+            (characters-kept n r c d (sharing c m e i) (sharing d k f j))
             b
             p
 
-    carries : (x y : Identifier) → Common cs ds x → Common cs ds y → Carried x y
-    carries x y i j = carried (suc (born x + born y)) x y i j (omega arith)
+    carries : (x y : Identifier) → Common cs ds x → Common cs ds y → OrderKept x y
+    carries x y i j = order-kept (suc (born x + born y)) x y i j (omega arith)
 
     carries-back : (x y : Identifier) → Common cs ds x → Common cs ds y → placeOf ds x < placeOf ds y → placeOf cs x < placeOf cs y
     carries-back x y i j p = ⊎-elim (λ f. absurd (other-way f)) (λ f. f) (side (placeOf cs y) (placeOf cs x))

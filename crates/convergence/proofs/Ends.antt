@@ -22,7 +22,7 @@ use Rattle.woot.specs.Form.{wellFormed}
 use Rattle.woot.specs.Answers.{reply, changes, first, decided}
 use Rattle.woot.specs.Calls.{visibles, insertCarried, afterDrain, carryOut, accept}
 use Rattle.woot.specs.Cursor.{visibleThrough, cursorAfter, receiveAtChecks, receiveAtWhen, receiveAt, newGap, shiftOf, shiftAt}
-use Rattle.woot.specs.Situations.{put, _at_, stateAt, Done, pointing, moved, seen, numbered, upward, crowded, releasing}
+use Rattle.woot.specs.Situations.{letter, _at_, stateAt, Done, pointing, shifted, seen, numbered, upward, crowded, releasing}
 use Rattle.woot.proofs.Situations.{lowest-shift}
 use Rattle.woot.proofs.Ends.{crowded-formed, releasing-passes}
 use Rattle.convergence.specs.Cursors.{ShiftEnds}
@@ -35,13 +35,13 @@ use Rattle.convergence.proofs.Through.{upTo, shownIn, through-character
 -- the characters with m more on top, the last of them highest
 tower : ℕ → ℕ → Identifier → List Character → List Character
 tower zero n x cs = cs
-tower (suc m) n x cs = tower m (suc n) (numbered n) (character (put (numbered n) begin x) ∷ cs)
+tower (suc m) n x cs = tower m (suc n) (numbered n) (character (letter (numbered n) begin x) ∷ cs)
 
 -- ---- one insert on top
 
 module _ (c : Character) (cs : List Character) (apart : same (c .id) begin ≡ false) (y : Identifier) where
   abbrev ontop : Insert
-  ontop = put y begin (c .id)
+  ontop = letter y begin (c .id)
 
   place-first : placeOf (c ∷ cs) begin ≡ 0
   unfolding placeOf sequence
@@ -89,7 +89,7 @@ chain-drained zero n c cs apart = draining-recurs (c ∷ cs) []
 chain-drained (suc m) n c cs apart =
     draining-recurs (c ∷ cs) (upward (suc m) n (c .id))
     ∙ rw (top-ready c cs apart (numbered n), top-straight c cs apart (numbered n), top-placed c cs apart (numbered n), top-carried c cs apart (numbered n))
-    (ap (andIntegrated (insert (put (numbered n) begin (c .id)))) (chain-drained m (suc n) (character (put (numbered n) begin (c .id))) (c ∷ cs) (numbered-begin n)))
+    (ap (andIntegrated (insert (letter (numbered n) begin (c .id)))) (chain-drained m (suc n) (character (letter (numbered n) begin (c .id))) (c ∷ cs) (numbered-begin n)))
 
 chain-length : (m n : ℕ) (x : Identifier) → length (upward m n x) ≡ m
 chain-length zero n x = refl
@@ -100,20 +100,20 @@ tower-shown : (m n : ℕ) (x y : Identifier) (cs : List Character) → y .clock 
 unfolding tower character isVisible
 tower-shown zero n x y cs h = omega arith
 tower-shown (suc m) n x y cs h =
-    tower-shown m (suc n) (numbered n) y (character (put (numbered n) begin x) ∷ cs) h
+    tower-shown m (suc n) (numbered n) y (character (letter (numbered n) begin x) ∷ cs) h
     ∙ rw (numbered-apart n y h) (omega arith)
 
 -- ---- the call that releases them
 
 abbrev own : Insert
-own = put (1 at 99) begin (1 at 1)
+own = letter (1 at 99) begin (1 at 1)
 
 abbrev lone : Character
-lone = character (put (1 at 1) begin end)
+lone = character (letter (1 at 1) begin end)
 
 -- one row, and m inserts that wait
 abbrev waiting : ℕ → State
-waiting m = stateAt 99 (put (1 at 1) begin end ∷ []) (upward m 0 (1 at 99))
+waiting m = stateAt 99 (letter (1 at 1) begin end ∷ []) (upward m 0 (1 at 99))
 
 lone-apart : same (lone .id) begin ≡ false
 unfolding character same
@@ -139,9 +139,9 @@ module _ (m : ℕ) where
 
   -- where nothing turns it away, it carries out all of them
   released-seen : wellFormed (waiting m) ≡ true → first (receiveAtChecks true (waiting m) (insert own) 1) ≡ none
-      → seen (pointing (waiting m) (insert own) 1) ≡ moved (Done (suc m) 0) (subℕ (m + 2) 1)
+      → seen (pointing (waiting m) (insert own) 1) ≡ shifted (Done (suc m) 0) (subℕ (m + 2) 1)
   unfolding seen receiveAt receiveAtWhen shiftAt shiftOf decided accept character
-  released-seen f p = rw (f, p, top-ready lone [] lone-apart (1 at 99)) (ap₂ moved carried-reply (ap (λ (n : ℕ). subℕ n 1) carried-gap))
+  released-seen f p = rw (f, p, top-ready lone [] lone-apart (1 at 99)) (ap₂ shifted carried-reply (ap (λ (n : ℕ). subℕ n 1) carried-gap))
 
 pub shift-ends : ShiftEnds
 unfolding crowded releasing

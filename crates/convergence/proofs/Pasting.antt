@@ -40,7 +40,7 @@ use Rattle.woot.specs.Cursor.{visibleThrough}
 use Rattle.woot.specs.Histories.{Call, startOf, beforehand, inserting, outcome, run, integratedBy, drainedBy, discardedBy, isDeferred, deferredBy, historyOf}
 use Rattle.woot.specs.Pasting.{orNothing, codePointsOf, gapBelow, typings, ownBy, stopped, PasteOutcome, unpasted, pasted, clockShort, overfull, blockChecks, pasteChecks, pasteWhen, paste}
 use Rattle.convergence.specs.Agreement.{Grown}
-use Rattle.convergence.specs.Pasting.{PasteRefuses, PasteNumbers, PasteDoes, PasteNotUtf8, PasteAllOrNone, PasteNothing, EachDone, DoneTillUnplaceable, OnlyUnplaceable, PasteIsTyping, carriedBy, thrownBy, PasteCounts, PasteCountsBounded, sentTyping, PasteSends, NextGap, gapAfter, PastingMoves, PasteNeverUnplaceable, PasteFormKept, PasteInHistories}
+use Rattle.convergence.specs.Pasting.{PasteRefuses, PasteNumbers, PasteDoes, PasteNotUtf8, PasteAllOrNone, PasteNothing, EachDone, DoneTillUnplaceable, OnlyUnplaceable, PasteIsTyping, carriedCount, thrownCount, PasteCounts, PasteCountsBounded, sentTyping, PasteSends, NextGap, gapAfter, PastingMoves, PasteNeverUnplaceable, PasteFormKept, PasteInHistories}
 use Rattle.convergence.proofs.Extract.{extract-itself}
 use Rattle.convergence.proofs.Toggling.{toggle-held}
 use Rattle.convergence.proofs.Places.{held-member}
@@ -201,7 +201,7 @@ paste-nothing s g form gap =
 
 -- ---- what is counted and sent
 
-counts-summed : (s : State) (cs : List Call) → (length (integratedBy s cs) ≡ carriedBy s cs) × (length (discardedBy s cs) ≡ thrownBy s cs)
+counts-summed : (s : State) (cs : List Call) → (length (integratedBy s cs) ≡ carriedCount s cs) × (length (discardedBy s cs) ≡ thrownCount s cs)
 counts-summed s [] = (refl, refl)
 counts-summed s (c ∷ cs) =
     let h = counts-summed (outcome s c .state) cs in
@@ -365,11 +365,11 @@ typed-some : (s : State) (g n : ℕ) → reply (outcome s (inserting g n) .answe
 unfolding carryOut reply
 typed-some s g n h = rw (typed-carried s g n (typed-none s g n h)) (omega arith)
 
-typings-some : (s : State) (g : ℕ) (ns : List ℕ) → EachDone s (typings s g ns) → length ns ≤ carriedBy s (typings s g ns)
+typings-some : (s : State) (g : ℕ) (ns : List ℕ) → EachDone s (typings s g ns) → length ns ≤ carriedCount s (typings s g ns)
 typings-some s g [] w = omega arith
 typings-some s g (n ∷ ns) w = omega (arith, typed-some s g n (w .0), typings-some (stateAfter s g n) (gapThen s g n) ns (w .1))
 
-typings-move : (s : State) (g : ℕ) (ns : List ℕ) → EachDone s (typings s g ns) → carriedBy s (typings s g ns) ≡ length ns → gapAfter s g ns ≡ g + length ns
+typings-move : (s : State) (g : ℕ) (ns : List ℕ) → EachDone s (typings s g ns) → carriedCount s (typings s g ns) ≡ length ns → gapAfter s g ns ≡ g + length ns
 unfolding gapBelow generatedInsert
 typings-move s g [] w e = omega arith
 typings-move s g (n ∷ ns) w e =

@@ -21,7 +21,7 @@ use Rattle.woot.specs.Placing.{identifiers, sequence, indexOf, placeOf, held, a
 use Rattle.lists.proofs.Tests.{side, either, clash, and-left, and-right, and-intro, or-cases, or-left, or-right, or-false-left, or-false-right}
 use Rattle.lists.proofs.Members.{any-member, member-any, any-append}
 use Rattle.convergence.proofs.Identifiers.{same-refl, same-eq, ne-same}
-use Rattle.convergence.proofs.Insertion.{put, put-any, put-append, insert-map}
+use Rattle.convergence.proofs.Insertion.{putAfter, put-any, put-append, insert-map}
 
 -- an index into a list, once an element is put in after the first k
 abbrev pub shift : ℕ → ℕ → ℕ
@@ -68,22 +68,22 @@ index-any x (y ∷ ys) = ⊎-elim here (λ e. later e (index-any x ys)) (either 
     later e r = rw (e, indexOf) (leb·suc-suc (suc (indexOf x ys)) (length ys) ∙ r)
 
 pub index-put-old : (k : ℕ) (x y : Identifier) (xs : List Identifier) → k ≤ length xs → same x y ≡ false
-    → indexOf x (put k y xs) ≡ shift k (indexOf x xs)
+    → indexOf x (putAfter k y xs) ≡ shift k (indexOf x xs)
 index-put-old zero x y xs h n = index-later x y xs n
 index-put-old (suc k) x y [] h n = absurd (not-suc-le-zero h)
 index-put-old (suc k) x y (z ∷ zs) h n = ⊎-elim here (later (index-put-old k x y zs (le-of-suc-le-suc h) n)) (either (same x z))
   where
-    here : same x z ≡ true → indexOf x (z ∷ put k y zs) ≡ shift (suc k) (indexOf x (z ∷ zs))
-    here e = index-here x z (put k y zs) e ∙ sym (ap (shift (suc k)) (index-here x z zs e))
+    here : same x z ≡ true → indexOf x (z ∷ putAfter k y zs) ≡ shift (suc k) (indexOf x (z ∷ zs))
+    here e = index-here x z (putAfter k y zs) e ∙ sym (ap (shift (suc k)) (index-here x z zs e))
 
-    later : indexOf x (put k y zs) ≡ shift k (indexOf x zs) → same x z ≡ false → indexOf x (z ∷ put k y zs) ≡ shift (suc k) (indexOf x (z ∷ zs))
-    later r e = index-later x z (put k y zs) e ∙ ap suc r ∙ sym (ap (shift (suc k)) (index-later x z zs e))
+    later : indexOf x (putAfter k y zs) ≡ shift k (indexOf x zs) → same x z ≡ false → indexOf x (z ∷ putAfter k y zs) ≡ shift (suc k) (indexOf x (z ∷ zs))
+    later r e = index-later x z (putAfter k y zs) e ∙ ap suc r ∙ sym (ap (shift (suc k)) (index-later x z zs e))
 
-pub index-put-new : (k : ℕ) (y : Identifier) (xs : List Identifier) → k ≤ length xs → any (same y) xs ≡ false → indexOf y (put k y xs) ≡ k
+pub index-put-new : (k : ℕ) (y : Identifier) (xs : List Identifier) → k ≤ length xs → any (same y) xs ≡ false → indexOf y (putAfter k y xs) ≡ k
 index-put-new zero y xs h n = index-here y y xs (same-refl y)
 index-put-new (suc k) y [] h n = absurd (not-suc-le-zero h)
 index-put-new (suc k) y (x ∷ xs) h n =
-    index-later y x (put k y xs) (or-false-left (same y x) _ n)
+    index-later y x (putAfter k y xs) (or-false-left (same y x) _ n)
     ∙ ap suc (index-put-new k y xs (le-of-suc-le-suc h) (or-false-right (same y x) _ n))
 
 -- what is found at the index of a member
@@ -228,7 +228,7 @@ module _ (k : ℕ) (c : Character) (cs : List Character) where
       shuffle false false r s = refl
 
 module _ (k : ℕ) (c : Character) (cs : List Character) (within : k ≤ length cs) where
-  pub sequence-insert : sequence (insertAt k c cs) ≡ put (suc k) (c .id) (sequence cs)
+  pub sequence-insert : sequence (insertAt k c cs) ≡ putAfter (suc k) (c .id) (sequence cs)
   unfolding sequence
   sequence-insert =
       ap (λ (l : List Identifier). begin ∷ (l ++ end ∷ [])) (insert-map k c cs (λ (d : Character). d .id))

@@ -22,7 +22,7 @@ use Rattle.lists.proofs.Tests.{side}
 use Rattle.convergence.proofs.Characters.{located-member, located-place}
 use Rattle.convergence.proofs.Toggling.{toggle-place, toggle-each}
 use Rattle.convergence.proofs.Placing.{candidates-are, Narrowing, adjacent-is, Placed, arrived, narrows, placed}
-use Rattle.convergence.proofs.Standing.{Placement, Moved, inserted, previous-in, next-in, new-place, old-place, each}
+use Rattle.convergence.proofs.Standing.{Placement, Displaced, inserted, previous-in, next-in, new-place, old-place, each}
 
 -- if x stands above y, under y's previous p, and y over x's next n, then x is the lower identifier
 abbrev pub Ranked : List Character → (x n p y : Identifier) → Type 0
@@ -177,7 +177,7 @@ module _ (cs : List Character) (s : Standing cs) (a : Ascending cs) (i : Insert)
         (λ a. ⊎-elim (λ b. omega arith) (λ b. omega arith) y-place)
         (old-place cs i fresh p x h)
       where
-        y-place : Moved (p .place) (placeOf cs y) (placeOf (inserted cs i p) y)
+        y-place : Displaced (p .place) (placeOf cs y) (placeOf (inserted cs i p) y)
         y-place = old-place cs i fresh p y g
 
     -- what stands above the new character stood above the gap, and what stands below it below

@@ -79,8 +79,8 @@ module _ (cs : List Character) (i : Insert) (ready : executable cs (insert i) �
   integrate-insert u = let p = placement u in (p .place, p .within, p .result)
 
 -- a place, and what it is after an insertion just below place k
-abbrev pub Moved : ℕ → ℕ → ℕ → Type 0
-Moved k a b = ((a ≤ k) × (b ≡ a)) ⊎ ((k < a) × (b ≡ suc a))
+abbrev pub Displaced : ℕ → ℕ → ℕ → Type 0
+Displaced k a b = ((a ≤ k) × (b ≡ a)) ⊎ ((k < a) × (b ≡ suc a))
 
 -- the characters with an insert in its place
 abbrev pub inserted : (cs : List Character) (i : Insert) → Placement cs i → List Character
@@ -104,7 +104,7 @@ module _ (cs : List Character) (i : Insert) (fresh : held cs (i .id) ≡ false) 
   old-held x h = held-insert (p .place) (character i) cs x ∙ or-right (same x (i .id)) _ h
 
   -- those above the new one keep their place, and the others move down by one
-  pub old-place : (x : Identifier) → held cs x ≡ true → Moved (p .place) (placeOf cs x) (placeOf (inserted cs i p) x)
+  pub old-place : (x : Identifier) → held cs x ≡ true → Displaced (p .place) (placeOf cs x) (placeOf (inserted cs i p) x)
   unfolding character
   old-place x h =
       ⊎-elim (λ e. inl (e, moved ∙ shift-before (suc (p .place)) (placeOf cs x) (omega arith)))

@@ -89,19 +89,19 @@ PasteIsTyping =
     EachDone s (typings s g ns) × (paste s g block ≡ pasted s (typings s g ns))
 
 -- the counts of the calls added up
-abbrev pub carriedBy : State → List Call → ℕ
-carriedBy s [] = 0
-carriedBy s (c ∷ cs) = reply (outcome s c .answer) .integrated + carriedBy (outcome s c .state) cs
+abbrev pub carriedCount : State → List Call → ℕ
+carriedCount s [] = 0
+carriedCount s (c ∷ cs) = reply (outcome s c .answer) .integrated + carriedCount (outcome s c .state) cs
 
-abbrev pub thrownBy : State → List Call → ℕ
-thrownBy s [] = 0
-thrownBy s (c ∷ cs) = reply (outcome s c .answer) .discarded + thrownBy (outcome s c .state) cs
+abbrev pub thrownCount : State → List Call → ℕ
+thrownCount s [] = 0
+thrownCount s (c ∷ cs) = reply (outcome s c .answer) .discarded + thrownCount (outcome s c .state) cs
 
 -- its counts are theirs
 abbrev pub PasteCounts : Type 0
 PasteCounts =
     (s : State) (g : ℕ) (block ns : List ℕ) → Encodes block ns → reply (paste s g block .answer) .word ≡ done →
-    paste s g block .answer ≡ Done (carriedBy s (typings s g ns)) (thrownBy s (typings s g ns))
+    paste s g block .answer ≡ Done (carriedCount s (typings s g ns)) (thrownCount s (typings s g ns))
 
 -- carried is at most 1,536 and thrown at most 512: 1,024 characters, and what waited
 abbrev pub PasteCountsBounded : Type 0

@@ -133,7 +133,7 @@ fn convert(from: Version, to: Version, bytes: &[u8], out: &mut [u8]) -> Written
     ) {
         return Written::Refused(Refusal::Unrepresentable);
     }
-    saving::put(
+    saving::put_replica(
         to,
         replica.site,
         &replica.document.characters,

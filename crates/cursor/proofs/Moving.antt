@@ -12,12 +12,12 @@ use borrow.Author.Tests.{lt-ltb}
 use Rattle.woot.specs.declared.Character.{Character}
 use Rattle.woot.specs.declared.Operation.{Operation}
 use Rattle.woot.specs.declared.Replica.{Replica}
-use Rattle.woot.specs.declared.Moved.{Moved}
+use Rattle.woot.specs.declared.ReceiptAt.{ReceiptAt}
 use Rattle.woot.specs.State.{State}
 use Rattle.woot.specs.Memory.{meaning}
 use Rattle.woot.specs.Answers.{changes}
 use Rattle.woot.specs.Cursor.{leftOf, nearest, cursorAfter, receiveAt, newGap, shiftAt, lastNumber, movedBy}
-use Rattle.woot.specs.Replicas.{moved, receivedAt}
+use Rattle.woot.specs.Replicas.{receiptAt, receivedAt}
 use Rattle.lists.proofs.Tests.{either, clash}
 use Rattle.convergence.proofs.Cursors.{cursor-keeps, cursor-hidden, shift-bounds, shift-adds, moved-to-new-gap}
 use Rattle.convergence.proofs.Through.{left-shown}
@@ -28,10 +28,10 @@ use Rattle.cursor.proofs.Receiving.{turned-is, changed-within, ruled, l
 
 module _ (r : Replica) (o : Operation) (g : ℕ) where
   still : changes (receivedAt r o g .answer) ≡ false → (receivedAt r o g .replica ≡ r) × (receivedAt r o g .shift ≡ pos 0)
-  still e = (ap (λ (x : Moved). x .replica) (sym (turned-is r o g e)), ap (λ (x : Moved). x .shift) (sym (turned-is r o g e)))
+  still e = (ap (λ (x : ReceiptAt). x .replica) (sym (turned-is r o g e)), ap (λ (x : ReceiptAt). x .shift) (sym (turned-is r o g e)))
 
   bounds : (negsuc 0 ≤ℤ receivedAt r o g .shift) × (receivedAt r o g .shift ≤ℤ pos 513)
-  unfolding moved shiftAt
+  unfolding receiptAt shiftAt
   bounds =
       ⊎-elim (λ e. rw (ruled r o g e) (shift-bounds (meaning r) o g)) (λ e. rw (still e .1) (record { le = tt }, record { le = tt }))
       (either (changes (receivedAt r o g .answer)))
@@ -44,13 +44,13 @@ replica-shift-bounds r o g = bounds r o g
 
 -- where something changed, what came back and the shift are those of the rules
 module _ (r : Replica) (o : Operation) (g : ℕ) (e : changes (receivedAt r o g .answer) ≡ true) where
-  answered : changes (receiveAt (meaning r) o g .answer) ≡ true
-  unfolding moved
-  answered = subst (λ (x : Moved). changes (x .answer) ≡ true) (ruled r o g e) e
+  changed-by-rule : changes (receiveAt (meaning r) o g .answer) ≡ true
+  unfolding receiptAt
+  changed-by-rule = subst (λ (x : ReceiptAt). changes (x .answer) ≡ true) (ruled r o g e) e
 
   shifted : receivedAt r o g .shift ≡ shiftAt (meaning r) o g
-  unfolding moved shiftAt
-  shifted = ap (λ (x : Moved). x .shift) (ruled r o g e)
+  unfolding receiptAt shiftAt
+  shifted = ap (λ (x : ReceiptAt). x .shift) (ruled r o g e)
 
 pub replica-moves : ReplicaMoves
 unfolding newGap
@@ -58,7 +58,7 @@ replica-moves r o g few e =
     rw (left-means r o g e, shifted r o g e, moved-to-new-gap (meaning r) o g few) (gap, shift-adds (meaning r) o g .1 (changed-within r o g e))
   where
     gap : newGap (meaning r) (receiveAt (meaning r) o g) g ≡ cursorAfter (meaning r .characters) (receiveAt (meaning r) o g .state .characters) g
-    gap = rw (newGap, answered r o g e)
+    gap = rw (newGap, changed-by-rule r o g e)
 
 -- a shift of 0 leaves a number of 64 bits
 stays : (g : ℕ) → g ≤ lastNumber → movedBy g (pos 0) ≡ g

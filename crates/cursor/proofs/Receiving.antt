@@ -17,7 +17,7 @@ use Rattle.woot.specs.declared.Operation.the-variants.{Insert as insert, Toggle
 use Rattle.woot.specs.declared.Character.{Character}
 use Rattle.woot.specs.declared.Refusal.the-variants.{Range, Form, Position}
 use Rattle.woot.specs.declared.Replica.{Replica}
-use Rattle.woot.specs.declared.Moved.{Moved}
+use Rattle.woot.specs.declared.ReceiptAt.{ReceiptAt}
 use Rattle.woot.specs.declared.Receipt.{Receipt}
 use Rattle.woot.specs.declared.Answer.{Answer}
 use Rattle.woot.specs.declared.Answer.the-variants.{Done, Deferred, Duplicate, Refused}
@@ -34,7 +34,7 @@ use Rattle.woot.specs.Answers.{earlier, changes, first, decided}
 use Rattle.woot.specs.Calls.{Outcome, unchanged, duplicate, newChecks, receiveChecks, receiveWhen, carryOut, defer, accept, visibles, beyondVisible}
 use Rattle.woot.specs.Cursor.{leftOf, visibleThrough, cursorAfter, receiveAtChecks, receiveAtWhen, receiveAt, newGap, shiftOf}
 use Rattle.woot.specs.Histories.{receivingAt, outcome}
-use Rattle.woot.specs.Replicas.{afterAnswer, receipt, moved, received, receivedAt}
+use Rattle.woot.specs.Replicas.{afterAnswer, receipt, receiptAt, received, receivedAt}
 use Rattle.lists.proofs.Tests.{either, clash}
 use Rattle.lists.proofs.Members.{keep-length}
 use Rattle.convergence.proofs.Steps.{All, first-none, first-some, Turned, receive-at-turned}
@@ -261,34 +261,34 @@ after-turned r s (Refused q) e = refl
 
 module _ (r : Replica) (o : Operation) (g : ℕ) where
   pub turned-is : changes (receivedAt r o g .answer) ≡ false → record { answer = receivedAt r o g .answer; replica = r; shift = pos 0 } ≡ receivedAt r o g
-  unfolding receivedAt moved shiftOf newGap
+  unfolding receivedAt receiptAt shiftOf newGap
   turned-is e =
       let w = receiveAtWhen (memory.replicaWellFormed r) (memory.meaning r) o g in
       rw (after-turned r (w .state) (w .answer) e, e, difference-self g)
 
   module _ (e : changes (receivedAt r o g .answer) ≡ true) where
     pub changed-formed : memory.replicaWellFormed r ≡ true
-    unfolding receivedAt moved
+    unfolding receivedAt receiptAt
     changed-formed = within-of (memory.replicaWellFormed r) (memory.meaning r) o g e .0
 
     pub changed-within : beyondVisible (memory.meaning r) g ≡ false
-    unfolding receivedAt moved
+    unfolding receivedAt receiptAt
     changed-within = within-of (memory.replicaWellFormed r) (memory.meaning r) o g e .1
 
     -- by the rules
-    pub ruled : receivedAt r o g ≡ moved r g (receiveAt (memory.meaning r) o g)
+    pub ruled : receivedAt r o g ≡ receiptAt r g (receiveAt (memory.meaning r) o g)
     unfolding receivedAt receiveAt
-    ruled = ap (λ (b : Bool). moved r g (receiveAtWhen b (memory.meaning r) o g)) (changed-formed ∙ sym (form-meant r changed-formed))
+    ruled = ap (λ (b : Bool). receiptAt r g (receiveAtWhen b (memory.meaning r) o g)) (changed-formed ∙ sym (form-meant r changed-formed))
 
     pub left-formed : wellFormed (receiveAt (memory.meaning r) o g .state) ≡ true
     unfolding outcome
     left-formed = form-kept (memory.meaning r) (receivingAt o g) (form-meant r changed-formed)
 
     pub left-stored : receivedAt r o g .replica ≡ memory.stored (receiveAt (memory.meaning r) o g .state)
-    unfolding moved
+    unfolding receiptAt
     left-stored =
-        ap (λ (x : Moved). x .replica) ruled
-        ∙ after-changed r (receiveAt (memory.meaning r) o g .state) (receiveAt (memory.meaning r) o g .answer) (subst (λ (x : Moved). changes (x .answer) ≡ true) ruled e)
+        ap (λ (x : ReceiptAt). x .replica) ruled
+        ∙ after-changed r (receiveAt (memory.meaning r) o g .state) (receiveAt (memory.meaning r) o g .answer) (subst (λ (x : ReceiptAt). changes (x .answer) ≡ true) ruled e)
 
     pub left-means : memory.meaning (receivedAt r o g .replica) ≡ receiveAt (memory.meaning r) o g .state
     left-means = ap memory.meaning left-stored ∙ meaning-stored (receiveAt (memory.meaning r) o g .state) (formed-within (receiveAt (memory.meaning r) o g .state) left-formed)
@@ -301,11 +301,11 @@ module _ (r : Replica) (o : Operation) (g : ℕ) where
 
     -- the shift is counted in it
     pub shift-is : subℕ (visibleThrough (memory.meaning (receivedAt r o g .replica) .characters) (leftOf (memory.meaning r .characters) g)) g ≡ receivedAt r o g .shift
-    unfolding shiftOf newGap cursorAfter moved
+    unfolding shiftOf newGap cursorAfter receiptAt
     shift-is =
-        let there : changes (receiveAt (memory.meaning r) o g .answer) ≡ true = subst (λ (x : Moved). changes (x .answer) ≡ true) ruled e in
+        let there : changes (receiveAt (memory.meaning r) o g .answer) ≡ true = subst (λ (x : ReceiptAt). changes (x .answer) ≡ true) ruled e in
         rw left-means
-        (sym (ap (λ (x : Moved). x .shift) ruled
+        (sym (ap (λ (x : ReceiptAt). x .shift) ruled
         ∙ ap (λ (b : Bool). subℕ (cond b (visibleThrough (receiveAt (memory.meaning r) o g .state .characters) (leftOf (memory.meaning r .characters) g)) g) g) there))
 
 -- ---- what is put back
@@ -364,11 +364,11 @@ module _ (r b : Replica) (also : FullArrays (r .document)) (full : FullArrays (b
     back = put-back a (j .decision) (rw (form-view r, meaning-view r) (h .outcome)) (h .feasible) e made
 
     answer-is : a ≡ receivedAt r o g .answer
-    unfolding receivedAt moved receipt
+    unfolding receivedAt receiptAt receipt
     answer-is = ap (λ (x : Receipt). x .answer) back
 
     replica-is : b ≡ receivedAt r o g .replica
-    unfolding receivedAt moved receipt
+    unfolding receivedAt receiptAt receipt
     replica-is = ap (λ (x : Receipt). x .replica) back
 
     telling : {c : Bool} → changes a ≡ c → changes (receivedAt r o g .answer) ≡ c
@@ -411,7 +411,7 @@ module _ (r b : Replica) (also : FullArrays (r .document)) (full : FullArrays (b
 
       shift-so : z ≡ receivedAt r o g .shift
       shift-so =
-          ⊎-elim shifted (λ f. still f ∙ ap (λ (x : Moved). x .shift) (turned-is r o g (telling f))) (either (changes a))
+          ⊎-elim shifted (λ f. still f ∙ ap (λ (x : ReceiptAt). x .shift) (turned-is r o g (telling f))) (either (changes a))
 
-      pub moved-so : _≡_ {A = Moved} (record { answer = a; replica = b; shift = z }) (receivedAt r o g)
-      moved-so = λ k. record { answer = answer-is k; replica = replica-is k; shift = shift-so k }
+      pub receipt-at-so : _≡_ {A = ReceiptAt} (record { answer = a; replica = b; shift = z }) (receivedAt r o g)
+      receipt-at-so = λ k. record { answer = answer-is k; replica = replica-is k; shift = shift-so k }

@@ -6,8 +6,8 @@ use reception::Decision;
 use woot::Answer;
 use woot::CHARACTERS;
 use woot::Document;
-use woot::Moved;
 use woot::Operation;
+use woot::ReceiptAt;
 use woot::Refusal;
 use woot::Replica;
 use woot::Site;
@@ -63,7 +63,7 @@ fn anchored<'a>(ids: &'a [u32], toggles: &'a [u8], n: usize, point: usize) -> An
 }
 
 // The answer with a cursor, of what is answered without one and of whether the cursor is beyond the visible characters.
-fn answered(answer: Answer, beyond: bool) -> Answer
+fn answer_at(answer: Answer, beyond: bool) -> Answer
     ensures { λ r. ⌜ r ≡ answerAt beyond answer ⌝ }
 {
     if !beyond {
@@ -89,7 +89,7 @@ fn overrule(decision: Decision, beyond: bool) -> Decision
         return decision;
     }
     match decision {
-        Decision::Answered(a) => Decision::Answered(answered(a, beyond)),
+        Decision::Answered(a) => Decision::Answered(answer_at(a, beyond)),
         Decision::Defer => Decision::Answered(Answer::Refused(Refusal::Position)),
         Decision::Place(_) => Decision::Answered(Answer::Refused(Refusal::Position)),
         Decision::Toggle(_) => Decision::Answered(Answer::Refused(Refusal::Position)),
@@ -215,7 +215,7 @@ fn shift_with<'a>(
 }
 
 // Receives an operation with the cursor at an insertion point, and says how far the cursor moves.
-pub fn receive_at(replica: Replica, operation: Operation, point: usize) -> Moved
+pub fn receive_at(replica: Replica, operation: Operation, point: usize) -> ReceiptAt
     ensures { λ r. ⌜ r ≡ receivedAt replica operation point ⌝ }
 {
     let judged = judge_at(
@@ -258,7 +258,7 @@ pub fn receive_at(replica: Replica, operation: Operation, point: usize) -> Moved
         point,
     );
     let site = carried.site;
-    Moved {
+    ReceiptAt {
         answer,
         replica: Replica {
             site,

@@ -9,7 +9,7 @@ use lib.ListN.{length, take, drop, set, getD, length-map, length-append}
 use lib.Seq.{getD-take}
 use Rattle.lists.specs.Lists.{distinct}
 use Rattle.lists.specs.Padding.{pad}
-use Rattle.slots.specs.Slots.{put, removed}
+use Rattle.slots.specs.Slots.{putAfter, removed}
 use Rattle.slots.proofs.Slots.{removed-length, removed-padded, removed-map, push-padded, set-padded}
 use Rattle.woot.specs.declared.Insert.{Insert}
 use Rattle.woot.specs.declared.Toggle.{Toggle}
@@ -95,11 +95,11 @@ module _ {d : Document} {cs : List Character} {ps : List Operation} (p : Parts d
 
   -- a character put in
   pub placed-parts : (k : ℕ) (i : Insert) → d .length < 1024 → {is qs ns xs ts hs ls : List ℕ}
-      → is ≡ put k (key (i .id)) (take (d .length) (d .ids)) ++ drop (suc (d .length)) (d .ids)
-      → qs ≡ put k (key (i .previous)) (take (d .length) (d .previous)) ++ drop (suc (d .length)) (d .previous)
-      → ns ≡ put k (key (i .next)) (take (d .length) (d .next)) ++ drop (suc (d .length)) (d .next)
-      → xs ≡ put k (i .«code_point») (take (d .length) (d .«code_points»)) ++ drop (suc (d .length)) (d .«code_points»)
-      → ts ≡ put k 0 (take (d .length) (d .toggles)) ++ drop (suc (d .length)) (d .toggles)
+      → is ≡ putAfter k (key (i .id)) (take (d .length) (d .ids)) ++ drop (suc (d .length)) (d .ids)
+      → qs ≡ putAfter k (key (i .previous)) (take (d .length) (d .previous)) ++ drop (suc (d .length)) (d .previous)
+      → ns ≡ putAfter k (key (i .next)) (take (d .length) (d .next)) ++ drop (suc (d .length)) (d .next)
+      → xs ≡ putAfter k (i .«code_point») (take (d .length) (d .«code_points»)) ++ drop (suc (d .length)) (d .«code_points»)
+      → ts ≡ putAfter k 0 (take (d .length) (d .toggles)) ++ drop (suc (d .length)) (d .toggles)
       → _≡_ {A = Table} (record { heads = hs; links = ls }) (tableOf (take (d .length + 1) is))
       → Parts (documentAs is qs ns xs ts (d .length + 1) (d .own) (d .first) (d .second) (d .values) (d .waiting) hs ls) (insertAt k (character i) cs) ps
   unfolding character

@@ -47,9 +47,9 @@ use Rattle.pending.proofs.Earliest.{ready-executable, takes}
 use Rattle.memory.proofs.Operations.{operations-at, range-keyed}
 use Rattle.memory.proofs.Stored.{Parts}
 use Rattle.memory.specs.Lent.{Slots}
-use Rattle.delivery.specs.Work.{Work, workOf, charactersAt, pendingAt, Workable, carried, stepped, finished, dueIn, takenFrom, steppedIn, finishedIn}
+use Rattle.delivery.specs.Work.{Work, workOf, charactersAt, pendingAt, Workable, dealtWith, stepped, finished, dueIn, takenFrom, steppedIn, finishedIn}
 use Rattle.delivery.specs.Steps.{placeOf}
-use Rattle.delivery.proofs.Works.{sound-small, sound-tabled, parts, parts-slots, used, ranged-at, work-characters, work-pending, work-waiting, work-integrated, work-discarded, work-tidy, work-path, carried-discarded, carried-integrated, carried-toggle, judged, carried-insert}
+use Rattle.delivery.proofs.Works.{sound-small, sound-tabled, parts, parts-slots, used, ranged-at, work-characters, work-pending, work-waiting, work-integrated, work-discarded, work-tidy, work-path, dealt-discarded, dealt-integrated, dealt-toggle, judged, dealt-insert}
 
 -- ---- what a document that can be drained is like
 
@@ -128,7 +128,7 @@ module _ {w : Work} (k : Workable w) (j : ℕ) (at : dueIn w ≡ At j) where
   pub due-room : w .document .length + length (inserts (slotted (w .document) j ∷ [])) ≤ 1024
   due-room = omega (arith, workable-parts k .length-is, k .sound .room, one-insert (due-found .extracted))
 
-  pub due-stepped : steppedIn w ≡ carried (charactersAt w) (removed j (pendingAt w)) (w .integrated) (w .discarded) (slotted (w .document) j)
+  pub due-stepped : steppedIn w ≡ dealtWith (charactersAt w) (removed j (pendingAt w)) (w .integrated) (w .discarded) (slotted (w .document) j)
   unfolding stepped
   due-stepped = rw due-is
 
@@ -180,7 +180,7 @@ module _ {w : Work} (k : Workable w) (j : ℕ) (at : dueIn w ≡ At j) where
         carries : steppedIn w ≡ judged (charactersAt w) (removed j (pendingAt w)) (w .integrated) (w .discarded) i p
         carries =
             due-stepped k j at
-            ∙ rw is (carried-insert (charactersAt w) (removed j (pendingAt w)) (w .integrated) (w .discarded) i (rw is at (due-ready k j at)) p placed)
+            ∙ rw is (dealt-insert (charactersAt w) (removed j (pendingAt w)) (w .integrated) (w .discarded) i (rw is at (due-ready k j at)) p placed)
 
         pub goes-at : (m : ℕ) → placeOf p ≡ At m → Goes w i j m
         goes-at m e =
@@ -206,7 +206,7 @@ module _ {w : Work} (k : Workable w) (j : ℕ) (at : dueIn w ≡ At j) where
 
   module _ (x : Toggle) (is : slotted (w .document) j ≡ toggle x) where
     pub toggles-becomes : steppedIn w ≡ workOf (integrateToggle (charactersAt w) x) (removed j (pendingAt w)) (w .integrated + 1) (w .discarded)
-    toggles-becomes = due-stepped k j at ∙ rw is (carried-toggle (charactersAt w) (removed j (pendingAt w)) (w .integrated) (w .discarded) x)
+    toggles-becomes = due-stepped k j at ∙ rw is (dealt-toggle (charactersAt w) (removed j (pendingAt w)) (w .integrated) (w .discarded) x)
 
     -- its target stands where the table has it
     pub toggles-found : found (key (x .target)) (take (w .document .length) (w .document .ids)) ≡ firstIndex (targeted x) (charactersAt w)
@@ -271,8 +271,8 @@ module _ {w : Work} (k : Workable w) (t : Extracted) (is : takenFrom w ≡ some 
       }
 
   -- carried out or discarded
-  carried-nearer : Nearer w (carried (charactersAt w) (t .others) (w .integrated) (w .discarded) (t .operation))
-  carried-nearer = go (crossed cs o || unplaceable cs o) refl
+  dealt-nearer : Nearer w (dealtWith (charactersAt w) (t .others) (w .integrated) (w .discarded) (t .operation))
+  dealt-nearer = go (crossed cs o || unplaceable cs o) refl
     where
       cs : List Character
       cs = charactersAt w
@@ -280,13 +280,13 @@ module _ {w : Work} (k : Workable w) (t : Extracted) (is : takenFrom w ≡ some 
       o : Operation
       o = t .operation
 
-      go : (b : Bool) → crossed cs o || unplaceable cs o ≡ b → Nearer w (carried cs (t .others) (w .integrated) (w .discarded) o)
+      go : (b : Bool) → crossed cs o || unplaceable cs o ≡ b → Nearer w (dealtWith cs (t .others) (w .integrated) (w .discarded) o)
       go true e =
-          rw (carried-discarded cs (t .others) (w .integrated) (w .discarded) o e)
+          rw (dealt-discarded cs (t .others) (w .integrated) (w .discarded) o e)
           (nearer-to cs (w .integrated) (w .discarded + 1) (sound-out (extracted-so .extracted) (k .sound)) (omega arith) (omega arith)
           (finished-discarded cs _ _ _ t is e))
       go false e =
-          rw (carried-integrated cs (t .others) (w .integrated) (w .discarded) o e)
+          rw (dealt-integrated cs (t .others) (w .integrated) (w .discarded) o e)
           (nearer-to (integrate cs o) (w .integrated + 1) (w .discarded)
           (sound-carry o (extracted-so .extracted) (k .sound) (extracted-so .passed) (or-false-left (crossed cs o) _ e) (or-false-right (crossed cs o) _ e))
           (omega arith) (omega arith) (finished-integrated cs _ _ _ t is e))
@@ -296,4 +296,4 @@ pub step-nearer : {w : Work} → Workable w → (j : ℕ) → dueIn w ≡ At j �
 unfolding stepped
 step-nearer {w} k j at r e =
     let is = due-is k j at in
-    rw (e, is) (carried-nearer k _ is)
+    rw (e, is) (dealt-nearer k _ is)

@@ -40,7 +40,7 @@ use Rattle.integration.proofs.Placements.{Says, says}
 use Rattle.memory.specs.Lent.{documentAs, Slots}
 use Rattle.memory.proofs.Operations.{AllKeyed, all-keyed, operations-every}
 use Rattle.memory.proofs.Stored.{Parts, document-path, document-parts, stored-characters, stored-operations, character-count, pending-count, ids-in, previous-in, next-in, points-in, toggles-in, own-in, first-in, second-in, values-in}
-use Rattle.delivery.specs.Work.{Lent, TidyDocument, Work, workOf, charactersAt, pendingAt, Workable, carried}
+use Rattle.delivery.specs.Work.{Lent, TidyDocument, Work, workOf, charactersAt, pendingAt, Workable, dealtWith}
 
 -- ---- what sound lists are
 
@@ -129,17 +129,17 @@ ranged-at d h j within =
 -- ---- one operation carried out
 
 module _ (cs : List Character) (ps : List Operation) (n m : ℕ) where
-  pub carried-discarded : (o : Operation) → crossed cs o || unplaceable cs o ≡ true → carried cs ps n m o ≡ workOf cs ps n (m + 1)
-  unfolding carried
-  carried-discarded o e = rw e
+  pub dealt-discarded : (o : Operation) → crossed cs o || unplaceable cs o ≡ true → dealtWith cs ps n m o ≡ workOf cs ps n (m + 1)
+  unfolding dealtWith
+  dealt-discarded o e = rw e
 
-  pub carried-integrated : (o : Operation) → crossed cs o || unplaceable cs o ≡ false → carried cs ps n m o ≡ workOf (integrate cs o) ps (n + 1) m
-  unfolding carried
-  carried-integrated o e = rw e
+  pub dealt-integrated : (o : Operation) → crossed cs o || unplaceable cs o ≡ false → dealtWith cs ps n m o ≡ workOf (integrate cs o) ps (n + 1) m
+  unfolding dealtWith
+  dealt-integrated o e = rw e
 
-  pub carried-toggle : (d : Toggle) → carried cs ps n m (toggle d) ≡ workOf (integrateToggle cs d) ps (n + 1) m
+  pub dealt-toggle : (d : Toggle) → dealtWith cs ps n m (toggle d) ≡ workOf (integrateToggle cs d) ps (n + 1) m
   unfolding crossed unplaceable integrate
-  carried-toggle d = carried-integrated (toggle d) refl
+  dealt-toggle d = dealt-integrated (toggle d) refl
 
   -- what becomes of an insert, by what is found for it
   abbrev pub judged : Insert → Placement → Work
@@ -148,15 +148,15 @@ module _ (cs : List Character) (ps : List Operation) (n m : ℕ) where
   judged i Unplaceable = workOf cs ps n (m + 1)
   judged i (Below k) = workOf (insertAt k (character i) cs) ps (n + 1) m
 
-  pub carried-insert : (i : Insert) → executable cs (insert i) ≡ true → (p : Placement) → placementOf cs i ≡ p → carried cs ps n m (insert i) ≡ judged i p
+  pub dealt-insert : (i : Insert) → executable cs (insert i) ≡ true → (p : Placement) → placementOf cs i ≡ p → dealtWith cs ps n m (insert i) ≡ judged i p
   unfolding integrate
-  carried-insert i ready p e = go p (says cs i p e)
+  dealt-insert i ready p e = go p (says cs i p e)
     where
-      go : (p : Placement) → Says cs i p → carried cs ps n m (insert i) ≡ judged i p
+      go : (p : Placement) → Says cs i p → dealtWith cs ps n m (insert i) ≡ judged i p
       go Missing s = clash ready s
-      go Crossed s = carried-discarded (insert i) (or-left (crossed cs (insert i)) _ (s .1))
-      go Unplaceable s = carried-discarded (insert i) (or-right (crossed cs (insert i)) _ (s .2))
-      go (Below k) s = carried-integrated (insert i) (or-false (s .1) (s .2)) ∙ rw (s .3)
+      go Crossed s = dealt-discarded (insert i) (or-left (crossed cs (insert i)) _ (s .1))
+      go Unplaceable s = dealt-discarded (insert i) (or-right (crossed cs (insert i)) _ (s .2))
+      go (Below k) s = dealt-integrated (insert i) (or-false (s .1) (s .2)) ∙ rw (s .3)
 
 -- ---- what is cleared
 

@@ -73,14 +73,14 @@ pub record Workable (w : Work) : Type 0 where
   pub discarded-fits : w .discarded + w .document .waiting < 2 ^ 64
 
 -- o carried out, or discarded where condition 8 or 9 holds
-unfoldable pub carried : List Character → List Operation → ℕ → ℕ → Operation → Work
-carried cs ps n m o =
+unfoldable pub dealtWith : List Character → List Operation → ℕ → ℕ → Operation → Work
+dealtWith cs ps n m o =
     cond (crossed cs o || unplaceable cs o) (workOf cs ps n (m + 1)) (workOf (integrate cs o) ps (n + 1) m)
 
 -- one step of draining: the operation that was taken out is carried out or discarded
 unfoldable pub stepped : List Character → List Operation → ℕ → ℕ → Option Extracted → Work
 stepped cs ps n m none = workOf cs ps n m
-stepped cs ps n m (some t) = carried cs (t .others) n m (t .operation)
+stepped cs ps n m (some t) = dealtWith cs (t .others) n m (t .operation)
 
 -- what draining leaves, with what it carried out and discarded counted
 unfoldable pub finished : List Character → List Operation → ℕ → ℕ → Work

@@ -1,3 +1,3 @@
 pub mod Outputs
 pub mod Saving
-pub mod Held
+pub mod Totals

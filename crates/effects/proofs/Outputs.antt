@@ -18,7 +18,7 @@ use Rattle.woot.specs.declared.Refusal.the-variants.{Form, Output}
 use Rattle.woot.specs.declared.Answer.{Answer}
 use Rattle.woot.specs.declared.Answer.the-variants.{Done}
 use Rattle.woot.specs.declared.Sent.the-variants.{Done as sentDone, Refused as sentRefused}
-use Rattle.woot.specs.declared.Moved.{Moved}
+use Rattle.woot.specs.declared.ReceiptAt.{ReceiptAt}
 use Rattle.woot.specs.declared.Generated.{Generated}
 use Rattle.woot.specs.declared.Written.the-variants.{Length, Refused as writtenRefused}
 use Rattle.woot.specs.declared.Written.{Written}
@@ -35,10 +35,10 @@ use Rattle.replica.specs.Texts.{textOf, textChecks, textWritten, textOut}
 use Rattle.saved.specs.Calls.{bytesOf}
 use Rattle.effects.specs.Results.{result}
 use Rattle.effects.specs.Effects.{Effect, Leaves, quiet, turned, writingNoted, writing, writingBoth}
-use Rattle.effects.specs.Steps.{afterNoting, afterWriting, movedLeft, sentLeft, generatedLeft, textLeft}
+use Rattle.effects.specs.Steps.{afterNoting, afterWriting, receiptAtLeft, sentLeft, generatedLeft, textLeft}
 
-pub carried : {e f : Effect} {r : ℕ} {out line : List ℕ} → e ≡ f → Leaves f r out line → Leaves e r out line
-carried {r = r} {out = out} {line = line} p h = subst (λ (x : Effect). Leaves x r out line) (sym p) h
+pub leaves-by : {e f : Effect} {r : ℕ} {out line : List ℕ} → e ≡ f → Leaves f r out line → Leaves e r out line
+leaves-by {r = r} {out = out} {line = line} p h = subst (λ (x : Effect). Leaves x r out line) (sym p) h
 
 -- a refusal that holds turns the call away
 pub turned-away : (out line : List ℕ) {o : Option Refusal} (e : Effect) {q : Refusal} → o ≡ some q → decided (turned out line) o e ≡ turned out line q
@@ -95,13 +95,13 @@ text-written r out = checked-written ((not (replicaWellFormed r) ⇒ Form) ∷ [
 
 -- ---- receiving
 
-module _ (x y : Moved) (e : x ≡ y) (out : List ℕ) where
-  pub unchanged : changes (x .answer) ≡ false → movedLeft y out ≡ quiet out [] (x .answer)
-  unfolding movedLeft
+module _ (x y : ReceiptAt) (e : x ≡ y) (out : List ℕ) where
+  pub unchanged : changes (x .answer) ≡ false → receiptAtLeft y out ≡ quiet out [] (x .answer)
+  unfolding receiptAtLeft
   unchanged h = rw (← e, h)
 
-  pub changed : changes (x .answer) ≡ true → (note : ℕ) → note ≡ shiftBits (x .shift) → movedLeft y out ≡ writingNoted (x .answer) note (bytesOf (x .replica)) out
-  unfolding movedLeft
+  pub changed : changes (x .answer) ≡ true → (note : ℕ) → note ≡ shiftBits (x .shift) → receiptAtLeft y out ≡ writingNoted (x .answer) note (bytesOf (x .replica)) out
+  unfolding receiptAtLeft
   changed h note f = rw (← e, h, f)
 
 -- ---- sending

@@ -16,7 +16,7 @@ use Rattle.lists.specs.Padding.{pad}
 use Rattle.lists.proofs.Padding.{pad-length}
 use Rattle.woot.specs.declared.Operation.{Operation}
 use Rattle.woot.specs.declared.Character.{Character}
-use Rattle.woot.specs.declared.Moved.{Moved}
+use Rattle.woot.specs.declared.ReceiptAt.{ReceiptAt}
 use Rattle.woot.specs.State.{State}
 use Rattle.woot.specs.Table.{key, keys}
 use Rattle.woot.specs.declared.Sent.{Sent}
@@ -75,16 +75,16 @@ stored-full s w =
     }
 
 -- and what receiving with a cursor returns where it changed something, which is in form
-module _ (r : Replica) (o : Operation) (g : ℕ) {x : Moved} (e : x ≡ receivedAt r o g) (h : changes (x .answer) ≡ true) where
+module _ (r : Replica) (o : Operation) (g : ℕ) {x : ReceiptAt} (e : x ≡ receivedAt r o g) (h : changes (x .answer) ≡ true) where
   told : changes (receivedAt r o g .answer) ≡ true
-  told = sym (ap (λ (y : Moved). changes (y .answer)) e) ∙ h
+  told = sym (ap (λ (y : ReceiptAt). changes (y .answer)) e) ∙ h
 
-  pub moved-formed : replicaWellFormed (x .replica) ≡ true
-  moved-formed = ap (λ (y : Moved). replicaWellFormed (y .replica)) e ∙ left-in-form r o g told
+  pub received-at-formed : replicaWellFormed (x .replica) ≡ true
+  received-at-formed = ap (λ (y : ReceiptAt). replicaWellFormed (y .replica)) e ∙ left-in-form r o g told
 
-  pub full-moved : FullArrays (x .replica .document)
-  full-moved =
-      subst (λ (y : Replica). FullArrays (y .document)) (sym (ap (λ (y : Moved). y .replica) e ∙ left-stored r o g told))
+  pub full-received-at : FullArrays (x .replica .document)
+  full-received-at =
+      subst (λ (y : Replica). FullArrays (y .document)) (sym (ap (λ (y : ReceiptAt). y .replica) e ∙ left-stored r o g told))
       (stored-full _ (formed-within _ (left-formed r o g told)))
 
 -- a shift is read back from the machine's 32 bits
@@ -92,7 +92,7 @@ small-fits : (z : ℤ) → negsuc 0 ≤ℤ z → z ≤ℤ pos 513 → SFits w32 
 small-fits (pos n) low high = record { sfits = omega (arith, leb→le n 513 (high .le)) }
 small-fits (negsuc n) low high = record { sfits = omega (arith, leb→le n 0 (low .le)) }
 
-pub shift-read : (r : Replica) (o : Operation) (g : ℕ) {x : Moved} → x ≡ receivedAt r o g → toZ w32 (ofZ w32 (x .shift)) ≡ x .shift
+pub shift-read : (r : Replica) (o : Operation) (g : ℕ) {x : ReceiptAt} → x ≡ receivedAt r o g → toZ w32 (ofZ w32 (x .shift)) ≡ x .shift
 shift-read r o g {x} e =
     let bounds = replica-shift-bounds r o g in
-    toZ-ofZ (subst (λ (y : Moved). SFits w32 (y .shift)) (sym e) (small-fits (receivedAt r o g .shift) (bounds .0) (bounds .1)))
+    toZ-ofZ (subst (λ (y : ReceiptAt). SFits w32 (y .shift)) (sym e) (small-fits (receivedAt r o g .shift) (bounds .0) (bounds .1)))

@@ -17,12 +17,12 @@ use Rattle.effects.specs.Results.{Result, result, silent}
 use Rattle.effects.specs.Counts.{countsOf}
 
 -- how many inserts are held: n characters, and those of the pending operations that have a key of their own
-abbrev pub heldBy : ℕ → List ℕ → ℕ
-heldBy n own = n + length (keep (λ k. not (eqb k 0)) own)
+abbrev pub presentBy : ℕ → List ℕ → ℕ
+presentBy n own = n + length (keep (λ k. not (eqb k 0)) own)
 
 -- the counts of n characters and w pending operations that have these keys of their own
 unfoldable pub countsIn : List Character → ℕ → List ℕ → ℕ → Result
-countsIn cs n own w = result (Done (length (visibles cs)) w) n (capacity - heldBy n own)
+countsIn cs n own w = result (Done (length (visibles cs)) w) n (capacity - presentBy n own)
 
 -- the counts of a replica, whose form decides first
 unfoldable pub countsLeft : Replica → Result

@@ -8,7 +8,7 @@ use Rattle.woot.specs.declared.Answer.{Answer}
 use Rattle.woot.specs.declared.Answer.the-variants.{Done, Refused}
 use Rattle.woot.specs.declared.Sent.{Sent}
 use Rattle.woot.specs.declared.Sent.the-variants.{Done as sentDone, Refused as sentRefused}
-use Rattle.woot.specs.declared.Moved.{Moved}
+use Rattle.woot.specs.declared.ReceiptAt.{ReceiptAt}
 use Rattle.woot.specs.declared.Generated.{Generated}
 use Rattle.woot.specs.declared.Written.{Written}
 use Rattle.woot.specs.declared.Written.the-variants.{Length, Refused as writtenRefused}
@@ -30,8 +30,8 @@ unfoldable pub afterWriting : Answer → Written → Result
 afterWriting a w = afterNoting a 0 w
 
 -- what receiving with a cursor leaves
-unfoldable pub movedLeft : Moved → List ℕ → Effect
-movedLeft x out =
+unfoldable pub receiptAtLeft : ReceiptAt → List ℕ → Effect
+receiptAtLeft x out =
     cond (changes (x .answer)) (writingNoted (x .answer) (shiftBits (x .shift)) (bytesOf (x .replica)) out)
     (quiet out [] (x .answer))
 

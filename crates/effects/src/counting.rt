@@ -13,25 +13,25 @@ ghost use lib.ListN.{length, take};
 ghost use Rattle.woot.specs.declared.Character.{Character};
 ghost use Rattle.woot.specs.Memory.{toggleCounts, characterSlots};
 ghost use Rattle.effects.specs.Results.{numberOf};
-ghost use Rattle.effects.specs.Counting.{heldBy, countsIn, countsLeft};
+ghost use Rattle.effects.specs.Counting.{presentBy, countsIn, countsLeft};
 
 // The counts of a replica whose characters have these toggles, and its first w pending operations these keys of their
 // own, 0 of a toggle. A pending insert has its place kept, so the room is what is left beside it.
 fn counts_of<'a>(toggles: &'a [u8], n: usize, own: &'a [u32], w: usize) -> u64
     requires { ⌜ n ≤ length (now toggles) ⌝ }
     requires { ⌜ w ≤ length (now own) ⌝ }
-    requires { ⌜ heldBy n (take w (now own)) ≤ characterSlots ⌝ }
+    requires { ⌜ presentBy n (take w (now own)) ≤ characterSlots ⌝ }
     ensures { λ r. ⌜ ((cs : List Character) → toggleCounts cs ≡ take n (now (toggles .entry))
         → r ≡ numberOf (countsIn cs n (take w (now (own .entry))) w)) ⌝ }
 {
-    let held = n + counts::count_inserts(&own[..w]);
-    let room = CHARACTERS - held;
+    let present = n + counts::count_inserts(&own[..w]);
+    let room = CHARACTERS - present;
     let shown = visible::count(toggles, n);
     let counts = Answer::Done {
         integrated: shown,
         discarded: w,
     };
-    results::returned(counts, n, room)
+    results::number_of(counts, n, room)
 }
 
 // Counts what the replica holds.
@@ -48,7 +48,7 @@ pub fn count(replica: Replica) -> u64
         &replica.document.table.heads,
         &replica.document.table.links,
     ) {
-        return results::refused(Refusal::Form);
+        return results::number_of_refusal(Refusal::Form);
     }
     counts_of(
         &replica.document.toggles,

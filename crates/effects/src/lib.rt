@@ -28,7 +28,7 @@ ghost use Rattle.saved.specs.Calls.{bytesOf};
 ghost use Rattle.saving.specs.Documents.{stateIn};
 ghost use Rattle.effects.specs.Results.{numberOf};
 ghost use Rattle.effects.specs.Effects.{Leaves, writingNoted, writing, writingBoth};
-ghost use Rattle.effects.specs.Steps.{afterNoting, afterWriting, movedLeft};
+ghost use Rattle.effects.specs.Steps.{afterNoting, afterWriting, receiptAtLeft};
 ghost use Rattle.effects.specs.Steps.{generatedLeft, textLeft};
 
 // What is returned once writing was tried, with a note where the length of the second output stands.
@@ -36,8 +36,8 @@ fn after_noting(answer: Answer, note: usize, written: Written) -> u64
     ensures { λ r. ⌜ r ≡ numberOf (afterNoting answer note written) ⌝ }
 {
     match written {
-        Written::Length(n) => results::returned(answer, n, note),
-        Written::Refused(refusal) => results::refused(refusal),
+        Written::Length(n) => results::number_of(answer, n, note),
+        Written::Refused(refusal) => results::number_of_refusal(refusal),
     }
 }
 
@@ -72,7 +72,7 @@ fn save_noted<'a>(
     after_noting(
         answer,
         note,
-        saving::put(
+        saving::put_replica(
             Version::Second,
             site,
             characters,
@@ -124,18 +124,18 @@ pub fn show(replica: Replica, out: &mut [u8]) -> u64
 // Receives the operation with a cursor at the insertion point, saves the replica if that changed it, and notes the
 // shift.
 pub fn receive_at(replica: Replica, operation: Operation, point: usize, out: &mut [u8]) -> u64
-    ensures { λ r. ⌜ Leaves (movedLeft (receivedAt replica operation point) (now (out .entry)))
+    ensures { λ r. ⌜ Leaves (receiptAtLeft (receivedAt replica operation point) (now (out .entry)))
         r (now (out .exit)) [] ⌝ }
 {
-    let moved = cursor::receive_at(replica, operation, point);
-    let answer = moved.answer;
+    let receipt = cursor::receive_at(replica, operation, point);
+    let answer = receipt.answer;
     if !answer.is_change() {
-        return results::returned(answer, 0, 0);
+        return results::number_of(answer, 0, 0);
     }
-    let after = moved.replica;
+    let after = receipt.replica;
     save_noted(
         answer,
-        cursor::bits(moved.shift),
+        cursor::bits(receipt.shift),
         after.site,
         &after.document.characters,
         &after.document.toggles,
@@ -171,9 +171,9 @@ fn save_both<'a>(
 {
     let space = codec::writing::measure(operation, line.len(), 0);
     match space {
-        Room::Short => results::refused(Refusal::Output),
+        Room::Short => results::number_of_refusal(Refusal::Output),
         Room::Until(length) => {
-            let written = saving::put(
+            let written = saving::put_replica(
                 Version::Second,
                 site,
                 characters,
@@ -184,10 +184,10 @@ fn save_both<'a>(
                 out,
             );
             match written {
-                Written::Refused(refusal) => results::refused(refusal),
+                Written::Refused(refusal) => results::number_of_refusal(refusal),
                 Written::Length(saved) => {
                     codec::writing::put_operation(operation, line, 0);
-                    results::returned(answer, saved, length)
+                    results::number_of(answer, saved, length)
                 }
             }
         }
@@ -196,7 +196,7 @@ fn save_both<'a>(
 
 // Saves the new replica and writes the line of the operation to be sent, or answers the refusal. A step of the calls
 // and not a call: what they generate leaves the replica well formed.
-pub fn send(generated: Generated, out: &mut [u8], line: &mut [u8]) -> u64
+pub fn save_and_send(generated: Generated, out: &mut [u8], line: &mut [u8]) -> u64
     requires { ⌜ (changes (answerOf (generated .answer)) ≡ true
         → replicaWellFormed (generated .replica) ≡ true) ⌝ }
     ensures { λ r. ⌜ Leaves (generatedLeft generated (now (out .entry)) (now (line .entry)))
@@ -204,7 +204,7 @@ pub fn send(generated: Generated, out: &mut [u8], line: &mut [u8]) -> u64
 {
     let answer = generated.answer;
     match answer {
-        Sent::Refused(refusal) => results::refused(refusal),
+        Sent::Refused(refusal) => results::number_of_refusal(refusal),
         Sent::Done {
             operation,
             integrated,

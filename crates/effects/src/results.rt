@@ -23,7 +23,7 @@ fn join(
 }
 
 // What a call returns that answers so and has written so many bytes.
-pub fn returned(answer: Answer, written: usize, line: usize) -> u64
+pub fn number_of(answer: Answer, written: usize, line: usize) -> u64
     ensures { λ r. ⌜ r ≡ numberOf (result answer written line) ⌝ }
 {
     match answer {
@@ -38,8 +38,8 @@ pub fn returned(answer: Answer, written: usize, line: usize) -> u64
 }
 
 // A refusal, with nothing written.
-pub fn refused(refusal: Refusal) -> u64
+pub fn number_of_refusal(refusal: Refusal) -> u64
     ensures { λ r. ⌜ r ≡ numberOf (silent (Refused refusal)) ⌝ }
 {
-    returned(Answer::Refused(refusal), 0, 0)
+    number_of(Answer::Refused(refusal), 0, 0)
 }

@@ -5,7 +5,7 @@ use woot::Written;
 ghost use mathlib.Core.Path.{_≡_};
 ghost use mathlib.Core.Bool.{true};
 ghost use Rattle.woot.specs.Memory.{replicaWellFormed};
-ghost use Rattle.transcript.specs.Calls.{answered};
+ghost use Rattle.transcript.specs.Calls.{receivedLine};
 
 const STDIN: i32 = 0;
 
@@ -31,7 +31,7 @@ struct Printed {
 
 // Takes the first line of the bytes, and prints the report on it.
 fn print_line(replica: Replica, number: u64, bytes: &[u8]) -> Printed
-    ensures { λ r. ⌜ r .replica ≡ answered replica (now (bytes .entry)) .replica ⌝ }
+    ensures { λ r. ⌜ r .replica ≡ receivedLine replica (now (bytes .entry)) .replica ⌝ }
 {
     let mut line = [0u8; 70];
     let processed = transcript::process_line(replica, number, bytes, &mut line);

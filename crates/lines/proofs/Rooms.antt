@@ -84,7 +84,7 @@ pub run-whole : {out₀ : List ℕ} {at : ℕ} {a out : List ℕ} {end : ℕ} �
     → (end ≡ past out₀ at a) × (out ≡ placed out₀ at a)
 run-whole {out₀} {at} {a} room r = (r .offset ∙ sym (past-room out₀ at a room), r .bytes)
 
--- ---- the loop of `put`
+-- ---- the loop of `put_line`
 
 -- the first i numbers of a line are put, and there is room for the others and the line feed
 pub record Putting (ns out₀ : List ℕ) (at : ℕ) (out : List ℕ) (end i : ℕ) : Type 0 where

@@ -40,7 +40,7 @@ pub fn measure(head: &[u8], numbers: &[u64], size: usize, at: usize) -> Room
 }
 
 // Puts a line into the slice at the offset, all of it or nothing, and answers the offset just past it.
-pub fn put(head: &[u8], numbers: &[u64], out: &mut [u8], at: usize) -> usize
+pub fn put_line(head: &[u8], numbers: &[u64], out: &mut [u8], at: usize) -> usize
     ensures { λ r. ⌜ r ≡ past (now (out .entry)) at (lineOf (now (head .entry)) (now (numbers .entry))) ⌝ }
     ensures { λ r. ⌜ now (out .exit)
         ≡ placed (now (out .entry)) at (lineOf (now (head .entry)) (now (numbers .entry))) ⌝ }

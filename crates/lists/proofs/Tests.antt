@@ -112,8 +112,8 @@ seven a b c d e f g h =
     (t .0, t .1, t .2, t .3, and-right (a && b && c && d) e (and-left (a && b && c && d && e) f (and-left (a && b && c && d && e && f) g h)), and-right (a && b && c && d && e) f (and-left (a && b && c && d && e && f) g h), and-right (a && b && c && d && e && f) g h)
 
 -- what a call's answer, tested, says of the test that it stands for
-pub refused : {t u : Bool} → t ≡ u → not t ≡ true → u ≡ false
-refused {t} e h = sym e ∙ not-true t h
+pub failed : {t u : Bool} → t ≡ u → not t ≡ true → u ≡ false
+failed {t} e h = sym e ∙ not-true t h
 
 pub passed : {t u : Bool} → t ≡ u → not t ≡ false → u ≡ true
 passed {t} e h = sym e ∙ not-false t h

@@ -36,7 +36,7 @@ use Rattle.saved.specs.declared.LoadAnswer.the-variants.{Done, Refused}
 use Rattle.saved.specs.Format.{isSite, siteSaid, isCharacter, characterSaid, isOperation, operationSaid, headLine, characterLines, operationLines}
 use Rattle.saved.specs.Format.{laidOutAs, stateAs, characterWithin, inRangeAs}
 use Rattle.saved.specs.Calls.{readingChecks}
-use Rattle.saved.specs.Calls.{fitting, inArrays, held}
+use Rattle.saved.specs.Calls.{fitting, inArrays, raisedInArrays}
 use Rattle.saved.proofs.Trips.{no-site, every-leading}
 use Rattle.saved_lines.specs.declared.SiteLine.{SiteLine}
 use Rattle.saved_lines.specs.Judging.{siteRead}
@@ -282,9 +282,9 @@ module _ (v : Version) (s : List ℕ) (first : SiteLine) (f : first ≡ siteRead
                 h ∙ (λ j. heardKeys (heardKeys (site-is j) (ids-are j)) (own-are j))
                 ∙ clock-raised (stateAs v s) (and-right (every (characterWithin v) (stateAs v s .characters)) (allInRange (stateAs v s)) ranges)
 
-            pub all-held : replicaIn site characters toggles (cs .count) pending (ps .count) (table .heads) (table .links) ≡ held (stateAs v s)
-            unfolding held inArrays fitting documentOf charactersHeld pendingHeld
-            all-held = λ j.
+            pub all-raised : replicaIn site characters toggles (cs .count) pending (ps .count) (table .heads) (table .links) ≡ raisedInArrays (stateAs v s)
+            unfolding raisedInArrays inArrays fitting documentOf charactersHeld pendingHeld
+            all-raised = λ j.
                 replicaIn (site-raised j) ((c ∙ ap (λ (x : List Character). charactersHeld (take characterSlots x)) characters-said) j)
                 ((t ∙ ap (λ (x : List Character). pad characterSlots 0 (toggleCounts (take characterSlots x))) characters-said) j)
                 (count-is j)

@@ -18,9 +18,9 @@ use Rattle.saved.specs.declared.Loaded.{Loaded}
 use Rattle.saved.specs.declared.Version.{Version}
 use Rattle.saved.specs.declared.Version.the-variants.{Second}
 use Rattle.saved.specs.Format.{laidOutAs, stateAs, inRangeAs, savedLaidOut, savedInRange}
-use Rattle.saved.specs.Calls.{loadedAs, readingChecks, held, inArrays, fitting}
-use Rattle.saved.specs.Calls.{unread, held, savedRead, loaded}
-use Rattle.saved.proofs.Held.{read-form}
+use Rattle.saved.specs.Calls.{loadedAs, readingChecks, raisedInArrays, inArrays, fitting}
+use Rattle.saved.specs.Calls.{unread, raisedInArrays, savedRead, loaded}
+use Rattle.saved.proofs.Arrays.{read-form}
 use Rattle.saved.proofs.Refusals.{load-layout, load-range, load-form, load-done, never-done, read-lacks, read-out, read-done, read-well}
 use Rattle.loading.specs.Filling.{readAnswer, charactersHeld, pendingHeld}
 use Rattle.memory.proofs.Fullness.{FullArrays}
@@ -41,7 +41,7 @@ same-answer (some a) r = refl
 module _ (v : Version) (s : List ℕ) where
   pub answer-read : readAnswer v s ≡ savedRead v s .answer
   unfolding readAnswer savedRead
-  answer-read = same-answer (first (readingChecks v s)) (held (stateAs v s))
+  answer-read = same-answer (first (readingChecks v s)) (raisedInArrays (stateAs v s))
 
 -- ---- by its answer
 
@@ -65,15 +65,15 @@ module _ (v : Version) (s : List ℕ) {a : LoadAnswer} (e : a ≡ savedRead v s 
       (λ w. ap (λ (x : Refusal). unread (Refused x)) (w .2) ∙ sym (read-out v s (w .0) (w .1)))
       (because q h)
 
-  pub read-whole : a ≡ Done → {r : Replica} → r ≡ held (stateAs v s) → _≡_ {A = Loaded} (record { answer = a; replica = r }) (savedRead v s)
+  pub read-whole : a ≡ Done → {r : Replica} → r ≡ raisedInArrays (stateAs v s) → _≡_ {A = Loaded} (record { answer = a; replica = r }) (savedRead v s)
   read-whole h p =
       let w = read-well v s (sym e ∙ h) in
       (λ j. record { answer = h j; replica = p j }) ∙ sym (read-done v s (w .0) (w .1))
 
 -- what the arrays hold of a state fills their slots
-held-full : (s : State) → FullArrays (held s .document)
-unfolding held inArrays fitting documentOf charactersHeld pendingHeld
-held-full s =
+raised-full : (s : State) → FullArrays (raisedInArrays s .document)
+unfolding raisedInArrays inArrays fitting documentOf charactersHeld pendingHeld
+raised-full s =
     let t = table-sized (keys (take characterSlots (s .characters))) in
     record {
       characters = characters-length (s .characters);
@@ -114,7 +114,7 @@ module _ (v : Version) (s : List ℕ) (x : Loaded) (e : x ≡ savedRead v s) whe
 
     -- its arrays have their slots
     pub read-full : FullArrays (x .replica .document)
-    read-full = subst (λ (y : Loaded). FullArrays (y .replica .document)) (sym (e ∙ read-done v s (both .0) (both .1))) (held-full (stateAs v s))
+    read-full = subst (λ (y : Loaded). FullArrays (y .replica .document)) (sym (e ∙ read-done v s (both .0) (both .1))) (raised-full (stateAs v s))
 
 -- loading reads the second form
 module _ (s : List ℕ) (x : Loaded) (e : x ≡ savedRead Second s) where

@@ -26,7 +26,7 @@ ghost use Rattle.woot.specs.Memory.{characterSlots, characterNumbers, pendingNu
 ghost use Rattle.woot.specs.Table.{tableOf, chains, tableLinks};
 ghost use Rattle.clock.specs.Hearing.{heardKeys};
 ghost use Rattle.saved.specs.Format.{stateAs};
-ghost use Rattle.saved.specs.Calls.{held, unread, savedRead, loaded};
+ghost use Rattle.saved.specs.Calls.{raisedInArrays, unread, savedRead, loaded};
 ghost use Rattle.loading.specs.Filling.{charactersHeld, pendingHeld, readAnswer, replicaIn};
 
 // What reading answers, and where that is `Done` what stands beside the arrays: the site, how many lines of characters
@@ -39,7 +39,7 @@ pub struct ReadInto {
 }
 
 // A refusal, and what stands beside it.
-fn refused(reason: Refusal) -> ReadInto
+fn refuse_into(reason: Refusal) -> ReadInto
     ensures { λ r. ⌜ r .answer ≡ LoadAnswer.Refused reason ⌝ }
 {
     ReadInto {
@@ -105,20 +105,20 @@ pub fn read_into(
     ensures { λ r. ⌜ (r .answer ≡ LoadAnswer.Done
         → replicaIn (r .site) (now (characters .exit)) (now (toggles .exit)) (r .length) (now (pending .exit))
         (r .waiting) (now (heads .exit)) (now (links .exit))
-        ≡ held (stateAs version (now (bytes .entry)))) ⌝ }
+        ≡ raisedInArrays (stateAs version (now (bytes .entry)))) ⌝ }
 {
     let first = saved_lines::read_site(version, reading::head(bytes));
     if !first.judged.laid_out {
-        return refused(Refusal::Layout);
+        return refuse_into(Refusal::Layout);
     }
     let body = lines::rest(bytes);
     let front = filling::read_characters(version, body, characters, toggles);
     let back = filling::read_operations(version, reading::skip(body, front.count), pending);
     if !back.laid_out {
-        return refused(Refusal::Layout);
+        return refuse_into(Refusal::Layout);
     }
     if !both(both(first.judged.in_range, front.in_range), back.in_range) {
-        return refused(Refusal::Range);
+        return refuse_into(Refusal::Range);
     }
     let site = first.site;
     ReadInto {

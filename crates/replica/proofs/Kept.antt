@@ -24,7 +24,7 @@ use Rattle.convergence.proofs.Forms.{formed}
 use Rattle.convergence.proofs.Forms.{empty-formed}
 use Rattle.convergence.proofs.Kept.{form-kept}
 use Rattle.convergence.proofs.Replies.{receive-does, receive-waits, receive-at-does, receive-at-waits, insert-does, delete-does, restore-does}
-use Rattle.woot.specs.Replicas.{afterAnswer, afterSent, receipt, moved, generated, received, receivedAt, inserted, deleted, restored}
+use Rattle.woot.specs.Replicas.{afterAnswer, afterSent, receipt, receiptAt, generated, received, receivedAt, inserted, deleted, restored}
 use Rattle.replica.specs.Theorems.{called, answerTo, ReplicasFormed, AcceptedFormed, EmptyReplicaFormed, InsertNeverTaken}
 use Rattle.replica.proofs.Runs.{formed-within, form-meant, form-stored, initial-within}
 
@@ -49,7 +49,7 @@ same-form : (r : Replica) → replicaWellFormed r ≡ true → wellFormed (meani
 same-form r f = form-meant r f ∙ sym f
 
 pub replicas-formed : ReplicasFormed
-unfolding called received receivedAt inserted deleted restored receipt moved generated outcome localInsert localDelete localRestore receive receiveAt
+unfolding called received receivedAt inserted deleted restored receipt receiptAt generated outcome localInsert localDelete localRestore receive receiveAt
 replicas-formed r (inserting g n) f =
     sent-formed r _ (inserted r g n .answer) f
     (subst (λ (b : Bool). wellFormed (localInsertWhen b (meaning r) g n .state) ≡ true) (same-form r f) (form-kept (meaning r) (inserting g n) (form-meant r f)))
@@ -84,7 +84,7 @@ sent-changing (sentRefused q) e = absurd (false≢true e)
 
 -- then condition 3 did not hold
 accepted-form : (r : Replica) (c : Call) → changes (answerTo r c) ≡ true → replicaWellFormed r ≡ true
-unfolding answerTo received receivedAt inserted deleted restored receipt moved generated receiveChecks receiveAtChecks insertChecks deleteChecks restoreChecks
+unfolding answerTo received receivedAt inserted deleted restored receipt receiptAt generated receiveChecks receiveAtChecks insertChecks deleteChecks restoreChecks
 accepted-form r (inserting g n) e = not-false _ (insert-does (replicaWellFormed r) (meaning r) g n .0 (sent-changing _ e) .1 .0)
 accepted-form r (deleting p) e = not-false _ (delete-does (replicaWellFormed r) (meaning r) p .0 (sent-changing _ e) .0)
 accepted-form r (restoring x) e = not-false _ (restore-does (replicaWellFormed r) (meaning r) x .0 (sent-changing _ e) .1 .0)

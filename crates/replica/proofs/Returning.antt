@@ -84,21 +84,21 @@ same-after r s Duplicate h = refl
 same-after r s (Refused q) h = refl
 
 module _ (r b : Replica) (also : FullArrays (r .document)) (full : FullArrays (b .document)) where
-  answered : (o : Operation) (d : Decision) (n m : ℕ) → Judged (viewed r) o d
+  receipt-so : (o : Operation) (d : Decision) (n m : ℕ) → Judged (viewed r) o d
       → _≡_ {A = Left} (record { replica = viewed b; integrated = n; discarded = m }) (leftBy (viewed r) o d)
       → _≡_ {A = Receipt} (record { answer = answerBy d n m; replica = b }) (receipt r (outcomeOf (columns.meaning (viewed r)) o d))
   unfolding answerBy outcomeOf leftBy leftOf receipt unchanged defer carryOut allIntegrated afterAnswer Feasible
-  answered o (Answered a) n m h e =
+  receipt-so o (Answered a) n m h e =
       λ j. record { answer = a; replica = (alike b full r also (ap (λ (l : Left). l .replica) e) ∙ same-after r (columns.meaning (viewed r)) a (h .feasible)) j }
-  answered o Defer n m h e =
+  receipt-so o Defer n m h e =
       λ j. record { answer = Deferred; replica = whole b full _ (ap (λ (l : Left). l .replica) e) j }
-  answered (insert i) (Place k) n m h e =
+  receipt-so (insert i) (Place k) n m h e =
       λ j. record { answer = Done (e j .integrated) (e j .discarded); replica = whole b full _ (ap (λ (l : Left). l .replica) e) j }
-  answered (toggle t) (Place k) n m h e =
+  receipt-so (toggle t) (Place k) n m h e =
       λ j. record { answer = Done (e j .integrated) (e j .discarded); replica = whole b full _ (ap (λ (l : Left). l .replica) e) j }
-  answered (insert i) (toggleAt k) n m h e =
+  receipt-so (insert i) (toggleAt k) n m h e =
       λ j. record { answer = Done (e j .integrated) (e j .discarded); replica = whole b full _ (ap (λ (l : Left). l .replica) e) j }
-  answered (toggle t) (toggleAt k) n m h e =
+  receipt-so (toggle t) (toggleAt k) n m h e =
       λ j. record { answer = Done (e j .integrated) (e j .discarded); replica = whole b full _ (ap (λ (l : Left). l .replica) e) j }
 
   pub received-so : (o : Operation) (d : Decision) (n m : ℕ) (a : Answer) → a ≡ answerBy d n m → Judged (viewed r) o d
@@ -107,7 +107,7 @@ module _ (r b : Replica) (also : FullArrays (r .document)) (full : FullArrays (b
   unfolding received
   received-so o d n m a g h e =
       ap (λ (x : Answer). record { answer = x; replica = b }) g
-      ∙ answered o d n m h e
+      ∙ receipt-so o d n m h e
       ∙ sym (ap (receipt r) (rw (form-view r, meaning-view r) (h .outcome)))
 
   -- ---- what is made here

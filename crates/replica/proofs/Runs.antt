@@ -37,7 +37,7 @@ use Rattle.convergence.proofs.Steps.{Step, turned, adds, raises, defers, step}
 use Rattle.convergence.proofs.Kept.{form-kept}
 use Rattle.convergence.proofs.Refusals.{refused-unchanged, known-unchanged}
 use Rattle.convergence.proofs.Convergence.{convergence}
-use Rattle.woot.specs.Replicas.{afterAnswer, afterSent, receipt, moved, generated, received, receivedAt, inserted, deleted, restored}
+use Rattle.woot.specs.Replicas.{afterAnswer, afterSent, receipt, receiptAt, generated, received, receivedAt, inserted, deleted, restored}
 use Rattle.replica.specs.Texts.{textOf}
 use Rattle.replica.specs.Theorems.{called, ran, ReplicasFollow, ReplicasConverge}
 
@@ -113,7 +113,7 @@ unfolding unchanged
 known-state s c e = ap (λ w. w .state) (known-unchanged s c e)
 
 pub called-stored : (s : State) (c : Call) → Within s → called (stored s) c ≡ stored (outcome s c .state)
-unfolding called received receivedAt inserted deleted restored receipt moved generated outcome localInsert localDelete localRestore receive receiveAt answerOf
+unfolding called received receivedAt inserted deleted restored receipt receiptAt generated outcome localInsert localDelete localRestore receive receiveAt answerOf
 called-stored s (inserting g n) w =
     rw (form-stored s w, meaning-stored s w)
     (sent-stored s (localInsert s g n .state) (localInsert s g n .answer) (λ r e. refused-state s (inserting g n) r (ap answerOf e)))

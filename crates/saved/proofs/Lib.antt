@@ -4,5 +4,5 @@ pub mod Bounds
 pub mod Trips
 pub mod Refusals
 pub mod Sizes
-pub mod Held
+pub mod Arrays
 pub mod Conversions

@@ -28,7 +28,7 @@ use Rattle.saved.specs.declared.Loaded.{Loaded}
 use Rattle.saved.specs.declared.Version.{Version}
 use Rattle.saved.specs.declared.Version.the-variants.{Second}
 use Rattle.saved.specs.Format.{siteHead, siteNumbers, siteLine, characterLine, savedLine, bytesAs, savedLaidOut, savedInRange, laidOutAs, stateAs, inRangeAs}
-use Rattle.saved.specs.Calls.{loadedState, loadChecks, noReplica, unread, loaded, loadNumber, handedOver, loadValue, bytesOf, saveChecks, saved, savedOut, savedRead, readingChecks, held}
+use Rattle.saved.specs.Calls.{loadedState, loadChecks, noReplica, unread, loaded, loadNumber, handedOver, loadValue, bytesOf, saveChecks, saved, savedOut, savedRead, readingChecks, raisedInArrays}
 use Rattle.saved.specs.Theorems.{LoadRefuses, LoadNumbers, SaveRefuses, SaveNumbers}
 
 -- ---- reading
@@ -66,7 +66,7 @@ module _ (v : Version) (s : List ℕ) where
     unfolding savedRead readingChecks decided
     read-out e = rw (l, e)
 
-    pub read-done : inRangeAs v s ≡ true → _≡_ {A = Loaded} (savedRead v s) (record { answer = Done; replica = held (stateAs v s) })
+    pub read-done : inRangeAs v s ≡ true → _≡_ {A = Loaded} (savedRead v s) (record { answer = Done; replica = raisedInArrays (stateAs v s) })
     unfolding savedRead readingChecks decided
     read-done e = rw (l, e)
 

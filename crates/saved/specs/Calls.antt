@@ -84,8 +84,8 @@ inArrays s =
     }
 
 -- the same, its clock raised over what the arrays hold
-unfoldable pub held : State → Replica
-held s = record { site = raised (fitting s) .site; document = inArrays s .document }
+unfoldable pub raisedInArrays : State → Replica
+raisedInArrays s = record { site = raised (fitting s) .site; document = inArrays s .document }
 
 -- conditions 1 and 2 alone
 unfoldable pub readingChecks : Version → List ℕ → List (Check LoadAnswer)
@@ -94,7 +94,7 @@ readingChecks v s = (not (laidOutAs v s) ⇒ Refused Layout) ∷ (not (inRangeAs
 -- what the bytes say, its clock raised and its form not checked
 unfoldable pub savedRead : Version → List ℕ → Loaded
 savedRead v s =
-    decided unread (first (readingChecks v s)) (record { answer = Done; replica = held (stateAs v s) })
+    decided unread (first (readingChecks v s)) (record { answer = Done; replica = raisedInArrays (stateAs v s) })
 
 -- the refusal's number, or 0
 unfoldable pub loadNumber : LoadAnswer → ℕ

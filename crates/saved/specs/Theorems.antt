@@ -21,8 +21,8 @@ use Rattle.replica.specs.Tables.{Searches}
 use Rattle.saved.specs.declared.LoadAnswer.the-variants.{Done, Refused}
 use Rattle.saved.specs.declared.Version.the-variants.{Second}
 use Rattle.saved.specs.Format.{siteLine, savedLaidOut, savedInRange, savedBytes}
-use Rattle.saved.specs.Calls.{loadedState, needsRaising, loadChecks, noReplica, held, loaded, loadNumber}
-use Rattle.saved.specs.Calls.{loadValue, bytesOf, saveChecks, saved, savedOut, savedRead, loadedAs}
+use Rattle.saved.specs.Calls.{loadedState, needsRaising, loadChecks, noReplica, raisedInArrays, loaded}
+use Rattle.saved.specs.Calls.{loadNumber, loadValue, bytesOf, saveChecks, saved, savedOut, savedRead, loadedAs}
 use Rattle.saved.specs.declared.Version.{Version}
 
 -- ---- round trips
@@ -54,12 +54,12 @@ LoadedFormed = (bytes : List ℕ) → loaded bytes .answer ≡ Done → wellForm
 -- what is read before the form is checked: with its clock raised the replica of a state in range is in form exactly
 -- when the state that loading makes is, and then it is that state as it is stored, and means it. The numbers of a state
 -- out of range may be those of another
-abbrev pub HeldForm : Type 0
-HeldForm =
+abbrev pub RaisedForm : Type 0
+RaisedForm =
     (s : State) →
-    (allInRange s ≡ true → replicaWellFormed (held s) ≡ wellFormed (raised s))
+    (allInRange s ≡ true → replicaWellFormed (raisedInArrays s) ≡ wellFormed (raised s))
     × (wellFormed (raised s) ≡ true →
-    (held s ≡ stored (raised s)) × (meaning (held s) ≡ raised s))
+    (raisedInArrays s ≡ stored (raised s)) × (meaning (raisedInArrays s) ≡ raised s))
 
 -- so it is with all that is read, in either form
 abbrev pub ReadForm : Type 0

@@ -18,7 +18,7 @@ unfoldable pub lineBytes : Line → List ℕ
 lineBytes l = lineOf (l .head ∷ []) (take (l .count) (l .numbers))
 
 -- the arrays have a slot for each of n characters and each of w pending operations
-pub record Held (ids previous next points toggles : List ℕ) (n : ℕ) (own first second values : List ℕ) (w : ℕ)
+pub record HasSlots (ids previous next points toggles : List ℕ) (n : ℕ) (own first second values : List ℕ) (w : ℕ)
     : Type 0 where
   pub ids-hold : n ≤ length ids
   pub previous-hold : n ≤ length previous

@@ -16,7 +16,7 @@ ghost use Rattle.output.specs.Output.{placed};
 ghost use Rattle.lines.specs.Room.{roomFor};
 ghost use Rattle.woot.specs.Writing.{writtenAs, outputAfter};
 ghost use Rattle.saved.specs.Format.{bytesAs};
-ghost use Rattle.saving.specs.Documents.{lineBytes, Held, listsOf, stateOf, linesAs, bodyAs};
+ghost use Rattle.saving.specs.Documents.{lineBytes, HasSlots, listsOf, stateOf, linesAs, bodyAs};
 
 // The line at an index: of the n characters first, and then of the w pending operations.
 fn line<'a>(
@@ -34,7 +34,7 @@ fn line<'a>(
     w: usize,
     at: usize,
 ) -> Line
-    requires { ⌜ Held (now ids) (now previous) (now next) (now «code_points») (now toggles) n (now own) (now first)
+    requires { ⌜ HasSlots (now ids) (now previous) (now next) (now «code_points») (now toggles) n (now own) (now first)
         (now second) (now values) w ⌝ }
     requires { ⌜ at < n + w ⌝ }
     ensures { λ r. ⌜ lineBytes r
@@ -74,7 +74,7 @@ fn measure<'a>(
     size: usize,
     at: usize,
 ) -> Room
-    requires { ⌜ Held (now ids) (now previous) (now next) (now «code_points») (now toggles) n (now own) (now first)
+    requires { ⌜ HasSlots (now ids) (now previous) (now next) (now «code_points») (now toggles) n (now own) (now first)
         (now second) (now values) w ⌝ }
     requires { ⌜ at ≤ size ⌝ }
     ensures { λ r. ⌜ r
@@ -128,7 +128,7 @@ fn put_lines<'a>(
     out: &mut [u8],
     at: usize,
 )
-    requires { ⌜ Held (now ids) (now previous) (now next) (now «code_points») (now toggles) n (now own) (now first)
+    requires { ⌜ HasSlots (now ids) (now previous) (now next) (now «code_points») (now toggles) n (now own) (now first)
         (now second) (now values) w ⌝ }
     requires { ⌜ at + length (bodyAs version (listsOf (now ids) (now previous) (now next) (now «code_points»)
         (now toggles) n (now own) (now first) (now second) (now values) w)) ≤ length (now out) ⌝ }
@@ -156,7 +156,7 @@ fn put_lines<'a>(
             w,
             i,
         );
-        end = numbered::put(line, out, end);
+        end = numbered::put_numbered(line, out, end);
         i += 1;
     }
 }
@@ -164,7 +164,7 @@ fn put_lines<'a>(
 // Writes a document, well formed or not, with its site's line at the front of the slice. A refused call leaves every
 // byte as it was. A step of the calls and not a call: they lend arrays that have a slot for each of the n characters
 // and each of the w pending operations, and `conversion` alone asks for the first form, of what that form can say.
-pub fn put<'a>(
+pub fn put_columns<'a>(
     version: Version,
     site: Site,
     ids: &'a [u32],
@@ -180,7 +180,7 @@ pub fn put<'a>(
     w: usize,
     out: &mut [u8],
 ) -> Written
-    requires { ⌜ Held (now ids) (now previous) (now next) (now «code_points») (now toggles) n (now own) (now first)
+    requires { ⌜ HasSlots (now ids) (now previous) (now next) (now «code_points») (now toggles) n (now own) (now first)
         (now second) (now values) w ⌝ }
     ensures { λ r. ⌜ r
         ≡ writtenAs [] (bytesAs version (stateOf site (listsOf (now (ids .entry)) (now (previous .entry))

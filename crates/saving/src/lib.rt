@@ -32,7 +32,7 @@ ghost use Rattle.saving.specs.Documents.{stateIn};
 // byte as it was. A step of the calls and not a call: they lend arrays of these sizes, with a slot for each of the n
 // characters and each of the w pending operations, and `conversion` alone asks for the first form, of what that form
 // can say.
-pub fn put<'a>(
+pub fn put_replica<'a>(
     version: Version,
     site: Site,
     characters: &'a [u32],
@@ -54,7 +54,7 @@ pub fn put<'a>(
         ≡ outputAfter [] (bytesAs version (stateIn site (now (characters .entry)) (now (toggles .entry)) n
         (now (pending .entry)) w)) (now (out .entry)) ⌝ }
 {
-    columns::put(
+    columns::put_columns(
         version,
         site,
         &characters[..CHARACTERS],
@@ -89,7 +89,7 @@ pub fn save(replica: Replica, out: &mut [u8]) -> Written
     ) {
         return Written::Refused(Refusal::Form);
     }
-    put(
+    put_replica(
         Version::Second,
         replica.site,
         &replica.document.characters,

@@ -126,7 +126,7 @@ pub(crate) fn measure(line: Line, size: usize, at: usize) -> Room
 }
 
 // Puts a line into the slice at the offset, all of it or nothing, and answers the offset just past it.
-pub(crate) fn put(line: Line, out: &mut [u8], at: usize) -> usize
+pub(crate) fn put_numbered(line: Line, out: &mut [u8], at: usize) -> usize
     requires { ⌜ line .count ≤ 8 ⌝ }
     ensures { λ r. ⌜ r ≡ past (now (out .entry)) at (lineBytes line) ⌝ }
     ensures { λ r. ⌜ now (out .exit) ≡ placed (now (out .entry)) at (lineBytes line) ⌝ }
@@ -134,5 +134,5 @@ pub(crate) fn put(line: Line, out: &mut [u8], at: usize) -> usize
     let head = [line.head];
     let numbers = line.numbers;
     let count = line.count;
-    lines::writing::put(&head, &numbers[..count], out, at)
+    lines::writing::put_line(&head, &numbers[..count], out, at)
 }

@@ -42,11 +42,11 @@ pub(crate) fn put_site(version: Version, site: Site, out: &mut [u8]) -> usize
     match version {
         Version::First => {
             let head = FIRST_SITE;
-            lines::writing::put(&head, &numbers, out, 0)
+            lines::writing::put_line(&head, &numbers, out, 0)
         }
         Version::Second => {
             let head = SITE;
-            lines::writing::put(&head, &numbers, out, 0)
+            lines::writing::put_line(&head, &numbers, out, 0)
         }
     }
 }

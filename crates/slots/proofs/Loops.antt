@@ -9,14 +9,14 @@ use lib.ListN.{length, take, drop, set, getD, replicate, length-set, take-append
 use lib.Seq.{split-at, drop-length, drop-cons, set-at, append-snoc, length-take-le, getD-take}
 use Rattle.lists.specs.Padding.{pad}
 use Rattle.lists.proofs.Padding.{pad-length}
-use Rattle.slots.specs.Slots.{put, removed}
+use Rattle.slots.specs.Slots.{putAfter, removed}
 use Rattle.slots.proofs.Slots.{removed-first}
 
 module _ {A : Type 0} where
   -- ---- what was taken out
 
   -- put back where it stood
-  put-back : (j : ℕ) (xs : List A) (d : A) → j < length xs → put j (getD xs j d) (removed j xs) ≡ xs
+  put-back : (j : ℕ) (xs : List A) (d : A) → j < length xs → putAfter j (getD xs j d) (removed j xs) ≡ xs
   unfolding removed
   put-back j [] d h = absurd (not-suc-le-zero h)
   put-back zero (x ∷ xs) d h = refl
@@ -34,30 +34,30 @@ module _ {A : Type 0} where
   -- ---- a hole that moves by one
 
   -- a store in the hole
-  hole-set : (i : ℕ) (v w : A) (ys zs : List A) → i ≤ length ys → set (put i v ys ++ zs) i w ≡ put i w ys ++ zs
+  hole-set : (i : ℕ) (v w : A) (ys zs : List A) → i ≤ length ys → set (putAfter i v ys ++ zs) i w ≡ putAfter i w ys ++ zs
   hole-set zero v w ys zs h = refl
   hole-set (suc i) v w [] zs h = absurd (not-suc-le-zero h)
   hole-set (suc i) v w (y ∷ ys) zs h = ap (λ (l : List A). y ∷ l) (hole-set i v w ys zs (le-of-suc-le-suc h))
 
   -- the one before the hole, and the one behind it
-  hole-below : (i : ℕ) (v : A) (ys zs : List A) (d : A) → i < length ys → getD (put (suc i) v ys ++ zs) i d ≡ getD ys i d
+  hole-below : (i : ℕ) (v : A) (ys zs : List A) (d : A) → i < length ys → getD (putAfter (suc i) v ys ++ zs) i d ≡ getD ys i d
   hole-below i v [] zs d h = absurd (not-suc-le-zero h)
   hole-below zero v (y ∷ ys) zs d h = refl
   hole-below (suc i) v (y ∷ ys) zs d h = hole-below i v ys zs d (le-of-suc-le-suc h)
 
-  hole-above : (i : ℕ) (v : A) (ys zs : List A) (d : A) → i < length ys → getD (put i v ys ++ zs) (suc i) d ≡ getD ys i d
+  hole-above : (i : ℕ) (v : A) (ys zs : List A) (d : A) → i < length ys → getD (putAfter i v ys ++ zs) (suc i) d ≡ getD ys i d
   hole-above i v [] zs d h = absurd (not-suc-le-zero h)
   hole-above zero v (y ∷ ys) zs d h = refl
   hole-above (suc i) v (y ∷ ys) zs d h = hole-above i v ys zs d (le-of-suc-le-suc h)
 
   -- with its neighbour in it, the hole is the neighbour's place
-  hole-moves : (i : ℕ) (ys : List A) (d : A) → i < length ys → put (suc i) (getD ys i d) ys ≡ put i (getD ys i d) ys
+  hole-moves : (i : ℕ) (ys : List A) (d : A) → i < length ys → putAfter (suc i) (getD ys i d) ys ≡ putAfter i (getD ys i d) ys
   hole-moves i [] d h = absurd (not-suc-le-zero h)
   hole-moves zero (y ∷ ys) d h = refl
   hole-moves (suc i) (y ∷ ys) d h = ap (λ (l : List A). y ∷ l) (hole-moves i ys d (le-of-suc-le-suc h))
 
   -- at the end
-  hole-last : (n : ℕ) (v : A) (ys zs : List A) → length ys ≡ n → put n v ys ++ zs ≡ ys ++ v ∷ zs
+  hole-last : (n : ℕ) (v : A) (ys zs : List A) → length ys ≡ n → putAfter n v ys ++ zs ≡ ys ++ v ∷ zs
   hole-last zero v [] zs e = refl
   hole-last zero v (y ∷ ys) zs e = absurd (omega (arith, e))
   hole-last (suc n) v [] zs e = absurd (omega (arith, e))
@@ -70,7 +70,7 @@ module _ {A : Type 0} where
     pub high : i ≤ n
     pub room : n < length xs
     pub size : length a ≡ length xs
-    pub holds : a ≡ put i (getD xs i d) (take n xs) ++ drop (suc n) xs
+    pub holds : a ≡ putAfter i (getD xs i d) (take n xs) ++ drop (suc n) xs
 
   pub opening-first : (xs : List A) (n k : ℕ) (d : A) → k ≤ n → n < length xs → Opening xs n k d xs n
   opening-first xs n k d h g =
@@ -83,8 +83,8 @@ module _ {A : Type 0} where
       }
 
   -- the one before the hole moves up into it
-  opened-next : (xs : List A) (n i : ℕ) (d : A) → i < n → n < length xs → let a = put (suc i) (getD xs (suc i) d) (take n xs) ++ drop (suc n) xs in
-      set a (suc i) (getD a i d) ≡ put i (getD xs i d) (take n xs) ++ drop (suc n) xs
+  opened-next : (xs : List A) (n i : ℕ) (d : A) → i < n → n < length xs → let a = putAfter (suc i) (getD xs (suc i) d) (take n xs) ++ drop (suc n) xs in
+      set a (suc i) (getD a i d) ≡ putAfter i (getD xs i d) (take n xs) ++ drop (suc n) xs
   opened-next xs n i d h g =
       let size : length (take n xs) ≡ n = length-take-le n xs (omega arith) in
       rw (
@@ -109,7 +109,7 @@ module _ {A : Type 0} where
       }
 
   pub opening-last : {xs : List A} {n k : ℕ} {d : A} {a : List A} {i : ℕ} (x : A) → i ≤ k → Opening xs n k d a i
-      → set a k x ≡ put k x (take n xs) ++ drop (suc n) xs
+      → set a k x ≡ putAfter k x (take n xs) ++ drop (suc n) xs
   opening-last {xs} {n} {k} {d} {a} {i} x h o =
       let here : i ≡ k = omega arith in
       rw (o .holds, here) (hole-set k (getD xs k d) x (take n xs) (drop (suc n) xs) (omega (arith, length-take-le n xs (omega arith))))
@@ -121,7 +121,7 @@ module _ {A : Type 0} where
     pub high : i < n
     pub room : n ≤ length xs
     pub size : length a ≡ length xs
-    pub holds : a ≡ put i (getD xs i d) (removed j (take n xs)) ++ drop n xs
+    pub holds : a ≡ putAfter i (getD xs i d) (removed j (take n xs)) ++ drop n xs
 
   pub closing-first : (xs : List A) (n j : ℕ) (d : A) → j < n → n ≤ length xs → Closing xs n j d xs j
   closing-first xs n j d h g =
@@ -135,8 +135,8 @@ module _ {A : Type 0} where
       }
 
   -- the one behind the hole moves down into it
-  closed-next : (xs : List A) (n j i : ℕ) (d : A) → j ≤ i → suc i < n → n ≤ length xs → let a = put i (getD xs i d) (removed j (take n xs)) ++ drop n xs in
-      set a i (getD a (suc i) d) ≡ put (suc i) (getD xs (suc i) d) (removed j (take n xs)) ++ drop n xs
+  closed-next : (xs : List A) (n j i : ℕ) (d : A) → j ≤ i → suc i < n → n ≤ length xs → let a = putAfter i (getD xs i d) (removed j (take n xs)) ++ drop n xs in
+      set a i (getD a (suc i) d) ≡ putAfter (suc i) (getD xs (suc i) d) (removed j (take n xs)) ++ drop n xs
   closed-next xs n j i d h g l =
       let size : suc (length (removed j (take n xs))) ≡ n = removed-first xs n j (omega arith) l in
       let next : getD xs (suc i) d ≡ getD (removed j (take n xs)) i d = sym (removed-next j (take n xs) i d h ∙ getD-take n xs (suc i) d g) in

@@ -10,22 +10,22 @@ use lib.ListN.{length, take, drop, set, replicate, length-append, length-take, l
 use lib.Seq.{drop-drop, drop-at, set-append-left, length-take-le}
 use Rattle.lists.specs.Padding.{pad}
 use Rattle.lists.proofs.Padding.{pad-length, pad-take, pad-push}
-use Rattle.slots.specs.Slots.{put, removed}
+use Rattle.slots.specs.Slots.{putAfter, removed}
 
 module _ {A : Type 0} where
   -- ---- an element put in
 
-  pub put-length : (k : ℕ) (y : A) (xs : List A) → length (put k y xs) ≡ suc (length xs)
+  pub put-length : (k : ℕ) (y : A) (xs : List A) → length (putAfter k y xs) ≡ suc (length xs)
   put-length zero y xs = refl
   put-length (suc k) y [] = refl
   put-length (suc k) y (x ∷ xs) = ap suc (put-length k y xs)
 
-  pub put-split : (k : ℕ) (y : A) (xs : List A) → put k y xs ≡ take k xs ++ y ∷ drop k xs
+  pub put-split : (k : ℕ) (y : A) (xs : List A) → putAfter k y xs ≡ take k xs ++ y ∷ drop k xs
   put-split zero y xs = refl
   put-split (suc k) y [] = refl
   put-split (suc k) y (x ∷ xs) = ap (λ (l : List A). x ∷ l) (put-split k y xs)
 
-  pub put-map : {B : Type 0} (f : A → B) (k : ℕ) (y : A) (xs : List A) → map f (put k y xs) ≡ put k (f y) (map f xs)
+  pub put-map : {B : Type 0} (f : A → B) (k : ℕ) (y : A) (xs : List A) → map f (putAfter k y xs) ≡ putAfter k (f y) (map f xs)
   put-map f zero y xs = refl
   put-map f (suc k) y [] = refl
   put-map {B = B} f (suc k) y (x ∷ xs) = ap (λ (l : List B). f x ∷ l) (put-map f k y xs)
@@ -53,7 +53,7 @@ module _ {A : Type 0} where
 
   -- ---- lengths: an array is as long as it was
 
-  pub put-slots : (k : ℕ) (x : A) (n : ℕ) (xs : List A) → n < length xs → length (put k x (take n xs) ++ drop (suc n) xs) ≡ length xs
+  pub put-slots : (k : ℕ) (x : A) (n : ℕ) (xs : List A) → n < length xs → length (putAfter k x (take n xs) ++ drop (suc n) xs) ≡ length xs
   put-slots k x n xs h =
       let size : length (take n xs) ≡ n = length-take-le n xs (omega arith) in
       simp (length-append, put-length, length-drop, size) (omega arith)
@@ -75,11 +75,11 @@ module _ {A : Type 0} where
     drop-padded xs n e = rw e (drop-at xs (replicate (m - n) z) n e)
 
     pub put-padded : (k : ℕ) (x : A) (xs : List A) (n : ℕ) → length xs ≡ n → n < m
-        → put k x (take n (pad m z xs)) ++ drop (suc n) (pad m z xs) ≡ pad m z (put k x xs)
+        → putAfter k x (take n (pad m z xs)) ++ drop (suc n) (pad m z xs) ≡ pad m z (putAfter k x xs)
     unfolding pad
     put-padded k x xs n e h =
         let room : m - n ≡ suc (m - suc n) = omega arith in
-        let size : length (put k x xs) ≡ suc n = put-length k x xs ∙ ap suc e in
+        let size : length (putAfter k x xs) ≡ suc n = put-length k x xs ∙ ap suc e in
         let behind : drop (suc n) (pad m z xs) ≡ replicate (m - suc n) z =
         ap (λ (i : ℕ). drop i (pad m z xs)) (sym (add-one n)) ∙ sym (drop-drop 1 n (pad m z xs)) ∙ rw (drop-padded xs n e, room) in
         rw (pad-take m z xs n e, behind, size)

@@ -4,10 +4,10 @@ use mathlib.Core.List.{List, [], _∷_, _++_}
 use lib.ListN.{take, drop}
 
 -- y after the first k of a list, at its end where it is shorter
-abbrev pub put : {A : Type 0} → ℕ → A → List A → List A
-put zero y xs = y ∷ xs
-put (suc k) y [] = y ∷ []
-put (suc k) y (x ∷ xs) = x ∷ put k y xs
+abbrev pub putAfter : {A : Type 0} → ℕ → A → List A → List A
+putAfter zero y xs = y ∷ xs
+putAfter (suc k) y [] = y ∷ []
+putAfter (suc k) y (x ∷ xs) = x ∷ putAfter k y xs
 
 -- a list without what stands at the index
 unfoldable pub removed : {A : Type 0} → ℕ → List A → List A
@@ -15,7 +15,7 @@ removed j xs = take j xs ++ drop (suc j) xs
 
 -- an array with x put in after the first k of the first n
 abbrev pub putAt : {A : Type 0} → ℕ → ℕ → A → List A → List A
-putAt n k x xs = put k x (take n xs) ++ drop (suc n) xs
+putAt n k x xs = putAfter k x (take n xs) ++ drop (suc n) xs
 
 -- an array without what stands at j, of the first n, and z in the slot that is left
 abbrev pub takenAt : {A : Type 0} → ℕ → ℕ → A → List A → List A

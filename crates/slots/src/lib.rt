@@ -5,14 +5,14 @@ ghost use mathlib.Core.List.{_++_, _∷_};
 ghost use Prim.Native.Nat.{suc, _≤_, _<_};
 ghost use lib.ListN.{length, take, drop, set};
 ghost use Rattle.lists.specs.Padding.{pad};
-ghost use Rattle.slots.specs.Slots.{put, removed};
+ghost use Rattle.slots.specs.Slots.{putAfter, removed};
 
 // Puts a number after the first k of n. Those behind it move up by one, the last of them first. A step of the calls
 // and not a call: they have found the place, and refused what there is no slot for.
 pub fn put_number(a: &mut [u32], n: usize, k: usize, x: u32)
     requires { ⌜ k ≤ n ⌝ }
     requires { ⌜ n < length (now a) ⌝ }
-    ensures { λ _. ⌜ now (a .exit) ≡ put k x (take n (now (a .entry))) ++ drop (suc n) (now (a .entry)) ⌝ }
+    ensures { λ _. ⌜ now (a .exit) ≡ putAfter k x (take n (now (a .entry))) ++ drop (suc n) (now (a .entry)) ⌝ }
 {
     let mut i = n;
     while k < i {
@@ -26,7 +26,7 @@ pub fn put_number(a: &mut [u32], n: usize, k: usize, x: u32)
 pub fn put_byte(a: &mut [u8], n: usize, k: usize, x: u8)
     requires { ⌜ k ≤ n ⌝ }
     requires { ⌜ n < length (now a) ⌝ }
-    ensures { λ _. ⌜ now (a .exit) ≡ put k x (take n (now (a .entry))) ++ drop (suc n) (now (a .entry)) ⌝ }
+    ensures { λ _. ⌜ now (a .exit) ≡ putAfter k x (take n (now (a .entry))) ++ drop (suc n) (now (a .entry)) ⌝ }
 {
     let mut i = n;
     while k < i {

@@ -21,11 +21,11 @@ use Rattle.codec.specs.Operations.{identifierAt, insertOf, toggleOf, deleteOf, 
 use Rattle.codec.specs.Calls.{asWritten, lineLaidOut, laidOut, readChecks, readAs, saidBy, readOperation}
 use Rattle.woot.specs.Replicas.{afterAnswer, receipt, received}
 use Rattle.transcript.specs.Lines.{spelled, replyLine, reportLine, visiblePoints, textNumbers, textLine}
-use Rattle.transcript.specs.Calls.{answeredAs, answered, printedFrom, wholeOutput}
+use Rattle.transcript.specs.Calls.{receivedAs, receivedLine, printedFrom, wholeOutput}
 use Rattle.transcript.specs.Theorems.{Example, RestoredExample}
 
 examples : Example × RestoredExample
-unfolding same below sender character origin isVisible withToggles toggledBy sameInsert sameToggle sameOperation within siteNumber codePoint characterId previousId nextId siteInRange insertInRange toggleInRange inRange characterInRange initial pad identifier characterOf charactersOf operationStored operationsOf ownKey firstKey secondKey valueStored inColumns charactersIn operationsIn meaning documentOf stored counted tableAgrees key chainOf walk lookup isAt agrees noTable freeSlot entered enteredAll tableOf sequence indexOf placeOf held above adjacent candidate candidates narrowed search position between insertAt integrateInsert integrateToggle executable crossed unplaceable integrate pendingFrom earliest andIntegrated andDiscarded drained drainSteps drain presentInserts allInRange sharesKept capacityKept identifiersDistinct togglesDistinct ordered neighboursOrdered noneExecutable clockReaches clockKept ownInsert heard wellFormed replicaWellFormed reply unchanged decided allIntegrated withCharacters withPending afterDrain insertCarried duplicate conflicting senderFull documentFull receiveChecks carryOut defer accept receiveWhen isDigit leadingZero isNumeral valueOf digitsIn digits ended firstLine rest numerals hasLayout valuesOf identifierAt insertOf toggleOf deleteOf isInsert isToggle isDelete operationOf asWritten lineLaidOut laidOut readChecks readAs saidBy readOperation afterAnswer receipt received lineOf spelled replyLine reportLine visiblePoints textNumbers textLine answeredAs answered printedFrom wholeOutput
+unfolding same below sender character origin isVisible withToggles toggledBy sameInsert sameToggle sameOperation within siteNumber codePoint characterId previousId nextId siteInRange insertInRange toggleInRange inRange characterInRange initial pad identifier characterOf charactersOf operationStored operationsOf ownKey firstKey secondKey valueStored inColumns charactersIn operationsIn meaning documentOf stored counted tableAgrees key chainOf walk lookup isAt agrees noTable freeSlot entered enteredAll tableOf sequence indexOf placeOf held above adjacent candidate candidates narrowed search position between insertAt integrateInsert integrateToggle executable crossed unplaceable integrate pendingFrom earliest andIntegrated andDiscarded drained drainSteps drain presentInserts allInRange sharesKept capacityKept identifiersDistinct togglesDistinct ordered neighboursOrdered noneExecutable clockReaches clockKept ownInsert heard wellFormed replicaWellFormed reply unchanged decided allIntegrated withCharacters withPending afterDrain insertCarried duplicate conflicting senderFull documentFull receiveChecks carryOut defer accept receiveWhen isDigit leadingZero isNumeral valueOf digitsIn digits ended firstLine rest numerals hasLayout valuesOf identifierAt insertOf toggleOf deleteOf isInsert isToggle isDelete operationOf asWritten lineLaidOut laidOut readChecks readAs saidBy readOperation afterAnswer receipt received lineOf spelled replyLine reportLine visiblePoints textNumbers textLine receivedAs receivedLine printedFrom wholeOutput
 examples = (refl, refl)
 
 pub example : Example

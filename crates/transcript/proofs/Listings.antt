@@ -53,11 +53,11 @@ module _ (cs : List Character) (i : ℕ) (d : Character) (h : i < length cs) whe
 pub record Gathered (cs : List Character) (values : List ℕ) (k i : ℕ) : Type 0 where
   pub counted : k ≡ length (visiblePoints (take i cs))
   pub few : k ≤ i
-  pub held : values ≡ pad 1025 0 (0 ∷ visiblePoints (take i cs))
+  pub listed : values ≡ pad 1025 0 (0 ∷ visiblePoints (take i cs))
 
 pub gathered-none : (cs : List Character) → Gathered cs (replicate 1025 0) 0 0
 unfolding visiblePoints pad
-gathered-none cs = record { counted = refl; few = omega arith; held = refl }
+gathered-none cs = record { counted = refl; few = omega arith; listed = refl }
 
 module _ (cs : List Character) (values : List ℕ) (k i : ℕ) (g : Gathered cs values k i) where
   gathered-visible : (d : Character) → i < length cs → i < 1024 → isVisible (getD cs i d) ≡ true
@@ -69,18 +69,18 @@ module _ (cs : List Character) (values : List ℕ) (k i : ℕ) (g : Gathered cs 
       record {
         counted = ap (λ (n : ℕ). n + 1) (g .counted) ∙ sym (ap length more ∙ length-append points (getD cs i d .«code_point» ∷ []));
         few = omega (arith, g .few);
-        held = rw (g .held, slot, more) (pad-push 1025 0 (0 ∷ points) (getD cs i d .«code_point») (omega (arith, g .few, g .counted)));
+        listed = rw (g .listed, slot, more) (pad-push 1025 0 (0 ∷ points) (getD cs i d .«code_point») (omega (arith, g .few, g .counted)));
       }
 
   gathered-hidden : (d : Character) → i < length cs → isVisible (getD cs i d) ≡ false → Gathered cs values k (i + 1)
   gathered-hidden d h e =
       let same = points-more cs i d h false e ∙ append-nil (visiblePoints (take i cs)) in
-      record { counted = rw same (g .counted); few = omega (arith, g .few); held = rw same (g .held) }
+      record { counted = rw same (g .counted); few = omega (arith, g .few); listed = rw same (g .listed) }
 
   -- with the count in the first slot the listing is whole
   gathered-all : record { values = set values 0 k; count = k } ≡ listing (take i cs)
   unfolding listing textNumbers pad
-  gathered-all = rw (g .held, g .counted)
+  gathered-all = rw (g .listed, g .counted)
 
 -- ---- by the columns of the arrays
 

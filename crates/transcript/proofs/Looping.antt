@@ -27,7 +27,7 @@ use Rattle.codec.specs.Calls.{readOperation}
 use Rattle.replica.proofs.Runs.{form-meant}
 use Rattle.transcript.specs.declared.Processed.{Processed}
 use Rattle.transcript.specs.Lines.{reportLine, textLine}
-use Rattle.transcript.specs.Calls.{answeredAs, answered, printedFrom, wholeOutput, inputMost, hallOutput}
+use Rattle.transcript.specs.Calls.{receivedAs, receivedLine, printedFrom, wholeOutput, inputMost, hallOutput}
 use Rattle.transcript.specs.Loop.{reportOn, processed, processedOut, front, textFront, loopFrom, looped}
 use Rattle.transcript.specs.Theorems.{LoopPrints}
 use Rattle.transcript.proofs.Sizes.{report-fits, text-fits}
@@ -56,25 +56,25 @@ received-small r o f =
     rw (f, ← formed) (record { carried = omega (arith, t .0, b .0); thrown = omega (arith, t .1, b .1) })
 
 module _ (r : Replica) (f : replicaWellFormed r ≡ true) where
-  answered-as-small : (a : Read) → Small (answeredAs r a .answer)
-  unfolding answeredAs reply
-  answered-as-small (readsAs o) = received-small r o f
-  answered-as-small (readRefused q) = record { carried = omega arith; thrown = omega arith }
+  received-as-small : (a : Read) → Small (receivedAs r a .answer)
+  unfolding receivedAs reply
+  received-as-small (readsAs o) = received-small r o f
+  received-as-small (readRefused q) = record { carried = omega arith; thrown = omega arith }
 
-  answered-as-formed : (a : Read) → replicaWellFormed (answeredAs r a .replica) ≡ true
-  unfolding answeredAs called
-  answered-as-formed (readsAs o) = replicas-formed r (receiving o) f
-  answered-as-formed (readRefused q) = f
+  received-as-formed : (a : Read) → replicaWellFormed (receivedAs r a .replica) ≡ true
+  unfolding receivedAs called
+  received-as-formed (readsAs o) = replicas-formed r (receiving o) f
+  received-as-formed (readRefused q) = f
 
-  pub answered-formed : (s : List ℕ) → replicaWellFormed (answered r s .replica) ≡ true
-  unfolding answered
-  answered-formed s = answered-as-formed (readOperation s)
+  pub received-line-formed : (s : List ℕ) → replicaWellFormed (receivedLine r s .replica) ≡ true
+  unfolding receivedLine
+  received-line-formed s = received-as-formed (readOperation s)
 
   report-room : (n : ℕ) (s : List ℕ) → n < 2 ^ 64 → length (reportOn r n s) ≤ 70
-  unfolding reportOn answered
+  unfolding reportOn receivedLine
   report-room n s h =
-      let few = answered-as-small (readOperation s) in
-      report-fits n (answered r s .answer) h (omega (arith, few .carried)) (omega (arith, few .thrown))
+      let few = received-as-small (readOperation s) in
+      report-fits n (receivedLine r s .answer) h (omega (arith, few .carried)) (omega (arith, few .thrown))
 
 -- ---- the loop
 
@@ -84,7 +84,7 @@ module _ (out last : List ℕ) (room : 70 ≤ length out) (space : 8199 ≤ leng
   text-shown r f = front-whole (textLine (meaning r .characters)) last (omega (arith, text-fits r f))
 
   line-shown : (r : Replica) (n : ℕ) (s : List ℕ) → replicaWellFormed r ≡ true → n < 2 ^ 64
-      → front (processed r n s out .written) (processedOut r n s out) ≡ reportLine n (answered r s .answer)
+      → front (processed r n s out .written) (processedOut r n s out) ≡ reportLine n (receivedLine r s .answer)
   unfolding processed processedOut reportOn
   line-shown r n s f h = front-whole (reportOn r n s) out (omega (arith, report-room r f n s h))
 
@@ -93,7 +93,7 @@ module _ (out last : List ℕ) (room : 70 ≤ length out) (space : 8199 ≤ leng
   unfolding loopFrom printedFrom processed
   loop-prints-from zero n r s f h = text-shown r f
   loop-prints-from (suc most) n r s f h =
-      let again : loopFrom out last most (n + 1) (answered r s .replica) (rest s) ≡ printedFrom most (n + 1) (answered r s .replica) (rest s) = loop-prints-from most (n + 1) (answered r s .replica) (rest s) (answered-formed r f s) (omega arith) in
+      let again : loopFrom out last most (n + 1) (receivedLine r s .replica) (rest s) ≡ printedFrom most (n + 1) (receivedLine r s .replica) (rest s) = loop-prints-from most (n + 1) (receivedLine r s .replica) (rest s) (received-line-formed r f s) (omega arith) in
       rw (text-shown r f, line-shown r n s f (omega arith), again)
 
 -- the program's replica begins in form

@@ -9,7 +9,7 @@ use Rattle.woot.specs.declared.Replica.{Replica}
 use Rattle.lines.specs.Lines.{rest}
 use Rattle.lines.proofs.Lines.{rest-shorter}
 use Rattle.transcript.specs.Lines.{reportLine}
-use Rattle.transcript.specs.Calls.{answered, printedFrom}
+use Rattle.transcript.specs.Calls.{receivedLine, printedFrom}
 use Rattle.transcript.specs.Theorems.{PrintedByLines}
 
 -- what is allowed for more lines than there are makes no difference
@@ -22,15 +22,15 @@ enough (suc j) (suc k) n r [] h g = refl
 enough (suc j) (suc k) n r (b ∷ s) h g =
     let less : length (rest (b ∷ s)) < length (b ∷ s) = rest-shorter (b ∷ s) (omega arith) in
     rw (ne-eqb (suc (length s)) 0 (λ e. omega arith))
-    (ap (λ (l : List ℕ). reportLine n (answered r (b ∷ s) .answer) ++ l) (enough j k (n + 1) (answered r (b ∷ s) .replica) (rest (b ∷ s)) (omega arith) (omega arith)))
+    (ap (λ (l : List ℕ). reportLine n (receivedLine r (b ∷ s) .answer) ++ l) (enough j k (n + 1) (receivedLine r (b ∷ s) .replica) (rest (b ∷ s)) (omega arith) (omega arith)))
 
 pub printed-by-lines : PrintedByLines
 unfolding printedFrom
 printed-by-lines n r = (refl, more)
   where
-    more : (s : List ℕ) → 0 < length s → printedFrom (length s) n r s ≡ reportLine n (answered r s .answer) ++ printedFrom (length (rest s)) (n + 1) (answered r s .replica) (rest s)
+    more : (s : List ℕ) → 0 < length s → printedFrom (length s) n r s ≡ reportLine n (receivedLine r s .answer) ++ printedFrom (length (rest s)) (n + 1) (receivedLine r s .replica) (rest s)
     more [] h = absurd (omega arith)
     more (b ∷ s) h =
         let less : length (rest (b ∷ s)) < length (b ∷ s) = rest-shorter (b ∷ s) h in
         rw (ne-eqb (suc (length s)) 0 (λ e. omega arith))
-        (ap (λ (l : List ℕ). reportLine n (answered r (b ∷ s) .answer) ++ l) (enough (length s) (length (rest (b ∷ s))) (n + 1) (answered r (b ∷ s) .replica) (rest (b ∷ s)) (omega arith) (omega arith)))
+        (ap (λ (l : List ℕ). reportLine n (receivedLine r (b ∷ s) .answer) ++ l) (enough (length s) (length (rest (b ∷ s))) (n + 1) (receivedLine r (b ∷ s) .replica) (rest (b ∷ s)) (omega arith) (omega arith)))

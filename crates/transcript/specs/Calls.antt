@@ -17,19 +17,19 @@ use Rattle.woot.specs.Replicas.{received}
 use Rattle.transcript.specs.Lines.{reportLine, textLine}
 
 -- an operation is received; what could not be read is refused, and the very replica comes back
-unfoldable pub answeredAs : Replica → Read → Receipt
-answeredAs r (readsAs o) = received r o
-answeredAs r (readRefused q) = record { answer = Refused q; replica = r }
+unfoldable pub receivedAs : Replica → Read → Receipt
+receivedAs r (readsAs o) = received r o
+receivedAs r (readRefused q) = record { answer = Refused q; replica = r }
 
 -- the answer to the first line of the bytes
-unfoldable pub answered : Replica → List ℕ → Receipt
-answered r s = answeredAs r (readOperation s)
+unfoldable pub receivedLine : Replica → List ℕ → Receipt
+receivedLine r s = receivedAs r (readOperation s)
 
 -- what is printed from the line n of the input on, where the lines left are at most as many as the first number says
 unfoldable pub printedFrom : ℕ → ℕ → Replica → List ℕ → List ℕ
 printedFrom zero n r s = textLine (meaning r .characters)
 printedFrom (suc most) n r s =
-    let a : Receipt = answered r s in
+    let a : Receipt = receivedLine r s in
     cond (eqb (length s) 0)
     (textLine (meaning r .characters))
     (reportLine n (a .answer) ++ printedFrom most (n + 1) (a .replica) (rest s))

@@ -13,15 +13,15 @@ use Rattle.woot.specs.Writing.{writtenAs, outputAfter, writtenLength}
 use Rattle.lines.specs.Lines.{rest}
 use Rattle.transcript.specs.declared.Processed.{Processed}
 use Rattle.transcript.specs.Lines.{reportLine, textLine}
-use Rattle.transcript.specs.Calls.{answered}
+use Rattle.transcript.specs.Calls.{receivedLine}
 
 -- the report on the first line of the bytes, which is the line n of the input
 unfoldable pub reportOn : Replica → ℕ → List ℕ → List ℕ
-reportOn r n s = reportLine n (answered r s .answer)
+reportOn r n s = reportLine n (receivedLine r s .answer)
 
 -- one line: how much of its report was written into the lent slice, and the replica after it
 unfoldable pub processed : Replica → ℕ → List ℕ → List ℕ → Processed
-processed r n s out = record { written = writtenAs [] (reportOn r n s) out; replica = answered r s .replica }
+processed r n s out = record { written = writtenAs [] (reportOn r n s) out; replica = receivedLine r s .replica }
 
 -- the lent slice after it
 unfoldable pub processedOut : Replica → ℕ → List ℕ → List ℕ → List ℕ

@@ -10,7 +10,7 @@ use Rattle.woot.specs.Answers.{reply}
 use Rattle.woot.specs.Memory.{meaning, replicaWellFormed}
 use Rattle.lines.specs.Lines.{rest}
 use Rattle.transcript.specs.Lines.{reportLine, textLine}
-use Rattle.transcript.specs.Calls.{answered, printedFrom, wholeOutput, inputMost, hallOutput}
+use Rattle.transcript.specs.Calls.{receivedLine, printedFrom, wholeOutput, inputMost, hallOutput}
 use Rattle.transcript.specs.Loop.{looped}
 
 -- ---- the lines
@@ -34,8 +34,8 @@ PrintedByLines =
     (printedFrom 0 n r [] ≡ textLine (meaning r .characters))
     × ((s : List ℕ) → 0 < length s →
     printedFrom (length s) n r s
-    ≡ reportLine n (answered r s .answer)
-    ++ printedFrom (length (rest s)) (n + 1) (answered r s .replica) (rest s))
+    ≡ reportLine n (receivedLine r s .answer)
+    ++ printedFrom (length (rest s)) (n + 1) (receivedLine r s .replica) (rest s))
 
 -- the loop of the program prints the whole output, on lent slices of any bytes, 70 or more for a line and 8,199 at last
 abbrev pub LoopPrints : Type 0

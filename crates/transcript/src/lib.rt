@@ -6,13 +6,13 @@ use woot::Receipt;
 use woot::Replica;
 use woot::Written;
 ghost use mathlib.Core.Path.{_≡_};
-ghost use Rattle.transcript.specs.Calls.{answered};
+ghost use Rattle.transcript.specs.Calls.{receivedLine};
 ghost use Rattle.transcript.specs.Loop.{processed, processedOut};
 
 // Answers the first line of the bytes: receives the operation that it says, or refuses it and returns the replica as it
 // was.
 pub fn answer_line(replica: Replica, bytes: &[u8]) -> Receipt
-    ensures { λ x. ⌜ x ≡ answered replica (now (bytes .entry)) ⌝ }
+    ensures { λ x. ⌜ x ≡ receivedLine replica (now (bytes .entry)) ⌝ }
 {
     match codec::read_operation(bytes) {
         codec::Read::Operation(operation) => replica::receive(replica, operation),

@@ -133,7 +133,7 @@ fn text_length<'a>(code_points: &'a [u32], toggles: &'a [u8], n: usize) -> usize
 }
 
 // Puts the bytes that a character adds to the text into the slice at the offset, and answers the offset just past them.
-fn put(code_point: u32, toggles: u8, out: &mut [u8], at: usize) -> usize
+fn put_visible(code_point: u32, toggles: u8, out: &mut [u8], at: usize) -> usize
     ensures { λ r. ⌜ r ≡ past (now (out .entry)) at (speltAs «code_point» toggles) ⌝ }
     ensures { λ _. ⌜ now (out .exit) ≡ placed (now (out .entry)) at (speltAs «code_point» toggles) ⌝ }
 {
@@ -155,7 +155,7 @@ fn put_text(code_points: &[u32], toggles: &[u8], n: usize, out: &mut [u8])
     let mut at = 0;
     let mut i = 0;
     while i < n {
-        at = put(code_points[i], toggles[i], out, at);
+        at = put_visible(code_points[i], toggles[i], out, at);
         i += 1;
     }
 }

@@ -245,10 +245,10 @@ first-answering : (rs : List (Check Sent)) (m : Option Sent) → first rs ≡ m 
 first-answering [] m e = rw (← e)
 first-answering (r ∷ rs) m e = go (r .holds) refl (first-answering rs m)
   where
-    answered : Type 0
-    answered = first rs ≡ m → first (answering rs) ≡ elim m [ none ↦ none | some a ↦ some (answerOf a) ]
+    Told : Type 0
+    Told = first rs ≡ m → first (answering rs) ≡ elim m [ none ↦ none | some a ↦ some (answerOf a) ]
 
-    go : (h : Bool) → r .holds ≡ h → answered → cond h (some (answerOf (r .answer))) (first (answering rs)) ≡ elim m [ none ↦ none | some a ↦ some (answerOf a) ]
+    go : (h : Bool) → r .holds ≡ h → Told → cond h (some (answerOf (r .answer))) (first (answering rs)) ≡ elim m [ none ↦ none | some a ↦ some (answerOf a) ]
     go true f k = let q : some (r .answer) ≡ m = rw f at e in rw (← q)
     go false f k = k (rw f at e)
 

@@ -14,7 +14,7 @@ use Rattle.woot.specs.declared.Answer.{Answer}
 use Rattle.woot.specs.declared.Answer.the-variants.{Done, Deferred, Duplicate, Refused}
 use Rattle.woot.specs.declared.Sent.{Sent}
 use Rattle.woot.specs.declared.Sent.the-variants.{Done as sentDone, Refused as sentRefused}
-use Rattle.woot.specs.declared.Moved.{Moved}
+use Rattle.woot.specs.declared.ReceiptAt.{ReceiptAt}
 use Rattle.woot.specs.declared.Generated.{Generated}
 use Rattle.woot.specs.Ranges.{codePoint, characterId, inRange}
 use Rattle.woot.specs.State.{State}
@@ -28,7 +28,7 @@ use Rattle.woot.specs.Calls.{Outcome, unchanged, insertChecks, localInsertWhen,
 use Rattle.woot.specs.Cursor.{receiveAtChecks, receiveAtWhen, receiveAt, shiftOf, shiftAt}
 use Rattle.woot.specs.Histories.{inserting, deleting, restoring, receivingAt, outcome}
 use Rattle.woot.specs.Text.{text}
-use Rattle.woot.specs.Replicas.{afterAnswer, afterSent, moved, generated, receivedAt, inserted, deleted, restored}
+use Rattle.woot.specs.Replicas.{afterAnswer, afterSent, receiptAt, generated, receivedAt, inserted, deleted, restored}
 use Rattle.cursor.specs.Bits.{shiftBits}
 use Rattle.replica.specs.Texts.{textOf}
 use Rattle.replica.specs.Theorems.{called, answerTo}
@@ -46,7 +46,7 @@ use Rattle.wimtaze.specs.Calls.{inputChecks}
 use Rattle.wimtaze.specs.Steps.{counting, converting}
 use Rattle.wimtaze.proofs.Refusals.{Reads, formLeft}
 use Rattle.effects.proofs.Outputs.{checked-written}
-use Rattle.effects.specs.Steps.{afterNoting, afterWriting, sentLeft, generatedLeft, textLeft, movedLeft}
+use Rattle.effects.specs.Steps.{afterNoting, afterWriting, sentLeft, generatedLeft, textLeft, receiptAtLeft}
 use Rattle.effects.specs.Counts.{countsOf}
 use Rattle.effects.specs.Counting.{countsLeft}
 
@@ -64,9 +64,9 @@ stored-bytes s w = ap savedBytes (meaning-stored s w)
 
 -- ---- what a rule leaves in form, saved
 
-moved-saved : (r : Replica) (g : ℕ) (w : Outcome Answer) (out : List ℕ) → wellFormed (w .state) ≡ true → movedLeft (moved r g w) out ≡ afterReceivingAt w (shiftOf (meaning r) w g) out
-unfolding movedLeft moved afterReceivingAt changes afterAnswer
-moved-saved r g w out f = go (w .answer)
+receipt-at-saved : (r : Replica) (g : ℕ) (w : Outcome Answer) (out : List ℕ) → wellFormed (w .state) ≡ true → receiptAtLeft (receiptAt r g w) out ≡ afterReceivingAt w (shiftOf (meaning r) w g) out
+unfolding receiptAtLeft receiptAt afterReceivingAt changes afterAnswer
+receipt-at-saved r g w out f = go (w .answer)
   where
     same : bytesOf (stored (w .state)) ≡ savedBytes (w .state)
     same = stored-bytes (w .state) (formed-within (w .state) f)
@@ -102,7 +102,7 @@ module _ (s : State) (out line : List ℕ) (e : Effect) where
   formed-off h = rw h
 
 module _ (r : Replica) (s : State) (read : Reads r s) (h : wellFormed s ≡ true) where
-  received-read : (o : Operation) (g : ℕ) → receivedAt r o g ≡ moved r g (receiveAt s o g)
+  received-read : (o : Operation) (g : ℕ) → receivedAt r o g ≡ receiptAt r g (receiveAt s o g)
   unfolding receivedAt receiveAt
   received-read o g = rw (read .form, read .means h)
 
@@ -120,8 +120,8 @@ module _ (r : Replica) (s : State) (read : Reads r s) (h : wellFormed s ≡ true
 
 -- a replica out of form is refused with 3
 module _ (r : Replica) (f : replicaWellFormed r ≡ false) where
-  received-off : (o : Operation) (g : ℕ) (out : List ℕ) → inRange o ≡ true → movedLeft (receivedAt r o g) out ≡ turned out [] Form
-  unfolding receivedAt moved receiveAtWhen receiveAtChecks decided unchanged movedLeft changes turned
+  received-off : (o : Operation) (g : ℕ) (out : List ℕ) → inRange o ≡ true → receiptAtLeft (receivedAt r o g) out ≡ turned out [] Form
+  unfolding receivedAt receiptAt receiveAtWhen receiveAtChecks decided unchanged receiptAtLeft changes turned
   received-off o g out ranged = rw (ranged, f)
 
   inserted-off : (g n : ℕ) → codePoint n ≡ true → inserted r g n ≡ record { answer = sentRefused Form; replica = r }
@@ -143,16 +143,16 @@ unformed r out f = rw f
 -- ---- the calls
 
 module _ (r : Replica) (s : State) (read : Reads r s) (out : List ℕ) where
-  pub receive-bridge : (o : Operation) (g : ℕ) → inRange o ≡ true → formed-first s out [] (afterReceivingAt (receiveAt s o g) (shiftAt s o g) out) ≡ movedLeft (receivedAt r o g) out
+  pub receive-bridge : (o : Operation) (g : ℕ) → inRange o ≡ true → formed-first s out [] (afterReceivingAt (receiveAt s o g) (shiftAt s o g) out) ≡ receiptAtLeft (receivedAt r o g) out
   unfolding shiftAt outcome
   receive-bridge o g ranged = go (wellFormed s) refl
     where
-      go : (b : Bool) → wellFormed s ≡ b → formed-first s out [] (afterReceivingAt (receiveAt s o g) (shiftAt s o g) out) ≡ movedLeft (receivedAt r o g) out
+      go : (b : Bool) → wellFormed s ≡ b → formed-first s out [] (afterReceivingAt (receiveAt s o g) (shiftAt s o g) out) ≡ receiptAtLeft (receivedAt r o g) out
       go true e =
           formed-on s out [] _ e
           ∙ ap (λ (t : State). afterReceivingAt (receiveAt s o g) (shiftOf t (receiveAt s o g) g) out) (sym (read .means e))
-          ∙ sym (moved-saved r g (receiveAt s o g) out (form-kept s (receivingAt o g) e))
-          ∙ ap (λ (x : Moved). movedLeft x out) (sym (received-read r s read e o g))
+          ∙ sym (receipt-at-saved r g (receiveAt s o g) out (form-kept s (receivingAt o g) e))
+          ∙ ap (λ (x : ReceiptAt). receiptAtLeft x out) (sym (received-read r s read e o g))
       go false e = formed-off s out [] _ e ∙ sym (received-off r (read .form ∙ e) o g out ranged)
 
   pub text-bridge : formed-first s out [] (writing (Done 0 0) (text (s .characters)) out) ≡ textLeft r out

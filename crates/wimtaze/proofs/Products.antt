@@ -39,7 +39,7 @@ use Rattle.saved.specs.Conversion.{conversion, conversionRefusals}
 use Rattle.saved.proofs.Sizes.{saved-length, first-length}
 use Rattle.effects.specs.Results.{Result, result}
 use Rattle.effects.specs.Counts.{countsOf}
-use Rattle.effects.proofs.Held.{known-few}
+use Rattle.effects.proofs.Totals.{known-few}
 use Rattle.wimtaze.specs.Calls.{CCall, «wimtaze_empty», «wimtaze_receive», «wimtaze_receive_at», «wimtaze_type», «wimtaze_erase», «wimtaze_restore», «wimtaze_text», «wimtaze_counts», «wimtaze_upgrade», «wimtaze_downgrade», inputChecks, named, handedChecks, earlierChecks, Product, bytesAlone, replicaAndLine, productOf}
 use Rattle.wimtaze.specs.Theorems.{boundsOf, roomOf, saves, Fits, CountsWithin}
 use Rattle.wimtaze.proofs.Sizes.{text-length}

@@ -24,7 +24,7 @@ use Rattle.saved.specs.declared.LoadAnswer.the-variants.{Done, Refused}
 use Rattle.saved.specs.declared.Loaded.{Loaded}
 use Rattle.saved.specs.declared.Version.the-variants.{Second}
 use Rattle.saved.specs.Format.{savedLaidOut, savedInRange, savedState}
-use Rattle.saved.specs.Calls.{loadedState, unread, held, readingChecks, savedRead}
+use Rattle.saved.specs.Calls.{loadedState, unread, raisedInArrays, readingChecks, savedRead}
 use Rattle.loading.proofs.Forming.{both, form-is, means-so}
 use Rattle.wimtaze.specs.Calls.{inputChecks, oneLine}
 use Rattle.wimtaze.specs.Inputs.{firstOf}
@@ -34,7 +34,7 @@ use Rattle.wimtaze.specs.Inputs.{firstOf}
 -- what reading a saved replica answers, and the three refusals over all that was handed
 abbrev answering : Bool → Bool → State → Loaded
 answering a b s =
-    decided unread (first ((not a ⇒ Refused Layout) ∷ (not b ⇒ Refused Range) ∷ [])) (record { answer = Done; replica = held s })
+    decided unread (first ((not a ⇒ Refused Layout) ∷ (not b ⇒ Refused Range) ∷ [])) (record { answer = Done; replica = raisedInArrays s })
 
 abbrev refusing : Bool → Bool → Bool → Option Refusal
 refusing a b c = first ((not a ⇒ Layout) ∷ (not b ⇒ Range) ∷ (not c ⇒ Form) ∷ [])

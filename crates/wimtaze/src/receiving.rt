@@ -17,9 +17,9 @@ pub(crate) fn receive_at(bytes: &[u8], line: &[u8], point: u64, out: &mut [u8]) 
     let answer = loaded.answer;
     let said = inputs::read_one(line);
     match said {
-        Read::Refused(q) => effects::results::refused(inputs::first_of(answer, q)),
+        Read::Refused(q) => effects::results::number_of_refusal(inputs::first_of(answer, q)),
         Read::Operation(o) => match answer {
-            LoadAnswer::Refused(q) => effects::results::refused(q),
+            LoadAnswer::Refused(q) => effects::results::number_of_refusal(q),
             LoadAnswer::Done => {
                 let replica = loaded.replica;
                 effects::receive_at(replica, o, point as usize, out)

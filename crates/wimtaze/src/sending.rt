@@ -21,13 +21,13 @@ pub(crate) fn insert(
     let loaded = loading::read(Version::Second, bytes);
     let answer = loaded.answer;
     if !ranges::code_point(code_point) {
-        return effects::results::refused(inputs::first_of(answer, Refusal::Range));
+        return effects::results::number_of_refusal(inputs::first_of(answer, Refusal::Range));
     }
     match answer {
-        LoadAnswer::Refused(q) => effects::results::refused(q),
+        LoadAnswer::Refused(q) => effects::results::number_of_refusal(q),
         LoadAnswer::Done => {
             let replica = loaded.replica;
-            effects::send(
+            effects::save_and_send(
                 replica::insert(replica, point as usize, code_point),
                 out,
                 line_out,
@@ -44,10 +44,10 @@ pub(crate) fn delete(bytes: &[u8], index: u64, out: &mut [u8], line_out: &mut [u
     let loaded = loading::read(Version::Second, bytes);
     let answer = loaded.answer;
     match answer {
-        LoadAnswer::Refused(q) => effects::results::refused(q),
+        LoadAnswer::Refused(q) => effects::results::number_of_refusal(q),
         LoadAnswer::Done => {
             let replica = loaded.replica;
-            effects::send(replica::delete(replica, index as usize), out, line_out)
+            effects::save_and_send(replica::delete(replica, index as usize), out, line_out)
         }
     }
 }
@@ -67,14 +67,14 @@ pub(crate) fn restore(
     let loaded = loading::read(Version::Second, bytes);
     let answer = loaded.answer;
     if !inputs::names_character(site, clock) {
-        return effects::results::refused(inputs::first_of(answer, Refusal::Range));
+        return effects::results::number_of_refusal(inputs::first_of(answer, Refusal::Range));
     }
     match answer {
-        LoadAnswer::Refused(q) => effects::results::refused(q),
+        LoadAnswer::Refused(q) => effects::results::number_of_refusal(q),
         LoadAnswer::Done => {
             let replica = loaded.replica;
             let id = codec::identifier(site, clock);
-            effects::send(replica::restore(replica, id), out, line_out)
+            effects::save_and_send(replica::restore(replica, id), out, line_out)
         }
     }
 }

@@ -16,10 +16,10 @@ pub(crate) fn begin(number: u64, out: &mut [u8]) -> u64
     ensures { λ r. ⌜ Leaves (beginning number (now (out .entry))) r (now (out .exit)) [] ⌝ }
 {
     if number < 1 {
-        return effects::results::refused(Refusal::Range);
+        return effects::results::number_of_refusal(Refusal::Range);
     }
     if 16 < number {
-        return effects::results::refused(Refusal::Range);
+        return effects::results::number_of_refusal(Refusal::Range);
     }
     let none = Answer::Done {
         integrated: 0,
@@ -35,7 +35,7 @@ pub(crate) fn show(bytes: &[u8], out: &mut [u8]) -> u64
     let loaded = loading::read(Version::Second, bytes);
     let answer = loaded.answer;
     match answer {
-        LoadAnswer::Refused(q) => effects::results::refused(q),
+        LoadAnswer::Refused(q) => effects::results::number_of_refusal(q),
         LoadAnswer::Done => {
             let replica = loaded.replica;
             effects::show(replica, out)
@@ -51,7 +51,7 @@ pub(crate) fn count(bytes: &[u8]) -> u64
     let loaded = loading::read(Version::Second, bytes);
     let answer = loaded.answer;
     match answer {
-        LoadAnswer::Refused(q) => effects::results::refused(q),
+        LoadAnswer::Refused(q) => effects::results::number_of_refusal(q),
         LoadAnswer::Done => {
             let replica = loaded.replica;
             effects::counting::count(replica)

@@ -24,7 +24,7 @@ use Rattle.woot.specs.State.{State}
 use Rattle.woot.specs.Placing.{identifiers}
 use Rattle.woot.specs.Answers.{Reply}
 use Rattle.woot.specs.Histories.{Call, run, integratedBy}
-use Rattle.woot.specs.Situations.{Given, calling, carrying, showing, pointing, Seen, calls, operations, bytes, moved, replies, seen, Situation, table, slipCases, answerCases, clockCases, toggleCases, cursorCases, SituationsHold, full, FullTells, LowestShift, TypedElsewhere, CasesTell, LargestTells, RanksTell, CheckingOrder}
+use Rattle.woot.specs.Situations.{Given, calling, carrying, showing, pointing, Seen, calls, operations, bytes, shifted, replies, seen, Situation, table, slipCases, answerCases, clockCases, toggleCases, cursorCases, SituationsHold, full, FullTells, LowestShift, TypedElsewhere, CasesTell, LargestTells, RanksTell, CheckingOrder}
 
 -- k at xs, whose cells are computed first
 whole : {A B : Type 0} → List A → (List A → B) → B
@@ -74,7 +74,7 @@ computed : Given → Seen
 computed (calling s cs) = stepped s cs calls
 computed (carrying s cs) = carriedIn s cs operations
 computed (showing s cs) = bytes (text (run s cs .characters))
-computed (pointing s o g) = moved (reply (receiveAt s o g .answer)) (shiftAt s o g)
+computed (pointing s o g) = shifted (reply (receiveAt s o g .answer)) (shiftAt s o g)
 
 computed-same : (g : Given) → computed g ≡ seen g
 unfolding computed seen

@@ -11,7 +11,7 @@ use Rattle.woot.specs.Operations.{character, withToggles, inserts}
 use Rattle.woot.specs.State.{State}
 use Rattle.woot.specs.Placing.{identifiers}
 use Rattle.woot.specs.Answers.{Reply, reply}
-use Rattle.woot.specs.Situations.{_at_, put, deleteBy, stateAt, rowsFrom, toggledTo, full, Done, Refused}
+use Rattle.woot.specs.Situations.{_at_, letter, deleteBy, stateAt, rowsFrom, toggledTo, full, Done, Refused}
 use Rattle.woot.specs.Situations.{numbersOf}
 use Rattle.woot.specs.Pasting.{PasteOutcome, overfull, pasteChecks, pasteWhen, paste}
 
@@ -21,7 +21,7 @@ pub record Case : Type 0 where
   pub state : State
   pub gap : ℕ
   pub block : List ℕ
-  pub answered : Reply
+  pub replied : Reply
   pub rows : List Identifier
   pub above : List Identifier
 
@@ -33,13 +33,13 @@ tried c =
       state = c .state;
       gap = c .gap;
       block = c .block;
-      answered = reply (w .answer);
+      replied = reply (w .answer);
       rows = identifiers (w .state .characters);
       above = map (λ i. i .previous) (inserts (w .own));
     }
 
 abbrev pub case : State → ℕ → List ℕ → Reply → List Identifier → List Identifier → Case
-case s g block r xs ys = record { state = s; gap = g; block = block; answered = r; rows = xs; above = ys }
+case s g block r xs ys = record { state = s; gap = g; block = block; replied = r; rows = xs; above = ys }
 
 -- blocks of one character and of two
 abbrev pub a : List ℕ
@@ -59,16 +59,16 @@ hiddenRows clock is =
 
 -- P7's rows, hidden: whatever is typed meets 9
 abbrev pub shut : ℕ → State
-shut clock = hiddenRows clock (put (1 at 1) begin (2 at 1) ∷ put (2 at 1) (1 at 1) end ∷ [])
+shut clock = hiddenRows clock (letter (1 at 1) begin (2 at 1) ∷ letter (2 at 1) (1 at 1) end ∷ [])
 
 -- the first character goes below 1/1 and finds its place; the second goes below 1/2, where 2/1 and 2/2 name each other
 abbrev pub shutBehind : State
 shutBehind =
     hiddenRows 0
-    (put (1 at 1) begin end ∷ put (9 at 1) (1 at 1) (9 at 2) ∷ put (1 at 2) (1 at 1) end
-    ∷ put (2 at 1) (1 at 2) (2 at 2)
-    ∷ put (2 at 2) (2 at 1) (9 at 2)
-    ∷ put (9 at 2) begin end
+    (letter (1 at 1) begin end ∷ letter (9 at 1) (1 at 1) (9 at 2) ∷ letter (1 at 2) (1 at 1) end
+    ∷ letter (2 at 1) (1 at 2) (2 at 2)
+    ∷ letter (2 at 2) (2 at 1) (9 at 2)
+    ∷ letter (9 at 2) begin end
     ∷ [])
 
 unfoldable pub pasteCases : List Case
@@ -77,14 +77,14 @@ pasteCases =
     case (stateAt 0 [] []) 0 (0x61 ∷ 0xC3 ∷ 0xA9 ∷ 0xE2 ∷ 0x82 ∷ 0xAC ∷ 0xF0 ∷ 0x9F ∷ 0x98 ∷ 0x80 ∷ []) (Done 4 0)
     (1 at 1 ∷ 1 at 2 ∷ 1 at 3 ∷ 1 at 4 ∷ []) (begin ∷ 1 at 1 ∷ 1 at 2 ∷ 1 at 3 ∷ [])
     -- a row hidden at once counted: "the gap below the nearest shown row above it is used", "or gap 0"
-    ∷ case (stateAt 0 (put (2 at 1) begin end ∷ []) (deleteBy 2 (1 at 1) ∷ [])) 1 ab (Done 3 0)
+    ∷ case (stateAt 0 (letter (2 at 1) begin end ∷ []) (deleteBy 2 (1 at 1) ∷ [])) 1 ab (Done 3 0)
     (2 at 1 ∷ 1 at 1 ∷ 1 at 2 ∷ []) (2 at 1 ∷ 2 at 1 ∷ [])
     ∷ case (stateAt 0 [] (deleteBy 2 (1 at 1) ∷ [])) 0 ab (Done 3 0) (1 at 1 ∷ 1 at 2 ∷ []) (begin ∷ begin ∷ [])
     -- the gap not moved past what was drained above
-    ∷ case (stateAt 0 [] (insert (put (2 at 1) begin (1 at 1)) ∷ [])) 0 ab (Done 3 0) (2 at 1 ∷ 1 at 1 ∷ 1 at 2 ∷ [])
+    ∷ case (stateAt 0 [] (insert (letter (2 at 1) begin (1 at 1)) ∷ [])) 0 ab (Done 3 0) (2 at 1 ∷ 1 at 1 ∷ 1 at 2 ∷ [])
     (begin ∷ 1 at 1 ∷ [])
     -- what is thrown out not counted
-    ∷ case (stateAt 0 [] (insert (put (2 at 1) (1 at 1) (1 at 1)) ∷ [])) 0 ab (Done 2 1) (1 at 1 ∷ 1 at 2 ∷ [])
+    ∷ case (stateAt 0 [] (insert (letter (2 at 1) (1 at 1) (1 at 1)) ∷ [])) 0 ab (Done 2 1) (1 at 1 ∷ 1 at 2 ∷ [])
     (begin ∷ 1 at 1 ∷ [])
     -- 5 one clock early or late, or after the characters that the clock reaches
     ∷ case (stateAt 65533 [] []) 0 ab (Done 2 0) (1 at 65534 ∷ 1 at 65535 ∷ []) (begin ∷ 1 at 65534 ∷ [])
@@ -112,7 +112,7 @@ PasteTells = map tried pasteCases ≡ pasteCases
 
 -- 1,022 rows, and a waiting insert that the first character throws out, so that one by one two could be typed
 unfoldable pub roomToBeMade : State
-roomToBeMade = stateAt 1022 (rowsFrom 1 1022) (insert (put (2 at 1) (1 at 1023) (1 at 1023)) ∷ [])
+roomToBeMade = stateAt 1022 (rowsFrom 1 1022) (insert (letter (2 at 1) (1 at 1023) (1 at 1023)) ∷ [])
 
 -- 11 by what is there once something is thrown out, or for a block that just fits; an empty one on a full sheet
 abbrev pub PasteFullTells : Type 0

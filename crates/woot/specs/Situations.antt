@@ -35,12 +35,12 @@ abbrev pub _at_ : ℕ → ℕ → Identifier
 n at t = record { site = n; clock = t }
 
 -- the character of an identifier, typed between two others; its code point is of no matter here
-abbrev pub put : Identifier → Identifier → Identifier → Insert
-put x p n = record { id = x; «code_point» = 65; previous = p; next = n }
+abbrev pub letter : Identifier → Identifier → Identifier → Insert
+letter x p n = record { id = x; «code_point» = 65; previous = p; next = n }
 
 -- an insert that arrives
 abbrev pub ins : Identifier → Identifier → Identifier → Call
-ins x p n = receiving (insert (put x p n))
+ins x p n = receiving (insert (letter x p n))
 
 -- the same with a code point
 abbrev pub insAs : ℕ → Identifier → Identifier → Identifier → Call
@@ -75,7 +75,7 @@ pub data Seen : Type 0 where
   calls : List Reply → List Identifier → Seen
   operations : List Operation → Seen
   bytes : List ℕ → Seen
-  moved : Reply → ℤ → Seen
+  shifted : Reply → ℤ → Seen
 
 abbrev pub replies : State → List Call → List Reply
 replies s [] = []
@@ -85,7 +85,7 @@ unfoldable pub seen : Given → Seen
 seen (calling s cs) = calls (replies s cs) (identifiers (run s cs .characters))
 seen (carrying s cs) = operations (integratedBy s cs)
 seen (showing s cs) = bytes (text (run s cs .characters))
-seen (pointing s o g) = moved (reply (receiveAt s o g .answer)) (shiftAt s o g)
+seen (pointing s o g) = shifted (reply (receiveAt s o g .answer)) (shiftAt s o g)
 
 -- calls on an empty replica of site 16
 abbrev pub after : List Call → Given
@@ -127,11 +127,11 @@ holding is = record { site = record { number = 1; clock = 9 }; characters = map 
 
 -- P7's rows: 1/1 (begin, 2/1) and 2/1 (1/1, end)
 abbrev pub namingEachOther : State
-namingEachOther = holding (put (1 at 1) begin (2 at 1) ∷ put (2 at 1) (1 at 1) end ∷ [])
+namingEachOther = holding (letter (1 at 1) begin (2 at 1) ∷ letter (2 at 1) (1 at 1) end ∷ [])
 
 -- P8's shown text xyz
 abbrev pub xyz : State
-xyz = holding (put (2 at 1) begin end ∷ put (2 at 2) (2 at 1) end ∷ put (2 at 3) (2 at 2) end ∷ [])
+xyz = holding (letter (2 at 1) begin end ∷ letter (2 at 2) (2 at 1) end ∷ letter (2 at 3) (2 at 2) end ∷ [])
 
 pub record Situation : Type 0 where
   pub given : Given
@@ -164,7 +164,7 @@ table =
     ∷ (calling namingEachOther (ins (3 at 1) begin end ∷ []) gives calls (Refused 9 ∷ []) (1 at 1 ∷ 2 at 1 ∷ []))
     -- P8, with the neighbours that the typed character got
     ∷ (calling xyz (inserting 1 65 ∷ []) gives calls (Done 1 0 ∷ []) (2 at 1 ∷ 1 at 10 ∷ 2 at 2 ∷ 2 at 3 ∷ []))
-    ∷ (carrying xyz (inserting 1 65 ∷ []) gives operations (insert (put (1 at 10) (2 at 1) (2 at 2)) ∷ []))
+    ∷ (carrying xyz (inserting 1 65 ∷ []) gives operations (insert (letter (1 at 10) (2 at 1) (2 at 2)) ∷ []))
     ∷ (calling xyz (inserting 4 65 ∷ []) gives calls (Refused 4 ∷ []) (2 at 1 ∷ 2 at 2 ∷ 2 at 3 ∷ []))
     -- P9, read with Req 01 of document 02: "P9's 127 becomes EF BF BD"
     ∷ (typed 127 gives bytes (0xEF ∷ 0xBF ∷ 0xBD ∷ []))
@@ -195,7 +195,7 @@ stateAt clock is ps =
 
 -- an insert that waits for 7/7, which never comes
 abbrev pub stray : Identifier → Operation
-stray x = insert (put x (7 at 7) end)
+stray x = insert (letter x (7 at 7) end)
 
 -- the slips that document 01 lists, and others in placing and draining
 unfoldable pub slipCases : List Situation
@@ -212,7 +212,7 @@ slipCases =
     ∷ (after (o1 ∷ ins (1 at 2) (1 at 1) end ∷ o2 ∷ [])
     gives calls (Done 1 0 ∷ Done 1 0 ∷ Done 1 0 ∷ []) (1 at 1 ∷ 1 at 2 ∷ 2 at 1 ∷ []))
     -- not stopping at the first that is not below, on a state that was only loaded
-    ∷ (calling (stateAt 9 (put (1 at 1) begin end ∷ put (5 at 1) begin end ∷ put (2 at 1) begin end ∷ []) [])
+    ∷ (calling (stateAt 9 (letter (1 at 1) begin end ∷ letter (5 at 1) begin end ∷ letter (2 at 1) begin end ∷ []) [])
     (ins (3 at 1) begin end ∷ [])
     gives calls (Done 1 0 ∷ []) (1 at 1 ∷ 3 at 1 ∷ 5 at 1 ∷ 2 at 1 ∷ []))
     -- identifiers ordered by clock first
@@ -222,11 +222,11 @@ slipCases =
     gives calls (Waits ∷ Waits ∷ Done 3 0 ∷ []) (1 at 1 ∷ 2 at 1 ∷ 3 at 1 ∷ []))
     -- walks repeated, but not from the front each time
     ∷ (carrying (initial 16) (ins (3 at 1) (2 at 1) end ∷ ins (2 at 1) (1 at 1) end ∷ del 5 (1 at 1) ∷ o1 ∷ [])
-    gives operations (insert (put (1 at 1) begin end) ∷ insert (put (2 at 1) (1 at 1) end)
-    ∷ insert (put (3 at 1) (2 at 1) end) ∷ deleteBy 5 (1 at 1) ∷ []))
+    gives operations (insert (letter (1 at 1) begin end) ∷ insert (letter (2 at 1) (1 at 1) end)
+    ∷ insert (letter (3 at 1) (2 at 1) end) ∷ deleteBy 5 (1 at 1) ∷ []))
     -- the last ready one carried out where the earliest is due
     ∷ (carrying (initial 16) (del 3 (1 at 1) ∷ del 5 (1 at 1) ∷ o1 ∷ [])
-    gives operations (insert (put (1 at 1) begin end) ∷ deleteBy 3 (1 at 1) ∷ deleteBy 5 (1 at 1) ∷ []))
+    gives operations (insert (letter (1 at 1) begin end) ∷ deleteBy 3 (1 at 1) ∷ deleteBy 5 (1 at 1) ∷ []))
     -- a drained erase of a row that is hidden already not counted
     ∷ (after (del 3 (1 at 1) ∷ del 5 (1 at 1) ∷ o1 ∷ del 7 (1 at 1) ∷ [])
     gives calls (Waits ∷ Waits ∷ Done 3 0 ∷ Known ∷ []) (1 at 1 ∷ []))
@@ -234,11 +234,11 @@ slipCases =
     ∷ (after (ins (2 at 1) (1 at 1) (1 at 1) ∷ o1 ∷ ins (2 at 1) (1 at 1) (1 at 1) ∷ [])
     gives calls (Waits ∷ Done 1 1 ∷ Refused 8 ∷ []) (1 at 1 ∷ []))
     -- a waiting insert that meets 9 carried out
-    ∷ (calling (stateAt 9 (put (1 at 1) begin (2 at 1) ∷ put (2 at 1) (1 at 1) end ∷ [])
-    (insert (put (3 at 1) begin (5 at 1)) ∷ [])) (ins (5 at 1) (2 at 1) end ∷ [])
+    ∷ (calling (stateAt 9 (letter (1 at 1) begin (2 at 1) ∷ letter (2 at 1) (1 at 1) end ∷ [])
+    (insert (letter (3 at 1) begin (5 at 1)) ∷ [])) (ins (5 at 1) (2 at 1) end ∷ [])
     gives calls (Done 1 1 ∷ []) (1 at 1 ∷ 2 at 1 ∷ 5 at 1 ∷ []))
     -- typing that does not drain
-    ∷ (calling (stateAt 0 [] (insert (put (2 at 1) (1 at 1) end) ∷ [])) (inserting 0 65 ∷ [])
+    ∷ (calling (stateAt 0 [] (insert (letter (2 at 1) (1 at 1) end) ∷ [])) (inserting 0 65 ∷ [])
     gives calls (Done 2 0 ∷ []) (1 at 1 ∷ 2 at 1 ∷ []))
     -- the clock not advanced, or counted from another start
     ∷ (after (inserting 0 65 ∷ inserting 1 66 ∷ inserting 0 67 ∷ [])
@@ -268,15 +268,15 @@ answerCases =
     ∷ (calling (stateAt 9 [] (deleteBy 17 (1 at 1) ∷ [])) (o2 ∷ []) gives calls (Refused 3 ∷ []) [])
     ∷ (calling (stateAt 9 [] (deletesBy2 33)) (o2 ∷ []) gives calls (Refused 3 ∷ []) [])
     -- 3 passes a row above its previous, an identifier held twice, an erase waiting twice, one that has all it needs
-    ∷ (calling (stateAt 9 (put (1 at 1) (2 at 1) end ∷ put (2 at 1) begin end ∷ []) []) (del 3 (1 at 1) ∷ [])
+    ∷ (calling (stateAt 9 (letter (1 at 1) (2 at 1) end ∷ letter (2 at 1) begin end ∷ []) []) (del 3 (1 at 1) ∷ [])
     gives calls (Refused 3 ∷ []) (1 at 1 ∷ 2 at 1 ∷ []))
-    ∷ (calling (stateAt 9 (put (1 at 1) begin end ∷ put (1 at 1) begin end ∷ []) []) (del 3 (1 at 1) ∷ [])
+    ∷ (calling (stateAt 9 (letter (1 at 1) begin end ∷ letter (1 at 1) begin end ∷ []) []) (del 3 (1 at 1) ∷ [])
     gives calls (Refused 3 ∷ []) (1 at 1 ∷ 1 at 1 ∷ []))
-    ∷ (calling (stateAt 9 (put (1 at 1) begin end ∷ []) (stray (1 at 1) ∷ [])) (del 3 (1 at 1) ∷ [])
+    ∷ (calling (stateAt 9 (letter (1 at 1) begin end ∷ []) (stray (1 at 1) ∷ [])) (del 3 (1 at 1) ∷ [])
     gives calls (Refused 3 ∷ []) (1 at 1 ∷ []))
     ∷ (calling (stateAt 9 [] (deleteBy 3 (1 at 1) ∷ deleteBy 3 (1 at 1) ∷ [])) (o2 ∷ [])
     gives calls (Refused 3 ∷ []) [])
-    ∷ (calling (stateAt 9 [] (insert (put (1 at 1) begin end) ∷ [])) (o2 ∷ []) gives calls (Refused 3 ∷ []) [])
+    ∷ (calling (stateAt 9 [] (insert (letter (1 at 1) begin end) ∷ [])) (o2 ∷ []) gives calls (Refused 3 ∷ []) [])
     -- known does not see a waiting insert, or a waiting erase
     ∷ (after (ins (2 at 1) (1 at 1) end ∷ ins (2 at 1) (1 at 1) end
     ∷ del 3 (1 at 1) ∷ del 3 (1 at 1) ∷ del 4 (1 at 1) ∷ [])
@@ -318,10 +318,10 @@ clockCases =
     ∷ (after (ins (16 at 65535) begin end ∷ inserting 0 65 ∷ [])
     gives calls (Done 1 0 ∷ Refused 5 ∷ []) (16 at 65535 ∷ []))
     -- 3 passes a clock below that of an own row or waiting insert, or asks it of another site's
-    ∷ (calling (stateAt 0 (put (1 at 1) begin end ∷ []) []) (inserting 0 65 ∷ [])
+    ∷ (calling (stateAt 0 (letter (1 at 1) begin end ∷ []) []) (inserting 0 65 ∷ [])
     gives calls (Refused 3 ∷ []) (1 at 1 ∷ []))
     ∷ (calling (stateAt 0 [] (stray (1 at 1) ∷ [])) (inserting 0 65 ∷ []) gives calls (Refused 3 ∷ []) [])
-    ∷ (calling (stateAt 1 (put (1 at 1) begin end ∷ put (2 at 5) begin end ∷ []) (stray (3 at 7) ∷ []))
+    ∷ (calling (stateAt 1 (letter (1 at 1) begin end ∷ letter (2 at 5) begin end ∷ []) (stray (3 at 7) ∷ []))
     (inserting 2 65 ∷ [])
     gives calls (Done 1 0 ∷ []) (1 at 1 ∷ 2 at 5 ∷ 1 at 2 ∷ []))
     ∷ []
@@ -331,7 +331,7 @@ abbrev pub toggledTo : ℕ → State
 toggledTo k =
     record {
       site = record { number = 1; clock = 9 };
-      characters = withToggles (character (put (2 at 1) begin end)) k ∷ [];
+      characters = withToggles (character (letter (2 at 1) begin end)) k ∷ [];
       pending = [];
     }
 
@@ -372,7 +372,7 @@ toggleCases =
     gives calls (Done 1 0 ∷ Refused 13 ∷ Done 1 0 ∷ Done 1 0 ∷ Refused 13 ∷ []) (1 at 1 ∷ []))
     -- what erasing and restoring send: the next turn, from here
     ∷ (carrying (initial 16) (o1 ∷ del 3 (1 at 1) ∷ restoring (1 at 1) ∷ deleting 1 ∷ [])
-    gives operations (insert (put (1 at 1) begin end) ∷ deleteBy 3 (1 at 1) ∷ toggleBy 16 (1 at 1) 2
+    gives operations (insert (letter (1 at 1) begin end) ∷ deleteBy 3 (1 at 1) ∷ toggleBy 16 (1 at 1) 2
     ∷ toggleBy 16 (1 at 1) 3 ∷ []))
     -- 14 one turn early, or a turn that begins anew after the last
     ∷ (calling (toggledTo 253) (restoring (2 at 1) ∷ deleting 1 ∷ restoring (2 at 1) ∷ [])
@@ -396,54 +396,54 @@ threeRows a b c =
     record {
       site = record { number = 1; clock = 9 };
       characters =
-          withToggles (character (put (2 at 1) begin end)) a
-          ∷ withToggles (character (put (2 at 2) (2 at 1) end)) b
-          ∷ withToggles (character (put (2 at 3) (2 at 2) end)) c
+          withToggles (character (letter (2 at 1) begin end)) a
+          ∷ withToggles (character (letter (2 at 2) (2 at 1) end)) b
+          ∷ withToggles (character (letter (2 at 3) (2 at 2) end)) c
           ∷ [];
       pending = [];
     }
 
 -- an insert of 3/1
 abbrev pub new : Identifier → Identifier → Operation
-new p n = insert (put (3 at 1) p n)
+new p n = insert (letter (3 at 1) p n)
 
 -- document 02, Req 02: the cursor moved where it should stay, left behind, or looked at too early or too late
 unfoldable pub cursorCases : List Situation
 cursorCases =
     -- a row exactly at the cursor moves it, or one below it; one above it does not
-    (pointing xyz (new (2 at 1) (2 at 2)) 1 gives moved (Done 1 0) (pos 0))
-    ∷ (pointing xyz (new begin (2 at 1)) 0 gives moved (Done 1 0) (pos 0))
-    ∷ (pointing xyz (new (2 at 2) (2 at 3)) 1 gives moved (Done 1 0) (pos 0))
-    ∷ (pointing xyz (new begin (2 at 1)) 1 gives moved (Done 1 0) (pos 1))
-    ∷ (pointing (threeRows 0 1 0) (new (2 at 2) (2 at 3)) 1 gives moved (Done 1 0) (pos 0))
+    (pointing xyz (new (2 at 1) (2 at 2)) 1 gives shifted (Done 1 0) (pos 0))
+    ∷ (pointing xyz (new begin (2 at 1)) 0 gives shifted (Done 1 0) (pos 0))
+    ∷ (pointing xyz (new (2 at 2) (2 at 3)) 1 gives shifted (Done 1 0) (pos 0))
+    ∷ (pointing xyz (new begin (2 at 1)) 1 gives shifted (Done 1 0) (pos 1))
+    ∷ (pointing (threeRows 0 1 0) (new (2 at 2) (2 at 3)) 1 gives shifted (Done 1 0) (pos 0))
     -- the left row, hidden, still counted; one above it, or one below it
-    ∷ (pointing xyz (deleteBy 3 (2 at 2)) 2 gives moved (Done 1 0) (negsuc 0))
-    ∷ (pointing xyz (deleteBy 3 (2 at 1)) 2 gives moved (Done 1 0) (negsuc 0))
-    ∷ (pointing xyz (deleteBy 3 (2 at 3)) 2 gives moved (Done 1 0) (pos 0))
-    ∷ (pointing (threeRows 0 1 0) (deleteBy 3 (2 at 3)) 2 gives moved (Done 1 0) (negsuc 0))
+    ∷ (pointing xyz (deleteBy 3 (2 at 2)) 2 gives shifted (Done 1 0) (negsuc 0))
+    ∷ (pointing xyz (deleteBy 3 (2 at 1)) 2 gives shifted (Done 1 0) (negsuc 0))
+    ∷ (pointing xyz (deleteBy 3 (2 at 3)) 2 gives shifted (Done 1 0) (pos 0))
+    ∷ (pointing (threeRows 0 1 0) (deleteBy 3 (2 at 3)) 2 gives shifted (Done 1 0) (negsuc 0))
     -- a turn taken for an erase: a row above that is shown, the left row from 0 to 2 and from 0 to 3
-    ∷ (pointing (threeRows 1 0 0) (toggleBy 3 (2 at 1) 2) 1 gives moved (Done 1 0) (pos 1))
-    ∷ (pointing xyz (toggleBy 3 (2 at 1) 2) 1 gives moved (Done 1 0) (pos 0))
-    ∷ (pointing xyz (toggleBy 3 (2 at 1) 3) 1 gives moved (Done 1 0) (negsuc 0))
+    ∷ (pointing (threeRows 1 0 0) (toggleBy 3 (2 at 1) 2) 1 gives shifted (Done 1 0) (pos 1))
+    ∷ (pointing xyz (toggleBy 3 (2 at 1) 2) 1 gives shifted (Done 1 0) (pos 0))
+    ∷ (pointing xyz (toggleBy 3 (2 at 1) 3) 1 gives shifted (Done 1 0) (negsuc 0))
     -- what is drained not counted, or one that is hidden on the way counted
-    ∷ (pointing (stateAt 9 (put (2 at 1) begin end ∷ []) (insert (put (4 at 1) (3 at 1) (2 at 1)) ∷ []))
+    ∷ (pointing (stateAt 9 (letter (2 at 1) begin end ∷ []) (insert (letter (4 at 1) (3 at 1) (2 at 1)) ∷ []))
     (new begin (2 at 1)) 1
-    gives moved (Done 2 0) (pos 2))
-    ∷ (pointing (stateAt 9 (put (2 at 1) begin end ∷ []) (deleteBy 4 (3 at 1) ∷ [])) (new begin (2 at 1)) 1
-    gives moved (Done 2 0) (pos 0))
+    gives shifted (Done 2 0) (pos 2))
+    ∷ (pointing (stateAt 9 (letter (2 at 1) begin end ∷ []) (deleteBy 4 (3 at 1) ∷ [])) (new begin (2 at 1)) 1
+    gives shifted (Done 2 0) (pos 0))
     -- hidden rows counted in a gap
-    ∷ (pointing (threeRows 0 1 0) (new begin (2 at 1)) 2 gives moved (Done 1 0) (pos 1))
-    ∷ (pointing (threeRows 0 1 0) (new begin (2 at 1)) 3 gives moved (Refused 4) (pos 0))
+    ∷ (pointing (threeRows 0 1 0) (new begin (2 at 1)) 2 gives shifted (Done 1 0) (pos 1))
+    ∷ (pointing (threeRows 0 1 0) (new begin (2 at 1)) 3 gives shifted (Refused 4) (pos 0))
     -- a gap that begins anew after the largest number of 64 bits
-    ∷ (pointing xyz (new begin end) lastNumber gives moved (Refused 4) (pos 0))
+    ∷ (pointing xyz (new begin end) lastNumber gives shifted (Refused 4) (pos 0))
     -- 4 before known, before 2 or before 3, or after 7 or waits
-    ∷ (pointing xyz (insert (put (2 at 1) begin end)) 4 gives moved Known (pos 0))
-    ∷ (pointing xyz (new begin begin) 4 gives moved (Refused 2) (pos 0))
-    ∷ (pointing (threeRows 256 0 0) (new begin end) 4 gives moved (Refused 3) (pos 0))
-    ∷ (pointing xyz (insert (put (2 at 1) begin (2 at 2))) 4 gives moved (Refused 4) (pos 0))
-    ∷ (pointing xyz (insert (put (2 at 1) begin (2 at 2))) 3 gives moved (Refused 7) (pos 0))
-    ∷ (pointing xyz (new (7 at 7) end) 4 gives moved (Refused 4) (pos 0))
-    ∷ (pointing xyz (new (7 at 7) end) 3 gives moved Waits (pos 0))
+    ∷ (pointing xyz (insert (letter (2 at 1) begin end)) 4 gives shifted Known (pos 0))
+    ∷ (pointing xyz (new begin begin) 4 gives shifted (Refused 2) (pos 0))
+    ∷ (pointing (threeRows 256 0 0) (new begin end) 4 gives shifted (Refused 3) (pos 0))
+    ∷ (pointing xyz (insert (letter (2 at 1) begin (2 at 2))) 4 gives shifted (Refused 4) (pos 0))
+    ∷ (pointing xyz (insert (letter (2 at 1) begin (2 at 2))) 3 gives shifted (Refused 7) (pos 0))
+    ∷ (pointing xyz (new (7 at 7) end) 4 gives shifted (Refused 4) (pos 0))
+    ∷ (pointing xyz (new (7 at 7) end) 3 gives shifted Waits (pos 0))
     ∷ []
 
 -- the identifier counted n from 0 of 512, of which each site has 32
@@ -453,19 +453,19 @@ numbered n = (n / 32 + 1) at (n % 32 + 2)
 -- m inserts from the one counted n on, each of which goes to the top, above x and then above the one before
 abbrev pub upward : ℕ → ℕ → Identifier → List Operation
 upward zero n x = []
-upward (suc m) n x = insert (put (numbered n) begin x) ∷ upward m (suc n) (numbered n)
+upward (suc m) n x = insert (letter (numbered n) begin x) ∷ upward m (suc n) (numbered n)
 
 -- a row that stands alone, and 512 inserts that wait for the one below, each above the one before and so above the row
 unfoldable pub crowded : State
-crowded = stateAt 99 (put (1 at 1) begin end ∷ []) (upward 512 0 (1 at 99))
+crowded = stateAt 99 (letter (1 at 1) begin end ∷ []) (upward 512 0 (1 at 99))
 
 unfoldable pub releasing : Operation
-releasing = insert (put (1 at 99) begin (1 at 1))
+releasing = insert (letter (1 at 99) begin (1 at 1))
 
 -- m rows between the marks, of site 1 and with clocks from n on
 abbrev pub rowsFrom : ℕ → ℕ → List Insert
 rowsFrom n zero = []
-rowsFrom n (suc m) = put (1 at n) begin end ∷ rowsFrom (suc n) m
+rowsFrom n (suc m) = letter (1 at n) begin end ∷ rowsFrom (suc n) m
 
 -- "1,023 rows and one waiting insert"
 unfoldable pub full : State
@@ -479,20 +479,20 @@ onFull o = reply (receiveWhen true full o .answer)
 abbrev pub FullTells : Type 0
 FullTells =
     (reply (answerOf (localInsertWhen true full 0 65 .answer)) ≡ Refused 11)
-    × (onFull (insert (put (3 at 1) begin (1 at 1))) ≡ Refused 11)
+    × (onFull (insert (letter (3 at 1) begin (1 at 1))) ≡ Refused 11)
     × (onFull (stray (3 at 1)) ≡ Refused 11)
-    × (onFull (insert (put (1 at 7) begin end)) ≡ Known)
+    × (onFull (insert (letter (1 at 7) begin end)) ≡ Known)
     × (onFull (stray (2 at 1)) ≡ Known)
     × (onFull (deleteBy 3 (1 at 7)) ≡ Done 1 0)
     × (onFull (deleteBy 3 (2 at 1)) ≡ Waits)
 
 -- "the shift lies between -1 and 513": -1 where the left row is hidden
 abbrev pub LowestShift : Type 0
-LowestShift = seen (pointing xyz (deleteBy 3 (2 at 1)) 1) ≡ moved (Done 1 0) (negsuc 0)
+LowestShift = seen (pointing xyz (deleteBy 3 (2 at 1)) 1) ≡ shifted (Done 1 0) (negsuc 0)
 
 -- and 513 where one call puts as many rows above it: too many to compute with, so it is proved in `convergence`
 abbrev pub HighestShift : Type 0
-HighestShift = seen (pointing crowded releasing 1) ≡ moved (Done 513 0) (pos 513)
+HighestShift = seen (pointing crowded releasing 1) ≡ shifted (Done 513 0) (pos 513)
 
 -- the first character typed where the operation waits: the reply, and the gap just below its row
 abbrev pub typedWhere : Operation → Reply × ℕ
@@ -504,9 +504,9 @@ typedWhere o =
 abbrev pub TypedElsewhere : Type 0
 TypedElsewhere =
     (typedWhere (deleteBy 2 (4 at 1)) ≡ (Done 1 0, 1))
-    × (typedWhere (insert (put (2 at 1) (1 at 1) end)) ≡ (Done 2 0, 1))
+    × (typedWhere (insert (letter (2 at 1) (1 at 1) end)) ≡ (Done 2 0, 1))
     × (typedWhere (deleteBy 2 (1 at 1)) ≡ (Done 2 0, 0))
-    × (typedWhere (insert (put (2 at 1) begin (1 at 1))) ≡ (Done 2 0, 2))
+    × (typedWhere (insert (letter (2 at 1) begin (1 at 1))) ≡ (Done 2 0, 2))
 
 -- each case tells the rule from the slip that its comment names
 abbrev pub CasesTell : Type 0
@@ -517,7 +517,7 @@ CasesTell = AllHold slipCases × AllHold answerCases × AllHold clockCases × Al
 abbrev pub LargestTells : Type 0
 LargestTells =
     (largestIn (1 at 1) (deleteBy 3 (1 at 1) ∷ toggleBy 4 (1 at 1) 2 ∷ toggleBy 5 (2 at 1) 9 ∷ []) ≡ 2)
-    × (largestIn (1 at 1) (toggleBy 3 (1 at 1) 2 ∷ deleteBy 5 (1 at 1) ∷ insert (put (1 at 1) begin end) ∷ []) ≡ 2)
+    × (largestIn (1 at 1) (toggleBy 3 (1 at 1) 2 ∷ deleteBy 5 (1 at 1) ∷ insert (letter (1 at 1) begin end) ∷ []) ≡ 2)
     × (largestIn (2 at 1) (integratedBy (toggledTo 4) []) ≡ 0)
 
 -- ---- the checking order

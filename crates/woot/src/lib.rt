@@ -294,7 +294,7 @@ pub struct Receipt {
 
 // What receiving with a cursor returns: the answer, the replica as it is then, and how far the cursor moves. (Document
 // 02: the shift.)
-pub struct Moved {
+pub struct ReceiptAt {
     pub answer: Answer,
     pub replica: Replica,
     pub shift: i32,

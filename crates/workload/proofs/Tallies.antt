@@ -11,14 +11,14 @@ use Rattle.woot.specs.declared.Operation.{Operation}
 use Rattle.woot.specs.declared.Answer.{Answer}
 use Rattle.woot.specs.declared.Answer.the-variants.{Done, Deferred, Duplicate, Refused}
 use Rattle.woot.specs.Replicas.{received}
-use Rattle.workload.specs.Workload.{insertOf, deleteOf, numbersBelow, operationOf, operationsOf, carried, Tally, tallied, talliedAll, noneTallied, carriedOut}
+use Rattle.workload.specs.Workload.{insertOf, deleteOf, numbersBelow, operationOf, operationsOf, oneIfDone, Tally, tallied, talliedAll, noneTallied, carriedOut}
 
-pub carried-le : (a : Answer) → carried a ≤ 1
-unfolding carried
-carried-le (Done n m) = omega arith
-carried-le Deferred = omega arith
-carried-le Duplicate = omega arith
-carried-le (Refused r) = omega arith
+pub one-if-done-le : (a : Answer) → oneIfDone a ≤ 1
+unfolding oneIfDone
+one-if-done-le (Done n m) = omega arith
+one-if-done-le Deferred = omega arith
+one-if-done-le Duplicate = omega arith
+one-if-done-le (Refused r) = omega arith
 
 pub tallied-append : (t : Tally) (os ps : List Operation) → talliedAll t (os ++ ps) ≡ talliedAll (talliedAll t os) ps
 unfolding talliedAll
@@ -41,7 +41,7 @@ received-more {f} {t} {u} {v} {k} r e =
     rw (add-one k) (map-append f (numbersBelow k) (k ∷ [])) in
     record {
       left = rw (more, tallied-append t (map f (numbersBelow k)) (f k ∷ []), ← r .left) e;
-      few = rw e (omega (arith, r .few, carried-le (received (u .replica) (f k) .answer)));
+      few = rw e (omega (arith, r .few, one-if-done-le (received (u .replica) (f k) .answer)));
     }
 
 -- by number, the first of the operations are the inserts

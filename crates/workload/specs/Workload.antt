@@ -49,11 +49,11 @@ operationsOf n = map insertOf (numbersBelow n) ++ map deleteOf (numbersBelow n)
 -- ---- how many are carried out
 
 -- 1 for an operation that is carried out as it is received
-unfoldable pub carried : Answer → ℕ
-carried (Done n m) = 1
-carried Deferred = 0
-carried Duplicate = 0
-carried (Refused r) = 0
+unfoldable pub oneIfDone : Answer → ℕ
+oneIfDone (Done n m) = 1
+oneIfDone Deferred = 0
+oneIfDone Duplicate = 0
+oneIfDone (Refused r) = 0
 
 -- a replica, and how many of the operations that it received were carried out
 pub record Tally : Type 0 where
@@ -65,7 +65,7 @@ unfoldable pub tallied : Tally → Operation → Tally
 tallied t o =
     record {
       replica = received (t .replica) o .replica;
-      count = t .count + carried (received (t .replica) o .answer);
+      count = t .count + oneIfDone (received (t .replica) o .answer);
     }
 
 -- several more, one after another

@@ -14,7 +14,7 @@ ghost use Rattle.workload.specs.Workload.{
   insertOf,
   deleteOf,
   operationOf,
-  carried,
+  oneIfDone,
   carriedOut,
 };
 
@@ -75,8 +75,8 @@ fn operation(rows: u16, k: u16) -> Operation
 }
 
 // 1 where the operation was carried out.
-fn carried(answer: Answer) -> u64
-    ensures { λ r. ⌜ r ≡ carried answer ⌝ }
+fn one_if_done(answer: Answer) -> u64
+    ensures { λ r. ⌜ r ≡ oneIfDone answer ⌝ }
 {
     match answer {
         Answer::Done {
@@ -114,7 +114,7 @@ pub extern "C" fn workload_run(rows: u64) -> u64
         let receipt = replica::receive(replica, operation(n, k));
         let answer = receipt.answer;
         replica = receipt.replica;
-        count += carried(answer);
+        count += one_if_done(answer);
         k += 1;
     }
     count

@@ -1,7 +1,7 @@
 -- `conversion::convert` meets its contract: what was read decides, and then its form and what the other form can say.
 use native.Mathlib.Omega.{arith}
 use mathlib.Core.Path.{sym, _∙_}
-use Rattle.lists.proofs.Tests.{refused, passed}
+use Rattle.lists.proofs.Tests.{failed, passed}
 use Rattle.woot.specs.Memory.{charactersIn, operationsIn, meaning}
 use Rattle.memory.specs.Lent.{viewed}
 use Rattle.memory.proofs.Fullness.{full-view}
@@ -25,7 +25,7 @@ check-requires c κs =
 returns-2 : tie.Need-returns-2
 returns-2 c =
     let r = c .before .before .before .before .before .before .before .before .before .before .before .before .before .before .before .before .before .read .result .replica in
-    not-formed _ _ _ _ _ (c .before .before .before .before .before .before .before .before .before .before .before .before .before .before .before .before .before .read .ensures) (c .before .before .before .before .before .before .before .before .before .before .before .before .before .before .before .enum-told .given .1) (refused (c .before .check .ensures ∙ sym (form-view r)) (c .if1 .taken))
+    not-formed _ _ _ _ _ (c .before .before .before .before .before .before .before .before .before .before .before .before .before .before .before .before .before .read .ensures) (c .before .before .before .before .before .before .before .before .before .before .before .before .before .before .before .enum-told .given .1) (failed (c .before .check .ensures ∙ sym (form-view r)) (c .if1 .taken))
 
 is-representable-requires : tie.Need-is-representable-requires
 is-representable-requires c κs =
@@ -41,10 +41,10 @@ returns-3 c =
     let full = read-full _ _ _ (c .before .before .before .before .before .before .before .before .before .before .before .before .before .before .before .before .before .before .before .before .before .before .before .before .read .ensures) done in
     let x = examined (viewed r) (full-view (r .document) full) (passed (c .before .before .before .before .before .before .before .before .check .ensures) (c .before .before .before .before .before .before .before .if1 .left)) in
     not-representable _ _ _ _ _ (c .before .before .before .before .before .before .before .before .before .before .before .before .before .before .before .before .before .before .before .before .before .before .before .before .read .ensures) done (passed (c .before .before .before .before .before .before .before .before .check .ensures ∙ sym (form-view r)) (c .before .before .before .before .before .before .before .if1 .left))
-    (refused (told-representable r x _ (c .before .is-representable .ensures)) (c .if2 .taken))
+    (failed (told-representable r x _ (c .before .is-representable .ensures)) (c .if2 .taken))
 
-put-requires : tie.Need-put-requires
-put-requires c κs =
+put-replica-requires : tie.Need-put-replica-requires
+put-replica-requires c κs =
     let r = c .before .before .before .before .before .before .before .before .before .before .before .before .before .before .before .before .before .before .before .before .before .before .before .before .before .before .before .before .before .before .before .before .before .read .result .replica in
     let full = read-full _ _ _ (c .before .before .before .before .before .before .before .before .before .before .before .before .before .before .before .before .before .before .before .before .before .before .before .before .before .before .before .before .before .before .before .before .before .read .ensures) (c .before .before .before .before .before .before .before .before .before .before .before .before .before .before .before .before .before .before .before .before .before .before .before .before .before .before .before .before .before .before .before .enum-told .given .1) in
     let w = few (viewed r) (examined (viewed r) (full-view (r .document) full) (passed (c .before .before .before .before .before .before .before .before .before .before .before .before .before .before .before .before .before .check .ensures) (c .before .before .before .before .before .before .before .before .before .before .before .before .before .before .before .before .if1 .left))) in
@@ -57,7 +57,7 @@ returns-4 c =
     let done = c .before .before .before .before .before .before .before .before .before .before .before .before .before .before .before .before .before .before .before .before .before .before .before .before .before .before .before .before .before .before .before .before .before .before .enum-told .given .1 in
     let full = read-full _ _ _ (c .before .before .before .before .before .before .before .before .before .before .before .before .before .before .before .before .before .before .before .before .before .before .before .before .before .before .before .before .before .before .before .before .before .before .before .before .read .ensures) done in
     let x = examined (viewed r) (full-view (r .document) full) (passed (c .before .before .before .before .before .before .before .before .before .before .before .before .before .before .before .before .before .before .before .before .check .ensures) (c .before .before .before .before .before .before .before .before .before .before .before .before .before .before .before .before .before .before .before .if1 .left)) in
-    let p = c .before .before .put .ensures in
+    let p = c .before .before .put-replica .ensures in
     let e = written-so _ _ _ _ _ (c .before .before .before .before .before .before .before .before .before .before .before .before .before .before .before .before .before .before .before .before .before .before .before .before .before .before .before .before .before .before .before .before .before .before .before .before .read .ensures) done (passed (c .before .before .before .before .before .before .before .before .before .before .before .before .before .before .before .before .before .before .before .before .check .ensures ∙ sym (form-view r)) (c .before .before .before .before .before .before .before .before .before .before .before .before .before .before .before .before .before .before .before .if1 .left))
     (passed (told-representable r x _ (c .before .before .before .before .before .before .before .before .before .before .before .before .before .is-representable .ensures)) (c .before .before .before .before .before .before .before .before .before .before .before .before .if2 .left)) in
     (p .0 ∙ e .0, p .1 ∙ e .1)
@@ -66,4 +66,4 @@ pub convert-spec : {M : Type 1} → statement M
 convert-spec =
     tie.close
     (tie.spec (λ c κs. search needs) (λ c. search needs) returns (λ c. search needs) check-requires returns-2
-    is-representable-requires returns-3 put-requires (λ c. search needs) returns-4)
+    is-representable-requires returns-3 put-replica-requires (λ c. search needs) returns-4)

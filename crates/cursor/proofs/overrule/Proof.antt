@@ -14,7 +14,7 @@ returns c = decided-within _ _ (not-true _ (c .if1 .taken))
 returns-2 : tie.Need-returns-2
 unfolding overruled
 returns-2 c =
-    ap Answered (c .answered .ensures)
+    ap Answered (c .answer-at .ensures)
     ∙ sym (ap (overruled (c .before .before .before .before .before .args .beyond)) (c .before .before .decision .given .1))
 
 returns-3 : tie.Need-returns-3

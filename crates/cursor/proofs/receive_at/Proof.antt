@@ -6,7 +6,7 @@ use mir.Syntax.{w32}
 use Rattle.woot.specs.declared.Replica.{Replica}
 use Rattle.memory.proofs.Fullness.{FullArrays, full-replica}
 use Rattle.replica.proofs.Returning.{sized-still}
-use Rattle.cursor.proofs.Receiving.{changed-few, moved-so}
+use Rattle.cursor.proofs.Receiving.{changed-few, receipt-at-so}
 use borrow.Author.Needs.{needs}
 use Rattle.cursor.proofs.receive_at.Statement.{statement}
 use Rattle.cursor.proofs.receive_at.Tie as tie
@@ -65,7 +65,7 @@ returns c =
     let j = judging d in
     let told = c .before .shift-with .ensures in
     let read = toZ-ofZ {w = w32} {z = c .before .shift-with .result} (record { sfits = c .before .shift-with .ok }) in
-    moved-so (passedIn j) (after d) (full-before j) (full-after d) _ _ _ _ _ (j .judge-at .ensures) (carrying d .carry .ensures) _ (d .answer .ensures) _
+    receipt-at-so (passedIn j) (after d) (full-before j) (full-after d) _ _ _ _ _ (j .judge-at .ensures) (carrying d .carry .ensures) _ (d .answer .ensures) _
     (λ e. read ∙ told .0 e) (λ e cs k t small. read ∙ told .1 e cs k t small)
 
 pub receive-at-spec : {M : Type 1} → statement M

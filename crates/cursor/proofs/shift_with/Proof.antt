@@ -4,12 +4,12 @@ use mir.Facts.{toZ-ofZ}
 use mir.Syntax.{w32}
 use borrow.Author.Needs.{needs}
 use native.Mathlib.Omega.{arith}
-use Rattle.lists.proofs.Tests.{refused, passed, clash}
+use Rattle.lists.proofs.Tests.{failed, passed, clash}
 use Rattle.cursor.proofs.shift_with.Statement.{statement}
 use Rattle.cursor.proofs.shift_with.Tie as tie
 
 returns : tie.Need-returns
-returns c = (λ e. refl, λ e. clash e (refused (c .before .is-change .ensures) (c .if1 .taken)))
+returns c = (λ e. refl, λ e. clash e (failed (c .before .is-change .ensures) (c .if1 .taken)))
 
 shift-requires : tie.Need-shift-requires
 shift-requires c κs =

@@ -6,11 +6,11 @@ use Rattle.effects.proofs.after_noting.Tie as tie
 
 returns : tie.Need-returns
 unfolding afterNoting
-returns c = rw (c .before .before .written .given .1) (c .returned .ensures)
+returns c = rw (c .before .before .written .given .1) (c .number-of .ensures)
 
 returns-2 : tie.Need-returns-2
 unfolding afterNoting
-returns-2 c = rw (c .before .before .written2 .given .1) (c .refused .ensures)
+returns-2 c = rw (c .before .before .written2 .given .1) (c .number-of-refusal .ensures)
 
 pub after-noting-spec : {M : Type 1} → statement M
 after-noting-spec =

@@ -1,7 +1,7 @@
 -- `effects::save_both` meets its contract: the line is measured first, without writing it.
 use mathlib.Core.Path.{refl, sym, _∙_}
 use Rattle.effects.specs.Effects.{quiet, turned}
-use Rattle.effects.proofs.Outputs.{carried, line-short, save-refused, both-written}
+use Rattle.effects.proofs.Outputs.{leaves-by, line-short, save-refused, both-written}
 use borrow.Author.Needs.{needs}
 use Rattle.effects.proofs.save_both.Statement.{statement}
 use Rattle.effects.proofs.save_both.Tie as tie
@@ -9,22 +9,22 @@ use Rattle.effects.proofs.save_both.Tie as tie
 returns : tie.Need-returns
 unfolding turned quiet
 returns c =
-    carried (line-short _ _ _ _ _ (sym (c .before .before .before .measure .ensures) ∙ c .before .enum-told .given .1)) (c .refused .ensures, refl, refl)
+    leaves-by (line-short _ _ _ _ _ (sym (c .before .before .before .measure .ensures) ∙ c .before .enum-told .given .1)) (c .number-of-refusal .ensures, refl, refl)
 
 returns-2 : tie.Need-returns-2
 unfolding turned quiet
 returns-2 c =
-    let s = c .before .before .before .before .before .before .put .ensures in
+    let s = c .before .before .before .before .before .before .put-replica .ensures in
     let known = sym (c .before .before .before .before .before .before .before .before .before .before .before .measure .ensures) ∙ c .before .before .before .before .before .before .before .before .before .space .given .1 in
     let w = save-refused _ _ _ _ _ known (sym (s .0) ∙ c .before .before .written .given .1) in
-    carried (w .0) (c .refused2 .ensures, s .1 ∙ w .1, refl)
+    leaves-by (w .0) (c .number-of-refusal2 .ensures, s .1 ∙ w .1, refl)
 
 returns-3 : tie.Need-returns-3
 returns-3 c =
-    let s = c .before .before .before .before .before .before .before .before .before .before .put .ensures in
+    let s = c .before .before .before .before .before .before .before .before .before .before .put-replica .ensures in
     let known = sym (c .before .before .before .before .before .before .before .before .before .before .before .before .before .before .before .measure .ensures) ∙ c .before .before .before .before .before .before .before .before .before .before .before .before .before .space .given .1 in
-    carried (both-written _ _ _ _ _ known (sym (s .0) ∙ c .before .before .before .before .before .before .written2 .given .1))
-    (c .returned .ensures, s .1, c .before .before .before .put-operation .ensures .1)
+    leaves-by (both-written _ _ _ _ _ known (sym (s .0) ∙ c .before .before .before .before .before .before .written2 .given .1))
+    (c .number-of .ensures, s .1, c .before .before .before .put-operation .ensures .1)
 
 pub save-both-spec : {M : Type 1} → statement M
 save-both-spec =

@@ -3,16 +3,16 @@ use mathlib.Core.Path.{refl, ap, _∙_}
 use Rattle.woot.specs.declared.Written.{Written}
 use Rattle.effects.specs.Results.{numberOf}
 use Rattle.effects.specs.Steps.{afterNoting}
-use Rattle.effects.proofs.Outputs.{carried, noted-written}
+use Rattle.effects.proofs.Outputs.{leaves-by, noted-written}
 use borrow.Author.Needs.{needs}
 use Rattle.effects.proofs.save_noted.Statement.{statement}
 use Rattle.effects.proofs.save_noted.Tie as tie
 
 returns : tie.Need-returns
 returns c =
-    let s = c .before .before .before .put .ensures in
+    let s = c .before .before .before .put-replica .ensures in
     let a = c .before .before .before .before .before .before .before .before .before .args in
-    carried (noted-written _ _ _ _) (c .after-noting .ensures ∙ ap (λ (w : Written). numberOf (afterNoting (a .answer) (a .note) w)) (s .0), s .1, refl)
+    leaves-by (noted-written _ _ _ _) (c .after-noting .ensures ∙ ap (λ (w : Written). numberOf (afterNoting (a .answer) (a .note) w)) (s .0), s .1, refl)
 
 pub save-noted-spec : {M : Type 1} → statement M
 save-noted-spec =

@@ -1,6 +1,6 @@
 -- `judge_delete` looks at the form; the character is the visible one that is counted.
 use native.Mathlib.Omega.{arith}
-use Rattle.lists.proofs.Tests.{refused, passed}
+use Rattle.lists.proofs.Tests.{failed, passed}
 use Rattle.memory.specs.Columns.{Replica}
 use Rattle.memory.specs.Lent.{replicaAs}
 use Rattle.memory.proofs.Fullness.{begins, Ends, ends}
@@ -26,7 +26,7 @@ rows : (c : tie.Else1) → Ends 1024 (c .before .before .before .before .before 
 rows c = ends 1024 (c .before .before .before .before .before .before .before .pre .characters)
 
 returns : tie.Need-returns
-returns c = unformed-delete (made (c .before .before .before .before .before .before .before)) _ (refused (c .before .check .ensures) (c .if1 .taken))
+returns c = unformed-delete (made (c .before .before .before .before .before .before .before)) _ (failed (c .before .check .ensures) (c .if1 .taken))
 
 returns-2 : tie.Need-returns-2
 returns-2 c = delete-zero _ (examined (c .before)) _ (c .if2 .taken)

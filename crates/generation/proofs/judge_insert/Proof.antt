@@ -1,7 +1,7 @@
 -- `judge_insert` makes its tests in the order in which the rules make theirs.
 use mathlib.Core.Path.{_≡_, sym}
 use mathlib.Core.Bool.{true, false}
-use Rattle.lists.proofs.Tests.{refused, passed}
+use Rattle.lists.proofs.Tests.{failed, passed}
 use Rattle.woot.specs.Ranges.{codePoint}
 use Rattle.woot.specs.Calls.{beyondVisible}
 use Rattle.memory.specs.Columns.{Replica, meaning}
@@ -45,12 +45,12 @@ waits : (c : tie.Else2) → Ends 512 (start c .args .pending .now)
 waits c = ends 512 (start c .pre .pending)
 
 returns : tie.Need-returns
-returns c = unranged-insert (made (c .before .before .before .before .before .before .before)) _ _ (refused (c .before .code-point .ensures) (c .if1 .taken))
+returns c = unranged-insert (made (c .before .before .before .before .before .before .before)) _ _ (failed (c .before .code-point .ensures) (c .if1 .taken))
 
 returns-2 : tie.Need-returns-2
 returns-2 c =
     let r = made (c .before .before .before .before .before .before .before .before .before) in
-    unformed-insert r _ _ (coded (c .before .before)) (refused (c .before .check .ensures) (c .if2 .taken))
+    unformed-insert r _ _ (coded (c .before .before)) (failed (c .before .check .ensures) (c .if2 .taken))
 
 count-requires : tie.Need-count-requires
 count-requires c κs = fits _ (examined c) .toggles

@@ -3,7 +3,7 @@ use native.Mathlib.Omega.{arith}
 use mathlib.Core.Path.{_≡_, sym, _∙_}
 use mathlib.Core.Bool.{true}
 use lib.ListN.{take}
-use Rattle.lists.proofs.Tests.{refused, passed}
+use Rattle.lists.proofs.Tests.{failed, passed}
 use Rattle.woot.specs.Ranges.{characterId}
 use Rattle.woot.specs.Table.{key}
 use Rattle.woot.specs.Memory.{keyColumn}
@@ -59,12 +59,12 @@ rows : (c : tie.Else2) → Ends 1024 (start c .args .characters .now)
 rows c = ends 1024 (start c .pre .characters)
 
 returns : tie.Need-returns
-returns c = unranged-restore (made (c .before .before .before .before .before .before .before)) _ (refused (c .before .character-id .ensures) (c .if1 .taken))
+returns c = unranged-restore (made (c .before .before .before .before .before .before .before)) _ (failed (c .before .character-id .ensures) (c .if1 .taken))
 
 returns-2 : tie.Need-returns-2
 returns-2 c =
     let r = made (c .before .before .before .before .before .before .before .before .before) in
-    unformed-restore r _ (ranged (c .before .before)) (refused (c .before .check .ensures) (c .if2 .taken))
+    unformed-restore r _ (ranged (c .before .before)) (failed (c .before .check .ensures) (c .if2 .taken))
 
 find-among-requires : tie.Need-find-among-requires
 find-among-requires c κs =

@@ -8,7 +8,7 @@ use borrow.Author.Needs.{needs}
 use lib.ListN.{length}
 use Rattle.woot.specs.Memory.{replicaWellFormed}
 use Rattle.lines.proofs.Lines.{rest-shorter}
-use Rattle.transcript.proofs.Looping.{answered-formed, begun-formed}
+use Rattle.transcript.proofs.Looping.{received-line-formed, begun-formed}
 use Rattle.hall.proofs.run.Statement.{statement}
 use Rattle.hall.proofs.run.Tie as tie
 
@@ -34,7 +34,7 @@ loop-less : tie.Need-loop-less Inv-loop μ-loop
 loop-less c = shorter c
 
 loop-again : tie.Need-loop-again Inv-loop μ-loop
-loop-again c = (omega (arith, shorter c, c .before .before .before .before .before .before .loop .inv .0), ap replicaWellFormed (c .before .before .before .before .print-line .ensures) ∙ answered-formed _ (c .before .before .before .before .before .before .loop .inv .1) _)
+loop-again c = (omega (arith, shorter c, c .before .before .before .before .before .before .loop .inv .0), ap replicaWellFormed (c .before .before .before .before .print-line .ensures) ∙ received-line-formed _ (c .before .before .before .before .before .before .loop .inv .1) _)
 
 print-text-requires : tie.Need-print-text-requires Inv-loop μ-loop
 print-text-requires c κs = c .before .loop .inv .1

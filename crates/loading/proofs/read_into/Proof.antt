@@ -16,7 +16,7 @@ use Rattle.saved.specs.declared.LoadAnswer.{LoadAnswer}
 use Rattle.saved.specs.declared.LoadAnswer.the-variants.{Done, Refused}
 use Rattle.saved_lines.specs.Judging.{siteRead}
 use Rattle.loading.proofs.Collecting.{characters-length, toggles-length, pending-length}
-use Rattle.loading.proofs.Assembling.{no-first, skip-fits, no-later, later-laid, out-of-range, answer-is, all-held}
+use Rattle.loading.proofs.Assembling.{no-first, skip-fits, no-later, later-laid, out-of-range, answer-is, all-raised}
 use borrow.Author.Needs.{needs}
 use Rattle.loading.proofs.read_into.Statement.{statement}
 use Rattle.loading.proofs.read_into.Tie as tie
@@ -42,7 +42,7 @@ returns : tie.Need-returns
 returns c =
     let u = c .before .before .before in
     let z = u .before .before .before .before .before .before .before .before .pre in (
-      c .refused .ensures ∙ no-first _ _ _ (first-read u) (not-true _ (c .before .if1 .taken)),
+      c .refuse-into .ensures ∙ no-first _ _ _ (first-read u) (not-true _ (c .before .if1 .taken)),
       (
         ap length (z .0) ∙ characters-length [],
         (
@@ -53,7 +53,7 @@ returns c =
               z .1 .1 .1 .0,
               (
                 z .1 .1 .1 .1,
-                not-done Layout (c .refused .ensures),
+                not-done Layout (c .refuse-into .ensures),
               ),
             ),
           ),
@@ -91,7 +91,7 @@ returns-2 c =
     let i = q .read-characters .ensures in
     let k = p .before .before .skip .ensures in
     let o = p .read-operations .ensures in (
-      c .refused2 .ensures ∙ no-later _ _ _ r y b _ (i .0) _ k _ (o .0) (not-true _ (c .before .if2 .taken)),
+      c .refuse-into2 .ensures ∙ no-later _ _ _ r y b _ (i .0) _ k _ (o .0) (not-true _ (c .before .if2 .taken)),
       (
         same-length c ∙ ap length (z .0) ∙ characters-length [],
         (
@@ -102,7 +102,7 @@ returns-2 c =
               z .1 .1 .1 .0,
               (
                 z .1 .1 .1 .1,
-                not-done Layout (c .refused2 .ensures),
+                not-done Layout (c .refuse-into2 .ensures),
               ),
             ),
           ),
@@ -131,7 +131,7 @@ returns-3 c =
     let e =
     judged (u .read-site .result .judged .«in_range») (q .read-characters .result .«in_range») (p .read-operations .result .«in_range»)
     (c .before .before .before .both .ensures) (c .before .before .both2 .ensures) (not-true _ (c .before .if3 .taken)) in (
-      c .refused3 .ensures ∙ out-of-range _ _ _ r y b _ (i .0) _ k _ (o .0) (not-false _ (c .before .before .before .before .if2 .left)) e,
+      c .refuse-into3 .ensures ∙ out-of-range _ _ _ r y b _ (i .0) _ k _ (o .0) (not-false _ (c .before .before .before .before .if2 .left)) e,
       (
         same-length-4 c ∙ ap length (z .0) ∙ characters-length [],
         (
@@ -142,7 +142,7 @@ returns-3 c =
               z .1 .1 .1 .0,
               (
                 z .1 .1 .1 .1,
-                not-done Range (c .refused3 .ensures),
+                not-done Range (c .refuse-into3 .ensures),
               ),
             ),
           ),
@@ -210,7 +210,7 @@ returns-4 c =
               (
                 same-length-11 c ∙ z .1 .1 .1 .1,
                 λ told.
-                    all-held _ _ _ r y b _ (i .0) _ k _ (o .0) l (w .0) (w .1) (w .2) (i .1 .0) (i .1 .1)
+                    all-raised _ _ _ r y b _ (i .0) _ k _ (o .0) l (w .0) (w .1) (w .2) (i .1 .0) (i .1 .1)
                     (o .1 .1 (later-laid _ _ _ r y b _ (i .0) _ k _ (o .0) l))
                     (c .before .before .before .before .settle .ensures .0) (c .before .before .before .before .settle .ensures .1),
               ),

@@ -5,7 +5,7 @@ use borrow.Author.Needs.{needs}
 use Rattle.woot.specs.declared.Identifier.{Identifier}
 use Rattle.woot.specs.Limits.{lastClock}
 use Rattle.woot.specs.Ranges.{within, siteNumber, characterId}
-use Rattle.lists.proofs.Tests.{refused, passed}
+use Rattle.lists.proofs.Tests.{failed, passed}
 use Rattle.ranges.proofs.character_id.Statement.{statement}
 use Rattle.ranges.proofs.character_id.Tie as tie
 
@@ -14,7 +14,7 @@ unfolding characterId
 reading x p q = λ k. p k && q k
 
 returns : tie.Need-returns
-returns c = sym (reading _ (refused (c .before .site-number .ensures) (c .if1 .taken)) refl)
+returns c = sym (reading _ (failed (c .before .site-number .ensures) (c .if1 .taken)) refl)
 
 returns-2 : tie.Need-returns-2
 returns-2 c =

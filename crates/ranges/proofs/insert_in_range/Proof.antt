@@ -5,7 +5,7 @@ use borrow.Author.Needs.{needs}
 use Rattle.woot.specs.declared.Insert.{Insert}
 use Rattle.woot.specs.Identifiers.{same}
 use Rattle.woot.specs.Ranges.{codePoint, characterId, previousId, nextId, insertInRange}
-use Rattle.lists.proofs.Tests.{refused, passed}
+use Rattle.lists.proofs.Tests.{failed, passed}
 use Rattle.ranges.proofs.insert_in_range.Statement.{statement}
 use Rattle.ranges.proofs.insert_in_range.Tie as tie
 
@@ -16,22 +16,22 @@ unfolding insertInRange
 reading i e₁ e₂ e₃ e₄ e₅ e₆ = λ k. e₁ k && e₂ k && e₃ k && e₄ k && not (e₅ k) && not (e₆ k)
 
 returns : tie.Need-returns
-returns c = sym (reading _ (refused (c .before .character-id .ensures) (c .if1 .taken)) refl refl refl refl refl)
+returns c = sym (reading _ (failed (c .before .character-id .ensures) (c .if1 .taken)) refl refl refl refl refl)
 
 returns-2 : tie.Need-returns-2
 returns-2 c =
     sym (reading _ (passed (c .before .before .before .character-id .ensures) (c .before .before .if1 .left))
-    (refused (c .before .code-point .ensures) (c .if2 .taken)) refl refl refl refl)
+    (failed (c .before .code-point .ensures) (c .if2 .taken)) refl refl refl refl)
 
 returns-3 : tie.Need-returns-3
 returns-3 c =
     sym (reading _ (passed (c .before .before .before .before .before .character-id .ensures) (c .before .before .before .before .if1 .left)) (passed (c .before .before .before .code-point .ensures) (c .before .before .if2 .left))
-    (refused (c .before .previous-id .ensures) (c .if3 .taken)) refl refl refl)
+    (failed (c .before .previous-id .ensures) (c .if3 .taken)) refl refl refl)
 
 returns-4 : tie.Need-returns-4
 returns-4 c =
     sym (reading _ (passed (c .before .before .before .before .before .before .before .character-id .ensures) (c .before .before .before .before .before .before .if1 .left)) (passed (c .before .before .before .before .before .code-point .ensures) (c .before .before .before .before .if2 .left))
-    (passed (c .before .before .before .previous-id .ensures) (c .before .before .if3 .left)) (refused (c .before .next-id .ensures) (c .if4 .taken)) refl refl)
+    (passed (c .before .before .before .previous-id .ensures) (c .before .before .if3 .left)) (failed (c .before .next-id .ensures) (c .if4 .taken)) refl refl)
 
 returns-5 : tie.Need-returns-5
 returns-5 c =

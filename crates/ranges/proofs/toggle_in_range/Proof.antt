@@ -7,7 +7,7 @@ use borrow.Author.Needs.{needs}
 use Rattle.woot.specs.declared.Toggle.{Toggle}
 use Rattle.woot.specs.Limits.{lastToggles}
 use Rattle.woot.specs.Ranges.{within, siteNumber, characterId, toggleInRange}
-use Rattle.lists.proofs.Tests.{refused, passed}
+use Rattle.lists.proofs.Tests.{failed, passed}
 use Rattle.ranges.proofs.Laws.{within-below}
 use Rattle.ranges.proofs.toggle_in_range.Statement.{statement}
 use Rattle.ranges.proofs.toggle_in_range.Tie as tie
@@ -17,12 +17,12 @@ unfolding toggleInRange
 reading t p q r = λ k. p k && q k && r k
 
 returns : tie.Need-returns
-returns c = sym (reading _ (refused (c .before .site-number .ensures) (c .if1 .taken)) refl refl)
+returns c = sym (reading _ (failed (c .before .site-number .ensures) (c .if1 .taken)) refl refl)
 
 returns-2 : tie.Need-returns-2
 returns-2 c =
     sym (reading _ (passed (c .before .before .before .before .site-number .ensures) (c .before .before .before .if1 .left))
-    (refused (c .before .character-id .ensures) (c .if2 .taken)) refl)
+    (failed (c .before .character-id .ensures) (c .if2 .taken)) refl)
 
 returns-3 : tie.Need-returns-3
 returns-3 c =

@@ -1,7 +1,7 @@
 -- `judge` looks at the ranges and at the form before it decides, which goes by the kind of the operation.
 use mathlib.Core.Path.{_≡_}
 use mathlib.Core.Bool.{true}
-use Rattle.lists.proofs.Tests.{refused, passed}
+use Rattle.lists.proofs.Tests.{failed, passed}
 use Rattle.woot.specs.Ranges.{inRange}
 use Rattle.memory.specs.Columns.{Replica}
 use Rattle.memory.specs.Lent.{replicaAs}
@@ -29,12 +29,12 @@ examined : (c : tie.Else2) → Examined (made (start c))
 examined c = lent-examined _ _ _ (start c .pre) (passed (c .before .check .ensures) (c .if2 .left))
 
 returns : tie.Need-returns
-returns c = unranged (made (c .before .before .before .before .before .before .before)) _ (refused (c .before .in-range .ensures) (c .if1 .taken))
+returns c = unranged (made (c .before .before .before .before .before .before .before)) _ (failed (c .before .in-range .ensures) (c .if1 .taken))
 
 returns-2 : tie.Need-returns-2
 returns-2 c =
     let r = made (c .before .before .before .before .before .before .before .before .before) in
-    unformed r _ (ranged (c .before .before)) (refused (c .before .check .ensures) (c .if2 .taken))
+    unformed r _ (ranged (c .before .before)) (failed (c .before .check .ensures) (c .if2 .taken))
 
 decide-insert-requires : tie.Need-decide-insert-requires
 unfolding inRange

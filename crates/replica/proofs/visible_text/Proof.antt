@@ -1,7 +1,7 @@
 -- `replica::visible_text` looks at the form first, and then at the text's length.
 use mathlib.Core.Path.{_≡_, sym, _∙_}
 use mathlib.Core.Bool.{true}
-use Rattle.lists.proofs.Tests.{refused, passed}
+use Rattle.lists.proofs.Tests.{failed, passed}
 use Rattle.woot.specs.declared.Replica.{Replica}
 use Rattle.woot.specs.Memory.{replicaWellFormed}
 use Rattle.memory.specs.Lent.{viewed}
@@ -30,7 +30,7 @@ examined c = lent-examined _ _ _ (full (c .before)) (sym (form-view (passedIn (c
 returns : tie.Need-returns
 returns c =
     let r = passedIn (c .before) in
-    unformed-text r _ (refused (c .before .check .ensures ∙ sym (form-view r)) (c .if1 .taken))
+    unformed-text r _ (failed (c .before .check .ensures ∙ sym (form-view r)) (c .if1 .taken))
 
 write-text-requires : tie.Need-write-text-requires
 write-text-requires c κs =

@@ -1,13 +1,13 @@
 -- `utf8::accept` meets its contract: no code point, too few bytes, or neither.
 use mathlib.Core.Path.{sym}
 use borrow.Author.Needs.{needs}
-use Rattle.lists.proofs.Tests.{refused, passed}
+use Rattle.lists.proofs.Tests.{failed, passed}
 use Rattle.utf8.proofs.Offsets.{accepted-wrong, accepted-longer, accepted-right}
 use Rattle.utf8.proofs.accept.Statement.{statement}
 use Rattle.utf8.proofs.accept.Tie as tie
 
 returns : tie.Need-returns
-returns c = sym (accepted-wrong _ _ _ (refused (c .before .is-code-point .ensures) (c .if1 .taken)))
+returns c = sym (accepted-wrong _ _ _ (failed (c .before .is-code-point .ensures) (c .if1 .taken)))
 
 returns-2 : tie.Need-returns-2
 returns-2 c =

@@ -22,7 +22,7 @@ loop-again c =
     let s = c .before .before .before .before .before .before .before .before .before .before .before in
     let a = s .args in
     let l = c .before .before .before .before .before .before .before .loop in
-    let p = c .before .before .put .ensures in
+    let p = c .before .before .put-visible .ensures in
     let h : l .i < a .n = omega (arith, c .before .before .before .before .before .before .loop-test .taken) in
     let more = text-more (a .code-points .now) (a .toggles .now) (a .n) (l .i) h (s .pre .0) (s .pre .1 .0) in
     (omega (arith, h), onward _ _ _ _ _ _ (rw more at (l .inv .1)) (p .0) (p .1))

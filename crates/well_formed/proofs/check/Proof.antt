@@ -5,7 +5,7 @@ use mathlib.Core.Bool.{true}
 use borrow.Author.Needs.{needs}
 use lib.ListN.{take}
 use Rattle.lists.specs.Lists.{every}
-use Rattle.lists.proofs.Tests.{refused, passed}
+use Rattle.lists.proofs.Tests.{failed, passed}
 use Rattle.memory.specs.Columns.{Replica}
 use Rattle.woot.specs.Form.{ordered}
 use Rattle.woot.specs.Table.{agrees}
@@ -54,7 +54,7 @@ rows : (c : tie.Else1) → Ends 1024 (start c .args .characters .now)
 rows c = ends 1024 (start c .pre .characters)
 
 returns : tie.Need-returns
-returns c = sym (out-of-range (made (c .before .before .before .before .before .before .before)) (refused (c .before .in-ranges .ensures) (c .if1 .taken)))
+returns c = sym (out-of-range (made (c .before .before .before .before .before .before .before)) (failed (c .before .in-ranges .ensures) (c .if1 .taken)))
 
 agrees-among-requires : tie.Need-agrees-among-requires
 agrees-among-requires c κs =
@@ -67,7 +67,7 @@ returns-2 : tie.Need-returns-2
 returns-2 c =
     let e = c .before .before .before in
     let s = start e in
-    sym (untabled (made s) (full s) (kept e) (refused (agree (c .before)) (c .if2 .taken)))
+    sym (untabled (made s) (full s) (kept e) (failed (agree (c .before)) (c .if2 .taken)))
 
 characters-ordered-requires : tie.Need-characters-ordered-requires
 characters-ordered-requires c κs =
@@ -82,7 +82,7 @@ returns-3 : tie.Need-returns-3
 returns-3 c =
     let e = c .before .before .before .before .before .before .before in
     let s = start e in
-    sym (disordered (made s) (full s) (kept e) (agreed (c .before .before .before .before)) (refused (order (c .before)) (c .if3 .taken)))
+    sym (disordered (made s) (full s) (kept e) (agreed (c .before .before .before .before)) (failed (order (c .before)) (c .if3 .taken)))
 
 queue-formed-requires : tie.Need-queue-formed-requires
 queue-formed-requires c κs =

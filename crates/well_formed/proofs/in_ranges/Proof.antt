@@ -7,7 +7,7 @@ use mathlib.Core.List.{List}
 use borrow.Author.Tests.{lt-leb, le-leb}
 use lib.Dec.{leb}
 use Rattle.lists.specs.Lists.{every}
-use Rattle.lists.proofs.Tests.{refused, passed}
+use Rattle.lists.proofs.Tests.{failed, passed}
 use Rattle.woot.specs.declared.Site.{Site}
 use Rattle.woot.specs.declared.Character.{Character}
 use Rattle.woot.specs.declared.Operation.{Operation}
@@ -44,7 +44,7 @@ returns-2 c = sym (reading _ _ _ _ _ (few (c .before)) (lt-leb _ _ (c .if2 .take
 returns-3 : tie.Need-returns-3
 returns-3 c =
     sym (reading _ _ _ _ _ (few (c .before .before .before)) (fewer (c .before .before))
-    (refused (c .before .site-in-range .ensures) (c .if3 .taken)) refl refl)
+    (failed (c .before .site-in-range .ensures) (c .if3 .taken)) refl refl)
 
 -- the columns that are lent
 rows : (c : tie.Else3) → Ends 1024 (c .before .before .before .before .before .before .before .args .characters .now)
@@ -62,7 +62,7 @@ characters-in-range-requires c κs =
 returns-4 : tie.Need-returns-4
 returns-4 c =
     let site = c .before .before .before .before .before .before in
-    let unranged = refused (c .before .characters-in-range .ensures) (c .if4 .taken) in
+    let unranged = failed (c .before .characters-in-range .ensures) (c .if4 .taken) in
     sym (reading _ _ _ _ _ (few (site .before .before .before)) (fewer (site .before .before)) (here site) unranged refl)
 
 operations-in-range-requires : tie.Need-operations-in-range-requires

@@ -2,7 +2,7 @@
 use native.Mathlib.Omega.{arith}
 use lib.ListN.{length-take, length-drop}
 use borrow.Author.Needs.{needs}
-use Rattle.lists.proofs.Tests.{refused, passed}
+use Rattle.lists.proofs.Tests.{failed, passed}
 use Rattle.memory.proofs.Fullness.{begins, Ends, ends, in-columns}
 use Rattle.well_formed.proofs.queue_formed.Statement.{statement}
 use Rattle.well_formed.proofs.queue_formed.Tie as tie
@@ -17,11 +17,11 @@ pending-formed-requires c κs =
     simp (length-take, length-drop) (s .pre .1 .1 .1, (omega arith, (omega arith, omega arith)))
 
 returns : tie.Need-returns
-returns c = rw (refused (c .before .pending-formed .ensures) (c .if1 .taken))
+returns c = rw (failed (c .before .pending-formed .ensures) (c .if1 .taken))
 
 returns-2 : tie.Need-returns-2
 returns-2 c =
-    rw (passed (c .before .before .before .pending-formed .ensures) (c .before .before .if1 .left), refused (c .before .reaches-all .ensures) (c .if2 .taken))
+    rw (passed (c .before .before .before .pending-formed .ensures) (c .before .before .if1 .left), failed (c .before .reaches-all .ensures) (c .if2 .taken))
 
 reaches-all-requires-2 : tie.Need-reaches-all-requires-2
 reaches-all-requires-2 c κs =

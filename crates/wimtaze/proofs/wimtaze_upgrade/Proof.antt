@@ -4,7 +4,7 @@ use Rattle.woot.specs.declared.Answer.the-variants.{Done}
 use Rattle.woot.specs.declared.Written.{Written}
 use Rattle.effects.specs.Results.{numberOf}
 use Rattle.effects.specs.Steps.{afterWriting}
-use Rattle.effects.proofs.Outputs.{carried}
+use Rattle.effects.proofs.Outputs.{leaves-by}
 use Rattle.wimtaze.proofs.Bodies.{upgrade-body}
 use Rattle.wimtaze.proofs.Bridging.{conversion-bridge}
 use borrow.Author.Needs.{needs}
@@ -14,7 +14,7 @@ use Rattle.wimtaze.proofs.wimtaze_upgrade.Tie as tie
 returns : tie.Need-returns
 returns c =
     let t = c .before .before .before .upgrade .ensures in
-    carried (upgrade-body _ _ ∙ conversion-bridge _ _ _ _) (c .written .ensures ∙ ap (λ (w : Written). numberOf (afterWriting (Done 0 0) w)) (t .0), t .1, refl)
+    leaves-by (upgrade-body _ _ ∙ conversion-bridge _ _ _ _) (c .written .ensures ∙ ap (λ (w : Written). numberOf (afterWriting (Done 0 0) w)) (t .0), t .1, refl)
 
 pub wimtaze-upgrade-spec : {M : Type 1} → statement M
 wimtaze-upgrade-spec =

@@ -4,7 +4,7 @@ use Prim.Native.Nat.{_+_, _-_, _≤_}
 use native.Mathlib.Omega.{arith}
 use borrow.Author.Needs.{needs}
 use Rattle.workload.specs.Workload.{operationOf, tallied, noneTallied}
-use Rattle.workload.proofs.Tallies.{carried-le, Received, received-none, received-more, all-received}
+use Rattle.workload.proofs.Tallies.{one-if-done-le, Received, received-none, received-more, all-received}
 use Rattle.workload.proofs.workload_run.Statement.{statement}
 use Rattle.workload.proofs.workload_run.Tie as tie
 
@@ -29,7 +29,7 @@ operation-requires c κs = (omega arith, omega arith)
 add-count : tie.Need-add-count Inv-loop μ-loop
 add-count c =
     let l = c .before .before .before .before .before .loop in
-    omega (arith, l .inv .1 .few, carried-le (c .before .before .receive .result .answer), c .carried .ensures)
+    omega (arith, l .inv .1 .few, one-if-done-le (c .before .before .receive .result .answer), c .one-if-done .ensures)
 
 loop-again : tie.Need-loop-again Inv-loop μ-loop
 unfolding tallied
@@ -38,7 +38,7 @@ loop-again c =
       omega arith,
       received-more
           (l .inv .1)
-          (rw (c .carried .ensures, c .before .before .receive .ensures, c .before .before .before .operation .ensures)),
+          (rw (c .one-if-done .ensures, c .before .before .receive .ensures, c .before .before .before .operation .ensures)),
     )
 
 returns : tie.Need-returns Inv-loop μ-loop

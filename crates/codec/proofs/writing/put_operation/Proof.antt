@@ -11,14 +11,14 @@ use Rattle.codec.proofs.writing.put_operation.Tie as tie
 returns : tie.Need-returns
 unfolding operationLine
 returns c =
-    let p = c .before .before .put .ensures in
+    let p = c .before .before .put-line .ensures in
     let e = ap (lineOf insertHead) (c .before .before .before .before .before .before .insert-numbers .ensures) ∙ sym (ap operationLine (c .before .before .before .before .before .before .before .before .operation .given .1)) in
     (p .0 ∙ ap (past _ _) e, p .1 ∙ ap (placed _ _) e)
 
 returns-2 : tie.Need-returns-2
 unfolding operationLine
 returns-2 c =
-    let p = c .before .before .put2 .ensures in
+    let p = c .before .before .put-line2 .ensures in
     let e = ap (lineOf toggleHead) (c .before .before .before .before .before .before .toggle-numbers .ensures) ∙ sym (ap operationLine (c .before .before .before .before .before .before .before .before .operation2 .given .1)) in
     (p .0 ∙ ap (past _ _) e, p .1 ∙ ap (placed _ _) e)
 

@@ -14,7 +14,7 @@ slice-aggregate-count-inserts c = sym (length-take-le _ _ (omega (arith, c .befo
 returns : tie.Need-returns
 unfolding countsIn
 returns c cs e =
-    c .returned .ensures ∙ ap numberOf (rw (c .before .count .ensures cs e, c .before .before .count-inserts .ensures))
+    c .number-of .ensures ∙ ap numberOf (rw (c .before .count .ensures cs e, c .before .before .count-inserts .ensures))
 
 pub counts-of-spec : {M : Type 1} → statement M
 counts-of-spec =

@@ -6,7 +6,7 @@ use mathlib.Core.Bool.{true}
 use lib.ListN.{length}
 use borrow.Author.Needs.{needs}
 use Rattle.lists.specs.Lists.{throughout}
-use Rattle.lists.proofs.Tests.{refused, passed}
+use Rattle.lists.proofs.Tests.{failed, passed}
 use Rattle.lists.proofs.Throughout.{throughout-more, throughout-fails}
 use Rattle.woot.specs.Table.{foundAt, agrees}
 use Rattle.index.proofs.chains.agrees.Statement.{statement}
@@ -27,7 +27,7 @@ unfolding agrees
 returns c =
     let a = c .before .before .before .before .before .before .before .args in
     let l = c .before .before .before .loop in
-    sym (throughout-fails (foundAt (record { heads = a .heads .now; links = a .links .now }) (a .keys .now)) (length (a .keys .now)) (l .i) (omega arith) (refused (c .before .found-at .ensures) (c .if1 .taken)))
+    sym (throughout-fails (foundAt (record { heads = a .heads .now; links = a .links .now }) (a .keys .now)) (length (a .keys .now)) (l .i) (omega arith) (failed (c .before .found-at .ensures) (c .if1 .taken)))
 
 loop-again : tie.Need-loop-again Inv-loop μ-loop
 loop-again c =

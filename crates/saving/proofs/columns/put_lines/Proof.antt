@@ -51,8 +51,8 @@ loop-holds c =
 line-requires : tie.Need-line-requires Inv-loop μ-loop
 line-requires c κs = (c .before .before .before .before .before .before .before .before .before .before .before .before .pre .0, c .loop-test .taken)
 
-put-requires : tie.Need-put-requires Inv-loop μ-loop
-put-requires c κs = c .before .line .ensures .1
+put-numbered-requires : tie.Need-put-numbered-requires Inv-loop μ-loop
+put-numbered-requires c κs = c .before .line .ensures .1
 
 add-i : tie.Need-add-i Inv-loop μ-loop
 add-i c =
@@ -66,7 +66,7 @@ loop-again : tie.Need-loop-again Inv-loop μ-loop
 loop-again c =
     let s = c .before .before .before .before .before .before .before .before .before .before .before .before .before .before .before .before .before in
     let l = c .before .before .before .before .before .before .loop in
-    let p = c .before .before .put .ensures in
+    let p = c .before .before .put-numbered .ensures in
     let e = c .before .before .before .before .line .ensures .0 in (
       l .inv .0,
       putting-more (λ l. l) (lines s) _ (s .args .out .now) (s .args .at) (l .inv .1) []
@@ -85,5 +85,5 @@ same-length c = ap length (returns c) ∙ length-placed _ _ _
 pub put-lines-spec : {M : Type 1} → statement M
 put-lines-spec =
     tie.close
-    (tie.spec Inv-loop μ-loop (λ c. omega arith) loop-holds line-requires put-requires add-i loop-less loop-again
+    (tie.spec Inv-loop μ-loop (λ c. omega arith) loop-holds line-requires put-numbered-requires add-i loop-less loop-again
     same-length returns)

@@ -11,14 +11,14 @@ use Rattle.saving.proofs.site_line.put_site.Tie as tie
 returns : tie.Need-returns
 unfolding siteLine
 returns c =
-    let p = c .before .before .put .ensures in
+    let p = c .before .before .put-line .ensures in
     let e = ap (lineOf (siteHead First)) (c .before .before .before .before .before .before .before .before .site-numbers .ensures) in
     rw (c .before .before .before .before .before .before .enum-told .given .1) (p .0 ∙ ap (past _ _) e, p .1 ∙ ap (placed _ _) e)
 
 returns-2 : tie.Need-returns-2
 unfolding siteLine
 returns-2 c =
-    let p = c .before .before .put2 .ensures in
+    let p = c .before .before .put-line2 .ensures in
     let e = ap (lineOf (siteHead Second)) (c .before .before .before .before .before .before .before .before .site-numbers .ensures) in
     rw (c .before .before .before .before .before .before .enum-told2 .given .1) (p .0 ∙ ap (past _ _) e, p .1 ∙ ap (placed _ _) e)
 

@@ -25,12 +25,12 @@ head c =
 array-share-prefix-head : tie.Need-array-share-prefix-head
 array-share-prefix-head c = head (c .before) .fits
 
-slice-aggregate-put-2 : tie.Need-slice-aggregate-put-2
-slice-aggregate-put-2 c = sym (length-take-le _ _ (head (c .before .before) .fits))
+slice-aggregate-put-line : tie.Need-slice-aggregate-put-line
+slice-aggregate-put-line c = sym (length-take-le _ _ (head (c .before .before) .fits))
 
 returns : tie.Need-returns
 returns c =
-    let p = c .before .before .before .put2 .ensures in
+    let p = c .before .before .before .put-line .ensures in
     rw (← head (c .before .before .before .before .before .before .before .before) .bytes)
     (c .fitted .ensures ∙ offset-fitted _ _ (line-some _ _) (p .0), put-after _ _ (p .1))
 
@@ -38,5 +38,5 @@ pub put-report-spec : {M : Type 1} → statement M
 put-report-spec =
     tie.close
     (tie.spec (λ c. search needs) (λ c κs. search needs) (λ c. search needs) (λ c κs. search needs) (λ c. search needs)
-    (λ c κs. search needs) array-share-prefix-head slice-aggregate-put-2 (λ c. search needs) (λ c κs. search needs)
+    (λ c κs. search needs) array-share-prefix-head slice-aggregate-put-line (λ c. search needs) (λ c κs. search needs)
     (λ c κs. search needs) (λ c. search needs) returns)

@@ -16,13 +16,13 @@ add-size c = omega (arith, c .before .before .list .ensures .1 .0)
 array-share-prefix-values : tie.Need-array-share-prefix-values
 array-share-prefix-values c = let l = c .before .before .before .list .ensures in omega (arith, l .1 .0, l .1 .1)
 
-slice-aggregate-put-2 : tie.Need-slice-aggregate-put-2
-slice-aggregate-put-2 c = let l = c .before .before .before .before .list .ensures in sym (length-take-le _ _ (omega (arith, l .1 .0, l .1 .1)))
+slice-aggregate-put-line-2 : tie.Need-slice-aggregate-put-line-2
+slice-aggregate-put-line-2 c = let l = c .before .before .before .before .list .ensures in sym (length-take-le _ _ (omega (arith, l .1 .0, l .1 .1)))
 
 returns : tie.Need-returns
 unfolding textLine
 returns c =
-    let p = c .before .before .before .put .ensures in
+    let p = c .before .before .before .put-line .ensures in
     let l = c .before .before .before .before .before .before .before .before .before .list .ensures in (
       (λ cs e f. rw (← listing-front cs _ (l .0 cs e f) (l .1 .0)) (c .fitted .ensures ∙ offset-fitted _ _ (line-some _ _) (p .0))),
       (λ cs e f. rw (← listing-front cs _ (l .0 cs e f) (l .1 .0)) (put-after _ _ (p .1))),
@@ -32,5 +32,5 @@ pub put-text-spec : {M : Type 1} → statement M
 put-text-spec =
     tie.close
     (tie.spec (λ c. search needs) (λ c. search needs) (λ c. search needs) (λ c κs. search needs) add-size
-    (λ c. search needs) array-share-prefix-values slice-aggregate-put-2 (λ c κs. search needs) (λ c κs. search needs)
+    (λ c. search needs) array-share-prefix-values slice-aggregate-put-line-2 (λ c κs. search needs) (λ c κs. search needs)
     (λ c. search needs) returns)

@@ -3,7 +3,7 @@ use mathlib.Core.Path.{_≡_, refl, sym, _∙_}
 use native.Mathlib.Omega.{arith}
 use borrow.Author.Needs.{needs}
 use mathlib.Core.List.{List}
-use Rattle.lists.proofs.Tests.{refused, passed}
+use Rattle.lists.proofs.Tests.{failed, passed}
 use Rattle.lists.proofs.Throughout.{throughout-more, throughout-fails}
 use Prim.Native.Nat.{ℕ, _-_, _≤_}
 use mathlib.Core.Bool.{Bool, true}
@@ -35,7 +35,7 @@ returns c =
     let l = c .before .before .before .before .before .before .before .loop in
     sym (throughout-fails (betweenAt (a .ids .now) (a .previous .now) (a .next .now)) (length (a .ids .now)) (l .i) (omega arith)
     (reading (a .ids .now) (a .previous .now) (a .next .now) (l .i) (sym (c .before .before .before .before .place-near .ensures))
-    (sym (c .before .before .place-near2 .ensures)) (refused (c .before .stands-between .ensures) (c .if1 .taken))))
+    (sym (c .before .before .place-near2 .ensures)) (failed (c .before .stands-between .ensures) (c .if1 .taken))))
 
 loop-again : tie.Need-loop-again Inv-loop μ-loop
 loop-again c =

@@ -6,7 +6,7 @@ use mathlib.Core.Bool.{Bool, true, _&&_}
 use mathlib.Core.List.{List}
 use lib.ListN.{length, take, getD, length-take}
 use borrow.Author.Needs.{needs}
-use Rattle.lists.proofs.Tests.{refused, passed}
+use Rattle.lists.proofs.Tests.{failed, passed}
 use Rattle.well_formed.specs.PendingForm.{unheldKey, freeAt}
 use Rattle.lists.specs.Lists.{throughout}
 use Rattle.lists.proofs.Throughout.{throughout-more, throughout-fails}
@@ -34,7 +34,7 @@ returns c =
     let a = c .before .before .before .before .before .before .before .before .before .args in
     let l = c .before .before .before .before .loop in
     sym (throughout-fails (freeAt (a .ids .now) (a .own .now)) (length (a .own .now)) (l .j) (omega arith)
-    (reading _ _ _ (refused (c .before .unheld .ensures) (c .if1 .taken)) refl))
+    (reading _ _ _ (failed (c .before .unheld .ensures) (c .if1 .taken)) refl))
 
 slice-aggregate-unseen : tie.Need-slice-aggregate-unseen Inv-loop μ-loop
 slice-aggregate-unseen c = simp length-take (omega arith)
@@ -45,7 +45,7 @@ returns-2 c =
     let l = c .before .before .before .before .before .before .before .loop in
     sym (throughout-fails (freeAt (a .ids .now) (a .own .now)) (length (a .own .now)) (l .j) (omega arith)
     (reading _ _ _ (passed (c .before .before .before .before .unheld .ensures) (c .before .before .before .if1 .left))
-    (refused (c .before .unseen .ensures) (c .if2 .taken))))
+    (failed (c .before .unseen .ensures) (c .if2 .taken))))
 
 loop-again : tie.Need-loop-again Inv-loop μ-loop
 loop-again c =

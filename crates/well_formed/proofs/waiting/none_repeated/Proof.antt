@@ -5,7 +5,7 @@ use mathlib.Core.Path.{_≡_, refl, sym}
 use mathlib.Core.Bool.{true}
 use lib.ListN.{length}
 use borrow.Author.Needs.{needs}
-use Rattle.lists.proofs.Tests.{refused, passed}
+use Rattle.lists.proofs.Tests.{failed, passed}
 use Rattle.well_formed.specs.PendingForm.{freshAt}
 use Rattle.lists.specs.Lists.{throughout}
 use Rattle.lists.proofs.Throughout.{throughout-more, throughout-fails}
@@ -26,7 +26,7 @@ returns c =
     let a = c .before .before .before .before .before .before .before .args in
     let l = c .before .before .before .loop in
     let test = freshAt (a .own .now) (a .first .now) (a .values .now) in
-    sym (throughout-fails test (length (a .own .now)) (l .j) (omega arith) (refused {u = test (l .j)} (c .before .fresh-at .ensures) (c .if1 .taken)))
+    sym (throughout-fails test (length (a .own .now)) (l .j) (omega arith) (failed {u = test (l .j)} (c .before .fresh-at .ensures) (c .if1 .taken)))
 
 loop-again : tie.Need-loop-again Inv-loop μ-loop
 loop-again c =

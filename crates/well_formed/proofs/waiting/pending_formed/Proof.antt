@@ -9,7 +9,7 @@ use lib.Dec.{eqb}
 use lib.ListN.{length}
 use borrow.Author.Tests.{lt-leb, le-leb}
 use Rattle.lists.specs.Lists.{keep}
-use Rattle.lists.proofs.Tests.{refused, passed}
+use Rattle.lists.proofs.Tests.{failed, passed}
 use Rattle.well_formed.specs.PendingForm.{sharesIn, roomKept, keysNew, noneRepeated, noneReady, pendingFormed}
 use Rattle.lists.proofs.Members.{keep-length}
 use Rattle.well_formed.proofs.waiting.pending_formed.Statement.{statement}
@@ -53,7 +53,7 @@ once : (c : tie.Else4) → let a = start (c .before .before .before .before .bef
 once c = passed (c .before .none-repeated .ensures) (c .if4 .left)
 
 returns : tie.Need-returns
-returns c = sym (reading _ _ _ _ _ (refused (c .before .shares-kept .ensures) (c .if1 .taken)) refl refl refl refl)
+returns c = sym (reading _ _ _ _ _ (failed (c .before .shares-kept .ensures) (c .if1 .taken)) refl refl refl refl)
 
 add-if2 : tie.Need-add-if2
 add-if2 c = omega (arith, c .count-inserts .ensures, keep-length (λ (k : ℕ). not (eqb k 0)) (start (c .before) .args .own .now))
@@ -64,11 +64,11 @@ returns-2 c = sym (reading _ _ _ _ _ (shares (c .before .before))
 
 returns-3 : tie.Need-returns-3
 returns-3 c = sym (reading _ _ _ _ _ (shares (c .before .before .before .before)) (fits (c .before .before))
-    (refused (c .before .keys-new .ensures) (c .if3 .taken)) refl refl)
+    (failed (c .before .keys-new .ensures) (c .if3 .taken)) refl refl)
 
 returns-4 : tie.Need-returns-4
 returns-4 c =
-    let repeated = refused (c .before .none-repeated .ensures) (c .if4 .taken) in
+    let repeated = failed (c .before .none-repeated .ensures) (c .if4 .taken) in
     sym (reading _ _ _ _ _ (shares (c .before .before .before .before .before .before)) (fits (c .before .before .before .before))
     (fresh (c .before .before)) repeated refl)
 

@@ -5,29 +5,29 @@ use Rattle.effects.specs.Effects.{quiet, turned}
 use Rattle.effects.specs.Steps.{generatedLeft}
 use Rattle.wimtaze.specs.Steps.{deletingHere}
 use Rattle.wimtaze.proofs.Refusals.{refused-alone, passed}
-use Rattle.effects.proofs.Outputs.{carried, turned-away}
+use Rattle.effects.proofs.Outputs.{leaves-by, turned-away}
 use Rattle.wimtaze.proofs.Bridging.{goes-on, erase-bridge, delete-sendable}
 use borrow.Author.Needs.{needs}
 use Rattle.wimtaze.proofs.sending.delete.Statement.{statement}
 use Rattle.wimtaze.proofs.sending.delete.Tie as tie
 
-send-requires : tie.Need-send-requires
-send-requires c κs = delete-sendable _ _ (c .before .before .delete .ensures)
+save-and-send-requires : tie.Need-save-and-send-requires
+save-and-send-requires c κs = delete-sendable _ _ (c .before .before .delete .ensures)
 
 returns : tie.Need-returns
 unfolding deletingHere turned quiet
 returns c =
-    carried (turned-away _ _ _ (refused-alone _ _ (c .before .before .before .before .read .ensures) _ (c .before .before .answer .given .1))) (c .refused .ensures, refl, refl)
+    leaves-by (turned-away _ _ _ (refused-alone _ _ (c .before .before .before .before .read .ensures) _ (c .before .before .answer .given .1))) (c .number-of-refusal .ensures, refl, refl)
 
 returns-2 : tie.Need-returns-2
 unfolding deletingHere
 returns-2 c =
     let a = c .before .before .before .before .before .before .before .before .before .before .before .before .before .before .before .args in
     let p = passed _ _ (c .before .before .before .before .before .before .before .before .before .before .before .read .ensures) (c .before .before .before .before .before .before .before .before .before .enum-told .given .1) in
-    carried (goes-on _ _ _ (p .0) ∙ erase-bridge _ _ (p .1) _ _ _ ∙ ap (λ (x : Generated). generatedLeft x (a .out .now) (a .line-out .now)) (sym (c .before .before .before .before .before .before .before .delete .ensures))) (c .before .before .before .before .send .ensures)
+    leaves-by (goes-on _ _ _ (p .0) ∙ erase-bridge _ _ (p .1) _ _ _ ∙ ap (λ (x : Generated). generatedLeft x (a .out .now) (a .line-out .now)) (sym (c .before .before .before .before .before .before .before .delete .ensures))) (c .before .before .before .before .save-and-send .ensures)
 
 pub delete-spec : {M : Type 1} → statement M
 delete-spec =
     tie.close
     (tie.spec (λ c κs. search needs) (λ c. search needs) (λ c κs. search needs) (λ c. search needs)
-    (λ c κs. search needs) send-requires returns (λ c. search needs) (λ c. search needs) returns-2)
+    (λ c κs. search needs) save-and-send-requires returns (λ c. search needs) (λ c. search needs) returns-2)

@@ -10,7 +10,7 @@ use Rattle.effects.specs.Steps.{generatedLeft}
 use Rattle.wimtaze.specs.Calls.{inputChecks}
 use Rattle.wimtaze.specs.Steps.{insertingHere}
 use Rattle.wimtaze.proofs.Refusals.{refused-alone, passed, refused-range}
-use Rattle.effects.proofs.Outputs.{carried, turned-away}
+use Rattle.effects.proofs.Outputs.{leaves-by, turned-away}
 use Rattle.wimtaze.proofs.Bridging.{goes-on, type-bridge, insert-sendable}
 use borrow.Author.Needs.{needs}
 use Rattle.wimtaze.proofs.sending.insert.Statement.{statement}
@@ -22,10 +22,10 @@ returns c =
     let s = c .before .before .before .before .before .before .before .before .args .bytes .now in
     let out-of-range = sym (c .before .before .before .code-point .ensures) ∙ not-true _ (c .before .before .if1 .taken) in
     let told = ap (λ (b : Bool). first (inputChecks s true b)) out-of-range ∙ refused-range _ _ (c .before .before .before .before .read .ensures) ∙ ap some (sym (c .before .first-of .ensures)) in
-    carried (turned-away _ _ _ told) (c .refused .ensures, refl, refl)
+    leaves-by (turned-away _ _ _ told) (c .number-of-refusal .ensures, refl, refl)
 
-send-requires : tie.Need-send-requires
-send-requires c κs = insert-sendable _ _ _ (c .before .before .insert .ensures)
+save-and-send-requires : tie.Need-save-and-send-requires
+save-and-send-requires c κs = insert-sendable _ _ _ (c .before .before .insert .ensures)
 
 returns-2 : tie.Need-returns-2
 unfolding insertingHere turned quiet
@@ -33,7 +33,7 @@ returns-2 c =
     let s = c .before .before .before .before .before .before .before .before .before .before .args .bytes .now in
     let in-range = sym (c .before .before .before .before .before .code-point .ensures) ∙ not-false _ (c .before .before .before .before .if1 .left) in
     let told = ap (λ (b : Bool). first (inputChecks s true b)) in-range ∙ refused-alone _ _ (c .before .before .before .before .before .before .read .ensures) _ (c .before .before .answer .given .1) in
-    carried (turned-away _ _ _ told) (c .refused2 .ensures, refl, refl)
+    leaves-by (turned-away _ _ _ told) (c .number-of-refusal2 .ensures, refl, refl)
 
 returns-3 : tie.Need-returns-3
 unfolding insertingHere
@@ -41,13 +41,13 @@ returns-3 c =
     let a = c .before .before .before .before .before .before .before .before .before .before .before .before .before .before .before .before .before .args in
     let in-range = sym (c .before .before .before .before .before .before .before .before .before .before .before .before .code-point .ensures) ∙ not-false _ (c .before .before .before .before .before .before .before .before .before .before .before .if1 .left) in
     let p = passed _ _ (c .before .before .before .before .before .before .before .before .before .before .before .before .before .read .ensures) (c .before .before .before .before .before .before .before .before .before .enum-told .given .1) in
-    carried
+    leaves-by
     (goes-on _ _ _ (ap (λ (b : Bool). first (inputChecks (a .bytes .now) true b)) in-range ∙ p .0) ∙ type-bridge _ _ (p .1) _ _ _ _ in-range ∙ ap (λ (x : Generated). generatedLeft x (a .out .now) (a .line-out .now)) (sym (c .before .before .before .before .before .before .before .insert .ensures)))
-    (c .before .before .before .before .send .ensures)
+    (c .before .before .before .before .save-and-send .ensures)
 
 pub insert-spec : {M : Type 1} → statement M
 insert-spec =
     tie.close
     (tie.spec (λ c κs. search needs) (λ c κs. search needs) (λ c κs. search needs) (λ c κs. search needs) returns
-    (λ c. search needs) (λ c κs. search needs) (λ c. search needs) (λ c κs. search needs) send-requires returns-2
+    (λ c. search needs) (λ c κs. search needs) (λ c. search needs) (λ c κs. search needs) save-and-send-requires returns-2
     (λ c. search needs) (λ c. search needs) returns-3)

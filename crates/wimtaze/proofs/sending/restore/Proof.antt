@@ -18,7 +18,7 @@ use Rattle.effects.specs.Steps.{generatedLeft}
 use Rattle.wimtaze.specs.Calls.{inputChecks, named}
 use Rattle.wimtaze.specs.Steps.{restoringHere}
 use Rattle.wimtaze.proofs.Refusals.{refused-alone, passed, refused-range}
-use Rattle.effects.proofs.Outputs.{carried, turned-away}
+use Rattle.effects.proofs.Outputs.{leaves-by, turned-away}
 use Rattle.wimtaze.proofs.Bridging.{goes-on, restore-bridge, restore-sendable}
 use borrow.Author.Needs.{needs}
 use Rattle.wimtaze.proofs.sending.restore.Statement.{statement}
@@ -38,10 +38,10 @@ returns c =
     let s = c .before .before .before .before .before .before .before .before .args .bytes .now in
     let out-of-range = sym (c .before .before .before .names-character .ensures) ∙ not-true _ (c .before .before .if1 .taken) in
     let told = ap (λ (b : Bool). first (inputChecks s true b)) out-of-range ∙ refused-range _ _ (c .before .before .before .before .read .ensures) ∙ ap some (sym (c .before .first-of .ensures)) in
-    carried (turned-away _ _ _ told) (c .refused .ensures, refl, refl)
+    leaves-by (turned-away _ _ _ told) (c .number-of-refusal .ensures, refl, refl)
 
-send-requires : tie.Need-send-requires
-send-requires c κs = restore-sendable _ _ (c .before .before .restore .ensures)
+save-and-send-requires : tie.Need-save-and-send-requires
+save-and-send-requires c κs = restore-sendable _ _ (c .before .before .restore .ensures)
 
 returns-2 : tie.Need-returns-2
 unfolding restoringHere turned quiet
@@ -49,7 +49,7 @@ returns-2 c =
     let s = c .before .before .before .before .before .before .before .before .before .before .args .bytes .now in
     let in-range = sym (c .before .before .before .before .before .names-character .ensures) ∙ not-false _ (c .before .before .before .before .if1 .left) in
     let told = ap (λ (b : Bool). first (inputChecks s true b)) in-range ∙ refused-alone _ _ (c .before .before .before .before .before .before .read .ensures) _ (c .before .before .answer .given .1) in
-    carried (turned-away _ _ _ told) (c .refused2 .ensures, refl, refl)
+    leaves-by (turned-away _ _ _ told) (c .number-of-refusal2 .ensures, refl, refl)
 
 returns-3 : tie.Need-returns-3
 unfolding restoringHere
@@ -59,13 +59,13 @@ returns-3 c =
     let p = passed _ _ (c .before .before .before .before .before .before .before .before .before .before .before .before .before .before .read .ensures) (c .before .before .before .before .before .before .before .before .before .before .enum-told .given .1) in
     let fit = named-fits _ _ in-range in
     let g = c .before .before .before .before .before .before .before .restore .ensures ∙ ap (restored _) (fits-whole (c .before .before .before .before .before .before .before .before .identifier .ensures) (fit .0) (fit .1)) in
-    carried
+    leaves-by
     (goes-on _ _ _ (ap (λ (b : Bool). first (inputChecks (a .bytes .now) true b)) in-range ∙ p .0) ∙ restore-bridge _ _ (p .1) _ _ _ in-range ∙ ap (λ (x : Generated). generatedLeft x (a .out .now) (a .line-out .now)) (sym g))
-    (c .before .before .before .before .send .ensures)
+    (c .before .before .before .before .save-and-send .ensures)
 
 pub restore-spec : {M : Type 1} → statement M
 restore-spec =
     tie.close
     (tie.spec (λ c κs. search needs) (λ c κs. search needs) (λ c κs. search needs) (λ c κs. search needs) returns
     (λ c. search needs) (λ c κs. search needs) (λ c. search needs) (λ c κs. search needs) (λ c κs. search needs)
-    send-requires returns-2 (λ c. search needs) (λ c. search needs) returns-3)
+    save-and-send-requires returns-2 (λ c. search needs) (λ c. search needs) returns-3)

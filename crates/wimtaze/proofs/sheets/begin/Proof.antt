@@ -21,13 +21,13 @@ returns : tie.Need-returns
 unfolding beginning siteNumber within decided turned quiet
 returns c =
     let n : ℕ = c .before .before .before .args .number in
-    rw (lt-leb 1 n (omega arith)) (c .refused .ensures, refl, refl)
+    rw (lt-leb 1 n (omega arith)) (c .number-of-refusal .ensures, refl, refl)
 
 returns-2 : tie.Need-returns-2
 unfolding beginning siteNumber within decided turned quiet
 returns-2 c =
     let n : ℕ = c .before .before .before .before .args .number in
-    rw (le-leb 1 n (omega arith), lt-leb n 16 (omega arith)) (c .refused2 .ensures, refl, refl)
+    rw (le-leb 1 n (omega arith), lt-leb n 16 (omega arith)) (c .number-of-refusal2 .ensures, refl, refl)
 
 save-requires : tie.Need-save-requires
 unfolding siteNumber within

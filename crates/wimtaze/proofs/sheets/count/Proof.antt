@@ -9,7 +9,7 @@ use Rattle.wimtaze.proofs.sheets.count.Tie as tie
 
 returns : tie.Need-returns
 returns c =
-    c .refused .ensures
+    c .number-of-refusal .ensures
     ∙ ap numberOf (sym (counts-refused _ (refused-alone _ _ (c .before .before .before .before .read .ensures) _ (c .before .before .answer .given .1))))
 
 returns-2 : tie.Need-returns-2

@@ -4,7 +4,7 @@ use mathlib.Core.List.{[]}
 use Rattle.effects.specs.Effects.{quiet, turned}
 use Rattle.wimtaze.specs.Steps.{showingText}
 use Rattle.wimtaze.proofs.Refusals.{refused-alone, passed}
-use Rattle.effects.proofs.Outputs.{carried, turned-away}
+use Rattle.effects.proofs.Outputs.{leaves-by, turned-away}
 use Rattle.wimtaze.proofs.Bridging.{goes-on, text-bridge}
 use borrow.Author.Needs.{needs}
 use Rattle.wimtaze.proofs.sheets.show.Statement.{statement}
@@ -13,14 +13,14 @@ use Rattle.wimtaze.proofs.sheets.show.Tie as tie
 returns : tie.Need-returns
 unfolding showingText turned quiet
 returns c =
-    carried (turned-away _ _ _ (refused-alone _ _ (c .before .before .before .before .read .ensures) _ (c .before .before .answer .given .1))) (c .refused .ensures, refl, refl)
+    leaves-by (turned-away _ _ _ (refused-alone _ _ (c .before .before .before .before .read .ensures) _ (c .before .before .answer .given .1))) (c .number-of-refusal .ensures, refl, refl)
 
 returns-2 : tie.Need-returns-2
 unfolding showingText
 returns-2 c =
     let out = c .before .before .before .before .before .before .before .before .before .before .args .out .now in
     let p = passed _ _ (c .before .before .before .before .before .before .before .read .ensures) (c .before .before .before .before .before .enum-told .given .1) in
-    carried (goes-on out [] _ (p .0) ∙ text-bridge _ _ (p .1) out) (c .before .before .show .ensures)
+    leaves-by (goes-on out [] _ (p .0) ∙ text-bridge _ _ (p .1) out) (c .before .before .show .ensures)
 
 pub show-spec : {M : Type 1} → statement M
 show-spec =

@@ -1,9 +1,9 @@
--- `effects::results::returned` meets its contract: each answer has its word, and a refusal its number.
+-- `effects::results::number_of` meets its contract: each answer has its word, and a refusal its number.
 use Rattle.woot.specs.Answers.{reply}
 use Rattle.effects.specs.Results.{result, numberOf}
 use borrow.Author.Needs.{needs}
-use Rattle.effects.proofs.results.returned.Statement.{statement}
-use Rattle.effects.proofs.results.returned.Tie as tie
+use Rattle.effects.proofs.results.number_of.Statement.{statement}
+use Rattle.effects.proofs.results.number_of.Tie as tie
 
 returns : tie.Need-returns
 unfolding numberOf result reply
@@ -21,8 +21,8 @@ returns-4 : tie.Need-returns-4
 unfolding numberOf result reply
 returns-4 c = rw (c .before .before .before .answer2 .given .1, ← c .before .number .ensures) (c .join4 .ensures)
 
-pub returned-spec : {M : Type 1} → statement M
-returned-spec =
+pub number-of-spec : {M : Type 1} → statement M
+number-of-spec =
     tie.close
     (tie.spec (λ c. search needs) (λ c κs. search needs) (λ c. search needs) (λ c κs. search needs) (λ c. search needs)
     (λ c κs. search needs) (λ c. search needs) (λ c κs. search needs) (λ c κs. search needs) returns returns-2

@@ -23,7 +23,7 @@ use Rattle.well_formed.specs.Examined.{Examined}
 use Rattle.well_formed.proofs.Examining.{few, form, keyed, characters-counted, pending-counted, own-used}
 use Rattle.effects.specs.Results.{silent}
 use Rattle.effects.specs.Counts.{countsOf}
-use Rattle.effects.specs.Counting.{heldBy, countsIn, countsLeft}
+use Rattle.effects.specs.Counting.{presentBy, countsIn, countsLeft}
 
 pub known-few : (s : State) → wellFormed s ≡ true → length (presentInserts s) ≤ capacity
 known-few s h = omega (arith, known-length s, formed s h .sound .room)
@@ -43,15 +43,15 @@ module _ (r : Replica) where
     own-taken : take (r .document .waiting) (r .document .pending) ≡ take (r .document .waiting) (viewed r .document .own)
     own-taken = sym (take-take (r .document .waiting) 512 (r .document .pending) (few (viewed r) x .pending))
 
-    held-known : heldBy (r .document .length) (take (r .document .waiting) (r .document .pending)) ≡ length (presentInserts (columns.meaning (viewed r)))
-    held-known =
+    present-known : presentBy (r .document .length) (take (r .document .waiting) (r .document .pending)) ≡ length (presentInserts (columns.meaning (viewed r)))
+    present-known =
         rw (own-taken, own-used (viewed r) x, count-own (columns.meaning (viewed r) .pending) (keyed (viewed r) x))
         (omega (arith, characters-counted (viewed r) x, known-length (columns.meaning (viewed r))))
 
-    pub held-few : heldBy (r .document .length) (take (r .document .waiting) (r .document .pending)) ≤ 1024
-    held-few = omega (arith, held-known, known-length (columns.meaning (viewed r)), form (viewed r) x .sound .room)
+    pub present-few : presentBy (r .document .length) (take (r .document .waiting) (r .document .pending)) ≤ 1024
+    present-few = omega (arith, present-known, known-length (columns.meaning (viewed r)), form (viewed r) x .sound .room)
 
     pub counts-told : countsIn (columns.meaning (viewed r) .characters) (r .document .length) (take (r .document .waiting) (r .document .pending)) (r .document .waiting)
         ≡ countsOf (meaning r)
     unfolding countsIn countsOf
-    counts-told = rw (meaning-view r, held-known, characters-counted (viewed r) x, pending-counted (viewed r) x)
+    counts-told = rw (meaning-view r, present-known, characters-counted (viewed r) x, pending-counted (viewed r) x)

@@ -1,14 +1,14 @@
--- `effects::send` meets its contract, variant by variant: the arrays of the new replica stand for what it means.
+-- `effects::save_and_send` meets its contract, variant by variant: the arrays of the new replica stand for what it means.
 use native.Mathlib.Omega.{arith}
 use mathlib.Core.Path.{refl}
 use Rattle.woot.specs.Memory.{charactersIn, operationsIn, meaning}
 use Rattle.saving.specs.Documents.{stateIn}
 use Rattle.effects.specs.Effects.{quiet, turned}
-use Rattle.effects.proofs.Outputs.{carried, not-sent, sent-both}
+use Rattle.effects.proofs.Outputs.{leaves-by, not-sent, sent-both}
 use Rattle.effects.proofs.Saving.{few-held, sent-changes, full-generated}
 use borrow.Author.Needs.{needs}
-use Rattle.effects.proofs.send.Statement.{statement}
-use Rattle.effects.proofs.send.Tie as tie
+use Rattle.effects.proofs.save_and_send.Statement.{statement}
+use Rattle.effects.proofs.save_and_send.Tie as tie
 
 save-both-requires : tie.Need-save-both-requires
 save-both-requires c κs =
@@ -20,14 +20,14 @@ save-both-requires c κs =
 
 returns : tie.Need-returns
 unfolding turned quiet
-returns c = carried (not-sent _ _ _ (c .before .before .answer .given .1)) (c .refused .ensures, refl, refl)
+returns c = leaves-by (not-sent _ _ _ (c .before .before .answer .given .1)) (c .number-of-refusal .ensures, refl, refl)
 
 returns-2 : tie.Need-returns-2
 unfolding stateIn meaning charactersIn operationsIn
-returns-2 c = carried (sent-both _ _ _ (c .before .before .before .before .before .before .before .before .before .before .before .before .before .before .before .before .before .answer2 .given .1)) (c .before .before .before .before .save-both .ensures)
+returns-2 c = leaves-by (sent-both _ _ _ (c .before .before .before .before .before .before .before .before .before .before .before .before .before .before .before .before .before .answer2 .given .1)) (c .before .before .before .before .save-both .ensures)
 
-pub send-spec : {M : Type 1} → statement M
-send-spec =
+pub save-and-send-spec : {M : Type 1} → statement M
+save-and-send-spec =
     tie.close
     (tie.spec (λ c. search needs) (λ c κs. search needs) (λ c. search needs) save-both-requires returns
     (λ c. search needs) (λ c. search needs) returns-2)

@@ -20,8 +20,8 @@ use Rattle.memory.proofs.Operations.{all-keyed}
 use Rattle.replica.proofs.Runs.{Within, formed-within, form-stored, meaning-stored}
 use Rattle.saved.specs.Format.{stateAs, characterWithin, inRangeAs}
 use Rattle.saved.specs.Calls.{loadedAs}
-use Rattle.saved.specs.Calls.{fitting, inArrays, held, savedRead}
-use Rattle.saved.specs.Theorems.{HeldForm, ReadForm}
+use Rattle.saved.specs.Calls.{fitting, inArrays, raisedInArrays, savedRead}
+use Rattle.saved.specs.Theorems.{RaisedForm, ReadForm}
 use Rattle.saved.proofs.Refusals.{read-done, read-well}
 
 -- the lists are within the arrays
@@ -31,16 +31,16 @@ pub record Fits (s : State) : Type 0 where
 
 module _ (s : State) where
   -- with its clock raised, it is the raised state stored
-  pub held-stored : Fits s → held s ≡ stored (raised s)
-  unfolding held inArrays fitting stored raised documentOf
-  held-stored w = rw (take-all 1024 (s .characters) (w .characters-fit), take-all 512 (s .pending) (w .pending-fit))
+  pub raised-stored : Fits s → raisedInArrays s ≡ stored (raised s)
+  unfolding raisedInArrays inArrays fitting stored raised documentOf
+  raised-stored w = rw (take-all 1024 (s .characters) (w .characters-fit), take-all 512 (s .pending) (w .pending-fit))
 
-  not-counted : (Fits s → ⊥) → replicaWellFormed (held s) ≡ false
-  unfolding replicaWellFormed counted held inArrays
+  not-counted : (Fits s → ⊥) → replicaWellFormed (raisedInArrays s) ≡ false
+  unfolding replicaWellFormed counted raisedInArrays inArrays
   not-counted h =
-      fails (replicaWellFormed (held s)) (λ p. h (fit (three (counted (held s)) (wellFormed (meaning (held s))) (tableAgrees (held s)) p .0)))
+      fails (replicaWellFormed (raisedInArrays s)) (λ p. h (fit (three (counted (raisedInArrays s)) (wellFormed (meaning (raisedInArrays s))) (tableAgrees (raisedInArrays s)) p .0)))
     where
-      fit : counted (held s) ≡ true → Fits s
+      fit : counted (raisedInArrays s) ≡ true → Fits s
       fit q =
           let few = leb (length (s .characters)) characterSlots in
           let fewer = leb (length (s .pending)) pendingSlots in
@@ -68,29 +68,29 @@ module _ (s : State) where
           };
         }
 
-    form-so : replicaWellFormed (held s) ≡ wellFormed (raised s)
+    form-so : replicaWellFormed (raisedInArrays s) ≡ wellFormed (raised s)
     form-so = go (leb (length (s .characters)) characterSlots) (leb (length (s .pending)) pendingSlots) refl refl
       where
-        apart-so : (Fits s → ⊥) → replicaWellFormed (held s) ≡ wellFormed (raised s)
+        apart-so : (Fits s → ⊥) → replicaWellFormed (raisedInArrays s) ≡ wellFormed (raised s)
         apart-so h = not-counted h ∙ sym (fails (wellFormed (raised s)) (λ p. h (raised-fits (formed-within (raised s) p))))
 
         go : (a b : Bool) → leb (length (s .characters)) characterSlots ≡ a → leb (length (s .pending)) pendingSlots ≡ b
-            → replicaWellFormed (held s) ≡ wellFormed (raised s)
+            → replicaWellFormed (raisedInArrays s) ≡ wellFormed (raised s)
         go true true p q =
             let w : Fits s = record {
               characters-fit = leb-true (length (s .characters)) characterSlots p;
               pending-fit = leb-true (length (s .pending)) pendingSlots q;
             } in
-            ap replicaWellFormed (held-stored w) ∙ form-stored (raised s) (within-raised w)
+            ap replicaWellFormed (raised-stored w) ∙ form-stored (raised s) (within-raised w)
         go true false p q = apart-so (λ w. omega (arith, w .pending-fit, leb-false (length (s .pending)) pendingSlots q))
         go false b p q = apart-so (λ w. omega (arith, w .characters-fit, leb-false (length (s .characters)) characterSlots p))
 
-pub held-form : HeldForm
-held-form s = (
+pub raised-form : RaisedForm
+raised-form s = (
   form-so s,
   λ h.
       let w = formed-within (raised s) h in
-      let e = held-stored s (raised-fits s w) in
+      let e = raised-stored s (raised-fits s w) in
       (e, ap meaning e ∙ meaning-stored (raised s) w),
 )
 
@@ -98,9 +98,9 @@ pub read-form : ReadForm
 unfolding loadedAs inRangeAs
 read-form v s h =
     let w = read-well v s h in
-    let e : savedRead v s .replica ≡ held (stateAs v s) = ap (λ x. x .replica) (read-done v s (w .0) (w .1)) in
+    let e : savedRead v s .replica ≡ raisedInArrays (stateAs v s) = ap (λ x. x .replica) (read-done v s (w .0) (w .1)) in
     let ranged = and-right (every (characterWithin v) (stateAs v s .characters)) (allInRange (stateAs v s)) (w .1) in
-    let f = held-form (stateAs v s) in (
+    let f = raised-form (stateAs v s) in (
       ap replicaWellFormed e ∙ f .0 ranged,
       λ p. (e ∙ f .1 p .0, ap meaning e ∙ f .1 p .1),
     )

@@ -1,4 +1,4 @@
--- `lines::writing::put` meets its contract, by the invariant of `proofs/Rooms.antt`.
+-- `lines::writing::put_line` meets its contract, by the invariant of `proofs/Rooms.antt`.
 use mathlib.Core.Path.{sym, ap, _∙_}
 use Prim.Native.Nat.{_+_, _-_, _<_, _≤_}
 use native.Mathlib.Omega.{arith}
@@ -8,8 +8,8 @@ use Rattle.output.proofs.Laws.{placed-short, past-short, length-placed}
 use Rattle.lines.specs.Fields.{columns, lineOf}
 use Rattle.lines.proofs.Sizes.{line-length}
 use Rattle.lines.proofs.Rooms.{until-tells, short-tells, Putting, begun, more, last, line-put}
-use Rattle.lines.proofs.writing.put.Statement.{statement}
-use Rattle.lines.proofs.writing.put.Tie as tie
+use Rattle.lines.proofs.writing.put_line.Statement.{statement}
+use Rattle.lines.proofs.writing.put_line.Tie as tie
 
 abbrev Inv-loop : tie.InvT-loop
 Inv-loop head numbers out₀ at end₀ i₀ out end i = Putting numbers out₀ end₀ out end i
@@ -56,8 +56,8 @@ returns-2 c =
 same-length : tie.Need-same-length Inv-loop μ-loop
 same-length c = ap length (returns-2 c .1) ∙ length-placed _ _ _
 
-pub put-spec : {M : Type 1} → statement M
-put-spec =
+pub put-line-spec : {M : Type 1} → statement M
+put-line-spec =
     tie.close
     (tie.spec Inv-loop μ-loop (λ c κs. search needs) (λ c. search needs) returns (λ c. search needs)
     (λ c κs. search needs) loop-holds (λ c κs. search needs) (λ c. omega arith) (λ c. omega arith)

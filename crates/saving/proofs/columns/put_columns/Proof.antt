@@ -1,4 +1,4 @@
--- `saving::columns::put` meets its contract: the site's line and the others have room, or nothing is put.
+-- `saving::columns::put_columns` meets its contract: the site's line and the others have room, or nothing is put.
 use Prim.Native.Nat.{ℕ}
 use mathlib.Core.Path.{_≡_}
 use mathlib.Core.List.{List, _++_}
@@ -7,8 +7,8 @@ use Rattle.saved.specs.Format.{siteLine, bytesAs}
 use Rattle.saving.specs.Documents.{stateOf}
 use Rattle.saving.proofs.Documents.{whole-bytes, front-short, front-fits, body-short, body-room, body-put}
 use borrow.Author.Needs.{needs}
-use Rattle.saving.proofs.columns.put.Statement.{statement}
-use Rattle.saving.proofs.columns.put.Tie as tie
+use Rattle.saving.proofs.columns.put_columns.Statement.{statement}
+use Rattle.saving.proofs.columns.put_columns.Tie as tie
 
 -- the bytes of the site's line, those after it, and all
 abbrev front : tie.Start → List ℕ
@@ -69,8 +69,8 @@ returns-3 c =
     (m .before .before .front .given .1) (m .measure .ensures) (c .before .before .before .before .before .before .before .before .before .room .given .1)
     (c .before .before .before .before .before .before .put-site .ensures) (c .before .before .put-lines .ensures)
 
-pub put-spec : {M : Type 1} → statement M
-put-spec =
+pub put-columns-spec : {M : Type 1} → statement M
+put-columns-spec =
     tie.close
     (tie.spec (λ c κs. search needs) (λ c. search needs) (λ c. search needs) returns measure-requires
     (λ c. search needs) (λ c. search needs) returns-2 (λ c κs. search needs) put-lines-requires (λ c. search needs)

@@ -1,11 +1,11 @@
--- `saving::numbered::put` meets its contract: the numbers that count are lent.
+-- `saving::numbered::put_numbered` meets its contract: the numbers that count are lent.
 use lib.ListN.{length-take}
 use Rattle.saving.specs.Documents.{lineBytes}
 use Rattle.saving.proofs.Documents.{full-line}
 use borrow.Author.Needs.{needs}
 use native.Mathlib.Omega.{arith}
-use Rattle.saving.proofs.numbered.put.Statement.{statement}
-use Rattle.saving.proofs.numbered.put.Tie as tie
+use Rattle.saving.proofs.numbered.put_numbered.Statement.{statement}
+use Rattle.saving.proofs.numbered.put_numbered.Tie as tie
 
 array-share-prefix-numbers : tie.Need-array-share-prefix-numbers
 array-share-prefix-numbers c = omega (
@@ -15,8 +15,8 @@ array-share-prefix-numbers c = omega (
       (c .before .before .before .good .0),
 )
 
-slice-aggregate-put-2 : tie.Need-slice-aggregate-put-2
-slice-aggregate-put-2 c = simp length-take (omega (
+slice-aggregate-put-line-2 : tie.Need-slice-aggregate-put-line-2
+slice-aggregate-put-line-2 c = simp length-take (omega (
   arith,
   c .before .before .before .before .pre,
   full-line
@@ -25,10 +25,10 @@ slice-aggregate-put-2 c = simp length-take (omega (
 
 returns : tie.Need-returns
 unfolding lineBytes
-returns c = c .before .before .put .ensures
+returns c = c .before .before .put-line .ensures
 
-pub put-spec : {M : Type 1} → statement M
-put-spec =
+pub put-numbered-spec : {M : Type 1} → statement M
+put-numbered-spec =
     tie.close
-    (tie.spec (λ c. search needs) array-share-prefix-numbers slice-aggregate-put-2 (λ c κs. search needs)
+    (tie.spec (λ c. search needs) array-share-prefix-numbers slice-aggregate-put-line-2 (λ c κs. search needs)
     (λ c. search needs) returns)

@@ -1,19 +1,19 @@
--- `saving::put` lends the columns that are written.
+-- `saving::put_replica` lends the columns that are written.
 use native.Mathlib.Omega.{arith}
 use Rattle.memory.proofs.Fullness.{column-length}
 use Rattle.saving.specs.Documents.{stateIn}
 use borrow.Author.Needs.{needs}
-use Rattle.saving.proofs.put.Statement.{statement}
-use Rattle.saving.proofs.put.Tie as tie
+use Rattle.saving.proofs.put_replica.Statement.{statement}
+use Rattle.saving.proofs.put_replica.Tie as tie
 
-slice-aggregate-put : tie.Need-slice-aggregate-put
-slice-aggregate-put c = let s = c .before .before .before .before .before in omega (arith, column-length 1024 0 (s .args .characters .now) (omega (arith, s .pre .0)))
+slice-aggregate-put-columns : tie.Need-slice-aggregate-put-columns
+slice-aggregate-put-columns c = let s = c .before .before .before .before .before in omega (arith, column-length 1024 0 (s .args .characters .now) (omega (arith, s .pre .0)))
 
-slice-aggregate-put-2 : tie.Need-slice-aggregate-put-2
-slice-aggregate-put-2 c = let s = c .before .before .before .before .before .before .before .before .before in omega (arith, column-length 512 0 (s .args .pending .now) (omega (arith, s .pre .1 .1 .1 .0)))
+slice-aggregate-put-columns-2 : tie.Need-slice-aggregate-put-columns-2
+slice-aggregate-put-columns-2 c = let s = c .before .before .before .before .before .before .before .before .before in omega (arith, column-length 512 0 (s .args .pending .now) (omega (arith, s .pre .1 .1 .1 .0)))
 
-put-requires : tie.Need-put-requires
-put-requires c κs =
+put-columns-requires : tie.Need-put-columns-requires
+put-columns-requires c κs =
     let s = c .before .before .before .before .before .before .before .before .before .before .before .before .before in
     record {
       ids-hold = omega (arith, s .pre .1 .0, column-length 1024 0 (s .args .characters .now) (omega (arith, s .pre .0)));
@@ -29,13 +29,13 @@ put-requires c κs =
 
 returns : tie.Need-returns
 unfolding stateIn
-returns c = c .before .before .put .ensures
+returns c = c .before .before .put-columns .ensures
 
-pub put-spec : {M : Type 1} → statement M
-put-spec =
+pub put-replica-spec : {M : Type 1} → statement M
+put-replica-spec =
     tie.close
-    (tie.spec slice-aggregate-put (λ c. search needs) (λ c. search needs) (λ c. search needs) (λ c. search needs)
+    (tie.spec slice-aggregate-put-columns (λ c. search needs) (λ c. search needs) (λ c. search needs) (λ c. search needs)
     (λ c. search needs) (λ c. search needs) (λ c. search needs) (λ c. search needs) (λ c. search needs)
-    slice-aggregate-put-2 (λ c. search needs) (λ c. search needs) (λ c. search needs) (λ c. search needs)
-    (λ c. search needs) (λ c. search needs) (λ c. search needs) (λ c. search needs) (λ c. search needs) put-requires
+    slice-aggregate-put-columns-2 (λ c. search needs) (λ c. search needs) (λ c. search needs) (λ c. search needs)
+    (λ c. search needs) (λ c. search needs) (λ c. search needs) (λ c. search needs) (λ c. search needs) put-columns-requires
     (λ c. search needs) returns)
