@@ -1,9 +1,9 @@
 -- The tests of a range, and what an answer that is tested says.
 use mathlib.Core.Path.{_≡_, refl}
-use mathlib.Core.Bool.{Bool, true, false, not, _&&_}
+use mathlib.Core.Bool.{Bool, true, false, _&&_}
 use Prim.Native.Nat.{ℕ, _≤_, _<_, zero-le}
-use lib.Dec.{leb, ltb}
-use borrow.Author.Tests.{le-leb, lt-leb, lt-ltb, le-ltb, leb-true, leb-false}
+use lib.Dec.{leb}
+use borrow.Author.Tests.{le-leb, lt-leb}
 use Rattle.woot.specs.Ranges.{within}
 
 pub and-true : (b : Bool) → b && true ≡ b
@@ -31,10 +31,3 @@ within-above low high n h = rw (lt-leb n high h) (and-false (leb low n))
     and-false : (b : Bool) → b && false ≡ false
     and-false true = refl
     and-false false = refl
-
-pub not-leb : (m n : ℕ) → not (leb m n) ≡ ltb n m
-not-leb m n = go (leb m n) refl
-  where
-    go : (b : Bool) → leb m n ≡ b → not (leb m n) ≡ ltb n m
-    go true e = rw (e, le-ltb n m (leb-true m n e))
-    go false e = rw (e, lt-ltb n m (leb-false m n e))

@@ -34,13 +34,7 @@ pub fn character_clock(n: u16) -> bool
 pub fn code_point(n: u32) -> bool
     ensures { λ r. ⌜ r ≡ codePoint n ⌝ }
 {
-    if 1114111 < n {
-        return false;
-    }
-    if n < 55296 {
-        return true;
-    }
-    57343 < n
+    utf8::is_code_point(n)
 }
 
 // Whether two identifiers are equal.
