@@ -106,7 +106,7 @@ fn convert(from: Version, to: Version, bytes: &[u8], out: &mut [u8]) -> Written
     ensures { λ r. ⌜ r ≡ converted from to (now (bytes .entry)) (now (out .entry)) ⌝ }
     ensures { λ r. ⌜ now (out .exit) ≡ convertedOut from to (now (bytes .entry)) (now (out .entry)) ⌝ }
 {
-    let found = loading::read(from, bytes);
+    let found = loading::read_as(from, bytes);
     let answer = found.answer;
     if let LoadAnswer::Refused(reason) = answer {
         return Written::Refused(reason);

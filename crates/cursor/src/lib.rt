@@ -102,9 +102,9 @@ pub struct Judgement {
     pub left: u32,
 }
 
-// What is to be done with an operation that is received with a cursor at the insertion point. A step of the calls and
-// not a call: they lend arrays of these sizes.
-pub fn judge_at<'a>(
+// What is to be done with an operation that is received with a cursor at the insertion point. `receive_at` lends arrays
+// of these sizes.
+fn judge_at<'a>(
     site: Site,
     characters: &'a [u32],
     toggles: &'a [u8],
@@ -178,8 +178,8 @@ fn difference(after: usize, before: usize) -> i32
 }
 
 // How far a cursor moves that stood at the insertion point and kept to the identifier with a key, among the characters
-// as they are now. A step of the calls and not a call: they have seen that the point was among the visible characters.
-pub fn shift<'a>(ids: &'a [u32], toggles: &'a [u8], n: usize, left: u32, point: usize) -> i32
+// as they are now. `receive_at` has seen that the point was among the visible characters.
+fn shift<'a>(ids: &'a [u32], toggles: &'a [u8], n: usize, left: u32, point: usize) -> i32
     requires { ⌜ n ≤ characterSlots ⌝ }
     requires { ⌜ n ≤ length (now ids) ⌝ }
     requires { ⌜ n ≤ length (now toggles) ⌝ }

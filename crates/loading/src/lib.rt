@@ -80,9 +80,9 @@ fn settle<'a>(
 }
 
 // Reads a saved replica that is not checked to be well formed. A clock below that of a character or a pending insert of
-// its own is raised. A fault of the layout comes first, wherever it is, and then a number out of range. A step of the
-// calls and not a call: they lend arrays that they have just made, zeros throughout.
-pub fn read_into(
+// its own is raised. A fault of the layout comes first, wherever it is, and then a number out of range. The arrays have
+// just been made, zeros throughout.
+fn read_into(
     version: Version,
     bytes: &[u8],
     characters: &mut [u32],
@@ -147,9 +147,9 @@ fn refuse(reason: Refusal) -> Loaded
     }
 }
 
-// Reads a saved replica that is not checked to be well formed: its counts may be above its arrays. A step of the calls
-// and not a call: `conversion` alone hands it the first form.
-pub fn read(version: Version, bytes: &[u8]) -> Loaded
+// Reads a replica that is saved in a form, and is not checked to be well formed: its counts may be above its arrays. A
+// step of `conversion`, which alone reads the first form; all else reads by `read`.
+pub fn read_as(version: Version, bytes: &[u8]) -> Loaded
     ensures { λ r. ⌜ r ≡ savedRead version (now (bytes .entry)) ⌝ }
 {
     let mut characters = [0u32; CHARACTER_NUMBERS];
@@ -187,11 +187,19 @@ pub fn read(version: Version, bytes: &[u8]) -> Loaded
     }
 }
 
+// Reads a saved replica that is not checked to be well formed. A step of the calls and not a call: the rule that they
+// hand it to looks at its form.
+pub fn read(bytes: &[u8]) -> Loaded
+    ensures { λ r. ⌜ r ≡ savedRead Version.Second (now (bytes .entry)) ⌝ }
+{
+    read_as(Version::Second, bytes)
+}
+
 // Reads a saved replica. A fault of the layout comes first, wherever it is, then a number out of range, then the form.
 pub fn load(bytes: &[u8]) -> Loaded
     ensures { λ r. ⌜ r ≡ loaded (now (bytes .entry)) ⌝ }
 {
-    let found = read(Version::Second, bytes);
+    let found = read(bytes);
     let answer = found.answer;
     if let LoadAnswer::Refused(_) = answer {
         return found;

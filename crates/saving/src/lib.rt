@@ -19,19 +19,20 @@ use woot::Site;
 use woot::VALUES;
 use woot::Written;
 ghost use mathlib.Core.Path.{_≡_};
+ghost use mathlib.Core.Bool.{true};
 ghost use mathlib.Core.List.{[]};
 ghost use Prim.Native.Nat.{_≤_};
 ghost use lib.ListN.{length};
 ghost use Rattle.woot.specs.Writing.{writtenAs, outputAfter};
 ghost use Rattle.woot.specs.Memory.{characterNumbers, characterSlots, pendingNumbers, pendingSlots};
-ghost use Rattle.saved.specs.Format.{bytesAs};
+ghost use Rattle.saved.specs.Format.{representable, bytesAs};
 ghost use Rattle.saved.specs.Calls.{saved, savedOut};
 ghost use Rattle.saving.specs.Documents.{stateIn};
 
 // Writes the replica with these arrays, well formed or not, at the front of the slice. A refused call leaves every
 // byte as it was. A step of the calls and not a call: they lend arrays of these sizes, with a slot for each of the n
-// characters and each of the w pending operations, and `conversion` alone asks for the first form, of what that form
-// can say.
+// characters and each of the w pending operations, and a form is asked for only of what it can say: the second says
+// all, and `conversion`, which alone asks for the first, answers 15 before.
 pub fn put_replica<'a>(
     version: Version,
     site: Site,
@@ -47,6 +48,7 @@ pub fn put_replica<'a>(
     requires { ⌜ n ≤ length (now toggles) ⌝ }
     requires { ⌜ length (now pending) ≡ pendingNumbers ⌝ }
     requires { ⌜ w ≤ pendingSlots ⌝ }
+    requires { ⌜ representable version (stateIn site (now characters) (now toggles) n (now pending) w) ≡ true ⌝ }
     ensures { λ r. ⌜ r
         ≡ writtenAs [] (bytesAs version (stateIn site (now (characters .entry)) (now (toggles .entry)) n
         (now (pending .entry)) w)) (now (out .entry)) ⌝ }

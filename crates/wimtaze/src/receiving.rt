@@ -2,7 +2,6 @@
 use crate::inputs;
 use codec::Read;
 use saved::LoadAnswer;
-use saved::Version;
 ghost use mathlib.Core.List.{[]};
 ghost use Rattle.effects.specs.Effects.{Leaves};
 ghost use Rattle.wimtaze.specs.Steps.{receivingLineAt};
@@ -13,7 +12,7 @@ pub(crate) fn receive_at(bytes: &[u8], line: &[u8], point: u64, out: &mut [u8]) 
     ensures { λ r. ⌜ Leaves (receivingLineAt (now (bytes .entry)) (now (line .entry)) point (now (out .entry)))
         r (now (out .exit)) [] ⌝ }
 {
-    let loaded = loading::read(Version::Second, bytes);
+    let loaded = loading::read(bytes);
     let answer = loaded.answer;
     let said = inputs::read_one(line);
     match said {

@@ -1,7 +1,6 @@
 // What the calls do that make an operation here and give its line: inserting, deleting and restoring.
 use crate::inputs;
 use saved::LoadAnswer;
-use saved::Version;
 use woot::Refusal;
 ghost use Rattle.effects.specs.Effects.{Leaves};
 ghost use Rattle.wimtaze.specs.Steps.{insertingHere, deletingHere, restoringHere};
@@ -18,7 +17,7 @@ pub(crate) fn insert(
         (now (out .entry)) (now («line_out» .entry)))
         r (now (out .exit)) (now («line_out» .exit)) ⌝ }
 {
-    let loaded = loading::read(Version::Second, bytes);
+    let loaded = loading::read(bytes);
     let answer = loaded.answer;
     if !ranges::code_point(code_point) {
         return effects::results::number_of_refusal(inputs::first_of(answer, Refusal::Range));
@@ -41,7 +40,7 @@ pub(crate) fn delete(bytes: &[u8], index: u64, out: &mut [u8], line_out: &mut [u
     ensures { λ r. ⌜ Leaves (deletingHere (now (bytes .entry)) index (now (out .entry)) (now («line_out» .entry)))
         r (now (out .exit)) (now («line_out» .exit)) ⌝ }
 {
-    let loaded = loading::read(Version::Second, bytes);
+    let loaded = loading::read(bytes);
     let answer = loaded.answer;
     match answer {
         LoadAnswer::Refused(q) => effects::results::number_of_refusal(q),
@@ -64,7 +63,7 @@ pub(crate) fn restore(
         (now (out .entry)) (now («line_out» .entry)))
         r (now (out .exit)) (now («line_out» .exit)) ⌝ }
 {
-    let loaded = loading::read(Version::Second, bytes);
+    let loaded = loading::read(bytes);
     let answer = loaded.answer;
     if !inputs::names_character(site, clock) {
         return effects::results::number_of_refusal(inputs::first_of(answer, Refusal::Range));

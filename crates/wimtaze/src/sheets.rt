@@ -1,7 +1,6 @@
 // What the calls do that ask no rule: an empty replica is saved, the visible text of a saved one is written, and what
 // it holds is counted.
 use saved::LoadAnswer;
-use saved::Version;
 use woot::Answer;
 use woot::Refusal;
 use woot::Replica;
@@ -32,7 +31,7 @@ pub(crate) fn begin(number: u64, out: &mut [u8]) -> u64
 pub(crate) fn show(bytes: &[u8], out: &mut [u8]) -> u64
     ensures { λ r. ⌜ Leaves (showingText (now (bytes .entry)) (now (out .entry))) r (now (out .exit)) [] ⌝ }
 {
-    let loaded = loading::read(Version::Second, bytes);
+    let loaded = loading::read(bytes);
     let answer = loaded.answer;
     match answer {
         LoadAnswer::Refused(q) => effects::results::number_of_refusal(q),
@@ -48,7 +47,7 @@ pub(crate) fn show(bytes: &[u8], out: &mut [u8]) -> u64
 pub(crate) fn count(bytes: &[u8]) -> u64
     ensures { λ r. ⌜ r ≡ numberOf (counting (now (bytes .entry))) ⌝ }
 {
-    let loaded = loading::read(Version::Second, bytes);
+    let loaded = loading::read(bytes);
     let answer = loaded.answer;
     match answer {
         LoadAnswer::Refused(q) => effects::results::number_of_refusal(q),

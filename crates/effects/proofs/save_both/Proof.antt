@@ -1,10 +1,16 @@
 -- `effects::save_both` meets its contract: the line is measured first, without writing it.
 use mathlib.Core.Path.{refl, sym, _∙_}
+use Rattle.saved.proofs.Trips.{second-says}
 use Rattle.effects.specs.Effects.{quiet, turned}
 use Rattle.effects.proofs.Outputs.{leaves-by, line-short, save-refused, both-written}
 use borrow.Author.Needs.{needs}
 use Rattle.effects.proofs.save_both.Statement.{statement}
 use Rattle.effects.proofs.save_both.Tie as tie
+
+put-replica-requires : tie.Need-put-replica-requires
+put-replica-requires c κs =
+    let p = c .before .before .before .before .before .before .before .before .before .before .pre in
+    (p .0, (p .1 .0, (p .1 .1 .0, (p .1 .1 .1 .0, (p .1 .1 .1 .1, second-says _)))))
 
 returns : tie.Need-returns
 unfolding turned quiet
@@ -30,5 +36,5 @@ pub save-both-spec : {M : Type 1} → statement M
 save-both-spec =
     tie.close
     (tie.spec (λ c κs. search needs) (λ c. search needs) (λ c κs. search needs) (λ c. search needs)
-    (λ c κs. search needs) (λ c. search needs) (λ c κs. search needs) (λ c. search needs) (λ c κs. search needs)
+    put-replica-requires (λ c. search needs) (λ c κs. search needs) (λ c. search needs) (λ c κs. search needs)
     (λ c κs. search needs) returns (λ c. search needs) returns-2 (λ c. search needs) (λ c. search needs) returns-3)

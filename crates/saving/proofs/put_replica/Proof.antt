@@ -21,10 +21,10 @@ put-columns-requires c κs =
       next-hold = omega (arith, s .pre .1 .0, column-length 1024 2 (s .args .characters .now) (omega (arith, s .pre .0)));
       points-hold = omega (arith, s .pre .1 .0, column-length 1024 3 (s .args .characters .now) (omega (arith, s .pre .0)));
       toggles-hold = s .pre .1 .1 .0;
-      own-hold = omega (arith, s .pre .1 .1 .1 .1, column-length 512 0 (s .args .pending .now) (omega (arith, s .pre .1 .1 .1 .0)));
-      first-hold = omega (arith, s .pre .1 .1 .1 .1, column-length 512 1 (s .args .pending .now) (omega (arith, s .pre .1 .1 .1 .0)));
-      second-hold = omega (arith, s .pre .1 .1 .1 .1, column-length 512 2 (s .args .pending .now) (omega (arith, s .pre .1 .1 .1 .0)));
-      values-hold = omega (arith, s .pre .1 .1 .1 .1, column-length 512 3 (s .args .pending .now) (omega (arith, s .pre .1 .1 .1 .0)));
+      own-hold = omega (arith, s .pre .1 .1 .1 .1 .0, column-length 512 0 (s .args .pending .now) (omega (arith, s .pre .1 .1 .1 .0)));
+      first-hold = omega (arith, s .pre .1 .1 .1 .1 .0, column-length 512 1 (s .args .pending .now) (omega (arith, s .pre .1 .1 .1 .0)));
+      second-hold = omega (arith, s .pre .1 .1 .1 .1 .0, column-length 512 2 (s .args .pending .now) (omega (arith, s .pre .1 .1 .1 .0)));
+      values-hold = omega (arith, s .pre .1 .1 .1 .1 .0, column-length 512 3 (s .args .pending .now) (omega (arith, s .pre .1 .1 .1 .0)));
     }
 
 returns : tie.Need-returns

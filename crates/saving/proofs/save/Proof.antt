@@ -7,6 +7,7 @@ use Rattle.memory.proofs.Fullness.{full-replica, full-view}
 use Rattle.memory.proofs.Views.{form-view}
 use Rattle.well_formed.proofs.Examining.{examined, few}
 use Rattle.saved.proofs.Refusals.{unformed, formed}
+use Rattle.saved.proofs.Trips.{second-says}
 use Rattle.woot.specs.Memory.{charactersIn, operationsIn, meaning}
 use Rattle.saving.specs.Documents.{stateIn}
 use borrow.Author.Needs.{needs}
@@ -25,7 +26,7 @@ put-replica-requires c κs =
     let full = full-replica {r = r} (start .good .0) in
     let x = examined (viewed r) (full-view (r .document) full) (passed (c .before .before .before .before .before .before .before .before .before .before .check .ensures) (c .before .before .before .before .before .before .before .before .before .if1 .left)) in
     let w = few (viewed r) x in
-    (full .characters, (w .characters, (omega (arith, full .toggles, w .characters), (full .pending, w .pending))))
+    (full .characters, (w .characters, (omega (arith, full .toggles, w .characters), (full .pending, (w .pending, second-says _)))))
 
 returns-2 : tie.Need-returns-2
 unfolding stateIn meaning charactersIn operationsIn

@@ -1,11 +1,11 @@
--- `loading::read` meets its contract: arrays of zeros hold nothing, and what was read into them is what the bytes say.
+-- `loading::read_as` meets its contract: arrays of zeros hold nothing, and what was read into them is what the bytes say.
 use mathlib.Core.Path.{refl, sym, _∙_}
 use Rattle.lists.proofs.Padding.{pad-none}
 use Rattle.loading.proofs.Assembling.{no-characters, no-pending}
 use Rattle.loading.proofs.Forming.{answer-read, read-refused, read-whole}
 use borrow.Author.Needs.{needs}
-use Rattle.loading.proofs.read.Statement.{statement}
-use Rattle.loading.proofs.read.Tie as tie
+use Rattle.loading.proofs.read_as.Statement.{statement}
+use Rattle.loading.proofs.read_as.Tie as tie
 
 read-into-requires : tie.Need-read-into-requires
 read-into-requires c κs = (sym no-characters, (sym (pad-none 1024 0), (sym no-pending, (refl, refl))))
@@ -21,8 +21,8 @@ returns-2 c =
     let h = c .before .enum-told .given .1 in
     read-whole _ _ (z .0 ∙ answer-read _ _) h (z .1 .1 .1 .1 .1 .1 h)
 
-pub read-spec : {M : Type 1} → statement M
-read-spec =
+pub read-as-spec : {M : Type 1} → statement M
+read-as-spec =
     tie.close
     (tie.spec (λ c. search needs) (λ c. search needs) (λ c. search needs) (λ c. search needs) (λ c. search needs)
     read-into-requires (λ c. search needs) (λ c κs. search needs) returns (λ c. search needs) returns-2)
