@@ -16,6 +16,7 @@ use Rattle.woot.specs.Clock.{heard, heardAll}
 use Rattle.woot.specs.Placing.{integrateInsert, integrateToggle}
 use Rattle.woot.specs.Calls.{allIntegrated, insertCarried, afterDrain, withCharacters, withPending, carryOut, defer}
 use Rattle.memory.specs.Columns.{Document, Replica, meaning, stored, documentOf, charactersIn, operationsIn}
+use Rattle.memory.specs.Lent.{documentAs}
 use Rattle.well_formed.specs.Examined.{Examined}
 use Rattle.well_formed.proofs.Examining.{few, form, characters-counted, pending-counted}
 use Rattle.delivery.specs.Work.{Lent, Work, workOf, finished, Placed as Placeable, Targeted}
@@ -76,12 +77,20 @@ module _ (r : Replica) where
   unfolding leftBy
   answered-left o a = refl
 
+  -- a document with another count of pending operations
+  abbrev withWaiting : ℕ → Document → Document
+  withWaiting w d =
+      documentAs (d .ids) (d .previous) (d .next) (d .«code_points») (d .toggles) (d .length) (d .own) (d .first) (d .second) (d .values) w (d .table .heads) (d .table .links)
+
   module _ (d : Document) (t : Site) where
-    pub deferred-left : (o : Operation) → t ≡ heardAll (r .site) (inserts (o ∷ []))
+    -- the document with the count that is put back, which is its own
+    pub deferred-left : (o : Operation) (w : ℕ) → t ≡ heardAll (r .site) (inserts (o ∷ []))
         → d ≡ documentOf (charactersIn (r .document)) (operationsIn (r .document) ++ o ∷ [])
-        → _≡_ {A = Left} (record { replica = record { site = t; document = d }; integrated = 0; discarded = 0 }) (leftBy r o Defer)
+        → w ≡ d .waiting
+        → _≡_ {A = Left} (record { replica = record { site = t; document = withWaiting w d }; integrated = 0; discarded = 0 }) (leftBy r o Defer)
     unfolding leftBy leftOf defer withPending stored meaning allIntegrated
-    deferred-left o h e = λ j. record { replica = record { site = h j; document = e j }; integrated = 0; discarded = 0 }
+    deferred-left o w h e same =
+        λ j. record { replica = record { site = h j; document = (ap (λ (m : ℕ). withWaiting m d) same ∙ e) j }; integrated = 0; discarded = 0 }
 
     pub integrated-left : (i : Insert) (k n m : ℕ) → Feasible r (insert i) (Place k) → t ≡ heard (r .site) i
         → _≡_ {A = Work} (record { document = d; integrated = n; discarded = m }) (finished (integrateInsert (charactersIn (r .document)) i) (operationsIn (r .document)) 1 0)

@@ -77,7 +77,7 @@ returns-2 c =
     let done = after .defer in
     rw (d .enum-told2 .given .1)
     (ap (leftAs (done .last .0) _ (done .last .1 .1 .0) _ _) (c .left2 .ensures)
-    ∙ deferred-left (made (deferring d)) _ _ _ (c .before .heard-operation .ensures) (done .ensures))
+    ∙ deferred-left (made (deferring d)) _ _ _ _ (c .before .heard-operation .ensures) (done .ensures) (omega arith))
 
 returns-3 : tie.Need-returns-3
 returns-3 c =
