@@ -50,8 +50,8 @@ module _ {d : Document} {cs : List Character} {ps : List Operation} (p : Parts d
   -- an operation behind the others
   pub pushed-parts : (o : Operation) → d .waiting < 512 → {os fs ss vs : List ℕ}
       → os ≡ set (d .own) (d .waiting) (ownKey o)
-      → fs ≡ set (d .first) (d .waiting) (firstKey o)
-      → ss ≡ set (d .second) (d .waiting) (secondKey o)
+      → fs ≡ set (d .firstKeys) (d .waiting) (firstKey o)
+      → ss ≡ set (d .secondKeys) (d .waiting) (secondKey o)
       → vs ≡ set (d .values) (d .waiting) (valueOf o)
       → Parts (documentAs (d .ids) (d .previous) (d .next) (d .«code_points») (d .toggles) (d .length) os fs ss vs (d .waiting + 1) (d .table .heads) (d .table .links)) cs (ps ++ o ∷ [])
   pushed-parts o room a b c e =
@@ -63,8 +63,8 @@ module _ {d : Document} {cs : List Character} {ps : List Operation} (p : Parts d
         toggles = p .toggles;
         length-is = p .length-is;
         own = a ∙ column-pushed ownKey ps (d .waiting) (p .waiting-is) (p .own) o room;
-        first = b ∙ column-pushed firstKey ps (d .waiting) (p .waiting-is) (p .first) o room;
-        second = c ∙ column-pushed secondKey ps (d .waiting) (p .waiting-is) (p .second) o room;
+        firstKeys = b ∙ column-pushed firstKey ps (d .waiting) (p .waiting-is) (p .firstKeys) o room;
+        secondKeys = c ∙ column-pushed secondKey ps (d .waiting) (p .waiting-is) (p .secondKeys) o room;
         values = e ∙ column-pushed valueOf ps (d .waiting) (p .waiting-is) (p .values) o room;
         waiting-is = omega (arith, p .waiting-is, length-append ps (o ∷ []));
         table = p .table;
@@ -73,8 +73,8 @@ module _ {d : Document} {cs : List Character} {ps : List Operation} (p : Parts d
   -- the operation in a slot taken out
   pub removed-parts : (j : ℕ) → j < d .waiting → d .waiting ≤ 512 → {os fs ss vs : List ℕ}
       → os ≡ removed j (take (d .waiting) (d .own)) ++ 0 ∷ drop (d .waiting) (d .own)
-      → fs ≡ removed j (take (d .waiting) (d .first)) ++ 0 ∷ drop (d .waiting) (d .first)
-      → ss ≡ removed j (take (d .waiting) (d .second)) ++ 0 ∷ drop (d .waiting) (d .second)
+      → fs ≡ removed j (take (d .waiting) (d .firstKeys)) ++ 0 ∷ drop (d .waiting) (d .firstKeys)
+      → ss ≡ removed j (take (d .waiting) (d .secondKeys)) ++ 0 ∷ drop (d .waiting) (d .secondKeys)
       → vs ≡ removed j (take (d .waiting) (d .values)) ++ 0 ∷ drop (d .waiting) (d .values)
       → Parts (documentAs (d .ids) (d .previous) (d .next) (d .«code_points») (d .toggles) (d .length) os fs ss vs (d .waiting - 1) (d .table .heads) (d .table .links)) cs (removed j ps)
   removed-parts j h few a b c e =
@@ -86,8 +86,8 @@ module _ {d : Document} {cs : List Character} {ps : List Operation} (p : Parts d
         toggles = p .toggles;
         length-is = p .length-is;
         own = a ∙ column-removed ownKey ps (d .waiting) (p .waiting-is) (p .own) j h few;
-        first = b ∙ column-removed firstKey ps (d .waiting) (p .waiting-is) (p .first) j h few;
-        second = c ∙ column-removed secondKey ps (d .waiting) (p .waiting-is) (p .second) j h few;
+        firstKeys = b ∙ column-removed firstKey ps (d .waiting) (p .waiting-is) (p .firstKeys) j h few;
+        secondKeys = c ∙ column-removed secondKey ps (d .waiting) (p .waiting-is) (p .secondKeys) j h few;
         values = e ∙ column-removed valueOf ps (d .waiting) (p .waiting-is) (p .values) j h few;
         waiting-is = omega (arith, p .waiting-is, removed-length j ps (omega (arith, h, p .waiting-is)));
         table = p .table;
@@ -101,7 +101,7 @@ module _ {d : Document} {cs : List Character} {ps : List Operation} (p : Parts d
       → xs ≡ putAfter k (i .«code_point») (take (d .length) (d .«code_points»)) ++ drop (suc (d .length)) (d .«code_points»)
       → ts ≡ putAfter k 0 (take (d .length) (d .toggles)) ++ drop (suc (d .length)) (d .toggles)
       → _≡_ {A = Table} (record { heads = hs; links = ls }) (tableOf (take (d .length + 1) is))
-      → Parts (documentAs is qs ns xs ts (d .length + 1) (d .own) (d .first) (d .second) (d .values) (d .waiting) hs ls) (insertAt k (character i) cs) ps
+      → Parts (documentAs is qs ns xs ts (d .length + 1) (d .own) (d .firstKeys) (d .secondKeys) (d .values) (d .waiting) hs ls) (insertAt k (character i) cs) ps
   unfolding character
   placed-parts k i room a b c e t h =
       let size = sym (p .length-is) in
@@ -115,8 +115,8 @@ module _ {d : Document} {cs : List Character} {ps : List Operation} (p : Parts d
         toggles = t ∙ column-put 1024 (λ b. b .toggles) k (character i) cs (d .length) (p .toggles) size room;
         length-is = more;
         own = p .own;
-        first = p .first;
-        second = p .second;
+        firstKeys = p .firstKeys;
+        secondKeys = p .secondKeys;
         values = p .values;
         waiting-is = p .waiting-is;
         table = h ∙ ap tableOf (used 1024 (λ b. key (b .id)) (insertAt k (character i) cs) (d .length + 1) ids more);
@@ -124,7 +124,7 @@ module _ {d : Document} {cs : List Character} {ps : List Operation} (p : Parts d
 
   -- other counts of toggles
   toggles-parts : (x : Toggle) {ts : List ℕ} → ts ≡ pad 1024 0 (toggleCounts (integrateToggle cs x))
-      → Parts (documentAs (d .ids) (d .previous) (d .next) (d .«code_points») ts (d .length) (d .own) (d .first) (d .second) (d .values) (d .waiting) (d .table .heads) (d .table .links)) (integrateToggle cs x) ps
+      → Parts (documentAs (d .ids) (d .previous) (d .next) (d .«code_points») ts (d .length) (d .own) (d .firstKeys) (d .secondKeys) (d .values) (d .waiting) (d .table .heads) (d .table .links)) (integrateToggle cs x) ps
   unfolding withToggles
   toggles-parts x e =
       let keyed = column-kept x (λ c. key (c .id)) (λ c n. refl) cs in
@@ -136,8 +136,8 @@ module _ {d : Document} {cs : List Character} {ps : List Operation} (p : Parts d
         toggles = e;
         length-is = p .length-is ∙ sym (toggle-length cs x);
         own = p .own;
-        first = p .first;
-        second = p .second;
+        firstKeys = p .firstKeys;
+        secondKeys = p .secondKeys;
         values = p .values;
         waiting-is = p .waiting-is;
         table = p .table ∙ ap tableOf (sym keyed);
@@ -146,7 +146,7 @@ module _ {d : Document} {cs : List Character} {ps : List Operation} (p : Parts d
   -- a character toggled
   pub toggled-parts : (x : Toggle) (k : ℕ) → firstIndex (targeted x) cs ≡ At k → distinct same (identifiers cs) ≡ true → {ts : List ℕ}
       → ts ≡ set (d .toggles) k (max (getD (d .toggles) k 0) (x .toggles))
-      → Parts (documentAs (d .ids) (d .previous) (d .next) (d .«code_points») ts (d .length) (d .own) (d .first) (d .second) (d .values) (d .waiting) (d .table .heads) (d .table .links)) (integrateToggle cs x) ps
+      → Parts (documentAs (d .ids) (d .previous) (d .next) (d .«code_points») ts (d .length) (d .own) (d .firstKeys) (d .secondKeys) (d .values) (d .waiting) (d .table .heads) (d .table .links)) (integrateToggle cs x) ps
   toggled-parts x k at apart e =
       let within : k < length (toggleCounts cs) = omega (arith, first-says _ cs at .within, length-map cs (λ c. c .toggles)) in
       toggles-parts x
@@ -160,7 +160,7 @@ module _ {d : Document} {cs : List Character} {ps : List Operation} (p : Parts d
   -- the one that is found, if there is one
   pub found-parts : (x : Toggle) (r : Found) → firstIndex (targeted x) cs ≡ r → distinct same (identifiers cs) ≡ true → {ts : List ℕ}
       → ts ≡ toggledAt r (x .toggles) (d .toggles)
-      → Parts (documentAs (d .ids) (d .previous) (d .next) (d .«code_points») ts (d .length) (d .own) (d .first) (d .second) (d .values) (d .waiting) (d .table .heads) (d .table .links)) (integrateToggle cs x) ps
+      → Parts (documentAs (d .ids) (d .previous) (d .next) (d .«code_points») ts (d .length) (d .own) (d .firstKeys) (d .secondKeys) (d .values) (d .waiting) (d .table .heads) (d .table .links)) (integrateToggle cs x) ps
   found-parts x (At k) at apart e = toggled-parts x k at apart e
   found-parts x Nothing at apart e = toggles-parts x (e ∙ p .toggles ∙ ap (pad 1024 0) (sym (column-untoggled x cs (first-says _ cs at))))
 

@@ -77,13 +77,13 @@ module _ {w : Work} (k : Workable w) where
   workable-tabled = rw (workable-keys, workable-parts .table) (sound-tabled (k .sound))
 
   -- what is sought on the keys is the operation that is due
-  pub workable-due : readyIn (take (w .document .length) (w .document .ids)) (take (w .document .waiting) (w .document .first)) (take (w .document .waiting) (w .document .second)) ≡ dueIn w
+  pub workable-due : readyIn (take (w .document .length) (w .document .ids)) (take (w .document .waiting) (w .document .firstKeys)) (take (w .document .waiting) (w .document .secondKeys)) ≡ dueIn w
   workable-due =
       let p = workable-parts in
       rw (
         workable-keys,
-        used 512 firstKey (pendingAt w) (w .document .waiting) (p .first) (p .waiting-is),
-        used 512 secondKey (pendingAt w) (w .document .waiting) (p .second) (p .waiting-is),
+        used 512 firstKey (pendingAt w) (w .document .waiting) (p .firstKeys) (p .waiting-is),
+        used 512 secondKey (pendingAt w) (w .document .waiting) (p .secondKeys) (p .waiting-is),
       )
       (ready-executable (charactersAt w) (sound-small (k .sound)) (pendingAt w) (k .sound .pending-ranges))
 
@@ -96,7 +96,7 @@ one-insert {o = toggle d} e = omega arith
 
 -- what its slot holds
 abbrev pub slotted : Document → ℕ → Operation
-slotted d j = operationAt (d .own) (d .first) (d .second) (d .values) j
+slotted d j = operationAt (d .own) (d .firstKeys) (d .secondKeys) (d .values) j
 
 module _ {w : Work} (k : Workable w) (j : ℕ) (at : dueIn w ≡ At j) where
   -- as the rules take it out
@@ -109,7 +109,7 @@ module _ {w : Work} (k : Workable w) (j : ℕ) (at : dueIn w ≡ At j) where
 
   pub due-slotted : (d : Operation) → getD (pendingAt w) j d ≡ slotted (w .document) j
   unfolding operationsIn
-  due-slotted d = operations-at (w .document .own) (w .document .first) (w .document .second) (w .document .values) (w .document .waiting) j d due-within
+  due-slotted d = operations-at (w .document .own) (w .document .firstKeys) (w .document .secondKeys) (w .document .values) (w .document .waiting) j d due-within
 
   due-is : takenFrom w ≡ some (record { operation = slotted (w .document) j; others = removed j (pendingAt w) })
   due-is =

@@ -108,8 +108,8 @@ parts-slots cs ps few few-pending p t =
       points = column-slots 1024 _ cs few (p .points);
       toggles = column-slots 1024 _ cs few (p .toggles);
       own = column-slots 512 _ ps few-pending (p .own);
-      first = column-slots 512 _ ps few-pending (p .first);
-      second = column-slots 512 _ ps few-pending (p .second);
+      firstKeys = column-slots 512 _ ps few-pending (p .firstKeys);
+      secondKeys = column-slots 512 _ ps few-pending (p .secondKeys);
       values = column-slots 512 _ ps few-pending (p .values);
       heads = rw (p .table) (t .heads);
       links = rw (p .table) (t .links);
@@ -120,11 +120,11 @@ pub used : (m : ℕ) {A : Type 0} (f : A → ℕ) (ys : List A) (n : ℕ) {xs : 
 used m f ys n e count = rw e (pad-take m 0 (map f ys) n (length-map ys f ∙ sym count))
 
 -- the pending operation in a slot is in range
-pub ranged-at : (d : Document) → every inRange (operationsIn d) ≡ true → (j : ℕ) → j < d .waiting → inRange (operationAt (d .own) (d .first) (d .second) (d .values) j) ≡ true
+pub ranged-at : (d : Document) → every inRange (operationsIn d) ≡ true → (j : ℕ) → j < d .waiting → inRange (operationAt (d .own) (d .firstKeys) (d .secondKeys) (d .values) j) ≡ true
 unfolding operationsIn
 ranged-at d h j within =
-    throughout-at (λ i. inRange (operationAt (d .own) (d .first) (d .second) (d .values) i)) (d .waiting) j within
-    (sym (operations-every (d .own) (d .first) (d .second) (d .values) (d .waiting) inRange) ∙ h)
+    throughout-at (λ i. inRange (operationAt (d .own) (d .firstKeys) (d .secondKeys) (d .values) i)) (d .waiting) j within
+    (sym (operations-every (d .own) (d .firstKeys) (d .secondKeys) (d .values) (d .waiting) inRange) ∙ h)
 
 -- ---- one operation carried out
 
@@ -168,8 +168,8 @@ pub cleared : (d : Document) → Lent d → {is ps ns cs ts os fs ss vs hs ls : 
     → cs ≡ pad 1024 0 (take (d .length) (d .«code_points»))
     → ts ≡ pad 1024 0 (take (d .length) (d .toggles))
     → os ≡ pad 512 0 (take (d .waiting) (d .own))
-    → fs ≡ pad 512 0 (take (d .waiting) (d .first))
-    → ss ≡ pad 512 0 (take (d .waiting) (d .second))
+    → fs ≡ pad 512 0 (take (d .waiting) (d .firstKeys))
+    → ss ≡ pad 512 0 (take (d .waiting) (d .secondKeys))
     → vs ≡ pad 512 0 (take (d .waiting) (d .values))
     → _≡_ {A = Table} (record { heads = hs; links = ls }) (tableOf (take (d .length) (d .ids)))
     → documentAs is ps ns cs ts (d .length) os fs ss vs (d .waiting) hs ls ≡ documentOf (charactersIn d) (operationsIn d)
@@ -187,8 +187,8 @@ cleared d l i p n c t o f g v b =
       toggles = t ∙ ap (pad 1024 0) (sym (toggles-in d (omega (arith, few, s .toggles))));
       length-is = sym (character-count d);
       own = o ∙ ap (pad 512 0) (sym (own-in d (l .ranged) (omega (arith, wait, s .own))));
-      first = f ∙ ap (pad 512 0) (sym (first-in d (l .ranged) (omega (arith, wait, s .first))));
-      second = g ∙ ap (pad 512 0) (sym (second-in d (l .ranged) (omega (arith, wait, s .second))));
+      firstKeys = f ∙ ap (pad 512 0) (sym (first-in d (l .ranged) (omega (arith, wait, s .firstKeys))));
+      secondKeys = g ∙ ap (pad 512 0) (sym (second-in d (l .ranged) (omega (arith, wait, s .secondKeys))));
       values = v ∙ ap (pad 512 0) (sym (values-in d (l .ranged) (omega (arith, wait, s .values))));
       waiting-is = sym (pending-count d);
       table = b ∙ ap tableOf ids;

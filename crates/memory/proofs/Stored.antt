@@ -101,8 +101,8 @@ pub record Parts (d : Document) (cs : List Character) (ps : List Operation) : Ty
   pub toggles : d .toggles ≡ pad characterSlots 0 (toggleCounts cs)
   pub length-is : d .length ≡ length cs
   pub own : d .own ≡ pad pendingSlots 0 (map ownKey ps)
-  pub first : d .first ≡ pad pendingSlots 0 (map firstKey ps)
-  pub second : d .second ≡ pad pendingSlots 0 (map secondKey ps)
+  pub firstKeys : d .firstKeys ≡ pad pendingSlots 0 (map firstKey ps)
+  pub secondKeys : d .secondKeys ≡ pad pendingSlots 0 (map secondKey ps)
   pub values : d .values ≡ pad pendingSlots 0 (map valueOf ps)
   pub waiting-is : d .waiting ≡ length ps
   pub table : d .table ≡ tableOf (keys cs)
@@ -119,8 +119,8 @@ document-path p =
       toggles = p .toggles i;
       length = p .length-is i;
       own = p .own i;
-      first = p .first i;
-      second = p .second i;
+      firstKeys = p .firstKeys i;
+      secondKeys = p .secondKeys i;
       values = p .values i;
       waiting = p .waiting-is i;
       table = p .table i;
@@ -137,8 +137,8 @@ document-parts e =
       toggles = ap (λ (d : Document). d .toggles) e;
       length-is = ap (λ (d : Document). d .length) e;
       own = ap (λ (d : Document). d .own) e;
-      first = ap (λ (d : Document). d .first) e;
-      second = ap (λ (d : Document). d .second) e;
+      firstKeys = ap (λ (d : Document). d .firstKeys) e;
+      secondKeys = ap (λ (d : Document). d .secondKeys) e;
       values = ap (λ (d : Document). d .values) e;
       waiting-is = ap (λ (d : Document). d .waiting) e;
       table = ap (λ (d : Document). d .table) e;
@@ -181,7 +181,7 @@ module _ (d : Document) where
 
   pub pending-count : length (operationsIn d) ≡ d .waiting
   unfolding operationsIn
-  pending-count = operations-length (d .own) (d .first) (d .second) (d .values) (d .waiting)
+  pending-count = operations-length (d .own) (d .firstKeys) (d .secondKeys) (d .values) (d .waiting)
 
   -- the columns of the characters
   pub ids-in : d .length ≤ length (d .ids) → keys (charactersIn d) ≡ take (d .length) (d .ids)
@@ -208,16 +208,16 @@ module _ (d : Document) where
   module _ (ranged : every inRange (operationsIn d) ≡ true) where
     pub own-in : d .waiting ≤ length (d .own) → map ownKey (operationsIn d) ≡ take (d .waiting) (d .own)
     unfolding operationsIn
-    own-in = own-column (d .own) (d .first) (d .second) (d .values) (d .waiting) ranged
+    own-in = own-column (d .own) (d .firstKeys) (d .secondKeys) (d .values) (d .waiting) ranged
 
-    pub first-in : d .waiting ≤ length (d .first) → map firstKey (operationsIn d) ≡ take (d .waiting) (d .first)
+    pub first-in : d .waiting ≤ length (d .firstKeys) → map firstKey (operationsIn d) ≡ take (d .waiting) (d .firstKeys)
     unfolding operationsIn
-    first-in = first-column (d .own) (d .first) (d .second) (d .values) (d .waiting) ranged
+    first-in = first-column (d .own) (d .firstKeys) (d .secondKeys) (d .values) (d .waiting) ranged
 
-    pub second-in : d .waiting ≤ length (d .second) → map secondKey (operationsIn d) ≡ take (d .waiting) (d .second)
+    pub second-in : d .waiting ≤ length (d .secondKeys) → map secondKey (operationsIn d) ≡ take (d .waiting) (d .secondKeys)
     unfolding operationsIn
-    second-in = second-column (d .own) (d .first) (d .second) (d .values) (d .waiting) ranged
+    second-in = second-column (d .own) (d .firstKeys) (d .secondKeys) (d .values) (d .waiting) ranged
 
     pub values-in : d .waiting ≤ length (d .values) → map valueOf (operationsIn d) ≡ take (d .waiting) (d .values)
     unfolding operationsIn
-    values-in = value-column (d .own) (d .first) (d .second) (d .values) (d .waiting) ranged
+    values-in = value-column (d .own) (d .firstKeys) (d .secondKeys) (d .values) (d .waiting) ranged

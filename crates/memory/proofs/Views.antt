@@ -100,8 +100,8 @@ module _ (cs : List Character) (ps : List Operation) (few : length cs ≤ 1024) 
         toggles = pad characterSlots 0 (toggleCounts cs);
         length = length cs;
         own = first-column 512 (pad 512 0 (map ownKey ps)) (pad 512 0 (map firstKey ps)) (pad 512 0 (map secondKey ps)) (pad 512 0 (map valueOf ps)) o f g v j;
-        first = second-column 512 (pad 512 0 (map ownKey ps)) (pad 512 0 (map firstKey ps)) (pad 512 0 (map secondKey ps)) (pad 512 0 (map valueOf ps)) o f g v j;
-        second = third-column 512 (pad 512 0 (map ownKey ps)) (pad 512 0 (map firstKey ps)) (pad 512 0 (map secondKey ps)) (pad 512 0 (map valueOf ps)) o f g v j;
+        firstKeys = second-column 512 (pad 512 0 (map ownKey ps)) (pad 512 0 (map firstKey ps)) (pad 512 0 (map secondKey ps)) (pad 512 0 (map valueOf ps)) o f g v j;
+        secondKeys = third-column 512 (pad 512 0 (map ownKey ps)) (pad 512 0 (map firstKey ps)) (pad 512 0 (map secondKey ps)) (pad 512 0 (map valueOf ps)) o f g v j;
         values = fourth-column 512 (pad 512 0 (map ownKey ps)) (pad 512 0 (map firstKey ps)) (pad 512 0 (map secondKey ps)) (pad 512 0 (map valueOf ps)) o f g v j;
         waiting = length ps;
         table = tableOf (keys cs);
@@ -120,7 +120,7 @@ flat-path cs ps d full e =
       toggles = p .toggles j;
       length = p .length-is j;
       pending =
-          (sym (columns-whole 512 (d .pending) (full .pending)) ∙ λ k. p .own k ++ (p .first k ++ (p .second k ++ p .values k))) j;
+          (sym (columns-whole 512 (d .pending) (full .pending)) ∙ λ k. p .own k ++ (p .firstKeys k ++ (p .secondKeys k ++ p .values k))) j;
       waiting = p .waiting-is j;
       table = p .table j;
     }

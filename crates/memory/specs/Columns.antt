@@ -25,8 +25,8 @@ pub record Document : Type 0 where
   pub toggles : List ℕ
   pub length : ℕ
   pub own : List ℕ
-  pub first : List ℕ
-  pub second : List ℕ
+  pub firstKeys : List ℕ
+  pub secondKeys : List ℕ
   pub values : List ℕ
   pub waiting : ℕ
   pub table : Table
@@ -40,7 +40,7 @@ unfoldable pub charactersIn : Document → List Character
 charactersIn d = charactersOf (d .ids) (d .previous) (d .next) (d .«code_points») (d .toggles) (d .length)
 
 unfoldable pub operationsIn : Document → List Operation
-operationsIn d = operationsOf (d .own) (d .first) (d .second) (d .values) (d .waiting)
+operationsIn d = operationsOf (d .own) (d .firstKeys) (d .secondKeys) (d .values) (d .waiting)
 
 unfoldable pub meaning : Replica → State
 meaning r =
@@ -58,8 +58,8 @@ documentOf cs ps =
       toggles = pad characterSlots 0 (toggleCounts cs);
       length = length cs;
       own = pad pendingSlots 0 (map ownKey ps);
-      first = pad pendingSlots 0 (map firstKey ps);
-      second = pad pendingSlots 0 (map secondKey ps);
+      firstKeys = pad pendingSlots 0 (map firstKey ps);
+      secondKeys = pad pendingSlots 0 (map secondKey ps);
       values = pad pendingSlots 0 (map valueOf ps);
       waiting = length ps;
       table = tableOf (keys cs);

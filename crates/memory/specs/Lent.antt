@@ -24,8 +24,8 @@ documentAs ids previous next points toggles n own first second values w heads li
       toggles = toggles;
       length = n;
       own = own;
-      first = first;
-      second = second;
+      firstKeys = first;
+      secondKeys = second;
       values = values;
       waiting = w;
       table = record { heads = heads; links = links };
@@ -58,8 +58,8 @@ pub record Slots (d : Document) : Type 0 where
   pub points : length (d .«code_points») ≡ characterSlots
   pub toggles : length (d .toggles) ≡ characterSlots
   pub own : length (d .own) ≡ pendingSlots
-  pub first : length (d .first) ≡ pendingSlots
-  pub second : length (d .second) ≡ pendingSlots
+  pub firstKeys : length (d .firstKeys) ≡ pendingSlots
+  pub secondKeys : length (d .secondKeys) ≡ pendingSlots
   pub values : length (d .values) ≡ pendingSlots
   pub heads : length (d .table .heads) ≡ chains
   pub links : length (d .table .links) ≡ tableLinks

@@ -51,7 +51,7 @@ module _ (r : Replica) (x : Examined r) (i : Insert) (ranged : insertInRange i �
       sym (seen-held (meaning r) i (form r x) (origin (inSlot r x (i .id) id-ranged k h)) m (character-named r x (i .id) id-ranged k h))
 
   pub seen-pending : (j : ℕ) → Has r x (i .id) id-ranged (ofPending j)
-      → comparedTo i (insertIn (r .document .own) (r .document .first) (r .document .second) (r .document .values) j) ≡ seenOf (meaning r) i
+      → comparedTo i (insertIn (r .document .own) (r .document .firstKeys) (r .document .secondKeys) (r .document .values) j) ≡ seenOf (meaning r) i
   unfolding presentInserts
   seen-pending j h =
       let read = pending-read r x j blankOperation (pending-within r x (i .id) id-ranged j h) in

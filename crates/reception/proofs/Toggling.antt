@@ -110,7 +110,7 @@ module _ (r : Replica) (x : Examined r) (t : Toggle) (ranged : toggleInRange t â
     absent-known = rw none-reached
 
     absent-found : hasToggle (key (t .target)) (valueOf (toggle t)) (take (r .document .waiting) (r .document .own))
-        (take (r .document .waiting) (r .document .first)) (take (r .document .waiting) (r .document .values))
+        (take (r .document .waiting) (r .document .firstKeys)) (take (r .document .waiting) (r .document .values))
         â‰¡ duplicate (meaning r) (toggle t)
     unfolding inRange
     absent-found =
@@ -130,7 +130,7 @@ module _ (r : Replica) (x : Examined r) (t : Toggle) (ranged : toggleInRange t â
     by-known false e = lacking-decided r x (toggle t) (record { ranged = ranged; new = e; sole = refl }) unready
 
     pub absent-decided : Decided r (toggle t)
-        (absentIn (r .document .length) (take (r .document .waiting) (r .document .own)) (take (r .document .waiting) (r .document .first))
+        (absentIn (r .document .length) (take (r .document .waiting) (r .document .own)) (take (r .document .waiting) (r .document .firstKeys))
         (take (r .document .waiting) (r .document .values)) t)
     unfolding absentIn
     absent-decided = rw absent-found (by-known _ refl)

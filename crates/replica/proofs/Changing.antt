@@ -80,7 +80,8 @@ module _ (r : Replica) where
   -- a document with another count of pending operations
   abbrev withWaiting : ℕ → Document → Document
   withWaiting w d =
-      documentAs (d .ids) (d .previous) (d .next) (d .«code_points») (d .toggles) (d .length) (d .own) (d .first) (d .second) (d .values) w (d .table .heads) (d .table .links)
+      documentAs (d .ids) (d .previous) (d .next) (d .«code_points») (d .toggles) (d .length)
+      (d .own) (d .firstKeys) (d .secondKeys) (d .values) w (d .table .heads) (d .table .links)
 
   module _ (d : Document) (t : Site) where
     -- the document with the count that is put back, which is its own

@@ -66,7 +66,7 @@ module _ (b : Replica) (full : FullArrays (b .document)) where
               length = ap (λ (q : columns.Replica). q .document .length) e j;
               pending =
                   (sym (columns-whole 512 (b .document .pending) (full .pending))
-                  ∙ ap (λ (q : columns.Replica). q .document .own ++ (q .document .first ++ (q .document .second ++ q .document .values))) e
+                  ∙ ap (λ (q : columns.Replica). q .document .own ++ (q .document .firstKeys ++ (q .document .secondKeys ++ q .document .values))) e
                   ∙ columns-whole 512 (r .document .pending) (also .pending)) j;
               waiting = ap (λ (q : columns.Replica). q .document .waiting) e j;
               table = ap (λ (q : columns.Replica). q .document .table) e j;

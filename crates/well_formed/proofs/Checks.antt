@@ -46,7 +46,7 @@ module _ (r : Replica) where
       charactersOf (r .document .ids) (r .document .previous) (r .document .next) (r .document .«code_points») (r .document .toggles) (r .document .length)
 
   abbrev pub operationsAs : List Operation
-  operationsAs = operationsOf (r .document .own) (r .document .first) (r .document .second) (r .document .values) (r .document .waiting)
+  operationsAs = operationsOf (r .document .own) (r .document .firstKeys) (r .document .secondKeys) (r .document .values) (r .document .waiting)
 
   -- the first test of the check
   abbrev pub ranged : Bool
@@ -111,22 +111,22 @@ module _ (r : Replica) where
       abbrev pub queueFormed : Bool
       queueFormed =
           pendingFormed (take (r .document .length) (r .document .ids)) (take (r .document .waiting) (r .document .own))
-          (take (r .document .waiting) (r .document .first))
-          (take (r .document .waiting) (r .document .second))
+          (take (r .document .waiting) (r .document .firstKeys))
+          (take (r .document .waiting) (r .document .secondKeys))
           (take (r .document .waiting) (r .document .values))
           && clockReached (r .site) (take (r .document .length) (r .document .ids)) (take (r .document .waiting) (r .document .own))
 
       -- the columns of the pending operations
       columns : (map ownKey (meaning r .pending) ≡ take (r .document .waiting) (r .document .own))
-          × (map firstKey (meaning r .pending) ≡ take (r .document .waiting) (r .document .first))
-          × (map secondKey (meaning r .pending) ≡ take (r .document .waiting) (r .document .second))
+          × (map firstKey (meaning r .pending) ≡ take (r .document .waiting) (r .document .firstKeys))
+          × (map secondKey (meaning r .pending) ≡ take (r .document .waiting) (r .document .secondKeys))
           × (map valueOf (meaning r .pending) ≡ take (r .document .waiting) (r .document .values))
       unfolding meaning
       columns =
           let d = r .document in (
             own-in d (parts .2) (omega (arith, few .pending, full .own)),
-            first-in d (parts .2) (omega (arith, few .pending, full .first)),
-            second-in d (parts .2) (omega (arith, few .pending, full .second)),
+            first-in d (parts .2) (omega (arith, few .pending, full .firstKeys)),
+            second-in d (parts .2) (omega (arith, few .pending, full .secondKeys)),
             values-in d (parts .2) (omega (arith, few .pending, full .values)),
           )
 

@@ -53,7 +53,7 @@ pub record Fits (d : Document) : Type 0 where
   pub next : d .length ≤ length (d .next)
   pub toggles : d .length ≤ length (d .toggles)
   pub own : d .waiting ≤ length (d .own)
-  pub first : d .waiting ≤ length (d .first)
+  pub firstKeys : d .waiting ≤ length (d .firstKeys)
   pub values : d .waiting ≤ length (d .values)
 
 module _ (r : Replica) (x : Examined r) where
@@ -68,7 +68,7 @@ module _ (r : Replica) (x : Examined r) where
         next = omega (arith, few .characters, x .slots .next);
         toggles = omega (arith, few .characters, x .slots .toggles);
         own = omega (arith, few .pending, x .slots .own);
-        first = omega (arith, few .pending, x .slots .first);
+        firstKeys = omega (arith, few .pending, x .slots .firstKeys);
         values = omega (arith, few .pending, x .slots .values);
       }
 
@@ -120,13 +120,13 @@ module _ (r : Replica) (x : Examined r) where
   unfolding meaning
   own-used = sym (own-in (r .document) (form .sound .pending-ranges) (omega (arith, few .pending, x .slots .own)))
 
-  pub first-used : take (r .document .waiting) (r .document .first) ≡ map firstKey (meaning r .pending)
+  pub first-used : take (r .document .waiting) (r .document .firstKeys) ≡ map firstKey (meaning r .pending)
   unfolding meaning
-  first-used = sym (first-in (r .document) (form .sound .pending-ranges) (omega (arith, few .pending, x .slots .first)))
+  first-used = sym (first-in (r .document) (form .sound .pending-ranges) (omega (arith, few .pending, x .slots .firstKeys)))
 
-  pub second-used : take (r .document .waiting) (r .document .second) ≡ map secondKey (meaning r .pending)
+  pub second-used : take (r .document .waiting) (r .document .secondKeys) ≡ map secondKey (meaning r .pending)
   unfolding meaning
-  second-used = sym (second-in (r .document) (form .sound .pending-ranges) (omega (arith, few .pending, x .slots .second)))
+  second-used = sym (second-in (r .document) (form .sound .pending-ranges) (omega (arith, few .pending, x .slots .secondKeys)))
 
   pub values-used : take (r .document .waiting) (r .document .values) ≡ map valueOf (meaning r .pending)
   unfolding meaning
@@ -141,13 +141,13 @@ module _ (r : Replica) (x : Examined r) where
       rows-at (r .document .ids) (r .document .previous) (r .document .next) (r .document .«code_points») (r .document .toggles) (r .document .length) k d h
 
   pub pending-read : (j : ℕ) (d : Operation) → j < r .document .waiting
-      → getD (meaning r .pending) j d ≡ operationAt (r .document .own) (r .document .first) (r .document .second) (r .document .values) j
+      → getD (meaning r .pending) j d ≡ operationAt (r .document .own) (r .document .firstKeys) (r .document .secondKeys) (r .document .values) j
   unfolding meaning operationsIn
   pending-read j d h =
-      operations-at (r .document .own) (r .document .first) (r .document .second) (r .document .values) (r .document .waiting) j d h
+      operations-at (r .document .own) (r .document .firstKeys) (r .document .secondKeys) (r .document .values) (r .document .waiting) j d h
 
   pub pending-ranged : (j : ℕ) → j < r .document .waiting
-      → inRange (operationAt (r .document .own) (r .document .first) (r .document .second) (r .document .values) j) ≡ true
+      → inRange (operationAt (r .document .own) (r .document .firstKeys) (r .document .secondKeys) (r .document .values) j) ≡ true
   pending-ranged j h =
       sym (ap inRange (pending-read j blankOperation h))
       ∙ every-member inRange (form .sound .pending-ranges) (get-member (meaning r .pending) j blankOperation (omega (arith, pending-counted)))

@@ -64,7 +64,7 @@ returns c =
 absent-requires : tie.Need-absent-requires
 absent-requires c κs =
     let x = c .before .before .before .before .before .before .before .before .before .before .before .before .before .before .pre .1 .0 in
-    (fits _ x .own, (fits _ x .first, fits _ x .values))
+    (fits _ x .own, (fits _ x .firstKeys, fits _ x .values))
 
 returns-2 : tie.Need-returns-2
 returns-2 c =
