@@ -128,20 +128,11 @@ fn clear_columns(characters: &mut [u32], n: usize)
     slots::clear_numbers(&mut characters[CODE_POINTS..CHARACTER_NUMBERS], n);
 }
 
-// The first n stay, every slot behind them is 0, and the table is made anew: a step of the calls, which have compared
-// the count.
-pub fn clear(
-    characters: &mut [u32],
-    toggles: &mut [u8],
-    heads: &mut [u16],
-    links: &mut [u16],
-    n: usize,
-)
+// The first n stay, and every slot behind them is 0: a step of the calls, which have compared the count.
+pub fn clear(characters: &mut [u32], toggles: &mut [u8], n: usize)
     requires { ⌜ n ≤ characterSlots ⌝ }
     requires { ⌜ length (now characters) ≡ characterNumbers ⌝ }
     requires { ⌜ length (now toggles) ≡ characterSlots ⌝ }
-    requires { ⌜ length (now heads) ≡ chains ⌝ }
-    requires { ⌜ length (now links) ≡ tableLinks ⌝ }
     ensures { λ _. ⌜ keyColumn (now (characters .exit))
         ≡ pad characterSlots 0 (take n (keyColumn (now (characters .entry)))) ⌝ }
     ensures { λ _. ⌜ previousColumn (now (characters .exit))
@@ -151,10 +142,7 @@ pub fn clear(
     ensures { λ _. ⌜ codePointColumn (now (characters .exit))
         ≡ pad characterSlots 0 (take n (codePointColumn (now (characters .entry)))) ⌝ }
     ensures { λ _. ⌜ now (toggles .exit) ≡ pad characterSlots 0 (take n (now (toggles .entry))) ⌝ }
-    ensures { λ _. ⌜ (record { heads = now (heads .exit); links = now (links .exit) })
-        ≡ tableOf (take n (keyColumn (now (characters .entry)))) ⌝ }
 {
-    index::chains::enter_all(characters, n, heads, links);
     clear_columns(characters, n);
     slots::clear_bytes(toggles, n);
 }

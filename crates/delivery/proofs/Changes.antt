@@ -31,7 +31,7 @@ use Rattle.index.proofs.Searches.{first-says}
 use Rattle.characters.proofs.Editing.{inserted-length, column-put, targeted, column-toggled, column-untoggled, column-kept}
 use Rattle.memory.specs.Lent.{documentAs}
 use Rattle.memory.proofs.Stored.{Parts, character-count}
-use Rattle.delivery.specs.Work.{Targeted}
+use Rattle.delivery.specs.Work.{Swept, Targeted}
 use Rattle.delivery.specs.Steps.{toggledAt}
 use Rattle.delivery.proofs.Works.{used}
 
@@ -45,6 +45,36 @@ module _ (f : Operation → ℕ) (ps : List Operation) (w : ℕ) (count : w ≡ 
   column-pushed : (o : Operation) → w < 512 → set xs w (f o) ≡ pad 512 0 (map f (ps ++ o ∷ []))
   column-pushed o h =
       rw (is, map-append f ps (o ∷ [])) (push-padded 512 0 (f o) (map f ps) w (length-map ps f ∙ sym count) h)
+
+-- a character put in; the table is made anew, so that the one before may be any
+module _ {d : Document} {cs : List Character} {ps : List Operation} (p : Swept d cs ps) where
+  pub placed-parts : (k : ℕ) (i : Insert) → d .length < 1024 → {is qs ns xs ts hs ls : List ℕ}
+      → is ≡ putAfter k (key (i .id)) (take (d .length) (d .ids)) ++ drop (suc (d .length)) (d .ids)
+      → qs ≡ putAfter k (key (i .previous)) (take (d .length) (d .previous)) ++ drop (suc (d .length)) (d .previous)
+      → ns ≡ putAfter k (key (i .next)) (take (d .length) (d .next)) ++ drop (suc (d .length)) (d .next)
+      → xs ≡ putAfter k (i .«code_point») (take (d .length) (d .«code_points»)) ++ drop (suc (d .length)) (d .«code_points»)
+      → ts ≡ putAfter k 0 (take (d .length) (d .toggles)) ++ drop (suc (d .length)) (d .toggles)
+      → _≡_ {A = Table} (record { heads = hs; links = ls }) (tableOf (take (d .length + 1) is))
+      → Parts (documentAs is qs ns xs ts (d .length + 1) (d .own) (d .firstKeys) (d .secondKeys) (d .values) (d .waiting) hs ls) (insertAt k (character i) cs) ps
+  unfolding character
+  placed-parts k i room a b c e t h =
+      let size = sym (p .length-is) in
+      let ids = a ∙ column-put 1024 (λ b. key (b .id)) k (character i) cs (d .length) (p .ids) size room in
+      let more : d .length + 1 ≡ length (insertAt k (character i) cs) = omega (arith, p .length-is, inserted-length k (character i) cs) in
+      record {
+        ids = ids;
+        previous = b ∙ column-put 1024 (λ b. key (b .previous)) k (character i) cs (d .length) (p .previous) size room;
+        next = c ∙ column-put 1024 (λ b. key (b .next)) k (character i) cs (d .length) (p .next) size room;
+        points = e ∙ column-put 1024 (λ b. b .«code_point») k (character i) cs (d .length) (p .points) size room;
+        toggles = t ∙ column-put 1024 (λ b. b .toggles) k (character i) cs (d .length) (p .toggles) size room;
+        length-is = more;
+        own = p .own;
+        firstKeys = p .firstKeys;
+        secondKeys = p .secondKeys;
+        values = p .values;
+        waiting-is = p .waiting-is;
+        table = h ∙ ap tableOf (used 1024 (λ b. key (b .id)) (insertAt k (character i) cs) (d .length + 1) ids more);
+      }
 
 module _ {d : Document} {cs : List Character} {ps : List Operation} (p : Parts d cs ps) where
   -- an operation behind the others
@@ -91,35 +121,6 @@ module _ {d : Document} {cs : List Character} {ps : List Operation} (p : Parts d
         values = e ∙ column-removed valueOf ps (d .waiting) (p .waiting-is) (p .values) j h few;
         waiting-is = omega (arith, p .waiting-is, removed-length j ps (omega (arith, h, p .waiting-is)));
         table = p .table;
-      }
-
-  -- a character put in
-  pub placed-parts : (k : ℕ) (i : Insert) → d .length < 1024 → {is qs ns xs ts hs ls : List ℕ}
-      → is ≡ putAfter k (key (i .id)) (take (d .length) (d .ids)) ++ drop (suc (d .length)) (d .ids)
-      → qs ≡ putAfter k (key (i .previous)) (take (d .length) (d .previous)) ++ drop (suc (d .length)) (d .previous)
-      → ns ≡ putAfter k (key (i .next)) (take (d .length) (d .next)) ++ drop (suc (d .length)) (d .next)
-      → xs ≡ putAfter k (i .«code_point») (take (d .length) (d .«code_points»)) ++ drop (suc (d .length)) (d .«code_points»)
-      → ts ≡ putAfter k 0 (take (d .length) (d .toggles)) ++ drop (suc (d .length)) (d .toggles)
-      → _≡_ {A = Table} (record { heads = hs; links = ls }) (tableOf (take (d .length + 1) is))
-      → Parts (documentAs is qs ns xs ts (d .length + 1) (d .own) (d .firstKeys) (d .secondKeys) (d .values) (d .waiting) hs ls) (insertAt k (character i) cs) ps
-  unfolding character
-  placed-parts k i room a b c e t h =
-      let size = sym (p .length-is) in
-      let ids = a ∙ column-put 1024 (λ b. key (b .id)) k (character i) cs (d .length) (p .ids) size room in
-      let more : d .length + 1 ≡ length (insertAt k (character i) cs) = omega (arith, p .length-is, inserted-length k (character i) cs) in
-      record {
-        ids = ids;
-        previous = b ∙ column-put 1024 (λ b. key (b .previous)) k (character i) cs (d .length) (p .previous) size room;
-        next = c ∙ column-put 1024 (λ b. key (b .next)) k (character i) cs (d .length) (p .next) size room;
-        points = e ∙ column-put 1024 (λ b. b .«code_point») k (character i) cs (d .length) (p .points) size room;
-        toggles = t ∙ column-put 1024 (λ b. b .toggles) k (character i) cs (d .length) (p .toggles) size room;
-        length-is = more;
-        own = p .own;
-        firstKeys = p .firstKeys;
-        secondKeys = p .secondKeys;
-        values = p .values;
-        waiting-is = p .waiting-is;
-        table = h ∙ ap tableOf (used 1024 (λ b. key (b .id)) (insertAt k (character i) cs) (d .length + 1) ids more);
       }
 
   -- other counts of toggles

@@ -24,7 +24,7 @@ use Rattle.woot.specs.Operations.{character}
 use Rattle.woot.specs.Ranges.{characterInRange, inRange}
 use Rattle.woot.specs.Placing.{identifiers, insertAt, integrateToggle}
 use Rattle.woot.specs.Pending.{executable, crossed, unplaceable, integrate}
-use Rattle.woot.specs.Table.{keys, tableOf}
+use Rattle.woot.specs.Table.{key, keys, tableOf}
 use Rattle.woot.specs.Memory.{operationAt, operationsOf}
 use Rattle.memory.specs.Columns.{charactersIn, operationsIn, documentOf}
 use Rattle.convergence.specs.Invariants.{Sound}
@@ -40,7 +40,7 @@ use Rattle.integration.proofs.Placements.{Says, says}
 use Rattle.memory.specs.Lent.{documentAs, Slots}
 use Rattle.memory.proofs.Operations.{AllKeyed, all-keyed, operations-every}
 use Rattle.memory.proofs.Stored.{Parts, document-path, document-parts, stored-characters, stored-operations, character-count, pending-count, ids-in, previous-in, next-in, points-in, toggles-in, own-in, first-in, second-in, values-in}
-use Rattle.delivery.specs.Work.{Lent, TidyDocument, Work, workOf, charactersAt, pendingAt, Workable, dealtWith}
+use Rattle.delivery.specs.Work.{Lent, Swept, TidyDocument, Work, workOf, charactersAt, pendingAt, Workable, dealtWith}
 
 -- ---- what sound lists are
 
@@ -171,16 +171,13 @@ pub cleared : (d : Document) → Lent d → {is ps ns cs ts os fs ss vs hs ls : 
     → fs ≡ pad 512 0 (take (d .waiting) (d .firstKeys))
     → ss ≡ pad 512 0 (take (d .waiting) (d .secondKeys))
     → vs ≡ pad 512 0 (take (d .waiting) (d .values))
-    → _≡_ {A = Table} (record { heads = hs; links = ls }) (tableOf (take (d .length) (d .ids)))
-    → documentAs is ps ns cs ts (d .length) os fs ss vs (d .waiting) hs ls ≡ documentOf (charactersIn d) (operationsIn d)
-cleared d l i p n c t o f g v b =
+    → Swept (documentAs is ps ns cs ts (d .length) os fs ss vs (d .waiting) hs ls) (charactersIn d) (operationsIn d)
+cleared d l i p n c t o f g v =
     let s = l .slots in
     let few = l .few in
     let wait = l .few-pending in
-    let ids = sym (ids-in d (omega (arith, few, s .ids))) in
-    document-path
-    (record {
-      ids = i ∙ ap (pad 1024 0) ids;
+    record {
+      ids = i ∙ ap (pad 1024 0) (sym (ids-in d (omega (arith, few, s .ids))));
       previous = p ∙ ap (pad 1024 0) (sym (previous-in d (omega (arith, few, s .previous))));
       next = n ∙ ap (pad 1024 0) (sym (next-in d (omega (arith, few, s .next))));
       points = c ∙ ap (pad 1024 0) (sym (points-in d (omega (arith, few, s .points))));
@@ -191,5 +188,41 @@ cleared d l i p n c t o f g v b =
       secondKeys = g ∙ ap (pad 512 0) (sym (second-in d (l .ranged) (omega (arith, wait, s .secondKeys))));
       values = v ∙ ap (pad 512 0) (sym (values-in d (l .ranged) (omega (arith, wait, s .values))));
       waiting-is = sym (pending-count d);
-      table = b ∙ ap tableOf ids;
-    })
+    }
+
+module _ {d : Document} {cs : List Character} {ps : List Operation} where
+  -- with the table of the keys in use nothing is left to say
+  pub swept-document : Swept d cs ps → {hs ls : List ℕ} → _≡_ {A = Table} (record { heads = hs; links = ls }) (tableOf (take (d .length) (d .ids)))
+      → documentAs (d .ids) (d .previous) (d .next) (d .«code_points») (d .toggles) (d .length) (d .own) (d .firstKeys) (d .secondKeys) (d .values) (d .waiting) hs ls ≡ documentOf cs ps
+  swept-document s t =
+      document-path
+      (record {
+        ids = s .ids;
+        previous = s .previous;
+        next = s .next;
+        points = s .points;
+        toggles = s .toggles;
+        length-is = s .length-is;
+        own = s .own;
+        firstKeys = s .firstKeys;
+        secondKeys = s .secondKeys;
+        values = s .values;
+        waiting-is = s .waiting-is;
+        table = t ∙ ap tableOf (used 1024 (λ (c : Character). key (c .id)) cs (d .length) (s .ids) (s .length-is));
+      })
+
+  pub parts-swept : Parts d cs ps → Swept d cs ps
+  parts-swept p =
+      record {
+        ids = p .ids;
+        previous = p .previous;
+        next = p .next;
+        points = p .points;
+        toggles = p .toggles;
+        length-is = p .length-is;
+        own = p .own;
+        firstKeys = p .firstKeys;
+        secondKeys = p .secondKeys;
+        values = p .values;
+        waiting-is = p .waiting-is;
+      }

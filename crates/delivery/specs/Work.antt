@@ -4,9 +4,10 @@ use Prim.Native.Nat.{ℕ, _+_, _^_, _≤_, _<_}
 use mathlib.Core.Path.{_≡_}
 use mathlib.Core.Bool.{true, _||_, cond}
 use mathlib.Core.Option.{Option, none, some}
-use mathlib.Core.List.{List, _++_, _∷_, []}
+use mathlib.Core.List.{List, _++_, _∷_, [], map}
 use lib.ListN.{length}
 use Rattle.lists.specs.Lists.{every, distinct}
+use Rattle.lists.specs.Padding.{pad}
 use Rattle.slots.specs.Slots.{removed}
 use Rattle.woot.specs.declared.Insert.{Insert}
 use Rattle.woot.specs.declared.Toggle.{Toggle}
@@ -15,6 +16,9 @@ use Rattle.woot.specs.declared.Character.{Character}
 use Rattle.memory.specs.Columns.{Document}
 use Rattle.woot.specs.Identifiers.{same}
 use Rattle.woot.specs.Limits.{capacity}
+use Rattle.woot.specs.Table.{keys, chains, tableLinks}
+use Rattle.woot.specs.Memory.{characterSlots, pendingSlots, previousKeys, nextKeys, codePoints, toggleCounts}
+use Rattle.woot.specs.Memory.{ownKey, firstKey, secondKey, valueOf}
 use Rattle.woot.specs.Operations.{character}
 use Rattle.woot.specs.Ranges.{inRange}
 use Rattle.memory.specs.Columns.{charactersIn, operationsIn, documentOf}
@@ -105,7 +109,38 @@ finishedIn w = finished (charactersAt w) (pendingAt w) (w .integrated) (w .disca
 
 -- ---- the insert that is carried out first
 
--- an insert that goes in after the first k characters, and leaves the lists sound
+-- the slots of a document hold two lists, with zeros behind them; its table may be any
+pub record Swept (d : Document) (cs : List Character) (ps : List Operation) : Type 0 where
+  pub ids : d .ids ≡ pad characterSlots 0 (keys cs)
+  pub previous : d .previous ≡ pad characterSlots 0 (previousKeys cs)
+  pub next : d .next ≡ pad characterSlots 0 (nextKeys cs)
+  pub points : d .«code_points» ≡ pad characterSlots 0 (codePoints cs)
+  pub toggles : d .toggles ≡ pad characterSlots 0 (toggleCounts cs)
+  pub length-is : d .length ≡ length cs
+  pub own : d .own ≡ pad pendingSlots 0 (map ownKey ps)
+  pub firstKeys : d .firstKeys ≡ pad pendingSlots 0 (map firstKey ps)
+  pub secondKeys : d .secondKeys ≡ pad pendingSlots 0 (map secondKey ps)
+  pub values : d .values ≡ pad pendingSlots 0 (map valueOf ps)
+  pub waiting-is : d .waiting ≡ length ps
+
+-- an insert that goes in after the first k of the characters that a document holds, and leaves the lists sound
+pub record PlacedAs (d : Document) (i : Insert) (k : ℕ) (cs : List Character) (ps : List Operation) : Type 0 where
+  pub swept : Swept d cs ps
+  pub toggles : length (d .toggles) ≡ characterSlots
+  pub heads : length (d .table .heads) ≡ chains
+  pub links : length (d .table .links) ≡ tableLinks
+  pub place : k ≤ d .length
+  pub room : d .length < capacity
+  pub result : integrateInsert cs i ≡ insertAt k (character i) cs
+  pub sound : Sound (integrateInsert cs i) ps
+
+-- there are such lists
+pub record Insertable (d : Document) (i : Insert) (k : ℕ) : Type 0 where
+  pub characters : List Character
+  pub pending : List Operation
+  pub placed : PlacedAs d i k characters pending
+
+-- the same of a document with anything in the slots that are not in use
 pub record Placed (d : Document) (i : Insert) (k : ℕ) : Type 0 where
   pub lent : Lent d
   pub place : k ≤ d .length

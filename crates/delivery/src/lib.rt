@@ -2,6 +2,7 @@
 // one, until no pending operation is executable; a character is toggled; an operation is put off. Each array is edited
 // where it lies, and what is not in use is cleared before.
 use index::Found;
+use index::chains;
 use index::table;
 use integration::Placement;
 use pending::edits;
@@ -18,7 +19,7 @@ use woot::Toggle;
 use woot::VALUES;
 ghost use mathlib.Core.Path.{_≡_};
 ghost use mathlib.Core.List.{List, _++_, _∷_, []};
-ghost use Prim.Native.Nat.{_+_, _≤_, _<_};
+ghost use Prim.Native.Nat.{ℕ, _+_, _≤_, _<_};
 ghost use lib.ListN.{length, take};
 ghost use Rattle.index.specs.declared.Found.the-variants.{At};
 ghost use Rattle.index.specs.Keys.{AllSmall, found};
@@ -26,13 +27,14 @@ ghost use Rattle.index.specs.Tabled.{Tabled};
 ghost use Rattle.memory.specs.Lent.{columnsAs};
 ghost use Rattle.memory.specs.Columns.{charactersIn, operationsIn, documentOf};
 ghost use Rattle.woot.specs.declared.Character.{Character};
+ghost use Rattle.woot.specs.declared.Operation.{Operation};
 ghost use Rattle.woot.specs.Memory.{previousKeys, nextKeys, characterNumbers, characterSlots, firstColumn, keyColumn};
 ghost use Rattle.woot.specs.Memory.{nextColumn, pendingNumbers, pendingSlots, previousColumn, secondColumn};
 ghost use Rattle.pending.specs.Ready.{readyIn};
 ghost use Rattle.integration.specs.Placements.{placementOf};
 ghost use Rattle.woot.specs.Placing.{integrateInsert, integrateToggle};
 ghost use Rattle.woot.specs.Table.{key, keys};
-ghost use Rattle.delivery.specs.Work.{Lent, workAs, Workable, Placed, Targeted};
+ghost use Rattle.delivery.specs.Work.{Lent, Swept, workAs, Workable, PlacedAs, Insertable, Placed, Targeted};
 ghost use Rattle.delivery.specs.Work.{dueIn, steppedIn, finishedIn, finished};
 ghost use Rattle.delivery.specs.Steps.{toggledAt, placeOf};
 
@@ -45,7 +47,25 @@ pub struct Progress {
     pub discarded: usize,
 }
 
-// Clears what is not in use, so that the arrays are those that the rules' lists are stored in.
+// Clears the slots that are not in use. The table stays as it is: whoever puts a character in makes it anew. A step of the
+// calls and not a call: they have checked the replica.
+pub fn sweep(characters: &mut [u32], toggles: &mut [u8], pending: &mut [u32], n: usize, w: usize)
+    requires { ⌜ length (now characters) ≡ characterNumbers ⌝ }
+    requires { ⌜ length (now toggles) ≡ characterSlots ⌝ }
+    requires { ⌜ length (now pending) ≡ pendingNumbers ⌝ }
+    requires { ⌜ n ≤ characterSlots ⌝ }
+    requires { ⌜ w ≤ pendingSlots ⌝ }
+    ensures { λ _. ⌜ ((hs ls : List ℕ)
+        → Lent (columnsAs (now (characters .entry)) (now (toggles .entry)) n (now (pending .entry)) w hs ls)
+        → Swept (columnsAs (now (characters .exit)) (now (toggles .exit)) n (now (pending .exit)) w hs ls)
+        (charactersIn (columnsAs (now (characters .entry)) (now (toggles .entry)) n (now (pending .entry)) w hs ls))
+        (operationsIn (columnsAs (now (characters .entry)) (now (toggles .entry)) n (now (pending .entry)) w hs ls))) ⌝ }
+{
+    characters::clear(characters, toggles, n);
+    edits::clear(pending, w);
+}
+
+// Clears what is not in use and makes the table anew, so that the arrays are those that the rules' lists are stored in.
 fn clear(
     characters: &mut [u32],
     toggles: &mut [u8],
@@ -65,8 +85,8 @@ fn clear(
         (operationsIn (columnsAs (now (characters .entry)) (now (toggles .entry)) n (now (pending .entry)) w
         (now (heads .entry)) (now (links .entry)))) ⌝ }
 {
-    characters::clear(characters, toggles, heads, links, n);
-    edits::clear(pending, w);
+    sweep(characters, toggles, pending, n, w);
+    chains::enter_all(characters, n, heads, links);
 }
 
 // Where an insert goes among the first n characters.
@@ -262,7 +282,40 @@ fn drain(
 }
 
 // Puts in an insert after the first k characters, and carries out all that it released. A step of the calls and not a
-// call: they have checked the replica and found the place.
+// call: they have found the place, and the slots that are not in use are clear.
+pub fn put_in(
+    characters: &mut [u32],
+    toggles: &mut [u8],
+    pending: &mut [u32],
+    heads: &mut [u16],
+    links: &mut [u16],
+    n: usize,
+    w: usize,
+    k: usize,
+    insert: Insert,
+) -> Progress
+    requires { ⌜ length (now characters) ≡ characterNumbers ⌝ }
+    requires { ⌜ length (now pending) ≡ pendingNumbers ⌝ }
+    requires { ⌜ Insertable
+        (columnsAs (now characters) (now toggles) n (now pending) w (now heads) (now links)) insert k ⌝ }
+    ensures { λ r. ⌜ ((cs : List Character) (ps : List Operation)
+        → PlacedAs (columnsAs (now (characters .entry)) (now (toggles .entry)) n (now (pending .entry)) w
+        (now (heads .entry)) (now (links .entry))) insert k cs ps
+        → (workAs (now (characters .exit)) (now (toggles .exit)) (now (pending .exit)) (now (heads .exit))
+        (now (links .exit)) r)
+        ≡ finished (integrateInsert cs insert) ps 1 0) ⌝ }
+{
+    characters::put_in(characters, toggles, heads, links, n, k, insert);
+    let progress = Progress {
+        length: n + 1,
+        waiting: w,
+        integrated: 1,
+        discarded: 0,
+    };
+    drain(characters, toggles, pending, heads, links, progress)
+}
+
+// The same where what is not in use may hold anything.
 pub fn integrate(
     characters: &mut [u32],
     toggles: &mut [u8],
@@ -285,15 +338,8 @@ pub fn integrate(
         (operationsIn (columnsAs (now (characters .entry)) (now (toggles .entry)) n (now (pending .entry)) w
         (now (heads .entry)) (now (links .entry)))) 1 0 ⌝ }
 {
-    clear(characters, toggles, pending, heads, links, n, w);
-    characters::put_in(characters, toggles, heads, links, n, k, insert);
-    let progress = Progress {
-        length: n + 1,
-        waiting: w,
-        integrated: 1,
-        discarded: 0,
-    };
-    drain(characters, toggles, pending, heads, links, progress)
+    sweep(characters, toggles, pending, n, w);
+    put_in(characters, toggles, pending, heads, links, n, w, k, insert)
 }
 
 // Gives the character in a slot the larger count of toggles. A step of the calls and not a call: they have checked the

@@ -1,56 +1,31 @@
--- `delivery::integrate` clears what is not in use, puts the character in, and drains what waits for it.
+-- `delivery::integrate` clears what is not in use, and puts the character in.
 use native.Mathlib.Omega.{arith}
-use mathlib.Core.Path.{refl, _∙_}
-use Rattle.memory.proofs.Stored.{document-parts}
-use Rattle.delivery.proofs.Changes.{placed-parts}
-use Rattle.delivery.proofs.Carrying.{carried-workable, carried-finished}
+use mathlib.Core.Path.{refl}
+use Rattle.delivery.proofs.Carrying.{placed-as}
 use borrow.Author.Needs.{needs}
 use Rattle.delivery.proofs.integrate.Statement.{statement}
 use Rattle.delivery.proofs.integrate.Tie as tie
 
+sweep-requires : tie.Need-sweep-requires
+sweep-requires c κs =
+    let p = c .before .before .before .before .before .before .before .before .pre in
+    let l = p .1 .1 .lent in
+    (p .0, (l .slots .toggles, (p .1 .0, (l .few, l .few-pending))))
+
 put-in-requires : tie.Need-put-in-requires
 put-in-requires c κs =
-    let p = c .before .before .before .before .before .before .before .before .before .before .before .before .before .before .before .before .before .before .before .before .before .before .before .before .before .pre .1 .1 in
-    let l = p .lent in
-    (p .place, (p .room, (omega (arith, c .before .before .before .before .before .before .before .before .before .before .before .before .before .before .before .before .before .before .before .before .before .before .before .before .before .pre .0, c .before .before .before .before .before .before .before .before .before .before .before .before .before .before .clear .kept .0), (omega (arith, l .slots .toggles, c .before .before .before .before .before .before .before .before .before .before .before .before .before .before .clear .kept .1 .0), (omega (arith, l .slots .heads, c .before .before .before .before .before .before .before .before .before .before .before .before .before .before .clear .kept .1 .1 .1 .0), omega (arith, l .slots .links, c .before .before .before .before .before .before .before .before .before .before .before .before .before .before .clear .kept .1 .1 .1 .1 .0))))))
-
-add-t30 : tie.Need-add-t30
-add-t30 c =
-    let p = c .before .before .before .before .before .before .before .before .before .before .before .before .before .before .before .before .before .before .before .before .before .before .before .before .before .before .before .before .before .before .before .before .before .before .pre .1 .1 in
-    let l = p .lent in
-    omega (arith, p .room)
-
-drain-requires : tie.Need-drain-requires
-drain-requires c κs =
-    let p = c .before .before .before .before .before .before .before .before .before .before .before .before .before .before .before .before .before .before .before .before .before .before .before .before .before .before .before .before .before .before .before .before .before .before .before .before .before .before .before .pre .1 .1 in
-    let l = p .lent in
-    let e = c .before .before .before .before .before .before .before .before .before .before .before .before .before .put-in .ensures in
-    (omega (arith, c .before .before .before .before .before .before .before .before .before .before .before .before .before .before .before .before .before .before .before .before .before .before .before .before .before .before .before .before .before .before .before .before .before .before .before .before .before .before .before .pre .0, c .before .before .before .before .before .before .before .before .before .before .before .before .before .before .before .before .before .before .before .before .before .before .before .before .before .before .before .before .clear .kept .0, c .before .before .before .before .before .before .before .before .before .before .before .before .before .put-in .kept .0), (omega (arith, c .before .before .before .before .before .before .before .before .before .before .before .before .before .before .before .before .before .before .before .before .before .before .before .before .before .before .before .before .before .before .before .before .before .before .before .before .before .before .before .pre .1 .0, c .before .before .before .before .before .before .before .before .before .before .before .before .before .before .before .before .before .before .before .before .before .before .before .before .before .before .before .before .clear .kept .1 .1 .0), carried-workable (placed-parts (document-parts (c .before .before .before .before .before .before .before .before .before .before .before .before .before .before .before .before .before .before .before .before .before .before .before .before .before .before .before .before .clear .ensures)) _ _ (p .room) (e .0) (e .1 .0) (e .1 .1 .0) (e .1 .1 .1 .0) (e .1 .1 .1 .1 .0) (e .1 .1 .1 .1 .1)) (p .result) refl refl (p .sound)))
-
-same-length : tie.Need-same-length
-same-length c = omega (arith, c .before .before .before .before .before .before .before .before .before .before .drain .kept .0, c .before .before .before .before .before .before .before .before .before .before .before .before .before .before .before .before .before .before .before .before .before .before .before .before .before .before .before .before .before .before .before .before .before .before .before .before .before .before .before .clear .kept .0, c .before .before .before .before .before .before .before .before .before .before .before .before .before .before .before .before .before .before .before .before .before .before .before .before .put-in .kept .0)
-
-same-length-2 : tie.Need-same-length-2
-same-length-2 c = omega (arith, c .before .before .before .before .before .before .before .before .before .before .drain .kept .1 .0, c .before .before .before .before .before .before .before .before .before .before .before .before .before .before .before .before .before .before .before .before .before .before .before .before .before .before .before .before .before .before .before .before .before .before .before .before .before .before .before .clear .kept .1 .0, c .before .before .before .before .before .before .before .before .before .before .before .before .before .before .before .before .before .before .before .before .before .before .before .before .put-in .kept .1 .0)
-
-same-length-3 : tie.Need-same-length-3
-same-length-3 c = omega (arith, c .before .before .before .before .before .before .before .before .before .before .drain .kept .1 .1 .0, c .before .before .before .before .before .before .before .before .before .before .before .before .before .before .before .before .before .before .before .before .before .before .before .before .before .before .before .before .before .before .before .before .before .before .before .before .before .before .before .clear .kept .1 .1 .0)
-
-same-length-4 : tie.Need-same-length-4
-same-length-4 c = omega (arith, c .before .before .before .before .before .before .before .before .before .before .drain .kept .1 .1 .1 .0, c .before .before .before .before .before .before .before .before .before .before .before .before .before .before .before .before .before .before .before .before .before .before .before .before .before .before .before .before .before .before .before .before .before .before .before .before .before .before .before .clear .kept .1 .1 .1 .0, c .before .before .before .before .before .before .before .before .before .before .before .before .before .before .before .before .before .before .before .before .before .before .before .before .put-in .kept .1 .1 .0)
-
-same-length-5 : tie.Need-same-length-5
-same-length-5 c = omega (arith, c .before .before .before .before .before .before .before .before .before .before .drain .kept .1 .1 .1 .1 .0, c .before .before .before .before .before .before .before .before .before .before .before .before .before .before .before .before .before .before .before .before .before .before .before .before .before .before .before .before .before .before .before .before .before .before .before .before .before .before .before .clear .kept .1 .1 .1 .1 .0, c .before .before .before .before .before .before .before .before .before .before .before .before .before .before .before .before .before .before .before .before .before .before .before .before .put-in .kept .1 .1 .1 .0)
+    let p = c .before .before .before .before .before .before .before .before .before .before .before .before .before .before .before .before .before .before .before .before .pre in
+    let s = c .before .before .before .before .before .before .before .before .before .before .before .sweep in
+    (omega (arith, p .0, s .kept .0), (omega (arith, p .1 .0, s .kept .1 .1 .0), record { characters = _; pending = _; placed = placed-as (p .1 .1) (s .ensures _ _ (p .1 .1 .lent)) refl refl (s .kept .1 .0) }))
 
 returns : tie.Need-returns
 returns c =
-    let p = c .before .before .before .before .before .before .before .before .before .before .before .before .before .before .before .before .before .before .before .before .before .before .before .before .before .before .before .before .before .before .before .before .before .before .before .before .before .before .before .before .before .before .before .before .before .before .before .before .before .before .pre .1 .1 in
-    let l = p .lent in
-    let e = c .before .before .before .before .before .before .before .before .before .before .before .before .before .before .before .before .before .before .before .before .before .before .before .before .put-in .ensures in
-    c .before .before .before .before .before .before .before .before .before .before .drain .ensures ∙ carried-finished (placed-parts (document-parts (c .before .before .before .before .before .before .before .before .before .before .before .before .before .before .before .before .before .before .before .before .before .before .before .before .before .before .before .before .before .before .before .before .before .before .before .before .before .before .before .clear .ensures)) _ _ (p .room) (e .0) (e .1 .0) (e .1 .1 .0) (e .1 .1 .1 .0) (e .1 .1 .1 .1 .0) (e .1 .1 .1 .1 .1)) (p .result) refl refl (p .sound)
+    let p = c .before .before .before .before .before .before .before .before .before .before .before .before .before .before .before .before .before .before .before .before .before .before .before .before .before .before .before .before .before .before .before .pre .1 .1 in
+    let s = c .before .before .before .before .before .before .before .before .before .before .before .before .before .before .before .before .before .before .before .before .before .before .sweep in
+    c .before .before .before .before .before .before .before .before .before .before .put-in .ensures _ _ (placed-as p (s .ensures _ _ (p .lent)) refl refl (s .kept .1 .0))
 
 pub integrate-spec : {M : Type 1} → statement M
 integrate-spec =
     tie.close
-    (tie.spec (λ c κs. search needs) put-in-requires add-t30 drain-requires same-length same-length-2 same-length-3
-    same-length-4 same-length-5 returns)
+    (tie.spec sweep-requires put-in-requires (λ c. search needs) (λ c. search needs) (λ c. search needs)
+    (λ c. search needs) (λ c. search needs) returns)

@@ -2,7 +2,7 @@
 use native.Mathlib.Omega.{arith}
 use mathlib.Core.Path.{_≡_, refl, sym, _∙_}
 use Rattle.index.proofs.Sound.{sound-apart}
-use Rattle.delivery.proofs.Works.{work-path}
+use Rattle.delivery.proofs.Works.{work-path, parts-swept}
 use Rattle.delivery.proofs.Changes.{removed-parts, placed-parts, found-parts}
 use Rattle.delivery.proofs.Stepping.{workable-parts, workable-few, workable-slots, workable-tabled, due-within, due-ranged, goes-at, goes-nowhere, toggles-becomes, toggles-found}
 use borrow.Author.Needs.{needs}
@@ -74,7 +74,7 @@ returns c =
     let s = workable-slots k in
     let g = goes-at k _ at _ (sym (c .before .before .before .before .before .before .before .before .before .before .before .before .before .before .before .before .before .before .before .before .before .before .before .before .before .before .before .before .before .operation-at .ensures) ∙ c .before .before .before .before .before .before .before .before .before .before .before .before .before .before .before .before .before .before .before .before .before .before .before .operation .given .1) _ (c .before .before .before .before .before .before .before .before .before .before .before .before .before .before .before .before .before .before .find-place .ensures) _ (sym (c .before .before .before .before .before .before .before .before .before .before .before .before .before .before .before .before .before .place-of .ensures) ∙ c .before .before .before .before .before .before .before .before .before .before .before .before .before .before .before .k .given .1) in
     let e = c .before .before .before .before .before .before .before .before .before .put-in .ensures in
-    work-path (placed-parts (removed-parts (workable-parts k) _ (due-within k _ at) (few .1) (c .before .before .before .before .before .before .before .before .before .before .before .before .before .before .before .before .before .before .before .before .before .before .before .before .before .before .before .remove .ensures .0) (c .before .before .before .before .before .before .before .before .before .before .before .before .before .before .before .before .before .before .before .before .before .before .before .before .before .before .before .remove .ensures .1 .0) (c .before .before .before .before .before .before .before .before .before .before .before .before .before .before .before .before .before .before .before .before .before .before .before .before .before .before .before .remove .ensures .1 .1 .0) (c .before .before .before .before .before .before .before .before .before .before .before .before .before .before .before .before .before .before .before .before .before .before .before .before .before .before .before .remove .ensures .1 .1 .1)) _ _ (g .room) (e .0) (e .1 .0) (e .1 .1 .0) (e .1 .1 .1 .0) (e .1 .1 .1 .1 .0) (e .1 .1 .1 .1 .1)) refl refl ∙ sym (g .becomes)
+    work-path (placed-parts (parts-swept (removed-parts (workable-parts k) _ (due-within k _ at) (few .1) (c .before .before .before .before .before .before .before .before .before .before .before .before .before .before .before .before .before .before .before .before .before .before .before .before .before .before .before .remove .ensures .0) (c .before .before .before .before .before .before .before .before .before .before .before .before .before .before .before .before .before .before .before .before .before .before .before .before .before .before .before .remove .ensures .1 .0) (c .before .before .before .before .before .before .before .before .before .before .before .before .before .before .before .before .before .before .before .before .before .before .before .before .before .before .before .remove .ensures .1 .1 .0) (c .before .before .before .before .before .before .before .before .before .before .before .before .before .before .before .before .before .before .before .before .before .before .before .before .before .before .before .remove .ensures .1 .1 .1))) _ _ (g .room) (e .0) (e .1 .0) (e .1 .1 .0) (e .1 .1 .1 .0) (e .1 .1 .1 .1 .0) (e .1 .1 .1 .1 .1)) refl refl ∙ sym (g .becomes)
 
 sub-t39 : tie.Need-sub-t39
 sub-t39 c =
