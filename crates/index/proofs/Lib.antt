@@ -1,4 +1,5 @@
 pub mod Walks
+pub mod Near
 pub mod Slots
 pub mod Tables
 pub mod Agreeing

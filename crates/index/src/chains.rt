@@ -1,6 +1,7 @@
 // The table of keys: looking up a key, whether a table agrees with its keys, and the table of given keys.
 ghost use mathlib.Core.Path.{_≡_};
-ghost use Prim.Native.Nat.{_*_, _<_, _≤_};
+ghost use mathlib.Core.Bool.{true};
+ghost use Prim.Native.Nat.{_+_, _*_, _<_, _≤_};
 ghost use lib.ListN.{length, take, replicate};
 ghost use Rattle.woot.specs.Table.{chainOf, slot, lookup, foundAt, agrees, freeSlot, tableOf, chains, tableLinks};
 ghost use Rattle.woot.specs.Memory.{characterSlots};
@@ -48,6 +49,47 @@ pub fn lookup<'a>(heads: &'a [u16], links: &'a [u16], keys: &'a [u32], key: u32)
     0
 }
 
+// A link as a place.
+fn place(link: u16) -> usize
+    ensures { λ r. ⌜ r ≡ link ⌝ }
+    ensures { λ r. ⌜ r < 65536 ⌝ }
+{
+    link as usize
+}
+
+// The head of a chain where it is a place up to that of the index, and else the first place, so that there is something
+// to look at in any case.
+fn believed(head: usize, i: usize) -> usize
+    requires { ⌜ head < 65536 ⌝ }
+    ensures { λ r. ⌜ 0 < r ⌝ }
+    ensures { λ r. ⌜ r ≤ i + 1 ⌝ }
+    ensures { λ r. ⌜ r < 65536 ⌝ }
+{
+    if 0 < head {
+        if head <= i {
+            return head;
+        }
+    }
+    1
+}
+
+// Whether the key at the index is seen to be found there in one step or two, as most are. Both steps are always looked
+// at: to go by the first would be a guess at each key, and guesses that fail take more time than the second step.
+fn found_near<'a>(heads: &'a [u16], links: &'a [u16], keys: &'a [u32], i: usize) -> bool
+    requires { ⌜ length (now heads) ≡ chains ⌝ }
+    requires { ⌜ 2 * length (now keys) ≤ length (now links) ⌝ }
+    requires { ⌜ i < length (now keys) ⌝ }
+    ensures { λ r. ⌜ (r ≡ true → foundAt (record { heads = now (heads .entry); links = now (links .entry) })
+        (now (keys .entry)) i ≡ true) ⌝ }
+{
+    let key = keys[i];
+    let head = place(heads[chain(key)]);
+    let at = believed(head, i);
+    let next = place(links[slot(at, key)]);
+    let second = crate::both(crate::both(at == head, keys[at - 1] != key), next == i + 1);
+    crate::either(head == i + 1, second)
+}
+
 // Whether the key at the index is found there.
 fn found_at<'a>(heads: &'a [u16], links: &'a [u16], keys: &'a [u32], i: usize) -> bool
     requires { ⌜ length (now heads) ≡ chains ⌝ }
@@ -56,6 +98,9 @@ fn found_at<'a>(heads: &'a [u16], links: &'a [u16], keys: &'a [u32], i: usize) -
     ensures { λ r. ⌜ r
         ≡ foundAt (record { heads = now (heads .entry); links = now (links .entry) }) (now (keys .entry)) i ⌝ }
 {
+    if found_near(heads, links, keys, i) {
+        return true;
+    }
     lookup(heads, links, keys, keys[i]) == i + 1
 }
 
@@ -97,13 +142,6 @@ fn free_slot(links: &[u16], n: usize, head: usize, key: u32) -> usize
         next = links[free] as usize;
     }
     free
-}
-
-// A link as a place.
-fn place(link: u16) -> usize
-    ensures { λ r. ⌜ r ≡ link ⌝ }
-{
-    link as usize
 }
 
 // No place in any slot.

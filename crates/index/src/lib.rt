@@ -5,6 +5,7 @@ pub mod table;
 
 use woot::Identifier;
 ghost use mathlib.Core.Path.{_≡_};
+ghost use mathlib.Core.Bool.{_&&_, _||_};
 ghost use Prim.Native.Nat.{min};
 ghost use Rattle.woot.specs.Table.{key};
 ghost use Rattle.index.specs.Keys.{found, placeIn, Small};
@@ -91,6 +92,26 @@ pub fn place_near<'a>(
         }
     }
     place_of(heads, links, ids, key)
+}
+
+// Whether both hold. A test made of these has no way out before its end, so that a processor need not guess.
+pub fn both(a: bool, b: bool) -> bool
+    ensures { λ r. ⌜ r ≡ a && b ⌝ }
+{
+    if a {
+        return b;
+    }
+    false
+}
+
+// Whether one of them holds.
+pub fn either(a: bool, b: bool) -> bool
+    ensures { λ r. ⌜ r ≡ a || b ⌝ }
+{
+    if a {
+        return true;
+    }
+    b
 }
 
 // The lesser of two numbers.

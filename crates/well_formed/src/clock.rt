@@ -1,6 +1,5 @@
 // Whether a site's clock reaches the identifiers with the keys that a replica holds. As for the ranges, neither the
 // test nor the loop has a way out.
-use crate::numbers;
 use woot::Site;
 ghost use mathlib.Core.Path.{_≡_};
 ghost use Prim.Native.Nat.{_≤_};
@@ -12,7 +11,7 @@ ghost use Rattle.well_formed.specs.Form.{reachesKey};
 fn reaches(site: Site, key: u32) -> bool
     ensures { λ r. ⌜ r ≡ reachesKey site key ⌝ }
 {
-    numbers::either(
+    index::either(
         key / 65536 != site.number as u32,
         key % 65536 <= site.clock as u32,
     )
@@ -26,7 +25,7 @@ pub fn reaches_all(site: Site, keys: &[u32], n: usize) -> bool
     let mut kept = true;
     let mut i = 0;
     while i < n {
-        kept = numbers::both(kept, reaches(site, keys[i]));
+        kept = index::both(kept, reaches(site, keys[i]));
         i += 1;
     }
     kept

@@ -1,5 +1,7 @@
 // The ranges of characters and of pending operations, on their numbers. Tests and loops have no way out, so that
 // several characters are looked at at once.
+use index::both;
+use index::either;
 ghost use mathlib.Core.Path.{_≡_};
 ghost use mathlib.Core.Bool.{_&&_, _||_};
 ghost use Prim.Native.Nat.{_≤_};
@@ -9,26 +11,6 @@ ghost use Rattle.woot.specs.Operations.{origin};
 ghost use Rattle.woot.specs.Ranges.{codePoint, characterId, previousId, nextId, insertInRange, characterInRange};
 ghost use Rattle.woot.specs.Ranges.{inRange};
 ghost use Rattle.woot.specs.Memory.{identifier, characterOf, charactersOf, operationOf, operationsOf};
-
-// Whether both hold.
-pub fn both(a: bool, b: bool) -> bool
-    ensures { λ r. ⌜ r ≡ a && b ⌝ }
-{
-    if a {
-        return b;
-    }
-    false
-}
-
-// Whether one of them holds.
-pub fn either(a: bool, b: bool) -> bool
-    ensures { λ r. ⌜ r ≡ a || b ⌝ }
-{
-    if a {
-        return true;
-    }
-    b
-}
 
 // Whether a key is one of a character.
 fn character_key(k: u32) -> bool

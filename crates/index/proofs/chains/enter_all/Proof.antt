@@ -81,7 +81,7 @@ loop-again c =
     let l = s .loop in
     let p = c .before .place in
     let k = c .before .before .before .chain in
-    let by = stored (record { heads = l .heads; links = l .links }) (l .i) _ (p .result) (k .result) (p .ensures) (k .ensures .0) in (
+    let by = stored (record { heads = l .heads; links = l .links }) (l .i) _ (p .result) (k .result) (p .ensures .0) (k .ensures .0) in (
       omega arith,
       enter (a .keys .now) (l .i) (omega arith) (l .inv .1) (⊎-elim
           (λ w. by .linked (w .0 .taken) (leb-true _ _ (w .1 .taken)) (w .3 .ensures .0) (w .4) (w .5))
