@@ -258,19 +258,20 @@ pub fn receive_at(replica: Replica, operation: Operation, point: usize) -> Recei
         point,
     );
     let site = carried.site;
+    let document = Document {
+        characters,
+        toggles,
+        length: carried.length,
+        pending,
+        waiting: carried.waiting,
+        table: Table { heads, links },
+    };
+    let mut after = replica;
+    after.site = site;
+    after.document = document;
     ReceiptAt {
         answer,
-        replica: Replica {
-            site,
-            document: Document {
-                characters,
-                toggles,
-                length: carried.length,
-                pending,
-                waiting: carried.waiting,
-                table: Table { heads, links },
-            },
-        },
+        replica: after,
         shift,
     }
 }

@@ -97,20 +97,22 @@ pub fn receive(replica: Replica, operation: Operation) -> Receipt
         operation,
         decision,
     );
+    let answer = answer(decision, carried.integrated, carried.discarded);
     let site = carried.site;
+    let document = Document {
+        characters,
+        toggles,
+        length: carried.length,
+        pending,
+        waiting: carried.waiting,
+        table: Table { heads, links },
+    };
+    let mut after = replica;
+    after.site = site;
+    after.document = document;
     Receipt {
-        answer: answer(decision, carried.integrated, carried.discarded),
-        replica: Replica {
-            site,
-            document: Document {
-                characters,
-                toggles,
-                length: carried.length,
-                pending,
-                waiting: carried.waiting,
-                table: Table { heads, links },
-            },
-        },
+        answer,
+        replica: after,
     }
 }
 
@@ -142,24 +144,26 @@ fn send(replica: Replica, made: Made) -> Generated
                 operation,
                 decision,
             );
+            let answer = Sent::Done {
+                operation,
+                integrated: carried.integrated,
+                discarded: carried.discarded,
+            };
             let site = carried.site;
+            let document = Document {
+                characters,
+                toggles,
+                length: carried.length,
+                pending,
+                waiting: carried.waiting,
+                table: Table { heads, links },
+            };
+            let mut after = replica;
+            after.site = site;
+            after.document = document;
             Generated {
-                answer: Sent::Done {
-                    operation,
-                    integrated: carried.integrated,
-                    discarded: carried.discarded,
-                },
-                replica: Replica {
-                    site,
-                    document: Document {
-                        characters,
-                        toggles,
-                        length: carried.length,
-                        pending,
-                        waiting: carried.waiting,
-                        table: Table { heads, links },
-                    },
-                },
+                answer,
+                replica: after,
             }
         }
     }

@@ -24,7 +24,7 @@ returns c =
     let done = c .before .before .before .before .before .before .before .carry in
     let k = done .kept in
     let still = sized-still (full s) (k .0) (k .1 .0) (k .1 .1 .0) (k .1 .1 .1 .0) (k .1 .1 .1 .1 .0) in
-    received-so (s .args .replica) _ (full s) still _ _ _ _ _ (c .answer .ensures) (j .judge .ensures) (done .ensures)
+    received-so (s .args .replica) _ (full s) still _ _ _ _ _ (c .before .answer .ensures) (j .judge .ensures) (done .ensures)
 
 pub receive-spec : {M : Type 1} → statement M
 receive-spec =
