@@ -154,8 +154,8 @@ fn through(ids: &[u32], n: usize, key: u32) -> usize
     }
 }
 
-// How many visible characters do.
-fn visible_through<'a>(ids: &'a [u32], toggles: &'a [u8], n: usize, key: u32) -> usize
+// How many visible characters do. A step of the calls and not a call: they lend arrays of these sizes.
+pub fn visible_through<'a>(ids: &'a [u32], toggles: &'a [u8], n: usize, key: u32) -> usize
     requires { ⌜ n ≤ length (now ids) ⌝ }
     requires { ⌜ n ≤ length (now toggles) ⌝ }
     ensures { λ r. ⌜ ((cs : List Character) → keys cs ≡ take n (now (ids .entry))

@@ -137,7 +137,7 @@ module _ {w : Work} (k : Workable w) (j : ℕ) (at : dueIn w ≡ At j) where
 no-place : {k : ℕ} {A : Type 0} → Nothing ≡ At k → A
 no-place e = absurd (let z : _≡_ {A = ℕ} 0 1 = cc in omega arith)
 
-at-below : (p : Placement) (m : ℕ) → placeOf p ≡ At m → p ≡ Below m
+pub at-below : (p : Placement) (m : ℕ) → placeOf p ≡ At m → p ≡ Below m
 at-below (Below k) m e = let same : k ≡ m = cc in ap Below same
 at-below Missing m e = no-place e
 at-below Crossed m e = no-place e

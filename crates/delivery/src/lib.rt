@@ -66,7 +66,8 @@ pub fn sweep(characters: &mut [u32], toggles: &mut [u8], pending: &mut [u32], n:
 }
 
 // Clears what is not in use and makes the table anew, so that the arrays are those that the rules' lists are stored in.
-fn clear(
+// A step of the calls and not a call: they have checked the replica.
+pub fn clear(
     characters: &mut [u32],
     toggles: &mut [u8],
     pending: &mut [u32],
@@ -89,8 +90,8 @@ fn clear(
     chains::enter_all(characters, n, heads, links);
 }
 
-// Where an insert goes among the first n characters.
-fn find_place<'a>(
+// Where an insert goes among the first n characters. A step of the calls and not a call: their table finds the keys.
+pub fn find_place<'a>(
     heads: &'a [u16],
     links: &'a [u16],
     characters: &'a [u32],
@@ -182,7 +183,7 @@ fn carry_toggle<'a>(
 }
 
 // Where an insert goes in, if there is a place for it.
-fn place_of(placement: Placement) -> Found
+pub fn place_of(placement: Placement) -> Found
     ensures { λ r. ⌜ r ≡ placeOf placement ⌝ }
 {
     match placement {

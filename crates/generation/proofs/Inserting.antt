@@ -1,6 +1,6 @@
 -- What inserting here makes is what the rules say: its checks, in their order, and the insert between two keys.
 use Prim.Native.Nat.{ℕ, _≤_, _<_}
-use mathlib.Core.Path.{_≡_, refl, sym, ap, _∙_}
+use mathlib.Core.Path.{_≡_, refl, sym}
 use mathlib.Core.Bool.{Bool, true, false, cond}
 use mathlib.Core.List.{List}
 use borrow.Author.Tests.{lt-ltb, le-ltb, le-leb, lt-leb}
@@ -14,7 +14,7 @@ use Rattle.woot.specs.declared.Refusal.the-variants.{Position, Clock, Unplaceab
 use Rattle.woot.specs.declared.Sent.the-variants.{Refused as sentRefused}
 use Rattle.memory.specs.Columns.{Replica}
 use Rattle.woot.specs.Limits.{lastClock}
-use Rattle.woot.specs.Ranges.{codePoint, previousId, nextId, inRange}
+use Rattle.woot.specs.Ranges.{codePoint}
 use Rattle.woot.specs.State.{State}
 use Rattle.woot.specs.Pending.{unplaceable}
 use Rattle.woot.specs.Answers.{decided}
@@ -25,21 +25,18 @@ use Rattle.woot.specs.Memory.{identifier, toggleCounts}
 use Rattle.memory.specs.Columns.{meaning}
 use Rattle.convergence.specs.Invariants.{Made}
 use Rattle.convergence.proofs.Forms.{Formed}
-use Rattle.convergence.proofs.Ranges.{in-range}
 use Rattle.convergence.proofs.InsertionPoint.{rightOf}
 use Rattle.convergence.proofs.Steps.{Addable, space-insert, formed-untaken, generated-made}
 use Rattle.integration.specs.declared.Placement.{Placement}
 use Rattle.integration.specs.declared.Placement.the-variants.{Missing, Crossed, Unplaceable, Below}
 use Rattle.integration.specs.Placements.{placementOf}
 use Rattle.integration.proofs.Placements.{says}
-use Rattle.memory.proofs.Characters.{identifier-key}
-use Rattle.memory.proofs.Operations.{KeyedInsert, range-keyed}
-use Rattle.memory.proofs.Bits.{previous-bits, next-bits}
 use Rattle.well_formed.specs.Examined.{Examined}
 use Rattle.well_formed.proofs.Examining.{form, toggles-used, room-counted}
 use Rattle.reception.specs.declared.Decision.the-variants.{Place}
 use Rattle.reception.specs.Decisions.{fullIn, Executed}
 use Rattle.reception.proofs.Inserting.{addable-placed}
+use Rattle.generation.proofs.Neighbours as neighbours
 use Rattle.generation.specs.declared.Made.the-variants.{Refused, Send}
 use Rattle.generation.specs.Decisions.{sentIn, MadeFor, InsertMade}
 
@@ -103,31 +100,18 @@ module _ (r : Replica) (x : Examined r) (g n : ℕ) (coded : codePoint n ≡ tru
       made : Made (meaning r) here
       made = generated-made (meaning r) g n (form r x) coded visible early (formed-untaken (meaning r) (form r x))
 
-      sides : KeyedInsert here
-      unfolding inRange
-      sides = range-keyed (insert here) (made .ranged)
-
       module _ (left right : ℕ) (a : left ≡ key (leftOf (meaning r .characters) g)) (b : right ≡ key (rightOf (meaning r .characters) g)) where
-        previous-told : identifier left ≡ here .previous
-        unfolding generatedInsert
-        previous-told = ap identifier a ∙ identifier-key (here .previous) (sides .previous)
-
-        next-told : identifier right ≡ here .next
-        unfolding generatedInsert
-        next-told = ap identifier b ∙ identifier-key (here .next) (sides .next)
-
         pub left-bits : left < 16777216
-        left-bits = previous-bits left (ap previousId previous-told ∙ in-range here (made .ranged) .previous)
+        left-bits = neighbours.left-bits (meaning r) g n (made .ranged) left right a b
 
         pub right-bits : right < 16777216
-        right-bits = next-bits right (ap nextId next-told ∙ in-range here (made .ranged) .next)
+        right-bits = neighbours.right-bits (meaning r) g n (made .ranged) left right a b
 
         -- what is made between the two keys
         pub insert-made : (i : Insert)
             → i ≡ record { id = nextIdentifier (r .site); «code_point» = n; previous = identifier left; next = identifier right } → i ≡ here
-        unfolding generatedInsert meaning
-        insert-made i e =
-            e ∙ (λ j. record { id = nextIdentifier (r .site); «code_point» = n; previous = previous-told j; next = next-told j })
+        unfolding meaning
+        insert-made i e = neighbours.insert-made (meaning r) g n (made .ranged) left right a b (r .site) refl e
 
       -- ---- its place
 

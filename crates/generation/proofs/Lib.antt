@@ -1,3 +1,4 @@
+pub mod Neighbours
 pub mod Inserting
 pub mod Toggling
 pub mod Judging

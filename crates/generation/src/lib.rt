@@ -31,8 +31,9 @@ pub enum Made {
     Send(Operation, Decision),
 }
 
-// The insert that a site makes next, between the identifiers with two keys.
-fn next_insert(site: Site, left: u32, right: u32, code_point: u32) -> Insert
+// The insert that a site makes next, between the identifiers with two keys. A step of the calls and not a call: they
+// have looked at the clock and read the keys.
+pub fn next_insert(site: Site, left: u32, right: u32, code_point: u32) -> Insert
     requires { ⌜ site .clock < lastClock ⌝ }
     requires { ⌜ left < 16777216 ⌝ }
     requires { ⌜ right < 16777216 ⌝ }
