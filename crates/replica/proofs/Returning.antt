@@ -42,7 +42,7 @@ sized-still s c t p h l =
     record { characters = c ∙ s .characters; toggles = t ∙ s .toggles; pending = p ∙ s .pending; heads = h ∙ s .heads; links = l ∙ s .links }
 
 module _ (b : Replica) (full : FullArrays (b .document)) where
-  whole : (s : State) → viewed b ≡ columns.stored s → b ≡ memory.stored s
+  pub whole : (s : State) → viewed b ≡ columns.stored s → b ≡ memory.stored s
   unfolding memory.stored columns.stored
   whole s e =
       λ j.

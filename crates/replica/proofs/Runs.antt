@@ -145,7 +145,7 @@ within-kept s c w =
     ⊎-elim (λ h. formed-within (outcome s c .state) (form-kept s c h)) (λ h. subst Within (sym (unformed-step s (step s c) h)) w)
     (either (wellFormed s))
 
-ran-stored : (s : State) (cs : List Call) → Within s → ran (stored s) cs ≡ stored (run s cs)
+pub ran-stored : (s : State) (cs : List Call) → Within s → ran (stored s) cs ≡ stored (run s cs)
 ran-stored s [] w = refl
 ran-stored s (c ∷ cs) w = ap (λ r. ran r cs) (called-stored s c w) ∙ ran-stored (outcome s c .state) cs (within-kept s c w)
 
@@ -159,7 +159,7 @@ initial-within n =
     }
 
 -- a beginning has its place in the arrays
-begun-within : (b : Begun) → Within (startOf b)
+pub begun-within : (b : Begun) → Within (startOf b)
 begun-within (empty n) = initial-within n
 
 pub replicas-follow : ReplicasFollow

@@ -27,6 +27,7 @@ use Rattle.index.proofs.Keys.{key-same}
 use Rattle.index.proofs.Agreement.{is-at, at-is, lookup-is-search}
 use Rattle.index.proofs.Sound.{sound-small, sound-tabled}
 use Rattle.replica.proofs.Runs.{form-meant, form-table}
+use Rattle.replica.specs.Theorems.{called}
 use Rattle.replica.specs.Tables.{lookedUp, searchedFor, Searches, AgreesExactly, CalledSearches, BegunSearches}
 use Rattle.replica.proofs.Runs.{formed-within, meaning-stored, table-stored}
 use Rattle.replica.proofs.Kept.{replicas-formed}
@@ -44,10 +45,12 @@ unfolding lookedUp tableAgrees
 agreeing-searches r s h x p =
     lookup-is-search (r .document .table) (keys (meaning r .characters)) h (key x) ∙ searched-keys x (omega arith) (meaning r .characters) s
 
+-- a replica in form
+pub formed-searches : (r : Replica) → replicaWellFormed r ≡ true → Searches r
+formed-searches r f = agreeing-searches r (sound-small (formed _ (form-meant r f) .sound)) (form-table r f)
+
 pub called-searches : CalledSearches
-called-searches r c f =
-    let g = replicas-formed r c f in
-    agreeing-searches _ (sound-small (formed _ (form-meant _ g) .sound)) (form-table _ g)
+called-searches r c f = formed-searches (called r c) (replicas-formed r c f)
 
 -- what is stored of a state in form
 pub stored-searches : (s : State) → wellFormed s ≡ true → Searches (stored s)

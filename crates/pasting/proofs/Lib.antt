@@ -1,0 +1,5 @@
+pub mod Judging
+pub mod Reading
+pub mod Clearing
+pub mod Finishing
+pub mod Replicas

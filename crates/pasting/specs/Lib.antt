@@ -1,0 +1,3 @@
+pub mod Replicas
+pub mod Steps
+pub mod Theorems

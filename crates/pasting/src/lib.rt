@@ -1,0 +1,269 @@
+// Pasting a block of text in UTF-8 at an insertion point, all of it or none: the whole block is looked at, and then its
+// characters are typed one after another. (Document 02, Req 11.)
+use pending::counts;
+use typing::Ended;
+use utf8::Counted;
+use utf8::Decoded;
+use woot::Answer;
+use woot::CHARACTER_NUMBERS;
+use woot::CHARACTERS;
+use woot::CODE_POINTS;
+use woot::Document;
+use woot::PENDING;
+use woot::Refusal;
+use woot::Replica;
+use woot::Site;
+use woot::Table;
+ghost use mathlib.Core.Path.{_≡_};
+ghost use mathlib.Core.Bool.{true, not};
+ghost use mathlib.Core.List.{List, []};
+ghost use mathlib.Core.Option.{some};
+ghost use Prim.Native.Nat.{ℕ, _+_, _≤_};
+ghost use lib.Dec.{eqb, ltb};
+ghost use lib.ListN.{length, take};
+ghost use Rattle.lists.specs.Lists.{every, keep};
+ghost use Rattle.utf8.specs.Decoding.{decoded};
+ghost use Rattle.woot.specs.Limits.{lastClock, capacity};
+ghost use Rattle.woot.specs.Memory.{characterNumbers, characterSlots, pendingSlots};
+ghost use Rattle.woot.specs.Ranges.{codePoint};
+ghost use Rattle.memory.specs.Columns.{meaning};
+ghost use Rattle.memory.specs.Lent.{replicaAs, viewed, Sized};
+ghost use Rattle.typing.specs.Columns.{typedColumns};
+ghost use Rattle.typing.specs.Steps.{Unwritten, pointsIn, AllTyped};
+ghost use Rattle.pasting.specs.Replicas.{pastedBy};
+ghost use Rattle.pasting.specs.Steps.{Spacious, BlockJudged, Readable, Pasteable};
+
+// What pasting returns: the answer, the replica as it is then, and the characters that it typed, in sequence, from
+// which a caller writes their insert lines. They lie as a document's do, each in the same slot of four columns, with
+// zeros behind the last.
+pub struct Pasted {
+    pub answer: Answer,
+    pub replica: Replica,
+    pub typed: [u32; CHARACTER_NUMBERS],
+    pub count: usize,
+}
+
+// What is known of a block before a character of it is typed.
+pub enum Judged {
+    // It is refused, or empty.
+    Answered(Answer),
+    // The clock and the room are enough for it.
+    Enough,
+}
+
+// Whether the clock cannot reach so many characters more.
+fn clock_short(site: Site, count: usize) -> bool
+    ensures { λ r. ⌜ r ≡ ltb lastClock (site .clock + count) ⌝ }
+{
+    let left = (65535 - site.clock) as usize;
+    left < count
+}
+
+// Whether n characters, the inserts among the first w pending operations and so many characters more exceed a document.
+fn overfull(n: usize, own: &[u32], w: usize, count: usize) -> bool
+    requires { ⌜ n ≤ characterSlots ⌝ }
+    requires { ⌜ w ≤ pendingSlots ⌝ }
+    requires { ⌜ w ≤ length (now own) ⌝ }
+    ensures { λ r. ⌜ r
+        ≡ ltb capacity (n + length (keep (λ k. not (eqb k 0)) (take w (now (own .entry)))) + count) ⌝ }
+{
+    if CHARACTERS < count {
+        return true;
+    }
+    CHARACTERS < n + counts::count_inserts(&own[..w]) + count
+}
+
+// What is known of a block of so many characters, by the replica on lent arrays.
+fn judge<'a>(
+    site: Site,
+    characters: &'a [u32],
+    toggles: &'a [u8],
+    n: usize,
+    pending: &'a [u32],
+    w: usize,
+    heads: &'a [u16],
+    links: &'a [u16],
+    point: usize,
+    count: usize,
+) -> Judged
+    requires { ⌜ Sized (now characters) (now toggles) (now pending) (now heads) (now links) ⌝ }
+    ensures { λ r. ⌜ BlockJudged (replicaAs site (now (characters .entry)) (now (toggles .entry)) n
+        (now (pending .entry)) w (now (heads .entry)) (now (links .entry))) point count r ⌝ }
+{
+    if !well_formed::check(site, characters, toggles, n, pending, w, heads, links) {
+        return Judged::Answered(Answer::Refused(Refusal::Form));
+    }
+    if visible::count(toggles, n) < point {
+        return Judged::Answered(Answer::Refused(Refusal::Position));
+    }
+    if clock_short(site, count) {
+        return Judged::Answered(Answer::Refused(Refusal::Clock));
+    }
+    if overfull(n, &pending[0..PENDING], w, count) {
+        return Judged::Answered(Answer::Refused(Refusal::DocumentFull));
+    }
+    if count == 0 {
+        return Judged::Answered(Answer::Done {
+            integrated: 0,
+            discarded: 0,
+        });
+    }
+    Judged::Enough
+}
+
+// Reads the code points of a block into the fourth column.
+fn read(block: &[u8], typed: &mut [u32])
+    requires { ⌜ length (now typed) ≡ characterNumbers ⌝ }
+    requires { ⌜ Readable (now block) ⌝ }
+    requires { ⌜ Unwritten [] (now typed) ⌝ }
+    ensures { λ _. ⌜ ((ns : List ℕ) → decoded (now (block .entry)) ≡ some ns → Unwritten ns (now (typed .exit))) ⌝ }
+{
+    let mut at = 0;
+    let mut i = 0;
+    while at < block.len() {
+        let head = utf8::decode(block, at);
+        match head {
+            Decoded::CodePoint { code_point, next } => {
+                typed[CODE_POINTS + i] = code_point;
+                at = next;
+                i += 1;
+            }
+            Decoded::End => return,
+            Decoded::Malformed => return,
+        }
+    }
+}
+
+// An answer with the very replica, where nothing is typed.
+fn untyped(replica: Replica, answer: Answer) -> Pasted
+    ensures { λ r. ⌜ r ≡ record { answer = answer; replica = replica; typed = typedColumns []; count = 0 } ⌝ }
+{
+    Pasted {
+        answer,
+        replica,
+        typed: [0u32; CHARACTER_NUMBERS],
+        count: 0,
+    }
+}
+
+// Types the first code points of the fourth column on arrays that are cleared once.
+fn type_points(
+    characters: &mut [u32],
+    toggles: &mut [u8],
+    pending: &mut [u32],
+    heads: &mut [u16],
+    links: &mut [u16],
+    typed: &mut [u32],
+    site: Site,
+    n: usize,
+    w: usize,
+    point: usize,
+    count: usize,
+) -> Ended
+    requires { ⌜ Sized (now characters) (now toggles) (now pending) (now heads) (now links) ⌝ }
+    requires { ⌜ length (now typed) ≡ characterNumbers ⌝ }
+    requires { ⌜ Unwritten (pointsIn count (now typed)) (now typed) ⌝ }
+    requires { ⌜ every codePoint (pointsIn count (now typed)) ≡ true ⌝ }
+    requires { ⌜ Spacious (replicaAs site (now characters) (now toggles) n (now pending) w (now heads) (now links))
+        point count ⌝ }
+    ensures { λ r. ⌜ AllTyped (meaning (replicaAs site (now (characters .entry)) (now (toggles .entry)) n
+        (now (pending .entry)) w (now (heads .entry)) (now (links .entry)))) point (pointsIn count (now (typed .entry)))
+        (now (typed .exit)) (now (characters .exit)) (now (toggles .exit)) (now (pending .exit)) (now (heads .exit))
+        (now (links .exit)) r ⌝ }
+{
+    delivery::clear(characters, toggles, pending, heads, links, n, w);
+    typing::type_all(
+        characters,
+        toggles,
+        pending,
+        heads,
+        links,
+        typed,
+        site,
+        n,
+        w,
+        point,
+        count,
+    )
+}
+
+// Types a block that the clock and the room are enough for, unless there is no place for one of its characters.
+fn type_block(replica: Replica, point: usize, block: &[u8], count: usize) -> Pasted
+    requires { ⌜ Pasteable (viewed replica) point (now block) count ⌝ }
+    ensures { λ r. ⌜ r ≡ pastedBy replica point (now (block .entry)) ⌝ }
+{
+    let mut typed = [0u32; CHARACTER_NUMBERS];
+    read(block, &mut typed);
+    let mut characters = replica.document.characters;
+    let mut toggles = replica.document.toggles;
+    let mut pending = replica.document.pending;
+    let mut heads = replica.document.table.heads;
+    let mut links = replica.document.table.links;
+    let ended = type_points(
+        &mut characters,
+        &mut toggles,
+        &mut pending,
+        &mut heads,
+        &mut links,
+        &mut typed,
+        replica.site,
+        replica.document.length,
+        replica.document.waiting,
+        point,
+        count,
+    );
+    match ended {
+        Ended::Finished(at) => {
+            let site = at.site;
+            Pasted {
+                answer: Answer::Done {
+                    integrated: at.integrated,
+                    discarded: at.discarded,
+                },
+                replica: Replica {
+                    site,
+                    document: Document {
+                        characters,
+                        toggles,
+                        length: at.length,
+                        pending,
+                        waiting: at.waiting,
+                        table: Table { heads, links },
+                    },
+                },
+                typed,
+                count,
+            }
+        }
+        Ended::Unplaceable => untyped(replica, Answer::Refused(Refusal::Unplaceable)),
+    }
+}
+
+// Pastes a block of text at the insertion point, counted in visible characters. Bytes that are not UTF-8 are refused
+// before the form is looked at, and a document that is too small for the block before a place is looked for.
+// (Document 02, Req 11: pasting.)
+pub fn paste(replica: Replica, point: usize, block: &[u8]) -> Pasted
+    ensures { λ r. ⌜ r ≡ pastedBy replica point (now (block .entry)) ⌝ }
+{
+    match utf8::count(block) {
+        Counted::Malformed => untyped(replica, Answer::Refused(Refusal::NotUtf8)),
+        Counted::Characters(count) => {
+            let judged = judge(
+                replica.site,
+                &replica.document.characters,
+                &replica.document.toggles,
+                replica.document.length,
+                &replica.document.pending,
+                replica.document.waiting,
+                &replica.document.table.heads,
+                &replica.document.table.links,
+                point,
+                count,
+            );
+            match judged {
+                Judged::Answered(answer) => untyped(replica, answer),
+                Judged::Enough => type_block(replica, point, block, count),
+            }
+        }
+    }
+}
