@@ -1,3 +1,4 @@
 pub mod Outputs
 pub mod Saving
 pub mod Totals
+pub mod Columns

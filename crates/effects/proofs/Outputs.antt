@@ -5,7 +5,7 @@ use mathlib.Core.Bool.{Bool, true, false, _||_, not, cond}
 use mathlib.Core.List.{List, [], _∷_}
 use mathlib.Core.Option.{Option, none, some}
 use mathlib.Core.Logic.{_⊎_, inl, inr}
-use Prim.Native.Nat.{ℕ, _+_, _≤_, _<_}
+use Prim.Native.Nat.{ℕ, zero, suc, _+_, _≤_, _<_}
 use native.Mathlib.Omega.{arith}
 use borrow.Author.Tests.{leb-true, leb-false, lt-ltb, le-ltb}
 use lib.Dec.{leb, ltb}
@@ -33,9 +33,11 @@ use Rattle.codec.specs.Operations.{operationLine}
 use Rattle.woot.specs.Memory.{replicaWellFormed}
 use Rattle.replica.specs.Texts.{textOf, textChecks, textWritten, textOut}
 use Rattle.saved.specs.Calls.{bytesOf}
+use Rattle.saving.specs.Documents.{linesIn}
 use Rattle.effects.specs.Results.{result}
 use Rattle.effects.specs.Effects.{Effect, Leaves, quiet, turned, writingNoted, writing, writingBoth}
 use Rattle.effects.specs.Steps.{afterNoting, afterWriting, receiptAtLeft, sentLeft, generatedLeft, textLeft}
+use Rattle.effects.specs.Steps.{receiptAtLeft, linesLeft}
 
 pub leaves-by : {e f : Effect} {r : ℕ} {out line : List ℕ} → e ≡ f → Leaves f r out line → Leaves e r out line
 leaves-by {r = r} {out = out} {line = line} p h = subst (λ (x : Effect). Leaves x r out line) (sym p) h
@@ -177,3 +179,15 @@ module _ (g : Generated) (out line : List ℕ) where
       generatedLeft g out line ≡ writingBoth (Done n m) (bytesOf (g .replica)) (operationLine o) out line
   unfolding generatedLeft sentLeft
   sent-both h = rw h
+
+-- ---- sending the lines of a block
+
+module _ (a : Answer) (r : Replica) (typed : List ℕ) (out line : List ℕ) where
+  pub none-typed : {count : ℕ} → count ≡ 0 → linesLeft a r typed count out line ≡ quiet out line a
+  unfolding linesLeft
+  none-typed h = rw h
+
+  pub some-typed : (count : ℕ) → (count ≡ 0 → ⊥) → linesLeft a r typed count out line ≡ writingBoth a (bytesOf r) (linesIn typed count) out line
+  unfolding linesLeft
+  some-typed zero h = absurd (h refl)
+  some-typed (suc n) h = refl

@@ -49,7 +49,7 @@ sent-changes e = rw e
 pub full-generated : (g : Generated) {vs : List Val} → Is generated.the-row g vs → FullArrays (g .replica .document)
 full-generated g i = full-replica (i .1 .1 .1 .0)
 
-columns-length : (m : ℕ) (ws xs ys zs : List ℕ) → length ws ≤ m → length xs ≤ m → length ys ≤ m → length zs ≤ m
+pub columns-length : (m : ℕ) (ws xs ys zs : List ℕ) → length ws ≤ m → length xs ≤ m → length ys ≤ m → length zs ≤ m
     → length (inColumns m ws xs ys zs) ≡ m + (m + (m + m))
 unfolding inColumns
 columns-length m ws xs ys zs a b c d =

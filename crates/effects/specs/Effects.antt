@@ -7,6 +7,7 @@ use lib.Dec.{ltb}
 use lib.IntN.{ℤ}
 use lib.ListN.{length}
 use Rattle.output.specs.Output.{placed}
+use Rattle.woot.specs.declared.Operation.{Operation}
 use Rattle.woot.specs.declared.Refusal.{Refusal}
 use Rattle.woot.specs.declared.Refusal.the-variants.{Output}
 use Rattle.woot.specs.declared.Answer.{Answer}
@@ -16,6 +17,8 @@ use Rattle.woot.specs.declared.Sent.the-variants.{Done as sentDone, Refused as 
 use Rattle.woot.specs.State.{State}
 use Rattle.woot.specs.Answers.{changes, _⇒_, first, decided}
 use Rattle.woot.specs.Calls.{Outcome}
+use Rattle.woot.specs.Pasting.{PasteOutcome}
+use Rattle.lines.specs.Lines.{concatenated}
 use Rattle.cursor.specs.Bits.{shiftBits}
 use Rattle.codec.specs.Operations.{operationLine}
 use Rattle.saved.specs.Format.{savedBytes}
@@ -74,3 +77,11 @@ sending s (sentRefused q) out line = turned out line q
 
 unfoldable pub afterSending : Outcome Sent → List ℕ → List ℕ → Effect
 afterSending w out line = sending (w .state) (w .answer) out line
+
+-- what pasting leaves: the new state and the lines to send, one after another; with nothing to send nothing is written
+unfoldable pub sendingAll : State → Answer → List Operation → List ℕ → List ℕ → Effect
+sendingAll s a [] out line = quiet out line a
+sendingAll s a (o ∷ os) out line = writingBoth a (savedBytes s) (concatenated operationLine (o ∷ os)) out line
+
+unfoldable pub afterPasting : PasteOutcome → List ℕ → List ℕ → Effect
+afterPasting w out line = sendingAll (w .state) (w .answer) (w .own) out line

@@ -1,5 +1,5 @@
 -- For the proofs of the code alone: what the steps of a call leave, of replicas in memory.
-use Prim.Native.Nat.{ℕ}
+use Prim.Native.Nat.{ℕ, zero, suc}
 use mathlib.Core.Bool.{not, cond}
 use mathlib.Core.List.{List, [], _∷_}
 use Rattle.woot.specs.declared.Replica.{Replica}
@@ -18,6 +18,7 @@ use Rattle.cursor.specs.Bits.{shiftBits}
 use Rattle.codec.specs.Operations.{operationLine}
 use Rattle.replica.specs.Texts.{textOf}
 use Rattle.saved.specs.Calls.{bytesOf}
+use Rattle.saving.specs.Documents.{linesIn}
 use Rattle.effects.specs.Results.{Result, result, silent}
 use Rattle.effects.specs.Effects.{Effect, quiet, turned, writingNoted, writing, writingBoth}
 
@@ -42,6 +43,11 @@ sentLeft (sentRefused q) r out line = turned out line q
 
 unfoldable pub generatedLeft : Generated → List ℕ → List ℕ → Effect
 generatedLeft x out line = sentLeft (x .answer) (x .replica) out line
+
+-- what comes of typing a block: the first operations in columns are sent, and with none nothing is written
+unfoldable pub linesLeft : Answer → Replica → List ℕ → ℕ → List ℕ → List ℕ → Effect
+linesLeft a r typed zero out line = quiet out line a
+linesLeft a r typed (suc n) out line = writingBoth a (bytesOf r) (linesIn typed (suc n)) out line
 
 -- the text of a replica, whose form decides first
 unfoldable pub textLeft : Replica → List ℕ → Effect

@@ -25,11 +25,12 @@ ghost use Rattle.woot.specs.Replicas.{receivedAt};
 ghost use Rattle.codec.specs.Operations.{operationLine};
 ghost use Rattle.saved.specs.Format.{savedBytes};
 ghost use Rattle.saved.specs.Calls.{bytesOf};
-ghost use Rattle.saving.specs.Documents.{stateIn};
+ghost use Rattle.saving.specs.Documents.{stateIn, linesIn};
 ghost use Rattle.effects.specs.Results.{numberOf};
 ghost use Rattle.effects.specs.Effects.{Leaves, writingNoted, writing, writingBoth};
 ghost use Rattle.effects.specs.Steps.{afterNoting, afterWriting, receiptAtLeft};
 ghost use Rattle.effects.specs.Steps.{generatedLeft, textLeft};
+ghost use Rattle.effects.specs.Steps.{receiptAtLeft, linesLeft};
 
 // What is returned once writing was tried, with a note where the length of the second output stands.
 fn after_noting(answer: Answer, note: usize, written: Written) -> u64
@@ -194,6 +195,58 @@ fn save_both<'a>(
     }
 }
 
+// Saves the replica with these arrays and writes the lines of the operations in these columns, or neither: the lines
+// are measured before anything is written.
+fn save_lines<'a>(
+    answer: Answer,
+    site: Site,
+    characters: &'a [u32],
+    toggles: &'a [u8],
+    n: usize,
+    pending: &'a [u32],
+    w: usize,
+    typed: &'a [u32],
+    count: usize,
+    out: &mut [u8],
+    lines: &mut [u8],
+) -> u64
+    requires { ⌜ length (now characters) ≡ characterNumbers ⌝ }
+    requires { ⌜ n ≤ characterSlots ⌝ }
+    requires { ⌜ n ≤ length (now toggles) ⌝ }
+    requires { ⌜ length (now pending) ≡ pendingNumbers ⌝ }
+    requires { ⌜ w ≤ pendingSlots ⌝ }
+    requires { ⌜ length (now typed) ≡ characterNumbers ⌝ }
+    requires { ⌜ count ≤ characterSlots ⌝ }
+    ensures { λ r. ⌜ Leaves (writingBoth answer (savedBytes (stateIn site (now (characters .entry))
+        (now (toggles .entry)) n (now (pending .entry)) w)) (linesIn (now (typed .entry)) count)
+        (now (out .entry)) (now (lines .entry)))
+        r (now (out .exit)) (now (lines .exit)) ⌝ }
+{
+    let space = saving::operations::measure(typed, count, lines.len());
+    match space {
+        Room::Short => results::number_of_refusal(Refusal::Output),
+        Room::Until(length) => {
+            let written = saving::put_replica(
+                Version::Second,
+                site,
+                characters,
+                toggles,
+                n,
+                pending,
+                w,
+                out,
+            );
+            match written {
+                Written::Refused(refusal) => results::number_of_refusal(refusal),
+                Written::Length(saved) => {
+                    saving::operations::put_lines(typed, count, lines);
+                    results::number_of(answer, saved, length)
+                }
+            }
+        }
+    }
+}
+
 // Saves the new replica and writes the line of the operation to be sent, or answers the refusal. A step of the calls
 // and not a call: what they generate leaves the replica well formed.
 pub fn save_and_send(generated: Generated, out: &mut [u8], line: &mut [u8]) -> u64
@@ -229,4 +282,38 @@ pub fn save_and_send(generated: Generated, out: &mut [u8], line: &mut [u8]) -> u
             )
         }
     }
+}
+
+// Saves the new replica and writes the lines of what was typed, or answers and no more where nothing was. A step of the
+// calls and not a call: where something was typed they left the replica well formed.
+pub fn send_lines(
+    answer: Answer,
+    replica: Replica,
+    typed: &[u32],
+    count: usize,
+    out: &mut [u8],
+    lines: &mut [u8],
+) -> u64
+    requires { ⌜ length (now typed) ≡ characterNumbers ⌝ }
+    requires { ⌜ count ≤ characterSlots ⌝ }
+    requires { ⌜ ((count ≡ 0 → ⊥) → replicaWellFormed replica ≡ true) ⌝ }
+    ensures { λ r. ⌜ Leaves (linesLeft answer replica (now (typed .entry)) count (now (out .entry))
+        (now (lines .entry))) r (now (out .exit)) (now (lines .exit)) ⌝ }
+{
+    if count == 0 {
+        return results::number_of(answer, 0, 0);
+    }
+    save_lines(
+        answer,
+        replica.site,
+        &replica.document.characters,
+        &replica.document.toggles,
+        replica.document.length,
+        &replica.document.pending,
+        replica.document.waiting,
+        typed,
+        count,
+        out,
+        lines,
+    )
 }

@@ -40,6 +40,21 @@ slot-at m f xs d i h =
     ∙ ap (λ (ys : List ℕ). getD ys i 0) (pad-take m 0 (map f xs) (length xs) (length-map xs f))
     ∙ map-getD f xs i 0 d h
 
+-- operations are read back from their columns, however many slots these have
+pub operations-back : (m : ℕ) (ps : List Operation) → AllKeyed ps →
+    operationsOf (pad m 0 (map ownKey ps)) (pad m 0 (map firstKey ps)) (pad m 0 (map secondKey ps)) (pad m 0 (map valueOf ps)) (length ps) ≡ ps
+unfolding operationsOf
+operations-back m ps keyed = each-cong _ (λ j. getD ps j blankOperation) (length ps) at ∙ each-all ps blankOperation
+  where
+    slot : (f : Operation → ℕ) (j : ℕ) → j < length ps → getD (pad m 0 (map f ps)) j 0 ≡ f (getD ps j blankOperation)
+    slot f j h = slot-at m f ps blankOperation j h
+
+    at : (j : ℕ) → j < length ps
+        → operationAt (pad m 0 (map ownKey ps)) (pad m 0 (map firstKey ps)) (pad m 0 (map secondKey ps)) (pad m 0 (map valueOf ps)) j ≡ getD ps j blankOperation
+    at j h =
+        rw (slot ownKey j h, slot firstKey j h, slot secondKey j h, slot valueOf j h)
+        (operation-stored (getD ps j blankOperation) (keyed _ (get-member ps j blankOperation h)))
+
 module _ (cs : List Character) (ps : List Operation) where
   pub stored-characters : AllSmall cs → charactersIn (documentOf cs ps) ≡ cs
   unfolding charactersIn documentOf charactersOf characterOf
@@ -63,17 +78,8 @@ module _ (cs : List Character) (ps : List Operation) where
           }
 
   pub stored-operations : AllKeyed ps → operationsIn (documentOf cs ps) ≡ ps
-  unfolding operationsIn documentOf operationsOf
-  stored-operations keyed = each-cong _ (λ j. getD ps j blankOperation) (length ps) at ∙ each-all ps blankOperation
-    where
-      slot : (f : Operation → ℕ) (j : ℕ) → j < length ps → getD (pad pendingSlots 0 (map f ps)) j 0 ≡ f (getD ps j blankOperation)
-      slot f j h = slot-at pendingSlots f ps blankOperation j h
-
-      at : (j : ℕ) → j < length ps
-          → operationAt (pad pendingSlots 0 (map ownKey ps)) (pad pendingSlots 0 (map firstKey ps)) (pad pendingSlots 0 (map secondKey ps)) (pad pendingSlots 0 (map valueOf ps)) j ≡ getD ps j blankOperation
-      at j h =
-          rw (slot ownKey j h, slot firstKey j h, slot secondKey j h, slot valueOf j h)
-          (operation-stored (getD ps j blankOperation) (keyed _ (get-member ps j blankOperation h)))
+  unfolding operationsIn documentOf
+  stored-operations keyed = operations-back pendingSlots ps keyed
 
 -- a state whose identifiers, clocks and counts have the bits of their types
 pub record Storable (s : State) : Type 0 where

@@ -105,6 +105,18 @@ whole-bytes v t d =
     )
     (sym (append-assoc (siteLine v t) (concatenated (characterLine v) (d .characters)) (concatenated (savedLine v) (d .pending))))
 
+-- ---- operations alone
+
+-- with no characters they are the lines of the operations
+pub lines-alone : (is ps ns cs ts os fs ss vs : List ℕ) (w : ℕ) →
+    bodyAs Second (listsOf is ps ns cs ts 0 os fs ss vs w) ≡ concatenated operationLine (operationsOf os fs ss vs w)
+unfolding bodyAs linesAs charactersOf savedLine
+lines-alone is ps ns cs ts os fs ss vs w = concatenated-lines operationLine (operationsOf os fs ss vs w)
+
+pub alone-fits : (is ps ns cs ts os fs ss vs : List ℕ) (w m : ℕ) → length (concatenated operationLine (operationsOf os fs ss vs w)) ≤ m →
+    0 + length (bodyAs Second (listsOf is ps ns cs ts 0 os fs ss vs w)) ≤ m
+alone-fits is ps ns cs ts os fs ss vs w m h = omega (arith, ap length (lines-alone is ps ns cs ts os fs ss vs w))
+
 -- ---- a front and what follows it, measured and then put
 
 module _ (a b bytes out : List ℕ) (all : a ++ b ≡ bytes) {x : Room} (e : x ≡ roomFor (length out) 0 a) where

@@ -8,7 +8,8 @@ use Rattle.woot.specs.declared.Site.{Site}
 use Rattle.woot.specs.declared.Character.{Character}
 use Rattle.woot.specs.declared.Operation.{Operation}
 use Rattle.woot.specs.State.{State}
-use Rattle.woot.specs.Memory.{characterSlots, pendingSlots, column, charactersOf, operationsOf}
+use Rattle.woot.specs.Memory.{characterSlots, pendingSlots, column, keyColumn, previousColumn, nextColumn, codePointColumn, charactersOf, operationsOf}
+use Rattle.codec.specs.Operations.{operationLine}
 use Rattle.saved.specs.declared.Version.{Version}
 use Rattle.saved.specs.Format.{characterLine, savedLine}
 use Rattle.saving.specs.declared.numbered.Line.{Line}
@@ -68,3 +69,14 @@ linesAs v d = map (characterLine v) (d .characters) ++ map (savedLine v) (d .pen
 -- their bytes
 unfoldable pub bodyAs : Version → Lists → List ℕ
 bodyAs v d = concatenated (λ l. l) (linesAs v d)
+
+-- ---- operations alone
+
+-- those whose numbers lie in columns as long as the characters'
+unfoldable pub operationsAmong : List ℕ → ℕ → List Operation
+operationsAmong numbers n =
+    operationsOf (keyColumn numbers) (previousColumn numbers) (nextColumn numbers) (codePointColumn numbers) n
+
+-- their lines one after another
+unfoldable pub linesIn : List ℕ → ℕ → List ℕ
+linesIn numbers n = concatenated operationLine (operationsAmong numbers n)

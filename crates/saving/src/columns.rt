@@ -58,7 +58,7 @@ fn line<'a>(
 }
 
 // Where the lines end that begin at the offset in a slice of the given size.
-fn measure<'a>(
+pub(crate) fn measure<'a>(
     version: Version,
     ids: &'a [u32],
     previous: &'a [u32],
@@ -112,7 +112,7 @@ fn measure<'a>(
 }
 
 // Puts the lines at the offset, where there is room.
-fn put_lines<'a>(
+pub(crate) fn put_lines<'a>(
     version: Version,
     ids: &'a [u32],
     previous: &'a [u32],

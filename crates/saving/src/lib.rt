@@ -1,6 +1,7 @@
 // Writing saved replicas into a lent slice.
 mod columns;
 mod numbered;
+pub mod operations;
 mod site_line;
 
 use saved::Version;

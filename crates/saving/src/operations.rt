@@ -1,0 +1,69 @@
+// Writing the lines of operations one after another, and nothing else: what a pasted block sends. They are the lines of
+// a document that has no characters, so its loops measure and put them.
+use crate::columns;
+use lines::writing::Room;
+use saved::Version;
+use woot::CHARACTER_NUMBERS;
+use woot::CHARACTERS;
+use woot::CODE_POINTS;
+use woot::NEXT_KEYS;
+use woot::PREVIOUS_KEYS;
+ghost use mathlib.Core.Path.{_≡_};
+ghost use Prim.Native.Nat.{_≤_};
+ghost use lib.ListN.{length};
+ghost use Rattle.output.specs.Output.{placed};
+ghost use Rattle.lines.specs.Room.{roomFor};
+ghost use Rattle.woot.specs.Memory.{characterNumbers, characterSlots};
+ghost use Rattle.saving.specs.Documents.{linesIn};
+
+// Where the lines of the first operations end at the front of a slice of the given size. Their numbers lie in columns
+// as those of characters do.
+pub fn measure(numbers: &[u32], count: usize, size: usize) -> Room
+    requires { ⌜ length (now numbers) ≡ characterNumbers ⌝ }
+    requires { ⌜ count ≤ characterSlots ⌝ }
+    ensures { λ r. ⌜ r ≡ roomFor size 0 (linesIn (now (numbers .entry)) count) ⌝ }
+{
+    let none = [0u8];
+    columns::measure(
+        Version::Second,
+        numbers,
+        numbers,
+        numbers,
+        numbers,
+        &none,
+        0,
+        &numbers[..CHARACTERS],
+        &numbers[PREVIOUS_KEYS..NEXT_KEYS],
+        &numbers[NEXT_KEYS..CODE_POINTS],
+        &numbers[CODE_POINTS..CHARACTER_NUMBERS],
+        count,
+        size,
+        0,
+    )
+}
+
+// Puts the lines at the front of the slice, where there is room.
+pub fn put_lines(numbers: &[u32], count: usize, out: &mut [u8])
+    requires { ⌜ length (now numbers) ≡ characterNumbers ⌝ }
+    requires { ⌜ count ≤ characterSlots ⌝ }
+    requires { ⌜ length (linesIn (now numbers) count) ≤ length (now out) ⌝ }
+    ensures { λ _. ⌜ now (out .exit) ≡ placed (now (out .entry)) 0 (linesIn (now (numbers .entry)) count) ⌝ }
+{
+    let none = [0u8];
+    columns::put_lines(
+        Version::Second,
+        numbers,
+        numbers,
+        numbers,
+        numbers,
+        &none,
+        0,
+        &numbers[..CHARACTERS],
+        &numbers[PREVIOUS_KEYS..NEXT_KEYS],
+        &numbers[NEXT_KEYS..CODE_POINTS],
+        &numbers[CODE_POINTS..CHARACTER_NUMBERS],
+        count,
+        out,
+        0,
+    )
+}
