@@ -1,7 +1,7 @@
 -- A call on saved bytes: turned away, it leaves them; where it makes something, that is the bytes of the state which its
 -- calls of the rules leave.
 use Prim.Native.Nat.{ℕ}
-use mathlib.Core.Path.{_≡_, refl, sym, ap, _∙_}
+use mathlib.Core.Path.{_≡_, refl, sym, ap, _∙_, subst}
 use mathlib.Core.Bool.{Bool, true, false, cond, false≢true}
 use mathlib.Core.List.{List, [], _∷_}
 use borrow.Author.Tests.{ltb-false}
@@ -11,24 +11,27 @@ use Rattle.woot.specs.declared.Answer.{Answer}
 use Rattle.woot.specs.declared.Answer.the-variants.{Done, Deferred, Duplicate, Refused}
 use Rattle.woot.specs.declared.Refusal.the-variants.{Layout, Output}
 use Rattle.output.specs.Output.{placed}
+use Rattle.utf8.specs.Decoding.{headOf, decodedSteps, decoded}
 use Rattle.woot.specs.State.{State, initial}
 use Rattle.woot.specs.Form.{wellFormed}
 use Rattle.woot.specs.Answers.{Word, done, waits, known, refused, Reply, reply, _⇒_, first, NoneHolds, decided}
 use Rattle.woot.specs.Histories.{inserting, deleting, restoring, receiving, receivingAt, outcome, run, Call as RuleCall}
+use Rattle.woot.specs.Pasting.{codePointsOf, typings, PasteOutcome, pasted, paste}
 use Rattle.convergence.proofs.Kept.{form-kept}
+use Rattle.convergence.proofs.Pasting.{paste-form-kept}
 use Rattle.convergence.proofs.Steps.{Turned}
 use Rattle.replica.proofs.Runs.{formed-within}
 use Rattle.lines.specs.Lines.{closed}
 use Rattle.lines.specs.Fields.{hasLayout}
 use Rattle.codec.specs.Calls.{saidBy}
 use Rattle.saved.specs.Format.{isSite, headLine, laidOutAs, savedLaidOut, savedBytes}
-use Rattle.saved.specs.Calls.{loadChecks, unread, loaded}
+use Rattle.saved.specs.Calls.{loadChecks, unread, loaded, loadedState}
 use Rattle.saved.proofs.Trips.{saved-loads, saved-reads-back}
 use Rattle.effects.specs.Results.{result, silent}
 use Rattle.effects.specs.Effects.{Effect, quiet}
-use Rattle.wimtaze.specs.Calls.{CCall, «wimtaze_empty», «wimtaze_receive», «wimtaze_receive_at», «wimtaze_type», «wimtaze_erase», «wimtaze_restore», «wimtaze_text», «wimtaze_counts», «wimtaze_upgrade», «wimtaze_downgrade», inputChecks, named, ruleChecks, handedChecks, earlierChecks, callChecks, productOf, effectOf}
+use Rattle.wimtaze.specs.Calls.{CCall, «wimtaze_empty», «wimtaze_receive», «wimtaze_receive_at», «wimtaze_type», «wimtaze_erase», «wimtaze_restore», «wimtaze_paste», «wimtaze_text», «wimtaze_counts», «wimtaze_upgrade», «wimtaze_downgrade», inputChecks, named, ruleChecks, handedChecks, earlierChecks, callChecks, productOf, effectOf}
 use Rattle.wimtaze.proofs.Fitting.{front}
-use Rattle.wimtaze.proofs.Listing.{Earlier, Made, Went, away, lacking, through, went, product-made}
+use Rattle.wimtaze.proofs.Listing.{Earlier, Made, Went, away, lacking, through, went, product-made, paste-taken}
 use Rattle.consistency.specs.Copies.{BytesCall, load, forC, bytesCall, asBytes, bytesAfter, wordOf, keptBytes, afterLoading, whenMade, rulesOf, renews, onBytes, stepOn}
 use Rattle.consistency.proofs.Holding.{Holds, memory, bytes, nothing, Steps, made-none}
 use Rattle.consistency.proofs.Returned.{kept, word-returned, effect-returned}
@@ -37,22 +40,36 @@ use Rattle.consistency.proofs.Returned.{kept, word-returned, effect-ret
 
 -- the bytes of the state that the calls of the rules leave
 pub record Ruled (s : State) (c : CCall) : Type 0 where
-  pub output : productOf c (savedBytes s) .output ≡ savedBytes (run s (rulesOf c))
+  pub output : productOf c (savedBytes s) .output ≡ savedBytes (run s (rulesOf s c))
   pub told : productOf c (savedBytes s) .result .written ≡ length (productOf c (savedBytes s) .output)
-  pub formed : wellFormed (run s (rulesOf c)) ≡ true
+  pub formed : wellFormed (run s (rulesOf s c)) ≡ true
 
-ruled : (s : State) → wellFormed s ≡ true → (c : CCall) → renews c ≡ true → Ruled s c
+-- pasting that is done leaves the state that its typing calls leave
+typings-left : (s : State) → wellFormed s ≡ true → (g : ℕ) (block : List ℕ) → NoneHolds (earlierChecks («wimtaze_paste» g block) (savedBytes s)) →
+    paste s g block .state ≡ run s (typings s g (codePointsOf block))
+unfolding pasted
+typings-left s h g block w = ap (λ (p : PasteOutcome). p .state) (rw (saved-loads s h) at (paste-taken (savedBytes s) g block w .1))
+
+ruled : (s : State) → wellFormed s ≡ true → (c : CCall) → NoneHolds (earlierChecks c (savedBytes s)) → renews c ≡ true → Ruled s c
 unfolding productOf rulesOf renews outcome result
-ruled s h («wimtaze_empty» n) k = absurd (false≢true k)
-ruled s h («wimtaze_receive» l) k = record { output = rw (saved-loads s h); told = refl; formed = form-kept s (receiving (saidBy l)) h }
-ruled s h («wimtaze_receive_at» l g) k = record { output = rw (saved-loads s h); told = refl; formed = form-kept s (receivingAt (saidBy l) g) h }
-ruled s h («wimtaze_type» g n) k = record { output = rw (saved-loads s h); told = refl; formed = form-kept s (inserting g n) h }
-ruled s h («wimtaze_erase» p) k = record { output = rw (saved-loads s h); told = refl; formed = form-kept s (deleting p) h }
-ruled s h («wimtaze_restore» n t) k = record { output = rw (saved-loads s h); told = refl; formed = form-kept s (restoring (named n t)) h }
-ruled s h «wimtaze_text» k = absurd (false≢true k)
-ruled s h «wimtaze_counts» k = absurd (false≢true k)
-ruled s h «wimtaze_upgrade» k = absurd (false≢true k)
-ruled s h «wimtaze_downgrade» k = absurd (false≢true k)
+ruled s h («wimtaze_empty» n) w k = absurd (false≢true k)
+ruled s h («wimtaze_receive» l) w k = record { output = rw (saved-loads s h); told = refl; formed = form-kept s (receiving (saidBy l)) h }
+ruled s h («wimtaze_receive_at» l g) w k = record { output = rw (saved-loads s h); told = refl; formed = form-kept s (receivingAt (saidBy l) g) h }
+ruled s h («wimtaze_type» g n) w k = record { output = rw (saved-loads s h); told = refl; formed = form-kept s (inserting g n) h }
+ruled s h («wimtaze_erase» p) w k = record { output = rw (saved-loads s h); told = refl; formed = form-kept s (deleting p) h }
+ruled s h («wimtaze_restore» n t) w k = record { output = rw (saved-loads s h); told = refl; formed = form-kept s (restoring (named n t)) h }
+ruled s h («wimtaze_paste» g []) w k = absurd (false≢true k)
+ruled s h («wimtaze_paste» g (b ∷ block)) w k =
+    let e = typings-left s h g (b ∷ block) w in
+    record {
+      output = rw (saved-loads s h) (ap savedBytes e);
+      told = refl;
+      formed = subst (λ (t : State). wellFormed t ≡ true) e (paste-form-kept s g (b ∷ block) h);
+    }
+ruled s h «wimtaze_text» w k = absurd (false≢true k)
+ruled s h «wimtaze_counts» w k = absurd (false≢true k)
+ruled s h «wimtaze_upgrade» w k = absurd (false≢true k)
+ruled s h «wimtaze_downgrade» w k = absurd (false≢true k)
 
 -- ---- by how the call went
 
@@ -74,52 +91,54 @@ quiet-word Duplicate t b new rs = (refl, refl)
 quiet-word (Refused q) t b new rs = (refl, refl)
 
 -- a call that does not renew the copy makes no call of the rules
-no-rules : (c : CCall) → renews c ≡ false → rulesOf c ≡ []
-unfolding renews rulesOf
-no-rules («wimtaze_empty» n) k = refl
-no-rules («wimtaze_receive» l) k = absurd (false≢true (sym k))
-no-rules («wimtaze_receive_at» l g) k = absurd (false≢true (sym k))
-no-rules («wimtaze_type» g n) k = absurd (false≢true (sym k))
-no-rules («wimtaze_erase» p) k = absurd (false≢true (sym k))
-no-rules («wimtaze_restore» n t) k = absurd (false≢true (sym k))
-no-rules «wimtaze_text» k = refl
-no-rules «wimtaze_counts» k = refl
-no-rules «wimtaze_upgrade» k = refl
-no-rules «wimtaze_downgrade» k = refl
+no-rules : (s : State) (c : CCall) → renews c ≡ false → rulesOf s c ≡ []
+unfolding renews rulesOf codePointsOf decoded decodedSteps headOf
+no-rules s («wimtaze_empty» n) k = refl
+no-rules s («wimtaze_receive» l) k = absurd (false≢true (sym k))
+no-rules s («wimtaze_receive_at» l g) k = absurd (false≢true (sym k))
+no-rules s («wimtaze_type» g n) k = absurd (false≢true (sym k))
+no-rules s («wimtaze_erase» p) k = absurd (false≢true (sym k))
+no-rules s («wimtaze_restore» n t) k = absurd (false≢true (sym k))
+no-rules s («wimtaze_paste» g []) k = refl
+no-rules s («wimtaze_paste» g (b ∷ block)) k = absurd (false≢true (sym k))
+no-rules s «wimtaze_text» k = refl
+no-rules s «wimtaze_counts» k = refl
+no-rules s «wimtaze_upgrade» k = refl
+no-rules s «wimtaze_downgrade» k = refl
 
 -- refused, there are no bytes still
-refused-holds : (c : CCall) (out line : List ℕ) →
-    Holds (run (initial 0) (whenMade (quiet out line (Refused Layout) .result .reply .word) (rulesOf c))) (asBytes (kept [] (quiet out line (Refused Layout))))
+refused-holds : (rs : List RuleCall) (out line : List ℕ) →
+    Holds (run (initial 0) (whenMade (quiet out line (Refused Layout) .result .reply .word) rs)) (asBytes (kept [] (quiet out line (Refused Layout))))
 unfolding quiet silent result reply whenMade bytesAfter
-refused-holds c out line = nothing
+refused-holds rs out line = nothing
 
 module _ (s : State) (h : wellFormed s ≡ true) where
   went-step : (c : CCall) {out line : List ℕ} {e : Effect} → renews c ≡ true → Went c (savedBytes s) out line e →
-      Holds (run s (whenMade (e .result .reply .word) (rulesOf c))) (asBytes (kept (savedBytes s) e))
+      Holds (run s (whenMade (e .result .reply .word) (rulesOf s c))) (asBytes (kept (savedBytes s) e))
   unfolding quiet silent result
   went-step c {out} {line} k (away a t r) =
-      let q = quiet-word a (t .turned) (savedBytes s) (take 0 out) (rulesOf c) in rw (q .0, q .1) (bytes s h)
+      let q = quiet-word a (t .turned) (savedBytes s) (take 0 out) (rulesOf s c) in rw (q .0, q .1) (bytes s h)
   went-step c {out} {line} k (lacking w f) =
-      let q = quiet-word (Refused Output) tt (savedBytes s) (take 0 out) (rulesOf c) in rw (q .0, q .1) (bytes s h)
+      let q = quiet-word (Refused Output) tt (savedBytes s) (take 0 out) (rulesOf s c) in rw (q .0, q .1) (bytes s h)
   went-step c {out} {line} k (through w f) =
       let p = productOf c (savedBytes s) in
-      let v = ruled s h c k in
+      let v = ruled s h c w k in
       let room = ltb-false (length out) (length (p .output)) (or-false-left _ _ f) in
-      let m = made-word (p .result .reply) (product-made c (savedBytes s) w) (savedBytes s) (take (p .result .written) (placed out 0 (p .output))) (rulesOf c) in
-      rw (m .0, m .1, v .told, front out (p .output) room, v .output) (bytes (run s (rulesOf c)) (v .formed))
+      let m = made-word (p .result .reply) (product-made c (savedBytes s) w) (savedBytes s) (take (p .result .written) (placed out 0 (p .output))) (rulesOf s c) in
+      rw (m .0, m .1, v .told, front out (p .output) room, v .output) (bytes (run s (rulesOf s c)) (v .formed))
 
   c-step : (c : CCall) (out line : List ℕ) → Steps s (asBytes (savedBytes s)) (bytesCall (forC c out line))
   unfolding stepOn onBytes
   c-step c out line =
       let b : List ℕ = savedBytes s in
-      rw (effect-returned c b out line b, word-returned c b out line) (go (renews c) refl)
+      rw (saved-loads s h, effect-returned c b out line b, word-returned c b out line) (go (renews c) refl)
     where
       e : Effect
       e = effectOf c (savedBytes s) out line
 
-      go : (r : Bool) → renews c ≡ r → Holds (run s (whenMade (e .result .reply .word) (rulesOf c))) (asBytes (cond r (kept (savedBytes s) e) (savedBytes s)))
+      go : (r : Bool) → renews c ≡ r → Holds (run s (whenMade (e .result .reply .word) (rulesOf s c))) (asBytes (cond r (kept (savedBytes s) e) (savedBytes s)))
       go true k = went-step c k (went c (savedBytes s) out line)
-      go false k = rw (no-rules c k, made-none (e .result .reply .word)) (bytes s h)
+      go false k = rw (no-rules s c k, made-none (e .result .reply .word)) (bytes s h)
 
   load-step : Steps s (asBytes (savedBytes s)) (bytesCall load)
   unfolding stepOn onBytes afterLoading
@@ -146,6 +165,8 @@ no-bytes-refused («wimtaze_receive_at» l g) k out line = rw no-bytes
 no-bytes-refused («wimtaze_type» g n) k out line = rw no-bytes
 no-bytes-refused («wimtaze_erase» p) k out line = rw no-bytes
 no-bytes-refused («wimtaze_restore» n t) k out line = rw no-bytes
+no-bytes-refused («wimtaze_paste» g []) k out line = absurd (false≢true k)
+no-bytes-refused («wimtaze_paste» g (b ∷ block)) k out line = rw no-bytes
 no-bytes-refused «wimtaze_text» k out line = absurd (false≢true k)
 no-bytes-refused «wimtaze_counts» k out line = absurd (false≢true k)
 no-bytes-refused «wimtaze_upgrade» k out line = absurd (false≢true k)
@@ -156,9 +177,9 @@ unfolding stepOn onBytes
 nothing-c c out line = rw (effect-returned c [] out line [], word-returned c [] out line) (go (renews c) refl)
   where
     go : (r : Bool) → renews c ≡ r →
-        Holds (run (initial 0) (whenMade (effectOf c [] out line .result .reply .word) (rulesOf c))) (asBytes (cond r (kept [] (effectOf c [] out line)) []))
-    go true k = rw (no-bytes-refused c k out line) (refused-holds c out line)
-    go false k = rw (no-rules c k, made-none (effectOf c [] out line .result .reply .word)) nothing
+        Holds (run (initial 0) (whenMade (effectOf c [] out line .result .reply .word) (rulesOf (loadedState []) c))) (asBytes (cond r (kept [] (effectOf c [] out line)) []))
+    go true k = rw (no-bytes-refused c k out line) (refused-holds (rulesOf (loadedState []) c) out line)
+    go false k = rw (no-rules (loadedState []) c k, made-none (effectOf c [] out line .result .reply .word)) nothing
 
 pub nothing-step : (c : BytesCall) → Steps (initial 0) (asBytes []) (bytesCall c)
 unfolding stepOn onBytes afterLoading loaded loadChecks unread decided

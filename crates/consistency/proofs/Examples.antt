@@ -15,7 +15,11 @@ use Rattle.saved.specs.Calls.{loadedAs}
 use Rattle.saved.specs.Format.{siteNumbers, siteOf, isSite, siteSaid, siteLine, toggleField, characterNumbers, characterOf, isCharacter, characterSaid, characterLine, isOperation, operationSaid, savedLine, headLine, characterLines, operationLines, laidOutAs, stateAs, characterWithin, operationWithin, inRangeAs, bytesAs}
 use Rattle.wimtaze.specs.Calls.{inputChecks, oneLine, handedChecks, ruleChecks, productOf, callChecks, effectOf}
 use Rattle.woot.specs.Answers.{decided, reply, changes, answerOf}
-use Rattle.woot.specs.Calls.{unchanged, withCharacters, withPending, afterDrain, insertCarried, duplicate, conflicting, senderFull, documentFull, receiveChecks, carryOut, defer, accept, receiveWhen, receive, visibles, nextIdentifier, generatedInsert, beyondVisible, identifierTaken, insertChecks, sendInsert, localInsertWhen, localInsert, togglesOf, generatedToggle, sendToggle, notVisible, deleteChecks, generatedDelete, localDeleteWhen, localDelete, notHidden, exhausted, restoreChecks, localRestoreWhen, localRestore}
+use Rattle.woot.specs.Calls.{unchanged, allIntegrated, withCharacters, withPending, afterDrain, insertCarried, duplicate, conflicting, senderFull, documentFull, receiveChecks, carryOut, defer, accept, receiveWhen, receive, visibles, nextIdentifier, generatedInsert, beyondVisible, identifierTaken, insertChecks, sendInsert, localInsertWhen, localInsert, togglesOf, generatedToggle, sendToggle, notVisible, deleteChecks, generatedDelete, localDeleteWhen, localDelete, notHidden, exhausted, restoreChecks, localRestoreWhen, localRestore}
+use Rattle.utf8.specs.Encoding.{encodedLength}
+use Rattle.utf8.specs.Decoding.{accepted, continues, continued, headOf, decodedSteps, decoded}
+use Rattle.woot.specs.Histories.{outcome}
+use Rattle.woot.specs.Pasting.{codePointsOf, gapBelow, stopped, unpasted, pasted, clockShort, overfull, pasteChecks, pasteWhen, paste}
 use Rattle.woot.specs.Clock.{ownInsert, heard}
 use Rattle.woot.specs.Cursor.{through, visibleThrough, cursorAfter, receiveAtChecks, receiveAtWhen, receiveAt, newGap, shiftOf, shiftAt}
 use Rattle.woot.specs.Form.{presentInserts, allInRange, sharesKept, capacityKept, identifiersDistinct, togglesDistinct, ordered, neighboursOrdered, noneExecutable, clockReaches, clockKept, wellFormed, raised}
@@ -43,5 +47,6 @@ unfolding asWritten lineLaidOut laidOut saidBy insertNumbers toggleNumbers ident
     sameOperation executable crossed unplaceable integrate pendingFrom earliest andIntegrated andDiscarded drained drainSteps drain sequence indexOf
     placeOf held above adjacent candidate candidates narrowed search position between insertAt integrateInsert integrateToggle within
     siteNumber codePoint characterId previousId nextId siteInRange insertInRange toggleInRange inRange characterInRange initial blankCharacter
-    blankOperation decided
+    blankOperation decided continues continued accepted encodedLength headOf decodedSteps decoded codePointsOf gapBelow stopped
+    unpasted pasted clockShort overfull pasteChecks pasteWhen paste outcome allIntegrated
 calls-example = record { bytes-left = refl; replies = refl; rules-made = refl }

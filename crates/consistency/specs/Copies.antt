@@ -16,6 +16,7 @@ use Rattle.woot.specs.Answers.{Word, done, waits, known, refused, reply, answer
 use Rattle.woot.specs.Text.{text}
 use Rattle.woot.specs.Histories.{inserting, deleting, restoring, receiving, receivingAt, integratedBy, Begun, empty}
 use Rattle.woot.specs.Histories.{Call as RuleCall}
+use Rattle.woot.specs.Pasting.{codePointsOf, typings}
 use Rattle.replica.specs.Theorems.{called, answerTo}
 use Rattle.lent.specs.declared.Returned.{Returned}
 use Rattle.lent.specs.Lent.{together, returned, siteAfter}
@@ -30,6 +31,7 @@ use Rattle.effects.specs.Effects.{Effect}
 use Rattle.wimtaze.specs.Calls.{CCall, «wimtaze_empty», «wimtaze_receive», «wimtaze_receive_at», «wimtaze_type»}
 use Rattle.wimtaze.specs.Calls.{«wimtaze_erase», «wimtaze_restore», «wimtaze_text», «wimtaze_counts», «wimtaze_upgrade»}
 use Rattle.wimtaze.specs.Calls.{«wimtaze_downgrade», named, effectOf}
+use Rattle.wimtaze.specs.Calls.{«wimtaze_paste»}
 
 -- a replica in memory, or the bytes of a saved one
 pub data Copy : Type 0 where
@@ -119,20 +121,22 @@ whenMade waits rs = rs
 whenMade known rs = []
 whenMade refused rs = []
 
--- the calls of the rules that a call for C makes
-unfoldable pub rulesOf : CCall → List RuleCall
-rulesOf («wimtaze_empty» n) = []
-rulesOf («wimtaze_receive» line) = receiving (saidBy line) ∷ []
-rulesOf («wimtaze_receive_at» line gap) = receivingAt (saidBy line) gap ∷ []
-rulesOf («wimtaze_type» gap n) = inserting gap n ∷ []
-rulesOf («wimtaze_erase» place) = deleting place ∷ []
-rulesOf («wimtaze_restore» site clock) = restoring (named site clock) ∷ []
-rulesOf «wimtaze_text» = []
-rulesOf «wimtaze_counts» = []
-rulesOf «wimtaze_upgrade» = []
-rulesOf «wimtaze_downgrade» = []
+-- the calls of the rules that a call for C makes on a state; document 02, Req 11: pasting "equals typing the characters
+-- one after another"
+unfoldable pub rulesOf : State → CCall → List RuleCall
+rulesOf s («wimtaze_empty» n) = []
+rulesOf s («wimtaze_receive» line) = receiving (saidBy line) ∷ []
+rulesOf s («wimtaze_receive_at» line gap) = receivingAt (saidBy line) gap ∷ []
+rulesOf s («wimtaze_type» gap n) = inserting gap n ∷ []
+rulesOf s («wimtaze_erase» place) = deleting place ∷ []
+rulesOf s («wimtaze_restore» site clock) = restoring (named site clock) ∷ []
+rulesOf s («wimtaze_paste» gap block) = typings s gap (codePointsOf block)
+rulesOf s «wimtaze_text» = []
+rulesOf s «wimtaze_counts» = []
+rulesOf s «wimtaze_upgrade» = []
+rulesOf s «wimtaze_downgrade» = []
 
--- whether its first output is the copy as the call leaves it
+-- whether its first output is the copy as the call leaves it; pasting an empty block "writes nothing"
 unfoldable pub renews : CCall → Bool
 renews («wimtaze_empty» n) = false
 renews («wimtaze_receive» line) = true
@@ -140,6 +144,8 @@ renews («wimtaze_receive_at» line gap) = true
 renews («wimtaze_type» gap n) = true
 renews («wimtaze_erase» place) = true
 renews («wimtaze_restore» site clock) = true
+renews («wimtaze_paste» gap []) = false
+renews («wimtaze_paste» gap (b ∷ block)) = true
 renews «wimtaze_text» = false
 renews «wimtaze_counts» = false
 renews «wimtaze_upgrade» = false
@@ -169,7 +175,10 @@ unfoldable pub onBytes : List ℕ → BytesCall → Stepped
 onBytes b load = record { copy = afterLoading b (loaded b .replica) (loaded b .answer); rules = [] }
 onBytes b (forC c out line) =
     let e : Effect = effectOf c b out line in
-    record { copy = asBytes (cond (renews c) (keptBytes b e) b); rules = whenMade (wordOf e) (rulesOf c) }
+    record {
+      copy = asBytes (cond (renews c) (keptBytes b e) b);
+      rules = whenMade (wordOf e) (rulesOf (loadedState b) c);
+    }
 
 -- a call that takes the other kind of copy is not made on it
 unfoldable pub stepOn : Copy → Call → Stepped

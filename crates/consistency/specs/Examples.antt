@@ -2,6 +2,7 @@
 -- told by it. Proved in proofs/ under its name in small letters.
 use Prim.Native.Nat.{ℕ, _/_, _%_}
 use mathlib.Core.Path.{_≡_}
+use mathlib.Core.Bool.{cond}
 use mathlib.Core.List.{List, [], _∷_, _++_, map}
 use lib.ListN.{replicate}
 use Rattle.woot.specs.Answers.{Word, done, waits, known, refused}
@@ -13,10 +14,12 @@ use Rattle.wimtaze.specs.Calls.{CCall, «wimtaze_receive», «wimtaze_receive_a
 use Rattle.wimtaze.specs.Calls.{«wimtaze_restore», named, effectOf}
 use Rattle.consistency.specs.Copies.{asBytes, Call, bytesCall, forC, emptyBytes, begun, ran, rulesBy, keptBytes}
 use Rattle.consistency.specs.Copies.{wordOf}
+use Rattle.wimtaze.specs.Calls.{«wimtaze_paste»}
+use Rattle.consistency.specs.Copies.{renews}
 
 -- outputs that are long enough, with nothing in them
 abbrev pub room : List ℕ
-room = replicate 120 0
+room = replicate 150 0
 
 -- `I 2 1 66 1 1 0 1`: laptop 2 typed B below 1/1
 abbrev pub insertedLine : List ℕ
@@ -35,7 +38,9 @@ strayLine =
 
 -- laptop 1 types N and o, erases N and brings it back; B comes, and a cursor below N is kept as o is erased. What is
 -- turned away leaves the copy: a gap that is not there, a surrogate, an identifier that no character has, one that is
--- shown, bytes behind a line. B is known when it comes again, and what has not come is waited for
+-- shown, bytes behind a line. B is known when it comes again, and what has not come is waited for. A block that is cut
+-- is refused before its gap is looked at, an empty one for its gap, and at a gap that is there it leaves the copy; é
+-- and ! are pasted below N
 abbrev pub exampleCalls : List CCall
 exampleCalls =
     «wimtaze_type» 0 78 ∷ «wimtaze_type» 1 111 ∷ «wimtaze_erase» 1 ∷ «wimtaze_restore» 1 1
@@ -48,17 +53,24 @@ exampleCalls =
     ∷ «wimtaze_receive» (erasedLine ++ 10 ∷ [])
     ∷ «wimtaze_receive» insertedLine
     ∷ «wimtaze_receive» strayLine
+    ∷ «wimtaze_paste» 9 (0xC3 ∷ [])
+    ∷ «wimtaze_paste» 9 []
+    ∷ «wimtaze_paste» 2 []
+    ∷ «wimtaze_paste» 1 (0xC3 ∷ 0xA9 ∷ 0x21 ∷ [])
     ∷ []
 
 abbrev pub withRoom : CCall → Call
 withRoom c = bytesCall (forC c room room)
 
--- S2 1 2; C 1 1 78 2 0 0 0 1; C 1 2 111 1 1 1 0 1; C 2 1 66 0 1 1 0 1; E 2 7 7 1
+-- S2 1 4; C 1 1 78 2 0 0 0 1; C 1 2 111 1 1 1 0 1; C 1 3 233 0 1 1 2 1; C 1 4 33 0 1 3 2 1; C 2 1 66 0 1 1 0 1;
+-- E 2 7 7 1
 abbrev pub exampleBytes : List ℕ
 exampleBytes =
-    (83 ∷ 50 ∷ 9 ∷ 49 ∷ 9 ∷ 50 ∷ 10 ∷ [])
+    (83 ∷ 50 ∷ 9 ∷ 49 ∷ 9 ∷ 52 ∷ 10 ∷ [])
     ++ (67 ∷ 9 ∷ 49 ∷ 9 ∷ 49 ∷ 9 ∷ 55 ∷ 56 ∷ 9 ∷ 50 ∷ 9 ∷ 48 ∷ 9 ∷ 48 ∷ 9 ∷ 48 ∷ 9 ∷ 49 ∷ 10 ∷ [])
     ++ (67 ∷ 9 ∷ 49 ∷ 9 ∷ 50 ∷ 9 ∷ 49 ∷ 49 ∷ 49 ∷ 9 ∷ 49 ∷ 9 ∷ 49 ∷ 9 ∷ 49 ∷ 9 ∷ 48 ∷ 9 ∷ 49 ∷ 10 ∷ [])
+    ++ (67 ∷ 9 ∷ 49 ∷ 9 ∷ 51 ∷ 9 ∷ 50 ∷ 51 ∷ 51 ∷ 9 ∷ 48 ∷ 9 ∷ 49 ∷ 9 ∷ 49 ∷ 9 ∷ 50 ∷ 9 ∷ 49 ∷ 10 ∷ [])
+    ++ (67 ∷ 9 ∷ 49 ∷ 9 ∷ 52 ∷ 9 ∷ 51 ∷ 51 ∷ 9 ∷ 48 ∷ 9 ∷ 49 ∷ 9 ∷ 51 ∷ 9 ∷ 50 ∷ 9 ∷ 49 ∷ 10 ∷ [])
     ++ (67 ∷ 9 ∷ 50 ∷ 9 ∷ 49 ∷ 9 ∷ 54 ∷ 54 ∷ 9 ∷ 48 ∷ 9 ∷ 49 ∷ 9 ∷ 49 ∷ 9 ∷ 48 ∷ 9 ∷ 49 ∷ 10 ∷ [])
     ++ (69 ∷ 9 ∷ 50 ∷ 9 ∷ 55 ∷ 9 ∷ 55 ∷ 9 ∷ 49 ∷ 10 ∷ [])
 
@@ -71,7 +83,7 @@ abbrev pub repliesOf : List ℕ → List CCall → List (Word × ℕ)
 repliesOf bytes [] = []
 repliesOf bytes (c ∷ cs) =
     let e : Effect = effectOf c bytes room room in
-    (wordOf e, refusalRead (numberOf (e .result))) ∷ repliesOf (keptBytes bytes e) cs
+    (wordOf e, refusalRead (numberOf (e .result))) ∷ repliesOf (cond (renews c) (keptBytes bytes e) bytes) cs
 
 -- the copy is these bytes then, the calls said so, and these calls of the rules were made; they begin with S2 1 0
 pub record CallsExample : Type 0 where
@@ -84,10 +96,16 @@ pub record CallsExample : Type 0 where
       ∷ (refused, 1)
       ∷ (known, 0)
       ∷ (waits, 0)
+      ∷ (refused, 20)
+      ∷ (refused, 4)
+      ∷ (done, 0)
+      ∷ (done, 0)
       ∷ []
   pub rules-made :
       rulesBy (begun (emptyBytes 1 room)) (map withRoom exampleCalls)
       ≡ inserting 0 78 ∷ inserting 1 111 ∷ deleting 1 ∷ restoring (named 1 1) ∷ receiving (saidBy insertedLine)
       ∷ receivingAt (saidBy erasedLine) 1
       ∷ receiving (saidBy strayLine)
+      ∷ inserting 1 233
+      ∷ inserting 2 33
       ∷ []

@@ -1,15 +1,17 @@
 -- What the body of a call leaves, by the refusals over what was handed and then by the rule, is what its one list of
 -- conditions says.
 use Prim.Native.Nat.{ℕ}
+use native.Mathlib.Omega.{arith}
 use mathlib.Core.Path.{_≡_, refl, sym, ap, _∙_}
 use mathlib.Core.Bool.{Bool, true, false, _||_, not, cond}
 use mathlib.Core.Option.{Option, none, some}
 use mathlib.Core.List.{List, [], _∷_, _++_, map}
 use lib.Dec.{ltb}
 use lib.ListN.{length, drop}
-use borrow.Author.Tests.{not-false}
+use borrow.Author.Tests.{not-false, le-ltb}
 use Rattle.lists.proofs.Tests.{and-right}
 use Rattle.output.specs.Output.{hasRoom, placed}
+use Rattle.output.proofs.Laws.{placed-room}
 use Rattle.woot.specs.declared.Identifier.{Identifier}
 use Rattle.woot.specs.declared.Operation.{Operation}
 use Rattle.woot.specs.declared.Operation.the-variants.{Insert as insert, Toggle as toggle}
@@ -23,7 +25,10 @@ use Rattle.woot.specs.Ranges.{codePoint, characterId, inRange}
 use Rattle.woot.specs.State.{State, initial}
 use Rattle.woot.specs.Form.{wellFormed}
 use Rattle.woot.specs.Pending.{executable}
-use Rattle.woot.specs.Answers.{changes, answerOf, Check, _⇒_, first, decided}
+use Rattle.woot.specs.Answers.{changes, answerOf, Check, _⇒_, first, decided, NoneHolds}
+use Rattle.woot.specs.Pasting.{unpasted, pasteChecks, pasteWhen, paste}
+use Rattle.lines.specs.Lines.{concatenated}
+use Rattle.convergence.proofs.Pasting.{paste-nothing}
 use Rattle.woot.specs.Calls.{Outcome, unchanged, carryOut, defer, accept, receiveChecks, receiveWhen, receive, insertChecks, generatedInsert, sendInsert, localInsertWhen, localInsert, deleteChecks, generatedDelete, sendToggle, localDeleteWhen, localDelete, restoreChecks, generatedToggle, localRestoreWhen, localRestore}
 use Rattle.woot.specs.Cursor.{receiveAtChecks, receiveAtWhen, receiveAt, shiftAt}
 use Rattle.convergence.proofs.Steps.{All, Turned, first-none, first-some, receive-turned, receive-at-turned, Refusing, insert-turned, delete-turned, restore-turned}
@@ -31,16 +36,17 @@ use Rattle.woot.specs.Text.{text}
 use Rattle.cursor.specs.Bits.{shiftBits}
 use Rattle.codec.specs.Operations.{operationLine}
 use Rattle.codec.specs.Calls.{saidBy}
-use Rattle.saved.specs.Format.{savedInRange, savedBytes}
+use Rattle.saved.specs.Format.{savedLaidOut, savedInRange, savedBytes}
 use Rattle.saved.specs.Calls.{loadedState}
 use Rattle.saved.specs.declared.Version.the-variants.{First, Second}
 use Rattle.saved.specs.Conversion.{conversion}
 use Rattle.effects.specs.Results.{Result, result, silent}
-use Rattle.effects.specs.Effects.{Effect, quiet, turned, writingNoted, writing, writingBoth, afterReceiving, afterReceivingAt, sending, afterSending}
-use Rattle.wimtaze.specs.Calls.{CCall, «wimtaze_empty», «wimtaze_receive», «wimtaze_receive_at», «wimtaze_type», «wimtaze_erase», «wimtaze_restore», «wimtaze_text», «wimtaze_counts», «wimtaze_upgrade», «wimtaze_downgrade», inputChecks, oneLine, named, answering, handedChecks, ruleChecks, callChecks, Product, bytesAlone, replicaAfter, replicaAndLine, productOf, short, delivered, effectOf}
+use Rattle.effects.specs.Effects.{Effect, quiet, turned, writingNoted, writing, writingBoth, afterReceiving, afterReceivingAt, sending, afterSending, sendingAll, afterPasting}
+use Rattle.wimtaze.specs.Calls.{CCall, «wimtaze_empty», «wimtaze_receive», «wimtaze_receive_at», «wimtaze_type», «wimtaze_erase», «wimtaze_restore», «wimtaze_paste», «wimtaze_text», «wimtaze_counts», «wimtaze_upgrade», «wimtaze_downgrade», inputChecks, oneLine, named, answering, handedChecks, ruleChecks, callChecks, Product, bytesAlone, replicaAfter, replicaAndLine, replicaAndLines, productOf, short, delivered, effectOf}
 use Rattle.effects.specs.Counts.{countsOf}
-use Rattle.wimtaze.specs.Steps.{beginning, receivingLine, receivingLineAt, insertingHere, deletingHere, restoringHere, showingText, counting, converting, upgrading, downgrading}
+use Rattle.wimtaze.specs.Steps.{beginning, receivingLine, receivingLineAt, insertingHere, deletingHere, restoringHere, pastingHere, showingText, counting, converting, upgrading, downgrading}
 use Rattle.wimtaze.proofs.Listing.{first-behind}
+use Rattle.wimtaze.proofs.Blocks.{own-some}
 
 -- ---- what is handed is looked at first
 
@@ -323,3 +329,61 @@ module _ (bytes out line : List ℕ) where
       (λ h.
       let k = passed bytes out true (characterId x) h in
       sent-body s (toggle (generatedToggle s x)) out line (localRestore s x) (drop 2 (restoreChecks true s x)) (restore-turned true s x .1 .1) (restore-asked s x (k .0) (k .1)))
+
+-- ---- pasting
+
+put-nothing : (out : List ℕ) → placed out 0 [] ≡ out
+put-nothing out = placed-room out 0 [] (omega arith)
+
+sent-some : (s : State) (a : Answer) (os : List Operation) (out line : List ℕ) → (os ≡ [] → ⊥) →
+    sendingAll s a os out line ≡ writingBoth a (savedBytes s) (concatenated operationLine os) out line
+unfolding sendingAll
+sent-some s a [] out line k = absurd (k refl)
+sent-some s a (o ∷ os) out line k = refl
+
+module _ (s : State) (g : ℕ) (out line : List ℕ) where
+  -- where no condition of the rule holds
+  pasting-done : (block : List ℕ) → NoneHolds (pasteChecks (wellFormed s) s g block) → let p = replicaAndLines (paste s g block) block in
+      decided (quiet out line) (cond (short p out line) (some (Refused Output)) none) (delivered p out line) ≡ afterPasting (paste s g block) out line
+  unfolding afterPasting sendingAll pasteChecks decided quiet silent unpasted
+  pasting-done [] w =
+      let nothing = paste-nothing s g (not-false (wellFormed s) (w .1 .0)) (w .1 .1 .0) in
+      let room = le-ltb (length out) 0 (omega arith) in
+      let room-line = le-ltb (length line) 0 (omega arith) in
+      rw (nothing, room, room-line, put-nothing out, put-nothing line)
+  pasting-done (b ∷ block) w =
+      let p = paste s g (b ∷ block) in
+      both (p .answer) (savedBytes (p .state)) (concatenated operationLine (p .own)) out line
+      ∙ sym (sent-some (p .state) (p .answer) (p .own) out line (own-some s g (b ∷ block) w (λ e. let z : _≡_ {A = ℕ} 0 1 = cc in omega arith)))
+
+  pasting-away : (block : List ℕ) (a : Answer) → first (pasteChecks (wellFormed s) s g block) ≡ some a → (e : Effect) →
+      decided (quiet out line) (some a) e ≡ afterPasting (paste s g block) out line
+  unfolding paste pasteWhen decided unpasted afterPasting sendingAll
+  pasting-away block a h e = rw h
+
+  -- by the rule's own conditions, all of which are asked
+  pasted-body : (block : List ℕ) → let p = replicaAndLines (paste s g block) block in
+      decided (quiet out line) (first (pasteChecks (wellFormed s) s g block ++ (short p out line ⇒ Refused Output) ∷ [])) (delivered p out line)
+      ≡ afterPasting (paste s g block) out line
+  pasted-body block = go (first rs) refl
+    where
+      p : Product
+      p = replicaAndLines (paste s g block) block
+
+      rs : List (Check Answer)
+      rs = pasteChecks (wellFormed s) s g block
+
+      go : (m : Option Answer) → first rs ≡ m →
+          decided (quiet out line) (first (rs ++ (short p out line ⇒ Refused Output) ∷ [])) (delivered p out line) ≡ afterPasting (paste s g block) out line
+      go none h = rw (first-behind rs (short p out line) (Refused Output) none h) (pasting-done block (first-none rs h))
+      go (some a) h = rw (first-behind rs (short p out line) (Refused Output) (some a) h) (pasting-away block a h (delivered p out line))
+
+module _ (bytes out line : List ℕ) where
+  pub paste-body : (g : ℕ) (block : List ℕ) → effectOf («wimtaze_paste» g block) bytes out line ≡ pastingHere bytes g block out line
+  unfolding effectOf callChecks handedChecks ruleChecks productOf pastingHere pasteChecks decided turned
+  paste-body g block = go (savedLaidOut bytes) (savedInRange bytes) refl refl
+    where
+      go : (laid ranged : Bool) → savedLaidOut bytes ≡ laid → savedInRange bytes ≡ ranged → effectOf («wimtaze_paste» g block) bytes out line ≡ pastingHere bytes g block out line
+      go false ranged l r = rw l
+      go true false l r = rw (l, r)
+      go true true l r = rw (l, r) (pasted-body (loadedState bytes) g out line block)

@@ -1,38 +1,48 @@
 -- The rule on the state that the bytes say is the call on the replica that was read: where the state is in form the
 -- replica means it, and where it is not, refusal 3 is all that either answers.
-use Prim.Native.Nat.{ℕ}
+use Prim.Native.Nat.{ℕ, _≤_}
+use native.Mathlib.Omega.{arith}
 use mathlib.Core.Path.{_≡_, refl, sym, ap, _∙_, subst}
 use mathlib.Core.Bool.{Bool, true, false, not, cond}
-use mathlib.Core.List.{List, [], _∷_}
-use mathlib.Core.Option.{Option, some}
+use mathlib.Core.List.{List, [], _∷_, map}
+use borrow.Author.Tests.{not-false}
+use lib.ListN.{length, length-map}
+use mathlib.Core.Option.{Option, none, some}
+use Rattle.lists.specs.Lists.{every, missing}
+use Rattle.utf8.specs.Decoding.{decoded}
 use Rattle.woot.specs.declared.Identifier.{Identifier}
 use Rattle.woot.specs.declared.Operation.{Operation}
+use Rattle.woot.specs.declared.Operation.the-variants.{Insert as insert}
+use Rattle.woot.specs.declared.Character.{Character}
 use Rattle.woot.specs.declared.Replica.{Replica}
 use Rattle.woot.specs.declared.Refusal.{Refusal}
-use Rattle.woot.specs.declared.Refusal.the-variants.{Form}
+use Rattle.woot.specs.declared.Refusal.the-variants.{NotUtf8, Form}
 use Rattle.woot.specs.declared.Answer.{Answer}
 use Rattle.woot.specs.declared.Answer.the-variants.{Done, Deferred, Duplicate, Refused}
 use Rattle.woot.specs.declared.Sent.{Sent}
 use Rattle.woot.specs.declared.Sent.the-variants.{Done as sentDone, Refused as sentRefused}
 use Rattle.woot.specs.declared.ReceiptAt.{ReceiptAt}
 use Rattle.woot.specs.declared.Generated.{Generated}
+use Rattle.woot.specs.Operations.{character, inserts}
 use Rattle.woot.specs.Ranges.{codePoint, characterId, inRange}
+use Rattle.woot.specs.Table.{key, keys}
 use Rattle.woot.specs.State.{State}
-use Rattle.woot.specs.Memory.{stored, meaning, replicaWellFormed}
+use Rattle.woot.specs.Memory.{characterSlots, characterNumbers, previousKeys, nextKeys, codePoints, stored, meaning, replicaWellFormed}
 use Rattle.woot.specs.Form.{wellFormed}
 use Rattle.woot.specs.declared.Written.{Written}
 use Rattle.woot.specs.declared.Written.the-variants.{Length, Refused as writtenRefused}
-use Rattle.woot.specs.Answers.{reply, changes, answerOf, _⇒_, first, decided}
+use Rattle.woot.specs.Answers.{reply, changes, answerOf, Check, _⇒_, first, decided, NoneHolds}
 use Rattle.woot.specs.Writing.{writtenNumber, writtenLength}
 use Rattle.woot.specs.Calls.{Outcome, unchanged, insertChecks, localInsertWhen, localInsert, deleteChecks, localDeleteWhen, localDelete, restoreChecks, localRestoreWhen, localRestore}
 use Rattle.woot.specs.Cursor.{receiveAtChecks, receiveAtWhen, receiveAt, shiftOf, shiftAt}
 use Rattle.woot.specs.Histories.{inserting, deleting, restoring, receivingAt, outcome}
+use Rattle.woot.specs.Pasting.{PasteOutcome, unpasted, pasteChecks, pasteWhen, paste}
 use Rattle.woot.specs.Text.{text}
 use Rattle.woot.specs.Replicas.{afterAnswer, afterSent, receiptAt, generated, receivedAt, inserted, deleted, restored}
 use Rattle.cursor.specs.Bits.{shiftBits}
 use Rattle.replica.specs.Texts.{textOf}
 use Rattle.replica.specs.Theorems.{called, answerTo}
-use Rattle.replica.proofs.Runs.{Within, formed-within, meaning-stored}
+use Rattle.replica.proofs.Runs.{Within, formed-within, meaning-stored, form-stored, form-meant}
 use Rattle.replica.proofs.Kept.{accepted-formed}
 use Rattle.codec.specs.Operations.{operationLine}
 use Rattle.saved.specs.declared.Version.{Version}
@@ -40,13 +50,22 @@ use Rattle.saved.specs.Format.{savedBytes}
 use Rattle.saved.specs.Calls.{loadedState, bytesOf}
 use Rattle.saved.specs.Conversion.{conversion, conversionRefusals, conversionChecks, converted, convertedOut}
 use Rattle.convergence.proofs.Kept.{form-kept}
-use Rattle.effects.specs.Effects.{Effect, quiet, turned, writing, writingBoth, sending, afterSending, writingNoted, afterReceivingAt}
+use Rattle.convergence.proofs.Steps.{first-none}
+use Rattle.convergence.proofs.Pasting.{paste-form-kept}
+use Rattle.effects.specs.Effects.{Effect, quiet, turned, writing, writingBoth, sending, afterSending, writingNoted, afterReceivingAt, sendingAll, afterPasting}
 use Rattle.effects.specs.Results.{silent, result}
 use Rattle.wimtaze.specs.Calls.{inputChecks}
 use Rattle.wimtaze.specs.Steps.{counting, converting}
 use Rattle.wimtaze.proofs.Refusals.{Reads, formLeft}
+use Rattle.wimtaze.proofs.Blocks.{own-few, own-inserts}
 use Rattle.effects.proofs.Outputs.{checked-written}
 use Rattle.effects.specs.Steps.{afterNoting, afterWriting, sentLeft, generatedLeft, textLeft, receiptAtLeft}
+use Rattle.effects.proofs.Columns.{inserts-back, lines-left}
+use Rattle.effects.specs.Steps.{linesLeft}
+use Rattle.typing.specs.Columns.{charactersBy, typedColumns}
+use Rattle.pasting.specs.declared.Pasted.{Pasted}
+use Rattle.pasting.specs.Replicas.{afterTyping, pastedWith, pastedBy}
+use Rattle.effects.proofs.Saving.{columns-length}
 use Rattle.effects.specs.Counts.{countsOf}
 use Rattle.effects.specs.Counting.{countsLeft}
 
@@ -206,6 +225,104 @@ module _ (r : Replica) {x : Generated} where
   pub restore-sendable : (y : Identifier) → x ≡ restored r y → Sendable x
   unfolding called answerTo
   restore-sendable y e = subst Sendable (sym e) (accepted-formed r (restoring y))
+
+-- ---- pasting
+
+-- what pasting would leave on the replica that was read: its own form decides
+pub paste-bridge : (r : Replica) (s : State) → Reads r s → (g : ℕ) (block out line : List ℕ) →
+    afterPasting (paste s g block) out line ≡ afterPasting (pasteWhen (replicaWellFormed r) (meaning r) g block) out line
+unfolding paste pasteWhen pasteChecks decided unpasted afterPasting sendingAll
+paste-bridge r s read g block out line = go (wellFormed s) refl
+  where
+    -- out of form the block alone decides between 20 and 3
+    off : (t u : State) (b : Bool) → missing (decoded block) ≡ b → afterPasting (pasteWhen false t g block) out line ≡ afterPasting (pasteWhen false u g block) out line
+    off t u true e = rw e
+    off t u false e = rw e
+
+    go : (b : Bool) → wellFormed s ≡ b →
+        afterPasting (pasteWhen (wellFormed s) s g block) out line ≡ afterPasting (pasteWhen (replicaWellFormed r) (meaning r) g block) out line
+    go true e = rw (read .form, read .means e)
+    go false e = rw (read .form, e) (off s (meaning r) (missing (decoded block)) refl)
+
+-- what was typed, where pasting is done and where it is refused: inserts in range, no more than the slots, and a state in
+-- form where there are some
+pub record Typed (w : PasteOutcome) : Type 0 where
+  pub ranged : every inRange (w .own) ≡ true
+  pub all : map insert (inserts (w .own)) ≡ w .own
+  pub few : length (w .own) ≤ characterSlots
+  pub formed : (w .own ≡ [] → ⊥) → wellFormed (w .state) ≡ true
+
+module _ (s : State) (g : ℕ) (block : List ℕ) where
+  unpasted-typed : (a : Answer) → Typed (unpasted s a)
+  unfolding unpasted
+  unpasted-typed a = record { ranged = refl; all = refl; few = omega arith; formed = λ k. absurd (k refl) }
+
+  paste-typed : Typed (paste s g block)
+  unfolding paste pasteWhen pasteChecks decided
+  paste-typed = go (first rs) refl
+    where
+      rs : List (Check Answer)
+      rs = pasteChecks (wellFormed s) s g block
+
+      form : NoneHolds rs → wellFormed s ≡ true
+      form w = not-false (wellFormed s) (w .1 .0)
+
+      go : (m : Option Answer) → first rs ≡ m → Typed (paste s g block)
+      go none h =
+          let w = first-none rs h in
+          let i = own-inserts s g block w in
+          record { ranged = i .0; all = i .1; few = own-few s g block w; formed = λ k. paste-form-kept s g block (form w) }
+      go (some a) h = rw h (unpasted-typed a)
+
+  pub pasted-typed : (formed : Bool) → (formed ≡ true → wellFormed s ≡ true) → Typed (pasteWhen formed s g block)
+  unfolding paste pasteWhen pasteChecks decided
+  pasted-typed true f = rw (f refl) at paste-typed
+  pasted-typed false f = go (missing (decoded block)) refl
+    where
+      go : (b : Bool) → missing (decoded block) ≡ b → Typed (pasteWhen false s g block)
+      go true e = rw e (unpasted-typed (Refused NotUtf8))
+      go false e = rw e (unpasted-typed (Refused Form))
+
+module _ (r : Replica) (g : ℕ) (block : List ℕ) {x : Pasted} (e : x ≡ pastedBy r g block) where
+  abbrev pasting : PasteOutcome
+  pasting = pasteWhen (replicaWellFormed r) (meaning r) g block
+
+  typed : Typed pasting
+  typed = pasted-typed (meaning r) g block (replicaWellFormed r) (form-meant r)
+
+  -- the replica that came back holds the new state where something was typed
+  stored-then : (os : List Operation) (t : State) → (os ≡ [] → ⊥) → afterTyping r t os ≡ stored t
+  unfolding afterTyping
+  stored-then [] t k = absurd (k refl)
+  stored-then (o ∷ os) t k = refl
+
+  -- what sending the lines asks
+  pub lines-sendable : (length (x .typed) ≡ characterNumbers) × (x .count ≤ characterSlots) × ((x .count ≡ 0 → ⊥) → replicaWellFormed (x .replica) ≡ true)
+  unfolding pastedBy pastedWith typedColumns
+  lines-sendable =
+      let cs = charactersBy (pasting .own) in
+      let many = length-map (inserts (pasting .own)) character in
+      let row : (f : Character → ℕ) → length (map f cs) ≤ 1024 =
+      λ f. omega (arith, length-map cs f, many, length-map (inserts (pasting .own)) insert, ap length (typed .all), typed .few) in
+      rw e (
+        columns-length 1024 (keys cs) (previousKeys cs) (nextKeys cs) (codePoints cs) (row (λ c. key (c .id))) (row (λ c. key (c .previous))) (row (λ c. key (c .next))) (row (λ c. c .«code_point»)),
+        typed .few,
+        λ k. let n : pasting .own ≡ [] → ⊥ = λ z. k (ap length z) in
+            ap replicaWellFormed (stored-then (pasting .own) (pasting .state) n)
+            ∙ form-stored (pasting .state) (formed-within (pasting .state) (typed .formed n))
+            ∙ typed .formed n,
+      )
+
+  -- and what it leaves
+  pub lines-bridge : (out line : List ℕ) → afterPasting pasting out line ≡ linesLeft (x .answer) (x .replica) (x .typed) (x .count) out line
+  unfolding afterPasting pastedBy pastedWith
+  lines-bridge out line =
+      rw e
+      (lines-left (pasting .state) (pasting .answer) (afterTyping r (pasting .state) (pasting .own)) (typedColumns (pasting .own)) (pasting .own) out line
+      (λ n.
+      ap bytesOf (stored-then (pasting .own) (pasting .state) n)
+      ∙ stored-bytes (pasting .state) (formed-within (pasting .state) (typed .formed n)))
+      (inserts-back (pasting .own) (typed .ranged) (typed .all) (typed .few)))
 
 -- ---- between the forms
 

@@ -12,7 +12,7 @@ use borrow.Author.Tests.{not-false}
 use Rattle.woot.specs.declared.Operation.{Operation}
 use Rattle.woot.specs.declared.Operation.the-variants.{Insert as insert, Toggle as toggle}
 use Rattle.woot.specs.declared.Refusal.{Refusal}
-use Rattle.woot.specs.declared.Refusal.the-variants.{Layout, Range, Form, Unrepresentable, Position, NotHidden, LastToggle, Clock, Taken, Conflict, Crossed, Unplaceable, SenderFull, DocumentFull, Output}
+use Rattle.woot.specs.declared.Refusal.the-variants.{Layout, Range, NotUtf8, Form, Unrepresentable, Position, NotHidden, LastToggle, Clock, Taken, Conflict, Crossed, Unplaceable, SenderFull, DocumentFull, Output}
 use Rattle.woot.specs.declared.Answer.{Answer}
 use Rattle.woot.specs.declared.Answer.the-variants.{Done, Deferred, Duplicate, Refused}
 use Rattle.woot.specs.declared.Sent.{Sent}
@@ -23,6 +23,7 @@ use Rattle.woot.specs.Pending.{executable}
 use Rattle.woot.specs.Answers.{number, Word, done, waits, known, refused, Reply, reply, answerOf, Check, first, _⇒_, NoneHolds, Reported, here, later, decided}
 use Rattle.woot.specs.Calls.{unchanged, carryOut, defer, accept, receiveChecks, receiveWhen, receive, insertChecks, generatedInsert, sendInsert, localInsertWhen, localInsert, deleteChecks, generatedDelete, sendToggle, localDeleteWhen, localDelete, restoreChecks, generatedToggle, localRestoreWhen, localRestore}
 use Rattle.woot.specs.Cursor.{receiveAtChecks, receiveAtWhen, receiveAt}
+use Rattle.woot.specs.Pasting.{codePointsOf, typings, pasted, pasteChecks, pasteWhen, paste}
 use Rattle.convergence.proofs.Refusals.{first-reported, reported-first}
 use Rattle.convergence.proofs.Replies.{none-first, positive, answer-number}
 use Rattle.convergence.proofs.Steps.{All, Turned, first-none, first-some}
@@ -34,32 +35,34 @@ use Rattle.saved.specs.Conversion.{conversionRefusals}
 use Rattle.effects.specs.Results.{Result, result, silent}
 use Rattle.effects.specs.Effects.{Effect, quiet}
 use Rattle.effects.specs.Counts.{countsOf}
-use Rattle.wimtaze.specs.Calls.{CCall, «wimtaze_empty», «wimtaze_receive», «wimtaze_receive_at», «wimtaze_type», «wimtaze_erase», «wimtaze_restore», «wimtaze_text», «wimtaze_counts», «wimtaze_upgrade», «wimtaze_downgrade», inputChecks, named, answering, handedChecks, ruleChecks, earlierChecks, callChecks, Product, productOf, short, delivered, effectOf}
+use Rattle.wimtaze.specs.Calls.{CCall, «wimtaze_empty», «wimtaze_receive», «wimtaze_receive_at», «wimtaze_type», «wimtaze_erase», «wimtaze_restore», «wimtaze_paste», «wimtaze_text», «wimtaze_counts», «wimtaze_upgrade», «wimtaze_downgrade», inputChecks, named, answering, handedChecks, ruleChecks, earlierChecks, callChecks, Product, productOf, short, delivered, effectOf}
 use Rattle.wimtaze.specs.Theorems.{CallsMeet, CallsRise, CallsRefuse, CallsKnow, Untouched, TurnedUntouched}
 
 -- ---- the lists
 
 pub calls-meet : CallsMeet
-unfolding callChecks handedChecks ruleChecks inputChecks conversionRefusals receiveChecks receiveAtChecks insertChecks deleteChecks restoreChecks reply answerOf
+unfolding callChecks handedChecks ruleChecks inputChecks conversionRefusals receiveChecks receiveAtChecks insertChecks deleteChecks restoreChecks pasteChecks reply answerOf
 calls-meet («wimtaze_empty» n) bytes out line = refl
 calls-meet («wimtaze_receive» l) bytes out line = refl
 calls-meet («wimtaze_receive_at» l gap) bytes out line = refl
 calls-meet («wimtaze_type» gap n) bytes out line = refl
 calls-meet («wimtaze_erase» place) bytes out line = refl
 calls-meet («wimtaze_restore» site clock) bytes out line = refl
+calls-meet («wimtaze_paste» gap block) bytes out line = refl
 calls-meet «wimtaze_text» bytes out line = refl
 calls-meet «wimtaze_counts» bytes out line = refl
 calls-meet «wimtaze_upgrade» bytes out line = refl
 calls-meet «wimtaze_downgrade» bytes out line = refl
 
 pub calls-rise : CallsRise
-unfolding callChecks handedChecks ruleChecks inputChecks conversionRefusals receiveChecks receiveAtChecks insertChecks deleteChecks restoreChecks answerOf
+unfolding callChecks handedChecks ruleChecks inputChecks conversionRefusals receiveChecks receiveAtChecks insertChecks deleteChecks restoreChecks pasteChecks answerOf
 calls-rise («wimtaze_empty» n) bytes out line = refl
 calls-rise («wimtaze_receive» l) bytes out line = refl
 calls-rise («wimtaze_receive_at» l gap) bytes out line = refl
 calls-rise («wimtaze_type» gap n) bytes out line = refl
 calls-rise («wimtaze_erase» place) bytes out line = refl
 calls-rise («wimtaze_restore» site clock) bytes out line = refl
+calls-rise («wimtaze_paste» gap block) bytes out line = refl
 calls-rise «wimtaze_text» bytes out line = refl
 calls-rise «wimtaze_counts» bytes out line = refl
 calls-rise «wimtaze_upgrade» bytes out line = refl
@@ -79,7 +82,7 @@ unfolding reply
 earlier-known = record { turned = tt; other = refl }
 
 all-earlier : (c : CCall) (bytes : List ℕ) → All Earlier (earlierChecks c bytes)
-unfolding handedChecks ruleChecks inputChecks conversionRefusals receiveChecks receiveAtChecks insertChecks deleteChecks restoreChecks answerOf
+unfolding handedChecks ruleChecks inputChecks conversionRefusals receiveChecks receiveAtChecks insertChecks deleteChecks restoreChecks pasteChecks answerOf
 all-earlier («wimtaze_empty» n) bytes = (earlier Range refl, tt)
 all-earlier («wimtaze_receive» l) bytes = (
   earlier Layout refl,
@@ -153,6 +156,19 @@ all-earlier («wimtaze_type» gap n) bytes = (
 all-earlier («wimtaze_erase» place) bytes = (earlier Layout refl, (earlier Range refl, (earlier Form refl, (earlier Position refl, tt))))
 all-earlier («wimtaze_restore» site clock) bytes =
     (earlier Layout refl, (earlier Range refl, (earlier Form refl, (earlier NotHidden refl, (earlier LastToggle refl, tt)))))
+all-earlier («wimtaze_paste» gap block) bytes = (
+  earlier Layout refl,
+  (
+    earlier Range refl,
+    (
+      earlier NotUtf8 refl,
+      (
+        earlier Form refl,
+        (earlier Position refl, (earlier Clock refl, (earlier DocumentFull refl, (earlier Unplaceable refl, tt)))),
+      ),
+    ),
+  ),
+)
 all-earlier «wimtaze_text» bytes = (earlier Layout refl, (earlier Range refl, (earlier Form refl, tt)))
 all-earlier «wimtaze_counts» bytes = (earlier Layout refl, (earlier Range refl, (earlier Form refl, tt)))
 all-earlier «wimtaze_upgrade» bytes = (earlier Layout refl, (earlier Range refl, (earlier Form refl, (earlier Unrepresentable refl, tt))))
@@ -216,6 +232,19 @@ module _ (bytes : List ℕ) where
       let k = none-sent cs (w .1 .1 .1) in
       (f, rw (f, none-first (restoreChecks true said (named n t)) (ap not r, (refl, k))))
 
+  -- none of the conditions of pasting holds where none of the call's does
+  pub paste-passed : (g : ℕ) (block : List ℕ) → NoneHolds (earlierChecks («wimtaze_paste» g block) bytes) →
+      NoneHolds (pasteChecks (wellFormed said) said g block)
+  unfolding handedChecks ruleChecks pasteChecks
+  paste-passed g block w = (w .1 .1 .0, (w .1 .1 .1 .0, w .1 .1 .1 .1))
+
+  pub paste-taken : (g : ℕ) (block : List ℕ) → NoneHolds (earlierChecks («wimtaze_paste» g block) bytes) →
+      (wellFormed said ≡ true) × (paste said g block ≡ pasted said (typings said g (codePointsOf block)))
+  unfolding pasteChecks paste pasteWhen decided
+  paste-taken g block w =
+      let k = paste-passed g block w in
+      (not-false (wellFormed said) (k .1 .0), rw (none-first (pasteChecks (wellFormed said) said g block) k))
+
 -- ---- what is made is neither known nor refused
 
 pub record Made (x : Reply) : Type 0 where
@@ -251,13 +280,15 @@ accept-made s o = go (executable (s .characters) o) o
     go false p = waits-made
 
 pub product-made : (c : CCall) (bytes : List ℕ) → NoneHolds (earlierChecks c bytes) → Made (productOf c bytes .result .reply)
-unfolding productOf result countsOf sendInsert sendToggle carryOut answerOf
+unfolding productOf result countsOf sendInsert sendToggle carryOut answerOf pasted
 product-made («wimtaze_empty» n) bytes w = done-made 0 0
 product-made («wimtaze_receive» l) bytes w = rw (receive-taken bytes l w .1) (accept-made _ _)
 product-made («wimtaze_receive_at» l g) bytes w = rw (receive-at-taken bytes l g w .1) (accept-made _ _)
 product-made («wimtaze_type» g n) bytes w = rw (type-taken bytes g n w .1) (done-made _ _)
 product-made («wimtaze_erase» p) bytes w = rw (erase-taken bytes p w .1) (done-made _ _)
 product-made («wimtaze_restore» n t) bytes w = rw (restore-taken bytes n t w .1) (done-made _ _)
+product-made («wimtaze_paste» g []) bytes w = done-made 0 0
+product-made («wimtaze_paste» g (b ∷ block)) bytes w = rw (paste-taken bytes g (b ∷ block) w .1) (done-made _ _)
 product-made «wimtaze_text» bytes w = done-made 0 0
 product-made «wimtaze_counts» bytes w = done-made _ _
 product-made «wimtaze_upgrade» bytes w = done-made 0 0

@@ -35,7 +35,7 @@ use Rattle.saved.specs.Format.{savedLaidOut, savedInRange, savedBytes}
 use Rattle.saved.specs.Calls.{loadedState}
 use Rattle.effects.specs.Results.{result, silent}
 use Rattle.effects.specs.Effects.{Effect, quiet, turned, writingNoted, afterReceivingAt}
-use Rattle.wimtaze.specs.Calls.{CCall, «wimtaze_empty», «wimtaze_receive», «wimtaze_receive_at», «wimtaze_type», «wimtaze_erase», «wimtaze_restore», «wimtaze_text», «wimtaze_counts», «wimtaze_upgrade», «wimtaze_downgrade», inputChecks, oneLine, named, handedChecks, earlierChecks, replicaAndLine, productOf, short, delivered, effectOf}
+use Rattle.wimtaze.specs.Calls.{CCall, «wimtaze_empty», «wimtaze_receive», «wimtaze_receive_at», «wimtaze_type», «wimtaze_erase», «wimtaze_restore», «wimtaze_paste», «wimtaze_text», «wimtaze_counts», «wimtaze_upgrade», «wimtaze_downgrade», inputChecks, oneLine, named, handedChecks, earlierChecks, replicaAndLine, productOf, short, delivered, effectOf}
 use Rattle.wimtaze.specs.Steps.{receivingLineAt}
 use Rattle.wimtaze.specs.Theorems.{bytesWritten, lineWritten, sends, receivedAtBy, SavesAs, OwnLineReceived}
 use Rattle.wimtaze.proofs.Listing.{Went, away, lacking, through, went, type-taken, erase-taken, restore-taken}
@@ -51,7 +51,7 @@ line-back o r =
     (rw (back .1, was .0), was .1)
 
 -- what a call that sends answers, once it is carried out
-insert-sent : (s : State) (g n : ℕ) → localInsert s g n ≡ sendInsert s (generatedInsert s g n) →
+pub insert-sent : (s : State) (g n : ℕ) → localInsert s g n ≡ sendInsert s (generatedInsert s g n) →
     (i : ℕ) × (j : ℕ) × (localInsert s g n .answer ≡ sentDone (insert (generatedInsert s g n)) i j)
 unfolding sendInsert carryOut
 insert-sent s g n e = (_, _, ap (λ (v : Outcome Sent). v .answer) e)
@@ -66,7 +66,7 @@ restore-sent : (s : State) (x : Identifier) → localRestore s x ≡ sendToggle 
 unfolding sendToggle carryOut
 restore-sent s x e = ap (λ (v : Outcome Sent). v .answer) e
 
-sent-told : {a : Sent} {o : Operation} {i j : ℕ} → a ≡ sentDone o i j → sentOperation a ≡ some o
+pub sent-told : {a : Sent} {o : Operation} {i j : ℕ} → a ≡ sentDone o i j → sentOperation a ≡ some o
 unfolding sentOperation
 sent-told e = rw e
 
@@ -187,6 +187,7 @@ module _ (bytes : List ℕ) (gap : ℕ) where
     product-own («wimtaze_type» g n) k = type-own g n
     product-own («wimtaze_erase» p) k = erase-own p
     product-own («wimtaze_restore» n t) k = restore-own n t
+    product-own («wimtaze_paste» g block) k = absurd (false≢true k)
     product-own «wimtaze_text» k = absurd (false≢true k)
     product-own «wimtaze_counts» k = absurd (false≢true k)
     product-own «wimtaze_upgrade» k = absurd (false≢true k)

@@ -4,7 +4,7 @@ use Prim.Native.Nat.{ℕ, _≤_}
 use native.Mathlib.Omega.{arith}
 use mathlib.Core.Path.{_≡_, refl, ap, _∙_}
 use mathlib.Core.Bool.{true, false, false≢true, not}
-use mathlib.Core.List.{List, []}
+use mathlib.Core.List.{List, [], _∷_}
 use lib.IntN.{ℤ, pos, negsuc}
 use lib.ListN.{length, length-map}
 use borrow.Author.Tests.{not-false}
@@ -21,6 +21,7 @@ use Rattle.woot.specs.Form.{wellFormed}
 use Rattle.woot.specs.Answers.{number, highestRefusal, reply, answerOf, NoneHolds}
 use Rattle.woot.specs.Calls.{Outcome, visibles, receive, carryOut, localInsert, sendInsert, sendToggle, localDelete, localRestore}
 use Rattle.woot.specs.Cursor.{receiveAt, shiftAt}
+use Rattle.woot.specs.Pasting.{pasted, paste}
 use Rattle.woot.specs.Histories.{inserting, deleting, restoring, receiving, receivingAt, outcome}
 use Rattle.lists.specs.Lists.{keep}
 use Rattle.lists.proofs.Members.{keep-length}
@@ -28,6 +29,7 @@ use Rattle.convergence.proofs.Forms.{empty-formed, known-length}
 use Rattle.convergence.proofs.Replies.{number-few}
 use Rattle.convergence.proofs.Shares.{pending-fit}
 use Rattle.convergence.proofs.Kept.{form-kept}
+use Rattle.convergence.proofs.Pasting.{paste-form-kept, paste-counts-bounded}
 use Rattle.cursor.specs.Bits.{shiftBits}
 use Rattle.codec.specs.Operations.{operationLine}
 use Rattle.codec.specs.Calls.{saidBy}
@@ -41,10 +43,12 @@ use Rattle.effects.specs.Results.{Result, result}
 use Rattle.effects.specs.Counts.{countsOf}
 use Rattle.effects.proofs.Totals.{known-few}
 use Rattle.wimtaze.specs.Calls.{CCall, «wimtaze_empty», «wimtaze_receive», «wimtaze_receive_at», «wimtaze_type», «wimtaze_erase», «wimtaze_restore», «wimtaze_text», «wimtaze_counts», «wimtaze_upgrade», «wimtaze_downgrade», inputChecks, named, handedChecks, earlierChecks, Product, bytesAlone, replicaAndLine, productOf}
+use Rattle.wimtaze.specs.Calls.{«wimtaze_paste»}
 use Rattle.wimtaze.specs.Theorems.{boundsOf, roomOf, saves, Fits, CountsWithin}
 use Rattle.wimtaze.proofs.Sizes.{text-length}
 use Rattle.wimtaze.proofs.Counts.{Fine, Sends, receive-fine, receive-at-fine, insert-sends, delete-sends, restore-sends}
-use Rattle.wimtaze.proofs.Listing.{receive-taken, receive-at-taken, type-taken, erase-taken, restore-taken}
+use Rattle.wimtaze.proofs.Listing.{receive-taken, receive-at-taken, type-taken, erase-taken, restore-taken, paste-passed, paste-taken}
+use Rattle.wimtaze.proofs.Blocks.{lines-short}
 
 -- the first output is the bytes of a state in form, all of them
 pub record Saved (p : Product) : Type 0 where
@@ -202,6 +206,34 @@ module _ (bytes : List ℕ) where
       sent-sound («wimtaze_restore» n t) (localRestore said x) _ 1 0 (ap (λ (v : Outcome Sent). v .answer) (e .1)) (form-kept said (restoring x) (e .0))
       (omega arith) (omega arith) (b .1) (omega arith) (omega arith) (omega arith)
 
+  nothing-sound : (g : ℕ) → NoneHolds (earlierChecks («wimtaze_paste» g []) bytes) → Sound («wimtaze_paste» g []) (productOf («wimtaze_paste» g []) bytes)
+  unfolding productOf
+  nothing-sound g w = plain-sound («wimtaze_paste» g []) [] (omega arith) (omega arith) (λ h. absurd (false≢true h))
+
+  paste-sound : (g b : ℕ) (block : List ℕ) → NoneHolds (earlierChecks («wimtaze_paste» g (b ∷ block)) bytes) →
+      Sound («wimtaze_paste» g (b ∷ block)) (productOf («wimtaze_paste» g (b ∷ block)) bytes)
+  unfolding productOf result reply pasted
+  paste-sound g b block w =
+      let t = paste said g (b ∷ block) .state in
+      let e = paste-taken bytes g (b ∷ block) w in
+      let k = paste-form-kept said g (b ∷ block) (e .0) in
+      let few = rw (e .1) at (paste-counts-bounded said g (b ∷ block)) in
+      let long = saved-length t k in
+      let lines = lines-short said g (b ∷ block) (paste-passed bytes g (b ∷ block) w) in
+      record {
+        fits =
+            record {
+              refusal-fits = rw (e .1) (omega arith);
+              integrated-fits = rw (e .1) (few .0);
+              discarded-fits = rw (e .1) (few .1);
+              written-fits = long;
+              line-fits = lines;
+            };
+        output-few = long;
+        line-few = lines;
+        saved = λ h. record { state = t; formed = k; bytes = refl; length-told = refl };
+      }
+
   empty-sound : (n : ℕ) → NoneHolds (earlierChecks («wimtaze_empty» n) bytes) → Sound («wimtaze_empty» n) (productOf («wimtaze_empty» n) bytes)
   unfolding productOf handedChecks
   empty-sound n w =
@@ -256,6 +288,8 @@ product-sound («wimtaze_receive_at» l g) bytes w = receive-at-sound bytes l g 
 product-sound («wimtaze_type» g n) bytes w = type-sound bytes g n w
 product-sound («wimtaze_erase» p) bytes w = erase-sound bytes p w
 product-sound («wimtaze_restore» n t) bytes w = restore-sound bytes n t w
+product-sound («wimtaze_paste» g []) bytes w = nothing-sound bytes g w
+product-sound («wimtaze_paste» g (b ∷ block)) bytes w = paste-sound bytes g b block w
 product-sound «wimtaze_text» bytes w = text-sound bytes w
 product-sound «wimtaze_counts» bytes w = counts-sound bytes w
 product-sound «wimtaze_upgrade» bytes w = upgrade-sound bytes w

@@ -2,7 +2,7 @@
 use mathlib.Core.Path.{_≡_, refl, sym, ap, _∙_}
 use mathlib.Core.Bool.{Bool, true, false, _&&_, not}
 use mathlib.Core.List.{List, [], _∷_}
-use mathlib.Core.Option.{Option, some}
+use mathlib.Core.Option.{Option, none, some}
 use Prim.Native.Nat.{ℕ}
 use lib.ListN.{length}
 use borrow.Author.Tests.{eq-eqb, ne-eqb}
@@ -44,6 +44,12 @@ unfolding decided unread
 alone true true c s q h = cc
 alone true false c s q h = cc
 alone false b c s q h = cc
+
+first-two : (a b : Bool) (s : State) (q : Refusal) → answering a b s .answer ≡ Refused q → first ((not a ⇒ Layout) ∷ (not b ⇒ Range) ∷ []) ≡ some q
+unfolding decided unread
+first-two true true s q h = cc
+first-two true false s q h = cc
+first-two false b s q h = cc
 
 ranged : (a b c : Bool) (s : State) → refusing (a && true) (b && false) c ≡ some (firstOf (answering a b s .answer) Range)
 unfolding decided unread firstOf earlier
@@ -117,6 +123,14 @@ module _ (s : List ℕ) (x : Loaded) (e : x ≡ savedRead Second s) where
       let d = both Second s x e h in
       let f = form-is Second s x e h in
       (rw (d .0, d .1) refl, record { form = f; means = λ w. means-so Second s x e h (f ∙ w) })
+
+  -- the same of 1 and 2 alone, where the rule answers all that comes after them
+  pub refused-reading : (q : Refusal) → x .answer ≡ Refused q → first ((not (savedLaidOut s) ⇒ Layout) ∷ (not (savedInRange s) ⇒ Range) ∷ []) ≡ some q
+  unfolding savedRead readingChecks
+  refused-reading q h = first-two (savedLaidOut s) (savedInRange s) (savedState s) q (sym (ap (λ (y : Loaded). y .answer) e) ∙ h)
+
+  pub passed-reading : x .answer ≡ Done → first ((not (savedLaidOut s) ⇒ Layout) ∷ (not (savedInRange s) ⇒ Range) ∷ []) ≡ none
+  passed-reading h = let d = both Second s x e h in rw (d .0, d .1)
 
   -- a number that is out of range beside a saved replica
   pub refused-range : first (inputChecks s true false) ≡ some (firstOf (x .answer) Range)

@@ -28,7 +28,7 @@ use Rattle.effects.specs.Results.{result, silent}
 use Rattle.effects.specs.Effects.{Effect, quiet}
 use Rattle.saved.specs.Format.{savedInRange}
 use Rattle.saved.specs.Calls.{loadedState}
-use Rattle.wimtaze.specs.Calls.{CCall, «wimtaze_empty», «wimtaze_receive», «wimtaze_receive_at», «wimtaze_type», «wimtaze_erase», «wimtaze_restore», «wimtaze_text», «wimtaze_counts», «wimtaze_upgrade», «wimtaze_downgrade», inputChecks, answering, handedChecks, ruleChecks, callChecks, effectOf}
+use Rattle.wimtaze.specs.Calls.{CCall, «wimtaze_empty», «wimtaze_receive», «wimtaze_receive_at», «wimtaze_type», «wimtaze_erase», «wimtaze_restore», «wimtaze_paste», «wimtaze_text», «wimtaze_counts», «wimtaze_upgrade», «wimtaze_downgrade», inputChecks, answering, handedChecks, ruleChecks, callChecks, effectOf}
 use Rattle.wimtaze.specs.Theorems.{meets, RefusalsMet, CallsNeverTaken}
 use Rattle.wimtaze.proofs.Listing.{Went, away, lacking, through, went, earlier-reported, output-reported, product-made, calls-meet, calls-refuse}
 
@@ -87,6 +87,7 @@ calls-never-taken c bytes out line h = go c (calls-refuse c bytes out line Taken
     go («wimtaze_type» g n) r = type-untaken bytes g n out line r
     go («wimtaze_erase» p) r = unmet («wimtaze_erase» p) bytes out line refl r
     go («wimtaze_restore» n t) r = unmet («wimtaze_restore» n t) bytes out line refl r
+    go («wimtaze_paste» g block) r = unmet («wimtaze_paste» g block) bytes out line refl r
     go «wimtaze_text» r = unmet «wimtaze_text» bytes out line refl r
     go «wimtaze_counts» r = unmet «wimtaze_counts» bytes out line refl r
     go «wimtaze_upgrade» r = unmet «wimtaze_upgrade» bytes out line refl r

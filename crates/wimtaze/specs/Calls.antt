@@ -5,12 +5,14 @@ use mathlib.Core.Bool.{Bool, true, _&&_, _||_, not}
 use mathlib.Core.List.{List, [], _∷_, _++_, map}
 use lib.Dec.{eqb, ltb}
 use lib.ListN.{length, drop}
+use Rattle.lists.specs.Lists.{missing}
 use Rattle.output.specs.Output.{placed}
+use Rattle.utf8.specs.Decoding.{decoded}
 use Rattle.woot.specs.declared.Identifier.{Identifier}
 use Rattle.woot.specs.declared.Operation.{Operation}
 use Rattle.woot.specs.declared.Operation.the-variants.{Insert as insert, Toggle as toggle}
 use Rattle.woot.specs.declared.Refusal.{Refusal}
-use Rattle.woot.specs.declared.Refusal.the-variants.{Layout, Range, Form, Output}
+use Rattle.woot.specs.declared.Refusal.the-variants.{Layout, Range, NotUtf8, Form, Output}
 use Rattle.woot.specs.declared.Answer.{Answer}
 use Rattle.woot.specs.declared.Answer.the-variants.{Done, Refused}
 use Rattle.woot.specs.declared.Sent.{Sent}
@@ -21,8 +23,9 @@ use Rattle.woot.specs.Answers.{answerOf, Check, _⇒_, first, decided}
 use Rattle.woot.specs.Calls.{Outcome, receiveChecks, receive, insertChecks, generatedInsert, localInsert, deleteChecks}
 use Rattle.woot.specs.Calls.{generatedDelete, localDelete, restoreChecks, generatedToggle, localRestore}
 use Rattle.woot.specs.Cursor.{receiveAtChecks, receiveAt, shiftAt}
+use Rattle.woot.specs.Pasting.{PasteOutcome, pasteChecks, paste}
 use Rattle.woot.specs.Text.{text}
-use Rattle.lines.specs.Lines.{rest}
+use Rattle.lines.specs.Lines.{rest, concatenated}
 use Rattle.cursor.specs.Bits.{shiftBits}
 use Rattle.codec.specs.Operations.{operationLine}
 use Rattle.codec.specs.Calls.{laidOut, saidBy}
@@ -48,6 +51,8 @@ pub data CCall : Type 0 where
   «wimtaze_erase» : ℕ → CCall
   -- the laptop and the clock of an identifier
   «wimtaze_restore» : ℕ → ℕ → CCall
+  -- a gap and a block of text
+  «wimtaze_paste» : ℕ → List ℕ → CCall
   «wimtaze_text» : CCall
   «wimtaze_counts» : CCall
   -- what is saved in the first form
@@ -57,12 +62,16 @@ pub data CCall : Type 0 where
 -- ---- conditions on what is handed
 
 -- conditions 1, 2 and 3 over a saved replica and what else was handed, of which the two Bools say whether it has its
--- layout and is in range
-unfoldable pub inputChecks : List ℕ → Bool → Bool → List (Check Refusal)
-inputChecks bytes laid ranged =
+-- layout and is in range; what a call asks besides stands between 2 and 3
+abbrev pub inputChecksWith : List ℕ → Bool → Bool → List (Check Refusal) → List (Check Refusal)
+inputChecksWith bytes laid ranged besides =
     (not (savedLaidOut bytes && laid) ⇒ Layout) ∷ (not (savedInRange bytes && ranged) ⇒ Range)
-    ∷ (not (wellFormed (loadedState bytes)) ⇒ Form)
+    ∷ besides ++ (not (wellFormed (loadedState bytes)) ⇒ Form)
     ∷ []
+
+-- nothing besides
+unfoldable pub inputChecks : List ℕ → Bool → Bool → List (Check Refusal)
+inputChecks bytes laid ranged = inputChecksWith bytes laid ranged []
 
 -- one line that has its layout: "bytes after the line's line feed are refusal 1"
 unfoldable pub oneLine : List ℕ → Bool
@@ -80,6 +89,8 @@ handedChecks («wimtaze_receive_at» line gap) bytes = inputChecks bytes (oneLin
 handedChecks («wimtaze_type» gap n) bytes = inputChecks bytes true (codePoint n)
 handedChecks («wimtaze_erase» place) bytes = inputChecks bytes true true
 handedChecks («wimtaze_restore» site clock) bytes = inputChecks bytes true (characterId (named site clock))
+handedChecks («wimtaze_paste» gap block) bytes =
+    inputChecksWith bytes true true ((missing (decoded block) ⇒ NotUtf8) ∷ [])
 handedChecks «wimtaze_text» bytes = inputChecks bytes true true
 handedChecks «wimtaze_counts» bytes = inputChecks bytes true true
 handedChecks «wimtaze_upgrade» bytes = conversionRefusals First Second bytes
@@ -91,8 +102,8 @@ handedChecks «wimtaze_downgrade» bytes = conversionRefusals Second First bytes
 abbrev pub answering : List (Check Sent) → List (Check Answer)
 answering cs = map (λ c. c .holds ⇒ answerOf (c .answer)) cs
 
--- what the rule turns away, or knows, on the state that loading makes of the saved bytes: all its conditions but 2 and
--- 3, which begin its list and were looked at over all that was handed
+-- what the rule turns away, or knows, on the state that loading makes of the saved bytes: all its conditions but 2, 20
+-- and 3, which begin its list and were looked at over all that was handed
 unfoldable pub ruleChecks : CCall → State → List (Check Answer)
 ruleChecks («wimtaze_empty» n) s = []
 ruleChecks («wimtaze_receive» line) s = drop 2 (receiveChecks true s (saidBy line))
@@ -100,6 +111,7 @@ ruleChecks («wimtaze_receive_at» line gap) s = drop 2 (receiveAtChecks true s 
 ruleChecks («wimtaze_type» gap n) s = answering (drop 2 (insertChecks true s gap n))
 ruleChecks («wimtaze_erase» place) s = answering (drop 1 (deleteChecks true s place))
 ruleChecks («wimtaze_restore» site clock) s = answering (drop 2 (restoreChecks true s (named site clock)))
+ruleChecks («wimtaze_paste» gap block) s = drop 2 (pasteChecks true s gap block)
 ruleChecks «wimtaze_text» s = []
 ruleChecks «wimtaze_counts» s = []
 ruleChecks «wimtaze_upgrade» s = []
@@ -135,6 +147,17 @@ replicaAndLine w o =
       line = operationLine o;
     }
 
+-- document 02, Req 11: the saved replica that pasting leaves, and the "insert lines in sequence"; of an empty block,
+-- which "writes nothing", no bytes
+abbrev pub replicaAndLines : PasteOutcome → List ℕ → Product
+replicaAndLines w [] = bytesAlone []
+replicaAndLines w (b ∷ block) =
+    record {
+      result = result (w .answer) (length (savedBytes (w .state))) (length (concatenated operationLine (w .own)));
+      output = savedBytes (w .state);
+      line = concatenated operationLine (w .own);
+    }
+
 -- where no condition holds
 unfoldable pub productOf : CCall → List ℕ → Product
 productOf («wimtaze_empty» n) bytes = bytesAlone (savedBytes (initial n))
@@ -149,6 +172,7 @@ productOf («wimtaze_erase» place) bytes =
 productOf («wimtaze_restore» site clock) bytes =
     replicaAndLine (localRestore (loadedState bytes) (named site clock))
     (toggle (generatedToggle (loadedState bytes) (named site clock)))
+productOf («wimtaze_paste» gap block) bytes = replicaAndLines (paste (loadedState bytes) gap block) block
 productOf «wimtaze_text» bytes = bytesAlone (text (loadedState bytes .characters))
 productOf «wimtaze_counts» bytes = record { result = countsOf (loadedState bytes); output = []; line = [] }
 productOf «wimtaze_upgrade» bytes = bytesAlone (conversion First Second bytes)

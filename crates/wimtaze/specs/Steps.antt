@@ -3,22 +3,23 @@
 use Prim.Native.Nat.{ℕ}
 use mathlib.Core.Bool.{true, not}
 use mathlib.Core.List.{List, [], _∷_}
-use Rattle.woot.specs.declared.Refusal.the-variants.{Range}
+use Rattle.woot.specs.declared.Refusal.the-variants.{Layout, Range}
 use Rattle.woot.specs.declared.Answer.the-variants.{Done, Refused}
 use Rattle.woot.specs.Ranges.{siteNumber, codePoint, characterId, inRange}
 use Rattle.woot.specs.State.{initial}
 use Rattle.woot.specs.Answers.{_⇒_, first, decided}
 use Rattle.woot.specs.Calls.{receive, localInsert, localDelete, localRestore}
 use Rattle.woot.specs.Cursor.{receiveAt, shiftAt}
+use Rattle.woot.specs.Pasting.{paste}
 use Rattle.woot.specs.Text.{text}
 use Rattle.codec.specs.Calls.{saidBy}
 use Rattle.saved.specs.declared.Version.{Version}
 use Rattle.saved.specs.declared.Version.the-variants.{First, Second}
-use Rattle.saved.specs.Format.{savedBytes}
+use Rattle.saved.specs.Format.{savedLaidOut, savedInRange, savedBytes}
 use Rattle.saved.specs.Calls.{loadedState}
 use Rattle.saved.specs.Conversion.{conversion, conversionRefusals}
 use Rattle.effects.specs.Results.{Result, silent}
-use Rattle.effects.specs.Effects.{Effect, turned, writing, afterReceiving, afterReceivingAt, afterSending}
+use Rattle.effects.specs.Effects.{Effect, turned, writing, afterReceiving, afterReceivingAt, afterSending, afterPasting}
 use Rattle.effects.specs.Counts.{countsOf}
 use Rattle.wimtaze.specs.Calls.{inputChecks, oneLine, named}
 
@@ -58,6 +59,13 @@ unfoldable pub restoringHere : List ℕ → ℕ → ℕ → List ℕ → List �
 restoringHere bytes site clock out line =
     decided (turned out line) (first (inputChecks bytes true (characterId (named site clock))))
     (afterSending (localRestore (loadedState bytes) (named site clock)) out line)
+
+-- `wimtaze_paste`: document 02, Req 11. Its reader answers 1 and 2, and pasting all that comes after
+unfoldable pub pastingHere : List ℕ → ℕ → List ℕ → List ℕ → List ℕ → Effect
+pastingHere bytes point block out line =
+    decided (turned out line)
+    (first ((not (savedLaidOut bytes) ⇒ Layout) ∷ (not (savedInRange bytes) ⇒ Range) ∷ []))
+    (afterPasting (paste (loadedState bytes) point block) out line)
 
 -- `wimtaze_text`
 unfoldable pub showingText : List ℕ → List ℕ → Effect

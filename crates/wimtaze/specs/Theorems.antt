@@ -2,7 +2,7 @@
 -- in small letters.
 use Prim.Native.Nat.{ℕ, _+_, _%_, _/_, _^_, _≤_}
 use mathlib.Core.Path.{_≡_}
-use mathlib.Core.Bool.{Bool, true, false}
+use mathlib.Core.Bool.{Bool, true, false, cond}
 use mathlib.Core.Logic.{_↔_}
 use mathlib.Core.List.{List, [], _∷_, _++_, map}
 use lib.Dec.{eqb}
@@ -11,27 +11,30 @@ use lib.IntN.{ℤ, pos, negsuc}
 use lib.Signed.{_≤ℤ_}
 use Rattle.woot.specs.declared.Operation.{Operation}
 use Rattle.woot.specs.declared.Refusal.{Refusal}
-use Rattle.woot.specs.declared.Refusal.the-variants.{Taken}
-use Rattle.woot.specs.declared.Answer.the-variants.{Duplicate, Refused}
+use Rattle.woot.specs.declared.Refusal.the-variants.{Taken, Unplaceable, DocumentFull}
+use Rattle.woot.specs.declared.Answer.{Answer}
+use Rattle.woot.specs.declared.Answer.the-variants.{Done, Deferred, Duplicate, Refused}
 use Rattle.woot.specs.Limits.{capacity}
 use Rattle.woot.specs.State.{State}
 use Rattle.woot.specs.Form.{wellFormed}
 use Rattle.woot.specs.Answers.{number, highestRefusal, Word, done, waits, known, refused, Reported}
-use Rattle.woot.specs.Calls.{beyondVisible}
+use Rattle.woot.specs.Calls.{nextIdentifier, beyondVisible}
 use Rattle.woot.specs.Cursor.{cursorAfter, shiftAt, lastNumber, movedBy}
+use Rattle.woot.specs.Pasting.{gapBelow}
 use Rattle.woot.specs.Text.{text}
 use Rattle.woot.specs.Memory.{pendingSlots}
 use Rattle.woot.specs.Situations.{numbersOf, ranksOf, rises}
 use Rattle.woot.specs.Writing.{writtenNumber, writtenLength}
 use Rattle.lists.specs.Lists.{any}
-use Rattle.lines.specs.Lines.{rest}
+use Rattle.utf8.specs.Theorems.{Encodes}
+use Rattle.lines.specs.Lines.{rest, concatenated}
 use Rattle.cursor.specs.Bits.{shiftRead}
 use Rattle.codec.specs.Calls.{saidBy}
 use Rattle.codec.specs.Theorems.{insertMost, toggleMost}
 use Rattle.saved.specs.declared.LoadAnswer.the-variants.{Done as loadDone}
 use Rattle.saved.specs.declared.Version.{Version}
 use Rattle.saved.specs.declared.Version.the-variants.{First, Second}
-use Rattle.saved.specs.Format.{siteLine}
+use Rattle.saved.specs.Format.{siteLine, savedLaidOut, savedInRange}
 use Rattle.saved.specs.Calls.{loadedAs, raisingAs, needsRaising, loaded, loadedState}
 use Rattle.saved.specs.Conversion.{converted, convertedOut, firstMost}
 use Rattle.saved.specs.Theorems.{savedMost}
@@ -40,6 +43,8 @@ use Rattle.effects.specs.Effects.{Effect}
 use Rattle.wimtaze.specs.Calls.{CCall, «wimtaze_empty», «wimtaze_receive», «wimtaze_receive_at», «wimtaze_type»}
 use Rattle.wimtaze.specs.Calls.{«wimtaze_erase», «wimtaze_restore», «wimtaze_text», «wimtaze_counts»}
 use Rattle.wimtaze.specs.Calls.{«wimtaze_upgrade», «wimtaze_downgrade», callChecks, effectOf}
+use Rattle.wimtaze.specs.Calls.{«wimtaze_paste»}
+use Rattle.effects.specs.Effects.{quiet}
 
 -- ---- refusals: any call, any bytes, numbers and slices
 
@@ -52,6 +57,7 @@ meets («wimtaze_receive_at» line gap) = 1 ∷ 2 ∷ 3 ∷ 0 ∷ 4 ∷ 7 ∷ 8 
 meets («wimtaze_type» gap n) = 1 ∷ 2 ∷ 3 ∷ 4 ∷ 5 ∷ 6 ∷ 9 ∷ 11 ∷ 12 ∷ []
 meets («wimtaze_erase» place) = 1 ∷ 2 ∷ 3 ∷ 4 ∷ 12 ∷ []
 meets («wimtaze_restore» site clock) = 1 ∷ 2 ∷ 3 ∷ 13 ∷ 14 ∷ 12 ∷ []
+meets («wimtaze_paste» gap block) = 1 ∷ 2 ∷ 20 ∷ 3 ∷ 4 ∷ 5 ∷ 11 ∷ 9 ∷ 12 ∷ []
 meets «wimtaze_text» = 1 ∷ 2 ∷ 3 ∷ 12 ∷ []
 meets «wimtaze_counts» = 1 ∷ 2 ∷ 3 ∷ 12 ∷ []
 meets «wimtaze_upgrade» = 1 ∷ 2 ∷ 3 ∷ 15 ∷ 12 ∷ []
@@ -60,11 +66,32 @@ meets «wimtaze_downgrade» = 1 ∷ 2 ∷ 3 ∷ 15 ∷ 12 ∷ []
 abbrev pub CallsMeet : Type 0
 CallsMeet = (c : CCall) (bytes out line : List ℕ) → numbersOf (callChecks c bytes out line) ≡ meets c
 
+-- 11 and 9 in each other's place
+abbrev pub exchanged : Answer → Answer
+exchanged (Done n m) = Done n m
+exchanged Deferred = Deferred
+exchanged Duplicate = Duplicate
+exchanged (Refused q) = Refused (cond (eqb (number q) 9) DocumentFull (cond (eqb (number q) 11) Unplaceable q))
+
+-- the answer whose rank an answer has in a call: its own, but in pasting 11 is "here before 9"
+abbrev pub rankedAs : CCall → Answer → Answer
+rankedAs («wimtaze_empty» n) a = a
+rankedAs («wimtaze_receive» line) a = a
+rankedAs («wimtaze_receive_at» line gap) a = a
+rankedAs («wimtaze_type» gap n) a = a
+rankedAs («wimtaze_erase» place) a = a
+rankedAs («wimtaze_restore» site clock) a = a
+rankedAs («wimtaze_paste» gap block) a = exchanged a
+rankedAs «wimtaze_text» a = a
+rankedAs «wimtaze_counts» a = a
+rankedAs «wimtaze_upgrade» a = a
+rankedAs «wimtaze_downgrade» a = a
+
 -- "in checking order": the ranks rise, so that the first condition that holds is the lowest
 abbrev pub CallsRise : Type 0
 CallsRise =
     (c : CCall) (bytes out line : List ℕ) →
-    rises (ranksOf (map (λ q. q .answer) (callChecks c bytes out line))) ≡ true
+    rises (ranksOf (map (λ q. rankedAs c (q .answer)) (callChecks c bytes out line))) ≡ true
 
 -- refusal q is answered, by its number, exactly when its condition holds and none before it
 abbrev pub CallsRefuse : Type 0
@@ -114,12 +141,17 @@ pub record Bounds : Type 0 where
 abbrev pub textMost : ℕ
 textMost = 4096
 
+-- the lines of a block: 1,024 inserts of 37 bytes each
+abbrev pub linesMost : ℕ
+linesMost = 37888
+
 -- what a call that writes these many bytes at most, and nothing else, returns at most
 abbrev pub boundsOfBytes : ℕ → Bounds
 boundsOfBytes most = record { integrated = 0; discarded = 0; written = most; line = 0 }
 
--- carried is at most 513 and thrown 512: an insert with all that waits; the last is the line's length, or the bits of a
--- shift. A call that counts gives counts in their place
+-- carried is at most 513 and thrown 512: an insert with all that waits; of a block carried is at most 1,536: 1,024
+-- inserts with all that waits. The last is the length of what is sent, or the bits of a shift. A call that counts gives
+-- counts in their place
 abbrev pub boundsOf : CCall → Bounds
 boundsOf («wimtaze_empty» n) = boundsOfBytes savedMost
 boundsOf («wimtaze_receive» line) = record { integrated = 513; discarded = pendingSlots; written = savedMost; line = 0 }
@@ -130,6 +162,8 @@ boundsOf («wimtaze_type» gap n) =
 boundsOf («wimtaze_erase» place) = record { integrated = 1; discarded = 0; written = savedMost; line = toggleMost }
 boundsOf («wimtaze_restore» site clock) =
     record { integrated = 1; discarded = 0; written = savedMost; line = toggleMost }
+boundsOf («wimtaze_paste» gap block) =
+    record { integrated = 1536; discarded = pendingSlots; written = savedMost; line = linesMost }
 boundsOf «wimtaze_text» = boundsOfBytes textMost
 boundsOf «wimtaze_counts» =
     record { integrated = capacity; discarded = pendingSlots; written = capacity; line = capacity }
@@ -180,8 +214,8 @@ pub record CountsWithin (x : Result) : Type 0 where
 abbrev pub CountsFit : Type 0
 CountsFit = (bytes : List ℕ) → CountsWithin (effectOf «wimtaze_counts» bytes [] [] .result)
 
--- ---- sizes: the header's WIMTAZE_SHEET_MAX, WIMTAZE_OLD_SHEET_MAX, WIMTAZE_INSERT_MAX, WIMTAZE_ERASE_MAX and
--- WIMTAZE_TEXT_MAX
+-- ---- sizes: the header's WIMTAZE_SHEET_MAX, WIMTAZE_OLD_SHEET_MAX, WIMTAZE_INSERT_MAX, WIMTAZE_LINES_MAX,
+-- WIMTAZE_ERASE_MAX and WIMTAZE_TEXT_MAX
 
 -- the visible text of a state in form is no longer than a text
 abbrev pub TextLength : Type 0
@@ -199,6 +233,7 @@ roomOf («wimtaze_receive_at» line gap) = record { output = savedMost; line = 0
 roomOf («wimtaze_type» gap n) = record { output = savedMost; line = insertMost }
 roomOf («wimtaze_erase» place) = record { output = savedMost; line = toggleMost }
 roomOf («wimtaze_restore» site clock) = record { output = savedMost; line = toggleMost }
+roomOf («wimtaze_paste» gap block) = record { output = savedMost; line = linesMost }
 roomOf «wimtaze_text» = record { output = textMost; line = 0 }
 roomOf «wimtaze_counts» = record { output = 0; line = 0 }
 roomOf «wimtaze_upgrade» = record { output = savedMost; line = 0 }
@@ -221,7 +256,7 @@ pub record Formed (bytes : List ℕ) : Type 0 where
   pub loads : loaded bytes .answer ≡ loadDone
   pub unraised : needsRaising bytes ≡ false
 
--- whether the first output is a saved replica
+-- whether the first output is a saved replica; pasting an empty block "writes nothing"
 abbrev pub saves : CCall → Bool
 saves («wimtaze_empty» n) = true
 saves («wimtaze_receive» line) = true
@@ -229,6 +264,8 @@ saves («wimtaze_receive_at» line gap) = true
 saves («wimtaze_type» gap n) = true
 saves («wimtaze_erase» place) = true
 saves («wimtaze_restore» site clock) = true
+saves («wimtaze_paste» gap []) = false
+saves («wimtaze_paste» gap (b ∷ block)) = true
 saves «wimtaze_text» = false
 saves «wimtaze_counts» = false
 saves «wimtaze_upgrade» = true
@@ -289,7 +326,7 @@ CursorReturned =
 abbrev pub lineWritten : Effect → List ℕ
 lineWritten e = take (e .result .line) (e .line)
 
--- whether a call makes an edit here, and writes its line
+-- whether a call makes one edit here, and writes its line
 abbrev pub sends : CCall → Bool
 sends («wimtaze_empty» n) = false
 sends («wimtaze_receive» line) = false
@@ -297,6 +334,7 @@ sends («wimtaze_receive_at» line gap) = false
 sends («wimtaze_type» gap n) = true
 sends («wimtaze_erase» place) = true
 sends («wimtaze_restore» site clock) = true
+sends («wimtaze_paste» gap block) = false
 sends «wimtaze_text» = false
 sends «wimtaze_counts» = false
 sends «wimtaze_upgrade» = false
@@ -363,3 +401,53 @@ abbrev pub TripsReturn : Type 0
 TripsReturn =
     (v : Version) (bytes out back : List ℕ) → convertedFrom v bytes out .result .reply .word ≡ done →
     length (siteLine v (loadedAs v bytes .site) ++ rest bytes) ≤ length back → ReturnsBytes v bytes out back
+
+-- ---- document 02, Req 11
+
+-- what `wimtaze_type` leaves of each code point, with these outputs: "the first at the gap and each other at the gap
+-- just below the row of the one before", which has the identifier that was next, on the bytes that the one before wrote
+abbrev pub typedInC : List ℕ → ℕ → List ℕ → List ℕ → List ℕ → List Effect
+typedInC bytes gap out line [] = []
+typedInC bytes gap out line (n ∷ ns) =
+    let e : Effect = effectOf («wimtaze_type» gap n) bytes out line in
+    let t : State = loadedState (bytesWritten e) in
+    e ∷ typedInC (bytesWritten e) (gapBelow t (nextIdentifier (loadedState bytes .site))) out line ns
+
+-- each of these is done
+abbrev pub AllDone : List Effect → Type 0
+AllDone [] = Unit
+AllDone (e ∷ es) = (e .result .reply .word ≡ done) × AllDone es
+
+-- a count of theirs added up, and the bytes that the last of them wrote
+abbrev pub total : (Effect → ℕ) → List Effect → ℕ
+total f [] = 0
+total f (e ∷ es) = f e + total f es
+
+abbrev pub lastBytes : List ℕ → List Effect → List ℕ
+lastBytes bytes [] = bytes
+lastBytes bytes (e ∷ es) = lastBytes (bytesWritten e) es
+
+-- an effect counts and writes what these do together, begun on the bytes
+pub record WritesAs (e : Effect) (bytes : List ℕ) (es : List Effect) : Type 0 where
+  pub all-done : AllDone es
+  pub same-integrated : e .result .reply .integrated ≡ total (λ x. x .result .reply .integrated) es
+  pub same-discarded : e .result .reply .discarded ≡ total (λ x. x .result .reply .discarded) es
+  pub same-bytes : bytesWritten e ≡ lastBytes bytes es
+  pub same-lines : lineWritten e ≡ concatenated lineWritten es
+
+-- "It equals typing the characters one after another", "and gives their insert lines in sequence": where a block was
+-- pasted, its characters can be typed, and what was returned and written is what that comes to
+abbrev pub PasteTypes : Type 0
+PasteTypes =
+    (bytes out line : List ℕ) (gap b : ℕ) (block ns : List ℕ) → Encodes (b ∷ block) ns →
+    effectOf («wimtaze_paste» gap (b ∷ block)) bytes out line .result .reply .word ≡ done →
+    (eachOut eachLine : List ℕ) → savedMost ≤ length eachOut → insertMost ≤ length eachLine →
+    WritesAs (effectOf («wimtaze_paste» gap (b ∷ block)) bytes out line) bytes (typedInC bytes gap eachOut eachLine ns)
+
+-- "An empty block that meets none of refusals 1 to 4 changes nothing and writes nothing", whatever the clock, the space
+-- and the outputs
+abbrev pub PasteEmptyWrites : Type 0
+PasteEmptyWrites =
+    (bytes out line : List ℕ) (gap : ℕ) → savedLaidOut bytes ≡ true → savedInRange bytes ≡ true →
+    wellFormed (loadedState bytes) ≡ true → beyondVisible (loadedState bytes) gap ≡ false →
+    effectOf («wimtaze_paste» gap []) bytes out line ≡ quiet out line (Done 0 0)

@@ -13,7 +13,7 @@ ghost use Rattle.effects.specs.Effects.{Leaves};
 ghost use Rattle.woot.specs.Cursor.{movedBy};
 ghost use Rattle.wimtaze.specs.Calls.{effectOf, «wimtaze_empty», «wimtaze_receive», «wimtaze_receive_at»};
 ghost use Rattle.wimtaze.specs.Calls.{«wimtaze_type», «wimtaze_erase», «wimtaze_restore», «wimtaze_text»};
-ghost use Rattle.wimtaze.specs.Calls.{«wimtaze_counts», «wimtaze_upgrade», «wimtaze_downgrade»};
+ghost use Rattle.wimtaze.specs.Calls.{«wimtaze_paste», «wimtaze_counts», «wimtaze_upgrade», «wimtaze_downgrade»};
 
 // Writes the empty replica of a site.
 #[no_mangle]
@@ -114,6 +114,23 @@ pub extern "C" fn wimtaze_restore(
         r (now (out .exit)) (now («line_out» .exit)) ⌝ }
 {
     sending::restore(bytes, site, clock, out, line_out)
+}
+
+// Pastes a block of text, and writes the new saved replica and the lines to be sent, one after another. (Document 02,
+// Req 11.)
+#[no_mangle]
+pub extern "C" fn wimtaze_paste(
+    bytes: &[u8],
+    point: u64,
+    text: &[u8],
+    out: &mut [u8],
+    lines_out: &mut [u8],
+) -> u64
+    ensures { λ r. ⌜ Leaves (effectOf («wimtaze_paste» point (now (text .entry))) (now (bytes .entry))
+        (now (out .entry)) (now («lines_out» .entry)))
+        r (now (out .exit)) (now («lines_out» .exit)) ⌝ }
+{
+    sending::paste(bytes, point, text, out, lines_out)
 }
 
 // Writes in the second form what is saved in the first.

@@ -1,9 +1,9 @@
-// What the calls do that make an operation here and give its line: inserting, deleting and restoring.
+// What the calls do that make operations here and give their lines: inserting, deleting, restoring and pasting.
 use crate::inputs;
 use saved::LoadAnswer;
 use woot::Refusal;
 ghost use Rattle.effects.specs.Effects.{Leaves};
-ghost use Rattle.wimtaze.specs.Steps.{insertingHere, deletingHere, restoringHere};
+ghost use Rattle.wimtaze.specs.Steps.{insertingHere, deletingHere, restoringHere, pastingHere};
 
 // Inserts a character, and writes the new saved replica and the line to be sent.
 pub(crate) fn insert(
@@ -74,6 +74,32 @@ pub(crate) fn restore(
             let replica = loaded.replica;
             let id = codec::identifier(site, clock);
             effects::save_and_send(replica::restore(replica, id), out, line_out)
+        }
+    }
+}
+
+// Pastes a block of text, and writes the new saved replica and the lines to be sent. (Document 02, Req 11.)
+pub(crate) fn paste(
+    bytes: &[u8],
+    point: u64,
+    block: &[u8],
+    out: &mut [u8],
+    lines_out: &mut [u8],
+) -> u64
+    ensures { λ r. ⌜ Leaves (pastingHere (now (bytes .entry)) point (now (block .entry))
+        (now (out .entry)) (now («lines_out» .entry)))
+        r (now (out .exit)) (now («lines_out» .exit)) ⌝ }
+{
+    let loaded = loading::read(bytes);
+    let answer = loaded.answer;
+    match answer {
+        LoadAnswer::Refused(q) => effects::results::number_of_refusal(q),
+        LoadAnswer::Done => {
+            let replica = loaded.replica;
+            let pasted = pasting::paste(replica, point as usize, block);
+            let answer = pasted.answer;
+            let after = pasted.replica;
+            effects::send_lines(answer, after, &pasted.typed, pasted.count, out, lines_out)
         }
     }
 }
