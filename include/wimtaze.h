@@ -4,9 +4,9 @@
  * Each laptop keeps a sheet: the characters typed so far, those erased among them, and the edits that came before
  * something that they need. Your program holds a sheet as bytes, the saved sheet. A call takes a saved sheet and
  * writes a new one; the library keeps nothing between calls, allocates nothing, and opens no file or connection.
- * Typing, erasing and restoring also write a line, which ends in a line feed, its only one. Send it to the other
- * laptops in any way you like: lines may be lost and sent again, come twice, or come in another order. Laptops that
- * have carried out the same edits show the same text.
+ * Typing, erasing and restoring also write a line, which ends in a line feed, its only one, and pasting writes one for
+ * each character. Send them to the other laptops in any way you like: lines may be lost and sent again, come twice, or
+ * come in another order. Laptops that have carried out the same edits show the same text.
  *
  *     static uint8_t sheet[WIMTAZE_SHEET_MAX], after[WIMTAZE_SHEET_MAX];
  *     uint8_t line[WIMTAZE_LINE_MAX];
@@ -30,6 +30,9 @@
  * character, and in the place where it was.
  *
  * A program that shows a cursor receives with wimtaze_receive_at, which tells how far to move it: see the cursor.
+ *
+ * A text that is there already, as the results on the pairing screen, goes in with one call of wimtaze_paste: see
+ * pasting.
  *
  *
  * What your program must do
@@ -69,20 +72,20 @@
  *         Restoring, and 2: what was given is no identifier. Upgrading: the file is damaged, or it is, with 1, not in
  *         the first form.
  *   3     The file is damaged: rule 1.
- *   4     Typing, erasing: the text is shorter than you thought. It may change with every line that comes. Receiving
- *         with a cursor: the cursor is beyond the text, and the line was not taken in. Set the cursor right, and hand
- *         the line over again.
- *   5     Typing: this laptop has typed 65,535 characters, or a line with its number and that clock came. Rule 6 or 7
- *         was broken.
+ *   4     Typing, pasting, erasing: the text is shorter than you thought. It may change with every line that comes.
+ *         Receiving with a cursor: the cursor is beyond the text, and the line was not taken in. Set the cursor right,
+ *         and hand the line over again.
+ *   5     Typing, pasting: this laptop has typed 65,535 characters, or would have before the end of the block; or a
+ *         line with its number and such a clock came. Rule 6 or 7 was broken.
  *   6     Reserved. No call answers it.
  *   7     Two laptops have one number, or one went on from an old sheet, or typed before it had its own characters
  *         back: rule 1 or 2 was broken. It is told when the line comes, which is never acknowledged. The copies differ
  *         for good: tell a person, and begin a new sheet on every laptop.
  *   8     Receiving: never between laptops that keep the rules. Otherwise as 7.
- *   9     Receiving, typing: never on a sheet that began empty. Otherwise as 7.
+ *   9     Receiving, typing, pasting: never on a sheet that began empty. Otherwise as 7.
  *   10    Receiving: rule 5. Nothing is wrong; the sender, who gets no acknowledgement, sends the line again.
- *   11    Typing: the sheet is full, and erasing makes no room. Receiving: rule 6 was broken, and the copies differ for
- *         good. Begin a new sheet on every laptop.
+ *   11    Typing: the sheet is full, and erasing makes no room. Pasting: it has no room for the whole block. Receiving:
+ *         rule 6 was broken, and the copies differ for good. Begin a new sheet on every laptop.
  *   12    The output is too short. With the sizes below it never is.
  *   13    Restoring: the character is shown already, or has not come. Nothing is wrong: look at the sheet again. It may
  *         change with every line that comes.
@@ -90,6 +93,8 @@
  *         hidden for good: type it anew.
  *   15    Downgrading: a character was brought back, or a line waits that says so, and the first form has no place
  *         for that. Nothing is wrong: keep the sheet as it is.
+ *   20    Pasting: the text is not UTF-8, or is cut in the middle of a character. Nothing is wrong with the sheet:
+ *         bring the text to UTF-8, or give all of it.
  *
  * If wimtaze_thrown is not 0, an edit that waited has met 8 or 9. The file laptop.h, which is installed with the
  * examples, keeps all these rules and can be copied, with anew.h for a laptop that lost its sheet; playing_hall.c there
@@ -113,13 +118,44 @@
  * What is edited here moves the cursor too:
  *
  *     typing at the cursor     one further, behind the new character, if wimtaze_carried is 1
+ *     pasting at the cursor    as many further as there are characters in the block, if wimtaze_carried is that number
  *     erasing                  one back if the place is at most the cursor, and else not
  *     restoring                one further if the character is above the cursor, and else not
  *
  * Whether it is above, and how far any edit made here moves another cursor, is learnt as for a line that comes: hand
  * the line that the edit wrote to wimtaze_receive_at, with the sheet as it was before. It writes the same new sheet.
- * The same goes for typing where wimtaze_carried is more than 1: something that waited for the new character came with
- * it, and may have erased it at once or put another above it.
+ * The lines of a block are handed over so in turn, each with the sheet that the one before wrote; the last writes the
+ * sheet that pasting wrote. The same goes for typing and pasting where wimtaze_carried is more than the number of
+ * characters: something that waited for a new character came with it, and may have erased it at once or put another
+ * above it. The cursor then keeps to what it had on its left, above the new characters. To have it behind them all the
+ * same, count the shown characters of the new sheet from the top through the last new one: its identifier is the
+ * laptop and the clock in the sheet's first line.
+ *
+ *
+ * Pasting
+ *
+ * A block of text in UTF-8, such as the results that the pairing screen gives, is pasted whole or not at all:
+ *
+ *     static uint8_t lines[WIMTAZE_LINES_MAX];
+ *     uint64_t reply = wimtaze_paste(sheet, length, cursor, text, text_length, after, sizeof after, lines,
+ *                                    sizeof lines);
+ *     if (wimtaze_word(reply) == WIMTAZE_DONE && text_length > 0) {
+ *         length = wimtaze_written(reply);
+ *         memcpy(sheet, after, length);
+ *         save_to_the_disk(sheet, length);
+ *         send_each_until_acknowledged(lines, wimtaze_line_written(reply));
+ *     }
+ *
+ * It does what wimtaze_type does for each character in turn, the first at the gap and each other just below the one
+ * before. The lines stand one behind the other, a line feed at the end of each, so that there are as many line feeds as
+ * characters. Each is a line like any other: send, keep and receive it by itself, by the rules above. The characters
+ * count towards the laptop's share, rule 6.
+ *
+ * The text is read strictly, by RFC 3629. If any of it is not UTF-8 nothing is pasted: 20. A mark at its front, U+FEFF,
+ * is pasted like any other character; leave it out of what you hand over if you do not want it on the sheet. So is a
+ * carriage return, which wimtaze_text then shows as U+FFFD.
+ *
+ * With an empty text the answer is done and nothing is written: wimtaze_written is 0, and the sheet you have stands.
  *
  *
  * The layouts
@@ -166,14 +202,14 @@
  *
  * The calls
  *
- * Inputs. A length is in bytes. Any bytes and any numbers may be passed: what is not a sheet or a line is refused.
- * Inputs are only read, and are not needed after the call.
+ * Inputs. A length is in bytes. Any bytes and any numbers may be passed: what is not a sheet, a line or UTF-8 is
+ * refused. Inputs are only read, and are not needed after the call.
  *
  * Outputs. They are yours; the library writes only between the pointer and its length. When the word is done or
  * waits, the new sheet (or the text) stands from the first byte of the first output, wimtaze_written bytes of it, and
- * the line from the first byte of line_out, wimtaze_line_written bytes of it; no zero byte is added, and the bytes
- * after them are as they were. When the word is known or refused, no byte of any output is changed. Buffers of the
- * sizes below are always long enough.
+ * the line from the first byte of line_out, or the lines from that of lines_out, wimtaze_line_written bytes of it; no
+ * zero byte is added, and the bytes after them are as they were. When the word is known or refused, no byte of any
+ * output is changed. Buffers of the sizes below are always long enough.
  *
  * Pointers. Every pointer must be non-null, also with length 0: the compiled library relies on that. No output may
  * overlap an input or another output, so the new sheet cannot be written over the old one in the same call.
@@ -192,9 +228,9 @@ extern "C" {
 #endif
 
 /* The version of this header and of the library that it came with. */
-#define WIMTAZE_VERSION "0.7.0"
+#define WIMTAZE_VERSION "0.8.0"
 #define WIMTAZE_VERSION_MAJOR 0
-#define WIMTAZE_VERSION_MINOR 7
+#define WIMTAZE_VERSION_MINOR 8
 #define WIMTAZE_VERSION_PATCH 0
 
 /* The limits of a sheet. */
@@ -207,6 +243,7 @@ extern "C" {
 #define WIMTAZE_INSERT_MAX 37       /* the line of a typed character */
 #define WIMTAZE_ERASE_MAX 18        /* the line of an erased or restored character */
 #define WIMTAZE_LINE_MAX 37         /* either line */
+#define WIMTAZE_LINES_MAX 37888     /* the lines of a pasted block */
 #define WIMTAZE_TEXT_MAX 4096       /* the text */
 
 /*
@@ -224,24 +261,28 @@ enum wimtaze_words {
     WIMTAZE_REFUSED = 3 /* turned away; nothing is written */
 };
 
-/* Why a call is turned away. Where several hold, the first is told, in this order: 1 to 3, 15, 4, 13, 14, 5 to 12. */
+/*
+ * Why a call is turned away. Where several hold, the first is told, in this order: 1, 2, 20, 3, 15, 4, 13, 14, 5 to 12;
+ * but in pasting 11 comes before 9.
+ */
 enum wimtaze_refusals {
     WIMTAZE_REFUSAL_NONE = 0,           /* not refused */
     WIMTAZE_REFUSAL_LAYOUT = 1,         /* the line or the saved sheet lacks its layout */
     WIMTAZE_REFUSAL_RANGE = 2,          /* a number, in a line or a sheet or handed to the call, is out of its range */
     WIMTAZE_REFUSAL_FORM = 3,           /* the saved sheet contradicts itself: the library never writes such a one */
     WIMTAZE_REFUSAL_POSITION = 4,       /* no such gap or place: above the count of shown characters, or place 0 */
-    WIMTAZE_REFUSAL_CLOCK = 5,          /* the laptop's clock is 65,535: it can type no more */
+    WIMTAZE_REFUSAL_CLOCK = 5,          /* the laptop's clock is 65,535, or too near to it for the block to be pasted */
     WIMTAZE_REFUSAL_TAKEN = 6,          /* reserved: the clock follows the laptop's own characters; never answered */
     WIMTAZE_REFUSAL_CONFLICT = 7,       /* the insert's identifier stands for another insert on the sheet */
     WIMTAZE_REFUSAL_CROSSED = 8,        /* the insert's two neighbours stand in the other order on the sheet */
     WIMTAZE_REFUSAL_UNPLACEABLE = 9,    /* the sheet gives the insert no place between its neighbours */
     WIMTAZE_REFUSAL_SENDER_FULL = 10,   /* the edit would wait, and its sender has 32 waiting: try it again later */
-    WIMTAZE_REFUSAL_DOCUMENT_FULL = 11, /* the sheet has its 1,024 characters, erased and waiting ones counted */
+    WIMTAZE_REFUSAL_DOCUMENT_FULL = 11, /* it would be more than 1,024 characters, erased and waiting ones counted */
     WIMTAZE_REFUSAL_OUTPUT = 12,        /* an output is too short for its result */
     WIMTAZE_REFUSAL_NOT_HIDDEN = 13,    /* the character to be restored is shown, or is not on the sheet */
     WIMTAZE_REFUSAL_LAST_TURN = 14,     /* the turn of the character to be restored is 255: it stays hidden */
-    WIMTAZE_REFUSAL_HIGH_TURN = 15      /* a turn on the sheet is above 1: the first form has no place for it */
+    WIMTAZE_REFUSAL_HIGH_TURN = 15,     /* a turn on the sheet is above 1: the first form has no place for it */
+    WIMTAZE_REFUSAL_NOT_UTF8 = 20       /* the text to be pasted is not UTF-8 */
 };
 
 /*
@@ -298,6 +339,18 @@ uint64_t wimtaze_restore(const uint8_t *sheet, size_t sheet_length, uint64_t lap
                          size_t sheet_out_length, uint8_t *line_out, size_t line_out_length);
 
 /*
+ * Pastes a text in UTF-8, all of it or nothing: types each of its characters, the first at the gap and each other at
+ * the gap just below the one before, and writes the new sheet and the lines to send, one for each character, in the
+ * same sequence. If something that waited erased the one before at once, the next goes below the nearest shown
+ * character above it, or to the beginning. With an empty text that meets none of 1 to 4 the answer is done, with all
+ * counts and lengths 0, and nothing is written.
+ * Refusals: 1, 2, 20, 3, 4, 5, 11, 9, 12 (if either output is short, neither is written). Each is of the whole text: 9
+ * at any character refuses all of them.
+ */
+uint64_t wimtaze_paste(const uint8_t *sheet, size_t sheet_length, uint64_t gap, const uint8_t *text, size_t text_length,
+                       uint8_t *sheet_out, size_t sheet_out_length, uint8_t *lines_out, size_t lines_out_length);
+
+/*
  * Writes the text that the sheet shows, in UTF-8. It is for showing and printing, and not the characters themselves:
  * code points 0 to 8, 11 to 31 and 127 stand in it as U+FFFD, bytes EF BF BD. The sheet and the lines keep the real
  * ones.
@@ -328,7 +381,7 @@ uint64_t wimtaze_downgrade(const uint8_t *sheet, size_t sheet_length, uint8_t *o
 
 /*
  * Every call but wimtaze_moved returns one number, from the lowest bit up: the word (2 bits), the refusal (6), the
- * counts carried and thrown (12 each), and the lengths of what was written to the first output and to line_out (16
+ * counts carried and thrown (12 each), and the lengths of what was written to the first output and to the line's (16
  * each). wimtaze_receive_at has the shift in place of the last, in two's complement. wimtaze_counts has, in place of
  * these four, the shown characters, the waiting edits, all characters and the room. Each part has room for its largest
  * value, so none is ever cut; what has no meaning for an answer is 0. The functions below take the number apart.
@@ -347,8 +400,8 @@ static inline enum wimtaze_refusals wimtaze_refusal(uint64_t reply)
 }
 
 /*
- * How many edits the call carried out, its own and those that waited for it: at most 513, and 1 by erasing and by
- * restoring; 0 unless the word is done.
+ * How many edits the call carried out, its own and those that waited for it: at most 513, by pasting at most 1,536, and
+ * 1 by erasing and by restoring; 0 unless the word is done.
  */
 static inline unsigned wimtaze_carried(uint64_t reply)
 {
@@ -367,7 +420,7 @@ static inline size_t wimtaze_written(uint64_t reply)
     return (size_t)(reply >> 32 & 65535);
 }
 
-/* How many bytes were written to line_out, of a call that has it. */
+/* How many bytes were written to line_out or lines_out, of a call that has it. */
 static inline size_t wimtaze_line_written(uint64_t reply)
 {
     return (size_t)(reply >> 48 & 65535);
