@@ -1,5 +1,6 @@
 //! The C calls of the static library against the plain reference, call by call: random histories of up to sixteen
-//! laptops with lines lost, repeated and reordered, made-up sheets, damaged lines and sheets, outputs of every length.
+//! laptops with lines lost, repeated and reordered, made-up sheets, damaged lines, sheets and blocks of text, outputs
+//! of every length.
 //! A call passes if the returned number and every byte of its inputs and outputs, and of the guards around them, are
 //! what the reference says.
 //!
@@ -11,7 +12,7 @@ mod library;
 mod reference;
 
 use library::{
-    wimtaze_counts, wimtaze_downgrade, wimtaze_empty, wimtaze_erase, wimtaze_moved, wimtaze_receive,
+    wimtaze_counts, wimtaze_downgrade, wimtaze_empty, wimtaze_erase, wimtaze_moved, wimtaze_paste, wimtaze_receive,
     wimtaze_receive_at, wimtaze_restore, wimtaze_text, wimtaze_type, wimtaze_upgrade,
 };
 use reference::{Outcome, Reply};
@@ -64,6 +65,7 @@ enum Call<'a> {
     Type(&'a [u8], u64, u32),
     Erase(&'a [u8], u64),
     Restore(&'a [u8], u64, u64),
+    Paste(&'a [u8], u64, &'a [u8]),
     Text(&'a [u8]),
     Counts(&'a [u8]),
     Upgrade(&'a [u8]),
@@ -79,6 +81,7 @@ impl Call<'_> {
             Call::Type(..) => "type",
             Call::Erase(..) => "erase",
             Call::Restore(..) => "restore",
+            Call::Paste(..) => "paste",
             Call::Text(..) => "text",
             Call::Counts(..) => "counts",
             Call::Upgrade(..) => "upgrade",
@@ -86,11 +89,12 @@ impl Call<'_> {
         }
     }
 
-    /// The sheet and the line that are handed over.
+    /// The sheet, and the line or the block, that are handed over.
     fn inputs(&self) -> (&[u8], &[u8]) {
         match self {
             Call::Empty(_) => (&[], &[]),
             Call::Receive(sheet, line) | Call::ReceiveAt(sheet, line, _) => (sheet, line),
+            Call::Paste(sheet, _, block) => (sheet, block),
             Call::Type(sheet, ..) | Call::Erase(sheet, _) | Call::Restore(sheet, ..) => (sheet, &[]),
             Call::Text(sheet) | Call::Counts(sheet) => (sheet, &[]),
             Call::Upgrade(sheet) | Call::Downgrade(sheet) => (sheet, &[]),
@@ -105,6 +109,7 @@ impl Call<'_> {
             Call::Type(sheet, gap, code) => reference::type_call(sheet, gap, code),
             Call::Erase(sheet, place) => reference::erase_call(sheet, place),
             Call::Restore(sheet, laptop, clock) => reference::restore_call(sheet, laptop, clock),
+            Call::Paste(sheet, gap, block) => reference::paste_call(sheet, gap, block),
             Call::Text(sheet) => reference::text_call(sheet),
             Call::Counts(sheet) => reference::counts_call(sheet),
             Call::Upgrade(old) => reference::upgrade_call(old),
@@ -124,6 +129,7 @@ impl Call<'_> {
                 Call::Type(_, gap, code) => wimtaze_type(s, s_len, gap, code, f, f_len, o, o_len),
                 Call::Erase(_, place) => wimtaze_erase(s, s_len, place, f, f_len, o, o_len),
                 Call::Restore(_, laptop, clock) => wimtaze_restore(s, s_len, laptop, clock, f, f_len, o, o_len),
+                Call::Paste(_, gap, _) => wimtaze_paste(s, s_len, gap, l, l_len, f, f_len, o, o_len),
                 Call::Text(_) => wimtaze_text(s, s_len, f, f_len),
                 Call::Counts(_) => wimtaze_counts(s, s_len),
                 Call::Upgrade(_) => wimtaze_upgrade(s, s_len, f, f_len),
@@ -175,12 +181,40 @@ const CODE_POINTS: [u32; 22] = [
 ];
 const NO_CODE_POINTS: [u32; 5] = [55_296, 57_343, 1_114_112, 65_536 * 65_535, u32::MAX];
 
+/// What UTF-8 never has, or only with more bytes behind it: longer forms than needed, the first and the last of each
+/// length; surrogates; above U+10FFFF; bytes that begin nothing; cut characters; another byte in the middle of one.
+const NO_UTF8: [&[u8]; 36] = [
+    b"\xc0\x80", b"\xc1\xbf", b"\xe0\x80\x80", b"\xe0\x9f\xbf", b"\xf0\x80\x80\x80", b"\xf0\x8f\xbf\xbf",
+    b"\xed\xa0\x80", b"\xed\xbf\xbf", b"\xed\xa1\x8c\xed\xbe\xb4", b"\xf4\x90\x80\x80", b"\xf5\x80\x80\x80",
+    b"\xf7\xbf\xbf\xbf", b"\xf8\x88\x80\x80\x80", b"\xfc\x84\x80\x80\x80\x80", b"\xfe", b"\xff", b"\x80", b"\xbf",
+    b"\xc2", b"\xdf", b"\xe0", b"\xe0\xa0", b"\xe2\x82", b"\xed\x9f", b"\xef\xbf", b"\xf0", b"\xf0\x90",
+    b"\xf0\x9f\x98", b"\xf4\x8f", b"\xf4\x8f\xbf", b"\xc2\xc2\x80", b"\xc3a", b"\xe2a\xac", b"\xe2\x82\xc0",
+    b"\xf0\x9f\x98a", b"\xf0\x90\x7f\x80",
+];
+
 /// How far a made-up row's neighbours may be from it; at 0 they are the marks.
 const REACHES: [usize; 4] = [0, 1, 2, 1024];
 
 type Id = (usize, usize);
 const BEGIN: Id = (0, 0);
 const END: Id = (0, 1);
+
+/// Rows, each with its neighbours. The first character of a block at the top goes below 1/1, and the second below 1/2,
+/// where it meets 9.
+const SHUT_BEHIND: [(Id, Id, Id); 6] = [
+    ((1, 1), BEGIN, END),
+    ((9, 1), (1, 1), (9, 2)),
+    ((1, 2), (1, 1), END),
+    ((2, 1), (1, 2), (2, 2)),
+    ((2, 2), (2, 1), (9, 2)),
+    ((9, 2), BEGIN, END),
+];
+
+/// So many rows, each between the one above and the one below: what is typed between the marks meets 9.
+fn chained(count: usize) -> Vec<(Id, Id, Id)> {
+    let end = |k| if k == 0 { BEGIN } else if k > count { END } else { (1, k) };
+    (1..=count).map(|k| ((1, k), end(k - 1), end(k + 1))).collect()
+}
 
 /// The last four fields of an insert's line or a row's.
 fn ends(previous: Id, next: Id) -> String {
@@ -201,6 +235,29 @@ impl Random {
             1..=9 => self.pick(&CODE_POINTS),
             _ => 97 + self.below(26) as u32,
         }
+    }
+
+    /// A block of text in UTF-8: a few characters or none, now and then more.
+    fn block(&mut self) -> Vec<u8> {
+        let most = self.pick(&[1, 3, 3, 6, 6, 12, 40]);
+        let codes = (0..self.below(most + 1)).map(|_| self.code_point());
+        codes.filter_map(char::from_u32).collect::<String>().into_bytes()
+    }
+
+    /// The same with something in it that is mostly no UTF-8, or what is left of it, or any bytes.
+    fn malformed_block(&mut self) -> Vec<u8> {
+        let mut block = self.block();
+        let at = self.below(block.len() + 1);
+        match self.below(6) {
+            0 => block.truncate(at),
+            1 if at < block.len() => block[at] = self.next() as u8,
+            2 => {
+                let length = self.below(8);
+                block = self.noise(length);
+            }
+            _ => drop(block.splice(at..at, self.pick(&NO_UTF8).iter().copied())),
+        }
+        block
     }
 
     fn id(&mut self, of: Universe) -> Id {
@@ -270,6 +327,22 @@ impl Random {
         sheet
     }
 
+    /// Hidden rows that name each other, so that what is typed meets 9, or the second character of a block does; now
+    /// and then as many rows as a sheet has.
+    fn shut(&mut self) -> Vec<u8> {
+        let clock = self.pick(&[0, 0, 65_533, 65_534, 65_535]);
+        let mut sheet = format!("S2\t5\t{clock}\n");
+        let rows = match self.below(16) {
+            0 => chained(1024),
+            1..=7 => chained(2),
+            _ => SHUT_BEHIND.to_vec(),
+        };
+        for (id, previous, next) in rows {
+            sheet += &format!("C\t{}\t{}\t97\t{}\t{}\n", id.0, id.1, self.row_turn(1), ends(previous, next));
+        }
+        sheet.into_bytes()
+    }
+
     /// Adds the line if the sheet stays in form, and now and then if it does not.
     fn add_waiting(&mut self, sheet: &mut Vec<u8>, line: Vec<u8>) {
         let length = sheet.len();
@@ -279,11 +352,11 @@ impl Random {
         }
     }
 
-    /// Adds operations that wait for 6/1, or for each other, beside the rows of the sheet.
-    fn add_awaiting(&mut self, sheet: &mut Vec<u8>, rows: &[Id], count: usize) {
+    /// Adds operations that wait for 6/1 to 6/last, or for each other, beside the rows of the sheet.
+    fn add_awaiting(&mut self, sheet: &mut Vec<u8>, rows: &[Id], last: usize, count: usize) {
         for k in 1..=count {
-            let needed = if self.one_in(3) { (7, 1 + self.below(count)) } else { (6, 1) };
-            let other = if self.one_in(4) { needed } else { self.pick(rows) };
+            let needed = if self.one_in(3) { (7, 1 + self.below(count)) } else { (6, 1 + self.below(last)) };
+            let other = if self.one_in(4) || rows.is_empty() { needed } else { self.pick(rows) };
             let line = match self.below(5) {
                 0 => format!("E\t{}\t{}\t{}\t{}\n", 1 + self.below(16), needed.0, needed.1, self.turn()),
                 1 => format!("I\t7\t{k}\t97\t{}\n", ends(BEGIN, needed)),
@@ -425,6 +498,14 @@ fn clock(sheet: &[u8]) -> Option<u64> {
     String::from_utf8_lossy(sheet).lines().next()?.split('\t').nth(2)?.parse().ok()
 }
 
+fn with_site(sheet: &[u8], laptop: u64, clock: u64) -> Vec<u8> {
+    with_fields(&with_clock(sheet, clock), |fields| {
+        if fields[0].starts_with('S') && fields.len() == 3 {
+            fields[1] = laptop.to_string();
+        }
+    })
+}
+
 fn with_clock(sheet: &[u8], clock: u64) -> Vec<u8> {
     with_fields(sheet, |fields| {
         if fields[0].starts_with('S') && fields.len() == 3 {
@@ -447,6 +528,11 @@ fn numbers(bytes: &[u8], letter: &str) -> Vec<Vec<u64>> {
     let text = String::from_utf8_lossy(bytes);
     let lines = text.lines().filter_map(|line| line.strip_prefix(letter)?.strip_prefix('\t'));
     lines.map(|fields| fields.split('\t').map(|f| f.parse().unwrap_or(0)).collect()).collect()
+}
+
+/// The lines that stand one behind the other.
+fn lines_of(bytes: &[u8]) -> impl Iterator<Item = &[u8]> {
+    bytes.split_inclusive(|b| *b == b'\n')
 }
 
 /// The rows of a saved sheet with at least an identifier, a code point and a turn.
@@ -479,7 +565,7 @@ struct Tester {
 /// Whether a call that does not type leaves another clock.
 fn raises(call: &Call, outcome: &Outcome) -> bool {
     let (sheet, _) = call.inputs();
-    !matches!(call, Call::Empty(..) | Call::Type(..) | Call::Text(..) | Call::Counts(..))
+    !matches!(call, Call::Empty(..) | Call::Type(..) | Call::Paste(..) | Call::Text(..) | Call::Counts(..))
         && !outcome.first.is_empty()
         && clock(&outcome.first) != clock(sheet)
 }
@@ -536,6 +622,51 @@ fn moves(call: &Call, outcome: &Outcome) -> Option<&'static str> {
     }
 }
 
+/// What a block that was pasted left: a character that was hidden at once, so that the next went below the nearest
+/// shown one above it or to the top; or the last not as far below the gap as there are characters, since others came in
+/// above it.
+fn leaves(gap: u64, outcome: &Outcome) -> Option<&'static str> {
+    let (typed, rows) = (numbers(&outcome.line, "I"), rows(&outcome.first));
+    if let Some(pair) = typed.windows(2).find(|pair| pair[1][3..5] != pair[0][..2]) {
+        return Some(if pair[1][3..5] == [0, 0] { "hidden-at-top" } else { "hidden" });
+    }
+    let last = rows.iter().position(|row| row[..2] == typed[typed.len() - 1][..2])?;
+    let through = rows[..=last].iter().filter(|row| row[3] % 2 == 0).count() as u64;
+    (through != gap + typed.len() as u64).then_some("pushed")
+}
+
+/// What becomes of a block: what it left; that it is empty, where no character could be typed too; that it is refused
+/// although its first character could be typed; that one ground is told where a later one holds too.
+fn pastes(call: &Call, outcome: &Outcome) -> Option<&'static str> {
+    let Call::Paste(sheet, gap, block) = call else { return None };
+    let first = || reference::type_call(sheet, *gap, 97).reply;
+    match outcome.reply {
+        Reply::Done { carried: 0, .. } => match first() {
+            Reply::Refused(5) => Some("empty-or-5"),
+            Reply::Refused(9) => Some("empty-or-9"),
+            Reply::Refused(11) => Some("empty-or-11"),
+            _ => Some("empty"),
+        },
+        Reply::Done { .. } => leaves(*gap, outcome),
+        Reply::Refused(5) if first() == Reply::Refused(9) => Some("5-or-9"),
+        Reply::Refused(11) if first() == Reply::Refused(9) => Some("11-or-9"),
+        Reply::Refused(5) if first() != Reply::Refused(5) => Some("5-later"),
+        Reply::Refused(11) if first() != Reply::Refused(11) => Some("11-later"),
+        Reply::Refused(9) if first() != Reply::Refused(9) => Some("9-later"),
+        Reply::Refused(20) if reference::read_sheet(sheet) == Err(3) => Some("20-or-3"),
+        Reply::Refused(1) if reference::read_block(block).is_none() => Some("1-or-20"),
+        Reply::Refused(2) if reference::read_block(block).is_none() => Some("2-or-20"),
+        _ => None,
+    }
+}
+
+/// Whether the block is read as Rust's own library reads it.
+fn block_is_sound(call: &Call) -> bool {
+    let Call::Paste(_, _, block) = call else { return true };
+    let theirs = std::str::from_utf8(block).ok().map(|text| text.chars().map(u32::from).collect());
+    reference::read_block(block) == theirs
+}
+
 /// What the request says of every shift: its bounds, that it is 0 where nothing changed, and that with the gap it makes
 /// a gap of the new sheet.
 fn shift_is_sound(call: &Call, outcome: &Outcome) -> bool {
@@ -554,6 +685,7 @@ fn told(call: &Call, n: u64) -> String {
     let names = match call {
         Call::Counts(_) => ["shown", "waiting", "characters", "room"],
         Call::ReceiveAt(..) => ["carried", "thrown", "written", "shift"],
+        Call::Paste(..) => ["carried", "thrown", "written", "lines"],
         _ => ["carried", "thrown", "written", "line"],
     };
     let last = if names[3] == "shift" { n as i64 >> 48 } else { (n >> 48) as i64 };
@@ -581,12 +713,13 @@ impl Tester {
         if raises(call, outcome) {
             *self.met.entry((call.name(), "raising".into())).or_default() += 1;
         }
-        for what in [turns(call, outcome), crosses(call, outcome), moves(call, outcome)].into_iter().flatten() {
+        let happenings = [turns(call, outcome), crosses(call, outcome), moves(call, outcome), pastes(call, outcome)];
+        for what in happenings.into_iter().flatten() {
             *self.met.entry((call.name(), what.into())).or_default() += 1;
         }
         let word = match outcome.reply {
             Reply::Done { carried, thrown } => {
-                if carried > 1 {
+                if carried > outcome.line.iter().filter(|b| **b == b'\n').count().max(1) {
                     *self.met.entry((call.name(), "releasing".into())).or_default() += 1;
                 }
                 if thrown > 0 {
@@ -619,7 +752,8 @@ impl Tester {
 
         self.calls += 1;
         let wanted = [lent_sheet, lent_line, first.with(&outcome.first), second.with(&outcome.line)];
-        if number != outcome.number() || used != wanted || !shift_is_sound(call, &outcome) {
+        let sound = shift_is_sound(call, &outcome) && block_is_sound(call);
+        if number != outcome.number() || used != wanted || !sound {
             self.failed += 1;
             if self.failed <= 5 {
                 self.explain(call, number, &outcome, &used, &wanted);
@@ -651,6 +785,7 @@ impl Tester {
             Call::Type(_, gap, code) => println!("  gap {gap}, code point {code}"),
             Call::Erase(_, place) => println!("  place {place}"),
             Call::Restore(_, laptop, clock) => println!("  laptop {laptop}, clock {clock}"),
+            Call::Paste(_, gap, block) => println!("  gap {gap}, block {block:02x?}"),
             Call::Receive(..) => println!("  line {:?}", String::from_utf8_lossy(line)),
             Call::ReceiveAt(_, _, gap) => println!("  line {:?}, gap {gap}", String::from_utf8_lossy(line)),
             Call::Text(_) | Call::Counts(_) | Call::Upgrade(_) | Call::Downgrade(_) => {}
@@ -698,21 +833,32 @@ impl Tester {
         self.call(&Call::ReceiveAt(sheet, line, gap))
     }
 
-    /// The line of an edit that was made on the sheet comes to the sheet as it was: that must leave the same sheet, and
+    /// The lines of an edit that was made on the sheet come to the sheet as it was: that must leave the same sheet, and
     /// so a program learns how far the edit moves a cursor.
     fn made_here(&mut self, sheet: &[u8], written: Written) -> Written {
-        let (new, line) = written?;
+        let (new, lines) = written?;
         if self.random.one_in(8) {
-            let gap = self.gap(sheet);
-            if let Some((again, _)) = self.call(&Call::ReceiveAt(sheet, &line, gap)) {
-                *self.met.entry(("receive_at", "own".into())).or_default() += 1;
+            if let Some(again) = self.lines_received(sheet, &lines) {
+                let what = if lines_of(&lines).count() > 1 { "own-block" } else { "own" };
+                *self.met.entry(("receive_at", what.into())).or_default() += 1;
                 if again != new {
                     self.failed += 1;
-                    println!("seed {}: an edit made here and its line leave different sheets", self.seed);
+                    println!("seed {}: an edit made here and its lines leave different sheets", self.seed);
                 }
             }
         }
-        Some((new, line))
+        Some((new, lines))
+    }
+
+    /// The sheet after these lines were received in turn, with any cursor; none if one is turned away.
+    fn lines_received(&mut self, sheet: &[u8], lines: &[u8]) -> Option<Vec<u8>> {
+        let mut sheet = sheet.to_vec();
+        for line in lines_of(lines) {
+            let gap = self.gap(&sheet);
+            let again = self.call(&Call::ReceiveAt(&sheet, line, gap));
+            sheet = again.or_else(|| self.call(&Call::Receive(&sheet, line)))?.0;
+        }
+        Some(sheet)
     }
 
     fn type_somewhere(&mut self, sheet: &[u8]) -> Written {
@@ -720,6 +866,18 @@ impl Tester {
         let code = self.random.code_point();
         let written = self.call(&Call::Type(sheet, gap, code));
         self.made_here(sheet, written)
+    }
+
+    /// Pastes a block; where it is empty nothing is written, and the sheet stays.
+    fn paste_block(&mut self, sheet: &[u8], block: &[u8]) -> Written {
+        let gap = self.gap(sheet);
+        let written = self.call(&Call::Paste(sheet, gap, block)).filter(|(new, _)| !new.is_empty());
+        self.made_here(sheet, written)
+    }
+
+    fn paste_somewhere(&mut self, sheet: &[u8]) -> Written {
+        let block = if self.random.one_in(5) { self.random.malformed_block() } else { self.random.block() };
+        self.paste_block(sheet, &block)
     }
 
     fn erase_somewhere(&mut self, sheet: &[u8]) -> Written {
@@ -772,12 +930,13 @@ impl Tester {
 
     /// Any call on the sheet.
     fn anything(&mut self, sheet: &[u8], line: &[u8]) -> Written {
-        match self.random.below(14) {
+        match self.random.below(17) {
             0..=4 => self.receive(sheet, line),
             5..=7 => self.type_somewhere(sheet),
             8 => self.erase_somewhere(sheet),
             9 | 10 => self.restore_somewhere(sheet),
             11 => self.change_form(sheet),
+            12..=14 => self.paste_somewhere(sheet),
             _ => self.look(sheet),
         }
     }
@@ -849,7 +1008,7 @@ struct Laptop {
 }
 
 impl Tester {
-    /// Laptops that type, erase and restore, with their lines lost, repeated, reordered and damaged on the way.
+    /// Laptops that type, paste, erase and restore, with their lines lost, repeated, reordered and damaged on the way.
     fn history(&mut self) {
         let count = 1 + self.random.below(16);
         let first = self.random.below(16);
@@ -867,6 +1026,7 @@ impl Tester {
             }
             let sheet = laptops[k].sheet.clone();
             let written = match self.random.below(100) {
+                0..=3 => self.paste_somewhere(&sheet),
                 n if n < typing => self.type_somewhere(&sheet),
                 n if n < typing + 8 => self.erase_somewhere(&sheet),
                 n if n < typing + 14 => self.restore_somewhere(&sheet),
@@ -878,16 +1038,16 @@ impl Tester {
                 }
                 n => self.mishap(n, &sheet, &sent),
             };
-            let Some((sheet, line)) = written else { continue };
+            let Some((sheet, lines)) = written else { continue };
             laptops[k].sheet = sheet;
-            if !line.is_empty() {
+            for line in lines_of(&lines) {
                 let own = self.random.one_in(10);
                 for (j, laptop) in laptops.iter_mut().enumerate().filter(|(j, _)| own || *j != k) {
                     if !self.random.one_in(25) || j == k {
-                        laptop.inbox.push(line.clone());
+                        laptop.inbox.push(line.to_vec());
                     }
                 }
-                sent.push(line);
+                sent.push(line.to_vec());
             }
         }
         if self.random.one_in(2) {
@@ -993,6 +1153,9 @@ impl Tester {
         let of = Universe { laptops: 1 + self.random.below(6), clocks: 2 + self.random.below(8) };
         let (rows, waiting) = (self.random.below(14), self.random.below(20));
         let mut sheet = self.random.sheet(of, rows, waiting);
+        if self.random.one_in(12) {
+            sheet = self.random.shut();
+        }
         for _ in 0..20 + self.random.below(30) {
             let line = self.random.line(of);
             if let Some((new, _)) = self.anything(&sheet, &line) {
@@ -1008,8 +1171,10 @@ impl Tester {
 
     /// Operations that all wait, one way or another, for one insert; then it comes.
     fn awaited(&mut self) {
-        if self.random.one_in(12) {
-            return self.awaited_by_all();
+        match self.random.below(24) {
+            0 | 1 => return self.awaited_by_all(),
+            2..=7 => return self.awaited_block(),
+            _ => {}
         }
         let of = Universe { laptops: 5, clocks: 4 };
         let count = 1 + self.random.below(10);
@@ -1017,13 +1182,28 @@ impl Tester {
         let Ok(read) = reference::read_sheet(&sheet) else { return };
         let rows: Vec<Id> = read.rows.iter().map(|r| (r.insert.id.laptop.into(), r.insert.id.clock.into())).collect();
         let waiting = self.random.below(24);
-        self.random.add_awaiting(&mut sheet, &rows, waiting);
+        self.random.add_awaiting(&mut sheet, &rows, 1, waiting);
         for _ in 0..3 {
             let k = self.random.below(rows.len() + 1);
             let previous = if k == 0 { BEGIN } else { rows[k - 1] };
             let next = if k == rows.len() { END } else { rows[k] };
             let line = format!("I\t6\t1\t98\t{}\n", ends(previous, next)).into_bytes();
             if let Some((new, _)) = self.receive(&sheet, &line) {
+                sheet = new;
+            }
+        }
+    }
+
+    /// Operations that wait for the characters of a block, or for each other; then it is pasted.
+    fn awaited_block(&mut self) {
+        let (rows, waiting) = (self.random.below(5), self.random.below(16));
+        let mut sheet = with_site(&self.random.sheet(Universe { laptops: 5, clocks: 4 }, rows, 0), 6, 0);
+        let Ok(read) = reference::read_sheet(&sheet) else { return };
+        let rows: Vec<Id> = read.rows.iter().map(|r| (r.insert.id.laptop.into(), r.insert.id.clock.into())).collect();
+        let last = 1 + self.random.below(6);
+        self.random.add_awaiting(&mut sheet, &rows, last, waiting);
+        for _ in 0..3 {
+            if let Some((new, _)) = self.paste_somewhere(&sheet) {
                 sheet = new;
             }
         }
@@ -1089,6 +1269,9 @@ impl Tester {
         let rows = if full { 1024 + beyond - inserts - free } else { 100 + self.random.below(400) };
         let mut sheet = self.random.sheet(of, rows, 0);
         sheet.extend(crowd);
+        if !full && self.random.one_in(10) {
+            self.paste_large(&sheet);
+        }
         for _ in 0..6 {
             let line = match self.random.below(5) {
                 0 => format!("I\t{sender}\t60000\t97\t0\t0\t0\t1\n").into_bytes(),
@@ -1104,19 +1287,35 @@ impl Tester {
     }
 }
 
+impl Tester {
+    /// As many characters as the sheet has room for, or one more.
+    fn paste_large(&mut self, sheet: &[u8]) {
+        let Some(counts) = reference::counts_call(sheet).counts else { return };
+        let codes = CODE_POINTS.iter().cycle().take(counts.room + self.random.below(2));
+        let block: String = codes.filter_map(|code| char::from_u32(*code)).collect();
+        let (gap, sheet) = (self.random.below(counts.shown + 1) as u64, with_clock(sheet, 40_000));
+        self.call(&Call::Paste(&sheet, gap, block.as_bytes()));
+    }
+}
+
 /// Every reply that each call can give, and waiting operations carried and thrown out.
-const TO_MEET: [(&str, &str); 11] = [
+const TO_MEET: [(&str, &str); 12] = [
     ("empty", "done 2 12"),
     ("receive", "done waits known releasing throwing raising anew hiding showing behind equal 1 2 3 7 8 9 10 11 12"),
     (
         "receive_at",
-        "done waits known releasing throwing raising hiding showing behind own -1 +0 +1 +n +513 known-beyond \
-         4-or-waits 1 2 3 4 7 8 9 10 11 12",
+        "done waits known releasing throwing raising hiding showing behind own own-block -1 +0 +1 +n +513 \
+         known-beyond 4-or-waits 1 2 3 4 7 8 9 10 11 12",
     ),
     ("moved", "sum below above"),
     ("type", "done releasing throwing 1 2 3 4 5 9 11 12"),
     ("erase", "done raising 1 2 3 4 12"),
     ("restore", "done raising 1 2 3 13 14 12"),
+    (
+        "paste",
+        "done releasing throwing empty empty-or-5 empty-or-9 empty-or-11 hidden hidden-at-top pushed 1-or-20 2-or-20 \
+         20-or-3 5-or-9 5-later 11-or-9 11-later 9-later 1 2 20 3 4 5 11 9 12",
+    ),
     ("text", "done 1 2 3 12"),
     ("counts", "done 1 2 3"),
     ("upgrade", "done raising returning E shown twice 1 2 3 12"),

@@ -49,6 +49,17 @@ extern "C" {
         line_out: *mut u8,
         line_out_length: usize,
     ) -> u64;
+    pub fn wimtaze_paste(
+        sheet: *const u8,
+        sheet_length: usize,
+        gap: u64,
+        text: *const u8,
+        text_length: usize,
+        sheet_out: *mut u8,
+        sheet_out_length: usize,
+        lines_out: *mut u8,
+        lines_out_length: usize,
+    ) -> u64;
     pub fn wimtaze_text(sheet: *const u8, sheet_length: usize, text_out: *mut u8, text_out_length: usize) -> u64;
     pub fn wimtaze_counts(sheet: *const u8, sheet_length: usize) -> u64;
     pub fn wimtaze_upgrade(old: *const u8, old_length: usize, sheet_out: *mut u8, sheet_out_length: usize) -> u64;

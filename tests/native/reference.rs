@@ -2,6 +2,8 @@
 //! saved sheets, for comparison with the library. It follows the papers' sentences and words, with plain searches, and
 //! shares nothing with the library.
 
+use std::ops::RangeInclusive;
+
 #[derive(Clone, Copy, PartialEq, Eq, PartialOrd, Ord, Debug)]
 pub struct Id {
     pub laptop: u8,
@@ -406,6 +408,39 @@ impl Sheet {
         (self.carry_insert(i, place), Some(Operation::Insert(i)))
     }
 
+    /// Pasting characters at a gap (Req 11): the reply, and the inserts to be sent. It equals typing them one after
+    /// another, all or none, once the clock and the room are seen to be enough for all of them.
+    pub fn paste_at(&mut self, gap: u64, codes: &[u32]) -> (Reply, Vec<Operation>) {
+        let refused = |n| (Reply::Refused(n), Vec::new());
+        if !self.in_form() {
+            return refused(3);
+        }
+        if gap > self.shown().len() as u64 {
+            return refused(4);
+        }
+        if usize::from(self.clock) + codes.len() > 65_535 {
+            return refused(5);
+        }
+        if self.inserts() + codes.len() > MOST_ROWS {
+            return refused(11);
+        }
+        let (mut typed, mut gap, mut sent) = (self.clone(), gap, Vec::new());
+        let (mut all_carried, mut all_thrown) = (0, 0);
+        for code in codes {
+            match typed.type_at(gap, *code) {
+                (Reply::Done { carried, thrown }, Some(operation)) => {
+                    all_carried += carried;
+                    all_thrown += thrown;
+                    sent.push(operation);
+                }
+                (reply, _) => return (reply, Vec::new()),
+            }
+            gap = typed.gap_below(Id { laptop: typed.laptop, clock: typed.clock }) as u64;
+        }
+        *self = typed;
+        (Reply::Done { carried: all_carried, thrown: all_thrown }, sent)
+    }
+
     /// Erasing at a place, counted from 1.
     pub fn erase_at(&mut self, place: u64) -> (Reply, Option<Operation>) {
         if !self.in_form() {
@@ -461,6 +496,44 @@ impl Sheet {
             .collect();
         Ok(text.into_bytes())
     }
+}
+
+// ---- UTF-8
+
+/// The bytes 10xxxxxx.
+const TAIL: RangeInclusive<u8> = 0x80..=0xbf;
+
+/// RFC 3629's syntax of a character, section 4: how many bytes follow the first, and which of them may stand second.
+fn followers(first: u8) -> Option<(usize, RangeInclusive<u8>)> {
+    match first {
+        0x00..=0x7f => Some((0, TAIL)),
+        0xc2..=0xdf => Some((1, TAIL)),
+        0xe0 => Some((2, 0xa0..=0xbf)),
+        0xe1..=0xec => Some((2, TAIL)),
+        0xed => Some((2, 0x80..=0x9f)),
+        0xee..=0xef => Some((2, TAIL)),
+        0xf0 => Some((3, 0x90..=0xbf)),
+        0xf1..=0xf3 => Some((3, TAIL)),
+        0xf4 => Some((3, 0x80..=0x8f)),
+        _ => None,
+    }
+}
+
+/// The code points of a block, if all of it is UTF-8.
+pub fn read_block(block: &[u8]) -> Option<Vec<u32>> {
+    let (mut codes, mut rest) = (Vec::new(), block);
+    while let Some((first, behind)) = rest.split_first() {
+        let (count, second) = followers(*first)?;
+        let others = behind.get(..count)?;
+        let allowed = |(k, b): (usize, &u8)| if k == 0 { second.contains(b) } else { TAIL.contains(b) };
+        if !others.iter().enumerate().all(allowed) {
+            return None;
+        }
+        let bits = u32::from(first & [0x7f, 0x1f, 0x0f, 0x07][count]);
+        codes.push(others.iter().fold(bits, |code, b| code << 6 | u32::from(b & 0x3f)));
+        rest = &behind[count..];
+    }
+    Some(codes)
 }
 
 // ---- lines
@@ -667,8 +740,8 @@ pub struct Counts {
     pub room: usize,
 }
 
-/// What a C call comes to with outputs of any length: the reply, the bytes for its first output and for the line's, the
-/// shift of the call that takes a cursor, and the counts of the call that counts.
+/// What a C call comes to with outputs of any length: the reply, the bytes for its first output and for that of the
+/// line or lines, the shift of the call that takes a cursor, and the counts of the call that counts.
 #[derive(Clone, PartialEq, Eq, Debug)]
 pub struct Outcome {
     pub reply: Reply,
@@ -691,12 +764,12 @@ impl Outcome {
         Outcome { first, ..Outcome::silent(Reply::Done { carried: 0, thrown: 0 }) }
     }
 
-    /// The reply to a call on a sheet, with the sheet and the line to send unless nothing is written.
-    fn of(reply: Reply, sheet: &Sheet, sent: Option<Operation>) -> Outcome {
+    /// The reply to a call on a sheet, with the sheet and the lines to send unless nothing is written.
+    fn of(reply: Reply, sheet: &Sheet, sent: impl IntoIterator<Item = Operation>) -> Outcome {
         match reply {
             Reply::Refused(_) | Reply::Known => Outcome::silent(reply),
             _ => {
-                let line = sent.map_or(Vec::new(), |o| operation_line(&o));
+                let line = sent.into_iter().flat_map(|o| operation_line(&o)).collect();
                 Outcome { first: sheet_bytes(sheet), line, ..Outcome::silent(reply) }
             }
         }
@@ -806,6 +879,22 @@ pub fn restore_call(sheet: &[u8], laptop: u64, clock: u64) -> Outcome {
             Outcome::of(reply, &sheet, sent)
         }
         Err(n) => Outcome::refused(n),
+    }
+}
+
+/// Pasting bytes: 20 comes after 2 and before 3. An empty block is answered, and nothing is written.
+pub fn paste_call(sheet: &[u8], gap: u64, block: &[u8]) -> Outcome {
+    match (read_sheet(sheet), read_block(block)) {
+        (Err(n @ (1 | 2)), _) => Outcome::refused(n),
+        (_, None) => Outcome::refused(20),
+        (Err(n), _) => Outcome::refused(n),
+        (Ok(mut sheet), Some(codes)) => {
+            let (reply, sent) = sheet.paste_at(gap, &codes);
+            if codes.is_empty() {
+                return Outcome::silent(reply);
+            }
+            Outcome::of(reply, &sheet, sent)
+        }
     }
 }
 
