@@ -8,13 +8,18 @@
 #include <stdlib.h>
 #include <string.h>
 
-enum { GUARD = 64, ROOM = WIMTAZE_SHEET_MAX + 64, LINE_ROOM = WIMTAZE_LINE_MAX + 27 };
+enum {
+    GUARD = 64,
+    ROOM = WIMTAZE_SHEET_MAX + 64,
+    LINE_ROOM = WIMTAZE_LINE_MAX + 27,
+    LINES_ROOM = WIMTAZE_LINES_MAX + 64
+};
 
 static unsigned passed, failed, group_failed;
 static unsigned refusals_seen;
 
 /* The sheet that a test works on, and the outputs of the last call. */
-static uint8_t sheet[ROOM], first[GUARD + ROOM + GUARD], second[GUARD + LINE_ROOM + GUARD];
+static uint8_t sheet[ROOM], first[GUARD + ROOM + GUARD], second[GUARD + LINES_ROOM + GUARD];
 static size_t sheet_length;
 
 #define CHECK(held) check((held), __LINE__, #held)
@@ -67,9 +72,10 @@ static int first_is(uint64_t reply, const char *text)
     return wimtaze_written(reply) == n && memcmp(first + GUARD, want, n) == 0;
 }
 
+/* The same of the line, or the lines. */
 static int line_is(uint64_t reply, const char *text)
 {
-    uint8_t want[LINE_ROOM];
+    static uint8_t want[LINES_ROOM];
     size_t n = tabbed(text, want);
     return wimtaze_line_written(reply) == n && memcmp(second + GUARD, want, n) == 0;
 }
@@ -117,9 +123,10 @@ static uint64_t after(uint64_t reply, size_t room, size_t line_room)
     return reply;
 }
 
+/* Pasting an empty block is done, and nothing is written: the sheet at hand stays. */
 static void keep(uint64_t reply)
 {
-    if (wimtaze_word(reply) == WIMTAZE_DONE || wimtaze_word(reply) == WIMTAZE_WAITS) {
+    if (wimtaze_written(reply) > 0) {
         sheet_length = wimtaze_written(reply);
         memcpy(sheet, first + GUARD, sheet_length);
     }
@@ -226,6 +233,141 @@ static uint64_t restore_in(uint64_t laptop, uint64_t clock, size_t room, size_t 
 static uint64_t restore(uint64_t laptop, uint64_t clock)
 {
     return restore_in(laptop, clock, ROOM, LINE_ROOM);
+}
+
+/* The number in field k of a line; field 0 is its letter. */
+static unsigned field(const uint8_t *line, unsigned k)
+{
+    unsigned number = 0;
+    while (k > 0)
+        if (*line++ == '\t')
+            k--;
+    for (; *line >= '0' && *line <= '9'; line++)
+        number = 10 * number + (unsigned)(*line - '0');
+    return number;
+}
+
+/*
+ * The gap just below the last character that was typed here, whose identifier is in the first line of the sheet at
+ * hand; if it is hidden, below the nearest shown one above it: so many are shown from the top through it.
+ */
+static uint64_t gap_below_last(void)
+{
+    unsigned laptop = field(sheet, 1), clock = field(sheet, 2);
+    uint64_t gap = 0;
+    const uint8_t *line = sheet;
+    do {
+        line = (const uint8_t *)memchr(line, '\n', (size_t)(sheet + sheet_length - line)) + 1;
+        gap += field(line, 4) % 2 == 0;
+    } while (field(line, 1) != laptop || field(line, 2) != clock);
+    return gap;
+}
+
+/* The next character of a block that the library has read, and how many bytes it takes. */
+static uint32_t code_point_at(const uint8_t *block, size_t *bytes)
+{
+    *bytes = block[0] < 0x80 ? 1 : block[0] < 0xe0 ? 2 : block[0] < 0xf0 ? 3 : 4;
+    uint32_t point = block[0] & (*bytes == 1 ? 0x7fu : 0xffu >> (*bytes + 1));
+    for (size_t k = 1; k < *bytes; k++)
+        point = point << 6 | (block[k] & 0x3fu);
+    return point;
+}
+
+/* Whether typing the characters one after another on the sheet at hand comes to what pasting them did. */
+static int typing_does(uint64_t gap, const uint8_t *block, size_t length, uint64_t reply)
+{
+    static uint8_t lines[LINES_ROOM], pasted[ROOM];
+    unsigned carried = 0, thrown = 0;
+    size_t bytes, lines_length = wimtaze_line_written(reply), at = 0;
+    memcpy(lines, second + GUARD, lines_length);
+    memcpy(pasted, first + GUARD, wimtaze_written(reply));
+    for (size_t k = 0; k < length; k += bytes) {
+        uint64_t one = type(gap, code_point_at(block + k, &bytes));
+        size_t n = wimtaze_line_written(one);
+        if (wimtaze_word(one) != WIMTAZE_DONE || at + n > lines_length || memcmp(second + GUARD, lines + at, n) != 0)
+            return 0;
+        at += n;
+        carried += wimtaze_carried(one);
+        thrown += wimtaze_thrown(one);
+        gap = gap_below_last();
+    }
+    return at == lines_length && carried == wimtaze_carried(reply) && thrown == wimtaze_thrown(reply) &&
+           sheet_length == wimtaze_written(reply) && memcmp(sheet, pasted, sheet_length) == 0;
+}
+
+/* How many lines the last call wrote. */
+static size_t line_feeds(uint64_t reply)
+{
+    size_t count = 0;
+    for (size_t k = 0; k < wimtaze_line_written(reply); k++)
+        count += second[GUARD + k] == '\n';
+    return count;
+}
+
+/*
+ * Whether its lines, received in turn on the sheet at hand, leave the same sheet; and a cursor at the gap above the new
+ * characters, if nothing came with them.
+ */
+static int receiving_does(uint64_t gap, uint64_t reply)
+{
+    static uint8_t lines[LINES_ROOM], pasted[ROOM], next[ROOM];
+    uint64_t cursor = gap;
+    const uint8_t *line = lines, *end = lines + wimtaze_line_written(reply);
+    memcpy(lines, second + GUARD, wimtaze_line_written(reply));
+    memcpy(pasted, first + GUARD, wimtaze_written(reply));
+    while (line < end) {
+        const uint8_t *behind = (const uint8_t *)memchr(line, '\n', (size_t)(end - line)) + 1;
+        uint64_t one =
+            wimtaze_receive_at(sheet, sheet_length, line, (size_t)(behind - line), cursor, next, sizeof next);
+        if (wimtaze_word(one) != WIMTAZE_DONE)
+            return 0;
+        cursor = wimtaze_moved(cursor, wimtaze_shift(one));
+        sheet_length = wimtaze_written(one);
+        memcpy(sheet, next, sheet_length);
+        line = behind;
+    }
+    return sheet_length == wimtaze_written(reply) && memcmp(sheet, pasted, sheet_length) == 0 &&
+           (wimtaze_carried(reply) > line_feeds(reply) || cursor == gap);
+}
+
+/*
+ * Pastes. A block that was pasted is also typed, and its lines received, on the sheet as it was. Where nothing came
+ * with the characters, the gap below the last of them is as many further as there are.
+ */
+static uint64_t paste_in(uint64_t gap, const uint8_t *block, size_t length, size_t room, size_t lines_room)
+{
+    static uint8_t was[ROOM], text_was[LINES_ROOM], one[GUARD + ROOM + GUARD], two[GUARD + LINES_ROOM + GUARD];
+    size_t sheet_was = sheet_length;
+    memcpy(was, sheet, sheet_was);
+    memcpy(text_was, block, length);
+    before();
+    uint64_t reply =
+        wimtaze_paste(sheet, sheet_length, gap, block, length, first + GUARD, room, second + GUARD, lines_room);
+    after(reply, room, lines_room);
+    CHECK(memcmp(was, sheet, sheet_was) == 0 && memcmp(text_was, block, length) == 0);
+    if (wimtaze_word(reply) != WIMTAZE_DONE || length == 0)
+        return reply;
+    memcpy(one, first, sizeof first);
+    memcpy(two, second, sizeof second);
+    CHECK(typing_does(gap, block, length, reply));
+    memcpy(sheet, was, sheet_length = sheet_was);
+    memcpy(first, one, sizeof first);
+    memcpy(second, two, sizeof second);
+    CHECK(receiving_does(gap, reply));
+    keep(reply);
+    if (wimtaze_carried(reply) == line_feeds(reply))
+        CHECK(gap_below_last() == gap + line_feeds(reply));
+    return reply;
+}
+
+static uint64_t paste_bytes(uint64_t gap, const void *block, size_t length)
+{
+    return paste_in(gap, (const uint8_t *)block, length, ROOM, LINES_ROOM);
+}
+
+static uint64_t paste(uint64_t gap, const char *block)
+{
+    return paste_bytes(gap, block, strlen(block));
 }
 
 static uint64_t text_in(size_t room)
@@ -1355,6 +1497,497 @@ static void shifts_and_sums(void)
         CHECK(wimtaze_moved(sums[k].gap, sums[k].shift) == sums[k].sum);
 }
 
+/* ---- Req 11: pasting */
+
+/*
+ * Results come from the pairing screen as UTF-8 and go in below what is there; another laptop gets their lines, from
+ * the last to the first, and shows the same. Byte by byte: sheet, lines and counts.
+ */
+static void results_pasted(void)
+{
+    static const char *const results = "1: 1-0\n2: \xc2\xbd-\xc2\xbd \xe2\x99\x9e\xf0\x9f\x8f\x86";
+    static const char *const lines = "I 3 2 49 3 1 2 1\nI 3 3 58 3 2 2 1\n";
+    static const char *const both = "S2 3 3\nC 3 1 65 0 0 0 0 1\nC 3 2 49 0 3 1 2 1\nC 3 3 58 0 3 2 2 1\n"
+                                    "C 2 1 66 0 3 1 0 1\n";
+    static uint8_t sent[LINES_ROOM];
+    load("S2 3 1\nC 3 1 65 0 0 0 0 1\nC 2 1 66 0 3 1 0 1\n");
+    uint64_t reply = paste(1, "1:");
+    CHECK(reply == ((uint64_t)2 << 8 | (uint64_t)strlen(both) << 32 | (uint64_t)strlen(lines) << 48));
+    CHECK(sheet_is(both) && line_is(reply, lines));
+    empty(3, ROOM);
+    CHECK(done(paste(0, "Round 4\n"), 8, 0));
+    reply = paste(8, results);
+    CHECK(done(reply, 16, 0));
+    CHECK(line_is(reply, "I 3 9 49 3 8 0 1\nI 3 10 58 3 9 0 1\nI 3 11 32 3 10 0 1\nI 3 12 49 3 11 0 1\n"
+                         "I 3 13 45 3 12 0 1\nI 3 14 48 3 13 0 1\nI 3 15 10 3 14 0 1\nI 3 16 50 3 15 0 1\n"
+                         "I 3 17 58 3 16 0 1\nI 3 18 32 3 17 0 1\nI 3 19 189 3 18 0 1\nI 3 20 45 3 19 0 1\n"
+                         "I 3 21 189 3 20 0 1\nI 3 22 32 3 21 0 1\nI 3 23 9822 3 22 0 1\nI 3 24 127942 3 23 0 1\n"));
+    memcpy(sent, second + GUARD, wimtaze_line_written(reply));
+    CHECK(counted(24, 0, 24, 1000));
+    reply = text();
+    CHECK(wimtaze_written(reply) == 8 + strlen(results));
+    CHECK(memcmp(first + GUARD, "Round 4\n", 8) == 0 && memcmp(first + GUARD + 8, results, strlen(results)) == 0);
+    /* In the middle, at the top and at the end of what is shown. */
+    CHECK(done(paste(6, "no "), 3, 0) && done(paste(0, ">"), 1, 0) && done(paste(28, "<"), 1, 0));
+    reply = text();
+    CHECK(memcmp(first + GUARD, ">Round no 4\n1: 1-0\n2: ", 22) == 0);
+    CHECK(wimtaze_written(reply) == 13 + strlen(results) && first[GUARD + wimtaze_written(reply) - 1] == '<');
+    /* On another laptop the lines come the other way round. */
+    load("S2 9 0\nC 3 8 66 0 0 0 0 1\n");
+    for (size_t end = strlen((const char *)sent), start; end > 0; end = start) {
+        for (start = end - 1; start > 0 && sent[start - 1] != '\n'; start--)
+            ;
+        CHECK(wimtaze_word(receive_bytes(sent + start, end - start, ROOM)) != WIMTAZE_REFUSED);
+    }
+    reply = text();
+    CHECK(wimtaze_written(reply) == 1 + strlen(results) && memcmp(first + GUARD + 1, results, strlen(results)) == 0);
+}
+
+/* RFC 3629's syntax of a character: the first bytes, how many follow, and which of them may stand second. */
+static const struct {
+    unsigned low, high, follow, second_low, second_high;
+} syntax[] = {{0x00, 0x7f, 0, 0, 0},       {0xc2, 0xdf, 1, 0x80, 0xbf}, {0xe0, 0xe0, 2, 0xa0, 0xbf},
+              {0xe1, 0xec, 2, 0x80, 0xbf}, {0xed, 0xed, 2, 0x80, 0x9f}, {0xee, 0xef, 2, 0x80, 0xbf},
+              {0xf0, 0xf0, 3, 0x90, 0xbf}, {0xf1, 0xf3, 3, 0x80, 0xbf}, {0xf4, 0xf4, 3, 0x80, 0x8f}};
+
+/* How many bytes a character with these two first takes, if the others are 10xxxxxx; 0 if there is none such. */
+static size_t syntax_length(unsigned first_byte, unsigned second_byte)
+{
+    for (size_t k = 0; k < sizeof syntax / sizeof *syntax; k++) {
+        int begins = syntax[k].low <= first_byte && first_byte <= syntax[k].high;
+        int goes_on = syntax[k].second_low <= second_byte && second_byte <= syntax[k].second_high;
+        if (begins && (goes_on || syntax[k].follow == 0))
+            return 1 + syntax[k].follow;
+    }
+    return 0;
+}
+
+/* Whether so many bytes of a block are pasted on an empty sheet as one character, or refused. */
+static int is_character(const uint8_t *block, size_t length, int wanted)
+{
+    load("S2 9 0\n");
+    uint64_t reply = wimtaze_paste(sheet, sheet_length, 0, block, length, first, ROOM, second, LINES_ROOM);
+    return wanted ? done(reply, 1, 0) : refused(reply, WIMTAZE_REFUSAL_NOT_UTF8);
+}
+
+/*
+ * Every first byte with every second one (with some where the first decides), before bytes 10xxxxxx: a character where
+ * the RFC has one, and none with a byte less or more.
+ */
+static void every_two_bytes(void)
+{
+    for (unsigned a = 0; a < 256; a++)
+        for (unsigned b = a < 0x80 ? 0x80 : 0; b < 256; b += a < 0xc2 || a > 0xf4 ? 85 : 1) {
+            const uint8_t block[] = {(uint8_t)a, (uint8_t)b, 0x80, 0xbf, 0x80};
+            size_t length = syntax_length(a, b);
+            int held = length == 0 ? is_character(block, 4, 0)
+                                   : is_character(block, length, 1) && is_character(block, length + 1, 0) &&
+                                         (length == 1 || is_character(block, length - 1, 0));
+            if (!held)
+                printf("first bytes %02x %02x\n", a, b);
+            CHECK(held);
+        }
+}
+
+/* The first and the last character of each row of the syntax, by their code points, and of each length. */
+static void edges_pasted(void)
+{
+    static const struct {
+        const char *block;
+        uint32_t point;
+    } edges[] = {{"\x01", 1}, {"\x7f", 127}, {"\xc2\x80", 128}, {"\xdf\xbf", 2047}, {"\xe0\xa0\x80", 2048},
+        {"\xe0\xbf\xbf", 4095}, {"\xe1\x80\x80", 4096}, {"\xec\xbf\xbf", 53247}, {"\xed\x80\x80", 53248},
+        {"\xed\x9f\xbf", 55295}, {"\xee\x80\x80", 57344}, {"\xef\xbf\xbf", 65535}, {"\xf0\x90\x80\x80", 65536},
+        {"\xf0\xbf\xbf\xbf", 262143}, {"\xf1\x80\x80\x80", 262144}, {"\xf3\xbf\xbf\xbf", 1048575},
+        {"\xf4\x80\x80\x80", 1048576}, {"\xf4\x8f\xbf\xbf", 1114111}, {"\xef\xbb\xbf", 65279},
+        {"\xe2\x89\xa2", 8802}, {"\xce\x91", 913}, {"\xed\x95\x9c", 54620}, {"\xf0\xa3\x8e\xb4", 144308}};
+    char line[64];
+    for (size_t k = 0; k < sizeof edges / sizeof *edges; k++) {
+        empty(9, ROOM);
+        sprintf(line, "I 9 1 %u 0 0 0 1\n", (unsigned)edges[k].point);
+        uint64_t reply = paste(0, edges[k].block);
+        CHECK(done(reply, 1, 0) && line_is(reply, line));
+    }
+    /* Zero is a character too; and a mark at the front, U+FEFF, is one like any other, wherever it stands. */
+    empty(9, ROOM);
+    CHECK(line_is(paste_bytes(0, "\0", 1), "I 9 1 0 0 0 0 1\n"));
+    CHECK(line_is(paste_bytes(1, "a\0b", 3), "I 9 2 97 9 1 0 1\nI 9 3 0 9 2 0 1\nI 9 4 98 9 3 0 1\n"));
+    empty(9, ROOM);
+    CHECK(line_is(paste(0, "\xef\xbb\xbfn\xef\xbb\xbf"),
+                  "I 9 1 65279 0 0 0 1\nI 9 2 110 9 1 0 1\nI 9 3 65279 9 2 0 1\n"));
+    CHECK(first_is(text(), "\xef\xbb\xbfn\xef\xbb\xbf"));
+    /* Control characters are pasted as they are, and shown as Req 01 has it. */
+    empty(9, ROOM);
+    CHECK(line_is(paste(0, "\r\n"), "I 9 1 13 0 0 0 1\nI 9 2 10 9 1 0 1\n"));
+    CHECK(first_is(text(), "\xef\xbf\xbd\n"));
+}
+
+/* What is not UTF-8, at the front of a block, in the middle, at its end, and alone: nothing of the block is pasted. */
+static void not_utf8(void)
+{
+    static const char *const blocks[] = {
+        /* longer forms than needed, of each length, first and last */
+        "\xc0\x80", "\xc0\xaf", "\xc1\x81", "\xc1\xbf", "\xe0\x80\x80", "\xe0\x80\xaf", "\xe0\x9f\xbf",
+        "\xf0\x80\x80\x80", "\xf0\x80\x80\xaf", "\xf0\x82\x82\xac", "\xf0\x8f\xbf\xbf", "\xf8\x80\x80\x80\xaf",
+        "\xfc\x80\x80\x80\x80\xaf",
+        /* surrogates, alone and as a pair */
+        "\xed\xa0\x80", "\xed\xaf\xbf", "\xed\xb0\x80", "\xed\xbf\xbf", "\xed\xa1\x8c\xed\xbe\xb4",
+        /* above U+10FFFF */
+        "\xf4\x90\x80\x80", "\xf4\xbf\xbf\xbf", "\xf5\x80\x80\x80", "\xf6\x80\x80\x80", "\xf7\xbf\xbf\xbf",
+        "\xf8\x88\x80\x80\x80", "\xfb\xbf\xbf\xbf\xbf", "\xfc\x84\x80\x80\x80\x80", "\xfd\xbf\xbf\xbf\xbf\xbf", "\xfe",
+        "\xff", "\xff\xfe", "\xfe\xff",
+        /* 10xxxxxx alone, and one too many */
+        "\x80", "\xbf", "\x80\x80", "\xc2\x80\x80", "\xe2\x82\xac\x82", "\xf0\x9f\x98\x80\x80",
+        /* each cut */
+        "\xc2", "\xdf", "\xe0", "\xe0\xa0", "\xe2", "\xe2\x82", "\xed", "\xed\x9f", "\xef\xbf", "\xf0", "\xf0\x90",
+        "\xf0\x9f\x98", "\xf4", "\xf4\x8f", "\xf4\x8f\xbf",
+        /* another first byte where 10xxxxxx is due */
+        "\xc2\xc2\x80", "\xe2\x82\xe2\x82\xac", "\xe2\xc2\x80", "\xf0\x9f\x98\xf0\x9f\x98\x80", "\xf0\x9f\xc2\x80",
+        "\xc3\x28", "\xe2\x28\xa1", "\xe2\x82\x28", "\xf0\x28\x8c\xbc", "\xf0\x90\x28\xbc", "\xf0\x28\x8c\x28"};
+    static const char *const around[][2] = {{"", ""}, {"", "b"}, {"a", ""}, {"a", "b"},
+        {"\xf0\x9f\x98\x80", "\xe2\x82\xac"}, {"Board 7: 1-0\n", "\n"}};
+    char block[64];
+    for (size_t k = 0; k < sizeof blocks / sizeof *blocks; k++)
+        for (size_t j = 0; j < sizeof around / sizeof *around; j++) {
+            load("S2 9 0\nC 1 1 97 0 0 0 0 1\n");
+            sprintf(block, "%s%s%s", around[j][0], blocks[k], around[j][1]);
+            CHECK(refused(paste(1, block), WIMTAZE_REFUSAL_NOT_UTF8));
+        }
+    /* A character that ends where the given length does not, although the rest of it stands in memory behind. */
+    load("S2 9 0\n");
+    CHECK(refused(paste_bytes(0, "a\xf0\x9f\x98\x80", 4), WIMTAZE_REFUSAL_NOT_UTF8));
+    CHECK(done(paste_bytes(0, "a\xf0\x9f\x98\x80", 5), 2, 0));
+}
+
+/* What waits for characters of the block comes with each, before the next is typed. */
+static void pasted_with_others(void)
+{
+    uint64_t reply;
+    /* Above the first, between the two, below both; the next gap is just below the character all the same. */
+    load("S2 5 0\nI 2 1 98 0 0 5 1\n");
+    reply = paste(0, "xy");
+    CHECK(done(reply, 3, 0) && line_is(reply, "I 5 1 120 0 0 0 1\nI 5 2 121 5 1 0 1\n"));
+    CHECK(sheet_is("S2 5 2\nC 2 1 98 0 0 0 5 1\nC 5 1 120 0 0 0 0 1\nC 5 2 121 0 5 1 0 1\n"));
+    load("S2 5 0\nI 2 1 98 5 1 0 1\n");
+    reply = paste(0, "xy");
+    CHECK(done(reply, 3, 0) && line_is(reply, "I 5 1 120 0 0 0 1\nI 5 2 121 5 1 2 1\n"));
+    CHECK(first_is(text(), "xyb"));
+    load("S2 5 0\nI 2 1 98 5 1 5 2\n");
+    reply = paste(0, "xy");
+    CHECK(done(reply, 3, 0) && line_is(reply, "I 5 1 120 0 0 0 1\nI 5 2 121 5 1 0 1\n"));
+    CHECK(first_is(text(), "xby"));
+    /* One that waits for another of them, and one that still waits. */
+    load("S2 5 0\nC 1 1 97 0 0 0 0 1\nI 3 1 99 2 1 0 1\nI 2 1 98 5 2 0 1\nI 4 1 100 6 1 0 1\n");
+    reply = paste(1, "xyz");
+    CHECK(done(reply, 5, 0) && line_is(reply, "I 5 1 120 1 1 0 1\nI 5 2 121 5 1 0 1\nI 5 3 122 5 2 2 1\n"));
+    CHECK(first_is(text(), "axyzbc"));
+    CHECK(counted(6, 1, 6, 1017));
+    /* Thrown out, at the first character and at the second. */
+    load("S2 5 0\nI 2 1 98 5 1 5 1\nI 3 1 98 5 2 5 1\nI 4 1 98 5 1 5 2\n");
+    CHECK(done(paste(0, "xy"), 3, 2));
+    CHECK(sheet_is("S2 5 2\nC 5 1 120 0 0 0 0 1\nC 4 1 98 0 5 1 5 2\nC 5 2 121 0 5 1 0 1\n"));
+    /* Turns that leave a character shown. */
+    load("S2 5 0\nE 2 5 1 2\nE 3 5 2 1\nE 4 5 2 4\n");
+    reply = paste(0, "xyz");
+    CHECK(done(reply, 6, 0) && line_is(reply, "I 5 1 120 0 0 0 1\nI 5 2 121 5 1 0 1\nI 5 3 122 5 2 0 1\n"));
+    CHECK(sheet_is("S2 5 3\nC 5 1 120 2 0 0 0 1\nC 5 2 121 4 5 1 0 1\nC 5 3 122 0 5 2 0 1\n"));
+}
+
+/* A waiting `E` hides a character at once: the next goes below the nearest shown row above it, or to gap 0. */
+static void hidden_at_once(void)
+{
+    uint64_t reply;
+    load("S2 5 0\nE 2 5 1 1\n");
+    reply = paste(0, "xy");
+    CHECK(done(reply, 3, 0) && line_is(reply, "I 5 1 120 0 0 0 1\nI 5 2 121 0 0 0 1\n"));
+    CHECK(sheet_is("S2 5 2\nC 5 1 120 1 0 0 0 1\nC 5 2 121 0 0 0 0 1\n"));
+    load("S2 5 0\nC 1 1 97 0 0 0 0 1\nE 2 5 1 1\n");
+    reply = paste(1, "xy");
+    CHECK(done(reply, 3, 0) && line_is(reply, "I 5 1 120 1 1 0 1\nI 5 2 121 1 1 0 1\n"));
+    CHECK(first_is(text(), "ay"));
+    reply = paste(0, "z");
+    CHECK(line_is(reply, "I 5 3 122 0 0 1 1\n"));
+    /* With hidden rows above it, and shown ones above those; with nothing shown above, though something below. */
+    load("S2 5 0\nC 1 1 97 0 0 0 0 1\nC 1 2 98 1 1 1 0 1\nC 1 3 99 3 1 2 0 1\nC 1 4 100 0 1 3 0 1\nE 2 5 1 255\n");
+    reply = paste(1, "xy");
+    CHECK(done(reply, 3, 0) && line_is(reply, "I 5 1 120 1 1 1 4\nI 5 2 121 1 1 1 4\n"));
+    load("S2 5 0\nC 1 1 97 1 0 0 0 1\nC 1 2 98 0 1 1 0 1\nE 2 5 1 1\nE 2 5 2 1\n");
+    reply = paste(0, "xyz");
+    CHECK(done(reply, 5, 0) && line_is(reply, "I 5 1 120 0 0 1 2\nI 5 2 121 0 0 1 2\nI 5 3 122 0 0 1 2\n"));
+    /* The middle one of three, the last, and all of them. */
+    load("S2 5 0\nE 2 5 2 1\n");
+    CHECK(line_is(paste(0, "xyz"), "I 5 1 120 0 0 0 1\nI 5 2 121 5 1 0 1\nI 5 3 122 5 1 0 1\n"));
+    CHECK(first_is(text(), "xz"));
+    load("S2 5 0\nE 2 5 3 1\n");
+    CHECK(done(paste(0, "xyz"), 4, 0) && first_is(text(), "xy"));
+    load("S2 5 0\nE 2 5 3 1\nE 2 5 1 1\nE 7 5 2 3\n");
+    reply = paste(0, "xyz");
+    CHECK(done(reply, 6, 0) && line_is(reply, "I 5 1 120 0 0 0 1\nI 5 2 121 0 0 0 1\nI 5 3 122 0 0 0 1\n"));
+    CHECK(first_is(text(), ""));
+    /* Something came in above the hidden one, and is now the nearest. */
+    load("S2 5 0\nE 2 5 1 1\nI 3 1 98 0 0 5 1\n");
+    reply = paste(0, "xy");
+    CHECK(done(reply, 4, 0) && line_is(reply, "I 5 1 120 0 0 0 1\nI 5 2 121 3 1 0 1\n"));
+    CHECK(first_is(text(), "by"));
+}
+
+/* The clock must reach the last character: otherwise nothing is pasted, and the clock stays. */
+static void clock_ends(void)
+{
+    load("S2 7 65533\n");
+    CHECK(refused(paste(0, "abc"), WIMTAZE_REFUSAL_CLOCK));
+    CHECK(sheet_is("S2 7 65533\n"));
+    uint64_t reply = paste(0, "ab");
+    CHECK(done(reply, 2, 0) && line_is(reply, "I 7 65534 97 0 0 0 1\nI 7 65535 98 7 65534 0 1\n"));
+    CHECK(refused(paste(0, "c"), WIMTAZE_REFUSAL_CLOCK));
+    CHECK(done(paste(1, ""), 0, 0));
+    /* Characters count, and not bytes. */
+    load("S2 7 65533\n");
+    CHECK(done(paste(0, "\xf0\x9f\x98\x80\xf0\x9f\x98\x80"), 2, 0));
+    /* A clock that is too low in the saved sheet counts as loading raises it, for a row and for what waits. */
+    load("S2 7 0\nC 7 65534 97 0 0 0 0 1\n");
+    CHECK(refused(paste(0, "ab"), WIMTAZE_REFUSAL_CLOCK));
+    CHECK(line_is(paste(0, "a"), "I 7 65535 97 0 0 7 65534\n"));
+    load("S2 7 3\nI 7 65535 97 9 9 0 1\n");
+    CHECK(refused(paste(0, "a"), WIMTAZE_REFUSAL_CLOCK));
+    load("S2 7 3\nC 7 9 97 0 0 0 0 1\nI 7 6 97 9 9 0 1\n");
+    CHECK(line_is(paste(1, "ab"), "I 7 10 97 7 9 0 1\nI 7 11 98 7 10 0 1\n"));
+    CHECK(memcmp(sheet, "S2\t7\t11\n", 8) == 0);
+}
+
+/* Rows, waiting inserts and new characters are at most 1,024 together. */
+static void no_room_to_paste(void)
+{
+    char line[64];
+    load_rows(1021);
+    CHECK(refused(paste(1021, "abcd"), WIMTAZE_REFUSAL_DOCUMENT_FULL));
+    CHECK(counted(1021, 0, 1021, 3));
+    CHECK(done(paste(1021, "\xf0\x9f\x98\x80\xe2\x82\xac\xc2\xbd"), 3, 0));
+    CHECK(refused(paste(0, "a"), WIMTAZE_REFUSAL_DOCUMENT_FULL));
+    CHECK(done(paste(1024, ""), 0, 0));
+    CHECK(counted(1024, 0, 1024, 0));
+    /* Erased ones count, and waiting inserts do; waiting turns do not. */
+    CHECK(done(erase(1), 1, 0));
+    CHECK(refused(paste(0, "a"), WIMTAZE_REFUSAL_DOCUMENT_FULL));
+    load_rows(1021);
+    append("I 2 1 98 3 1 0 1\nE 2 3 1 1\n");
+    CHECK(refused(paste(0, "abc"), WIMTAZE_REFUSAL_DOCUMENT_FULL));
+    CHECK(done(paste(0, "ab"), 2, 0));
+    /* What the first character would throw out, and so make room, still counts. */
+    load_rows(1022);
+    append("I 2 1 98 4 1 4 1\n");
+    CHECK(refused(paste(0, "ab"), WIMTAZE_REFUSAL_DOCUMENT_FULL));
+    CHECK(done(paste(0, "a"), 1, 1));
+    CHECK(done(paste(1, "b"), 1, 0));
+    CHECK(counted(1024, 0, 1024, 0));
+    /* More than 1,024 into an empty sheet, and more than any sheet or clock has. */
+    static char block[70000];
+    memset(block, 'n', sizeof block);
+    load("S2 4 0\n");
+    CHECK(refused(paste_bytes(0, block, 1025), WIMTAZE_REFUSAL_DOCUMENT_FULL));
+    CHECK(refused(wimtaze_paste(sheet, sheet_length, 0, (const uint8_t *)block, 65535, first, ROOM, second, LINES_ROOM),
+                  WIMTAZE_REFUSAL_DOCUMENT_FULL));
+    CHECK(refused(wimtaze_paste(sheet, sheet_length, 0, (const uint8_t *)block, 65536, first, ROOM, second, LINES_ROOM),
+                  WIMTAZE_REFUSAL_CLOCK));
+    CHECK(refused(wimtaze_paste(sheet, sheet_length, 0, (const uint8_t *)block, 70000, first, ROOM, second, LINES_ROOM),
+                  WIMTAZE_REFUSAL_CLOCK));
+    block[69999] = '\x80';
+    CHECK(refused(wimtaze_paste(sheet, sheet_length, 0, (const uint8_t *)block, 70000, first, ROOM, second, LINES_ROOM),
+                  WIMTAZE_REFUSAL_NOT_UTF8));
+    /* A full sheet that gives an insert no place: typing is told 9 there, and pasting 11. */
+    load("S2 9 0\nC 1 1 97 1 0 0 1 2\n");
+    for (int k = 2; k <= 1024; k++) {
+        sprintf(line, k == 1024 ? "C 1 %d 97 1 1 %d 0 1\n" : "C 1 %d 97 1 1 %d 1 %d\n", k, k - 1, k + 1);
+        append(line);
+    }
+    CHECK(refused(type(0, 'x'), WIMTAZE_REFUSAL_UNPLACEABLE));
+    CHECK(refused(paste(0, "x"), WIMTAZE_REFUSAL_DOCUMENT_FULL));
+    CHECK(done(paste(0, ""), 0, 0));
+}
+
+/* P7's rows, hidden, and rows where the second character of a block is the first that finds no place. */
+static const char *const SHUT = "S2 5 0\nC 1 1 97 1 0 0 2 1\nC 2 1 97 1 1 1 0 1\n";
+static const char *const SHUT_BEHIND = "S2 5 0\nC 1 1 97 1 0 0 0 1\nC 9 1 97 1 1 1 9 2\nC 1 2 97 1 1 1 0 1\n"
+                                       "C 2 1 97 1 1 2 2 2\nC 2 2 97 1 2 1 9 2\nC 9 2 97 1 0 0 0 1\n";
+
+/* Refusal 9 at any character refuses the block: those before it are not pasted either. */
+static void no_place_in_block(void)
+{
+    load(SHUT);
+    CHECK(refused(paste(0, "x"), WIMTAZE_REFUSAL_UNPLACEABLE));
+    CHECK(done(paste(0, ""), 0, 0));
+    load(SHUT_BEHIND);
+    CHECK(refused(paste(0, "xy"), WIMTAZE_REFUSAL_UNPLACEABLE));
+    CHECK(refused(paste(0, "xyz"), WIMTAZE_REFUSAL_UNPLACEABLE));
+    CHECK(sheet_is(SHUT_BEHIND));
+    CHECK(done(paste(0, "x"), 1, 0));
+    CHECK(refused(paste(1, "y"), WIMTAZE_REFUSAL_UNPLACEABLE));
+    CHECK(refused(type(1, 'y'), WIMTAZE_REFUSAL_UNPLACEABLE));
+}
+
+/* An empty block: done with nothing counted and nothing written, unless 1 to 4 hold. */
+static void nothing_pasted(void)
+{
+    static const char *const sheets[] = {"S2 9 0\n", "S2 9 65535\n", "S2 2 0\nC 2 5 65 0 0 0 0 1\n",
+        "S2 9 0\nI 2 1 98 9 1 0 1\nE 2 9 1 1\n", "S2 5 0\nC 1 1 97 1 0 0 2 1\nC 2 1 97 1 1 1 0 1\n"};
+    static const size_t rooms[][2] = {{0, 0}, {0, LINES_ROOM}, {ROOM, 0}, {1, 1}, {ROOM, LINES_ROOM}};
+    for (size_t k = 0; k < sizeof sheets / sizeof *sheets; k++)
+        for (size_t j = 0; j < sizeof rooms / sizeof *rooms; j++) {
+            load(sheets[k]);
+            CHECK(paste_in(0, (const uint8_t *)"x", 0, rooms[j][0], rooms[j][1]) == WIMTAZE_DONE);
+            CHECK(sheet_is(sheets[k]));
+        }
+    load_rows(1024);
+    CHECK(paste_in(1024, (const uint8_t *)"x", 0, 0, 0) == WIMTAZE_DONE);
+    CHECK(refused(paste_in(1025, (const uint8_t *)"x", 0, 0, 0), WIMTAZE_REFUSAL_POSITION));
+    load("S2 9 65535\n");
+    CHECK(refused(paste(1, ""), WIMTAZE_REFUSAL_POSITION));
+    CHECK(refused(paste(UINT64_MAX, ""), WIMTAZE_REFUSAL_POSITION));
+    load("S2 9 0\nI 1 1 65 0 0 0 1\n");
+    CHECK(refused(paste(0, ""), WIMTAZE_REFUSAL_FORM));
+    CHECK(refused(paste(7, ""), WIMTAZE_REFUSAL_FORM));
+    load("S2 0 0\n");
+    CHECK(refused(paste(0, ""), WIMTAZE_REFUSAL_RANGE));
+    load("S2 9 0");
+    CHECK(refused(paste(0, ""), WIMTAZE_REFUSAL_LAYOUT));
+}
+
+/* Two grounds that hold at once, every such pair: the first in the order 1 2 20 3 4 5 11 9 12 is told. */
+static void first_of_two_pasting(void)
+{
+    static const char *const no_layout = "S2 9 65535\nD 1 1 1\n", *const no_range = "S2 9 65536\n";
+    static const char *const neither = "S2 9 65536\nD 1 1 1\n", *const no_form = "S2 9 0\nI 9 9 66 0 0 0 1\n";
+    static const char *const no_form_late = "S2 9 65535\nC 1 1 97 0 0 0 0 1\nE 1 1 1 1\n";
+    static const char *const shut_no_form = "S2 5 0\nC 1 1 97 1 0 0 2 1\nC 2 1 97 1 1 1 0 1\nE 1 1 1 2\n";
+    static const char *const shut_late = "S2 5 65534\nC 1 1 97 1 0 0 2 1\nC 2 1 97 1 1 1 0 1\n";
+    static const char *const one = "S2 9 0\nC 1 1 97 0 0 0 0 1\n", *const late = "S2 9 65534\nC 1 1 97 0 0 0 0 1\n";
+    const struct {
+        const char *sheet, *block;
+        uint64_t gap;
+        int told, other;
+    } pairs[] = {{neither, "x", 0, 1, 2}, {no_layout, "\xff", 0, 1, 20},
+        {"S2 9 0\nI 9 9 66 0 0 0 1\nD 1 1 1\n", "x", 0, 1, 3}, {no_layout, "x", 9, 1, 4}, {no_layout, "x", 0, 1, 5},
+        {"S2 5 0\nC 1 1 97 1 0 0 2 1\nC 2 1 97 1 1 1 0 1\nD 1 3 1\n", "x", 0, 1, 9}, {no_layout, "x", 0, 1, 12},
+        {no_layout, "", 0, 1, 12}, {no_range, "\xff", 0, 2, 20}, {"S2 9 65536\nI 9 9 66 0 0 0 1\n", "x", 0, 2, 3},
+        {no_range, "x", 9, 2, 4}, {no_range, "x", 0, 2, 5},
+        {"S2 5 0\nC 1 1 97 1 0 0 2 1\nC 2 1 97 1 1 1 0 1\nE 1 3 1 0\n", "x", 0, 2, 9}, {no_range, "x", 0, 2, 12},
+        {no_form, "a\xff", 0, 20, 3}, {no_form, "\xe2\x82", 9, 20, 3}, {one, "\xc0\x80", 2, 20, 4},
+        {late, "ab\x80", 1, 20, 5}, {SHUT, "a\xed\xa0\x80", 0, 20, 9}, {one, "a\xf5", 1, 20, 12},
+        {no_form, "x", 9, 3, 4}, {no_form_late, "x", 0, 3, 5}, {shut_no_form, "x", 0, 3, 9}, {no_form, "x", 0, 3, 12},
+        {late, "ab", 2, 4, 5}, {late, "ab", UINT64_MAX, 4, 5}, {SHUT, "x", 1, 4, 9}, {one, "x", 2, 4, 12},
+        {one, "", 2, 4, 12}, {shut_late, "xy", 0, 5, 9}, {late, "ab", 1, 5, 12}, {SHUT, "x", 0, 9, 12},
+        {SHUT_BEHIND, "xy", 0, 9, 12}, {one, "x", 1, 12, 12}};
+    for (size_t k = 0; k < sizeof pairs / sizeof *pairs; k++) {
+        load(pairs[k].sheet);
+        size_t room = pairs[k].other == 12 ? 0 : ROOM, lines_room = pairs[k].other == 12 ? 0 : LINES_ROOM;
+        const uint8_t *block = (const uint8_t *)pairs[k].block;
+        CHECK(refused(paste_in(pairs[k].gap, block, strlen(pairs[k].block), room, lines_room), pairs[k].told));
+    }
+}
+
+/* The same on a full sheet, with 11. */
+static void first_of_two_pasting_full(void)
+{
+    char line[64];
+    load_rows(1024);
+    CHECK(refused(paste(0, "x\x80"), WIMTAZE_REFUSAL_NOT_UTF8));
+    CHECK(refused(paste(1025, "x"), WIMTAZE_REFUSAL_POSITION));
+    CHECK(refused(paste_in(0, (const uint8_t *)"x", 1, 0, 0), WIMTAZE_REFUSAL_DOCUMENT_FULL));
+    append("E 1 1 1 2\n");
+    CHECK(refused(paste(0, "x"), WIMTAZE_REFUSAL_FORM));
+    load_rows(1025);
+    CHECK(refused(paste(0, "x"), WIMTAZE_REFUSAL_FORM));
+    append("E 1 1 1 0\n");
+    CHECK(refused(paste(0, "x"), WIMTAZE_REFUSAL_RANGE));
+    append("D 1 1 1\n");
+    CHECK(refused(paste(0, "x"), WIMTAZE_REFUSAL_LAYOUT));
+    /* No clock and no room left: 5 comes before 11; and both before 9. */
+    load("S2 1 65534\nC 1 1 97 1 0 0 1 2\n");
+    for (int k = 2; k <= 1023; k++) {
+        sprintf(line, k == 1023 ? "C 1 %d 97 1 1 %d 0 1\n" : "C 1 %d 97 1 1 %d 1 %d\n", k, k - 1, k + 1);
+        append(line);
+    }
+    CHECK(refused(paste(0, "xy"), WIMTAZE_REFUSAL_CLOCK));
+    CHECK(refused(paste(0, "x"), WIMTAZE_REFUSAL_UNPLACEABLE));
+    append("I 2 1 98 3 1 0 1\n");
+    CHECK(refused(paste(0, "xy"), WIMTAZE_REFUSAL_CLOCK));
+    CHECK(refused(paste(0, "x"), WIMTAZE_REFUSAL_DOCUMENT_FULL));
+    CHECK(refused(paste_in(0, (const uint8_t *)"x", 1, 0, 0), WIMTAZE_REFUSAL_DOCUMENT_FULL));
+}
+
+/* Each output short by a byte, and by all of it: neither is written. */
+static void short_of_a_block(void)
+{
+    static const char *const pasted = "S2 3 3\nC 3 1 120 0 0 0 0 1\nC 3 2 1114111 0 3 1 0 1\nC 3 3 10 0 3 2 0 1\n";
+    static const char *const lines = "I 3 2 1114111 3 1 0 1\nI 3 3 10 3 2 0 1\n";
+    static const uint8_t block[] = {0xf4, 0x8f, 0xbf, 0xbf, 10};
+    const size_t rooms[][2] = {{strlen(pasted) - 1, LINES_ROOM}, {ROOM, strlen(lines) - 1}, {0, LINES_ROOM}, {ROOM, 0},
+        {strlen(pasted) - 1, strlen(lines)}, {strlen(pasted), strlen(lines) - 1}, {0, 0}};
+    for (size_t k = 0; k < sizeof rooms / sizeof *rooms; k++) {
+        load("S2 3 1\nC 3 1 120 0 0 0 0 1\n");
+        CHECK(refused(paste_in(1, block, sizeof block, rooms[k][0], rooms[k][1]), WIMTAZE_REFUSAL_OUTPUT));
+    }
+    uint64_t reply = paste_in(1, block, sizeof block, strlen(pasted), strlen(lines));
+    CHECK(done(reply, 2, 0) && sheet_is(pasted) && line_is(reply, lines));
+}
+
+/* The largest block: 1,024 characters of four bytes each, in outputs of just the sizes that the header names. */
+static void largest_block(void)
+{
+    static uint8_t block[4 * WIMTAZE_CHARACTER_MAX];
+    for (size_t k = 0; k < sizeof block; k += 4)
+        memcpy(block + k, "\xf4\x8f\xbf\xbf", 4);
+    load("S2 16 64511\n");
+    uint64_t reply = paste_in(0, block, sizeof block, WIMTAZE_SHEET_MAX, WIMTAZE_LINES_MAX);
+    CHECK(done(reply, 1024, 0));
+    CHECK(wimtaze_line_written(reply) == 27 + 1023 * 32 && wimtaze_written(reply) == 12 + 29 + 1023 * 34);
+    CHECK(counted(1024, 0, 1024, 0));
+    uint64_t shown = text_in(WIMTAZE_TEXT_MAX);
+    CHECK(wimtaze_written(shown) == sizeof block && memcmp(first + GUARD, block, sizeof block) == 0);
+    size_t lines_length = wimtaze_line_written(reply), length = sheet_length;
+    load("S2 16 64511\n");
+    CHECK(refused(paste_in(0, block, sizeof block, length - 1, WIMTAZE_LINES_MAX), WIMTAZE_REFUSAL_OUTPUT));
+    CHECK(refused(paste_in(0, block, sizeof block, WIMTAZE_SHEET_MAX, lines_length - 1), WIMTAZE_REFUSAL_OUTPUT));
+    /* The longest lines: between two rows of laptop 16. One character more is beyond its clock, and the room. */
+    load("S2 16 64513\nC 16 64512 97 0 0 0 0 1\nC 16 64513 97 0 16 64512 0 1\n");
+    CHECK(refused(paste_in(1, block, sizeof block - 4, WIMTAZE_SHEET_MAX, WIMTAZE_LINES_MAX), WIMTAZE_REFUSAL_CLOCK));
+    reply = paste_in(1, block, sizeof block - 8, WIMTAZE_SHEET_MAX, WIMTAZE_LINES_MAX);
+    CHECK(done(reply, 1022, 0) && wimtaze_line_written(reply) == WIMTAZE_LINES_MAX - 2 * WIMTAZE_INSERT_MAX);
+}
+
+/* The most that a block can bring and throw out: 512 that wait, for each of its characters or for the first. */
+static void most_counts(void)
+{
+    static uint8_t block[WIMTAZE_CHARACTER_MAX];
+    char line[64];
+    memset(block, 'n', sizeof block);
+    load("S2 9 0\n");
+    for (int k = 0; k < 512; k++) {
+        sprintf(line, "E %d 9 %d %d\n", 1 + k / 32, 1 + 2 * k, 1 + k % 2);
+        append(line);
+    }
+    CHECK(done(paste_bytes(0, block, 1024), 1536, 0));
+    CHECK(counted(768, 0, 1024, 0));
+    /* The laptop's own inserts that wait make its clock 691; all are thrown out with 8/700. */
+    load("S2 8 0\n");
+    for (int k = 0; k < 512; k++) {
+        sprintf(line, "I %d %d 98 8 700 8 700\n", 1 + k / 32, 660 + k % 32);
+        append(line);
+    }
+    CHECK(refused(paste_bytes(0, block, 513), WIMTAZE_REFUSAL_DOCUMENT_FULL));
+    CHECK(done(paste_bytes(0, block, 512), 512, 512));
+    CHECK(counted(512, 0, 512, 512));
+    /* 512 inserts, each behind a character of the block. */
+    load("S2 9 0\n");
+    for (int k = 0; k < 512; k++) {
+        int n = sprintf(line, "I %d %d 98 9 %d ", 1 + k / 32, 2000 + k % 32, 2032 + k);
+        sprintf(line + n, k == 511 ? "0 1\n" : "9 %d\n", 2033 + k);
+        append(line);
+    }
+    CHECK(done(paste_bytes(0, block, 512), 1024, 0));
+    CHECK(counted(1024, 0, 1024, 0));
+}
+
 /* ---- waiting, throwing out, and what releases it */
 
 static void released(void)
@@ -1432,6 +2065,7 @@ static void layout(void)
         CHECK(refused(type(0, 'x'), WIMTAZE_REFUSAL_LAYOUT));
         CHECK(refused(erase(1), WIMTAZE_REFUSAL_LAYOUT));
         CHECK(refused(restore(1, 1), WIMTAZE_REFUSAL_LAYOUT));
+        CHECK(refused(paste(0, "x"), WIMTAZE_REFUSAL_LAYOUT));
         CHECK(refused(text(), WIMTAZE_REFUSAL_LAYOUT));
         CHECK(refused(counts(), WIMTAZE_REFUSAL_LAYOUT));
     }
@@ -1466,6 +2100,7 @@ static void ranges(void)
         CHECK(refused(type(0, 'x'), WIMTAZE_REFUSAL_RANGE));
         CHECK(refused(erase(1), WIMTAZE_REFUSAL_RANGE));
         CHECK(refused(restore(1, 1), WIMTAZE_REFUSAL_RANGE));
+        CHECK(refused(paste(0, "x"), WIMTAZE_REFUSAL_RANGE));
         CHECK(refused(text(), WIMTAZE_REFUSAL_RANGE));
         CHECK(refused(counts(), WIMTAZE_REFUSAL_RANGE));
     }
@@ -1491,6 +2126,7 @@ static void form(void)
         CHECK(refused(type(0, 'x'), WIMTAZE_REFUSAL_FORM));
         CHECK(refused(erase(1), WIMTAZE_REFUSAL_FORM));
         CHECK(refused(restore(1, 1), WIMTAZE_REFUSAL_FORM));
+        CHECK(refused(paste(0, "x"), WIMTAZE_REFUSAL_FORM));
         CHECK(refused(text(), WIMTAZE_REFUSAL_FORM));
         CHECK(refused(counts(), WIMTAZE_REFUSAL_FORM));
     }
@@ -1504,6 +2140,9 @@ static void positions(void)
     load("S2 1 0\nC 2 1 65 0 0 0 0 1\nC 2 2 66 1 2 1 0 1\n");
     CHECK(refused(type(2, 'x'), WIMTAZE_REFUSAL_POSITION));
     CHECK(refused(type(UINT64_MAX, 'x'), WIMTAZE_REFUSAL_POSITION));
+    CHECK(refused(paste(2, "x"), WIMTAZE_REFUSAL_POSITION));
+    CHECK(refused(paste(4294967296u, "x"), WIMTAZE_REFUSAL_POSITION));
+    CHECK(refused(paste(UINT64_MAX, "x"), WIMTAZE_REFUSAL_POSITION));
     CHECK(refused(erase(0), WIMTAZE_REFUSAL_POSITION));
     CHECK(refused(erase(2), WIMTAZE_REFUSAL_POSITION));
     CHECK(refused(erase(UINT64_MAX), WIMTAZE_REFUSAL_POSITION));
@@ -1749,9 +2388,9 @@ static void version(void)
 
 static void every_refusal(void)
 {
-    for (unsigned n = 1; n <= 15; n++)
-        CHECK((refusals_seen >> n & 1) == (n != WIMTAZE_REFUSAL_TAKEN));
-    CHECK(refusals_seen >> 16 == 0);
+    for (unsigned n = 1; n <= 20; n++)
+        CHECK((refusals_seen >> n & 1) == (n != WIMTAZE_REFUSAL_TAKEN && (n <= 15 || n == WIMTAZE_REFUSAL_NOT_UTF8)));
+    CHECK(refusals_seen >> 21 == 0);
 }
 
 /* ---- */
@@ -1799,6 +2438,21 @@ static const struct {
     {"Req 02: edits that are made here", own_edits},
     {"Req 02: what waits for a typed character", typed_with_others},
     {"Req 02: shifts and sums", shifts_and_sums},
+    {"Req 11: results are pasted", results_pasted},
+    {"Req 11: every two first bytes", every_two_bytes},
+    {"Req 11: the first and last of each length", edges_pasted},
+    {"Req 11: what is not UTF-8", not_utf8},
+    {"Req 11: what waits for a pasted character", pasted_with_others},
+    {"Req 11: characters that are hidden at once", hidden_at_once},
+    {"Req 11: the clock ends in the middle", clock_ends},
+    {"Req 11: no room for all", no_room_to_paste},
+    {"Req 11: no place for one of them", no_place_in_block},
+    {"Req 11: an empty block", nothing_pasted},
+    {"Req 11: the first of two refusals", first_of_two_pasting},
+    {"Req 11: the same on a full sheet", first_of_two_pasting_full},
+    {"Req 11: short outputs", short_of_a_block},
+    {"Req 11: the largest block", largest_block},
+    {"Req 11: the most that it brings", most_counts},
     {"what an insert releases", released},
     {"placing", placing},
     {"layout of lines and sheets", layout},
