@@ -3,10 +3,10 @@
  * how lines travel from laptop to laptop is left to the program around it. pairing.c has two laptops and a network in
  * memory, playing_hall.c sixteen processes that send datagrams. Both go round and round in this order:
  *
- *     take in what has come     laptop_receive, laptop_acknowledged
- *     type, erase, restore      laptop_type, laptop_erase, laptop_restore
- *     save                      laptop_save
- *     send                      an acknowledgement for each line that was taken in, and the outbox
+ *     take in what has come            laptop_receive, laptop_acknowledged
+ *     type, paste, erase, restore      laptop_type, laptop_paste, laptop_erase, laptop_restore
+ *     save                             laptop_save
+ *     send                             an acknowledgement for each line that was taken in, and the outbox
  *
  * so that nothing is sent, lines and acknowledgements alike, before the sheet that has it is on the disk.
  *
@@ -274,6 +274,42 @@ static enum wimtaze_refusals laptop_type(struct laptop *laptop, uint64_t gap, ui
     if (at_cursor && wimtaze_carried(reply) == 1)
         laptop->cursor = wimtaze_moved(laptop->cursor, 1);
     return refusal;
+}
+
+/*
+ * Takes the new sheet of a pasted block, and posts its lines. The cursor goes behind a block that is pasted at it.
+ * Where it is elsewhere, or something that waited came with the characters, the lines are received one by one instead,
+ * like lines that come: they leave the same sheet, and the cursor in its place.
+ */
+static void laptop_pasted(struct laptop *laptop, uint64_t gap, uint64_t reply, const uint8_t *lines, unsigned count)
+{
+    int behind = gap == laptop->cursor && wimtaze_carried(reply) == count;
+    if (behind) {
+        laptop_keep(laptop, reply);
+        laptop->cursor = wimtaze_moved(laptop->cursor, (int32_t)count);
+    }
+    for (; count > 0; count--) {
+        size_t length = (size_t)((const uint8_t *)memchr(lines, '\n', WIMTAZE_LINE_MAX) + 1 - lines);
+        if (!behind)
+            laptop_keep(laptop, laptop_receive_at_cursor(laptop, lines, length));
+        laptop_post(laptop, lines, length, laptop_others(laptop));
+        lines += length;
+    }
+}
+
+/* Pastes a text in UTF-8, all of it or nothing; refused with 11 also where it is more than the laptop may type. */
+static enum wimtaze_refusals laptop_paste(struct laptop *laptop, uint64_t gap, const void *text, size_t length)
+{
+    static uint8_t lines[WIMTAZE_LINES_MAX];
+    unsigned count = 0;
+    uint64_t reply = wimtaze_paste(laptop->sheet, laptop->length, gap, (const uint8_t *)text, length, laptop->after,
+                                   sizeof laptop->after, lines, sizeof lines);
+    for (size_t k = 0; k < wimtaze_line_written(reply); k++)
+        count += lines[k] == '\n';
+    if (count > laptop_room(laptop))
+        return WIMTAZE_REFUSAL_DOCUMENT_FULL;
+    laptop_pasted(laptop, gap, reply, lines, count);
+    return wimtaze_refusal(reply);
 }
 
 /* Erases a character; refused with 4 also as long as the laptop awaits others. */

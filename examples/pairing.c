@@ -1,14 +1,14 @@
 /*
  * Two laptops of a playing hall keep one note together, over a network that loses every third packet, delivers every
- * fifth twice, and the last one first. Each types without waiting for the other; one is switched off and on again in
- * between. The other is in the middle of a word when the first one's text comes in above it, and types on at its
- * cursor, which has kept its place. Then the first erases, by mistake, what the other typed, and the other brings it
- * back. Both end with the same note.
+ * fifth twice, and the last one first. One pastes the results from its pairing screen while the other types; neither
+ * waits for the other, and the one is switched off and on again in between. The other is in the middle of a word when
+ * the results come in above it, and types on at its cursor, which has kept its place. Then the first erases, by
+ * mistake, what the other typed, and the other brings it back. Both end with the same note.
  *
  *     pairing [DIRECTORY]     keeps the two sheets there, and goes on from them when it is run again
  *
  * What a laptop must see to is in laptop.h. `go_round` is one round of a program's loop; in yours, send_packet and
- * next_packet are the network, and type, correct, erase, bring_back and show are the screen.
+ * next_packet are the network, and type, paste, correct, erase, bring_back and show are the screen.
  */
 #include "laptop.h"
 
@@ -111,11 +111,39 @@ static void type(struct laptop *laptop, const char *text)
             return;
 }
 
+/* Pastes a text at a gap, all of it or nothing. */
+static void paste(struct laptop *laptop, uint64_t gap, const char *text)
+{
+    enum wimtaze_refusals refusal = laptop_paste(laptop, gap, text, strlen(text));
+    if (refusal != WIMTAZE_REFUSAL_NONE)
+        printf("laptop %u is refused with %d: %s\n", laptop->number, (int)refusal, text);
+}
+
 /* Puts another character in the place of one. */
 static void correct(struct laptop *laptop, uint64_t place, char character)
 {
     if (laptop_type(laptop, place, (uint8_t)character) == WIMTAZE_REFUSAL_NONE)
         laptop_erase(laptop, place);
+}
+
+/*
+ * Pastes a heading and a result at the cursor, and corrects a slip. Then the cursor goes back behind the heading: it
+ * stays there while another result is pasted at the end, and the name of the hall is typed at it. Answers how many
+ * characters that makes.
+ */
+static size_t paste_results(struct laptop *laptop)
+{
+    static const char heading[] = "Round 5. ", hall[] = "Hall A. ", result[] = "Board 4: 1-0. ";
+    static const char next[] = "Board 9 was adjourned. ";
+    uint64_t top = laptop->cursor;
+    paste(laptop, laptop->cursor, heading);
+    paste(laptop, laptop->cursor, result);
+    correct(laptop, laptop->cursor - strlen(": 1-0. "), '7');
+    uint64_t end = laptop->cursor;
+    laptop->cursor = top + strlen(heading);
+    paste(laptop, end, next);
+    type(laptop, hall);
+    return strlen(heading) + strlen(hall) + strlen(result) + strlen(next);
 }
 
 /* Erases so many characters, the first of them at a place. */
@@ -157,7 +185,7 @@ static unsigned exchange(struct laptop *desk, struct laptop *hall)
 
 int main(int argc, char **argv)
 {
-    static const char results[] = "Board 4: 1-0. Board 9 was adjourned. ", bye[] = "Bye: No", rest[] = "vak. ";
+    static const char bye[] = "Bye: No", rest[] = "vak. ";
     const char *directory = argc > 1 ? argv[1] : ".";
     static struct laptop desk, hall;
     static uint8_t desk_text[WIMTAZE_TEXT_MAX], hall_text[WIMTAZE_TEXT_MAX];
@@ -165,9 +193,8 @@ int main(int argc, char **argv)
     laptop_open(&desk, directory, 1, LAPTOPS);
     laptop_open(&hall, directory, 2, LAPTOPS);
 
-    type(&desk, results);
+    size_t above = paste_results(&desk);
     type(&hall, bye);
-    correct(&desk, 7, '7');
     go_round(&desk);
     laptop_close(&desk);
     laptop_open(&desk, directory, 1, LAPTOPS);
@@ -175,7 +202,7 @@ int main(int argc, char **argv)
     unsigned rounds = exchange(&desk, &hall);
     type(&hall, rest);
     rounds += exchange(&desk, &hall);
-    erase(&desk, strlen(results) + 1, strlen(bye) + strlen(rest));
+    erase(&desk, above + 1, strlen(bye) + strlen(rest));
     rounds += exchange(&desk, &hall);
     puts("the bye request is erased by mistake:");
     show(&hall, hall_text);

@@ -1,12 +1,12 @@
 /*
  * Sixteen laptops of a playing hall write one sheet together, over a bad network. Each laptop is a process with a file
- * for its sheet, and types a note, with slips in it that any of them erases. They talk by UDP datagrams on the loopback
- * interface, all through one relay. It loses one in five, delivers one in eight twice, and holds each back for some
- * time, so that they overtake each other. For a while it cuts laptops 13 to 16 off from the others; in that time laptop
- * 5 is killed, and started again from its file, and laptop 9 is killed, loses its file, and is set up anew under its
- * number: the others send it everything, its own characters among it, and it types on. When all is typed, laptop 11
- * erases the note of laptop 2 by mistake, and laptop 2 brings it back. At the end the sixteen files must show the same
- * text.
+ * for its sheet, and types a note, with slips in it that any of them erases; laptop 1 has its note on the pairing
+ * screen and pastes it. They talk by UDP datagrams on the loopback interface, all through one relay. It loses one in
+ * five, delivers one in eight twice, and holds each back for some time, so that they overtake each other. For a while
+ * it cuts laptops 13 to 16 off from the others; in that time laptop 5 is killed, and started again from its file, and
+ * laptop 9 is killed, loses its file, and is set up anew under its number: the others send it everything, its own
+ * characters among it, and it types on. When all is typed, laptop 11 erases the note of laptop 2 by mistake, and laptop
+ * 2 brings it back. At the end the sixteen files must show the same text.
  *
  *     playing_hall [SECONDS [SEED]]     types for so long, 2 to 60 seconds; 20 if nothing is said
  *
@@ -28,6 +28,7 @@ enum {
     SECTION = 13,       /* the first laptop of the section that is cut off */
     KILLED = 5,         /* the laptop that is killed */
     RENEWED = 9,        /* the laptop that loses its file too */
+    SCREEN = 1,         /* the laptop that pastes its note */
     CARELESS = 11,      /* the laptop that erases a note by mistake, */
     AUTHOR = 2,         /* and the one that typed it and brings it back */
     EDITS = 30,         /* of a laptop in the time of the typing */
@@ -152,7 +153,7 @@ static void bring_back_note(void)
             return;
 }
 
-/* Erases a slip, makes one, or types the next character of the note; or makes the mistake, or mends it. */
+/* Erases a slip, makes one, pastes the note, or types its next character; or makes the mistake, or mends it. */
 static void edit(void)
 {
     struct desk desk = look();
@@ -165,6 +166,8 @@ static void edit(void)
         laptop_erase(&laptop, desk.slip);
     else if (left > 0 && below(12) == 0 && laptop_room(&laptop) > left)
         laptop_type(&laptop, desk.gap, (uint32_t)SLIP);
+    else if (left > 0 && laptop.number == SCREEN)
+        laptop_paste(&laptop, desk.gap, note + desk.typed, left);
     else if (left > 0)
         laptop_type(&laptop, desk.gap, (uint32_t)note[desk.typed]);
 }

@@ -1572,7 +1572,7 @@ static int is_character(const uint8_t *block, size_t length, int wanted)
 
 /*
  * Every first byte with every second one (with some where the first decides), before bytes 10xxxxxx: a character where
- * the RFC has one, and none with a byte less or more.
+ * the RFC has one, and none with a byte less or more, or with any number of bytes where it has none.
  */
 static void every_two_bytes(void)
 {
@@ -1580,9 +1580,9 @@ static void every_two_bytes(void)
         for (unsigned b = a < 0x80 ? 0x80 : 0; b < 256; b += a < 0xc2 || a > 0xf4 ? 85 : 1) {
             const uint8_t block[] = {(uint8_t)a, (uint8_t)b, 0x80, 0xbf, 0x80};
             size_t length = syntax_length(a, b);
-            int held = length == 0 ? is_character(block, 4, 0)
-                                   : is_character(block, length, 1) && is_character(block, length + 1, 0) &&
-                                         (length == 1 || is_character(block, length - 1, 0));
+            int held = 1;
+            for (size_t n = length < 2 ? 1 : length - 1; n <= (length == 0 ? 4 : length + 1); n++)
+                held &= is_character(block, n, n == length);
             if (!held)
                 printf("first bytes %02x %02x\n", a, b);
             CHECK(held);

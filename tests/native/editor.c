@@ -1,10 +1,10 @@
 /*
- * An editor's cursor while others type. Laptop 8 types at its cursor, erases, restores, and moves the cursor about. The
- * other fifteen type, erase and restore anywhere, and often just where the cursor is. Lines come in any order, some
- * twice, and what is lost is sent again later. After every line that the editor takes in, and every edit of its own,
- * the character on the left of the cursor must be the one that was there, or, if it is hidden, the nearest shown one
- * above it. Both are looked up by identifier in the rows of the saved sheets, and the shift has no say in that. The
- * first run where that is not so is the last.
+ * An editor's cursor while others type. Laptop 8 types and pastes at its cursor, erases, restores, and moves the cursor
+ * about. The other fifteen type, paste, erase and restore anywhere, and often just where the cursor is. Lines come in
+ * any order, some twice, and what is lost is sent again later. After every line that the editor takes in, and every
+ * edit of its own, the character on the left of the cursor must be the one that was there, or, if it is hidden, the
+ * nearest shown one above it. Both are looked up by identifier in the rows of the saved sheets, and the shift has no
+ * say in that. The first run where that is not so is the last.
  *
  *     editor [RUNS [SEED]]
  */
@@ -42,6 +42,7 @@ enum situation {
     KNOWN,          /* is known, */
     PUT_OFF,        /* is refused with 10; */
     OWN_TYPED,      /* the editor typed, */
+    OWN_PASTED,     /* pasted several characters, */
     OWN_ERASED,     /* erased at or above its cursor, */
     OWN_RESTORED,   /* restored above it */
     SITUATIONS
@@ -49,7 +50,7 @@ enum situation {
 
 static const char *const names[SITUATIONS] = {"at the cursor", "above", "below", "several", "left one erased",
     "to the beginning", "left one turned twice", "erased above", "restored above", "at the beginning", "waits",
-    "known", "refused with 10", "typed", "erased", "restored"};
+    "known", "refused with 10", "typed", "pasted", "erased", "restored"};
 static unsigned met[SITUATIONS];
 
 /* ---- chance */
@@ -73,6 +74,16 @@ static unsigned share(unsigned number)
     if (number == EDITOR)
         return 40;
     return number == BUSY && seed % 2 == 0 ? 80 : seed % 3 == 0 ? 4 : 16;
+}
+
+static void check(int held, const char *what)
+{
+    if (held) {
+        passed++;
+        return;
+    }
+    failed++;
+    printf("run %llu: not so: %s\n", (unsigned long long)seed, what);
 }
 
 /* ---- the rows of a saved sheet */
@@ -172,7 +183,7 @@ static struct laptop {
     uint8_t delivery[LINES]; /* of each line to this laptop */
 } laptops[LAPTOPS + 1];
 
-static uint8_t after[WIMTAZE_SHEET_MAX], line_out[WIMTAZE_LINE_MAX];
+static uint8_t after[WIMTAZE_SHEET_MAX], line_out[WIMTAZE_LINES_MAX];
 
 /* The editor's cursor, and the rows of a sheet before and after a call. */
 static uint64_t cursor;
@@ -187,22 +198,50 @@ static void keep(struct laptop *laptop, uint64_t reply)
 }
 
 /*
- * Takes the new sheet of an edit that was made here, and sends its line to the others. To some it is lost at first; and
- * from a laptop that types much the editor is cut off to the end of the run.
+ * Sends a line of an edit that was made here to the others. To some it is lost at first; and from a laptop that types
+ * much the editor is cut off to the end of the run.
  */
-static unsigned made(unsigned number, uint64_t reply)
+static void send(unsigned number, const uint8_t *line, size_t length)
 {
-    if (wimtaze_word(reply) != WIMTAZE_DONE || line_count == LINES)
-        return 0;
-    keep(&laptops[number], reply);
-    lines[line_count].length = wimtaze_line_written(reply);
-    memcpy(lines[line_count].bytes, line_out, lines[line_count].length);
+    lines[line_count].length = length;
+    memcpy(lines[line_count].bytes, line, length);
     for (unsigned k = 1; k <= LAPTOPS; k++)
         laptops[k].delivery[line_count] = k == number ? TAKEN : below(k == EDITOR ? 2 : 4) == 0 ? LOST : COMING;
     if (number == BUSY && seed % 2 == 0)
         laptops[EDITOR].delivery[line_count] = CUT_OFF;
     line_count++;
-    return 1;
+}
+
+/* Takes the new sheet of an edit that was made here, and sends its lines; answers how many they are. */
+static unsigned made(unsigned number, uint64_t reply)
+{
+    unsigned count = 0;
+    const uint8_t *line = line_out, *end = line_out + wimtaze_line_written(reply);
+    if (wimtaze_word(reply) != WIMTAZE_DONE || line_count > LINES - WIMTAZE_CHARACTER_MAX)
+        return 0;
+    keep(&laptops[number], reply);
+    for (; line < end; count++) {
+        const uint8_t *behind = (const uint8_t *)memchr(line, '\n', (size_t)(end - line)) + 1;
+        send(number, line, (size_t)(behind - line));
+        line = behind;
+    }
+    return count;
+}
+
+/* Pastes some characters, of one to four bytes each, at most so many; answers how many. */
+static unsigned paste(unsigned number, uint64_t gap, unsigned most)
+{
+    static const char *const characters[] = {"n", "\xc2\xbd", "\xe2\x99\x9e", "\xf0\x9f\x8f\x86", "\n"};
+    struct laptop *laptop = &laptops[number];
+    char block[64] = "";
+    for (unsigned count = 1 + below(most < 6 ? most : 6); count > 0; count--)
+        strcat(block, characters[below(5)]);
+    uint64_t reply = wimtaze_paste(laptop->sheet, laptop->length, gap, (const uint8_t *)block, strlen(block), after,
+                                   sizeof after, line_out, sizeof line_out);
+    unsigned pasted = made(number, reply);
+    check(pasted == 0 || pasted == wimtaze_carried(reply), "nothing waited for characters that nobody knew");
+    laptop->typed += pasted;
+    return pasted;
 }
 
 static void send_again(struct laptop *laptop, enum delivery what)
@@ -236,16 +275,6 @@ static void check_cursor(struct row want, const char *what)
     failed++;
     printf("run %llu: after %s, cursor %llu has %u/%u on its left and not %u/%u\n", (unsigned long long)seed, what,
            (unsigned long long)cursor, got.laptop, got.clock, want.laptop, want.clock);
-}
-
-static void check(int held, const char *what)
-{
-    if (held) {
-        passed++;
-        return;
-    }
-    failed++;
-    printf("run %llu: not so: %s\n", (unsigned long long)seed, what);
 }
 
 /* What a line that was carried out did around the cursor, from the rows alone; left is what stood on its left. */
@@ -314,6 +343,20 @@ static void editor_type(void)
     met[OWN_TYPED]++;
 }
 
+/* The same of several characters at once: the cursor goes behind the last. */
+static void editor_paste(void)
+{
+    struct laptop *editor = &laptops[EDITOR];
+    unsigned count = paste(EDITOR, cursor, share(EDITOR) - editor->typed);
+    if (count == 0)
+        return;
+    struct row last = {EDITOR, editor->typed, 0};
+    cursor += count;
+    read_rows(editor->sheet, editor->length, &new);
+    check_cursor(last, "pasting");
+    met[OWN_PASTED] += count > 1;
+}
+
 /* Erases the character on either side of the cursor, or another. */
 static void editor_erase(void)
 {
@@ -377,8 +420,10 @@ static void editor_move(void)
 static void editor_edit(void)
 {
     unsigned n = below(20);
-    if (n < 9 && laptops[EDITOR].typed < share(EDITOR))
+    if (n < 7 && laptops[EDITOR].typed < share(EDITOR))
         editor_type();
+    else if (n < 9 && laptops[EDITOR].typed < share(EDITOR))
+        editor_paste();
     else if (n < 12)
         editor_erase();
     else if (n < 15)
@@ -409,7 +454,7 @@ static void restore(unsigned number, struct row row)
                                  sizeof line_out));
 }
 
-/* Types, erases, now and then by a slip that is mended at once, or restores. */
+/* Types, pastes, erases, now and then by a slip that is mended at once, or restores. */
 static void edit(unsigned number)
 {
     struct laptop *laptop = &laptops[number];
@@ -422,8 +467,11 @@ static void edit(unsigned number)
         if (laptop->typed == share(number))
             return;
         gap -= number != BUSY && gap > 0 ? below(2) : 0;
-        laptop->typed += made(number, wimtaze_type(laptop->sheet, laptop->length, gap, 'A' + below(26), after,
-                                                   sizeof after, line_out, sizeof line_out));
+        if (below(5) == 0)
+            paste(number, gap, share(number) - laptop->typed);
+        else
+            laptop->typed += made(number, wimtaze_type(laptop->sheet, laptop->length, gap, 'A' + below(26), after,
+                                                       sizeof after, line_out, sizeof line_out));
     } else if (n < 8) {
         struct row row = left_of(&old, gap);
         if (made(number, wimtaze_erase(laptop->sheet, laptop->length, gap, after, sizeof after, line_out,

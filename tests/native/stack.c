@@ -1,7 +1,7 @@
 /*
  * How much stack the calls take: every call of the library in a thread whose stack was painted before, on an empty
- * sheet, on a full one and on one where a line releases the edits that wait for it. It must not be more than the header
- * says, below the frame that the calls are made from.
+ * sheet, on a full one and on one where a line or a block releases the edits that wait for it. It must not be more than
+ * the header says, below the frame that the calls are made from.
  */
 #include "wimtaze.h"
 
@@ -12,6 +12,7 @@
 enum { PAINT = 0xa5, PAGE = 4096, PAINTED = 4 * WIMTAZE_STACK };
 
 static uint8_t sheet[WIMTAZE_SHEET_MAX], after[WIMTAZE_SHEET_MAX], line[WIMTAZE_LINE_MAX], text[WIMTAZE_TEXT_MAX];
+static uint8_t lines[WIMTAZE_LINES_MAX];
 static size_t length;
 static int failures;
 
@@ -47,6 +48,52 @@ static void receive_at(const char *edit, uint64_t gap, unsigned word, uint64_t m
         failures++;
 }
 
+/* Pastes so many characters of four bytes each, and keeps the sheet. */
+static void paste(unsigned count, unsigned word, unsigned carried, unsigned thrown)
+{
+    for (unsigned k = 0; k < count; k++)
+        memcpy(text + 4 * k, "\xf4\x8f\xbf\xbf", 4);
+    uint64_t reply = wimtaze_paste(sheet, length, 0, text, 4 * count, after, sizeof after, lines, sizeof lines);
+    if (wimtaze_carried(reply) != carried || wimtaze_thrown(reply) != thrown)
+        failures++;
+    keep(reply, word);
+}
+
+/* Laptop 1, whose clock is 4,000, with 512 edits that wait for what it types next. */
+enum awaiting { TURNS, INSERTS, INSERTS_THROWN_OUT };
+
+static void begin_awaited(enum awaiting what)
+{
+    char *at = (char *)sheet + sprintf((char *)sheet, "S2\t1\t4000\n");
+    for (unsigned k = 0; k < 512; k++) {
+        unsigned sender = 1 + k / 32, clock = 1 + k % 32, awaited = 4001 + k;
+        if (what == TURNS)
+            at += sprintf(at, "E\t%u\t1\t%u\t1\n", sender, awaited);
+        else if (what == INSERTS)
+            at += sprintf(at, "I\t%u\t%u\t66\t1\t%u\t0\t1\n", sender, clock, awaited);
+        else
+            at += sprintf(at, "I\t%u\t%u\t66\t1\t%u\t1\t%u\n", sender, clock, awaited, awaited);
+    }
+    length = (size_t)(at - (char *)sheet);
+}
+
+/* The largest block, and those that release or throw out 512 edits. */
+static void blocks(void)
+{
+    keep(wimtaze_empty(1, after, sizeof after), WIMTAZE_DONE);
+    paste(1024, WIMTAZE_DONE, 1024, 0);
+    paste(1, WIMTAZE_REFUSED, 0, 0);
+    begin_awaited(TURNS);
+    paste(1024, WIMTAZE_DONE, 1536, 0);
+    begin_awaited(INSERTS);
+    paste(513, WIMTAZE_REFUSED, 0, 0);
+    paste(512, WIMTAZE_DONE, 1024, 0);
+    begin_awaited(INSERTS_THROWN_OUT);
+    paste(512, WIMTAZE_DONE, 512, 512);
+    text[0] = 0xff;
+    keep(wimtaze_paste(sheet, length, 0, text, 2048, after, sizeof after, lines, sizeof lines), WIMTAZE_REFUSED);
+}
+
 static void *calls(void *unused)
 {
     uint8_t here;
@@ -74,6 +121,7 @@ static void *calls(void *unused)
     receive_at("E\t2\t2\t1\t255\n", 1025, WIMTAZE_REFUSED, 1025);
     receive_at("E\t2\t3\t1\t255\n", 1024, WIMTAZE_WAITS, 1024);
     keep(wimtaze_receive(sheet, length, (const uint8_t *)"E\t2\t2\t1\t255\n", 12, after, sizeof after), WIMTAZE_DONE);
+    blocks();
     return unused;
 }
 
