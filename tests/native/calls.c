@@ -249,18 +249,20 @@ static unsigned field(const uint8_t *line, unsigned k)
 
 /*
  * The gap just below the last character that was typed here, whose identifier is in the first line of the sheet at
- * hand; if it is hidden, below the nearest shown one above it: so many are shown from the top through it.
+ * hand; if it is hidden, below the nearest shown one above it: so many are shown from the top through it. It is a gap
+ * of no sheet if there is no such character.
  */
 static uint64_t gap_below_last(void)
 {
     unsigned laptop = field(sheet, 1), clock = field(sheet, 2);
     uint64_t gap = 0;
-    const uint8_t *line = sheet;
-    do {
-        line = (const uint8_t *)memchr(line, '\n', (size_t)(sheet + sheet_length - line)) + 1;
+    const uint8_t *line = sheet, *end = sheet + sheet_length;
+    while ((line = (const uint8_t *)memchr(line, '\n', (size_t)(end - line)) + 1) < end && *line == 'C') {
         gap += field(line, 4) % 2 == 0;
-    } while (field(line, 1) != laptop || field(line, 2) != clock);
-    return gap;
+        if (field(line, 1) == laptop && field(line, 2) == clock)
+            return gap;
+    }
+    return UINT64_MAX;
 }
 
 /* The next character of a block that the library has read, and how many bytes it takes. */

@@ -175,9 +175,9 @@ const NUMBERS: [&str; 36] = [
 ];
 const MALFORMED: [&str; 8] = ["", "00", "01", "-1", "+1", " 1", "1\t", "a"];
 const LETTERS: &[u8] = b"IDECSidecs0123456789\t\t\n\n\r .-";
-const CODE_POINTS: [u32; 22] = [
+const CODE_POINTS: [u32; 23] = [
     0, 8, 9, 10, 11, 13, 31, 32, 126, 127, 128, 159, 2047, 2048, 55_295, 57_344, 65_533, 65_535, 65_536, 1_114_111, 97,
-    0x265e,
+    0x265e, 0xfeff,
 ];
 const NO_CODE_POINTS: [u32; 5] = [55_296, 57_343, 1_114_112, 65_536 * 65_535, u32::MAX];
 
