@@ -1,5 +1,6 @@
 //! Times the C calls of the static library, saved sheets in and out, against the same calls of the plain Rust in
-//! tests/native/reference.rs. Both sides leave the same bytes, which is checked on the way.
+//! tests/native/reference.rs; and pasting against typing through the library, and against the Rust with a table in
+//! tabled.rs. Both sides leave the same bytes, which is checked on the way.
 
 #[path = "../tests/native/library.rs"]
 #[allow(dead_code)]
@@ -9,13 +10,17 @@ mod library;
 mod reference;
 #[allow(dead_code)]
 mod table;
+#[allow(dead_code)]
+mod tabled;
 
-use library::{wimtaze_erase, wimtaze_receive, wimtaze_text, wimtaze_type};
-use reference::{erase_call, receive_call, text_call, type_call, Outcome};
+use library::{wimtaze_erase, wimtaze_paste, wimtaze_receive, wimtaze_text, wimtaze_type};
+use reference::{erase_call, operation_line, read_sheet, receive_call, sheet_bytes, text_call, type_call, Outcome, Reply};
+use tabled::Tabled;
 
 const COUNT: u64 = 1024;
 const TEXTS: usize = 100;
 const SHEET: usize = 51_212;
+const LINES: usize = 37_888;
 
 /// What the calls leave: the saved sheet, and the lines that were sent.
 #[derive(Clone, PartialEq)]
@@ -71,7 +76,7 @@ fn typed_plain() -> Left {
     left
 }
 
-fn typed() -> Left {
+fn typed(gap: fn(u64) -> u64) -> Left {
     let (mut left, mut sheet, mut line) = (empty(1), [0u8; SHEET], [0u8; 37]);
     for k in 0..COUNT {
         let (s, l, code) = (&left.sheet, &mut line, 97 + (k % 26) as u32);
@@ -79,6 +84,38 @@ fn typed() -> Left {
             wimtaze_type(s.as_ptr(), s.len(), gap(k), code, sheet.as_mut_ptr(), SHEET, l.as_mut_ptr(), l.len())
         };
         left.keep_written(r, &sheet, &line);
+    }
+    left
+}
+
+/// What `typed` types, where each character is typed below the one before.
+fn block() -> Vec<u8> {
+    (0..COUNT).map(|k| 97 + (k % 26) as u8).collect()
+}
+
+/// The block, pasted so many times into an empty sheet.
+fn pasted(times: usize) -> Left {
+    let (text, mut sheet, mut lines) = (block(), [0u8; SHEET], [0u8; LINES]);
+    let mut left = empty(1);
+    for _ in 0..times {
+        left = empty(1);
+        let (s, f, l) = (&left.sheet, sheet.as_mut_ptr(), lines.as_mut_ptr());
+        let r = unsafe { wimtaze_paste(s.as_ptr(), s.len(), 0, text.as_ptr(), text.len(), f, SHEET, l, LINES) };
+        left.keep_written(r, &sheet, &lines);
+    }
+    left
+}
+
+fn pasted_tabled(times: usize) -> Left {
+    let text = block();
+    let mut left = empty(1);
+    for _ in 0..times {
+        left = empty(1);
+        let mut sheet = Tabled::of(read_sheet(&left.sheet).unwrap());
+        let (reply, sent) = sheet.paste(0, &text);
+        assert_eq!(reply, Reply::Done { carried: text.len(), thrown: 0 });
+        left.sheet = sheet_bytes(&sheet.sheet());
+        left.lines.push(sent.iter().flat_map(operation_line).collect());
     }
     left
 }
@@ -154,7 +191,7 @@ fn colliding() -> Vec<(u64, u64)> {
 
 fn main() {
     let full = typed_plain();
-    table::row("wimtaze_type, 1,024 characters", &|| typed_plain().sum(), &|| typed().sum());
+    table::row("wimtaze_type, 1,024 characters", &|| typed_plain().sum(), &|| typed(gap).sum());
     let lines = full.lines.clone();
     table::row("wimtaze_receive, their 1,024 lines", &|| received_plain(&lines).sum(), &|| received(&lines).sum());
     table::row("wimtaze_erase, all of them", &|| erased_plain(&full).sum(), &|| erased(&full).sum());
@@ -163,4 +200,6 @@ fn main() {
     table::row("wimtaze_receive, 512 lines", &|| received_plain(&usual).sum(), &|| received(&usual).sum());
     let enemy = typed_as(&colliding());
     table::row("the same, their identifiers all of one chain", &|| received_plain(&enemy).sum(), &|| received(&enemy).sum());
+    table::row("paste 1,024, against 1,024 of wimtaze_type", &|| typed(|k| k).sum(), &|| pasted(1).sum());
+    table::row("10 times, against the Rust with a table", &|| pasted_tabled(10).sum(), &|| pasted(10).sum());
 }

@@ -8,6 +8,7 @@ mod plot;
 #[allow(dead_code)]
 mod reference;
 mod table;
+#[allow(dead_code)]
 mod tabled;
 
 use reference::{Id, Insert, Operation, Reply, Sheet, Turn, BEGIN, END};

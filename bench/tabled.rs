@@ -1,8 +1,8 @@
-//! Receiving with a table, as a Rust programmer would write it for speed: the checks of document 01 at each call, the
-//! form and the table among them, rows found through the chains of a table that is kept beside them and made anew after
-//! an insert, the sheet changed in place.
+//! Receiving and pasting with a table, as a Rust programmer would write them for speed: the checks of documents 01 and 02
+//! at each call, the form and the table among them, rows found through the chains of a table that is kept beside them and
+//! made anew after an insert, the sheet changed in place.
 
-use crate::reference::{is_code_point, Id, Insert, Operation, Reply, Row, Turn, BEGIN, END};
+use crate::reference::{is_code_point, read_block, Id, Insert, Operation, Reply, Row, Sheet, Turn, BEGIN, END};
 
 const ROWS: usize = 1024;
 const CHAINS: usize = 2048;
@@ -64,6 +64,18 @@ impl Tabled {
     pub fn empty(laptop: u8) -> Tabled {
         let rows = Vec::with_capacity(ROWS);
         Tabled { laptop, clock: 0, rows, waiting: Vec::new(), heads: [0; CHAINS], links: [0; ROWS] }
+    }
+
+    /// A sheet that was read, with its table.
+    pub fn of(sheet: Sheet) -> Tabled {
+        let mut tabled = Tabled { clock: sheet.clock, waiting: sheet.waiting, ..Tabled::empty(sheet.laptop) };
+        tabled.rows.extend(sheet.rows);
+        tabled.enter_rows();
+        tabled
+    }
+
+    pub fn sheet(self) -> Sheet {
+        Sheet { laptop: self.laptop, clock: self.clock, rows: self.rows, waiting: self.waiting }
     }
 
     fn row(&self, id: Id) -> Option<usize> {
@@ -176,6 +188,11 @@ impl Tabled {
     fn put(&mut self, insert: Insert, k: usize) {
         self.hear(&insert);
         self.rows.insert(k, Row { insert, turn: 0 });
+        self.enter_rows();
+    }
+
+    /// Makes the table anew.
+    fn enter_rows(&mut self) {
         self.heads = [0; CHAINS];
         for (k, r) in self.rows.iter().enumerate() {
             let c = chain(r.insert.id);
@@ -222,6 +239,44 @@ impl Tabled {
             carried += 1;
         }
         Reply::Done { carried, thrown }
+    }
+
+    /// The insert of a character typed at a gap, which the sheet has: previous and next are the shown rows beside it.
+    fn typed_at(&self, gap: usize, code: u32) -> Insert {
+        let mut shown = self.rows.iter().filter(|r| r.shown()).map(|r| r.insert.id).skip(gap.saturating_sub(1));
+        let previous = if gap == 0 { BEGIN } else { shown.next().unwrap() };
+        let id = Id { laptop: self.laptop, clock: self.clock + 1 };
+        Insert { id, code, previous, next: shown.next().unwrap_or(END) }
+    }
+
+    /// Pasting, all or none; where it is refused the sheet is not to be kept.
+    pub fn paste(&mut self, gap: u64, block: &[u8]) -> (Reply, Vec<Operation>) {
+        let refused = |n| (Reply::Refused(n), Vec::new());
+        let Some(codes) = read_block(block) else { return refused(20) };
+        if !self.in_form() {
+            return refused(3);
+        }
+        if gap > self.rows.iter().filter(|r| r.shown()).count() as u64 {
+            return refused(4);
+        }
+        if usize::from(self.clock) + codes.len() > 65_535 {
+            return refused(5);
+        }
+        if self.inserts() + codes.len() > ROWS {
+            return refused(11);
+        }
+        let (mut gap, mut sent, mut counts) = (gap as usize, Vec::with_capacity(codes.len()), (0, 0));
+        for code in codes {
+            let insert = self.typed_at(gap, code);
+            let Ok(k) = self.find_place(&insert) else { return refused(9) };
+            if let Reply::Done { carried, thrown } = self.carry_insert(insert, k) {
+                counts = (counts.0 + carried, counts.1 + thrown);
+            }
+            let place = self.row(insert.id).unwrap();
+            gap = self.rows[..=place].iter().filter(|r| r.shown()).count();
+            sent.push(Operation::Insert(insert));
+        }
+        (Reply::Done { carried: counts.0, thrown: counts.1 }, sent)
     }
 
     pub fn receive(&mut self, o: &Operation) -> Reply {
