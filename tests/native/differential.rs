@@ -1269,7 +1269,7 @@ impl Tester {
         let rows = if full { 1024 + beyond - inserts - free } else { 100 + self.random.below(400) };
         let mut sheet = self.random.sheet(of, rows, 0);
         sheet.extend(crowd);
-        if !full && self.random.one_in(10) {
+        if self.random.one_in(if full { 2 } else { 10 }) {
             self.paste_large(&sheet);
         }
         for _ in 0..6 {
@@ -1288,12 +1288,17 @@ impl Tester {
 }
 
 impl Tester {
-    /// As many characters as the sheet has room for, or one more.
+    /// As many characters as the sheet has room for, or one more; an insert may wait that the first of them throws out,
+    /// so that one by one there would be room.
     fn paste_large(&mut self, sheet: &[u8]) {
-        let Some(counts) = reference::counts_call(sheet).counts else { return };
+        let mut sheet = with_site(sheet, 15, 40_000);
+        if self.random.one_in(2) {
+            self.random.add_waiting(&mut sheet, b"I\t16\t39000\t97\t15\t40001\t15\t40001\n".to_vec());
+        }
+        let Some(counts) = reference::counts_call(&sheet).counts else { return };
         let codes = CODE_POINTS.iter().cycle().take(counts.room + self.random.below(2));
         let block: String = codes.filter_map(|code| char::from_u32(*code)).collect();
-        let (gap, sheet) = (self.random.below(counts.shown + 1) as u64, with_clock(sheet, 40_000));
+        let gap = self.random.below(counts.shown + 1) as u64;
         self.call(&Call::Paste(&sheet, gap, block.as_bytes()));
     }
 }
