@@ -66,6 +66,21 @@ pub none-written : Unwritten [] (replicate 4096 0)
 unfolding pad
 none-written = record { ids = refl; previous = refl; next = refl; points = refl }
 
+-- an array with no character in it
+module _ {typed : List ℕ} (e : typed ≡ typedColumns []) where
+  pub blank-unwritten : Unwritten [] typed
+  unfolding typedColumns memory.inColumns pad
+  blank-unwritten = rw e none-written
+
+  pub blank-length : length typed ≡ 4096
+  unfolding typedColumns memory.inColumns pad
+  blank-length = rw e
+
+-- cleared from its first slot on it is so
+pub wiped : (typed : List ℕ) → length typed ≡ 4096 → pad (length typed) 0 (take 0 typed) ≡ typedColumns []
+unfolding typedColumns memory.inColumns pad
+wiped typed e = rw e
+
 -- ---- what typing told
 
 module _ (s : State) (g : ℕ) {ms ns : List ℕ} (same : ms ≡ ns) (typed cs ts ps hs ls : List ℕ) {t : Ended} (w : AllTyped s g ms typed cs ts ps hs ls t) where

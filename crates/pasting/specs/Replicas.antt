@@ -10,6 +10,7 @@ use Rattle.woot.specs.Memory.{meaning, stored, replicaWellFormed}
 use Rattle.woot.specs.Pasting.{PasteOutcome, pasteWhen}
 use Rattle.typing.specs.Columns.{typedColumns}
 use Rattle.pasting.specs.declared.Pasted.{Pasted}
+use Rattle.pasting.specs.declared.PastedInto.{PastedInto}
 
 -- the very replica that was passed where nothing is typed, "all or none" or an empty block, else the new state as it is
 -- stored
@@ -30,3 +31,7 @@ pastedWith r w =
 -- pasting the bytes of a block at gap g on a replica
 unfoldable pub pastedBy : Replica → ℕ → List ℕ → Pasted
 pastedBy r g block = pastedWith r (pasteWhen (replicaWellFormed r) (meaning r) g block)
+
+-- what is returned and what lies in an array of the caller's, together
+abbrev pub pastedAs : PastedInto → List ℕ → Pasted
+pastedAs x typed = record { answer = x .answer; replica = x .replica; typed = typed; count = x .count }

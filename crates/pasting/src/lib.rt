@@ -30,7 +30,7 @@ ghost use Rattle.memory.specs.Columns.{meaning};
 ghost use Rattle.memory.specs.Lent.{replicaAs, viewed, Sized};
 ghost use Rattle.typing.specs.Columns.{typedColumns};
 ghost use Rattle.typing.specs.Steps.{Unwritten, pointsIn, AllTyped};
-ghost use Rattle.pasting.specs.Replicas.{pastedBy};
+ghost use Rattle.pasting.specs.Replicas.{pastedBy, pastedAs};
 ghost use Rattle.pasting.specs.Steps.{Spacious, BlockJudged, Readable, Pasteable};
 
 // What pasting returns: the answer, the replica as it is then, and the characters that it typed, in sequence, from
@@ -40,6 +40,13 @@ pub struct Pasted {
     pub answer: Answer,
     pub replica: Replica,
     pub typed: [u32; CHARACTER_NUMBERS],
+    pub count: usize,
+}
+
+// The same where the characters that were typed lie in an array of the caller's.
+pub struct PastedInto {
+    pub answer: Answer,
+    pub replica: Replica,
     pub count: usize,
 }
 
@@ -135,13 +142,12 @@ fn read(block: &[u8], typed: &mut [u32])
 }
 
 // An answer with the very replica, where nothing is typed.
-fn untyped(replica: Replica, answer: Answer) -> Pasted
-    ensures { λ r. ⌜ r ≡ record { answer = answer; replica = replica; typed = typedColumns []; count = 0 } ⌝ }
+fn untyped(replica: Replica, answer: Answer) -> PastedInto
+    ensures { λ r. ⌜ r ≡ record { answer = answer; replica = replica; count = 0 } ⌝ }
 {
-    Pasted {
+    PastedInto {
         answer,
         replica,
-        typed: [0u32; CHARACTER_NUMBERS],
         count: 0,
     }
 }
@@ -188,12 +194,18 @@ fn type_points(
 }
 
 // Types a block that the clock and the room are enough for, unless there is no place for one of its characters.
-fn type_block(replica: Replica, point: usize, block: &[u8], count: usize) -> Pasted
+fn type_block(
+    replica: Replica,
+    point: usize,
+    block: &[u8],
+    count: usize,
+    typed: &mut [u32],
+) -> PastedInto
     requires { ⌜ Pasteable (viewed replica) point (now block) count ⌝ }
-    ensures { λ r. ⌜ r ≡ pastedBy replica point (now (block .entry)) ⌝ }
+    requires { ⌜ now typed ≡ typedColumns [] ⌝ }
+    ensures { λ r. ⌜ pastedAs r (now (typed .exit)) ≡ pastedBy replica point (now (block .entry)) ⌝ }
 {
-    let mut typed = [0u32; CHARACTER_NUMBERS];
-    read(block, &mut typed);
+    read(block, typed);
     let mut characters = replica.document.characters;
     let mut toggles = replica.document.toggles;
     let mut pending = replica.document.pending;
@@ -205,7 +217,7 @@ fn type_block(replica: Replica, point: usize, block: &[u8], count: usize) -> Pas
         &mut pending,
         &mut heads,
         &mut links,
-        &mut typed,
+        typed,
         replica.site,
         replica.document.length,
         replica.document.waiting,
@@ -215,35 +227,39 @@ fn type_block(replica: Replica, point: usize, block: &[u8], count: usize) -> Pas
     match ended {
         Ended::Finished(at) => {
             let site = at.site;
-            Pasted {
-                answer: Answer::Done {
-                    integrated: at.integrated,
-                    discarded: at.discarded,
-                },
-                replica: Replica {
-                    site,
-                    document: Document {
-                        characters,
-                        toggles,
-                        length: at.length,
-                        pending,
-                        waiting: at.waiting,
-                        table: Table { heads, links },
-                    },
-                },
-                typed,
+            let answer = Answer::Done {
+                integrated: at.integrated,
+                discarded: at.discarded,
+            };
+            let document = Document {
+                characters,
+                toggles,
+                length: at.length,
+                pending,
+                waiting: at.waiting,
+                table: Table { heads, links },
+            };
+            let mut after = replica;
+            after.site = site;
+            after.document = document;
+            PastedInto {
+                answer,
+                replica: after,
                 count,
             }
         }
-        Ended::Unplaceable => untyped(replica, Answer::Refused(Refusal::Unplaceable)),
+        Ended::Unplaceable => {
+            slots::clear_numbers(typed, 0);
+            untyped(replica, Answer::Refused(Refusal::Unplaceable))
+        }
     }
 }
 
-// Pastes a block of text at the insertion point, counted in visible characters. Bytes that are not UTF-8 are refused
-// before the form is looked at, and a document that is too small for the block before a place is looked for.
-// (Document 02, Req 11: pasting.)
-pub fn paste(replica: Replica, point: usize, block: &[u8]) -> Pasted
-    ensures { λ r. ⌜ r ≡ pastedBy replica point (now (block .entry)) ⌝ }
+// Pastes a block of text as `paste` does, with an array of the caller's for the characters that are typed: it is not
+// copied then. A step of the calls and not a call: the array has their length and zeros in it.
+pub fn paste_into(replica: Replica, point: usize, block: &[u8], typed: &mut [u32]) -> PastedInto
+    requires { ⌜ now typed ≡ typedColumns [] ⌝ }
+    ensures { λ r. ⌜ pastedAs r (now (typed .exit)) ≡ pastedBy replica point (now (block .entry)) ⌝ }
 {
     match utf8::count(block) {
         Counted::Malformed => untyped(replica, Answer::Refused(Refusal::NotUtf8)),
@@ -262,8 +278,26 @@ pub fn paste(replica: Replica, point: usize, block: &[u8]) -> Pasted
             );
             match judged {
                 Judged::Answered(answer) => untyped(replica, answer),
-                Judged::Enough => type_block(replica, point, block, count),
+                Judged::Enough => type_block(replica, point, block, count, typed),
             }
         }
+    }
+}
+
+// Pastes a block of text at the insertion point, counted in visible characters. Bytes that are not UTF-8 are refused
+// before the form is looked at, and a document that is too small for the block before a place is looked for.
+// (Document 02, Req 11: pasting.)
+pub fn paste(replica: Replica, point: usize, block: &[u8]) -> Pasted
+    ensures { λ r. ⌜ r ≡ pastedBy replica point (now (block .entry)) ⌝ }
+{
+    let mut typed = [0u32; CHARACTER_NUMBERS];
+    let pasted = paste_into(replica, point, block, &mut typed);
+    let after = pasted.replica;
+    let answer = pasted.answer;
+    Pasted {
+        answer,
+        replica: after,
+        typed,
+        count: pasted.count,
     }
 }

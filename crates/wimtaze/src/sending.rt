@@ -1,6 +1,7 @@
 // What the calls do that make operations here and give their lines: inserting, deleting, restoring and pasting.
 use crate::inputs;
 use saved::LoadAnswer;
+use woot::CHARACTER_NUMBERS;
 use woot::Refusal;
 ghost use Rattle.effects.specs.Effects.{Leaves};
 ghost use Rattle.wimtaze.specs.Steps.{insertingHere, deletingHere, restoringHere, pastingHere};
@@ -96,10 +97,11 @@ pub(crate) fn paste(
         LoadAnswer::Refused(q) => effects::results::number_of_refusal(q),
         LoadAnswer::Done => {
             let replica = loaded.replica;
-            let pasted = pasting::paste(replica, point as usize, block);
+            let mut typed = [0u32; CHARACTER_NUMBERS];
+            let pasted = pasting::paste_into(replica, point as usize, block, &mut typed);
             let answer = pasted.answer;
             let after = pasted.replica;
-            effects::send_lines(answer, after, &pasted.typed, pasted.count, out, lines_out)
+            effects::send_lines(answer, after, &typed, pasted.count, out, lines_out)
         }
     }
 }

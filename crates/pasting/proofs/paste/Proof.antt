@@ -1,38 +1,18 @@
--- `pasting::paste` counts the characters of the block, judges it by the replica, and types it.
-use mathlib.Core.Path.{sym, _∙_}
-use Rattle.utf8.proofs.Offsets.{counted-some, counted-none}
-use Rattle.woot.specs.declared.Refusal.the-variants.{NotUtf8}
-use Rattle.woot.specs.declared.Answer.the-variants.{Refused}
-use Rattle.pasting.proofs.Judging.{not-utf8, told-answer, told-enough}
-use Rattle.pasting.proofs.Finishing.{answered-so}
+-- `pasting::paste` has an array of its own for what is typed.
+use mathlib.Core.Path.{refl}
+use Rattle.lists.specs.Padding.{pad}
+use Rattle.woot.specs.Memory.{inColumns}
+use Rattle.typing.specs.Columns.{typedColumns}
 use borrow.Author.Needs.{needs}
 use Rattle.pasting.proofs.paste.Statement.{statement}
 use Rattle.pasting.proofs.paste.Tie as tie
 
-type-block-requires : tie.Need-type-block-requires
-type-block-requires c κs =
-    let d = c .before .before .before .before .before .before .before .before .before .before .before .before .before .before .before .before in
-    let k = counted-some _ _ (sym (d .count2 .given .1) ∙ d .before .before .count .ensures) in
-    let e = told-enough _ _ _ (c .before .before .judge .ensures) (c .enum-told2 .given .1) in
-    record { points = k .0; read = k .1; many = k .2; filled = e .0; spacious = e .1 }
+paste-into-requires : tie.Need-paste-into-requires
+unfolding typedColumns inColumns pad
+paste-into-requires c κs = refl
 
 returns : tie.Need-returns
-returns c =
-    c .untyped .ensures
-    ∙ answered-so (c .before .before .before .before .before .args .t1) _ _ (Refused NotUtf8)
-    (not-utf8 _ _ _ _ (counted-none _ (sym (c .before .enum-told .given .1) ∙ c .before .before .before .count .ensures)))
-
-returns-2 : tie.Need-returns-2
-returns-2 c =
-    let j = c .before .before .before .before in
-    let d = j .before .before .before .before .before .before .before .before .before .before .before .before .before .before in
-    let k = counted-some _ _ (sym (d .count2 .given .1) ∙ d .before .before .count .ensures) in
-    c .untyped2 .ensures
-    ∙ answered-so (d .before .before .before .before .args .t1) _ _ _
-    (told-answer _ _ _ (j .judge .ensures) (c .before .before .judged .given .1) _ _ (k .1) (k .2))
+returns c = c .before .before .paste-into .ensures
 
 pub paste-spec : {M : Type 1} → statement M
-paste-spec =
-    tie.close
-    (tie.spec (λ c κs. search needs) (λ c. search needs) (λ c κs. search needs) (λ c. search needs) (λ c κs. search needs)
-    (λ c. search needs) (λ c κs. search needs) (λ c. search needs) type-block-requires returns returns-2 (λ c. search needs))
+paste-spec = tie.close (tie.spec (λ c. search needs) paste-into-requires returns)
