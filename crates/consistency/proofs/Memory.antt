@@ -4,6 +4,7 @@ use Prim.Native.Nat.{ℕ}
 use mathlib.Core.Path.{_≡_, refl, ap, _∙_}
 use mathlib.Core.Bool.{Bool, true, false}
 use mathlib.Core.List.{List, [], _∷_}
+use mathlib.Core.Option.{Option, none, some}
 use Rattle.woot.specs.declared.Identifier.{Identifier}
 use Rattle.woot.specs.declared.Operation.{Operation}
 use Rattle.woot.specs.declared.Replica.{Replica}
@@ -13,22 +14,36 @@ use Rattle.woot.specs.declared.Sent.{Sent}
 use Rattle.woot.specs.declared.Sent.the-variants.{Done as sentDone, Refused as sentRefused}
 use Rattle.woot.specs.Ranges.{inRange}
 use Rattle.woot.specs.State.{State}
-use Rattle.woot.specs.Memory.{stored}
-use Rattle.woot.specs.Answers.{reply, changes, answerOf}
+use Rattle.woot.specs.Memory.{meaning, stored, replicaWellFormed}
+use Rattle.woot.specs.Answers.{done, reply, changes, answerOf, Check, first, decided, NoneHolds}
+use Rattle.woot.specs.Pasting.{codePointsOf, typings, unpasted, pasteChecks, pasteWhen}
+use Rattle.utf8.specs.Theorems.{Encodes}
+use Rattle.convergence.proofs.Steps.{All, first-none, first-some}
+use Rattle.convergence.proofs.Pasting.{paste-does}
 use Rattle.woot.specs.Calls.{receive, localInsert, localDelete, localRestore}
 use Rattle.woot.specs.Cursor.{receiveAt}
 use Rattle.woot.specs.Histories.{inserting, deleting, restoring, receiving, receivingAt, outcome, run, Call as RuleCall}
 use Rattle.woot.specs.Replicas.{afterAnswer, afterSent, receipt, receiptAt, generated, received, receivedAt, inserted, deleted, restored}
 use Rattle.replica.specs.Theorems.{called, answerTo}
-use Rattle.replica.proofs.Runs.{Within, formed-within, meaning-stored, form-stored}
+use Rattle.replica.proofs.Runs.{Within, formed-within, run-within, meaning-stored, form-stored, ran-stored}
+use Rattle.pasting.specs.Replicas.{afterTyping, pastedWith, pastedBy}
+use Rattle.pasting.proofs.Replicas.{pasted-is-typing}
+use Rattle.wimtaze.proofs.Blocks.{read-as}
 use Rattle.lent.specs.Lent.{returned}
 use Rattle.lent.proofs.Sites.{lent-follows}
 use Rattle.codec.specs.Calls.{laidOut, saidBy, readOperation}
 use Rattle.codec.proofs.Judging.{read-layout, read-range, read-operation}
 use Rattle.transcript.specs.Calls.{receivedAs, receivedLine}
-use Rattle.consistency.specs.Copies.{MemoryCall, onReplica, onRecord, onLine, save, memoryCall, inMemory, afterRecord, afterSaving, whenMade, onMemory, stepOn}
+use Rattle.consistency.specs.Copies.{MemoryCall, onReplica, onRecord, onBlock, onLine, save, memoryCall, inMemory, afterRecord, afterSaving, whenMade, onMemory, stepOn}
 use Rattle.consistency.proofs.Holding.{Holds, memory, bytes, Steps, changed-formed}
 use Rattle.consistency.proofs.Saving.{Saving, fits, refuses, saving}
+
+-- an answer that refuses
+abbrev Refusing : Answer → Type 0
+Refusing (Done n m) = ⊥
+Refusing Deferred = ⊥
+Refusing Duplicate = ⊥
+Refusing (Refused q) = Unit
 
 -- ---- the calls on what stores a state
 
@@ -58,6 +73,46 @@ sent-answer : (r : Replica) (s : State) (a : Sent) → afterSent r s a ≡ after
 unfolding afterSent afterAnswer answerOf
 sent-answer r s (sentDone o n m) = refl
 sent-answer r s (sentRefused q) = refl
+
+-- a pasting that is done is its typing calls, and one that is not changes nothing
+module _ (s : State) (w : Within s) (g : ℕ) (block : List ℕ) where
+  abbrev checks : List (Check Answer)
+  checks = pasteChecks (replicaWellFormed (stored s)) (meaning (stored s)) g block
+
+  abbrev calls : List RuleCall
+  calls = typings s g (codePointsOf block)
+
+  refusing : All Refusing checks
+  unfolding pasteChecks
+  refusing = (tt, (tt, (tt, (tt, (tt, (tt, tt))))))
+
+  encodes : NoneHolds checks → Encodes block (codePointsOf block)
+  unfolding pasteChecks
+  encodes none-holds = read-as block (none-holds .0)
+
+  pasted-done : NoneHolds checks → reply (pastedBy (stored s) g block .answer) .word ≡ done
+  unfolding pastedBy pastedWith
+  pasted-done passed = paste-does (replicaWellFormed (stored s)) (meaning (stored s)) g block .1 passed
+
+  typed-step : NoneHolds checks → Steps s (inMemory (stored s)) (memoryCall (onBlock g block))
+  unfolding stepOn onMemory whenMade
+  typed-step passed =
+      rw (told, pasted-is-typing (stored s) g block (codePointsOf block) (encodes passed) told, meaning-stored s w, ran-stored s calls w)
+      (memory (run s calls) (run-within s calls w))
+    where
+      told : reply (pastedBy (stored s) g block .answer) .word ≡ done
+      told = pasted-done passed
+
+  unpasted-step : (a : Answer) → Refusing a → first checks ≡ some a → Steps s (inMemory (stored s)) (memoryCall (onBlock g block))
+  unfolding stepOn onMemory whenMade pastedBy pastedWith pasteWhen decided unpasted reply afterTyping
+  unpasted-step (Refused q) t f = rw f (memory s w)
+
+  block-step : Steps s (inMemory (stored s)) (memoryCall (onBlock g block))
+  block-step = go (first checks) refl
+    where
+      go : (m : Option Answer) → first checks ≡ m → Steps s (inMemory (stored s)) (memoryCall (onBlock g block))
+      go none e = typed-step (first-none checks e)
+      go (some a) e = unpasted-step a (first-some Refusing checks refusing a e) e
 
 module _ (s : State) (w : Within s) where
   called-stored : (c : RuleCall) →
@@ -129,5 +184,6 @@ module _ (s : State) (w : Within s) where
   pub memory-step : (c : MemoryCall) → Steps s (inMemory (stored s)) (memoryCall c)
   memory-step (onReplica c) = replica-step c
   memory-step (onRecord g n) = record-step g n
+  memory-step (onBlock g block) = block-step s w g block
   memory-step (onLine l) = line-step l
   memory-step (save out) = save-step out

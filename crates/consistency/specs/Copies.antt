@@ -18,6 +18,7 @@ use Rattle.woot.specs.Histories.{inserting, deleting, restoring, receiving, rec
 use Rattle.woot.specs.Histories.{Call as RuleCall}
 use Rattle.woot.specs.Pasting.{codePointsOf, typings}
 use Rattle.replica.specs.Theorems.{called, answerTo}
+use Rattle.pasting.specs.Replicas.{pastedBy}
 use Rattle.lent.specs.declared.Returned.{Returned}
 use Rattle.lent.specs.Lent.{together, returned, siteAfter}
 use Rattle.codec.specs.Calls.{saidBy}
@@ -44,6 +45,8 @@ pub data MemoryCall : Type 0 where
   onReplica : RuleCall → MemoryCall
   -- `site_record::insert_on`: an insertion point and a code point
   onRecord : ℕ → ℕ → MemoryCall
+  -- `pasting::paste`: an insertion point and a block of text
+  onBlock : ℕ → List ℕ → MemoryCall
   -- `transcript::answer_line`: the first line of these bytes is read and received
   onLine : List ℕ → MemoryCall
   -- `saving::save` into a lent slice
@@ -162,6 +165,11 @@ onMemory r (onRecord g n) =
     record {
       copy = inMemory (afterRecord r x);
       rules = whenMade (reply (answerOf (x .answer)) .word) (inserting g n ∷ []);
+    }
+onMemory r (onBlock g block) =
+    record {
+      copy = inMemory (pastedBy r g block .replica);
+      rules = whenMade (reply (pastedBy r g block .answer) .word) (typings (meaning r) g (codePointsOf block));
     }
 onMemory r (onLine s) =
     record {
