@@ -159,3 +159,39 @@ module _ (r : Replica) where
   pub restore-so : (x : Identifier) (m : Made) → RestoreMade (viewed r) x m → sentBy r m ≡ restored r x
   unfolding restored
   restore-so x m h = made-answer _ m h ∙ rw (form-view r, meaning-view r)
+
+-- a receipt whose arrays were put in one by one
+pub put-back : (x : Receipt) {cs ts ps hs ls : List ℕ}
+    → x .replica .document .characters ≡ cs → x .replica .document .toggles ≡ ts → x .replica .document .pending ≡ ps
+    → x .replica .document .table .heads ≡ hs → x .replica .document .table .links ≡ ls
+    → x
+    ≡ record {
+      answer = x .answer;
+      replica = record {
+        site = x .replica .site;
+        document = record {
+          characters = cs;
+          toggles = ts;
+          length = x .replica .document .length;
+          pending = ps;
+          waiting = x .replica .document .waiting;
+          table = record { heads = hs; links = ls };
+        };
+      };
+    }
+put-back x a b c d e =
+    λ i.
+    record {
+      answer = x .answer;
+      replica = record {
+        site = x .replica .site;
+        document = record {
+          characters = a i;
+          toggles = b i;
+          length = x .replica .document .length;
+          pending = c i;
+          waiting = x .replica .document .waiting;
+          table = record { heads = d i; links = e i };
+        };
+      };
+    }

@@ -1,6 +1,7 @@
 // The calls on a replica: receiving, inserting, deleting, restoring, the check of its form and the visible text. What
 // is asked is looked at on the replica's arrays and decided on, and then carried out where they lie.
 pub mod changes;
+pub mod copying;
 
 use generation::Made;
 use reception::Decision;
@@ -99,17 +100,15 @@ pub fn receive(replica: Replica, operation: Operation) -> Receipt
     );
     let answer = answer(decision, carried.integrated, carried.discarded);
     let site = carried.site;
-    let document = Document {
-        characters,
-        toggles,
-        length: carried.length,
-        pending,
-        waiting: carried.waiting,
-        table: Table { heads, links },
-    };
     let mut after = replica;
     after.site = site;
-    after.document = document;
+    after.document.length = carried.length;
+    after.document.waiting = carried.waiting;
+    copying::put_characters(&mut after.document.characters, &characters);
+    copying::put_toggles(&mut after.document.toggles, &toggles);
+    copying::put_pending(&mut after.document.pending, &pending);
+    copying::put_heads(&mut after.document.table.heads, &heads);
+    copying::put_links(&mut after.document.table.links, &links);
     Receipt {
         answer,
         replica: after,
