@@ -30,7 +30,7 @@ ghost use Rattle.effects.specs.Results.{numberOf};
 ghost use Rattle.effects.specs.Effects.{Leaves, writingNoted, writing, writingBoth};
 ghost use Rattle.effects.specs.Steps.{afterNoting, afterWriting, receiptAtLeft};
 ghost use Rattle.effects.specs.Steps.{generatedLeft, textLeft};
-ghost use Rattle.effects.specs.Steps.{receiptAtLeft, linesLeft};
+ghost use Rattle.effects.specs.Steps.{linesLeft};
 
 // What is returned once writing was tried, with a note where the length of the second output stands.
 fn after_noting(answer: Answer, note: usize, written: Written) -> u64
