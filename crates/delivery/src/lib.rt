@@ -47,8 +47,8 @@ pub struct Progress {
     pub discarded: usize,
 }
 
-// Clears the slots that are not in use. The table stays as it is: whoever puts a character in makes it anew. A step of the
-// calls and not a call: they have checked the replica.
+// Clears the slots that are not in use. The table stays as it is: whoever puts a character in makes it anew. A step of
+// the calls and not a call: they have checked the replica.
 pub fn sweep(characters: &mut [u32], toggles: &mut [u8], pending: &mut [u32], n: usize, w: usize)
     requires { ⌜ length (now characters) ≡ characterNumbers ⌝ }
     requires { ⌜ length (now toggles) ≡ characterSlots ⌝ }
@@ -59,7 +59,8 @@ pub fn sweep(characters: &mut [u32], toggles: &mut [u8], pending: &mut [u32], n:
         → Lent (columnsAs (now (characters .entry)) (now (toggles .entry)) n (now (pending .entry)) w hs ls)
         → Swept (columnsAs (now (characters .exit)) (now (toggles .exit)) n (now (pending .exit)) w hs ls)
         (charactersIn (columnsAs (now (characters .entry)) (now (toggles .entry)) n (now (pending .entry)) w hs ls))
-        (operationsIn (columnsAs (now (characters .entry)) (now (toggles .entry)) n (now (pending .entry)) w hs ls))) ⌝ }
+        (operationsIn (columnsAs (now (characters .entry)) (now (toggles .entry)) n (now (pending .entry)) w hs
+        ls))) ⌝ }
 {
     characters::clear(characters, toggles, n);
     edits::clear(pending, w);
@@ -316,7 +317,7 @@ pub fn put_in(
     drain(characters, toggles, pending, heads, links, progress)
 }
 
-// The same where what is not in use may hold anything.
+// The same where what is not in use may hold anything: a step of the calls too, which have checked the replica.
 pub fn integrate(
     characters: &mut [u32],
     toggles: &mut [u8],

@@ -17,7 +17,7 @@ ghost use Rattle.woot.specs.Memory.{characterNumbers, characterSlots};
 ghost use Rattle.saving.specs.Documents.{linesIn};
 
 // Where the lines of the first operations end at the front of a slice of the given size. Their numbers lie in columns
-// as those of characters do.
+// as those of characters do. A step of the calls and not a call: they lend columns of this length.
 pub fn measure(numbers: &[u32], count: usize, size: usize) -> Room
     requires { ⌜ length (now numbers) ≡ characterNumbers ⌝ }
     requires { ⌜ count ≤ characterSlots ⌝ }
@@ -42,7 +42,7 @@ pub fn measure(numbers: &[u32], count: usize, size: usize) -> Room
     )
 }
 
-// Puts the lines at the front of the slice, where there is room.
+// Puts the lines at the front of the slice, where there is room: a step of the calls too, which have measured them.
 pub fn put_lines(numbers: &[u32], count: usize, out: &mut [u8])
     requires { ⌜ length (now numbers) ≡ characterNumbers ⌝ }
     requires { ⌜ count ≤ characterSlots ⌝ }

@@ -107,7 +107,8 @@ fn further(at: Typing, done: Progress, point: usize) -> Typing
     }
 }
 
-// Types one character, and carries out all that it released.
+// Types one character, and carries out all that it released. A step of the calls and not a call: they have checked the
+// replica, and the clock and the room for it.
 pub fn type_next(
     characters: &mut [u32],
     toggles: &mut [u8],
@@ -176,7 +177,7 @@ fn inscribe(typed: &mut [u32], i: usize, insert: Insert)
 }
 
 // Types the first code points of the fourth column, the first at the insertion point and each other just below the one
-// before, and puts the numbers of each insert into its slot.
+// before, and puts the numbers of each insert into its slot. A step of the calls too.
 pub fn type_all(
     characters: &mut [u32],
     toggles: &mut [u8],
