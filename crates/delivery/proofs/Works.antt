@@ -160,6 +160,10 @@ module _ (cs : List Character) (ps : List Operation) (n m : ℕ) where
 
 -- ---- what is cleared
 
+-- the keys of what the arrays hold
+pub lent-keys : {d : Document} → Lent d → keys (charactersIn d) ≡ take (d .length) (d .ids)
+lent-keys {d} l = ids-in d (omega (arith, l .few, l .slots .ids))
+
 -- the columns of what the arrays held, with zeros behind them
 pub cleared : (d : Document) → Lent d → {is ps ns cs ts os fs ss vs hs ls : List ℕ}
     → is ≡ pad 1024 0 (take (d .length) (d .ids))
@@ -177,7 +181,7 @@ cleared d l i p n c t o f g v =
     let few = l .few in
     let wait = l .few-pending in
     record {
-      ids = i ∙ ap (pad 1024 0) (sym (ids-in d (omega (arith, few, s .ids))));
+      ids = i ∙ ap (pad 1024 0) (sym (lent-keys l));
       previous = p ∙ ap (pad 1024 0) (sym (previous-in d (omega (arith, few, s .previous))));
       next = n ∙ ap (pad 1024 0) (sym (next-in d (omega (arith, few, s .next))));
       points = c ∙ ap (pad 1024 0) (sym (points-in d (omega (arith, few, s .points))));
@@ -192,7 +196,7 @@ cleared d l i p n c t o f g v =
 
 module _ {d : Document} {cs : List Character} {ps : List Operation} where
   -- with the table of the keys in use nothing is left to say
-  pub swept-document : Swept d cs ps → {hs ls : List ℕ} → _≡_ {A = Table} (record { heads = hs; links = ls }) (tableOf (take (d .length) (d .ids)))
+  pub swept-document : Swept d cs ps → {hs ls : List ℕ} → _≡_ {A = Table} (record { heads = hs; links = ls }) (tableOf (keys cs))
       → documentAs (d .ids) (d .previous) (d .next) (d .«code_points») (d .toggles) (d .length) (d .own) (d .firstKeys) (d .secondKeys) (d .values) (d .waiting) hs ls ≡ documentOf cs ps
   swept-document s t =
       document-path
@@ -208,7 +212,7 @@ module _ {d : Document} {cs : List Character} {ps : List Operation} where
         secondKeys = s .secondKeys;
         values = s .values;
         waiting-is = s .waiting-is;
-        table = t ∙ ap tableOf (used 1024 (λ (c : Character). key (c .id)) cs (d .length) (s .ids) (s .length-is));
+        table = t;
       })
 
   pub parts-swept : Parts d cs ps → Swept d cs ps

@@ -5,7 +5,7 @@ use mathlib.Core.Path.{_≡_}
 use mathlib.Core.Bool.{true, _||_, cond}
 use mathlib.Core.Option.{Option, none, some}
 use mathlib.Core.List.{List, _++_, _∷_, [], map}
-use lib.ListN.{length}
+use lib.ListN.{length, take}
 use Rattle.lists.specs.Lists.{every, distinct}
 use Rattle.lists.specs.Padding.{pad}
 use Rattle.slots.specs.Slots.{removed}
@@ -28,17 +28,19 @@ use Rattle.convergence.specs.Invariants.{Sound}
 use Rattle.index.specs.declared.Found.{Found}
 use Rattle.index.specs.declared.Found.the-variants.{At}
 use Rattle.index.specs.Keys.{firstIndex}
+use Rattle.index.specs.Tabled.{Tabled}
 use Rattle.memory.specs.Lent.{columnsAs, Slots}
 use Rattle.delivery.specs.declared.Progress.{Progress}
 
 -- ---- lent arrays
 
--- the counts are within the slots, and the numbers of the pending operations are theirs
+-- the counts are within the slots, the numbers of the pending operations are theirs, and the table finds the keys
 pub record Lent (d : Document) : Type 0 where
   pub slots : Slots d
   pub few : d .length ≤ 1024
   pub few-pending : d .waiting ≤ 512
   pub ranged : every inRange (operationsIn d) ≡ true
+  pub tabled : Tabled (d .table) (take (d .length) (d .ids))
 
 -- the document is determined by its lists
 abbrev pub TidyDocument : Document → Type 0

@@ -66,8 +66,8 @@ pub fn sweep(characters: &mut [u32], toggles: &mut [u8], pending: &mut [u32], n:
     edits::clear(pending, w);
 }
 
-// Clears what is not in use and makes the table anew, so that the arrays are those that the rules' lists are stored in.
-// A step of the calls and not a call: they have checked the replica.
+// Clears what is not in use and makes the table the one of the keys, so that the arrays are those that the rules' lists
+// are stored in. A step of the calls and not a call: they have checked the replica.
 pub fn clear(
     characters: &mut [u32],
     toggles: &mut [u8],
@@ -87,8 +87,8 @@ pub fn clear(
         (operationsIn (columnsAs (now (characters .entry)) (now (toggles .entry)) n (now (pending .entry)) w
         (now (heads .entry)) (now (links .entry)))) ⌝ }
 {
+    chains::renew(characters, n, heads, links);
     sweep(characters, toggles, pending, n, w);
-    chains::enter_all(characters, n, heads, links);
 }
 
 // Where an insert goes among the first n characters. A step of the calls and not a call: their table finds the keys.

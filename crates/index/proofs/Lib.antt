@@ -3,6 +3,7 @@ pub mod Near
 pub mod Slots
 pub mod Tables
 pub mod Agreeing
+pub mod Known
 pub mod Depths
 pub mod Keys
 pub mod Indices

@@ -1,4 +1,5 @@
 pub mod Places
+pub mod Entries
 pub mod Theorems
 pub mod Keys
 pub mod Tabled

@@ -6,6 +6,8 @@ ghost use lib.ListN.{length, take, replicate};
 ghost use Rattle.woot.specs.Table.{chainOf, slot, lookup, foundAt, agrees, freeSlot, tableOf, chains, tableLinks};
 ghost use Rattle.woot.specs.Memory.{characterSlots};
 ghost use Rattle.index.specs.Places.{placeFound};
+ghost use Rattle.index.specs.Entries.{filled, entries};
+ghost use Rattle.index.specs.Tabled.{Tabled};
 
 // The chain of a key.
 fn chain(key: u32) -> usize
@@ -181,4 +183,45 @@ pub fn enter_all(keys: &[u32], n: usize, heads: &mut [u16], links: &mut [u16])
         }
         i += 1;
     }
+}
+
+// Whether a slot holds a place, as a number to add up.
+fn filled(place: u16) -> u16
+    ensures { λ r. ⌜ r ≡ filled place ⌝ }
+    ensures { λ r. ⌜ r ≤ 1 ⌝ }
+{
+    if place == 0 {
+        return 0;
+    }
+    1
+}
+
+// How many slots hold a place.
+fn entries(slots: &[u16]) -> u16
+    requires { ⌜ length (now slots) ≤ tableLinks ⌝ }
+    ensures { λ r. ⌜ r ≡ entries (now (slots .entry)) ⌝ }
+    ensures { λ r. ⌜ r ≤ tableLinks ⌝ }
+{
+    let mut count = 0;
+    let mut i = 0;
+    while i < slots.len() {
+        count += filled(slots[i]);
+        i += 1;
+    }
+    count
+}
+
+// Makes the table of the first n keys where the two arrays hold one that agrees with them: with an entry for each key
+// and none besides it is their table already, and stays. A step of the calls and not a call: they have checked the
+// table.
+pub fn renew(keys: &[u32], n: usize, heads: &mut [u16], links: &mut [u16])
+    requires { ⌜ n ≤ length (now keys) ⌝ }
+    requires { ⌜ Tabled (record { heads = now heads; links = now links }) (take n (now keys)) ⌝ }
+    ensures { λ _. ⌜ (record { heads = now (heads .exit); links = now (links .exit) })
+        ≡ tableOf (take n (now (keys .entry))) ⌝ }
+{
+    if entries(heads) as usize + entries(links) as usize == n {
+        return;
+    }
+    enter_all(keys, n, heads, links);
 }

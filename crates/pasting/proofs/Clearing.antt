@@ -12,7 +12,7 @@ use Rattle.memory.specs.Lent.{Slots}
 use Rattle.memory.proofs.Stored.{form-meant}
 use Rattle.convergence.proofs.Typings.{Ready}
 use Rattle.well_formed.specs.Examined.{Examined}
-use Rattle.well_formed.proofs.Examining.{few, form}
+use Rattle.well_formed.proofs.Examining.{few, form, examined-tabled}
 use Rattle.delivery.specs.Work.{Lent}
 use Rattle.typing.specs.Steps.{Typeable}
 use Rattle.typing.proofs.Going.{meant-stored, ready-stored}
@@ -27,7 +27,13 @@ module _ (r : Replica) {g count : ℕ} (x : Spacious r g count) where
   clearable slots =
       let e : Examined r = record { form = x .form; slots = slots } in
       let f = few r e in
-      record { slots = slots; few = f .characters; few-pending = f .pending; ranged = form r e .sound .pending-ranges }
+      record {
+        slots = slots;
+        few = f .characters;
+        few-pending = f .pending;
+        ranged = form r e .sound .pending-ranges;
+        tabled = examined-tabled r e;
+      }
 
   module _ {d : Document} (e : d ≡ documentOf (charactersIn (r .document)) (operationsIn (r .document))) where
     cleared : _≡_ {A = Replica} (record { site = r .site; document = d }) (stored (meaning r))

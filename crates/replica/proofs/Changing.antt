@@ -18,7 +18,7 @@ use Rattle.woot.specs.Calls.{allIntegrated, insertCarried, afterDrain, withChar
 use Rattle.memory.specs.Columns.{Document, Replica, meaning, stored, documentOf, charactersIn, operationsIn}
 use Rattle.memory.specs.Lent.{documentAs}
 use Rattle.well_formed.specs.Examined.{Examined}
-use Rattle.well_formed.proofs.Examining.{few, form, characters-counted, pending-counted}
+use Rattle.well_formed.proofs.Examining.{few, form, characters-counted, pending-counted, examined-tabled}
 use Rattle.delivery.specs.Work.{Lent, Work, workOf, finished, Placed as Placeable, Targeted}
 use Rattle.reception.specs.Decisions.{Executed, Feasible}
 use Rattle.reception.specs.declared.Decision.{Decision}
@@ -29,7 +29,13 @@ lent : (r : Replica) → Examined r → Lent (r .document)
 unfolding meaning
 lent r e =
     let f = few r e in
-    record { slots = e .slots; few = f .characters; few-pending = f .pending; ranged = form r e .sound .pending-ranges }
+    record {
+      slots = e .slots;
+      few = f .characters;
+      few-pending = f .pending;
+      ranged = form r e .sound .pending-ranges;
+      tabled = examined-tabled r e;
+    }
 
 -- ---- what is asked
 
