@@ -3,7 +3,8 @@ ghost use mathlib.Core.Path.{_≡_};
 ghost use mathlib.Core.Bool.{true};
 ghost use Prim.Native.Nat.{_+_, _*_, _<_, _≤_};
 ghost use lib.ListN.{length, take, replicate};
-ghost use Rattle.woot.specs.Table.{chainOf, slot, lookup, foundAt, agrees, freeSlot, tableOf, chains, tableLinks};
+ghost use Rattle.woot.specs.Table.{chainOf, slot, lookup, foundAt, agrees, freeSlot, entered, tableOf, chains};
+ghost use Rattle.woot.specs.Table.{tableLinks};
 ghost use Rattle.woot.specs.Memory.{characterSlots};
 ghost use Rattle.index.specs.Places.{placeFound};
 ghost use Rattle.index.specs.Entries.{filled, entries};
@@ -157,9 +158,27 @@ fn clear(slots: &mut [u16])
     }
 }
 
+// Enters the key with the index i in a table of the keys before it. A step of the calls and not a call: they lend
+// arrays of these sizes, and have no more keys than a table has places.
+pub fn enter(i: usize, key: u32, heads: &mut [u16], links: &mut [u16])
+    requires { ⌜ i < characterSlots ⌝ }
+    requires { ⌜ length (now heads) ≡ chains ⌝ }
+    requires { ⌜ length (now links) ≡ tableLinks ⌝ }
+    ensures { λ _. ⌜ (record { heads = now (heads .exit); links = now (links .exit) })
+        ≡ entered (record { heads = now (heads .entry); links = now (links .entry) }) i key ⌝ }
+{
+    let c = chain(key);
+    let head = place(heads[c]);
+    if 0 < head && head <= i {
+        let free = free_slot(links, i, head, key);
+        links[free] = (i + 1) as u16;
+    } else {
+        heads[c] = (i + 1) as u16;
+    }
+}
+
 // Makes the table of the first n keys in the two arrays, each key entered in its turn. What was in the arrays does not
-// matter. A step of the calls and not a call: they lend arrays of these sizes, and have no more keys than a table has
-// places.
+// matter. A step of the calls too.
 pub fn enter_all(keys: &[u32], n: usize, heads: &mut [u16], links: &mut [u16])
     requires { ⌜ n ≤ length (now keys) ⌝ }
     requires { ⌜ n ≤ characterSlots ⌝ }
@@ -172,15 +191,7 @@ pub fn enter_all(keys: &[u32], n: usize, heads: &mut [u16], links: &mut [u16])
     clear(links);
     let mut i = 0;
     while i < n {
-        let key = keys[i];
-        let c = chain(key);
-        let head = place(heads[c]);
-        if 0 < head && head <= i {
-            let free = free_slot(links, i, head, key);
-            links[free] = (i + 1) as u16;
-        } else {
-            heads[c] = (i + 1) as u16;
-        }
+        enter(i, keys[i], heads, links);
         i += 1;
     }
 }
