@@ -144,7 +144,7 @@ at-below Crossed m e = no-place e
 at-below Unplaceable m e = no-place e
 
 -- the first with the key of a target is the first that is the target
-first-targeted : (x : Toggle) → Small (x .target) → (cs : List Character) → AllSmall cs → firstIndex (λ c. eqb (key (x .target)) (key (c .id))) cs ≡ firstIndex (targeted x) cs
+pub first-targeted : (x : Toggle) → Small (x .target) → (cs : List Character) → AllSmall cs → firstIndex (λ c. eqb (key (x .target)) (key (c .id))) cs ≡ firstIndex (targeted x) cs
 unfolding firstIndex
 first-targeted x small [] s = refl
 first-targeted x small (c ∷ cs) s =

@@ -148,8 +148,9 @@ fn due<'a>(
     )
 }
 
-// Gives the target of a toggle the larger count, where it is among the first n.
-fn carry_toggle<'a>(
+// Gives the target of a toggle the larger count, where it is among the first n. A step of the calls and not a call:
+// their table finds the keys.
+pub fn carry_toggle<'a>(
     heads: &'a [u16],
     links: &'a [u16],
     characters: &'a [u32],

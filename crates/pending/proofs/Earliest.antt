@@ -64,7 +64,7 @@ module _ (ids fs ss : List ℕ) where
 -- ---- keys and what operations need
 
 module _ (cs : List Character) (s : AllSmall cs) where
-  held-keys : (x : Identifier) → Small x → heldIn (keys cs) (key x) ≡ held cs x
+  pub held-keys : (x : Identifier) → Small x → heldIn (keys cs) (key x) ≡ held cs x
   unfolding heldIn held
   held-keys x p = rw (place-keys x p cs s, length-map cs (λ (c : Character). key (c .id)))
 

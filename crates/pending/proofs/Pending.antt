@@ -143,7 +143,7 @@ third-second true false false = refl
 third-second false b c = refl
 
 -- the numbers of an equal toggle
-same-numbers : (t u : Toggle) → Keyed (toggle t) → Keyed (toggle u)
+pub same-numbers : (t u : Toggle) → Keyed (toggle t) → Keyed (toggle u)
     → (eqb (valueOf (toggle t)) (valueOf (toggle u)) && eqb (key (t .target)) (key (u .target))) ≡ sameToggle t u
 unfolding valueOf sameToggle
 same-numbers t u p q =
