@@ -5,8 +5,7 @@ use mathlib.Core.List.{List, map}
 use Rattle.woot.specs.declared.Operation.{Operation}
 use Rattle.woot.specs.declared.Character.{Character}
 use Rattle.woot.specs.Operations.{character, inserts}
-use Rattle.woot.specs.Table.{keys}
-use Rattle.woot.specs.Memory.{characterSlots, inColumns, previousKeys, nextKeys, codePoints}
+use Rattle.woot.specs.Memory.{insertColumns}
 
 -- the characters that operations bring
 abbrev pub charactersBy : List Operation → List Character
@@ -14,6 +13,4 @@ charactersBy os = map character (inserts os)
 
 -- their keys, their neighbours' and their code points, as a document has them: four columns, zeros behind the last
 unfoldable pub typedColumns : List Operation → List ℕ
-typedColumns os =
-    let cs : List Character = charactersBy os in
-    inColumns characterSlots (keys cs) (previousKeys cs) (nextKeys cs) (codePoints cs)
+typedColumns os = insertColumns (inserts os)

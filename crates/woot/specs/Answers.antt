@@ -8,9 +8,9 @@ use mathlib.Core.Option.{Option, none, some}
 use lib.Dec.{leb}
 use Rattle.woot.specs.declared.Operation.{Operation}
 use Rattle.woot.specs.declared.Refusal.{Refusal}
-use Rattle.woot.specs.declared.Refusal.the-variants.{Layout, Range, NotUtf8, Form, Unrepresentable, Position}
-use Rattle.woot.specs.declared.Refusal.the-variants.{NotHidden, LastToggle, Clock, Taken, Conflict, Crossed}
-use Rattle.woot.specs.declared.Refusal.the-variants.{Unplaceable, SenderFull, DocumentFull, Output}
+use Rattle.woot.specs.declared.Refusal.the-variants.{Layout, Range, HeapFull, NotUtf8, Form, Unrepresentable}
+use Rattle.woot.specs.declared.Refusal.the-variants.{Position, NotHidden, LastToggle, Clock, Taken, Conflict}
+use Rattle.woot.specs.declared.Refusal.the-variants.{Crossed, Unplaceable, SenderFull, DocumentFull, Output}
 use Rattle.woot.specs.declared.Answer.{Answer}
 use Rattle.woot.specs.declared.Answer.the-variants.{Done, Deferred, Duplicate, Refused}
 use Rattle.woot.specs.declared.Sent.{Sent}
@@ -20,6 +20,7 @@ use Rattle.woot.specs.declared.Sent.the-variants.{Done as sentDone, Refu
 abbrev pub number : Refusal → ℕ
 number Layout = 1
 number Range = 2
+number HeapFull = 17
 number NotUtf8 = 20
 number Form = 3
 number Unrepresentable = 15
@@ -40,24 +41,25 @@ abbrev pub highestRefusal : ℕ
 highestRefusal = 20
 
 -- the place of a refusal in the checking order: what compares two refusals compares these, since a later number may be
--- checked earlier; 13 and 14 "come after 4, in that order", 15 comes "after 3", and 20 "after 2"
+-- checked earlier; 13 and 14 "come after 4, in that order", 15 comes "after 3", and 17 and 20 "after 2", of which no call has both
 abbrev pub rank : Refusal → ℕ
 rank Layout = 1
 rank Range = 2
-rank NotUtf8 = 3
-rank Form = 4
-rank Unrepresentable = 5
-rank Position = 6
-rank NotHidden = 7
-rank LastToggle = 8
-rank Clock = 9
-rank Taken = 10
-rank Conflict = 11
-rank Crossed = 12
-rank Unplaceable = 13
-rank SenderFull = 14
-rank DocumentFull = 15
-rank Output = 16
+rank HeapFull = 3
+rank NotUtf8 = 4
+rank Form = 5
+rank Unrepresentable = 6
+rank Position = 7
+rank NotHidden = 8
+rank LastToggle = 9
+rank Clock = 10
+rank Taken = 11
+rank Conflict = 12
+rank Crossed = 13
+rank Unplaceable = 14
+rank SenderFull = 15
+rank DocumentFull = 16
+rank Output = 17
 
 -- of two refusals the one that comes first in the checking order
 unfoldable pub earlier : Refusal → Refusal → Refusal

@@ -15,6 +15,7 @@ pub mod Cursor
 pub mod Memory
 pub mod Replicas
 pub mod Text
+pub mod Building
 pub mod Histories
 pub mod Situations
 pub mod Pasting

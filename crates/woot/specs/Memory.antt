@@ -8,11 +8,13 @@ use lib.Dec.{eqb, leb}
 use lib.ListN.{length, take, drop, getD}
 use Rattle.lists.specs.Padding.{pad}
 use Rattle.woot.specs.declared.Identifier.{Identifier}
+use Rattle.woot.specs.declared.Insert.{Insert}
 use Rattle.woot.specs.declared.Character.{Character}
 use Rattle.woot.specs.declared.Operation.{Operation}
 use Rattle.woot.specs.declared.Operation.the-variants.{Insert as insert, Toggle as toggle}
 use Rattle.woot.specs.declared.Document.{Document}
 use Rattle.woot.specs.declared.Replica.{Replica}
+use Rattle.woot.specs.Operations.{character}
 use Rattle.woot.specs.Table.{key, keys, agrees, tableOf}
 use Rattle.woot.specs.State.{State}
 use Rattle.woot.specs.Form.{wellFormed}
@@ -153,6 +155,12 @@ valueColumn xs = column pendingSlots 3 xs
 -- four columns one behind another, zeros in the slots that are left
 unfoldable pub inColumns : ℕ → List ℕ → List ℕ → List ℕ → List ℕ → List ℕ
 inColumns m ws xs ys zs = pad m 0 ws ++ (pad m 0 xs ++ (pad m 0 ys ++ pad m 0 zs))
+
+-- the characters that inserts bring, in an array of their own: as a document has its characters, but for the toggles
+abbrev pub insertColumns : List Insert → List ℕ
+insertColumns is =
+    let cs : List Character = map character is in
+    inColumns characterSlots (keys cs) (previousKeys cs) (nextKeys cs) (codePoints cs)
 
 -- what is in use of the arrays
 unfoldable pub charactersIn : Document → List Character

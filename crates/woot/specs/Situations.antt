@@ -14,8 +14,8 @@ use Rattle.woot.specs.Operations.{character, withToggles}
 use Rattle.woot.specs.State.{State, initial}
 use Rattle.woot.specs.Placing.{identifiers}
 use Rattle.woot.specs.declared.Refusal.{Refusal}
-use Rattle.woot.specs.declared.Refusal.the-variants.{Layout, Range, NotUtf8, Form, Unrepresentable, Position}
-use Rattle.woot.specs.declared.Refusal.the-variants.{NotHidden, LastToggle, Clock, Taken, Conflict, Crossed}
+use Rattle.woot.specs.declared.Refusal.the-variants.{Layout, Range, HeapFull, NotUtf8, Form, Unrepresentable}
+use Rattle.woot.specs.declared.Refusal.the-variants.{Position, NotHidden, LastToggle, Clock, Taken, Conflict, Crossed}
 use Rattle.woot.specs.declared.Refusal.the-variants.{Unplaceable, SenderFull, DocumentFull, Output}
 use Rattle.woot.specs.declared.Answer.{Answer}
 use Rattle.woot.specs.declared.Answer.the-variants.{Done as answerDone, Deferred, Duplicate}
@@ -543,10 +543,11 @@ rises [] = true
 rises (n ∷ []) = true
 rises (n ∷ m ∷ ns) = ltb n m && rises (m ∷ ns)
 
--- all refusals in checking order: 20 "after 2", 15 "after 3", and 13 and 14 "after 4, in that order"
+-- all refusals in checking order: 17 and 20 "after 2", 15 "after 3", and 13 and 14 "after 4, in that order"
 abbrev pub inOrder : List Refusal
 inOrder =
-    Layout ∷ Range ∷ NotUtf8 ∷ Form ∷ Unrepresentable ∷ Position ∷ NotHidden ∷ LastToggle ∷ Clock ∷ Taken ∷ Conflict
+    Layout ∷ Range ∷ HeapFull ∷ NotUtf8 ∷ Form ∷ Unrepresentable ∷ Position ∷ NotHidden ∷ LastToggle ∷ Clock ∷ Taken
+    ∷ Conflict
     ∷ Crossed
     ∷ Unplaceable
     ∷ SenderFull
@@ -557,7 +558,7 @@ inOrder =
 -- by their numbers, and each of a higher rank than the one before it
 abbrev pub RanksTell : Type 0
 RanksTell =
-    (map number inOrder ≡ 1 ∷ 2 ∷ 20 ∷ 3 ∷ 15 ∷ 4 ∷ 13 ∷ 14 ∷ 5 ∷ 6 ∷ 7 ∷ 8 ∷ 9 ∷ 10 ∷ 11 ∷ 12 ∷ [])
+    (map number inOrder ≡ 1 ∷ 2 ∷ 17 ∷ 20 ∷ 3 ∷ 15 ∷ 4 ∷ 13 ∷ 14 ∷ 5 ∷ 6 ∷ 7 ∷ 8 ∷ 9 ∷ 10 ∷ 11 ∷ 12 ∷ [])
     × (rises (map rank inOrder) ≡ true)
 
 -- receiving meets 2, 3, known, 7, 8, 9, 10, 11, with a cursor 4 after known; typing 2, 3, 4, 5, 6 (reserved), 9, 11;

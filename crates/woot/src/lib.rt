@@ -161,6 +161,8 @@ pub enum Refusal {
     Layout,
     // 2: a number, a mark or a neighbour that may not stand where it does.
     Range,
+    // 17: a heap has more inserts, or more toggles, than a document has characters.
+    HeapFull,
     // 20: a text that is to be pasted is not UTF-8.
     NotUtf8,
     // 3: the replica is not well formed.
@@ -199,6 +201,7 @@ impl Refusal {
         match self {
             Refusal::Layout => 1,
             Refusal::Range => 2,
+            Refusal::HeapFull => 17,
             Refusal::NotUtf8 => 20,
             Refusal::Form => 3,
             Refusal::Unrepresentable => 15,
@@ -223,20 +226,21 @@ impl Refusal {
         match self {
             Refusal::Layout => 1,
             Refusal::Range => 2,
-            Refusal::NotUtf8 => 3,
-            Refusal::Form => 4,
-            Refusal::Unrepresentable => 5,
-            Refusal::Position => 6,
-            Refusal::NotHidden => 7,
-            Refusal::LastToggle => 8,
-            Refusal::Clock => 9,
-            Refusal::Taken => 10,
-            Refusal::Conflict => 11,
-            Refusal::Crossed => 12,
-            Refusal::Unplaceable => 13,
-            Refusal::SenderFull => 14,
-            Refusal::DocumentFull => 15,
-            Refusal::Output => 16,
+            Refusal::HeapFull => 3,
+            Refusal::NotUtf8 => 4,
+            Refusal::Form => 5,
+            Refusal::Unrepresentable => 6,
+            Refusal::Position => 7,
+            Refusal::NotHidden => 8,
+            Refusal::LastToggle => 9,
+            Refusal::Clock => 10,
+            Refusal::Taken => 11,
+            Refusal::Conflict => 12,
+            Refusal::Crossed => 13,
+            Refusal::Unplaceable => 14,
+            Refusal::SenderFull => 15,
+            Refusal::DocumentFull => 16,
+            Refusal::Output => 17,
         }
     }
 
