@@ -33,20 +33,20 @@ sound-carry {cs} {os} {ps} (toggle d) e s ready uncrossed placeable = sound-togg
 pub drained-sound : {cs : List Character} {ps : List Operation} {d : Drained} → Draining cs ps d → Sound cs ps → Sound (d .characters) (d .pending)
 unfolding drained andDiscarded andIntegrated
 drained-sound (stop h) s = s
-drained-sound (discard t f r) s = drained-sound r (sound-out (f .extracted) s)
+drained-sound (discard t f why r) s = drained-sound r (sound-out (f .extracted) s)
 drained-sound (carry t f uncrossed placeable r) s = drained-sound r (sound-carry (t .operation) (f .extracted) s (f .passed) uncrossed placeable)
 
 pub drained-unready : {cs : List Character} {ps : List Operation} {d : Drained} → Draining cs ps d → any (executable (d .characters)) (d .pending) ≡ false
 unfolding drained andDiscarded andIntegrated
 drained-unready (stop h) = h
-drained-unready (discard t f r) = drained-unready r
+drained-unready (discard t f why r) = drained-unready r
 drained-unready (carry t f uncrossed placeable r) = drained-unready r
 
 -- each that was pending is pending still, or was carried out, or was discarded
 pub drained-balance : {cs : List Character} {ps : List Operation} {d : Drained} → Draining cs ps d → length ps ≡ length (d .pending) + length (d .integrated) + length (d .discarded)
 unfolding drained andDiscarded andIntegrated
 drained-balance (stop h) = omega arith
-drained-balance (discard {d = d} t f r) = omega (arith, extract-length (f .extracted), drained-balance r)
+drained-balance (discard {d = d} t f why r) = omega (arith, extract-length (f .extracted), drained-balance r)
 drained-balance (carry {d = d} t f uncrossed placeable r) = omega (arith, extract-length (f .extracted), drained-balance r)
 
 -- ---- identifiers: what is true of all of them before is true of all of them afterwards, and of those carried out
@@ -71,7 +71,7 @@ carry-every p cs (toggle d) {os} e ready uncrossed placeable h =
 pub drained-every : (p : Identifier → Bool) {cs : List Character} {ps : List Operation} {d : Drained} → Draining cs ps d → every p (identifiers cs ++ pendingIds ps) ≡ true → every p (identifiers (d .characters) ++ pendingIds (d .pending)) ≡ true
 unfolding drained andDiscarded andIntegrated
 drained-every p (stop e) h = h
-drained-every p {cs} (discard t f r) h = drained-every p r (out-every p cs (t .operation) (f .extracted) h)
+drained-every p {cs} (discard t f why r) h = drained-every p r (out-every p cs (t .operation) (f .extracted) h)
 drained-every p {cs} (carry t f uncrossed placeable r) h =
     drained-every p r (carry-every p cs (t .operation) (f .extracted) (f .passed) uncrossed placeable h)
 
@@ -83,6 +83,6 @@ first-every p cs (toggle d) qs e h k = k
 pub integrated-every : (p : Identifier → Bool) {cs : List Character} {ps : List Operation} {d : Drained} → Draining cs ps d → every p (identifiers cs ++ pendingIds ps) ≡ true → every p (pendingIds (d .integrated)) ≡ true
 unfolding drained andDiscarded andIntegrated
 integrated-every p (stop e) h = refl
-integrated-every p {cs} (discard t f r) h = integrated-every p r (out-every p cs (t .operation) (f .extracted) h)
+integrated-every p {cs} (discard t f why r) h = integrated-every p r (out-every p cs (t .operation) (f .extracted) h)
 integrated-every p {cs} (carry {d = d} t f uncrossed placeable r) h =
     first-every p cs (t .operation) (d .integrated) (f .extracted) h (integrated-every p r (carry-every p cs (t .operation) (f .extracted) (f .passed) uncrossed placeable h))

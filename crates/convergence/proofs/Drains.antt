@@ -5,6 +5,7 @@ use native.Mathlib.Omega.{arith}
 use mathlib.Core.Path.{_≡_, refl, sym, subst}
 use mathlib.Core.Bool.{Bool, true, false, _||_, cond}
 use mathlib.Core.Option.{Option, none, some}
+use mathlib.Core.Logic.{_⊎_}
 use mathlib.Core.List.{List, [], _∷_}
 use lib.ListN.{length}
 use Rattle.woot.specs.declared.Operation.{Operation}
@@ -12,7 +13,7 @@ use Rattle.woot.specs.declared.Character.{Character}
 use Rattle.woot.specs.Pending.{executable, crossed, unplaceable, integrate, Extracted, earliest, Drained, andIntegrated, andDiscarded, drained, drainSteps, drain}
 use Rattle.convergence.specs.Theorems.{drainNext, DrainingRecurs}
 use Rattle.lists.specs.Lists.{any}
-use Rattle.lists.proofs.Tests.{some-eq, no-some, or-false-left, or-false-right, or-false}
+use Rattle.lists.proofs.Tests.{some-eq, no-some, or-cases, or-false-left, or-false-right, or-false}
 use Rattle.convergence.proofs.Extract.{Extract, front, past, extract-length}
 
 -- what the earliest is: it passes the test and was taken out of the list
@@ -44,7 +45,7 @@ earliest-none p (o ∷ ps) h = go (p o) refl (earliest p ps) refl (earliest-none
 -- one run of draining, step by step
 pub data Draining : List Character → List Operation → Drained → Type 0 where
   stop : {cs : List Character} {ps : List Operation} → any (executable cs) ps ≡ false → Draining cs ps (drained cs ps)
-  discard : {cs : List Character} {ps : List Operation} {d : Drained} (t : Extracted) → Found (executable cs) ps t → Draining cs (t .others) d → Draining cs ps (andDiscarded (t .operation) d)
+  discard : {cs : List Character} {ps : List Operation} {d : Drained} (t : Extracted) → Found (executable cs) ps t → (crossed cs (t .operation) ≡ true) ⊎ (unplaceable cs (t .operation) ≡ true) → Draining cs (t .others) d → Draining cs ps (andDiscarded (t .operation) d)
   carry : {cs : List Character} {ps : List Operation} {d : Drained} (t : Extracted) → Found (executable cs) ps t → crossed cs (t .operation) ≡ false → unplaceable cs (t .operation) ≡ false → Draining (integrate cs (t .operation)) (t .others) d → Draining cs ps (andIntegrated (t .operation) d)
 
 draining-steps : (n : ℕ) (cs : List Character) (ps : List Operation) → length ps ≤ n → Draining cs ps (drainSteps n cs ps)
@@ -54,7 +55,7 @@ draining-steps zero cs (o ∷ ps) h = absurd (omega arith)
 draining-steps (suc n) cs ps h = go (earliest (executable cs) ps) refl (draining-steps n)
   where
     on : (t : Extracted) → Found (executable cs) ps t → ((cs : List Character) (ps : List Operation) → length ps ≤ n → Draining cs ps (drainSteps n cs ps)) → (b : Bool) → crossed cs (t .operation) || unplaceable cs (t .operation) ≡ b → Draining cs ps (cond b (andDiscarded (t .operation) (drainSteps n cs (t .others))) (andIntegrated (t .operation) (drainSteps n (integrate cs (t .operation)) (t .others))))
-    on t f rest true e = discard t f (rest cs (t .others) (omega (arith, extract-length (f .extracted))))
+    on t f rest true e = discard t f (or-cases (crossed cs (t .operation)) (unplaceable cs (t .operation)) e) (rest cs (t .others) (omega (arith, extract-length (f .extracted))))
     on t f rest false e = carry t f (or-false-left (crossed cs (t .operation)) (unplaceable cs (t .operation)) e) (or-false-right (crossed cs (t .operation)) (unplaceable cs (t .operation)) e) (rest (integrate cs (t .operation)) (t .others) (omega (arith, extract-length (f .extracted))))
 
     go : (m : Option Extracted) → earliest (executable cs) ps ≡ m → ((cs : List Character) (ps : List Operation) → length ps ≤ n → Draining cs ps (drainSteps n cs ps)) → Draining cs ps (drainSteps (suc n) cs ps)

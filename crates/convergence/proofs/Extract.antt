@@ -1,14 +1,15 @@
 -- A list with one element more at some place: what tests, members, lengths and distinctness have to do with it.
-use Prim.Native.Nat.{suc, _+_}
+use Prim.Native.Nat.{suc, _+_, _≤_}
 use native.Mathlib.Omega.{arith}
-use mathlib.Core.Path.{_≡_, refl, ap, sym, _∙_}
+use mathlib.Core.Path.{_≡_, refl, ap, sym, _∙_, subst}
 use mathlib.Core.Bool.{Bool, true, false, _||_, not, cond}
 use mathlib.Core.Logic.{_⊎_, inl, inr, ⊎-elim}
 use mathlib.Core.List.{List, [], _∷_, _++_, map, List·Memᴰ, List·Memᴰ·head, List·Memᴰ·tail}
 use lib.ListN.{length}
 use borrow.Author.Tests.{not-true}
 use Rattle.lists.specs.Lists.{any, every, keep, distinct}
-use Rattle.lists.proofs.Tests.{and-left, and-right, and-intro, or-false-left, or-false-right, or-false, not-intro}
+use Rattle.lists.proofs.Members.{any-none}
+use Rattle.lists.proofs.Tests.{clash, and-left, and-right, and-intro, or-false-left, or-false-right, or-false, not-intro}
 
 -- zs is ys with x at some place
 pub data Extract {A : Type 0} (x : A) : List A → List A → Type 0 where
@@ -97,3 +98,25 @@ module _ {A : Type 0} where
 pub extract-map : {A B : Type 0} (f : A → B) {x : A} {ys zs : List A} → Extract x ys zs → Extract (f x) (map f ys) (map f zs)
 extract-map f front = front
 extract-map f (past e) = past (extract-map f e)
+
+-- ---- how many there can be
+
+module _ {A : Type 0} where
+  pub extracted : {x : A} {ys : List A} → List·Memᴰ x ys → (zs : List A) × Extract x zs ys
+  extracted {x} (List·Memᴰ·head {x = y} {xs = ys} e) = (ys, subst (λ (z : A). Extract x ys (z ∷ ys)) e front)
+  extracted (List·Memᴰ·tail {x = y} {xs = ys} m) = let w = extracted m in (y ∷ w .0, past (w .1))
+
+  -- distinct ones are no more than those of a list that has them all
+  pub no-more : (same : A → A → Bool) → ((a : A) → same a a ≡ true) → (xs ys : List A) → distinct same xs ≡ true
+      → ((x : A) → List·Memᴰ x xs → List·Memᴰ x ys) → length xs ≤ length ys
+  no-more same itself [] ys d f = omega arith
+  no-more same itself (x ∷ xs) ys d f =
+      let w = extracted (f x (List·Memᴰ·head refl)) in
+      let new = not-true (any (same x) xs) (and-left (not (any (same x) xs)) (distinct same xs) d) in
+      let r =
+      no-more same itself xs (w .0) (and-right (not (any (same x) xs)) (distinct same xs) d)
+      (λ y m.
+      ⊎-elim (λ e. clash (subst (λ (z : A). same x z ≡ true) (sym e) (itself x)) (any-none (same x) new m)) (λ n. n)
+      (extract-cases (w .1) (f y (List·Memᴰ·tail m))))
+      in
+      omega (arith, extract-length (w .1), r)

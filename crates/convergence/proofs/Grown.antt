@@ -48,7 +48,7 @@ grown-carry {cs} (toggle d) e s ready uncrossed g = grown-toggle cs d (every-mem
 grown-drained : {cs : List Character} {ps : List Operation} {d : Drained} → Draining cs ps d → Sound cs ps → Grown cs → Grown (d .characters)
 unfolding drained andDiscarded andIntegrated
 grown-drained (stop h) s g = g
-grown-drained (discard t w r) s g = grown-drained r (sound-out (w .extracted) s) g
+grown-drained (discard t w why r) s g = grown-drained r (sound-out (w .extracted) s) g
 grown-drained (carry t w uncrossed placeable r) s g =
     grown-drained r (sound-carry (t .operation) (w .extracted) s (w .passed) uncrossed placeable) (grown-carry (t .operation) (w .extracted) s (w .passed) uncrossed g)
 

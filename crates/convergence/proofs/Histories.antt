@@ -37,7 +37,7 @@ faithful-carry (toggle d) e s ready uncrossed placeable f = faithful-toggle d re
 faithful-drained : {cs : List Character} {ps : List Operation} {d : Drained} (os : List Operation) → Draining cs ps d → Sound cs ps → Faithful cs os → Faithful (d .characters) (os ++ d .integrated)
 unfolding drained andDiscarded andIntegrated
 faithful-drained os (stop {cs = cs} h) s f = subst (λ qs. Faithful cs qs) (sym (append-nil os)) f
-faithful-drained os (discard t w r) s f = faithful-drained os r (sound-out (w .extracted) s) f
+faithful-drained os (discard t w why r) s f = faithful-drained os r (sound-out (w .extracted) s) f
 faithful-drained os (carry {d = d} t w uncrossed placeable r) s f =
     subst (λ qs. Faithful (d .characters) qs) (append-assoc os (t .operation ∷ []) (d .integrated))
     (faithful-drained (os ++ t .operation ∷ []) r (sound-carry (t .operation) (w .extracted) s (w .passed) uncrossed placeable) (faithful-carry (t .operation) (w .extracted) s (w .passed) uncrossed placeable f))

@@ -79,7 +79,7 @@ carried-part {old} p (toggle u) ready straight placed unready = part-change (tog
 drained-part : {old cs : List Character} {ps : List Operation} {d : Drained} → Draining cs ps d → Part old cs → any (executable old) ps ≡ false → Part old (d .characters)
 unfolding drained andDiscarded andIntegrated
 drained-part (stop h) p w = p
-drained-part {old} (discard t f r) p w = drained-part r p (or-false-right (executable old (t .operation)) (any (executable old) (t .others)) (sym (extract-any (executable old) (f .extracted)) ∙ w))
+drained-part {old} (discard t f why r) p w = drained-part r p (or-false-right (executable old (t .operation)) (any (executable old) (t .others)) (sym (extract-any (executable old) (f .extracted)) ∙ w))
 drained-part {old} (carry t f straight placed r) p w =
     let out : (executable old (t .operation) || any (executable old) (t .others)) ≡ false = sym (extract-any (executable old) (f .extracted)) ∙ w in
     drained-part r (carried-part p (t .operation) (f .passed) straight placed (or-false-left (executable old (t .operation)) (any (executable old) (t .others)) out))
@@ -94,7 +94,7 @@ carried-length cs (toggle u) ready straight placed = omega (arith, toggle-length
 drained-length : {cs : List Character} {ps : List Operation} {d : Drained} → Draining cs ps d → length (d .characters) ≤ length cs + length (d .integrated)
 unfolding drained andDiscarded andIntegrated
 drained-length (stop h) = omega arith
-drained-length (discard t f r) = drained-length r
+drained-length (discard t f why r) = drained-length r
 drained-length {cs} (carry {d = d} t f straight placed r) = omega (arith, drained-length r, carried-length cs (t .operation) (f .passed) straight placed)
 
 -- ---- one character toggled

@@ -331,7 +331,7 @@ drained-held : {cs : List Character} {ps : List Operation} {d : Drained} → Dra
     → held (d .characters) x ≡ true
 unfolding drained andDiscarded andIntegrated integrate
 drained-held (stop h) x e = e
-drained-held (discard t f r) x e = drained-held r x e
+drained-held (discard t f why r) x e = drained-held r x e
 drained-held {cs} (carry t f straight placed r) x e = drained-held r x (go (t .operation) (f .passed) straight placed)
   where
     go : (o : Operation) → executable cs o ≡ true → crossed cs o ≡ false → unplaceable cs o ≡ false → held (integrate cs o) x ≡ true

@@ -139,13 +139,13 @@ module _ (s : State) (g n : ℕ) (a : Addable s (generatedInsert s g n)) (few : 
 drained-nothing : {cs : List Character} {ps : List Operation} {d : Drained} → Draining cs ps d → length (d .integrated) ≡ 0 → d .characters ≡ cs
 unfolding drained andDiscarded andIntegrated
 drained-nothing (stop h) e = refl
-drained-nothing (discard t f r) e = drained-nothing r e
+drained-nothing (discard t f why r) e = drained-nothing r e
 drained-nothing (carry {d = d} t f straight placed r) e = absurd (omega arith)
 
 -- where nothing has all it needs, nothing is drained
 drained-stops : {cs : List Character} {ps : List Operation} {d : Drained} → Draining cs ps d → any (executable cs) ps ≡ false → d ≡ drained cs ps
 drained-stops (stop h) e = refl
-drained-stops {cs} (discard t f r) e = clash (f .passed) (any-none (executable cs) e (extract-itself (f .extracted)))
+drained-stops {cs} (discard t f why r) e = clash (f .passed) (any-none (executable cs) e (extract-itself (f .extracted)))
 drained-stops {cs} (carry t f straight placed r) e = clash (f .passed) (any-none (executable cs) e (extract-itself (f .extracted)))
 
 -- what does not name a character needs it not

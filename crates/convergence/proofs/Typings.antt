@@ -55,7 +55,7 @@ drained-present : {cs : List Character} {ps : List Operation} {d : Drained} → 
     → length (d .characters) + length (inserts (d .pending)) ≤ length cs + length (inserts ps)
 unfolding drained andDiscarded andIntegrated integrate
 drained-present (stop h) = omega arith
-drained-present {cs} {ps} (discard t f r) = go (t .operation) (f .extracted) (drained-present r)
+drained-present {cs} {ps} (discard t f why r) = go (t .operation) (f .extracted) (drained-present r)
   where
     go : (o : Operation) → Extract o (t .others) ps → {m : ℕ} → m ≤ length cs + length (inserts (t .others)) → m ≤ length cs + length (inserts ps)
     go (insert i) e h = omega (arith, extract-length (inserts-extract e))

@@ -5,3 +5,4 @@ pub mod Invariants
 pub mod Passes
 pub mod Cursors
 pub mod Pasting
+pub mod Building

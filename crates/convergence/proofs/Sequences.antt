@@ -1,0 +1,257 @@
+-- Receiving operations of a heap one by one, each after all it needs.
+use Prim.Native.Nat.{ℕ, suc, _≤_}
+use native.Mathlib.Omega.{arith}
+use mathlib.Core.Path.{_≡_, refl, ap, sym, _∙_, subst}
+use mathlib.Core.Bool.{Bool, true, false, _&&_, not}
+use mathlib.Core.Logic.{_⊎_, inl, inr, ⊎-elim}
+use mathlib.Core.List.{List, [], _∷_, _++_, map, List·Memᴰ, List·Memᴰ·head, List·Memᴰ·tail, List·Memᴰ·cases-cons, List·Memᴰ·not-nil, Memᴰ·map, Memᴰ·of-map, List·Memᴰ·append-cases}
+use lib.Dec.{leb}
+use lib.ListN.{length, length-map}
+use borrow.Author.Tests.{leb-true, not-true}
+use Rattle.woot.specs.declared.Identifier.{Identifier}
+use Rattle.woot.specs.declared.Insert.{Insert}
+use Rattle.woot.specs.declared.Operation.{Operation}
+use Rattle.woot.specs.declared.Operation.the-variants.{Insert as insert, Toggle as toggle}
+use Rattle.woot.specs.declared.Character.{Character}
+use Rattle.woot.specs.Limits.{capacity}
+use Rattle.woot.specs.Identifiers.{same}
+use Rattle.woot.specs.Operations.{origin, inserts, sameInsert, sameOperation}
+use Rattle.woot.specs.Ranges.{siteNumber, inRange}
+use Rattle.woot.specs.State.{State, initial}
+use Rattle.woot.specs.Placing.{identifiers, held, above}
+use Rattle.woot.specs.Pending.{executable, crossed}
+use Rattle.woot.specs.Form.{presentInserts, wellFormed}
+use Rattle.woot.specs.Calls.{duplicate, conflicting, documentFull, receive}
+use Rattle.woot.specs.Histories.{receiving, outcome}
+use Rattle.lists.specs.Lists.{any, every, distinct}
+use Rattle.lists.proofs.Tests.{clash, and-intro, and-left, and-right, or-false-left, fails, not-intro}
+use Rattle.lists.proofs.Members.{any-none, none-any, every-member}
+use Rattle.convergence.specs.Agreement.{Grown}
+use Rattle.convergence.proofs.Identifiers.{same-refl, same-eq}
+use Rattle.convergence.proofs.Extract.{no-more}
+use Rattle.convergence.proofs.Forms.{Formed, formed, known-length, empty-formed}
+use Rattle.convergence.proofs.Growth.{grown-empty}
+use Rattle.convergence.proofs.Kept.{form-kept}
+use Rattle.woot.specs.Building.{building}
+use Rattle.convergence.specs.Building.{received, eachReady}
+use Rattle.convergence.proofs.Equal.{insert-refl}
+use Rattle.convergence.proofs.Unique.{Consistent, Complete, complete-unique}
+use Rattle.convergence.proofs.Progress.{Progress, progress-none, progress-on, progress-held, Settled, settled-later, completed}
+use Rattle.convergence.proofs.Heap.{insert-listed, listed-insert, built-complete}
+use Rattle.convergence.proofs.Receiving.{Taken, taken}
+
+-- ---- what a state has of a heap
+
+-- the characters and what waits are of the heap
+pub record Of (heap : List Operation) (s : State) : Type 0 where
+  pub characters : (i : Insert) → List·Memᴰ i (map origin (s .characters)) → List·Memᴰ (insert i) heap
+  pub pending : (o : Operation) → List·Memᴰ o (s .pending) → List·Memᴰ o heap
+
+pub of-unconflicting : (heap : List Operation) → Consistent heap → (s : State) → Of heap s → (o : Operation)
+    → List·Memᴰ o heap → conflicting s o ≡ false
+unfolding conflicting presentInserts
+of-unconflicting heap c s f (insert i) m =
+    none-any (λ j. same (i .id) (j .id) && not (sameInsert i j)) (presentInserts s)
+    (λ j n. fails (same (i .id) (j .id) && not (sameInsert i j)) (λ e.
+    let there : List·Memᴰ (insert j) heap = ⊎-elim (λ k. f .characters j k)
+    (λ k. f .pending (insert j) (insert-listed (s .pending) k))
+    (List·Memᴰ·append-cases (map origin (s .characters)) n) in
+    let eq : i ≡ j = c i j m there
+    (same-eq (i .id) (j .id) (and-left (same (i .id) (j .id)) (not (sameInsert i j)) e)) in
+    clash (subst (λ (k : Insert). sameInsert i k ≡ true) eq (insert-refl i))
+    (not-true (sameInsert i j) (and-right (same (i .id) (j .id)) (not (sameInsert i j)) e))))
+of-unconflicting heap c s f (toggle t) m = refl
+
+-- what a call leaves is of the heap too
+pub of-later : (heap : List Operation) (s : State) (o : Operation) → Of heap s → Taken heap s o (receive s o)
+    → Of heap (receive s o .state)
+of-later heap s o f t =
+    record {
+      characters = λ i m. ⊎-elim (λ n. f .characters i n) (λ n. n) (t .progress .came i m);
+      pending = λ p m. f .pending p (t .waiting p m);
+    }
+
+crossed-ready : (cs : List Character) (o : Operation) → crossed cs o ≡ true → executable cs o ≡ true
+unfolding crossed
+crossed-ready cs (insert i) e = and-left (executable cs (insert i)) (not (above cs (i .previous) (i .next))) e
+crossed-ready cs (toggle t) e = absurd (mathlib.Core.Bool.false≢true e)
+
+pub progress-ready : {heap : List Operation} {cs ds : List Character} → Progress heap cs ds → (o : Operation)
+    → executable cs o ≡ true → executable ds o ≡ true
+unfolding executable
+progress-ready {heap} {cs} {ds} p (insert i) e =
+    and-intro (progress-held p (i .previous) (and-left (held cs (i .previous)) (held cs (i .next)) e))
+    (progress-held p (i .next) (and-right (held cs (i .previous)) (held cs (i .next)) e))
+progress-ready p (toggle t) e = progress-held p (t .target) e
+
+pub received-append : (s : State) (os ps : List Operation) → received s (os ++ ps) ≡ received (received s os) ps
+received-append s [] ps = refl
+received-append s (o ∷ os) ps = received-append (receive s o .state) os ps
+
+pub ready-append : (s : State) (os ps : List Operation) → eachReady s os ≡ true → eachReady (received s os) ps ≡ true
+    → eachReady s (os ++ ps) ≡ true
+ready-append s [] ps e f = f
+ready-append s (o ∷ os) ps e f =
+    and-intro (and-left (executable (s .characters) o) (eachReady (receive s o .state) os) e)
+    (ready-append (receive s o .state) os ps
+    (and-right (executable (s .characters) o) (eachReady (receive s o .state) os) e) f)
+
+-- ---- the whole sequence
+
+module _ (heap : List Operation) (c : Consistent heap) (r : every inRange heap ≡ true)
+    (few : length (inserts heap) ≤ capacity) where
+  -- where nothing waits there is room for what is new
+  room : (s : State) → Formed s → Of heap s → s .pending ≡ [] → (o : Operation) → List·Memᴰ o heap
+      → duplicate s o ≡ false → documentFull s o ≡ false
+  unfolding documentFull duplicate origin
+  room s f h none (insert i) m d =
+      fails (leb capacity (length (presentInserts s)))
+      (λ e. omega (
+        arith,
+        leb-true capacity (length (presentInserts s)) e,
+        known-length s,
+        ap
+            (λ (ps : List Operation). length (inserts ps)) none,
+        more,
+      ))
+    where
+      new : (x : Identifier) → List·Memᴰ x (identifiers (s .characters)) → same (i .id) x ≡ false
+      new x n = fails (same (i .id) x) (λ e.
+          let w = Memᴰ·of-map (λ (b : Character). b .id) (s .characters) n in
+          let eq : i ≡ origin (w .0) = c i (origin (w .0)) m (h .characters (origin (w .0)) (Memᴰ·map origin (w .1)))
+          (same-eq (i .id) x e ∙ sym (w .2)) in
+          clash (subst (λ (j : Insert). sameInsert i j ≡ true) eq (insert-refl i))
+          (any-none (λ b. sameInsert i (origin b))
+          (or-false-left (any (λ b. sameInsert i (origin b)) (s .characters))
+          (any (sameOperation (insert i)) (s .pending)) d) (w .1)))
+
+      every-id : (x : Identifier) → List·Memᴰ x (i .id ∷ identifiers (s .characters))
+          → List·Memᴰ x (map (λ (j : Insert). j .id) (inserts heap))
+      every-id x (List·Memᴰ·head e) =
+          subst (λ (y : Identifier). List·Memᴰ y (map (λ (j : Insert). j .id) (inserts heap))) (sym e)
+          (Memᴰ·map (λ (j : Insert). j .id) (listed-insert heap m))
+      every-id x (List·Memᴰ·tail n) =
+          let w = Memᴰ·of-map (λ (b : Character). b .id) (s .characters) n in
+          subst (λ (y : Identifier). List·Memᴰ y (map (λ (j : Insert). j .id) (inserts heap))) (w .2)
+          (Memᴰ·map (λ (j : Insert). j .id)
+          (listed-insert heap (h .characters (origin (w .0)) (Memᴰ·map origin (w .1)))))
+
+      apart : distinct same (identifiers (s .characters)) ≡ true
+      apart = Rattle.convergence.proofs.Soundness.standing (f .sound) .apart
+
+      more : suc (length (s .characters)) ≤ capacity
+      more =
+          let k = no-more same same-refl (i .id ∷ identifiers (s .characters))
+          (map (λ (j : Insert). j .id) (inserts heap))
+          (and-intro (not-intro (none-any (same (i .id)) (identifiers (s .characters)) new)) apart) every-id in
+          omega (
+            arith,
+            k,
+            length-map (s .characters) (λ (b : Character). b .id),
+            length-map (inserts heap)
+                (λ (j : Insert). j .id),
+          )
+  room s f h none (toggle t) m d = refl
+
+  pub record Arrived (s t : State) (os : List Operation) : Type 0 where
+    pub form : wellFormed t ≡ true
+    pub grown : Grown (t .characters)
+    pub progress : Progress heap (s .characters) (t .characters)
+    pub settled : (o : Operation) → List·Memᴰ o os → Settled (t .characters) o
+    pub none : t .pending ≡ []
+
+  only-none : (ps : List Operation) → ((o : Operation) → List·Memᴰ o ps → ⊥) → ps ≡ []
+  only-none [] f = refl
+  only-none (o ∷ ps) f = absurd (f o (List·Memᴰ·head refl))
+
+  pub arrives : (os : List Operation) (s : State) → wellFormed s ≡ true → Grown (s .characters) → Of heap s
+      → s .pending ≡ [] → ((o : Operation) → List·Memᴰ o os → List·Memᴰ o heap) → eachReady s os ≡ true
+      → Arrived s (received s os) os
+  unfolding outcome
+  arrives [] s f g h none among e =
+      record {
+        form = f;
+        grown = g;
+        progress = progress-none heap (g .standing);
+        settled = λ o m. absurd
+            (List·Memᴰ·not-nil m);
+        none = none;
+      }
+  arrives (o ∷ os) s f g h none among e =
+      let m = among o (List·Memᴰ·head refl) in
+      let ready = and-left (executable (s .characters) o) (eachReady (receive s o .state) os) e in
+      let t = taken heap s o g f (every-member inRange r m) (of-unconflicting heap c s h o m) ready
+      (room s (formed s f) h none o m) m (h .pending) in
+      let z =
+      arrives os (receive s o .state) (form-kept s (receiving o) f) (t .grown) (of-later heap s o h t)
+      (only-none (receive s o .state .pending) (λ p n. List·Memᴰ·not-nil (subst (List·Memᴰ p) none (t .waiting p n))))
+      (λ p n. among p (List·Memᴰ·tail n))
+      (and-right (executable (s .characters) o) (eachReady (receive s o .state) os) e)
+      in
+      record {
+        form = z .form;
+        grown = z .grown;
+        progress = progress-on (t .progress) (z .progress);
+        settled =
+            λ p n. ⊎-elim (λ q. subst (Settled (received (receive s o .state) os .characters)) (sym q)
+            (settled-later (z .progress) (t .grown) (z .grown) o (t .settled))) (λ q. z .settled p q)
+            (List·Memᴰ·cases-cons n);
+        none = z .none;
+      }
+
+  -- operations that all have what they need at the start
+  pub all-ready : (os : List Operation) (s : State) → wellFormed s ≡ true → Grown (s .characters) → Of heap s
+      → s .pending ≡ [] → ((o : Operation) → List·Memᴰ o os → List·Memᴰ o heap)
+      → ((o : Operation) → List·Memᴰ o os → executable (s .characters) o ≡ true) → eachReady s os ≡ true
+  unfolding outcome
+  all-ready [] s f g h none among e = refl
+  all-ready (o ∷ os) s f g h none among e =
+      let m = among o (List·Memᴰ·head refl) in
+      let t = taken heap s o g f (every-member inRange r m) (of-unconflicting heap c s h o m)
+      (e o (List·Memᴰ·head refl)) (room s (formed s f) h none o m) m (h .pending) in
+      and-intro (e o (List·Memᴰ·head refl))
+      (all-ready os (receive s o .state) (form-kept s (receiving o) f) (t .grown) (of-later heap s o h t)
+      (only-none (receive s o .state .pending) (λ p n. List·Memᴰ·not-nil (subst (List·Memᴰ p) none (t .waiting p n))))
+      (λ p n. among p (List·Memᴰ·tail n))
+      (λ p n. progress-ready (t .progress) p (e p (List·Memᴰ·tail n))))
+
+  -- from an empty replica
+  pub arrives-empty : (n : ℕ) → siteNumber n ≡ true → (os : List Operation)
+      → ((o : Operation) → List·Memᴰ o os → List·Memᴰ o heap) → eachReady (initial n) os ≡ true
+      → Arrived (initial n) (received (initial n) os) os
+  unfolding initial
+  arrives-empty n q os among e =
+      arrives os (initial n) (empty-formed n ∙ q) grown-empty
+      (record {
+        characters = λ i m. absurd (List·Memᴰ·not-nil m);
+        pending = λ o m. absurd
+            (List·Memᴰ·not-nil m);
+      }) refl among e
+
+  pub arrived-complete : (n : ℕ) → siteNumber n ≡ true → (os : List Operation)
+      → ((o : Operation) → List·Memᴰ o os → List·Memᴰ o heap) → eachReady (initial n) os ≡ true
+      → ((o : Operation) → List·Memᴰ o heap → List·Memᴰ o os ⊎
+      ((executable (received (initial n) os .characters) o ≡ false) ⊎
+      (crossed (received (initial n) os .characters) o ≡ true)))
+      → Complete heap (received (initial n) os .characters)
+  unfolding initial
+  arrived-complete n q os among e left =
+      let z = arrives-empty n q os among e in
+      completed heap (z .grown) (z .progress)
+      (λ o m. ⊎-elim (λ k. inl (z .settled o k))
+      (λ k. ⊎-elim (λ u. inr u)
+      (λ u. inl (Rattle.convergence.proofs.Progress.stopped (z .grown) o (ready o u) (inl u))) k) (left o m))
+    where
+      ready : (o : Operation) → crossed (received (initial n) os .characters) o ≡ true
+          → executable (received (initial n) os .characters) o ≡ true
+      ready o u = crossed-ready (received (initial n) os .characters) o u
+
+  pub built-as-received : (n : ℕ) → siteNumber n ≡ true → (os : List Operation)
+      → ((o : Operation) → List·Memᴰ o os → List·Memᴰ o heap) → eachReady (initial n) os ≡ true
+      → ((o : Operation) → List·Memᴰ o heap → List·Memᴰ o os ⊎
+      ((executable (received (initial n) os .characters) o ≡ false) ⊎
+      (crossed (received (initial n) os .characters) o ≡ true)))
+      → building heap .characters ≡ received (initial n) os .characters
+  built-as-received n q os among e left =
+      complete-unique heap c (building heap .characters) (received (initial n) os .characters)
+      (built-complete heap r c) (arrived-complete n q os among e left)
