@@ -36,6 +36,7 @@ pub mod Sequences
 pub mod Built
 pub mod Counting
 pub mod Work
+pub mod Passes
 pub mod Hearing
 pub mod Faithful
 pub mod Histories
