@@ -3,61 +3,44 @@ use Prim.Native.Nat.{ℕ}
 use native.Mathlib.Omega.{arith}
 use mathlib.Core.Path.{_≡_, refl, ap, sym, _∙_}
 use mathlib.Core.Logic.{⊎-elim}
-use mathlib.Core.Bool.{true, false, not}
+use mathlib.Core.Bool.{true, false}
 use mathlib.Core.List.{List, [], _∷_}
 use borrow.Author.Tests.{not-false}
 use Rattle.woot.specs.declared.Identifier.{Identifier}
-use Rattle.woot.specs.declared.Insert.{Insert}
 use Rattle.woot.specs.declared.Operation.{Operation}
 use Rattle.woot.specs.declared.Operation.the-variants.{Insert as insert, Toggle as toggle}
 use Rattle.woot.specs.declared.Character.{Character}
-use Rattle.woot.specs.declared.Refusal.the-variants.{Range, Form, Position, Unplaceable}
+use Rattle.woot.specs.declared.Refusal.the-variants.{Position, Unplaceable}
 use Rattle.woot.specs.declared.Answer.{Answer}
 use Rattle.woot.specs.declared.Answer.the-variants.{Refused}
 use Rattle.woot.specs.declared.Sent.the-variants.{Refused as sentRefused}
-use Rattle.woot.specs.Ranges.{inRange}
 use Rattle.woot.specs.State.{State, initial}
-use Rattle.woot.specs.Pending.{executable, crossed, unplaceable, integrate, Drained, andIntegrated, andDiscarded, drained}
+use Rattle.woot.specs.Pending.{executable, crossed, unplaceable}
 use Rattle.woot.specs.Form.{wellFormed}
-use Rattle.woot.specs.Answers.{Check, Reported, here, number}
+use Rattle.woot.specs.Answers.{Reported}
 use Rattle.woot.specs.Calls.{Outcome, unchanged, withCharacters, withPending, carryOut, defer, receiveChecks, receive, generatedInsert, insertChecks, localInsert, deleteChecks, localDelete, restoreChecks, localRestore}
 use Rattle.woot.specs.Cursor.{receiveAt}
-use Rattle.woot.specs.Histories.{Call, Begun, empty, startOf, inserting, deleting, restoring, receiving, receivingAt, outcome, run}
+use Rattle.woot.specs.Histories.{Call, Begun, empty, heaped, startOf, inserting, deleting, restoring, receiving, receivingAt, outcome, run}
 use Rattle.convergence.specs.Agreement.{Grown}
 use Rattle.convergence.specs.Theorems.{GrownThroughout, NeverUnplaceable}
 use Rattle.lists.proofs.Tests.{clash, and-left}
-use Rattle.lists.proofs.Members.{every-member}
-use Rattle.convergence.proofs.Extract.{Extract, extract-itself}
 use Rattle.convergence.proofs.Growth.{grown-empty, grown-toggle, grown-insert, grown-placeable}
-use Rattle.convergence.specs.Invariants.{Sound}
 use Rattle.convergence.proofs.Forms.{formed}
-use Rattle.convergence.proofs.Soundness.{fresh-unheld, sound-in, sound-out, out-fresh}
-use Rattle.convergence.proofs.Drains.{Draining, stop, discard, carry}
-use Rattle.convergence.proofs.Draining.{sound-carry}
+use Rattle.convergence.proofs.Soundness.{fresh-unheld, sound-in}
 use Rattle.convergence.proofs.Steps.{Step, turned, adds, raises, defers, step, generated-uncrossed, after-insert}
+use Rattle.convergence.proofs.Offering.{sound-offered, ended}
+use Rattle.convergence.proofs.Heaped.{heaped-grown}
 use Rattle.convergence.proofs.Pointing.{receive-at-else}
 use Rattle.convergence.proofs.Refusals.{skipped, held-there, never, unreported, other, other-sent, receive-refuses, insert-refuses, delete-refuses, restore-refuses, answer-refused}
-
-grown-carry : {cs : List Character} {os ps : List Operation} (o : Operation) → Extract o os ps → Sound cs ps → executable cs o ≡ true → crossed cs o ≡ false → Grown cs → Grown (integrate cs o)
-unfolding integrate inRange
-grown-carry {cs} {os} (insert i) e s ready uncrossed g =
-    let r = every-member inRange (s .pending-ranges) (extract-itself e) in
-    grown-insert cs i g r (fresh-unheld cs os i r (out-fresh e s)) ready uncrossed
-grown-carry {cs} (toggle d) e s ready uncrossed g = grown-toggle cs d (every-member inRange (s .pending-ranges) (extract-itself e)) g
-
-grown-drained : {cs : List Character} {ps : List Operation} {d : Drained} → Draining cs ps d → Sound cs ps → Grown cs → Grown (d .characters)
-unfolding drained andDiscarded andIntegrated
-grown-drained (stop h) s g = g
-grown-drained (discard t w why r) s g = grown-drained r (sound-out (w .extracted) s) g
-grown-drained (carry t w uncrossed placeable r) s g =
-    grown-drained r (sound-carry (t .operation) (w .extracted) s (w .passed) uncrossed placeable) (grown-carry (t .operation) (w .extracted) s (w .passed) uncrossed g)
 
 grown-step : (s : State) {r : Outcome Answer} → Step s r → Grown (s .characters) → Grown (r .state .characters)
 unfolding unchanged carryOut defer withCharacters withPending
 grown-step s (turned a w) g = g
 grown-step s (adds i a) g =
-    grown-drained (after-insert s i) (sound-in i (a .formed .sound) (a .ranged) (a .fresh) (a .space) (a .ready) (a .uncrossed) (a .placeable))
-    (grown-insert (s .characters) i g (a .ranged) (fresh-unheld (s .characters) (s .pending) i (a .ranged) (a .fresh)) (a .ready) (a .uncrossed))
+    let placed = sound-in i (a .formed .sound) (a .ranged) (a .fresh) (a .space) (a .ready) (a .uncrossed) (a .placeable) in
+    let new = fresh-unheld (s .characters) (s .pending) i (a .ranged) (a .fresh) in
+    ended (s .pending) (after-insert s i) (sound-offered placed)
+    (grown-insert (s .characters) i g (a .ranged) new (a .ready) (a .uncrossed)) (λ o m. m) .grown
 grown-step s (raises d a) g = grown-toggle (s .characters) d (a .ranged) g
 grown-step s (defers o a) g = g
 
@@ -68,6 +51,7 @@ grown-run s (c ∷ cs) g = grown-run (outcome s c .state) cs (grown-step s (step
 begun-grown : (b : Begun) → Grown (startOf b .characters)
 unfolding initial
 begun-grown (empty n) = grown-empty
+begun-grown (heaped n heap) = heaped-grown n heap
 
 pub grown-throughout : GrownThroughout
 grown-throughout b cs = grown-run (startOf b) cs (begun-grown b)

@@ -34,6 +34,7 @@ pub mod Kept
 pub mod Receiving
 pub mod Sequences
 pub mod Built
+pub mod Heaped
 pub mod Counting
 pub mod Work
 pub mod Passes

@@ -46,8 +46,7 @@ pub offered-out : {cs : List Character} {os ps : List Operation} (o : Operation)
 offered-out {cs} (insert i) e f =
     record {
       ranged = every-extract inRange e (f .ranged);
-      apart = distinct-extract same same-sym (ids-extract cs e)
-          (f .apart) .1;
+      apart = distinct-extract same same-sym (ids-extract cs e) (f .apart) .1;
     }
 offered-out {cs} (toggle t) e f =
     record {
@@ -55,6 +54,30 @@ offered-out {cs} (toggle t) e f =
       apart =
           subst (λ (js : List Insert). distinct same (identifiers cs ++ map (λ j. j .id) js) ≡ true) (inserts-same e)
           (f .apart);
+    }
+
+-- the identifier of one of their inserts is new
+pub offered-fresh : {cs : List Character} {i : Insert} {os ps : List Operation} → Extract (insert i) os ps
+    → Offered cs ps → any (same (i .id)) (identifiers cs ++ pendingIds os) ≡ false
+offered-fresh {cs} e f = distinct-extract same same-sym (ids-extract cs e) (f .apart) .0
+
+pub offered-carry : {cs : List Character} {os ps : List Operation} (o : Operation) → Extract o os ps → Offered cs ps
+    → executable cs o ≡ true → crossed cs o ≡ false → unplaceable cs o ≡ false → Offered (integrate cs o) os
+unfolding integrate character
+offered-carry {cs} {os} (insert i) e f ready uncrossed placeable =
+    let x = placed-extract cs i ready uncrossed placeable in
+    record {
+      ranged = every-extract inRange e (f .ranged);
+      apart =
+          extract-distinct same same-sym (extract-front (pendingIds os) (extract-map (λ c. c .id) x))
+          (offered-fresh e f) (offered-out (insert i) e f .apart);
+    }
+offered-carry {cs} {os} (toggle t) e f ready uncrossed placeable =
+    record {
+      ranged = every-extract inRange e (f .ranged);
+      apart =
+          subst (λ xs. distinct same (xs ++ pendingIds os) ≡ true) (sym (toggle-identifiers cs t))
+          (offered-out (toggle t) e f .apart);
     }
 
 -- what an operation that is carried out leads to
@@ -73,13 +96,7 @@ unfolding integrate inRange executable character origin
 carried heap {cs} {os} {ps} (insert i) e f g m ready uncrossed placeable =
     record {
       grown = grown-insert cs i g ranged new ready uncrossed;
-      offered =
-          record {
-            ranged = every-extract inRange e (f .ranged);
-            apart =
-                extract-distinct same same-sym (extract-front (pendingIds os) (extract-map (λ c. c .id) x)) fresh
-                (offered-out (insert i) e f .apart);
-          };
+      offered = offered-carry (insert i) e f ready uncrossed placeable;
       progress = progress-insert i (g .standing) x new m;
       settled = inl (extract-itself (extract-map origin x));
       inside = extract-itself (extract-map origin x);
@@ -89,24 +106,15 @@ carried heap {cs} {os} {ps} (insert i) e f g m ready uncrossed placeable =
     ranged : insertInRange i ≡ true
     ranged = every-member inRange (f .ranged) (extract-itself e)
 
-    fresh : any (same (i .id)) (identifiers cs ++ pendingIds os) ≡ false
-    fresh = distinct-extract same same-sym (ids-extract cs e) (f .apart) .0
-
     new : held cs (i .id) ≡ false
-    new = fresh-unheld cs os i ranged fresh
+    new = fresh-unheld cs os i ranged (offered-fresh e f)
 
     x : Extract (character i) cs (integrateInsert cs i)
     x = placed-extract cs i ready uncrossed placeable
 carried heap {cs} {os} {ps} (toggle t) e f g m ready uncrossed placeable =
     record {
       grown = grown-toggle cs t ranged g;
-      offered =
-          record {
-            ranged = every-extract inRange e (f .ranged);
-            apart =
-                subst (λ xs. distinct same (xs ++ pendingIds os) ≡ true) (sym (toggle-identifiers cs t))
-                (offered-out (toggle t) e f .apart);
-          };
+      offered = offered-carry (toggle t) e f ready uncrossed placeable;
       progress = progress-toggle t (g .standing) m;
       settled = taken cs t (held-is-character cs (g .standing) (t .target) (toggle-in-range t ranged .target) ready);
       inside = progress-held (progress-toggle {heap = heap} t (g .standing) m) (t .target) ready;

@@ -22,9 +22,9 @@ use Rattle.woot.specs.Placing.{held}
 use Rattle.woot.specs.Pending.{executable, crossed, unplaceable}
 use Rattle.woot.specs.Form.{presentInserts, wellFormed}
 use Rattle.woot.specs.Answers.{answerOf, NoneHolds, decided}
-use Rattle.woot.specs.Calls.{duplicate, conflicting, senderFull, documentFull, receiveChecks, carryOut, accept, receiveWhen, receive, generatedInsert, identifierTaken, insertChecks, sendInsert, localInsertWhen, localInsert, togglesOf, generatedToggle, sendToggle, deleteChecks, generatedDelete, localDeleteWhen, localDelete, restoreChecks, localRestoreWhen, localRestore}
+use Rattle.woot.specs.Calls.{duplicate, conflicting, documentFull, carryOut, receive, generatedInsert, identifierTaken, insertChecks, sendInsert, localInsertWhen, localInsert, togglesOf, generatedToggle, sendToggle, deleteChecks, generatedDelete, localDeleteWhen, localDelete, restoreChecks, localRestoreWhen, localRestore}
 use Rattle.woot.specs.Cursor.{receiveAt}
-use Rattle.woot.specs.Histories.{Call, deleting, inserting, restoring, receiving, outcome}
+use Rattle.woot.specs.Histories.{Call, deleting, inserting, restoring, outcome}
 use Rattle.lists.specs.Lists.{any}
 use Rattle.lists.proofs.Tests.{clash, fails, or-false, three}
 use Rattle.lists.proofs.Members.{any-append, any-none, none-any}
@@ -35,6 +35,7 @@ use Rattle.convergence.proofs.Toggles.{toggles-found, std, visible-at, 
 use Rattle.convergence.proofs.Pointing.{receive-at-same}
 use Rattle.convergence.proofs.Named.{none-named, one-named}
 use Rattle.convergence.proofs.Steps.{any-inserts, any-map, Addable, generated-addable}
+use Rattle.convergence.proofs.Receiving.{received-done}
 use Rattle.convergence.proofs.Replies.{none-first, insert-sends, delete-sends, restore-sends}
 
 -- an operation that meets no condition and has what it needs is carried out
@@ -49,8 +50,8 @@ record Acceptable (s : State) (o : Operation) : Type 0 where
   space : documentFull s o ≡ false
 
 accepted : (s : State) (o : Operation) → Acceptable s o → receive s o ≡ carryOut Done s o
-unfolding receive receiveWhen receiveChecks senderFull decided accept
-accepted s o a = rw (a .in-form, a .ranged, a .new, a .sole, a .straight, a .placed, a .ready, a .space)
+accepted s o a =
+    received-done s o (a .in-form) (a .ranged) (a .new) (a .sole) (a .straight) (a .placed) (a .ready) (a .space)
 
 -- so it does as a call that carries it out
 module _ (s : State) (c : Call) (o : Operation) (a : Acceptable s o) (carried : outcome s c ≡ carryOut Done s o) where

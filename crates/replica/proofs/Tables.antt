@@ -2,8 +2,9 @@
 use Prim.Native.Nat.{ℕ, zero, suc, _≤_, _<_}
 use native.Mathlib.Nat.{not-suc-le-zero, le-of-suc-le-suc}
 use native.Mathlib.Omega.{arith}
-use mathlib.Core.Path.{_≡_, refl, ap, ap₂, sym, _∙_}
+use mathlib.Core.Path.{_≡_, refl, ap, ap₂, sym, _∙_, subst}
 use mathlib.Core.Bool.{Bool, true, false, cond}
+use mathlib.Core.Logic.{⊎-elim}
 use mathlib.Core.List.{List, [], _∷_, map, List·Memᴰ·head, List·Memᴰ·tail, List·Memᴰ·not-nil}
 use mathlib.Core.Option.{Option, none, some}
 use lib.Dec.{eqb}
@@ -19,7 +20,9 @@ use Rattle.woot.specs.Table.{key, keys, lookup, searched, foundAt, agrees, tabl
 use Rattle.woot.specs.State.{State, blankCharacter, initial}
 use Rattle.woot.specs.Memory.{meaning, stored, documentOf, tableAgrees, charactersIn, charactersOf, replicaWellFormed}
 use Rattle.woot.specs.Form.{wellFormed}
-use Rattle.woot.specs.Histories.{Begun, empty, startOf}
+use Rattle.woot.specs.Building.{build}
+use Rattle.woot.specs.Histories.{empty, heaped}
+use Rattle.convergence.proofs.Heaped.{heaped-formed}
 use Rattle.convergence.proofs.Forms.{formed}
 use Rattle.index.specs.Keys.{Small, AllSmall}
 use Rattle.index.specs.Tabled.{Tabled}
@@ -58,9 +61,16 @@ stored-searches s h =
     let means : wellFormed (meaning (stored s)) ≡ true = ap wellFormed (meaning-stored s (formed-within s h)) ∙ h in
     agreeing-searches (stored s) (sound-small (formed _ means .sound)) (table-stored s h)
 
-pub begun-searches : BegunSearches
+initial-searches : (n : ℕ) → Searches (stored (initial n))
 unfolding tableAgrees agrees meaning stored documentOf initial charactersIn charactersOf
-begun-searches (empty n) = agreeing-searches (stored (initial n)) (λ c m. absurd (List·Memᴰ·not-nil m)) refl
+initial-searches n = agreeing-searches (stored (initial n)) (λ c m. absurd (List·Memᴰ·not-nil m)) refl
+
+pub begun-searches : BegunSearches
+begun-searches (empty n) = initial-searches n
+begun-searches (heaped n heap) =
+    ⊎-elim (λ e. subst (λ s. Searches (stored s)) (sym e) (initial-searches 0))
+    (λ f. stored-searches (build n heap .state) f)
+    (heaped-formed n heap)
 
 -- ---- the other way
 

@@ -16,6 +16,7 @@ use Rattle.woot.specs.State.{State, initial}
 use Rattle.woot.specs.Answers.{answerOf}
 use Rattle.woot.specs.Calls.{Outcome, allIntegrated, receive, localInsert, localDelete, localRestore}
 use Rattle.woot.specs.Cursor.{receiveAt}
+use Rattle.woot.specs.Building.{build}
 
 -- the kinds of call, with any arguments: typing at a gap, erasing at a place, receiving; document 02, Req 05,
 -- "restoring calls, with any identifier, stand in its lists too"; Req 02, receiving with a cursor at a gap
@@ -82,17 +83,21 @@ largestIn x (toggle t ∷ os) = cond (same (t .target) x) (max (t .toggles) (lar
 
 -- ---- from a beginning
 
--- what a list of calls may start from: "each list starts from an empty sheet of any laptop number"
+-- what a list of calls may start from: "each list starts from an empty sheet of any laptop number"; document 02, Req
+-- 08 and 13: or from what is built of a laptop number and a heap
 pub data Begun : Type 0 where
   empty : ℕ → Begun
+  heaped : ℕ → List Operation → Begun
 
 -- the state that it is
 abbrev pub startOf : Begun → State
 startOf (empty n) = initial n
+startOf (heaped n heap) = build n heap .state
 
 -- the operations that were carried out to make it
 abbrev pub beforehand : Begun → List Operation
 beforehand (empty n) = []
+beforehand (heaped n heap) = build n heap .integrated
 
 abbrev pub charactersAfter : Begun → List Call → List Character
 charactersAfter b cs = run (startOf b) cs .characters
