@@ -1,4 +1,5 @@
--- Req 08: what is left out, and what a heap builds is what any receiving of it gives.
+-- What is left out of a heap are those that cannot be carried out on what is built, nor on anything on its way there;
+-- so whoever receives all the others has built it.
 use Prim.Native.Nat.{ℕ, suc, _≤_}
 use native.Mathlib.Omega.{arith}
 use mathlib.Core.Path.{_≡_, refl, ap, sym, _∙_, subst}
@@ -38,7 +39,7 @@ use Rattle.convergence.specs.Building.{received, eachReady, FromHeap}
 use Rattle.convergence.proofs.Unique.{Consistent, Complete, between-neighbours, complete-among, one-meaning-of}
 use Rattle.convergence.proofs.Progress.{Inside}
 use Rattle.convergence.proofs.Offering.{Ended}
-use Rattle.convergence.proofs.Sequences.{Arrived, arrives-empty, built-as-received}
+use Rattle.convergence.proofs.Sequences.{Arrived, arrives-empty, received-built}
 
 -- an operation that has been carried out has all it needs, in order
 pub inside-not : {cs : List Character} → Grown cs → (o : Operation) → Inside cs o
@@ -66,8 +67,7 @@ module _ (heap : List Operation) (r : every inRange heap ≡ true) (c : Consiste
   left-to o m =
       ⊎-elim (λ k. (
         once-among heap (ends .waiting o k),
-        inl
-            (any-none (executable (building heap .characters)) (ends .unready) k),
+        inl (any-none (executable (building heap .characters)) (ends .unready) k),
       ))
       (λ k. let v = ends .discarded o k in (once-among heap (v .0), inr (v .1)))
       (List·Memᴰ·append-cases (building heap .pending) m)
@@ -120,14 +120,14 @@ module _ (heap : List Operation) (c : Consistent heap) {cs ds : List Character} 
       inl (⊎-elim (λ k. Rattle.lists.proofs.Tests.fails (held cs (t .target)) (λ h. clash (held-in (t .target) h) k))
       (λ k. clash k refl) w)
 
-pub built-received : (m : ℕ) (heap os : List Operation) → siteNumber m ≡ true → every inRange heap ≡ true
+pub heap-received : (m : ℕ) (heap os : List Operation) → siteNumber m ≡ true → every inRange heap ≡ true
     → disagreeing (inserts heap) ≡ false → length (inserts heap) ≤ capacity → FromHeap heap os
     → eachReady (initial m) os ≡ true
     → ((o : Operation) → List·Memᴰ o heap → List·Memᴰ o os ⊎ List·Memᴰ o (leftOut heap))
     → building heap .characters ≡ received (initial m) os .characters
 unfolding initial
-built-received m heap os site r d few from ready left =
-    built-as-received heap c r few m site os from ready
+heap-received m heap os site r d few from ready left =
+    received-built heap c r few m site os from ready
     (λ o k. ⊎-elim (λ v. inl v)
     (λ v. inr (stays-out heap c (z .grown)
     (λ i w. ⊎-elim (λ u. absurd (List·Memᴰ·not-nil u)) (λ u. u) (z .progress .came i w)) (built-complete heap r c) o
@@ -141,7 +141,7 @@ built-received m heap os site r d few from ready left =
 
 -- ---- the form
 
-once-inserts : (os : List Operation) → length (inserts (once os)) ≤ length (inserts os)
+pub once-inserts : (os : List Operation) → length (inserts (once os)) ≤ length (inserts os)
 unfolding once
 once-inserts [] = omega arith
 once-inserts (insert i ∷ os) = go (any (sameOperation (insert i)) os) (once-inserts os)
@@ -168,11 +168,11 @@ unfolding characterId
 clock-bound x h =
     within-high 1 lastClock (x .clock) (and-right (siteNumber (x .site)) (within 1 lastClock (x .clock)) h)
 
-pub built-formed : (n : ℕ) (heap : List Operation) → siteNumber n ≡ true → every inRange heap ≡ true
+pub heap-formed : (n : ℕ) (heap : List Operation) → siteNumber n ≡ true → every inRange heap ≡ true
     → disagreeing (inserts heap) ≡ false → length (inserts heap) ≤ capacity
     → (wellFormed (built n heap) ≡ true) × Grown (built n heap .characters)
 unfolding built initial siteInRange within pendingFrom inRange origin ordered
-built-formed n heap site r d few = (reformed (built n heap) form, ends heap r c .grown)
+heap-formed n heap site r d few = (reformed (built n heap) form, ends heap r c .grown)
   where
     c : Consistent heap
     c = agreeing heap d

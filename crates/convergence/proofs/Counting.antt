@@ -1,4 +1,4 @@
--- Req 08, for the code: how many are left out, by what the characters hold.
+-- How many are left out, by what the characters hold: those that are about a character that is not there.
 use Prim.Native.Nat.{suc, _+_}
 use native.Mathlib.Omega.{arith}
 use mathlib.Core.Path.{_≡_, refl, ap, sym, _∙_, subst}
@@ -16,7 +16,7 @@ use Rattle.woot.specs.Ranges.{inRange}
 use Rattle.woot.specs.Placing.{held}
 use Rattle.woot.specs.Pending.{Drained, andIntegrated, andDiscarded, drained}
 use Rattle.lists.specs.Lists.{every, keep}
-use Rattle.lists.proofs.Tests.{either, fails}
+use Rattle.lists.proofs.Tests.{not-intro, either, fails}
 use Rattle.lists.proofs.Members.{every-member}
 use Rattle.convergence.proofs.Extract.{Extract, extract-length, keep-extract, keep-same}
 use Rattle.convergence.proofs.Places.{held-id}
@@ -102,24 +102,25 @@ module _ (heap : List Operation) (r : every inRange heap ≡ true) (c : Consiste
       subst (λ (j : Insert). List·Memᴰ j (map origin rows)) q (Memᴰ·map origin (w .1))
   held-inside (toggle t) m h = h
 
-  out : (o : Operation) → List·Memᴰ o (leftOut heap) → not (held rows (subject o)) ≡ true
-  out o m =
+  -- none that is left out is about a character that is there
+  pub left-unheld : (o : Operation) → List·Memᴰ o (leftOut heap) → held rows (subject o) ≡ false
+  left-unheld o m =
       let w = left-to heap r c o m in
-      let k : held rows (subject o) ≡ false = fails (held rows (subject o))
-      (λ h. inside-not (ends .grown) o (held-inside o (w .0) h) (w .1)) in
-      rw k
+      fails (held rows (subject o)) (λ h. inside-not (ends .grown) o (held-inside o (w .0) h) (w .1))
 
   -- "their count is given"
-  pub left-out-count : length (leftOut heap)
+  pub left-counted : length (leftOut heap)
       ≡ length (keep (λ o. not (held (building heap .characters) (subject o))) (once heap))
   unfolding leftOut building
-  left-out-count =
+  left-counted =
       let p : Operation → Bool = λ o. not (held rows (subject o)) in
       omega (
         arith,
         length-append (building heap .pending) (building heap .discarded),
         kept p (draining [] (once heap)),
         keep-none p (building heap .integrated) (λ o m. let h = inside-held o (ends .integrated o m .1) in rw h),
-        keep-all p (building heap .pending) (λ o m. out o (Memᴰ·append-left (building heap .discarded) m)),
-        keep-all p (building heap .discarded) (λ o m. out o (Memᴰ·append-right (building heap .pending) m)),
+        keep-all p (building heap .pending)
+            (λ o m. not-intro (left-unheld o (Memᴰ·append-left (building heap .discarded) m))),
+        keep-all p (building heap .discarded)
+            (λ o m. not-intro (left-unheld o (Memᴰ·append-right (building heap .pending) m))),
       )

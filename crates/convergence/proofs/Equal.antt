@@ -30,8 +30,7 @@ insert-refl i =
       same-refl (i .id),
       eq-eqb (i .«code_point») (i .«code_point») refl,
       same-refl (i .previous),
-      same-refl
-          (i .next),
+      same-refl (i .next),
     )
 
 pub toggle-same : (t u : Toggle) → sameToggle t u ≡ true → t ≡ u

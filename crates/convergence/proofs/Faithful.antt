@@ -14,7 +14,7 @@ use Rattle.woot.specs.declared.Operation.{Operation}
 use Rattle.woot.specs.declared.Operation.the-variants.{Insert as insert, Toggle as toggle}
 use Rattle.woot.specs.declared.Character.{Character}
 use Rattle.woot.specs.Identifiers.{same}
-use Rattle.woot.specs.Operations.{character, origin, toggledBy, inserts}
+use Rattle.woot.specs.Operations.{character, origin, toggledBy, inserts, togglesAmong}
 use Rattle.woot.specs.Placing.{held, integrateToggle}
 use Rattle.woot.specs.Histories.{InsertedIn, largestIn}
 use Rattle.lists.proofs.Tests.{either, clash}
@@ -39,10 +39,15 @@ faithful-empty =
 
 -- ---- one operation more at the end of a history
 
-inserts-append : (os ps : List Operation) → inserts (os ++ ps) ≡ inserts os ++ inserts ps
+pub inserts-append : (os ps : List Operation) → inserts (os ++ ps) ≡ inserts os ++ inserts ps
 inserts-append [] ps = refl
 inserts-append (insert i ∷ os) ps = ap (λ js. i ∷ js) (inserts-append os ps)
 inserts-append (toggle d ∷ os) ps = inserts-append os ps
+
+pub toggles-append : (os ps : List Operation) → togglesAmong (os ++ ps) ≡ togglesAmong os ++ togglesAmong ps
+toggles-append [] ps = refl
+toggles-append (insert i ∷ os) ps = toggles-append os ps
+toggles-append (toggle d ∷ os) ps = ap (λ es. d ∷ es) (toggles-append os ps)
 
 insert-eq : {i j : Insert} → insert i ≡ insert j → i ≡ j
 insert-eq e = cc

@@ -1,4 +1,4 @@
--- What a heap builds is complete.
+-- What a heap builds is complete: each of its operations was carried out, crosses or lacks something at the end.
 use Prim.Native.Nat.{ℕ}
 use native.Mathlib.Omega.{arith}
 use mathlib.Core.Path.{_≡_, refl, ap, sym, _∙_, subst}

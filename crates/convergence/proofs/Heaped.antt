@@ -24,7 +24,7 @@ use Rattle.lists.proofs.Tests.{and-left, and-right, or-false-left, or-false-rig
 use Rattle.convergence.specs.Agreement.{Grown}
 use Rattle.convergence.proofs.Growth.{grown-empty}
 use Rattle.convergence.proofs.Steps.{Turned, All, first-none, first-some}
-use Rattle.convergence.proofs.Built.{built-formed}
+use Rattle.convergence.proofs.Built.{heap-formed}
 
 -- none of the conditions holds
 pub record Accepted (n : ℕ) (heap : List Operation) : Type 0 where
@@ -82,7 +82,7 @@ heaped-grown n heap = go (verdict n heap)
   where
     go : {b : BuildOutcome} → Verdict n heap b → Grown (b .state .characters)
     go (turned a t) = grown-empty
-    go (accepted a) = built-formed n heap (a .site) (a .ranged) (a .agreed) (a .few-inserts) .1
+    go (accepted a) = heap-formed n heap (a .site) (a .ranged) (a .agreed) (a .few-inserts) .1
 
 -- the empty state of number 0, or one in form
 pub heaped-formed : (n : ℕ) (heap : List Operation)
@@ -92,4 +92,4 @@ heaped-formed n heap = go (verdict n heap)
   where
     go : {b : BuildOutcome} → Verdict n heap b → (b .state ≡ initial 0) ⊎ (wellFormed (b .state) ≡ true)
     go (turned a t) = inl refl
-    go (accepted a) = inr (built-formed n heap (a .site) (a .ranged) (a .agreed) (a .few-inserts) .0)
+    go (accepted a) = inr (heap-formed n heap (a .site) (a .ranged) (a .agreed) (a .few-inserts) .0)

@@ -35,6 +35,7 @@ pub mod Receiving
 pub mod Sequences
 pub mod Built
 pub mod Heaped
+pub mod Alike
 pub mod Counting
 pub mod Work
 pub mod Passes
@@ -56,3 +57,4 @@ pub mod Hiding
 pub mod Writing
 pub mod Typings
 pub mod Pasting
+pub mod Building

@@ -1,5 +1,5 @@
--- Draining with no limit on what waits: operations in range whose inserts are new and differ are enough for each step to
--- lead on to the next, and for what it all ends in.
+-- Draining with no limit on what waits: operations in range whose inserts are new and differ are enough for each step
+-- to lead on to the next, and for what it all ends in.
 use Prim.Native.Nat.{_+_, _≤_, max}
 use native.Mathlib.Omega.{arith}
 use mathlib.Core.Path.{_≡_, ap, sym, _∙_, subst}
@@ -158,11 +158,9 @@ ended heap (stop h) f g among =
       progress = progress-none heap (g .standing);
       settled = λ o m. inr m;
       unready = h;
-      waiting =
-          λ o m. m;
+      waiting = λ o m. m;
       integrated = λ o m. absurd (List·Memᴰ·not-nil m);
-      discarded = λ o m. absurd
-          (List·Memᴰ·not-nil m);
+      discarded = λ o m. absurd (List·Memᴰ·not-nil m);
       accounted = λ o m. inr (inl m);
       count = omega arith;
     }
@@ -213,8 +211,7 @@ ended heap {cs} {ps} (carry {d = d} t v uncrossed placeable r) f g among =
       integrated =
           λ p m. ⊎-elim (λ k. (
             subst (λ q. List·Memᴰ q ps) (sym k) (extract-itself e),
-            subst
-                (λ q. Inside (d .characters) q) (sym k) (inside-later (z .progress) o (y .inside)),
+            subst (λ q. Inside (d .characters) q) (sym k) (inside-later (z .progress) o (y .inside)),
           ))
           (λ k. let v = z .integrated p k in (extract-old e (v .0), v .1)) (List·Memᴰ·cases-cons m);
       discarded = λ p m. let w = z .discarded p m in (extract-old e (w .0), w .1);

@@ -1,5 +1,5 @@
--- Each step of a pass carries one operation out, puts one aside or leaves it, so what `Working` says is kept; a pass that
--- places none leaves none that could be placed, and then the toggles that stay behind have no target.
+-- Each step of a pass carries one operation out, puts one aside or leaves it, so what `Working` says is kept; a pass
+-- that places none leaves none that could be placed, and then the toggles that stay behind have no target.
 use Prim.Native.Nat.{ℕ, zero, suc, _+_, _≤_, _<_}
 use native.Mathlib.Omega.{arith}
 use mathlib.Core.Path.{_≡_, refl, ap, sym, _∙_, subst}
@@ -36,7 +36,7 @@ use Rattle.convergence.proofs.Growth.{grown-empty}
 use Rattle.convergence.proofs.Unique.{Consistent}
 use Rattle.convergence.proofs.Progress.{progress-none, crossed-of}
 use Rattle.convergence.proofs.Heap.{agreeing, insert-listed, listed-insert, once-among, among-once, once-apart, built-complete, heap-ended}
-use Rattle.convergence.proofs.Counting.{subject, held-inside, left-out-count}
+use Rattle.convergence.proofs.Counting.{subject, held-inside, left-counted}
 use Rattle.convergence.proofs.Work.{Working, work-aside, work-carries, work-ends}
 
 -- ---- the first of each identifier
@@ -504,7 +504,7 @@ module _ (heap : List Operation) (r : every inRange heap ≡ true) (c : Consiste
   passes-counted =
       let done : toggledAll ps ts ≡ rows = passes-built heap r c in
       let size : length rows ≡ length ps = ap length (sym done) ∙ toggled-length ps ts in
-      let parts = left-out-count heap r c ∙ counted-apart (λ x. not (held rows x)) (once heap) in
+      let parts = left-counted heap r c ∙ counted-apart (λ x. not (held rows x)) (once heap) in
       let absent = absent-count rows heap ∙ same-absentees rows ps
       (λ x. ap (λ ds. held ds x) (sym done) ∙ toggled-held ps ts x) ts in
       omega (arith, size, parts, absent, keep-both here (inserts (once heap)), held-inserts, same-inserts)

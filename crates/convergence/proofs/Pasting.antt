@@ -55,21 +55,13 @@ use Rattle.convergence.proofs.Kept.{form-kept, counts-true}
 use Rattle.convergence.proofs.Hearing.{typing-advances}
 use Rattle.convergence.proofs.Histories.{waits-balance}
 use Rattle.convergence.proofs.Refusals.{decided-exactly, skipped, held-there, never, other}
-use Rattle.convergence.proofs.Replies.{answer-number, none-first, insert-does, insert-sends}
+use Rattle.convergence.proofs.Replies.{never-refused, turned-undone, answer-number, none-first, insert-does, insert-sends}
 use Rattle.convergence.proofs.Own.{typed-carried}
 use Rattle.convergence.proofs.Typing.{typing-moves}
 use Rattle.convergence.proofs.Grown.{grown-run, grown-throughout, placeable}
 use Rattle.convergence.proofs.Typings.{Ready, stateAfter, gapThen, ready-typings, run-append, integrated-append}
 
 -- ---- the answer
-
-never-refused : {n m : ℕ} (r : Refusal) → Done n m ≡ Refused r → ⊥
-never-refused r e = let z : _≡_ {A = ℕ} 0 1 = cc in omega arith
-
-turned-undone : (a : Answer) → Turned a → reply a .word ≡ done → ⊥
-unfolding reply
-turned-undone Duplicate t e = let z : _≡_ {A = ℕ} 0 1 = cc in omega arith
-turned-undone (Refused r) t e = let z : _≡_ {A = ℕ} 0 1 = cc in omega arith
 
 paste-turned : (formed : Bool) (s : State) (g : ℕ) (block : List ℕ) → All Turned (pasteChecks formed s g block)
 unfolding pasteChecks

@@ -1,4 +1,5 @@
--- What carrying operations out does to a list of characters, step by step and over any number of steps.
+-- What carrying operations out does to a list of characters, step by step and over any number of steps: what was held
+-- stays in its order, and what was settled stays settled.
 use Prim.Native.Nat.{ℕ, _≤_, max}
 use native.Mathlib.Omega.{arith}
 use mathlib.Core.Path.{_≡_, refl, ap, sym, _∙_, subst}
@@ -80,19 +81,6 @@ progress-on {heap} {cs} {ds} {es} p q =
     back e (inr (inl d)) = carried e (d .0) (d .2) (d .3) (p .turned (d .0) (d .1))
     back e (inr (inr t)) = inr (inr t)
 
--- of more operations
-pub progress-wider : {heap more : List Operation} {cs ds : List Character}
-    → ((o : Operation) → List·Memᴰ o heap → List·Memᴰ o more) → Progress heap cs ds → Progress more cs ds
-progress-wider f p =
-    record {
-      kept = p .kept;
-      came = λ i m. ⊎-elim (λ n. inl n) (λ n. inr (f (insert i) n)) (p .came i m);
-      rising = p .rising;
-      turned =
-          λ e m. ⊎-elim (λ z. inl z)
-          (λ w. inr (⊎-elim (λ b. inl b) (λ t. inr (t .0, f (toggle (t .0)) (t .1), t .2, t .3)) w)) (p .turned e m);
-    }
-
 pub progress-held : {heap : List Operation} {cs ds : List Character} → Progress heap cs ds → (x : Identifier)
     → held cs x ≡ true → held ds x ≡ true
 progress-held {heap} {cs} {ds} p x h = go (holding cs x h)
@@ -148,11 +136,9 @@ progress-toggle {heap} {cs} t s m =
         omega (
           arith,
           ap (λ (d : Character). d .toggles) f,
-          ap
-              (λ (d : Character). d .toggles) g,
+          ap (λ (d : Character). d .toggles) g,
           toggled-toggles t b,
-          larger (same (t .target) (b .id)) (b .toggles)
-              (t .toggles),
+          larger (same (t .target) (b .id)) (b .toggles) (t .toggles),
         )
 
     which : (n k l : ℕ) → l ≡ max n k → (l ≡ n) ⊎ (l ≡ k)
@@ -166,8 +152,7 @@ progress-toggle {heap} {cs} t s m =
         (λ h. inr (inr (
           t,
           m,
-          Rattle.convergence.proofs.Identifiers.same-eq (t .target) (b .id) e ∙ sym
-              (toggled-id t b),
+          Rattle.convergence.proofs.Identifiers.same-eq (t .target) (b .id) e ∙ sym (toggled-id t b),
           h,
         )))
         (which (b .toggles) (t .toggles) (toggledBy t b .toggles) (toggled-toggles t b ∙ rw e))
@@ -194,8 +179,7 @@ settled-later p g h (insert i) (inr w) =
     inr (
       progress-held p (i .previous) (w .0),
       progress-held p (i .next) (w .1),
-      sym
-          (progress-above p g h (i .previous) (i .next) (w .0) (w .1)) ∙ w .2,
+      sym (progress-above p g h (i .previous) (i .next) (w .0) (w .1)) ∙ w .2,
     )
 settled-later p g h (toggle t) w =
     let d = later p (w .1) in
@@ -208,8 +192,7 @@ unfolding executable crossed unplaceable
 stopped {cs} g (insert i) ready w =
     inr (
       and-left (held cs (i .previous)) (held cs (i .next)) ready,
-      and-right (held cs (i .previous))
-          (held cs (i .next)) ready,
+      and-right (held cs (i .previous)) (held cs (i .next)) ready,
       crossing (either (crossed cs (insert i))) w,
     )
   where

@@ -1,12 +1,11 @@
--- What receiving an operation that has all it needs comes to.
-use Prim.Native.Nat.{suc, _+_, _≤_}
+-- Receiving an operation that has all it needs settles it: it is known, it crosses, or it is carried out.
+use Prim.Native.Nat.{max}
 use native.Mathlib.Omega.{arith}
-use mathlib.Core.Path.{_≡_, refl, sym, subst}
+use mathlib.Core.Path.{_≡_, refl, ap, ap₂, sym, _∙_, subst}
 use mathlib.Core.Bool.{true, false, _&&_}
 use mathlib.Core.Logic.{_⊎_, inl, inr, ⊎-elim}
-use mathlib.Core.List.{List, _∷_, _++_, map, List·Memᴰ, Memᴰ·map}
+use mathlib.Core.List.{List, _∷_, _++_, map, List·Memᴰ, Memᴰ·map, [], List·Memᴰ·head, List·Memᴰ·tail}
 use lib.Dec.{leb}
-use lib.ListN.{length}
 use borrow.Author.Tests.{leb-true}
 use Rattle.woot.specs.declared.Insert.{Insert}
 use Rattle.woot.specs.declared.Toggle.{Toggle}
@@ -15,20 +14,20 @@ use Rattle.woot.specs.declared.Operation.the-variants.{Insert as insert, Toggle
 use Rattle.woot.specs.declared.Character.{Character}
 use Rattle.woot.specs.declared.Refusal.the-variants.{Crossed}
 use Rattle.woot.specs.declared.Answer.{Answer}
-use Rattle.woot.specs.declared.Answer.the-variants.{Done, Deferred, Duplicate, Refused}
+use Rattle.woot.specs.declared.Answer.the-variants.{Done, Duplicate, Refused}
 use Rattle.woot.specs.Identifiers.{same}
-use Rattle.woot.specs.Operations.{origin, inserts, sameInsert, sameOperation}
+use Rattle.woot.specs.Operations.{origin, sameInsert, sameOperation, toggledBy, withToggles}
 use Rattle.woot.specs.Ranges.{inRange}
 use Rattle.woot.specs.State.{State}
-use Rattle.woot.specs.Placing.{identifiers, integrateInsert}
-use Rattle.woot.specs.Pending.{executable, crossed, unplaceable, integrate}
+use Rattle.woot.specs.Placing.{identifiers, integrateInsert, integrateToggle}
+use Rattle.woot.specs.Pending.{executable, crossed, unplaceable, integrate, drainSteps, drain, drained}
 use Rattle.woot.specs.Form.{wellFormed}
 use Rattle.woot.specs.Answers.{decided}
 use Rattle.woot.specs.Calls.{Outcome, unchanged, withCharacters, afterDrain, insertCarried, duplicate, conflicting, senderFull, documentFull, receiveChecks, carryOut, accept, receiveWhen, receive}
 use Rattle.lists.specs.Lists.{any}
 use Rattle.lists.proofs.Tests.{either, clash, and-intro, and-left, and-right, or-cases}
 use Rattle.lists.proofs.Members.{any-member, any-none}
-use Rattle.convergence.specs.Agreement.{Grown}
+use Rattle.convergence.specs.Agreement.{Grown, Standing}
 use Rattle.convergence.specs.Invariants.{pendingIds}
 use Rattle.convergence.proofs.Identifiers.{same-eq, same-sym}
 use Rattle.convergence.proofs.Extract.{front, extract-append, extract-distinct}
@@ -39,10 +38,11 @@ use Rattle.convergence.proofs.Equal.{insert-same, operation-same}
 use Rattle.convergence.proofs.Progress.{Progress, progress-none, progress-on, Settled, settled-later, stopped}
 use Rattle.convergence.proofs.Offering.{Offered, carried, ended}
 use Rattle.convergence.proofs.Drains.{draining}
+use Rattle.convergence.proofs.Characters.{same-character}
 
 -- ---- by the tests
 
-received-known : (s : State) (o : Operation) → wellFormed s ≡ true → inRange o ≡ true → duplicate s o ≡ true
+pub received-known : (s : State) (o : Operation) → wellFormed s ≡ true → inRange o ≡ true → duplicate s o ≡ true
     → receive s o ≡ unchanged s Duplicate
 unfolding receive receiveWhen receiveChecks decided
 received-known s o f r d = rw (f, r, d)
@@ -60,21 +60,11 @@ received-done s o f r d c x p e l = rw (f, r, d, c, x, p, e, l)
 
 -- ---- what it comes to
 
--- done or known, or refused with 8
-abbrev pub Said : List Character → Operation → Answer → Type 0
-Said cs o (Done n m) = Unit
-Said cs o Duplicate = Unit
-Said cs o Deferred = ⊥
-Said cs o (Refused r) = crossed cs o ≡ true
-
 pub record Taken (heap : List Operation) (s : State) (o : Operation) (r : Outcome Answer) : Type 0 where
   pub grown : Grown (r .state .characters)
   pub progress : Progress heap (s .characters) (r .state .characters)
   pub settled : Settled (r .state .characters) o
   pub waiting : (p : Operation) → List·Memᴰ p (r .state .pending) → List·Memᴰ p (s .pending)
-  pub present : length (r .state .characters) + length (inserts (r .state .pending)) ≤ suc
-      (length (s .characters) + length (inserts (s .pending)))
-  pub said : Said (s .characters) o (r .answer)
 
 -- ---- what is known already
 
@@ -91,8 +81,7 @@ toggled-here t cs h =
     let w = any-member (λ c. same (t .target) (c .id) && leb (t .toggles) (c .toggles)) cs h in (
       w .0,
       w .1,
-      same-eq (t .target) (w .0 .id)
-          (and-left (same (t .target) (w .0 .id)) (leb (t .toggles) (w .0 .toggles)) (w .2)),
+      same-eq (t .target) (w .0 .id) (and-left (same (t .target) (w .0 .id)) (leb (t .toggles) (w .0 .toggles)) (w .2)),
       leb-true (t .toggles)
           (w .0 .toggles) (and-right (same (t .target) (w .0 .id)) (leb (t .toggles) (w .0 .toggles)) (w .2)),
     )
@@ -105,7 +94,8 @@ not-waiting s f o ready h =
     clash (subst (λ (p : Operation). executable (s .characters) p ≡ true) (operation-same o (w .0) (w .2)) ready)
     (any-none (executable (s .characters)) (f .unready) (w .1))
 
-known-settled : (s : State) → Formed s → (o : Operation) → executable (s .characters) o ≡ true → duplicate s o ≡ true
+pub known-settled : (s : State) → Formed s → (o : Operation) → executable (s .characters) o ≡ true
+    → duplicate s o ≡ true
     → Settled (s .characters) o
 unfolding duplicate
 known-settled s f (insert i) ready d =
@@ -120,16 +110,14 @@ known-settled s f (toggle t) ready d =
 
 module _ (heap : List Operation) (s : State) (o : Operation) (g : Grown (s .characters)) where
   -- a call that changes nothing
-  still : (a : Answer) → Said (s .characters) o a → Settled (s .characters) o → Taken heap s o (unchanged s a)
+  still : (a : Answer) → Settled (s .characters) o → Taken heap s o (unchanged s a)
   unfolding unchanged
-  still a w t =
+  still a t =
       record {
         grown = g;
         progress = progress-none heap (g .standing);
         settled = t;
         waiting = λ p m. m;
-        present = omega arith;
-        said = w;
       }
 
 -- an operation that is carried out
@@ -150,8 +138,6 @@ acted heap s (insert i) g f r d c ready uncrossed m among =
       progress = progress-on (y .progress) (z .progress);
       settled = settled-later (z .progress) (y .grown) (z .grown) (insert i) (y .settled);
       waiting = z .waiting;
-      present = omega (arith, z .count, y .count);
-      said = tt;
     }
   where
     offered-insert : (s : State) (i : Insert) → Formed s → inRange (insert i) ≡ true
@@ -174,8 +160,6 @@ acted heap s (toggle t) g f r d c ready uncrossed m among =
       progress = y .progress;
       settled = y .settled;
       waiting = λ p n. n;
-      present = omega (arith, y .count);
-      said = tt;
     }
   where
     toggle-placed : unplaceable (s .characters) (toggle t) ≡ false
@@ -197,10 +181,39 @@ taken heap s o g f r c ready room m among = go (either (duplicate s o)) (either 
         → (crossed (s .characters) o ≡ true) ⊎ (crossed (s .characters) o ≡ false) → Taken heap s o (receive s o)
     go (inl d) x =
         subst (Taken heap s o) (sym (received-known s o f r d))
-        (still heap s o g Duplicate tt (known-settled s (formed s f) o ready d))
+        (still heap s o g Duplicate (known-settled s (formed s f) o ready d))
     go (inr d) (inl x) =
         subst (Taken heap s o) (sym (received-crossed s o f r d c x))
-        (still heap s o g (Refused Crossed) x (stopped g o ready (inl x)))
+        (still heap s o g (Refused Crossed) (stopped g o ready (inl x)))
     go (inr d) (inr x) =
         subst (Taken heap s o) (sym (received-done s o f r d c x (placed o ready x) ready (room d)))
         (acted heap s o g (formed s f) r d c ready x m among)
+
+-- ---- where nothing waits
+
+-- what is carried out is all that changes
+pub carried-alone : (s : State) (o : Operation) → s .pending ≡ []
+    → carryOut Done s o .state .characters ≡ integrate (s .characters) o
+unfolding carryOut afterDrain insertCarried withCharacters integrate drain drainSteps drained
+carried-alone s (insert i) none = ap (λ ps. drain (integrateInsert (s .characters) i) ps .characters) none
+carried-alone s (toggle t) none = refl
+
+-- a toggle that was taken changes nothing
+pub toggle-again : (cs : List Character) (t : Toggle) → Standing cs → Settled cs (toggle t) → integrateToggle cs t ≡ cs
+unfolding integrateToggle toggledBy withToggles
+toggle-again cs t s w = each cs (λ c m. still c m (either (same (t .target) (c .id))))
+  where
+    each : (ds : List Character) → ((c : Character) → List·Memᴰ c ds → toggledBy t c ≡ c) → map (toggledBy t) ds ≡ ds
+    each [] f = refl
+    each (d ∷ ds) f =
+        ap₂ (λ (b : Character) (bs : List Character). b ∷ bs) (f d (List·Memᴰ·head refl))
+        (each ds (λ c m. f c (List·Memᴰ·tail m)))
+
+    still : (c : Character) → List·Memᴰ c cs → (same (t .target) (c .id) ≡ true) ⊎ (same (t .target) (c .id) ≡ false)
+        → toggledBy t c ≡ c
+    still c m (inr e) = rw e
+    still c m (inl e) =
+        let k = ap (λ (b : Character). b .toggles)
+        (same-character cs s (w .1) m (sym (w .2) ∙ same-eq (t .target) (c .id) e)) in
+        let l : max (c .toggles) (t .toggles) ≡ c .toggles = omega (arith, k, w .3) in
+        rw (e, l)

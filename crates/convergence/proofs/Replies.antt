@@ -98,6 +98,15 @@ number-few SenderFull = omega arith
 number-few DocumentFull = omega arith
 number-few Output = omega arith
 
+-- what is done is no refusal, and what is turned away is not done
+pub never-refused : {n m : ℕ} (r : Refusal) → Done n m ≡ Refused r → ⊥
+never-refused r e = let z : _≡_ {A = ℕ} 0 1 = cc in omega arith
+
+pub turned-undone : (a : Answer) → Turned a → reply a .word ≡ done → ⊥
+unfolding reply
+turned-undone Duplicate t e = let z : _≡_ {A = ℕ} 0 1 = cc in omega arith
+turned-undone (Refused r) t e = let z : _≡_ {A = ℕ} 0 1 = cc in omega arith
+
 -- an answer with the number of a refusal is that refusal
 pub answer-number : (a : Answer) (r : Refusal) → (reply a .refusal ≡ number r) ↔ (a ≡ Refused r)
 unfolding reply

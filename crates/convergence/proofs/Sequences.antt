@@ -1,10 +1,11 @@
--- Receiving operations of a heap one by one, each after all it needs.
+-- Receiving operations of a heap one by one, each after all it needs: nothing comes to wait and there is always room,
+-- so at the end each is settled, and what is there is complete.
 use Prim.Native.Nat.{ℕ, suc, _≤_}
 use native.Mathlib.Omega.{arith}
 use mathlib.Core.Path.{_≡_, refl, ap, sym, _∙_, subst}
 use mathlib.Core.Bool.{Bool, true, false, _&&_, not}
 use mathlib.Core.Logic.{_⊎_, inl, inr, ⊎-elim}
-use mathlib.Core.List.{List, [], _∷_, _++_, map, List·Memᴰ, List·Memᴰ·head, List·Memᴰ·tail, List·Memᴰ·cases-cons, List·Memᴰ·not-nil, Memᴰ·map, Memᴰ·of-map, List·Memᴰ·append-cases}
+use mathlib.Core.List.{List, [], _∷_, map, List·Memᴰ, List·Memᴰ·head, List·Memᴰ·tail, List·Memᴰ·cases-cons, List·Memᴰ·not-nil, Memᴰ·map, Memᴰ·of-map, List·Memᴰ·append-cases}
 use lib.Dec.{leb}
 use lib.ListN.{length, length-map}
 use borrow.Author.Tests.{leb-true, not-true}
@@ -19,26 +20,31 @@ use Rattle.woot.specs.Operations.{origin, inserts, sameInsert, sameOperation}
 use Rattle.woot.specs.Ranges.{siteNumber, inRange}
 use Rattle.woot.specs.State.{State, initial}
 use Rattle.woot.specs.Placing.{identifiers, held, above}
-use Rattle.woot.specs.Pending.{executable, crossed}
+use Rattle.woot.specs.Pending.{executable, crossed, unplaceable, integrate, Drained, drained, andDiscarded, andIntegrated}
 use Rattle.woot.specs.Form.{presentInserts, wellFormed}
-use Rattle.woot.specs.Calls.{duplicate, conflicting, documentFull, receive}
+use Rattle.woot.specs.Calls.{duplicate, conflicting, documentFull, receive, Outcome, unchanged}
 use Rattle.woot.specs.Histories.{receiving, outcome}
 use Rattle.lists.specs.Lists.{any, every, distinct}
-use Rattle.lists.proofs.Tests.{clash, and-intro, and-left, and-right, or-false-left, fails, not-intro}
+use Rattle.lists.proofs.Tests.{clash, and-intro, and-left, and-right, or-false-left, fails, not-intro, either}
 use Rattle.lists.proofs.Members.{any-none, none-any, every-member}
 use Rattle.convergence.specs.Agreement.{Grown}
 use Rattle.convergence.proofs.Identifiers.{same-refl, same-eq}
-use Rattle.convergence.proofs.Extract.{no-more}
+use Rattle.convergence.proofs.Extract.{no-more, Extract, extract-itself, extract-old}
 use Rattle.convergence.proofs.Forms.{Formed, formed, known-length, empty-formed}
 use Rattle.convergence.proofs.Growth.{grown-empty}
 use Rattle.convergence.proofs.Kept.{form-kept}
-use Rattle.woot.specs.Building.{building}
+use Rattle.woot.specs.Building.{building, once}
 use Rattle.convergence.specs.Building.{received, eachReady}
 use Rattle.convergence.proofs.Equal.{insert-refl}
 use Rattle.convergence.proofs.Unique.{Consistent, Complete, complete-unique}
-use Rattle.convergence.proofs.Progress.{Progress, progress-none, progress-on, progress-held, Settled, settled-later, completed}
-use Rattle.convergence.proofs.Heap.{insert-listed, listed-insert, built-complete}
-use Rattle.convergence.proofs.Receiving.{Taken, taken}
+use Rattle.convergence.proofs.Progress.{Progress, progress-none, progress-on, Settled, settled-later, completed}
+use Rattle.convergence.proofs.Heap.{insert-listed, listed-insert, built-complete, heap-offered, once-among}
+use Rattle.convergence.proofs.Receiving.{Taken, taken, received-known, received-done, known-settled, carried-alone, toggle-again}
+use Rattle.woot.specs.declared.Answer.{Answer}
+use Rattle.convergence.proofs.Places.{held-id}
+use Rattle.convergence.proofs.Soundness.{standing, fresh-unheld}
+use Rattle.convergence.proofs.Drains.{Draining, stop, discard, carry, draining}
+use Rattle.convergence.proofs.Offering.{Offered, offered-out, offered-fresh, offered-carry}
 
 -- ---- what a state has of a heap
 
@@ -76,26 +82,6 @@ unfolding crossed
 crossed-ready cs (insert i) e = and-left (executable cs (insert i)) (not (above cs (i .previous) (i .next))) e
 crossed-ready cs (toggle t) e = absurd (mathlib.Core.Bool.false≢true e)
 
-pub progress-ready : {heap : List Operation} {cs ds : List Character} → Progress heap cs ds → (o : Operation)
-    → executable cs o ≡ true → executable ds o ≡ true
-unfolding executable
-progress-ready {heap} {cs} {ds} p (insert i) e =
-    and-intro (progress-held p (i .previous) (and-left (held cs (i .previous)) (held cs (i .next)) e))
-    (progress-held p (i .next) (and-right (held cs (i .previous)) (held cs (i .next)) e))
-progress-ready p (toggle t) e = progress-held p (t .target) e
-
-pub received-append : (s : State) (os ps : List Operation) → received s (os ++ ps) ≡ received (received s os) ps
-received-append s [] ps = refl
-received-append s (o ∷ os) ps = received-append (receive s o .state) os ps
-
-pub ready-append : (s : State) (os ps : List Operation) → eachReady s os ≡ true → eachReady (received s os) ps ≡ true
-    → eachReady s (os ++ ps) ≡ true
-ready-append s [] ps e f = f
-ready-append s (o ∷ os) ps e f =
-    and-intro (and-left (executable (s .characters) o) (eachReady (receive s o .state) os) e)
-    (ready-append (receive s o .state) os ps
-    (and-right (executable (s .characters) o) (eachReady (receive s o .state) os) e) f)
-
 -- ---- the whole sequence
 
 module _ (heap : List Operation) (c : Consistent heap) (r : every inRange heap ≡ true)
@@ -110,8 +96,7 @@ module _ (heap : List Operation) (c : Consistent heap) (r : every inRange heap �
         arith,
         leb-true capacity (length (presentInserts s)) e,
         known-length s,
-        ap
-            (λ (ps : List Operation). length (inserts ps)) none,
+        ap (λ (ps : List Operation). length (inserts ps)) none,
         more,
       ))
     where
@@ -137,7 +122,7 @@ module _ (heap : List Operation) (c : Consistent heap) (r : every inRange heap �
           (listed-insert heap (h .characters (origin (w .0)) (Memᴰ·map origin (w .1)))))
 
       apart : distinct same (identifiers (s .characters)) ≡ true
-      apart = Rattle.convergence.proofs.Soundness.standing (f .sound) .apart
+      apart = standing (f .sound) .apart
 
       more : suc (length (s .characters)) ≤ capacity
       more =
@@ -148,8 +133,7 @@ module _ (heap : List Operation) (c : Consistent heap) (r : every inRange heap �
             arith,
             k,
             length-map (s .characters) (λ (b : Character). b .id),
-            length-map (inserts heap)
-                (λ (j : Insert). j .id),
+            length-map (inserts heap) (λ (j : Insert). j .id),
           )
   room s f h none (toggle t) m d = refl
 
@@ -173,8 +157,7 @@ module _ (heap : List Operation) (c : Consistent heap) (r : every inRange heap �
         form = f;
         grown = g;
         progress = progress-none heap (g .standing);
-        settled = λ o m. absurd
-            (List·Memᴰ·not-nil m);
+        settled = λ o m. absurd (List·Memᴰ·not-nil m);
         none = none;
       }
   arrives (o ∷ os) s f g h none among e =
@@ -199,21 +182,10 @@ module _ (heap : List Operation) (c : Consistent heap) (r : every inRange heap �
         none = z .none;
       }
 
-  -- operations that all have what they need at the start
-  pub all-ready : (os : List Operation) (s : State) → wellFormed s ≡ true → Grown (s .characters) → Of heap s
-      → s .pending ≡ [] → ((o : Operation) → List·Memᴰ o os → List·Memᴰ o heap)
-      → ((o : Operation) → List·Memᴰ o os → executable (s .characters) o ≡ true) → eachReady s os ≡ true
-  unfolding outcome
-  all-ready [] s f g h none among e = refl
-  all-ready (o ∷ os) s f g h none among e =
-      let m = among o (List·Memᴰ·head refl) in
-      let t = taken heap s o g f (every-member inRange r m) (of-unconflicting heap c s h o m)
-      (e o (List·Memᴰ·head refl)) (room s (formed s f) h none o m) m (h .pending) in
-      and-intro (e o (List·Memᴰ·head refl))
-      (all-ready os (receive s o .state) (form-kept s (receiving o) f) (t .grown) (of-later heap s o h t)
-      (only-none (receive s o .state .pending) (λ p n. List·Memᴰ·not-nil (subst (List·Memᴰ p) none (t .waiting p n))))
-      (λ p n. among p (List·Memᴰ·tail n))
-      (λ p n. progress-ready (t .progress) p (e p (List·Memᴰ·tail n))))
+  of-empty : (n : ℕ) → Of heap (initial n)
+  unfolding initial
+  of-empty n =
+      record { characters = λ i m. absurd (List·Memᴰ·not-nil m); pending = λ o m. absurd (List·Memᴰ·not-nil m) }
 
   -- from an empty replica
   pub arrives-empty : (n : ℕ) → siteNumber n ≡ true → (os : List Operation)
@@ -222,11 +194,7 @@ module _ (heap : List Operation) (c : Consistent heap) (r : every inRange heap �
   unfolding initial
   arrives-empty n q os among e =
       arrives os (initial n) (empty-formed n ∙ q) grown-empty
-      (record {
-        characters = λ i m. absurd (List·Memᴰ·not-nil m);
-        pending = λ o m. absurd
-            (List·Memᴰ·not-nil m);
-      }) refl among e
+      (of-empty n) refl among e
 
   pub arrived-complete : (n : ℕ) → siteNumber n ≡ true → (os : List Operation)
       → ((o : Operation) → List·Memᴰ o os → List·Memᴰ o heap) → eachReady (initial n) os ≡ true
@@ -246,12 +214,86 @@ module _ (heap : List Operation) (c : Consistent heap) (r : every inRange heap �
           → executable (received (initial n) os .characters) o ≡ true
       ready o u = crossed-ready (received (initial n) os .characters) o u
 
-  pub built-as-received : (n : ℕ) → siteNumber n ≡ true → (os : List Operation)
+  pub received-built : (n : ℕ) → siteNumber n ≡ true → (os : List Operation)
       → ((o : Operation) → List·Memᴰ o os → List·Memᴰ o heap) → eachReady (initial n) os ≡ true
       → ((o : Operation) → List·Memᴰ o heap → List·Memᴰ o os ⊎
       ((executable (received (initial n) os .characters) o ≡ false) ⊎
       (crossed (received (initial n) os .characters) o ≡ true)))
       → building heap .characters ≡ received (initial n) os .characters
-  built-as-received n q os among e left =
+  received-built n q os among e left =
       complete-unique heap c (building heap .characters) (received (initial n) os .characters)
       (built-complete heap r c) (arrived-complete n q os among e left)
+
+  -- ---- what was carried out, as a sequence
+
+  -- an insert is new
+  abbrev New : List Character → Operation → Type 0
+  New cs (insert i) = held cs (i .id) ≡ false
+  New cs (toggle t) = Unit
+
+  -- where nothing waits, a new operation that has all it needs, in order, does what it does in the rule
+  does : (s : State) → wellFormed s ≡ true → Grown (s .characters) → Of heap s → s .pending ≡ [] → (o : Operation)
+      → List·Memᴰ o heap → New (s .characters) o → executable (s .characters) o ≡ true
+      → crossed (s .characters) o ≡ false → unplaceable (s .characters) o ≡ false
+      → receive s o .state .characters ≡ integrate (s .characters) o
+  unfolding unchanged integrate crossed origin
+  does s f g h none o m new ready uncrossed placeable = go o m new ready uncrossed placeable (either (duplicate s o))
+    where
+      known : (p : Operation) → New (s .characters) p → executable (s .characters) p ≡ true
+          → crossed (s .characters) p ≡ false → Settled (s .characters) p → s .characters ≡ integrate (s .characters) p
+      known (insert i) n e x (inl k) =
+          let w = Memᴰ·of-map origin (s .characters) k in
+          clash (subst (λ (j : Insert). held (s .characters) (j .id) ≡ true) (w .2) (held-id (s .characters) (w .1))) n
+      known (insert i) n e x (inr k) = clash (and-intro e (not-intro (k .2))) x
+      known (toggle t) n e x w = sym (toggle-again (s .characters) t (g .standing) w)
+
+      go : (p : Operation) → List·Memᴰ p heap → New (s .characters) p → executable (s .characters) p ≡ true
+          → crossed (s .characters) p ≡ false → unplaceable (s .characters) p ≡ false
+          → (duplicate s p ≡ true) ⊎ (duplicate s p ≡ false)
+          → receive s p .state .characters ≡ integrate (s .characters) p
+      go p k n e x y (inl d) =
+          ap (λ (r : Outcome Answer). r .state .characters) (received-known s p f (every-member inRange r k) d)
+          ∙ known p n e x (known-settled s (formed s f) p e d)
+      go p k n e x y (inr d) =
+          ap (λ (r : Outcome Answer). r .state .characters)
+          (received-done s p f (every-member inRange r k) d (of-unconflicting heap c s h p k) x y e
+          (room s (formed s f) h none p k d))
+          ∙ carried-alone s p none
+
+  new-of : {cs : List Character} {os ps : List Operation} (o : Operation) → Extract o os ps → Offered cs ps → New cs o
+  unfolding inRange
+  new-of {cs} {os} (insert i) e f =
+      fresh-unheld cs os i (every-member inRange (f .ranged) (extract-itself e)) (offered-fresh e f)
+  new-of (toggle t) e f = tt
+
+  ready-drained : {cs : List Character} {ps : List Operation} {d : Drained} → Draining cs ps d → (s : State)
+      → Offered cs ps → wellFormed s ≡ true → Grown (s .characters) → s .characters ≡ cs → Of heap s → s .pending ≡ []
+      → ((o : Operation) → List·Memᴰ o ps → List·Memᴰ o heap) → eachReady s (d .integrated) ≡ true
+  unfolding drained andDiscarded andIntegrated outcome
+  ready-drained (stop e) s off f g q h none among = refl
+  ready-drained (discard t v why k) s off f g q h none among =
+      ready-drained k s (offered-out (t .operation) (v .extracted) off) f g q h none
+      (λ o m. among o (extract-old (v .extracted) m))
+  ready-drained {cs} (carry {d = d} t v uncrossed placeable k) s off f g q h none among =
+      let o = t .operation in
+      let m = among o (extract-itself (v .extracted)) in
+      let ready = subst (λ ds. executable ds o ≡ true) (sym q) (v .passed) in
+      let w =
+      taken heap s o g f (every-member inRange r m) (of-unconflicting heap c s h o m) ready
+      (room s (formed s f) h none o m) m (h .pending)
+      in
+      let done =
+      does s f g h none o m (subst (λ ds. New ds o) (sym q) (new-of o (v .extracted) off)) ready
+      (subst (λ ds. crossed ds o ≡ false) (sym q) uncrossed) (subst (λ ds. unplaceable ds o ≡ false) (sym q) placeable)
+      in
+      and-intro ready
+      (ready-drained k (receive s o .state) (offered-carry o (v .extracted) off (v .passed) uncrossed placeable)
+      (form-kept s (receiving o) f) (w .grown) (done ∙ ap (λ ds. integrate ds o) q) (of-later heap s o h w)
+      (only-none (receive s o .state .pending) (λ p n. List·Memᴰ·not-nil (subst (List·Memᴰ p) none (w .waiting p n))))
+      (λ p n. among p (extract-old (v .extracted) n)))
+
+  pub ready-built : (n : ℕ) → siteNumber n ≡ true → eachReady (initial n) (building heap .integrated) ≡ true
+  unfolding building initial
+  ready-built n q =
+      ready-drained (draining [] (once heap)) (initial n) (heap-offered heap r c) (empty-formed n ∙ q) grown-empty
+      refl (of-empty n) refl (λ o m. once-among heap m)

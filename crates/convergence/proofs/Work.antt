@@ -1,4 +1,5 @@
--- For the code of Req 08: what a loop keeps that carries a heap out in any order, and what it has at its end.
+-- A loop that carries a heap out in any order keeps `Working`, and where none that is left has all it needs it has
+-- built what the rule builds: uniqueness is all that the order of the code asks for.
 use mathlib.Core.Path.{_≡_, sym, subst}
 use mathlib.Core.Bool.{true, false}
 use mathlib.Core.Logic.{_⊎_, inl, inr, ⊎-elim}
@@ -11,12 +12,10 @@ use Rattle.lists.specs.Lists.{any, every}
 use Rattle.lists.proofs.Members.{any-none}
 use Rattle.convergence.specs.Agreement.{Grown}
 use Rattle.convergence.proofs.Extract.{Extract, extract-itself, extract-old, extract-cases}
-use Rattle.convergence.proofs.Growth.{grown-empty}
-use Rattle.woot.specs.Building.{once, building}
+use Rattle.woot.specs.Building.{building}
 use Rattle.convergence.proofs.Unique.{Consistent}
-use Rattle.convergence.proofs.Progress.{Progress, progress-none, progress-on, Settled, settled-later, stopped, completed}
+use Rattle.convergence.proofs.Progress.{Progress, progress-on, Settled, settled-later, stopped, completed}
 use Rattle.convergence.proofs.Offering.{Offered, offered-out, carried}
-use Rattle.convergence.proofs.Heap.{among-once, once-among, heap-offered}
 use Rattle.convergence.proofs.Counting.{complete-built}
 
 -- the characters so far, and the operations that are left
@@ -26,16 +25,6 @@ pub record Working (heap : List Operation) (cs : List Character) (left : List Op
   pub offered : Offered cs left
   pub among : (o : Operation) → List·Memᴰ o left → List·Memᴰ o heap
   pub settled : (o : Operation) → List·Memᴰ o heap → Settled cs o ⊎ List·Memᴰ o left
-
-pub work-begins : (heap : List Operation) → every inRange heap ≡ true → Consistent heap → Working heap [] (once heap)
-work-begins heap r c =
-    record {
-      grown = grown-empty;
-      progress = progress-none heap (grown-empty .standing);
-      offered = heap-offered heap r c;
-      among = λ o m. once-among heap m;
-      settled = λ o m. inr (among-once heap m);
-    }
 
 -- one that has all it needs and meets condition 8 is put aside
 pub work-aside : {heap : List Operation} {cs : List Character} {os ps : List Operation} (o : Operation)
