@@ -2,3 +2,4 @@ pub mod Situations
 pub mod Text
 pub mod Ends
 pub mod PasteCases
+pub mod BuildCases

@@ -20,3 +20,4 @@ pub mod Histories
 pub mod Situations
 pub mod Pasting
 pub mod PasteCases
+pub mod BuildCases
