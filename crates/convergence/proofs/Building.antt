@@ -29,7 +29,7 @@ use Rattle.woot.specs.Building.{once, building, leftOut, built, heapFull, disag
 use Rattle.lists.specs.Lists.{any, every, keep}
 use Rattle.lists.proofs.Tests.{some-eq, no-some, either, agree, clash, fails, and-intro, and-left, and-right, not-intro}
 use Rattle.lists.proofs.Members.{any-member, member-any, every-member, member-every, keep-member, member-keep}
-use Rattle.convergence.specs.Building.{BuildRefuses, BuildNumbers, BuildDoes, RefusedUnbuilt, HeapDisagrees, eachReady, FromHeap, AllOfHeap, BuiltAsReceived, BuiltSequence, LeftOutAre, Needs, LeftOutDrags, TogglesLeftOut, LeftOutCount, LeftOutOnce, Reordered, BuiltInAnyOrder, RepeatsCountOnce, BuiltClock, BuiltFormed, BuiltNothing, BuildBounded}
+use Rattle.convergence.specs.Building.{BuildRefuses, BuildNumbers, BuildDoes, RefusedUnbuilt, HeapDisagrees, eachReady, FromHeap, AllOfHeap, BuiltAsReceived, BuiltAsExhausted, BuiltSequence, LeftOutAre, Needs, LeftOutDrags, TogglesLeftOut, LeftOutCount, LeftOutOnce, Reordered, BuiltInAnyOrder, RepeatsCountOnce, BuiltClock, BuiltFormed, BuiltNothing, BuildBounded}
 use Rattle.convergence.specs.Agreement.{Grown}
 use Rattle.convergence.proofs.Clocks.{heard-all-number}
 use Rattle.convergence.proofs.Faithful.{inserts-append, toggles-append}
@@ -41,7 +41,7 @@ use Rattle.convergence.proofs.Refusals.{decided-exactly}
 use Rattle.convergence.proofs.Replies.{answer-number, none-first, turned-undone, never-refused}
 use Rattle.convergence.proofs.Equal.{insert-same, insert-refl, operation-same, operation-refl}
 use Rattle.convergence.proofs.Heap.{insert-listed, listed-insert, once-among, among-once, agreeing, heap-ended}
-use Rattle.convergence.proofs.Sequences.{ready-built}
+use Rattle.convergence.proofs.Sequences.{received-built, ready-built}
 use Rattle.convergence.proofs.Built.{inside-not, left-to, left-from, heap-received, heap-formed, once-inserts}
 use Rattle.convergence.proofs.Counting.{subject, left-unheld}
 use Rattle.convergence.proofs.Heaped.{Accepted, wholly, none-accepted, build-turned, Verdict, turned, accepted, verdict}
@@ -128,6 +128,14 @@ built-as-received n m heap os h site from ready all =
     ap (λ (o : BuildOutcome). o .state .characters) (b .whole)
     ∙ heap-received m heap os site (b .well .ranged) (b .well .agreed) (b .well .few-inserts) from ready all
 
+pub built-as-exhausted : BuiltAsExhausted
+unfolding built
+built-as-exhausted n m heap os h site from ready rest =
+    let b = built-of n heap h in
+    let c = agreeing heap (b .well .agreed) in
+    ap (λ (o : BuildOutcome). o .state .characters) (b .whole)
+    ∙ received-built heap c (b .well .ranged) (b .well .few-inserts) m site os from ready rest
+
 pub built-sequence : BuiltSequence
 unfolding leftOut
 built-sequence n m heap h site =
@@ -212,11 +220,9 @@ pub accepted-whole : (n : ℕ) (heap : List Operation) → Accepted n heap → b
 unfolding build decided buildChecks heapFull
 accepted-whole n heap a =
     let ranges : (siteNumber n && every inRange heap) ≡ true = and-intro (a .site) (a .ranged) in
-    let inserted : ltb capacity (length (inserts heap)) ≡ false = le-ltb capacity (length (inserts heap))
-    (a .few-inserts) in
-    let toggled : ltb capacity (length (togglesAmong heap)) ≡ false = le-ltb capacity (length (togglesAmong heap))
-    (a .few-toggles) in
-    let agreed : disagreeing (inserts heap) ≡ false = a .agreed in
+    let inserted = le-ltb capacity (length (inserts heap)) (a .few-inserts) in
+    let toggled = le-ltb capacity (length (togglesAmong heap)) (a .few-toggles) in
+    let agreed = a .agreed in
     rw (ranges, inserted, toggled, agreed)
 
 -- two that are accepted and have the same operations
@@ -240,7 +246,8 @@ alike-disagrees {heap} {other} a h =
     let w = heap-disagrees heap .0 h in
     heap-disagrees other .1 (w .0, w .1, a (insert (w .0)) .0 (w .2), a (insert (w .1)) .0 (w .3), w .4, w .5)
 
--- as many of every kind, so the same operations
+-- ---- in another order
+
 some-member : {A : Type 0} (xs : List A) → 0 < length xs → (x : A) × List·Memᴰ x xs
 some-member [] h = absurd (omega arith)
 some-member (x ∷ xs) h = (x, List·Memᴰ·head refl)
@@ -249,6 +256,7 @@ member-some : {A : Type 0} {x : A} (xs : List A) → List·Memᴰ x xs → 0 < l
 member-some [] m = absurd (List·Memᴰ·not-nil m)
 member-some (y ∷ ys) m = omega arith
 
+-- as many of every kind, so the same operations
 reordered-member : {heap other : List Operation} → Reordered heap other → (o : Operation) → List·Memᴰ o heap
     → List·Memᴰ o other
 reordered-member {heap} {other} r o m =

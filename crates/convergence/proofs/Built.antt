@@ -30,7 +30,7 @@ use Rattle.convergence.proofs.Forms.{Formed, reformed}
 use Rattle.convergence.proofs.Heap.{listed-insert, insert-listed, once-among, among-once, heap-ended, built-complete, agreeing}
 use Rattle.woot.specs.Ranges.{within, siteNumber, siteInRange, characterId, characterInRange, inRange}
 use Rattle.woot.specs.State.{initial}
-use Rattle.lists.proofs.Tests.{either, clash, and-intro, and-left, and-right}
+use Rattle.lists.proofs.Tests.{either, clash, and-intro, and-left, and-right, fails}
 use Rattle.convergence.specs.Agreement.{Grown}
 use Rattle.convergence.proofs.Places.{above-upper, above-lower, held-id, Holding, is-begin, is-character, is-end, holding, held-begin, held-end}
 use Rattle.convergence.proofs.Agreement.{agreement-held}
@@ -117,7 +117,7 @@ module _ (heap : List Operation) (c : Consistent heap) {cs ds : List Character} 
           (not (above ds (i .previous) (i .next))) k))))
           w
   stays-out (toggle t) w =
-      inl (⊎-elim (λ k. Rattle.lists.proofs.Tests.fails (held cs (t .target)) (λ h. clash (held-in (t .target) h) k))
+      inl (⊎-elim (λ k. fails (held cs (t .target)) (λ h. clash (held-in (t .target) h) k))
       (λ k. clash k refl) w)
 
 pub heap-received : (m : ℕ) (heap os : List Operation) → siteNumber m ≡ true → every inRange heap ≡ true

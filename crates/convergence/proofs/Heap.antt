@@ -25,6 +25,7 @@ use Rattle.convergence.proofs.Unique.{Consistent, Complete}
 use Rattle.convergence.proofs.Progress.{completed}
 use Rattle.convergence.proofs.Offering.{Offered, Ended, ended}
 use Rattle.convergence.proofs.Drains.{draining}
+use borrow.Author.Tests.{not-false}
 
 -- ---- the inserts among operations
 
@@ -131,5 +132,5 @@ agreeing heap d i j m n e =
     let a = any-none (λ i. any (λ j. same (i .id) (j .id) && not (sameInsert i j)) (inserts heap)) d
     (listed-insert heap m) in
     let b = any-none (λ j. same (i .id) (j .id) && not (sameInsert i j)) a (listed-insert heap n) in
-    insert-same i j (borrow.Author.Tests.not-false (sameInsert i j)
+    insert-same i j (not-false (sameInsert i j)
     (and-false (same (i .id) (j .id)) (not (sameInsert i j)) b (eq-same e)))

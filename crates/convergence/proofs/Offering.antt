@@ -137,6 +137,7 @@ fewer-inserts : (o : Operation) {os ps : List Operation} → Extract o os ps →
 fewer-inserts (insert i) e = omega (arith, extract-length (inserts-extract e))
 fewer-inserts (toggle t) e = omega (arith, ap length (inserts-same e))
 
+-- what a draining ends in
 pub record Ended (heap : List Operation) (cs : List Character) (ps : List Operation) (d : Drained) : Type 0 where
   pub grown : Grown (d .characters)
   pub progress : Progress heap cs (d .characters)

@@ -17,7 +17,7 @@ use Rattle.woot.specs.Identifiers.{same}
 use Rattle.woot.specs.Operations.{origin, character, toggledBy}
 use Rattle.woot.specs.Placing.{held, above, integrateToggle}
 use Rattle.woot.specs.Pending.{executable, crossed, unplaceable}
-use Rattle.lists.proofs.Tests.{clash, either, and-intro, and-left, and-right}
+use Rattle.lists.proofs.Tests.{clash, either, and-intro, and-left, and-right, side}
 use Rattle.convergence.specs.Agreement.{Standing, Grown}
 use Rattle.convergence.proofs.Extract.{Extract, extract-old, extract-cases, extract-map}
 use Rattle.convergence.proofs.Places.{Holding, is-begin, is-character, is-end, holding, held-begin, held-end, held-id, above-upper, above-lower}
@@ -27,6 +27,7 @@ use Rattle.convergence.proofs.Agreement.{agreement-held}
 use Rattle.convergence.proofs.Listing.{one-meaning}
 use Rattle.convergence.proofs.Growth.{grown-placeable}
 use Rattle.convergence.proofs.Unique.{Complete}
+use Rattle.convergence.proofs.Identifiers.{same-eq}
 
 -- where a character's toggles come from: none, an earlier list's, or an operation's
 abbrev pub Turned : List Operation → List Character → Character → Type 0
@@ -143,7 +144,7 @@ progress-toggle {heap} {cs} t s m =
 
     which : (n k l : ℕ) → l ≡ max n k → (l ≡ n) ⊎ (l ≡ k)
     which n k l e =
-        ⊎-elim (λ h. inr (omega (arith, h))) (λ h. inl (omega (arith, h))) (Rattle.lists.proofs.Tests.side n k)
+        ⊎-elim (λ h. inr (omega (arith, h))) (λ h. inl (omega (arith, h))) (side n k)
 
     source : (b : Character) → List·Memᴰ b cs → (same (t .target) (b .id) ≡ true) ⊎ (same (t .target) (b .id) ≡ false)
         → Turned heap cs (toggledBy t b)
@@ -152,7 +153,7 @@ progress-toggle {heap} {cs} t s m =
         (λ h. inr (inr (
           t,
           m,
-          Rattle.convergence.proofs.Identifiers.same-eq (t .target) (b .id) e ∙ sym (toggled-id t b),
+          same-eq (t .target) (b .id) e ∙ sym (toggled-id t b),
           h,
         )))
         (which (b .toggles) (t .toggles) (toggledBy t b .toggles) (toggled-toggles t b ∙ rw e))

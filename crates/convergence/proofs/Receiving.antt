@@ -60,6 +60,7 @@ received-done s o f r d c x p e l = rw (f, r, d, c, x, p, e, l)
 
 -- ---- what it comes to
 
+-- what the call leaves
 pub record Taken (heap : List Operation) (s : State) (o : Operation) (r : Outcome Answer) : Type 0 where
   pub grown : Grown (r .state .characters)
   pub progress : Progress heap (s .characters) (r .state .characters)
@@ -82,8 +83,8 @@ toggled-here t cs h =
       w .0,
       w .1,
       same-eq (t .target) (w .0 .id) (and-left (same (t .target) (w .0 .id)) (leb (t .toggles) (w .0 .toggles)) (w .2)),
-      leb-true (t .toggles)
-          (w .0 .toggles) (and-right (same (t .target) (w .0 .id)) (leb (t .toggles) (w .0 .toggles)) (w .2)),
+      leb-true (t .toggles) (w .0 .toggles)
+          (and-right (same (t .target) (w .0 .id)) (leb (t .toggles) (w .0 .toggles)) (w .2)),
     )
 
 -- what waits does not have all it needs
@@ -95,8 +96,7 @@ not-waiting s f o ready h =
     (any-none (executable (s .characters)) (f .unready) (w .1))
 
 pub known-settled : (s : State) → Formed s → (o : Operation) → executable (s .characters) o ≡ true
-    → duplicate s o ≡ true
-    → Settled (s .characters) o
+    → duplicate s o ≡ true → Settled (s .characters) o
 unfolding duplicate
 known-settled s f (insert i) ready d =
     ⊎-elim (λ h. inl (inserted-here i (s .characters) h)) (λ h. absurd (not-waiting s f (insert i) ready h))
@@ -127,9 +127,7 @@ acted : (heap : List Operation) (s : State) (o : Operation) → Grown (s .charac
     → ((p : Operation) → List·Memᴰ p (s .pending) → List·Memᴰ p heap) → Taken heap s o (carryOut Done s o)
 unfolding carryOut afterDrain insertCarried withCharacters integrate unplaceable
 acted heap s (insert i) g f r d c ready uncrossed m among =
-    let fresh : any (same (i .id))
-    (identifiers (s .characters) ++ pendingIds (s .pending)) ≡ false = fresh-insert s i d c in
-    let off : Offered (s .characters) (insert i ∷ s .pending) = offered-insert s i f r fresh in
+    let off : Offered (s .characters) (insert i ∷ s .pending) = offered-insert s i f r (fresh-insert s i d c) in
     let y = carried heap {cs = s .characters} {os = s .pending} {ps = insert i ∷ s .pending}
     (insert i) front off g m ready uncrossed (grown-placeable (s .characters) i g ready uncrossed) in
     let z = ended heap (draining (integrateInsert (s .characters) i) (s .pending)) (y .offered) (y .grown) among in
@@ -151,8 +149,9 @@ acted heap s (insert i) g f r d c ready uncrossed m among =
               (f .sound .apart);
         }
 acted heap s (toggle t) g f r d c ready uncrossed m among =
-    let off : Offered (s .characters)
-    (toggle t ∷ s .pending) = record { ranged = and-intro r (f .sound .pending-ranges); apart = f .sound .apart } in
+    let off : Offered (s .characters) (toggle t ∷ s .pending) =
+    record { ranged = and-intro r (f .sound .pending-ranges); apart = f .sound .apart }
+    in
     let y = carried heap {cs = s .characters} {os = s .pending} {ps = toggle t ∷ s .pending}
     (toggle t) front off g m ready uncrossed toggle-placed in
     record {

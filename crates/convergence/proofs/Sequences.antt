@@ -3,7 +3,7 @@
 use Prim.Native.Nat.{ℕ, suc, _≤_}
 use native.Mathlib.Omega.{arith}
 use mathlib.Core.Path.{_≡_, refl, ap, sym, _∙_, subst}
-use mathlib.Core.Bool.{Bool, true, false, _&&_, not}
+use mathlib.Core.Bool.{true, false, _&&_, not, false≢true}
 use mathlib.Core.Logic.{_⊎_, inl, inr, ⊎-elim}
 use mathlib.Core.List.{List, [], _∷_, map, List·Memᴰ, List·Memᴰ·head, List·Memᴰ·tail, List·Memᴰ·cases-cons, List·Memᴰ·not-nil, Memᴰ·map, Memᴰ·of-map, List·Memᴰ·append-cases}
 use lib.Dec.{leb}
@@ -37,7 +37,7 @@ use Rattle.woot.specs.Building.{building, once}
 use Rattle.convergence.specs.Building.{received, eachReady}
 use Rattle.convergence.proofs.Equal.{insert-refl}
 use Rattle.convergence.proofs.Unique.{Consistent, Complete, complete-unique}
-use Rattle.convergence.proofs.Progress.{Progress, progress-none, progress-on, Settled, settled-later, completed}
+use Rattle.convergence.proofs.Progress.{Progress, progress-none, progress-on, Settled, settled-later, completed, stopped}
 use Rattle.convergence.proofs.Heap.{insert-listed, listed-insert, built-complete, heap-offered, once-among}
 use Rattle.convergence.proofs.Receiving.{Taken, taken, received-known, received-done, known-settled, carried-alone, toggle-again}
 use Rattle.woot.specs.declared.Answer.{Answer}
@@ -80,7 +80,7 @@ of-later heap s o f t =
 crossed-ready : (cs : List Character) (o : Operation) → crossed cs o ≡ true → executable cs o ≡ true
 unfolding crossed
 crossed-ready cs (insert i) e = and-left (executable cs (insert i)) (not (above cs (i .previous) (i .next))) e
-crossed-ready cs (toggle t) e = absurd (mathlib.Core.Bool.false≢true e)
+crossed-ready cs (toggle t) e = absurd (false≢true e)
 
 -- ---- the whole sequence
 
@@ -137,6 +137,7 @@ module _ (heap : List Operation) (c : Consistent heap) (r : every inRange heap �
           )
   room s f h none (toggle t) m d = refl
 
+  -- where a sequence leads from s to t
   pub record Arrived (s t : State) (os : List Operation) : Type 0 where
     pub form : wellFormed t ≡ true
     pub grown : Grown (t .characters)
@@ -208,7 +209,7 @@ module _ (heap : List Operation) (c : Consistent heap) (r : every inRange heap �
       completed heap (z .grown) (z .progress)
       (λ o m. ⊎-elim (λ k. inl (z .settled o k))
       (λ k. ⊎-elim (λ u. inr u)
-      (λ u. inl (Rattle.convergence.proofs.Progress.stopped (z .grown) o (ready o u) (inl u))) k) (left o m))
+      (λ u. inl (stopped (z .grown) o (ready o u) (inl u))) k) (left o m))
     where
       ready : (o : Operation) → crossed (received (initial n) os .characters) o ≡ true
           → executable (received (initial n) os .characters) o ≡ true

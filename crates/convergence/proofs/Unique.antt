@@ -70,11 +70,10 @@ module _ (heap : List Operation) (consistent : Consistent heap) where
     reaches zero c m b = absurd (omega arith)
     reaches (suc n) c m b =
         q .closed (origin c) (among (origin c) (Memᴰ·map origin m))
-        (sym (agreement-held cs ds (g) (q .grown) (one-meaning-of (among) (q .among)) (c .previous)
-        (c .next) previous next
+        (sym (agreement-held cs ds g (q .grown) (one-meaning-of among (q .among)) (c .previous) (c .next) previous next
         (held-there n (reaches n) (c .previous) previous (omega (arith, g .births .after-previous c m)))
         (held-there n (reaches n) (c .next) next (omega (arith, g .births .after-next c m))))
-        ∙ between-neighbours (g) m)
+        ∙ between-neighbours g m)
       where
         previous : held cs (c .previous) ≡ true
         previous = previous-held cs (g .standing) m

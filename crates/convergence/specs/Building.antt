@@ -88,6 +88,16 @@ BuiltAsReceived =
     FromHeap heap os → eachReady (initial m) os ≡ true → AllOfHeap heap os →
     build n heap .state .characters ≡ received (initial m) os .characters
 
+-- the same said without what is left out: whoever receives so until nothing of the heap that was not received could be
+-- carried out has those rows
+abbrev pub BuiltAsExhausted : Type 0
+BuiltAsExhausted =
+    (n m : ℕ) (heap os : List Operation) → reply (build n heap .answer) .word ≡ done → siteNumber m ≡ true →
+    FromHeap heap os → eachReady (initial m) os ≡ true →
+    let cs = received (initial m) os .characters in
+    ((o : Operation) → List·Memᴰ o heap → List·Memᴰ o os ⊎ ((executable cs o ≡ false) ⊎ (crossed cs o ≡ true))) →
+    build n heap .state .characters ≡ cs
+
 -- there is such a sequence: what was carried out, in the order of the rule
 abbrev pub BuiltSequence : Type 0
 BuiltSequence =
