@@ -129,7 +129,7 @@ fn read_as(kind: Kind, line: &[u8]) -> Read
 }
 
 // The first byte of a line; of an empty one 0, which is no head word.
-fn first_byte(line: &[u8]) -> u8
+pub fn first_byte(line: &[u8]) -> u8
     ensures { λ r. ⌜ r ≡ getD (now (line .entry)) 0 0 ⌝ }
 {
     if line.len() == 0 {

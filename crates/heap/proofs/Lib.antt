@@ -1,0 +1,4 @@
+pub mod Columns
+pub mod Inserts
+pub mod Gathering
+pub mod Keeping

@@ -1,0 +1,4 @@
+pub mod Format
+pub mod Columns
+pub mod Gathering
+pub mod Keeping
