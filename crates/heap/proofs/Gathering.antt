@@ -1,15 +1,15 @@
--- The lines of a heap read one after another: the lines that are done and those that are left are the whole, what is told is
--- told of those that are done, and as long as they are in range the arrays hold them.
+-- The lines of a heap read one after another: the lines that are done and those that are left are the whole. What is
+-- told is told of those that are done, and as long as they are in range the arrays hold them.
 use mathlib.Core.Path.{_≡_, refl, sym, ap, _∙_}
 use mathlib.Core.List.{List, [], _∷_, _++_, map, map-append, append-nil}
 use mathlib.Core.Bool.{Bool, true, false, _&&_, cond}
-use mathlib.Core.Logic.{⊎-elim}
+use mathlib.Core.Logic.{_⊎_, inl, inr, ⊎-elim}
 use Prim.Native.Nat.{ℕ, _+_, _≤_, _<_}
 use native.Mathlib.Omega.{arith}
 use lib.Dec.{eqb}
 use lib.ListN.{length, take, getD, length-append, length-map}
 use lib.Seq.{append-snoc}
-use borrow.Author.Tests.{eqb-true, eqb-false, eq-eqb, ne-eqb}
+use borrow.Author.Tests.{eqb-false, eq-eqb, ne-eqb}
 use Rattle.lists.specs.Lists.{every}
 use Rattle.lists.proofs.Tests.{either, clash, and-left, and-right, or-cases}
 use Rattle.lists.proofs.Members.{every-append}
@@ -23,11 +23,11 @@ use Rattle.woot.specs.Operations.{inserts, togglesAmong}
 use Rattle.woot.specs.Ranges.{inRange}
 use Rattle.woot.specs.Memory.{characterSlots}
 use Rattle.lines.specs.Lines.{ended, firstLine, rest, lines, closed}
-use Rattle.lines.specs.Fields.{fields, hasLayout, valuesOf}
+use Rattle.lines.specs.Fields.{fields, hasLayout}
 use Rattle.lines.proofs.Lines.{lines-ended, closed-rest, closed-unended, rest-shorter}
 use Rattle.lines.proofs.Spelling.{spelled}
 use Rattle.codec.specs.declared.Read.the-variants.{Operation as readsAs, Refused as readRefused}
-use Rattle.codec.specs.Operations.{insertHead, toggleHead, deleteHead, isInsert, isToggle, isDelete, operationOf}
+use Rattle.codec.specs.Operations.{isInsert, isToggle, isDelete, operationOf}
 use Rattle.codec.specs.Calls.{asWritten, lineLaidOut, readAs, readLine}
 use Rattle.codec.proofs.Judging.{read-layout, read-range, read-operation}
 use Rattle.heap.specs.declared.Gathered.{Gathered}
@@ -89,27 +89,34 @@ module _ (g : Gathered) (o : Operation) (passes : inRange o ≡ true) {r : Gathe
   unfolding andOne
   kept-toggle t e q = q ∙ rw e (ap (countedOne g false) (sym (rw e at passes)))
 
-module _ {g : Gathered} (o : Operation) (os : List Operation) (p : g ≡ gatheredOf os) {xs ts : List ℕ} (h : Held xs ts os) where
+module _
+    {g : Gathered} (o : Operation) (os : List Operation) (p : g ≡ gatheredOf os) {xs ts : List ℕ}
+    (h : Held xs ts os) where
   pub held-insert : (i : Insert) → o ≡ insert i → {ys : List ℕ}
-      → ((is : List Insert) → InsertsIn xs (take characterSlots is) → g .inserts ≡ length is → InsertsIn ys (take characterSlots (is ++ i ∷ [])))
+      → ((is : List Insert) → InsertsIn xs (take characterSlots is) → g .inserts ≡ length is
+      → InsertsIn ys (take characterSlots (is ++ i ∷ [])))
       → Held ys ts (os ++ o ∷ [])
   unfolding gatheredOf
   held-insert i e k =
       rw e
       (record {
-        inserted = rw (inserts-append os (insert i ∷ [])) (k (inserts os) (h .inserted) (ap (λ (x : Gathered). x .inserts) p));
+        inserted =
+            rw (inserts-append os (insert i ∷ [])) (k (inserts os) (h .inserted) (ap (λ (x : Gathered). x .inserts) p));
         toggled = rw (toggles-append os (insert i ∷ []), append-nil (togglesAmong os)) (h .toggled);
       })
 
   pub held-toggle : (t : Toggle) → o ≡ toggle t → {us : List ℕ}
-      → ((vs : List Toggle) → TogglesIn ts (take characterSlots vs) → g .toggles ≡ length vs → TogglesIn us (take characterSlots (vs ++ t ∷ [])))
+      → ((vs : List Toggle) → TogglesIn ts (take characterSlots vs) → g .toggles ≡ length vs
+      → TogglesIn us (take characterSlots (vs ++ t ∷ [])))
       → Held xs us (os ++ o ∷ [])
   unfolding gatheredOf
   held-toggle t e k =
       rw e
       (record {
         inserted = rw (inserts-append os (toggle t ∷ []), append-nil (inserts os)) (h .inserted);
-        toggled = rw (toggles-append os (toggle t ∷ [])) (k (togglesAmong os) (h .toggled) (ap (λ (x : Gathered). x .toggles) p));
+        toggled =
+            rw (toggles-append os (toggle t ∷ []))
+            (k (togglesAmong os) (h .toggled) (ap (λ (x : Gathered). x .toggles) p));
       })
 
 -- ---- a line, by what `codec` answers
@@ -119,37 +126,45 @@ module _ (line : List ℕ) where
   unfolding readLine lineSaid
   by-checks = refl
 
-  pub was-read : (o : Operation) → readLine line ≡ readsAs o → (lineLaidOut line ≡ true) × (lineSaid line ≡ o) × (inRange o ≡ true)
-  was-read o e = go (lineLaidOut line) (inRange (lineSaid line)) refl refl
+  pub was-read : (o : Operation) → readLine line ≡ readsAs o
+      → (lineLaidOut line ≡ true) × (lineSaid line ≡ o) × (inRange o ≡ true)
+  was-read o e = go (lineLaidOut line) (inRange (lineSaid line)) refl refl (sym by-checks ∙ e)
     where
       go : (a b : Bool) → lineLaidOut line ≡ a → inRange (lineSaid line) ≡ b
+          → readAs (lineLaidOut line) (lineSaid line) ≡ readsAs o
           → (lineLaidOut line ≡ true) × (lineSaid line ≡ o) × (inRange o ≡ true)
-      go false b p q = let z : readRefused Layout ≡ readsAs o = sym (read-layout _) ∙ rw (by-checks, p) at e in (cc, cc, cc)
-      go true false p q = let z : readRefused Range ≡ readsAs o = sym (read-range _ q) ∙ rw (by-checks, p) at e in (cc, cc, cc)
-      go true true p q =
-          let z : readsAs (lineSaid line) ≡ readsAs o = sym (read-operation _ q) ∙ rw (by-checks, p) at e in
+      go false b p q w = let z : readRefused Layout ≡ readsAs o = sym (read-layout _) ∙ rw p at w in (cc, cc, cc)
+      go true false p q w = let z : readRefused Range ≡ readsAs o = sym (read-range _ q) ∙ rw p at w in (cc, cc, cc)
+      go true true p q w =
+          let z : readsAs (lineSaid line) ≡ readsAs o = sym (read-operation _ q) ∙ rw p at w in
           let same : lineSaid line ≡ o = cc in
           (p, same, rw same at q)
 
+  -- with a refusal: it is 2 where the layout holds, and 1 where it does not
+  abbrev Told : Refusal → Type 0
+  Told r =
+      ((r ≡ Range) × (lineLaidOut line ≡ true) × (inRange (lineSaid line) ≡ false))
+      ⊎ ((r ≡ Layout) × (lineLaidOut line ≡ false))
+
+  refused : (r : Refusal) → readLine line ≡ readRefused r → Told r
+  refused r e = go (lineLaidOut line) (inRange (lineSaid line)) refl refl (sym by-checks ∙ e)
+    where
+      go : (a b : Bool) → lineLaidOut line ≡ a → inRange (lineSaid line) ≡ b
+          → readAs (lineLaidOut line) (lineSaid line) ≡ readRefused r → Told r
+      go false b p q w = let z : readRefused Layout ≡ readRefused r = sym (read-layout _) ∙ rw p at w in inr (cc, p)
+      go true false p q w =
+          let z : readRefused Range ≡ readRefused r = sym (read-range _ q) ∙ rw p at w in
+          inl (cc, p, q)
+      go true true p q w =
+          let z : readsAs (lineSaid line) ≡ readRefused r = sym (read-operation _ q) ∙ rw p at w in
+          inr (cc, cc)
+
   module _ (r : Refusal) (e : readLine line ≡ readRefused r) where
     pub out-of-range : r ≡ Range → (lineLaidOut line ≡ true) × (inRange (lineSaid line) ≡ false)
-    out-of-range h = go (lineLaidOut line) (inRange (lineSaid line)) refl refl
-      where
-        go : (a b : Bool) → lineLaidOut line ≡ a → inRange (lineSaid line) ≡ b → (lineLaidOut line ≡ true) × (inRange (lineSaid line) ≡ false)
-        go false b p q = let z : readRefused Layout ≡ readRefused Range = sym (read-layout _) ∙ rw (by-checks, p, h) at e in (cc, cc)
-        go true false p q = (p, q)
-        go true true p q = let z : readsAs (lineSaid line) ≡ readRefused r = sym (read-operation _ q) ∙ rw (by-checks, p) at e in (cc, cc)
+    out-of-range h = ⊎-elim (λ w. (w .1, w .2)) (λ w. let z : Layout ≡ Range = sym (w .0) ∙ h in (cc, cc)) (refused r e)
 
     pub lacks-layout : (r ≡ Range → ⊥) → lineLaidOut line ≡ false
-    lacks-layout h = go (lineLaidOut line) (inRange (lineSaid line)) refl refl
-      where
-        go : (a b : Bool) → lineLaidOut line ≡ a → inRange (lineSaid line) ≡ b → lineLaidOut line ≡ false
-        go false b p q = p
-        go true false p q =
-            let z : readRefused Range ≡ readRefused r = sym (read-range _ q) ∙ rw (by-checks, p) at e in
-            let same : r ≡ Range = cc in
-            absurd (h same)
-        go true true p q = let z : readsAs (lineSaid line) ≡ readRefused r = sym (read-operation _ q) ∙ rw (by-checks, p) at e in cc
+    lacks-layout h = ⊎-elim (λ w. absurd (h (w .0))) (λ w. w .1) (refused r e)
 
   -- the letter of a line that has the layout tells its kind
   begins : (head count : ℕ) → hasLayout (head ∷ []) count (fields line) ≡ true → getD line 0 0 ≡ head
@@ -158,7 +173,8 @@ module _ (line : List ℕ) where
   insert-letter : lineLaidOut line ≡ true → isInsert (fields line) ≡ eqb (getD line 0 0) 73
   unfolding lineLaidOut asWritten isInsert isToggle isDelete
   insert-letter laid =
-      ⊎-elim (λ e. e ∙ sym (eq-eqb (getD line 0 0) 73 (begins 73 7 e))) (λ e. e ∙ sym (other e)) (either (isInsert (fields line)))
+      ⊎-elim (λ e. e ∙ sym (eq-eqb (getD line 0 0) 73 (begins 73 7 e))) (λ e. e ∙ sym (other e))
+      (either (isInsert (fields line)))
     where
       not-it : (n : ℕ) → (n ≡ 73 → ⊥) → getD line 0 0 ≡ n → eqb (getD line 0 0) 73 ≡ false
       not-it n h e = ne-eqb (getD line 0 0) 73 (λ q. h (sym e ∙ q))
@@ -168,19 +184,21 @@ module _ (line : List ℕ) where
           ⊎-elim (λ e. ⊎-elim (λ i. clash i n) (λ t. not-it 69 (eqb-false 69 73 refl) (begins 69 4 t)) (or-cases _ _ e))
           (λ d. not-it 68 (eqb-false 68 73 refl) (begins 68 3 d)) (or-cases _ _ laid)
 
-  pub counted-letter : (g : Gathered) {b : Bool} {r : Gathered} → lineLaidOut line ≡ true → inRange (lineSaid line) ≡ false
-      → b ≡ eqb (getD line 0 0) 73 → r ≡ countedOne g b false → r ≡ andLine g line
+  pub counted-letter : (g : Gathered) {b : Bool} {r : Gathered} → lineLaidOut line ≡ true
+      → inRange (lineSaid line) ≡ false → b ≡ eqb (getD line 0 0) 73 → r ≡ countedOne g b false → r ≡ andLine g line
   unfolding andLine lineSaid operationOf andOne
   counted-letter g {b} {r} laid out e q = q ∙ rw laid (go (isInsert (fields line)) refl out)
     where
       kind : b ≡ isInsert (fields line)
       kind = e ∙ sym (insert-letter laid)
 
-      go : (c : Bool) → isInsert (fields line) ≡ c → inRange (lineSaid line) ≡ false → countedOne g b false ≡ andOne g (lineSaid line)
+      go : (c : Bool) → isInsert (fields line) ≡ c → inRange (lineSaid line) ≡ false
+          → countedOne g b false ≡ andOne g (lineSaid line)
       go true p o = rw (kind ∙ p, p) (ap (countedOne g true) (sym (rw p at o)))
       go false p o = rw (kind ∙ p, p) (ap (countedOne g false) (sym (rw p at o)))
 
-  pub kept-line : (g : Gathered) (o : Operation) {r : Gathered} → lineLaidOut line ≡ true → lineSaid line ≡ o → r ≡ andOne g o → r ≡ andLine g line
+  pub kept-line : (g : Gathered) (o : Operation) {r : Gathered} → lineLaidOut line ≡ true → lineSaid line ≡ o
+      → r ≡ andOne g o → r ≡ andLine g line
   unfolding andLine
   kept-line g o laid said q = q ∙ rw (laid, said)
 
@@ -198,13 +216,17 @@ module _ (line : List ℕ) where
       go true (insert i) = refl
       go true (toggle t) = refl
 
-  pub range-told : (g : Gathered) → lineLaidOut line ≡ true → andLine g line .«in_range» ≡ true → (g .«in_range» ≡ true) × (inRange (lineSaid line) ≡ true)
+  pub range-told : (g : Gathered) → lineLaidOut line ≡ true → andLine g line .«in_range» ≡ true
+      → (g .«in_range» ≡ true) × (inRange (lineSaid line) ≡ true)
   unfolding andLine andOne countedOne
   range-told g laid e = go (lineSaid line) (rw laid at e)
     where
+      both : (b : Bool) → g .«in_range» && b ≡ true → (g .«in_range» ≡ true) × (b ≡ true)
+      both b h = (and-left (g .«in_range») b h, and-right (g .«in_range») b h)
+
       go : (o : Operation) → andOne g o .«in_range» ≡ true → (g .«in_range» ≡ true) × (inRange o ≡ true)
-      go (insert i) e = (and-left (g .«in_range») (inRange (insert i)) e, and-right (g .«in_range») (inRange (insert i)) e)
-      go (toggle t) e = (and-left (g .«in_range») (inRange (toggle t)) e, and-right (g .«in_range») (inRange (toggle t)) e)
+      go (insert i) e = both (inRange (insert i)) e
+      go (toggle t) e = both (inRange (toggle t)) e
 
 pub no-range-told : {r : Gathered} → r ≡ ungathered → r .«in_range» ≡ false
 unfolding ungathered
@@ -278,7 +300,9 @@ module _ {s xs ts : List ℕ} {g : Gathered} {left : List ℕ} (l : GatherLoop s
     unfolding heapSaid
     gather-held e = rw all-lines (l .held e)
 
-  module _ (h : 0 < length left) {line : List ℕ} (f : line ≡ cond (ended left) (firstLine left) []) {r : Gathered} (q : r ≡ andLine g line) where
+  module _
+      (h : 0 < length left) {line : List ℕ} (f : line ≡ cond (ended left) (firstLine left) []) {r : Gathered}
+      (q : r ≡ andLine g line) where
     told-laid : r .«laid_out» ≡ lineLaidOut line
     told-laid = ap (λ (x : Gathered). x .«laid_out») q ∙ laid-told line g
 
@@ -299,7 +323,8 @@ module _ {s xs ts : List ℕ} {g : Gathered} {left : List ℕ} (l : GatherLoop s
           go true p =
               let this : lineLaidOut (firstLine left) ≡ false = rw (f, p) at lacks in
               let broken : every lineLaidOut (lines s) ≡ false =
-              rw (l .whole, lines-ended left p) (every-append lineLaidOut (l .done) (firstLine left ∷ lines (rest left)) ∙ rw (l .laid, this)) in
+              rw (l .whole, lines-ended left p)
+              (every-append lineLaidOut (l .done) (firstLine left ∷ lines (rest left)) ∙ rw (l .laid, this)) in
               rw broken (and-none (closed s))
           go false p = rw (sym (l .ends) ∙ closed-unended left h p)
 
@@ -327,22 +352,27 @@ module _ {s xs ts : List ℕ} {g : Gathered} {left : List ℕ} (l : GatherLoop s
       is-first = f ∙ rw is-ended
 
       pub gather-more : {ys us : List ℕ} {next : List ℕ} → next ≡ rest left
-          → (r .«in_range» ≡ true → (os : List Operation) → g ≡ gatheredOf os → Held xs ts os → Held ys us (os ++ lineSaid line ∷ []))
+          → (r .«in_range» ≡ true → (os : List Operation) → g ≡ gatheredOf os → Held xs ts os
+          → Held ys us (os ++ lineSaid line ∷ []))
           → length ys ≡ 4096 → length us ≡ 2048 → GatherLoop s ys us r next
       gather-more t k a b =
-          let said : map lineSaid (l .done ++ line ∷ []) ≡ map lineSaid (l .done) ++ lineSaid line ∷ [] = map-append lineSaid (l .done) (line ∷ []) in
+          let os = map lineSaid (l .done) in
+          let said : map lineSaid (l .done ++ line ∷ []) ≡ os ++ lineSaid line ∷ [] =
+          map-append lineSaid (l .done) (line ∷ []) in
           record {
             done = l .done ++ line ∷ [];
             whole =
                 l .whole
-                ∙ rw (lines-ended left is-ended, t, is-first) (sym (append-snoc (l .done) (firstLine left) (lines (rest left))));
+                ∙ rw (lines-ended left is-ended, t, is-first)
+                (sym (append-snoc (l .done) (firstLine left) (lines (rest left))));
             laid = every-more lineLaidOut (l .done) line ∙ rw (l .laid, has-layout);
             ends = ap closed t ∙ closed-rest left is-ended ∙ l .ends;
-            told = q ∙ as-said ∙ ap (λ (x : Gathered). andOne x (lineSaid line)) (l .told) ∙ counted (map lineSaid (l .done)) (lineSaid line) ∙ ap gatheredOf (sym said);
+            told =
+                q ∙ as-said ∙ ap (λ (x : Gathered). andOne x (lineSaid line)) (l .told) ∙ counted os (lineSaid line)
+                ∙ ap gatheredOf (sym said);
             held = λ p.
-                rw said
-                (k p (map lineSaid (l .done)) (l .told)
-                (l .held (range-told line g has-layout (ap (λ (x : Gathered). x .«in_range») (sym q) ∙ p) .0)));
+                let passed = range-told line g has-layout (ap (λ (x : Gathered). x .«in_range») (sym q) ∙ p) .0 in
+                rw said (k p os (l .told) (l .held passed));
             inserts-size = a;
             toggles-size = b;
             small = omega (arith, l .small, rest-shorter left h, ap length t, length-append (l .done) (line ∷ []));

@@ -1,7 +1,6 @@
 -- The inserts that an array holds, slot by slot: the slot of an insert has its numbers, and these say it again.
-use Prim.Native.Nat.{ℕ, _+_, _≤_, _<_}
-use native.Mathlib.Omega.{arith}
-use mathlib.Core.Path.{_≡_, refl, sym, ap, _∙_}
+use Prim.Native.Nat.{ℕ, _+_, _<_}
+use mathlib.Core.Path.{_≡_, sym, ap, _∙_}
 use mathlib.Core.Bool.{true}
 use mathlib.Core.List.{List, map}
 use lib.ListN.{length, take, getD}
@@ -14,18 +13,19 @@ use Rattle.woot.specs.declared.Operation.the-variants.{Insert as insert}
 use Rattle.woot.specs.Operations.{origin}
 use Rattle.woot.specs.Ranges.{insertInRange, inRange}
 use Rattle.woot.specs.Table.{key}
-use Rattle.woot.specs.Memory.{column, identifier, characterOf}
+use Rattle.woot.specs.Memory.{column, characterOf}
 use Rattle.memory.proofs.Views.{column-at}
 use Rattle.memory.proofs.Bits.{InsertBits, insert-bits}
 use Rattle.memory.proofs.Characters.{identifier-key}
 use Rattle.memory.proofs.Operations.{KeyedInsert, range-keyed}
 use Rattle.heap.specs.Columns.{InsertsIn, insertAt}
-use Rattle.heap.proofs.Columns.{Numbers}
+use Rattle.heap.proofs.Columns.{NumbersAt}
 
 -- ---- the numbers in a slot
 
 module _ (xs : List ℕ) (i : ℕ) (h : i < 1024) where
-  pub slotted : origin (characterOf (getD xs i 0) (getD xs (1024 + i) 0) (getD xs (2048 + i) 0) (getD xs (3072 + i) 0) 0)
+  pub slotted :
+      origin (characterOf (getD xs i 0) (getD xs (1024 + i) 0) (getD xs (2048 + i) 0) (getD xs (3072 + i) 0) 0)
       ≡ insertAt xs i
   unfolding insertAt
   slotted = rw (getD-take 1024 xs i 0 h, column-at 1024 1 xs i h, column-at 1024 2 xs i h, column-at 1024 3 xs i h)
@@ -47,8 +47,7 @@ unfolding inRange
 keyed i e = range-keyed (insert i) e
 
 module _ {xs : List ℕ} {is : List Insert} (a : InsertsIn xs is) (i : ℕ) (z : Insert) (h : i < length is) where
-  pub numbers-at : Numbers (getD is i z) (getD (column 1024 0 xs) i 0) (getD (column 1024 1 xs) i 0)
-      (getD (column 1024 2 xs) i 0) (getD (column 1024 3 xs) i 0)
+  pub numbers-at : NumbersAt xs i (getD is i z)
   numbers-at =
       record {
         id = in-column (λ (k : Insert). key (k .id)) is (column 1024 0 xs) (a .ids) i z h;

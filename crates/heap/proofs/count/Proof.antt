@@ -1,7 +1,4 @@
 -- `heap::count` meets its contract, an insert counted or a toggle.
-use mathlib.Core.Path.{_≡_}
-use Prim.Native.Nat.{_+_}
-use Rattle.heap.specs.declared.Gathered.{Gathered}
 use Rattle.heap.specs.Gathering.{countedOne}
 use borrow.Author.Needs.{needs}
 use Rattle.heap.proofs.count.Statement.{statement}

@@ -1,13 +1,13 @@
 -- `heap::gather` meets its contract, by the invariant of `proofs/Gathering.antt`.
-use mathlib.Core.Path.{_≡_, sym, ap, _∙_}
+use mathlib.Core.Path.{ap, _∙_}
 use native.Mathlib.Omega.{arith}
 use lib.ListN.{length}
 use borrow.Author.Needs.{needs}
 use borrow.Author.Tests.{not-true, not-false}
 use Rattle.lists.proofs.Tests.{clash}
 use Rattle.lines.proofs.Lines.{rest-shorter}
-use Rattle.heap.proofs.Gathering.{GatherLoop, gather-begun, gather-few, gather-end, gather-held, gather-none, gather-more}
-use Rattle.heap.proofs.Gathering.{no-range-told}
+use Rattle.heap.proofs.Gathering.{GatherLoop, gather-begun, gather-few, gather-end, gather-held}
+use Rattle.heap.proofs.Gathering.{gather-none, gather-more, no-range-told}
 use Rattle.heap.proofs.gather.Statement.{statement}
 use Rattle.heap.proofs.gather.Tie as tie
 
@@ -29,22 +29,27 @@ gather-line-requires c κs =
 
 returns : tie.Need-returns Inv-loop μ-loop
 returns c =
-    let l = c .before .before .before .before .before .before .before .before .before .before .before .before .loop .inv in (
-      gather-none l (c .before .before .before .before .before .before .before .before .before .before .before .loop-test .taken) (c .before .before .before .before .before .before .before .before .before .before .first-line .ensures) (c .before .before .before .before .before .before .before .gather-line .ensures .0)
-          (not-true _ (c .before .if1 .taken)) (c .ungathered .ensures),
+    let g = c .before .before .before .before .before .before .before in
+    let i = g .before .before .before .before in (
+      gather-none (i .before .loop .inv) (i .loop-test .taken) (g .before .before .before .first-line .ensures)
+          (g .gather-line .ensures .0) (not-true _ (c .before .if1 .taken)) (c .ungathered .ensures),
       λ e. clash e (no-range-told (c .ungathered .ensures)),
     )
 
 loop-less : tie.Need-loop-less Inv-loop μ-loop
 loop-less c =
-    omega (arith, rest-shorter (c .before .before .before .before .before .before .before .before .before .before .before .before .loop .left .now) (c .before .before .before .before .before .before .before .before .before .before .before .loop-test .taken), ap length (c .rest .ensures))
+    let i = c .before .before .before .before .before .before .before .before .before .before .before in
+    omega (arith, rest-shorter (i .before .loop .left .now) (i .loop-test .taken), ap length (c .rest .ensures))
 
 loop-again : tie.Need-loop-again Inv-loop μ-loop
 loop-again c =
-    let l = c .before .before .before .before .before .before .before .before .before .before .before .before .loop .inv in
-    let g = c .before .before .before .before .before .before .before .gather-line in
-    gather-more l (c .before .before .before .before .before .before .before .before .before .before .before .loop-test .taken) (c .before .before .before .before .before .before .before .before .before .before .first-line .ensures) (g .ensures .0) (not-false _ (c .before .if1 .left))
-    (c .rest .ensures) (g .ensures .1) (g .kept .1 .0 ∙ l .inserts-size) (g .kept .1 .1 .0 ∙ l .toggles-size)
+    let g = c .before .before .before .before .before .before .before in
+    let i = g .before .before .before .before in
+    let l = i .before .loop .inv in
+    let k = g .gather-line .kept in
+    gather-more l (i .loop-test .taken) (g .before .before .before .first-line .ensures) (g .gather-line .ensures .0)
+    (not-false _ (c .before .if1 .left)) (c .rest .ensures) (g .gather-line .ensures .1) (k .1 .0 ∙ l .inserts-size)
+    (k .1 .1 .0 ∙ l .toggles-size)
 
 returns-2 : tie.Need-returns-2 Inv-loop μ-loop
 returns-2 c =

@@ -25,32 +25,39 @@ no-range r k e = miss others 1 tt (subst (λ (q : Refusal). OneOf others (tagOf 
 
 keep-requires : tie.Need-keep-requires
 keep-requires c κs =
-    let s = c .before .before .before .before .before .before .before .before .before in
-    let w = was-read (s .args .line .now) _ (sym (c .before .before .before .before .before .read-line .ensures) ∙ c .before .before .before .read .given .1) in
+    let u = c .before .before .before in
+    let s = u .before .before .before .before .before .before in
+    let answer = sym (u .before .before .read-line .ensures) ∙ u .read .given .1 in
+    let w = was-read (s .args .line .now) _ answer in
     (s .pre .0, (s .pre .1 .0, (s .pre .1 .1 .0, (s .pre .1 .1 .1, w .2))))
 
 returns : tie.Need-returns
 returns c =
-    let s = c .before .before .before .before .before .before .before .before .before .before .before .before .before .before in
-    let w = was-read (s .args .line .now) _ (sym (c .before .before .before .before .before .before .before .before .before .before .read-line .ensures) ∙ c .before .before .before .before .before .before .before .before .read .given .1) in
-    let k = c .before .before .before .before .keep .ensures in (
-      kept-line (s .args .line .now) _ _ (w .0) (w .1) (k .0),
-      λ e os p h. rw (w .1) (k .1 os p h),
-    )
+    let k = c .before .before .before .before in
+    let u = k .before .before .before .before in
+    let line = u .before .before .before .before .before .before .args .line .now in
+    let answer = sym (u .before .before .read-line .ensures) ∙ u .read .given .1 in
+    let w = was-read line _ answer in
+    (kept-line line _ _ (w .0) (w .1) (k .keep .ensures .0), λ e os p h. rw (w .1) (k .keep .ensures .1 os p h))
 
 returns-2 : tie.Need-returns-2
 returns-2 c =
-    let s = c .before .before .before .before .before .before .before .before .before .before .before in
+    let u = c .before .before .before .before .before in
+    let s = u .before .before .before .before .before .before in
     let line = s .args .line .now in
-    let w = out-of-range line _ (sym (c .before .before .before .before .before .before .before .read-line .ensures) ∙ c .before .before .before .before .before .read2 .given .1) (c .before .before .enum-told .given .1) in
-    let r = counted-letter line (s .args .at) (w .0) (w .1) (ap (λ (b : ℕ). eqb b 73) (c .before .first-byte .ensures)) (c .count .ensures) in
-    (r, λ e os p h. clash (range-told line (s .args .at) (w .0) (ap (λ (x : Gathered). x .«in_range») (sym r) ∙ e) .1) (w .1))
+    let answer = sym (u .before .before .read-line .ensures) ∙ u .read2 .given .1 in
+    let w = out-of-range line _ answer (c .before .before .enum-told .given .1) in
+    let letter = ap (λ (b : ℕ). eqb b 73) (c .before .first-byte .ensures) in
+    let r = counted-letter line (s .args .at) (w .0) (w .1) letter (c .count .ensures) in
+    let same = ap (λ (x : Gathered). x .«in_range») (sym r) in
+    (r, λ e os p h. clash (range-told line (s .args .at) (w .0) (same ∙ e) .1) (w .1))
 
 returns-3 : tie.Need-returns-3
 returns-3 c =
-    let s = c .before .before .before .before .before .before .before .before .before in
-    let line = s .args .line .now in
-    let w = lacks-layout line _ (sym (c .before .before .before .before .before .read-line .ensures) ∙ c .before .before .before .read2 .given .1) (no-range _ (c .before .match2 .keys2)) in
+    let u = c .before .before .before in
+    let line = u .before .before .before .before .before .before .args .line .now in
+    let answer = sym (u .before .before .read-line .ensures) ∙ u .read2 .given .1 in
+    let w = lacks-layout line _ answer (no-range _ (c .before .match2 .keys2)) in
     (no-line line _ w (c .ungathered .ensures), λ e os p h. clash e (no-range-told (c .ungathered .ensures)))
 
 pub gather-line-spec : {M : Type 1} → statement M

@@ -9,12 +9,15 @@ returns : tie.Need-returns
 returns c = λ is a e. insert-full is _ _ a e (c .if1 .taken)
 
 returns-2 : tie.Need-returns-2
-returns-2 c = λ is a e.
-    insert-kept is _ _ a e (c .before .before .before .before .before .before .before .before .before .before .if1 .left)
+returns-2 c =
+    let k = c .before .before .before in
+    let few = k .before .before .before .before .before .before .before .if1 .left in
+    λ is a e.
+    insert-kept is _ _ a e few
     (record {
-      id = c .before .before .before .before .before .key .ensures .0;
-      previous = c .before .before .before .before .key2 .ensures .0;
-      next = c .before .before .before .key3 .ensures .0;
+      id = k .before .before .key .ensures .0;
+      previous = k .before .key2 .ensures .0;
+      next = k .key3 .ensures .0;
       point = refl;
     })
     (c .before .before .put-at .ensures)

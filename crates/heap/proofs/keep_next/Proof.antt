@@ -1,8 +1,7 @@
 -- `heap::keep_next` meets its contract, by where the key is found.
-use mathlib.Core.Path.{_≡_, refl, sym, _∙_}
+use mathlib.Core.Path.{refl, sym, _∙_}
 use native.Mathlib.Omega.{arith}
-use lib.ListN.{length, take, getD, length-take}
-use Rattle.heap.specs.declared.Kept.{Kept}
+use lib.ListN.{take, getD, length-take}
 use Rattle.heap.proofs.Keeping.{found-low, sifted-at, sifted-nothing}
 use borrow.Author.Needs.{needs}
 use Rattle.heap.proofs.keep_next.Statement.{statement}
@@ -18,17 +17,20 @@ same-fields-requires c κs =
 
 returns : tie.Need-returns
 returns c =
-    let s = c .before .before .before .before .before .before .before .before .before .before .before .before .before in
+    let u = c .before .before .before in
+    let s = u .before .before .before .before .before .before .before .before .before .before in
     let agrees = c .same-fields .ensures in
     sifted-at (s .args .inserts .now) _ (s .args .i) (s .args .n) (s .pre .1 .1 .0) _
-    (sym (c .before .before .before .before .before .find-among .ensures) ∙ c .before .before .before .found .given .1) refl refl
+    (sym (u .before .before .find-among .ensures) ∙ u .found .given .1) refl refl
     (λ j. record { agreeing = agrees j; count = s .args .n })
 
 returns-2 : tie.Need-returns-2
 returns-2 c =
-    let s = c .before .before .before .before .before .before .before .before .before .before .before .before .before .before .before .before .before .before .before .before .before in
+    let u = c .before .before .before .before .before .before .before .before .before .before .before in
+    let s = u .before .before .before .before .before .before .before .before .before .before in
     sifted-nothing (s .args .inserts .now) _ (s .args .i) (s .args .n) (s .pre .1 .1 .0)
-    (sym (c .before .before .before .before .before .before .before .before .before .before .before .before .before .find-among .ensures) ∙ c .before .before .before .before .before .before .before .before .before .before .before .enum-told .given .1) (c .before .before .before .before .before .before .before .before .before .move-insert .ensures)
+    (sym (u .before .before .find-among .ensures) ∙ u .enum-told .given .1)
+    (c .before .before .before .before .before .before .before .before .before .move-insert .ensures)
     (c .before .before .before .before .enter .ensures) refl
 
 pub keep-next-spec : {M : Type 1} → statement M

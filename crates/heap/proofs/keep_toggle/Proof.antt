@@ -12,7 +12,8 @@ returns c = λ ts a e. toggle-full ts _ _ a e (c .if1 .taken)
 slice-write-toggles-2 : tie.Need-slice-write-toggles-2
 slice-write-toggles-2 c =
     let s = c .before .before .before .before .before in
-    omega (arith, s .pre, c .before .before .before .if1 .left, length-set (s .args .toggles .now) (s .args .n) (c .before .key .result))
+    let kept = length-set (s .args .toggles .now) (s .args .n) (c .before .key .result) in
+    omega (arith, s .pre, c .before .before .before .if1 .left, kept)
 
 returns-2 : tie.Need-returns-2
 returns-2 c = λ ts a e.

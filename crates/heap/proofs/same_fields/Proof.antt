@@ -27,7 +27,8 @@ returns c =
       column-at 1024 3 xs i h,
       column-at 1024 3 xs j g,
     )
-    (c .both2 .ensures ∙ ap (λ (b : Bool). b && eqb (getD xs (3072 + i) 0) (getD xs (3072 + j) 0)) (c .before .both .ensures))
+    (c .both2 .ensures
+    ∙ ap (λ (b : Bool). b && eqb (getD xs (3072 + i) 0) (getD xs (3072 + j) 0)) (c .before .both .ensures))
 
 pub same-fields-spec : {M : Type 1} → statement M
 same-fields-spec =

@@ -43,7 +43,9 @@ returns-2 c =
     let p = c .before .place in
     let k = c .before .before .before .chain in
     headed _ (a .i) _ (p .result) (k .result) (p .ensures .0) (k .ensures .0)
-    (λ h g. ⊎-elim (λ v. let out : a .i < p .result = leb-false _ _ (v .1 .left) in omega arith) (λ v. omega arith) (c .if1 .came))
+    (λ h g.
+    ⊎-elim (λ v. let out : a .i < p .result = leb-false _ _ (v .1 .left) in omega arith) (λ v. omega arith)
+    (c .if1 .came))
 
 pub enter-spec : {M : Type 1} → statement M
 enter-spec =

@@ -46,9 +46,11 @@ enter-requires c κs =
 
 loop-again : tie.Need-loop-again Inv-loop μ-loop
 loop-again c =
-    let a = c .before .before .before .before .before .before .before .before .before .before .before .before .before .before .before .before .before .before .before .before .before .args in
-    let l = c .before .before .before .before .before .before .before .before .before .loop in
-    (omega arith, enter (a .keys .now) (l .i) (omega arith) (l .inv .1) (sym (c .before .before .before .before .enter .ensures)))
+    let l = c .before .before .before .before .before .before .before .before .before in
+    let a = l .before .before .before .before .before .before .before .before .before .before .before .before .args in
+    let i = l .loop .i in
+    let stored = c .before .before .before .before .enter .ensures in
+    (omega arith, enter (a .keys .now) i (omega arith) (l .loop .inv .1) (sym stored))
 
 same-length : tie.Need-same-length Inv-loop μ-loop
 same-length c =
@@ -62,10 +64,10 @@ same-length-2 c =
 
 returns : tie.Need-returns Inv-loop μ-loop
 returns c =
-    let a = c .before .before .before .before .before .before .before .before .before .before .before .before .before .args in
+    let s = c .before .before .before .before .before .before .before .before .before .before .before .before .before in
     let l = c .before .loop in
-    let done : l .i ≡ a .n = omega arith in
-    l .inv .1 ∙ ap (λ (m : ℕ). tableOf (take m (a .keys .now))) done
+    let done : l .i ≡ s .args .n = omega arith in
+    l .inv .1 ∙ ap (λ (m : ℕ). tableOf (take m (s .args .keys .now))) done
 
 pub enter-all-spec : {M : Type 1} → statement M
 enter-all-spec =
