@@ -1,0 +1,9 @@
+pub mod Laying
+pub mod Slotting
+pub mod Passing
+pub mod Repeating
+pub mod Toggling
+pub mod Counting
+pub mod Firsts
+pub mod Assembling
+pub mod Judging
