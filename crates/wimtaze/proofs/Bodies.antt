@@ -3,7 +3,7 @@
 use Prim.Native.Nat.{ℕ}
 use native.Mathlib.Omega.{arith}
 use mathlib.Core.Path.{_≡_, refl, sym, ap, _∙_}
-use mathlib.Core.Bool.{Bool, true, false, _||_, not, cond}
+use mathlib.Core.Bool.{Bool, true, false, _&&_, _||_, not, cond}
 use mathlib.Core.Option.{Option, none, some}
 use mathlib.Core.List.{List, [], _∷_, _++_, map}
 use lib.Dec.{ltb}
@@ -43,6 +43,14 @@ use Rattle.saved.specs.Conversion.{conversion}
 use Rattle.effects.specs.Results.{Result, result, silent}
 use Rattle.effects.specs.Effects.{Effect, quiet, turned, writingNoted, writing, writingBoth, afterReceiving, afterReceivingAt, sending, afterSending, sendingAll, afterPasting}
 use Rattle.wimtaze.specs.Calls.{CCall, «wimtaze_empty», «wimtaze_receive», «wimtaze_receive_at», «wimtaze_type», «wimtaze_erase», «wimtaze_restore», «wimtaze_paste», «wimtaze_text», «wimtaze_counts», «wimtaze_upgrade», «wimtaze_downgrade», inputChecks, oneLine, named, answering, handedChecks, ruleChecks, callChecks, Product, bytesAlone, replicaAfter, replicaAndLine, replicaAndLines, productOf, short, delivered, effectOf}
+use Rattle.wimtaze.specs.Calls.{«wimtaze_build»}
+use Rattle.woot.specs.Building.{leftOut, built, heapFull, disagreeing, buildChecks, unbuilt, build}
+use Rattle.woot.specs.Operations.{inserts}
+use Rattle.woot.specs.Ranges.{siteNumber}
+use Rattle.lists.specs.Lists.{every}
+use Rattle.heap.specs.Format.{heapLaidOut, heapSaid}
+use Rattle.building.specs.Calls.{builtOutcome}
+use Rattle.wimtaze.specs.Steps.{buildingHere}
 use Rattle.effects.specs.Counts.{countsOf}
 use Rattle.wimtaze.specs.Steps.{beginning, receivingLine, receivingLineAt, insertingHere, deletingHere, restoringHere, pastingHere, showingText, counting, converting, upgrading, downgrading}
 use Rattle.wimtaze.proofs.Listing.{first-behind}
@@ -151,7 +159,7 @@ module _ (bytes out : List ℕ) where
 
 -- ---- receiving
 
-turned-still : (a : Answer) → Turned a → changes a ≡ false
+pub turned-still : (a : Answer) → Turned a → changes a ≡ false
 unfolding changes
 turned-still Duplicate t = refl
 turned-still (Refused q) t = refl
@@ -387,3 +395,27 @@ module _ (bytes out line : List ℕ) where
       go false ranged l r = rw l
       go true false l r = rw (l, r)
       go true true l r = rw (l, r) (pasted-body (loadedState bytes) g out line block)
+
+-- ---- building
+
+module _ (bytes out : List ℕ) where
+  -- by the cases of its four conditions
+  pub build-body : (n : ℕ) (heap : List ℕ) → effectOf («wimtaze_build» n heap) bytes out [] ≡ buildingHere n heap out
+  unfolding effectOf callChecks handedChecks ruleChecks productOf buildingHere builtOutcome build buildChecks unbuilt
+      decided changes writing
+  build-body n heap =
+      go (heapLaidOut heap) (siteNumber n && every inRange os) (heapFull os) (disagreeing (inserts os)) refl refl refl
+      refl
+    where
+      os : List Operation
+      os = heapSaid heap
+
+      go : (laid ranged full apart : Bool) → heapLaidOut heap ≡ laid → siteNumber n && every inRange os ≡ ranged →
+          heapFull os ≡ full → disagreeing (inserts os) ≡ apart →
+          effectOf («wimtaze_build» n heap) bytes out [] ≡ buildingHere n heap out
+      go false ranged full apart l r f a = rw l
+      go true false full apart l r f a = rw (l, r)
+      go true true true apart l r f a = rw (l, r, f)
+      go true true false true l r f a = rw (l, r, f, a)
+      go true true false false l r f a =
+          rw (l, r, f, a) (noted (Done 0 (length (leftOut os))) 0 (savedBytes (built n os)) out)

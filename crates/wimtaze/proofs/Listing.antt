@@ -7,11 +7,12 @@ use mathlib.Core.Bool.{Bool, true, false, not, cond}
 use mathlib.Core.Option.{Option, none, some}
 use mathlib.Core.List.{List, [], _∷_, _++_}
 use lib.Dec.{eqb}
-use lib.ListN.{drop}
+use lib.ListN.{length, drop}
 use borrow.Author.Tests.{not-false}
 use Rattle.woot.specs.declared.Operation.{Operation}
 use Rattle.woot.specs.declared.Operation.the-variants.{Insert as insert, Toggle as toggle}
 use Rattle.woot.specs.declared.Refusal.{Refusal}
+use Rattle.woot.specs.declared.Refusal.the-variants.{HeapFull}
 use Rattle.woot.specs.declared.Refusal.the-variants.{Layout, Range, NotUtf8, Form, Unrepresentable, Position, NotHidden, LastToggle, Clock, Taken, Conflict, Crossed, Unplaceable, SenderFull, DocumentFull, Output}
 use Rattle.woot.specs.declared.Answer.{Answer}
 use Rattle.woot.specs.declared.Answer.the-variants.{Done, Deferred, Duplicate, Refused}
@@ -24,11 +25,14 @@ use Rattle.woot.specs.Answers.{number, Word, done, waits, known, refused, Reply
 use Rattle.woot.specs.Calls.{unchanged, carryOut, defer, accept, receiveChecks, receiveWhen, receive, insertChecks, generatedInsert, sendInsert, localInsertWhen, localInsert, deleteChecks, generatedDelete, sendToggle, localDeleteWhen, localDelete, restoreChecks, generatedToggle, localRestoreWhen, localRestore}
 use Rattle.woot.specs.Cursor.{receiveAtChecks, receiveAtWhen, receiveAt}
 use Rattle.woot.specs.Pasting.{codePointsOf, typings, pasted, pasteChecks, pasteWhen, paste}
+use Rattle.woot.specs.Building.{leftOut, buildChecks, build}
+use Rattle.convergence.proofs.Building.{build-does, left-out-count}
 use Rattle.convergence.proofs.Refusals.{first-reported, reported-first}
 use Rattle.convergence.proofs.Replies.{none-first, positive, answer-number}
 use Rattle.convergence.proofs.Steps.{All, Turned, first-none, first-some}
 use Rattle.lists.proofs.Tests.{and-right}
 use Rattle.codec.specs.Calls.{saidBy}
+use Rattle.heap.specs.Format.{heapSaid}
 use Rattle.saved.specs.Format.{savedInRange}
 use Rattle.saved.specs.Calls.{loadedState}
 use Rattle.saved.specs.Conversion.{conversionRefusals}
@@ -36,13 +40,15 @@ use Rattle.effects.specs.Results.{Result, result, silent}
 use Rattle.effects.specs.Effects.{Effect, quiet}
 use Rattle.effects.specs.Counts.{countsOf}
 use Rattle.wimtaze.specs.Calls.{CCall, «wimtaze_empty», «wimtaze_receive», «wimtaze_receive_at», «wimtaze_type», «wimtaze_erase», «wimtaze_restore», «wimtaze_paste», «wimtaze_text», «wimtaze_counts», «wimtaze_upgrade», «wimtaze_downgrade», inputChecks, named, answering, handedChecks, ruleChecks, earlierChecks, callChecks, Product, productOf, short, delivered, effectOf}
+use Rattle.wimtaze.specs.Calls.{«wimtaze_build»}
 use Rattle.wimtaze.specs.Theorems.{CallsMeet, CallsRise, CallsRefuse, CallsKnow, Untouched, TurnedUntouched}
 
 -- ---- the lists
 
 pub calls-meet : CallsMeet
-unfolding callChecks handedChecks ruleChecks inputChecks conversionRefusals receiveChecks receiveAtChecks insertChecks deleteChecks restoreChecks pasteChecks reply answerOf
+unfolding callChecks handedChecks ruleChecks inputChecks conversionRefusals receiveChecks receiveAtChecks insertChecks deleteChecks restoreChecks pasteChecks buildChecks reply answerOf
 calls-meet («wimtaze_empty» n) bytes out line = refl
+calls-meet («wimtaze_build» n heap) bytes out line = refl
 calls-meet («wimtaze_receive» l) bytes out line = refl
 calls-meet («wimtaze_receive_at» l gap) bytes out line = refl
 calls-meet («wimtaze_type» gap n) bytes out line = refl
@@ -55,8 +61,9 @@ calls-meet «wimtaze_upgrade» bytes out line = refl
 calls-meet «wimtaze_downgrade» bytes out line = refl
 
 pub calls-rise : CallsRise
-unfolding callChecks handedChecks ruleChecks inputChecks conversionRefusals receiveChecks receiveAtChecks insertChecks deleteChecks restoreChecks pasteChecks answerOf
+unfolding callChecks handedChecks ruleChecks inputChecks conversionRefusals receiveChecks receiveAtChecks insertChecks deleteChecks restoreChecks pasteChecks buildChecks answerOf
 calls-rise («wimtaze_empty» n) bytes out line = refl
+calls-rise («wimtaze_build» n heap) bytes out line = refl
 calls-rise («wimtaze_receive» l) bytes out line = refl
 calls-rise («wimtaze_receive_at» l gap) bytes out line = refl
 calls-rise («wimtaze_type» gap n) bytes out line = refl
@@ -82,8 +89,10 @@ unfolding reply
 earlier-known = record { turned = tt; other = refl }
 
 all-earlier : (c : CCall) (bytes : List ℕ) → All Earlier (earlierChecks c bytes)
-unfolding handedChecks ruleChecks inputChecks conversionRefusals receiveChecks receiveAtChecks insertChecks deleteChecks restoreChecks pasteChecks answerOf
+unfolding handedChecks ruleChecks inputChecks conversionRefusals receiveChecks receiveAtChecks insertChecks deleteChecks restoreChecks pasteChecks buildChecks answerOf
 all-earlier («wimtaze_empty» n) bytes = (earlier Range refl, tt)
+all-earlier («wimtaze_build» n heap) bytes =
+    (earlier Layout refl, (earlier Range refl, (earlier HeapFull refl, (earlier Conflict refl, tt))))
 all-earlier («wimtaze_receive» l) bytes = (
   earlier Layout refl,
   (
@@ -245,6 +254,16 @@ module _ (bytes : List ℕ) where
       let k = paste-passed g block w in
       (not-false (wellFormed said) (k .1 .0), rw (none-first (pasteChecks (wellFormed said) said g block) k))
 
+-- none of the conditions of building holds where none of the call's does, and it is done
+pub build-passed : (n : ℕ) (heap bytes : List ℕ) → NoneHolds (earlierChecks («wimtaze_build» n heap) bytes) →
+    reply (build n (heapSaid heap) .answer) .word ≡ done
+unfolding handedChecks ruleChecks buildChecks
+build-passed n heap bytes w = build-does n (heapSaid heap) .1 (w .1)
+
+pub build-taken : (n : ℕ) (heap bytes : List ℕ) → NoneHolds (earlierChecks («wimtaze_build» n heap) bytes) →
+    build n (heapSaid heap) .answer ≡ Done 0 (length (leftOut (heapSaid heap)))
+build-taken n heap bytes w = left-out-count n (heapSaid heap) (build-passed n heap bytes w)
+
 -- ---- what is made is neither known nor refused
 
 pub record Made (x : Reply) : Type 0 where
@@ -282,6 +301,7 @@ accept-made s o = go (executable (s .characters) o) o
 pub product-made : (c : CCall) (bytes : List ℕ) → NoneHolds (earlierChecks c bytes) → Made (productOf c bytes .result .reply)
 unfolding productOf result countsOf sendInsert sendToggle carryOut answerOf pasted
 product-made («wimtaze_empty» n) bytes w = done-made 0 0
+product-made («wimtaze_build» n heap) bytes w = rw (build-taken n heap bytes w) (done-made 0 _)
 product-made («wimtaze_receive» l) bytes w = rw (receive-taken bytes l w .1) (accept-made _ _)
 product-made («wimtaze_receive_at» l g) bytes w = rw (receive-at-taken bytes l g w .1) (accept-made _ _)
 product-made («wimtaze_type» g n) bytes w = rw (type-taken bytes g n w .1) (done-made _ _)

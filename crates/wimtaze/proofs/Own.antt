@@ -36,6 +36,7 @@ use Rattle.saved.specs.Calls.{loadedState}
 use Rattle.effects.specs.Results.{result, silent}
 use Rattle.effects.specs.Effects.{Effect, quiet, turned, writingNoted, afterReceivingAt}
 use Rattle.wimtaze.specs.Calls.{CCall, «wimtaze_empty», «wimtaze_receive», «wimtaze_receive_at», «wimtaze_type», «wimtaze_erase», «wimtaze_restore», «wimtaze_paste», «wimtaze_text», «wimtaze_counts», «wimtaze_upgrade», «wimtaze_downgrade», inputChecks, oneLine, named, handedChecks, earlierChecks, replicaAndLine, productOf, short, delivered, effectOf}
+use Rattle.wimtaze.specs.Calls.{«wimtaze_build»}
 use Rattle.wimtaze.specs.Steps.{receivingLineAt}
 use Rattle.wimtaze.specs.Theorems.{bytesWritten, lineWritten, sends, receivedAtBy, SavesAs, OwnLineReceived}
 use Rattle.wimtaze.proofs.Listing.{Went, away, lacking, through, went, type-taken, erase-taken, restore-taken}
@@ -43,7 +44,7 @@ use Rattle.wimtaze.proofs.Fitting.{front}
 use Rattle.wimtaze.proofs.Bodies.{receive-at-body}
 
 -- a line that was written is one line, in range, and says its operation
-line-back : (o : Operation) → inRange o ≡ true → (oneLine (operationLine o) ≡ true) × (saidBy (operationLine o) ≡ o)
+pub line-back : (o : Operation) → inRange o ≡ true → (oneLine (operationLine o) ≡ true) × (saidBy (operationLine o) ≡ o)
 unfolding oneLine
 line-back o r =
     let back = rw append-nil at (written-reads-back o r []) in
@@ -182,6 +183,7 @@ module _ (bytes : List ℕ) (gap : ℕ) where
         short (productOf c bytes) out line ≡ false → productOf c bytes .result .written ≤ length again →
         SavesAs (delivered (productOf c bytes) out line) (receivedAtBy bytes (lineWritten (delivered (productOf c bytes) out line)) gap again)
     product-own («wimtaze_empty» n) k = absurd (false≢true k)
+    product-own («wimtaze_build» n heap) k = absurd (false≢true k)
     product-own («wimtaze_receive» l) k = absurd (false≢true k)
     product-own («wimtaze_receive_at» l g) k = absurd (false≢true k)
     product-own («wimtaze_type» g n) k = type-own g n

@@ -30,6 +30,9 @@ use Rattle.convergence.proofs.Replies.{number-few}
 use Rattle.convergence.proofs.Shares.{pending-fit}
 use Rattle.convergence.proofs.Kept.{form-kept}
 use Rattle.convergence.proofs.Pasting.{paste-form-kept, paste-counts-bounded}
+use Rattle.woot.specs.Building.{build}
+use Rattle.convergence.proofs.Building.{built-formed, build-bounded}
+use Rattle.heap.specs.Format.{heapSaid}
 use Rattle.cursor.specs.Bits.{shiftBits}
 use Rattle.codec.specs.Operations.{operationLine}
 use Rattle.codec.specs.Calls.{saidBy}
@@ -43,11 +46,12 @@ use Rattle.effects.specs.Results.{Result, result}
 use Rattle.effects.specs.Counts.{countsOf}
 use Rattle.effects.proofs.Totals.{known-few}
 use Rattle.wimtaze.specs.Calls.{CCall, «wimtaze_empty», «wimtaze_receive», «wimtaze_receive_at», «wimtaze_type», «wimtaze_erase», «wimtaze_restore», «wimtaze_text», «wimtaze_counts», «wimtaze_upgrade», «wimtaze_downgrade», inputChecks, named, handedChecks, earlierChecks, Product, bytesAlone, replicaAndLine, productOf}
-use Rattle.wimtaze.specs.Calls.{«wimtaze_paste»}
+use Rattle.wimtaze.specs.Calls.{«wimtaze_paste», «wimtaze_build»}
 use Rattle.wimtaze.specs.Theorems.{boundsOf, roomOf, saves, Fits, CountsWithin}
 use Rattle.wimtaze.proofs.Sizes.{text-length}
 use Rattle.wimtaze.proofs.Counts.{Fine, Sends, receive-fine, receive-at-fine, insert-sends, delete-sends, restore-sends}
 use Rattle.wimtaze.proofs.Listing.{receive-taken, receive-at-taken, type-taken, erase-taken, restore-taken, paste-passed, paste-taken}
+use Rattle.wimtaze.proofs.Listing.{build-passed, build-taken}
 use Rattle.wimtaze.proofs.Blocks.{lines-short}
 
 -- the first output is the bytes of a state in form, all of them
@@ -241,6 +245,29 @@ module _ (bytes : List ℕ) where
       let long = saved-length (initial n) k in
       plain-sound («wimtaze_empty» n) (savedBytes (initial n)) long long (λ h. (initial n, k, refl))
 
+  build-sound : (n : ℕ) (heap : List ℕ) → NoneHolds (earlierChecks («wimtaze_build» n heap) bytes) →
+      Sound («wimtaze_build» n heap) (productOf («wimtaze_build» n heap) bytes)
+  unfolding productOf result reply
+  build-sound n heap w =
+      let os : List Operation = heapSaid heap in
+      let t = build n os .state in
+      let e = build-taken n heap bytes w in
+      let k = built-formed n os (build-passed n heap bytes w) .1 in
+      let long = saved-length t k in
+      record {
+        fits =
+            record {
+              refusal-fits = rw e (omega arith);
+              integrated-fits = rw e (omega arith);
+              discarded-fits = build-bounded n os .0;
+              written-fits = long;
+              line-fits = omega arith;
+            };
+        output-few = long;
+        line-few = omega arith;
+        saved = λ h. record { state = t; formed = k; bytes = refl; length-told = refl };
+      }
+
   text-sound : NoneHolds (earlierChecks «wimtaze_text» bytes) → Sound «wimtaze_text» (productOf «wimtaze_text» bytes)
   unfolding productOf
   text-sound w =
@@ -283,6 +310,7 @@ module _ (bytes : List ℕ) where
 
 pub product-sound : (c : CCall) (bytes : List ℕ) → NoneHolds (earlierChecks c bytes) → Sound c (productOf c bytes)
 product-sound («wimtaze_empty» n) bytes w = empty-sound bytes n w
+product-sound («wimtaze_build» n heap) bytes w = build-sound bytes n heap w
 product-sound («wimtaze_receive» l) bytes w = receive-sound bytes l (receive-taken bytes l w .0)
 product-sound («wimtaze_receive_at» l g) bytes w = receive-at-sound bytes l g (receive-at-taken bytes l g w .0)
 product-sound («wimtaze_type» g n) bytes w = type-sound bytes g n w

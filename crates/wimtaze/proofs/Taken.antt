@@ -29,6 +29,7 @@ use Rattle.effects.specs.Effects.{Effect, quiet}
 use Rattle.saved.specs.Format.{savedInRange}
 use Rattle.saved.specs.Calls.{loadedState}
 use Rattle.wimtaze.specs.Calls.{CCall, «wimtaze_empty», «wimtaze_receive», «wimtaze_receive_at», «wimtaze_type», «wimtaze_erase», «wimtaze_restore», «wimtaze_paste», «wimtaze_text», «wimtaze_counts», «wimtaze_upgrade», «wimtaze_downgrade», inputChecks, answering, handedChecks, ruleChecks, callChecks, effectOf}
+use Rattle.wimtaze.specs.Calls.{«wimtaze_build»}
 use Rattle.wimtaze.specs.Theorems.{meets, RefusalsMet, CallsNeverTaken}
 use Rattle.wimtaze.proofs.Listing.{Went, away, lacking, through, went, earlier-reported, output-reported, product-made, calls-meet, calls-refuse}
 
@@ -82,6 +83,7 @@ calls-never-taken c bytes out line h = go c (calls-refuse c bytes out line Taken
   where
     go : (d : CCall) → Reported (Refused Taken) (callChecks d bytes out line) → ⊥
     go («wimtaze_empty» n) r = unmet («wimtaze_empty» n) bytes out line refl r
+    go («wimtaze_build» n heap) r = unmet («wimtaze_build» n heap) bytes out line refl r
     go («wimtaze_receive» l) r = unmet («wimtaze_receive» l) bytes out line refl r
     go («wimtaze_receive_at» l g) r = unmet («wimtaze_receive_at» l g) bytes out line refl r
     go («wimtaze_type» g n) r = type-untaken bytes g n out line r

@@ -5,7 +5,7 @@ use mathlib.Core.Bool.{Bool, true, _&&_, _||_, not}
 use mathlib.Core.List.{List, [], _∷_, _++_, map}
 use lib.Dec.{eqb, ltb}
 use lib.ListN.{length, drop}
-use Rattle.lists.specs.Lists.{missing}
+use Rattle.lists.specs.Lists.{every, missing}
 use Rattle.output.specs.Output.{placed}
 use Rattle.utf8.specs.Decoding.{decoded}
 use Rattle.woot.specs.declared.Identifier.{Identifier}
@@ -24,11 +24,13 @@ use Rattle.woot.specs.Calls.{Outcome, receiveChecks, receive, insertChecks, gen
 use Rattle.woot.specs.Calls.{generatedDelete, localDelete, restoreChecks, generatedToggle, localRestore}
 use Rattle.woot.specs.Cursor.{receiveAtChecks, receiveAt, shiftAt}
 use Rattle.woot.specs.Pasting.{PasteOutcome, pasteChecks, paste}
+use Rattle.woot.specs.Building.{BuildOutcome, buildChecks, build}
 use Rattle.woot.specs.Text.{text}
 use Rattle.lines.specs.Lines.{rest, concatenated}
 use Rattle.cursor.specs.Bits.{shiftBits}
 use Rattle.codec.specs.Operations.{operationLine}
 use Rattle.codec.specs.Calls.{laidOut, saidBy}
+use Rattle.heap.specs.Format.{heapLaidOut, heapSaid}
 use Rattle.saved.specs.declared.Version.the-variants.{First, Second}
 use Rattle.saved.specs.Format.{savedLaidOut, savedInRange, savedBytes}
 use Rattle.saved.specs.Calls.{loadedState}
@@ -41,6 +43,8 @@ use Rattle.effects.specs.Counts.{countsOf}
 pub data CCall : Type 0 where
   -- a site's number; it takes no saved replica
   «wimtaze_empty» : ℕ → CCall
+  -- a site's number and a heap; it takes no saved replica either
+  «wimtaze_build» : ℕ → List ℕ → CCall
   -- a line
   «wimtaze_receive» : List ℕ → CCall
   -- a line and a gap
@@ -84,6 +88,8 @@ named site clock = record { site = site; clock = clock }
 -- what is turned away before any rule is asked
 unfoldable pub handedChecks : CCall → List ℕ → List (Check Refusal)
 handedChecks («wimtaze_empty» n) bytes = (not (siteNumber n) ⇒ Range) ∷ []
+handedChecks («wimtaze_build» n heap) bytes =
+    (not (heapLaidOut heap) ⇒ Layout) ∷ (not (siteNumber n && every inRange (heapSaid heap)) ⇒ Range) ∷ []
 handedChecks («wimtaze_receive» line) bytes = inputChecks bytes (oneLine line) (inRange (saidBy line))
 handedChecks («wimtaze_receive_at» line gap) bytes = inputChecks bytes (oneLine line) (inRange (saidBy line))
 handedChecks («wimtaze_type» gap n) bytes = inputChecks bytes true (codePoint n)
@@ -106,6 +112,7 @@ answering cs = map (λ c. c .holds ⇒ answerOf (c .answer)) cs
 -- and 3, which begin its list and were looked at over all that was handed
 unfoldable pub ruleChecks : CCall → State → List (Check Answer)
 ruleChecks («wimtaze_empty» n) s = []
+ruleChecks («wimtaze_build» n heap) s = drop 1 (buildChecks n (heapSaid heap))
 ruleChecks («wimtaze_receive» line) s = drop 2 (receiveChecks true s (saidBy line))
 ruleChecks («wimtaze_receive_at» line gap) s = drop 2 (receiveAtChecks true s (saidBy line) gap)
 ruleChecks («wimtaze_type» gap n) s = answering (drop 2 (insertChecks true s gap n))
@@ -129,14 +136,18 @@ pub record Product : Type 0 where
 abbrev pub bytesAlone : List ℕ → Product
 bytesAlone bytes = record { result = result (Done 0 0) (length bytes) 0; output = bytes; line = [] }
 
--- the saved replica that receiving leaves, with a note where the length of the second output stands
+-- an answer and the saved replica of a state, with a note where the length of the second output stands
+abbrev pub replicaNoted : Answer → State → ℕ → Product
+replicaNoted a s note =
+    record { result = result a (length (savedBytes s)) note; output = savedBytes s; line = [] }
+
+-- the one that receiving leaves
 abbrev pub replicaAfter : Outcome Answer → ℕ → Product
-replicaAfter w note =
-    record {
-      result = result (w .answer) (length (savedBytes (w .state))) note;
-      output = savedBytes (w .state);
-      line = [];
-    }
+replicaAfter w note = replicaNoted (w .answer) (w .state) note
+
+-- document 02, Req 08: the one that is built
+abbrev pub replicaBuilt : BuildOutcome → Product
+replicaBuilt w = replicaNoted (w .answer) (w .state) 0
 
 -- the saved replica that typing, erasing or restoring leaves, and the line of the operation to be sent
 abbrev pub replicaAndLine : Outcome Sent → Operation → Product
@@ -161,6 +172,7 @@ replicaAndLines w (b ∷ block) =
 -- where no condition holds
 unfoldable pub productOf : CCall → List ℕ → Product
 productOf («wimtaze_empty» n) bytes = bytesAlone (savedBytes (initial n))
+productOf («wimtaze_build» n heap) bytes = replicaBuilt (build n (heapSaid heap))
 productOf («wimtaze_receive» line) bytes = replicaAfter (receive (loadedState bytes) (saidBy line)) 0
 productOf («wimtaze_receive_at» line gap) bytes =
     replicaAfter (receiveAt (loadedState bytes) (saidBy line) gap)

@@ -1,25 +1,27 @@
 -- For the proofs of the code alone: what the bodies of the calls leave, of the refusals over what was handed and then
 -- of the rule.
 use Prim.Native.Nat.{ℕ}
-use mathlib.Core.Bool.{true, not}
+use mathlib.Core.Bool.{true, not, cond}
 use mathlib.Core.List.{List, [], _∷_}
 use Rattle.woot.specs.declared.Refusal.the-variants.{Layout, Range}
 use Rattle.woot.specs.declared.Answer.the-variants.{Done, Refused}
 use Rattle.woot.specs.Ranges.{siteNumber, codePoint, characterId, inRange}
 use Rattle.woot.specs.State.{initial}
-use Rattle.woot.specs.Answers.{_⇒_, first, decided}
+use Rattle.woot.specs.Answers.{changes, _⇒_, first, decided}
 use Rattle.woot.specs.Calls.{receive, localInsert, localDelete, localRestore}
 use Rattle.woot.specs.Cursor.{receiveAt, shiftAt}
 use Rattle.woot.specs.Pasting.{paste}
 use Rattle.woot.specs.Text.{text}
 use Rattle.codec.specs.Calls.{saidBy}
+use Rattle.building.specs.Calls.{builtOutcome}
 use Rattle.saved.specs.declared.Version.{Version}
 use Rattle.saved.specs.declared.Version.the-variants.{First, Second}
 use Rattle.saved.specs.Format.{savedLaidOut, savedInRange, savedBytes}
 use Rattle.saved.specs.Calls.{loadedState}
 use Rattle.saved.specs.Conversion.{conversion, conversionRefusals}
 use Rattle.effects.specs.Results.{Result, silent}
-use Rattle.effects.specs.Effects.{Effect, turned, writing, afterReceiving, afterReceivingAt, afterSending, afterPasting}
+use Rattle.effects.specs.Effects.{Effect, quiet, turned, writing, afterReceiving, afterReceivingAt}
+use Rattle.effects.specs.Effects.{afterSending, afterPasting}
 use Rattle.effects.specs.Counts.{countsOf}
 use Rattle.wimtaze.specs.Calls.{inputChecks, oneLine, named}
 
@@ -28,6 +30,13 @@ unfoldable pub beginning : ℕ → List ℕ → Effect
 beginning number out =
     decided (turned out []) (first ((not (siteNumber number) ⇒ Range) ∷ []))
     (writing (Done 0 0) (savedBytes (initial number)) out)
+
+-- `wimtaze_build`: document 02, Req 08
+unfoldable pub buildingHere : ℕ → List ℕ → List ℕ → Effect
+buildingHere number heap out =
+    cond (changes (builtOutcome number heap .answer))
+    (writing (builtOutcome number heap .answer) (savedBytes (builtOutcome number heap .state)) out)
+    (quiet out [] (builtOutcome number heap .answer))
 
 -- `wimtaze_receive`
 unfoldable pub receivingLine : List ℕ → List ℕ → List ℕ → Effect

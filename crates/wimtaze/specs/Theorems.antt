@@ -21,6 +21,7 @@ use Rattle.woot.specs.Answers.{number, highestRefusal, Word, done, waits, known
 use Rattle.woot.specs.Calls.{nextIdentifier, beyondVisible}
 use Rattle.woot.specs.Cursor.{cursorAfter, shiftAt, lastNumber, movedBy}
 use Rattle.woot.specs.Pasting.{gapBelow}
+use Rattle.woot.specs.Building.{leftOut, build}
 use Rattle.woot.specs.Text.{text}
 use Rattle.woot.specs.Memory.{pendingSlots}
 use Rattle.woot.specs.Situations.{numbersOf, ranksOf, rises}
@@ -31,10 +32,12 @@ use Rattle.lines.specs.Lines.{rest, concatenated}
 use Rattle.cursor.specs.Bits.{shiftRead}
 use Rattle.codec.specs.Calls.{saidBy}
 use Rattle.codec.specs.Theorems.{insertMost, toggleMost}
+use Rattle.heap.specs.Format.{heapSaid}
+use Rattle.building.specs.Calls.{builtBy}
 use Rattle.saved.specs.declared.LoadAnswer.the-variants.{Done as loadDone}
 use Rattle.saved.specs.declared.Version.{Version}
 use Rattle.saved.specs.declared.Version.the-variants.{First, Second}
-use Rattle.saved.specs.Format.{siteLine, savedLaidOut, savedInRange}
+use Rattle.saved.specs.Format.{siteLine, savedLaidOut, savedInRange, savedBytes}
 use Rattle.saved.specs.Calls.{loadedAs, raisingAs, needsRaising, loaded, loadedState}
 use Rattle.saved.specs.Conversion.{converted, convertedOut, firstMost}
 use Rattle.saved.specs.Theorems.{savedMost}
@@ -43,7 +46,7 @@ use Rattle.effects.specs.Effects.{Effect}
 use Rattle.wimtaze.specs.Calls.{CCall, «wimtaze_empty», «wimtaze_receive», «wimtaze_receive_at», «wimtaze_type»}
 use Rattle.wimtaze.specs.Calls.{«wimtaze_erase», «wimtaze_restore», «wimtaze_text», «wimtaze_counts»}
 use Rattle.wimtaze.specs.Calls.{«wimtaze_upgrade», «wimtaze_downgrade», callChecks, effectOf}
-use Rattle.wimtaze.specs.Calls.{«wimtaze_paste»}
+use Rattle.wimtaze.specs.Calls.{«wimtaze_paste», «wimtaze_build»}
 use Rattle.effects.specs.Effects.{quiet}
 
 -- ---- refusals: any call, any bytes, numbers and slices
@@ -52,6 +55,7 @@ use Rattle.effects.specs.Effects.{quiet}
 -- hold: 6 of typing (`CallsNeverTaken`), 15 of upgrading, and 12 of counting, which has no output (`BuffersSuffice`)
 abbrev pub meets : CCall → List ℕ
 meets («wimtaze_empty» n) = 2 ∷ 12 ∷ []
+meets («wimtaze_build» n heap) = 1 ∷ 2 ∷ 17 ∷ 7 ∷ 12 ∷ []
 meets («wimtaze_receive» line) = 1 ∷ 2 ∷ 3 ∷ 0 ∷ 7 ∷ 8 ∷ 9 ∷ 10 ∷ 11 ∷ 12 ∷ []
 meets («wimtaze_receive_at» line gap) = 1 ∷ 2 ∷ 3 ∷ 0 ∷ 4 ∷ 7 ∷ 8 ∷ 9 ∷ 10 ∷ 11 ∷ 12 ∷ []
 meets («wimtaze_type» gap n) = 1 ∷ 2 ∷ 3 ∷ 4 ∷ 5 ∷ 6 ∷ 9 ∷ 11 ∷ 12 ∷ []
@@ -76,6 +80,7 @@ exchanged (Refused q) = Refused (cond (eqb (number q) 9) DocumentFull (cond (eqb
 -- the answer whose rank an answer has in a call: its own, but in pasting 11 is "here before 9"
 abbrev pub rankedAs : CCall → Answer → Answer
 rankedAs («wimtaze_empty» n) a = a
+rankedAs («wimtaze_build» n heap) a = a
 rankedAs («wimtaze_receive» line) a = a
 rankedAs («wimtaze_receive_at» line gap) a = a
 rankedAs («wimtaze_type» gap n) a = a
@@ -145,15 +150,21 @@ textMost = 4096
 abbrev pub linesMost : ℕ
 linesMost = 37888
 
+-- the lines of a heap: 1,024 inserts, and 1,024 erase or restore lines
+abbrev pub heapLines : ℕ
+heapLines = 2048
+
 -- what a call that writes these many bytes at most, and nothing else, returns at most
 abbrev pub boundsOfBytes : ℕ → Bounds
 boundsOfBytes most = record { integrated = 0; discarded = 0; written = most; line = 0 }
 
 -- carried is at most 513 and thrown 512: an insert with all that waits; of a block carried is at most 1,536: 1,024
--- inserts with all that waits. The last is the length of what is sent, or the bits of a shift. A call that counts gives
--- counts in their place
+-- inserts with all that waits. Building from a heap tells what it left out as thrown, and none as carried. The last is
+-- the length of what is sent, or the bits of a shift. A call that counts gives counts in their place
 abbrev pub boundsOf : CCall → Bounds
 boundsOf («wimtaze_empty» n) = boundsOfBytes savedMost
+boundsOf («wimtaze_build» n heap) =
+    record { integrated = 0; discarded = heapLines; written = savedMost; line = 0 }
 boundsOf («wimtaze_receive» line) = record { integrated = 513; discarded = pendingSlots; written = savedMost; line = 0 }
 boundsOf («wimtaze_receive_at» line gap) =
     record { integrated = 513; discarded = pendingSlots; written = savedMost; line = 65535 }
@@ -228,6 +239,7 @@ pub record Room : Type 0 where
 
 abbrev pub roomOf : CCall → Room
 roomOf («wimtaze_empty» n) = record { output = savedMost; line = 0 }
+roomOf («wimtaze_build» n heap) = record { output = savedMost; line = 0 }
 roomOf («wimtaze_receive» line) = record { output = savedMost; line = 0 }
 roomOf («wimtaze_receive_at» line gap) = record { output = savedMost; line = 0 }
 roomOf («wimtaze_type» gap n) = record { output = savedMost; line = insertMost }
@@ -259,6 +271,7 @@ pub record Formed (bytes : List ℕ) : Type 0 where
 -- whether the first output is a saved replica; pasting an empty block "writes nothing"
 abbrev pub saves : CCall → Bool
 saves («wimtaze_empty» n) = true
+saves («wimtaze_build» n heap) = true
 saves («wimtaze_receive» line) = true
 saves («wimtaze_receive_at» line gap) = true
 saves («wimtaze_type» gap n) = true
@@ -329,6 +342,7 @@ lineWritten e = take (e .result .line) (e .line)
 -- whether a call makes one edit here, and writes its line
 abbrev pub sends : CCall → Bool
 sends («wimtaze_empty» n) = false
+sends («wimtaze_build» n heap) = false
 sends («wimtaze_receive» line) = false
 sends («wimtaze_receive_at» line gap) = false
 sends («wimtaze_type» gap n) = true
@@ -451,3 +465,28 @@ PasteEmptyWrites =
     (bytes out line : List ℕ) (gap : ℕ) → savedLaidOut bytes ≡ true → savedInRange bytes ≡ true →
     wellFormed (loadedState bytes) ≡ true → beyondVisible (loadedState bytes) gap ≡ false →
     effectOf («wimtaze_paste» gap []) bytes out line ≡ quiet out line (Done 0 0)
+
+-- ---- document 02, Req 08
+
+-- what `wimtaze_build` returns and leaves
+abbrev pub builtInC : ℕ → List ℕ → List ℕ → Effect
+builtInC n heap out = effectOf («wimtaze_build» n heap) [] out []
+
+-- the effect of a building that is done: what was written is the saved replica of what the rule builds, and loaded it
+-- is the replica that `building::build` returns; "their count is given" where other calls tell what they threw out, and
+-- none is told as carried out
+pub record BuildWritten (n : ℕ) (heap : List ℕ) (e : Effect) : Type 0 where
+  pub state-written : loadedState (bytesWritten e) ≡ build n (heapSaid heap) .state
+  pub replica-written : loaded (bytesWritten e) .replica ≡ builtBy n heap .replica
+  pub length-told : e .result .written ≡ length (savedBytes (build n (heapSaid heap) .state))
+  pub left-out-told : e .result .reply .discarded ≡ length (leftOut (heapSaid heap))
+  pub none-carried : e .result .reply .integrated ≡ 0
+
+abbrev pub BuildWrites : Type 0
+BuildWrites =
+    (n : ℕ) (heap out : List ℕ) → builtInC n heap out .result .reply .word ≡ done →
+    BuildWritten n heap (builtInC n heap out)
+
+-- a heap of no lines is an empty replica, with every answer and every byte as `wimtaze_empty` gives them
+abbrev pub BuildEmptyHeap : Type 0
+BuildEmptyHeap = (n : ℕ) (out : List ℕ) → builtInC n [] out ≡ effectOf («wimtaze_empty» n) [] out []
