@@ -2,23 +2,31 @@
 -- demand 3 of the rules is demand 3 of copies.
 use Prim.Native.Nat.{ℕ}
 use native.Mathlib.Omega.{arith}
-use mathlib.Core.Path.{_≡_, refl, sym, ap, ap₂, _∙_}
-use mathlib.Core.Bool.{true, false, false≢true}
+use mathlib.Core.Path.{_≡_, refl, sym, ap, ap₂, _∙_, subst}
+use mathlib.Core.Bool.{Bool, true, false, false≢true}
 use mathlib.Core.Logic.{_⊎_, inl, inr, ⊎-elim}
 use mathlib.Core.List.{List, [], _∷_, _++_, append-assoc}
 use borrow.Author.Tests.{ltb-false, not-false}
 use lib.ListN.{length}
 use Rattle.lists.proofs.Tests.{or-false-left}
 use Rattle.woot.specs.declared.Answer.{Answer}
-use Rattle.woot.specs.declared.Answer.the-variants.{Done, Deferred, Duplicate, Refused}
+use Rattle.woot.specs.declared.Answer.the-variants.{Done, Duplicate, Refused}
+use Rattle.woot.specs.declared.Refusal.the-variants.{Output}
 use Rattle.woot.specs.declared.Operation.{Operation}
 use Rattle.woot.specs.Ranges.{siteNumber}
 use Rattle.woot.specs.State.{State, initial}
 use Rattle.woot.specs.Form.{wellFormed}
-use Rattle.woot.specs.Answers.{Word, done, waits, known, refused, reply}
+use Rattle.woot.specs.Answers.{Word, done, waits, known, refused, reply, decided}
 use Rattle.woot.specs.Calls.{allIntegrated}
 use Rattle.woot.specs.Text.{text}
-use Rattle.woot.specs.Histories.{startOf, beforehand, outcome, run, integratedBy, Call as RuleCall}
+use Rattle.woot.specs.Histories.{Begun, empty, heaped, startOf, beforehand, outcome, run, integratedBy}
+use Rattle.woot.specs.Histories.{Call as RuleCall}
+use Rattle.woot.specs.Memory.{stored}
+use Rattle.woot.specs.Building.{built, BuildOutcome, unbuilt, build}
+use Rattle.convergence.proofs.Built.{heap-formed}
+use Rattle.convergence.proofs.Heaped.{Verdict, turned as rejected, accepted, verdict}
+use Rattle.convergence.proofs.Building.{built-formed}
+use Rattle.convergence.proofs.Steps.{Turned}
 use Rattle.convergence.proofs.Forms.{empty-formed}
 use Rattle.convergence.proofs.Convergence.{convergence}
 use Rattle.lines.specs.Lines.{rest}
@@ -28,15 +36,20 @@ use Rattle.saved.specs.Calls.{loadedAs, raisingAs}
 use Rattle.saved.specs.Conversion.{Converts}
 use Rattle.saved.proofs.Sizes.{saved-length}
 use Rattle.saved.proofs.Trips.{loaded-again, unraised-again, unraised, second-says}
-use Rattle.replica.proofs.Runs.{initial-within}
+use Rattle.replica.proofs.Runs.{initial-within, formed-within}
+use Rattle.heap.specs.Format.{heapLaidOut, heapSaid}
+use Rattle.building.specs.Calls.{builtOutcome, builtBy}
 use Rattle.effects.specs.Results.{result, silent}
 use Rattle.effects.specs.Effects.{Effect, quiet}
-use Rattle.wimtaze.specs.Calls.{«wimtaze_empty», handedChecks, productOf, effectOf}
+use Rattle.wimtaze.specs.Calls.{«wimtaze_empty», «wimtaze_build», handedChecks, productOf}
 use Rattle.wimtaze.specs.Theorems.{bytesWritten, convertedFrom}
 use Rattle.wimtaze.proofs.Fitting.{front}
-use Rattle.wimtaze.proofs.Listing.{Went, away, lacking, through, went}
+use Rattle.wimtaze.proofs.Listing.{Went, away, lacking, through, went, build-passed, build-taken}
 use Rattle.wimtaze.proofs.Trips.{from-done, trips-return}
-use Rattle.consistency.specs.Copies.{Copy, asBytes, Call, memoryCall, bytesCall, bytesAfter, wordOf, stepOn, ran, rulesBy, carriedBy, Empty, emptyReplica, emptyBytes, begun, begunAs, beginningOf, charactersOf, textOf}
+use Rattle.consistency.specs.Copies.{Copy, inMemory, asBytes, Call, memoryCall, bytesCall, bytesAfter, wordOf}
+use Rattle.consistency.specs.Copies.{stepOn, ran, rulesBy, carriedBy, Start, emptyReplica, emptyBytes, builtReplica}
+use Rattle.consistency.specs.Copies.{builtBytes, emptiedInto, builtInto, begun, begunAs, beginningOf, carriedWith}
+use Rattle.consistency.specs.Copies.{carriedBefore, charactersOf, textOf}
 use Rattle.consistency.specs.Theorems.{CopiesFollow, TripsKeep, CopiesConverge}
 use Rattle.consistency.proofs.Holding.{Holds, memory, bytes, nothing, Steps, says, works}
 use Rattle.consistency.proofs.Returned.{kept, word-returned, effect-returned}
@@ -74,35 +87,99 @@ follow-carries {s} {p} h (c ∷ cs) =
     ap₂ _++_ (ap (λ (t : State). integratedBy t (stepOn p c .rules)) (works h)) (follow-carries (step h c) cs)
     ∙ sym (integrated-on s (stepOn p c .rules) (rulesBy (stepOn p c .copy) cs))
 
--- ---- from the empty copies
+-- ---- from the starts
 
 -- no bytes where beginning a copy is refused
-went-begun : (n : ℕ) {out : List ℕ} {e : Effect} → Went («wimtaze_empty» n) [] out [] e →
-    Holds (startOf (begunAs (e .result .reply .word) n)) (asBytes (kept [] e))
-unfolding quiet silent result reply bytesAfter productOf handedChecks
-went-begun n (away (Done i j) t r) = absurd (t .turned)
-went-begun n (away Deferred t r) = absurd (t .turned)
-went-begun n (away Duplicate t r) = nothing
-went-begun n (away (Refused q) t r) = nothing
-went-begun n (lacking w f) = nothing
-went-begun n {out} (through w f) =
-    let b : List ℕ = savedBytes (initial n) in
-    rw (front out b (ltb-false (length out) (length b) (or-false-left _ _ f))) (bytes (initial n) (empty-formed n ∙ not-false (siteNumber n) (w .0)))
+quiet-begun : (b : Begun) (a : Answer) → Turned a → (out : List ℕ) →
+    Holds (startOf (begunAs (reply a .word) b)) (asBytes (kept [] (quiet out [] a)))
+unfolding quiet silent result reply bytesAfter
+quiet-begun b Duplicate t out = nothing
+quiet-begun b (Refused q) t out = nothing
 
-holds-begun : (a : Empty) → Holds (startOf (beginningOf a)) (begun a)
-unfolding begun beginningOf
+went-empty : (n : ℕ) {out : List ℕ} {e : Effect} → Went («wimtaze_empty» n) [] out [] e →
+    Holds (startOf (begunAs (e .result .reply .word) (empty n))) (asBytes (kept [] e))
+unfolding quiet silent result reply bytesAfter productOf handedChecks
+went-empty n {out} (away a t r) = quiet-begun (empty n) a (t .turned) out
+went-empty n {out} (lacking w f) = quiet-begun (empty n) (Refused Output) tt out
+went-empty n {out} (through w f) =
+    let b : List ℕ = savedBytes (initial n) in
+    rw (front out b (ltb-false (length out) (length b) (or-false-left _ _ f)))
+    (bytes (initial n) (empty-formed n ∙ not-false (siteNumber n) (w .0)))
+
+module _ (n : ℕ) (heap : List ℕ) where
+  abbrev heapBegun : Begun
+  heapBegun = heaped n (heapSaid heap)
+
+  went-built : {out : List ℕ} {e : Effect} → Went («wimtaze_build» n heap) [] out [] e →
+      Holds (startOf (begunAs (e .result .reply .word) heapBegun)) (asBytes (kept [] e))
+  unfolding quiet silent result reply bytesAfter productOf
+  went-built {out} (away a t r) = quiet-begun heapBegun a (t .turned) out
+  went-built {out} (lacking w f) = quiet-begun heapBegun (Refused Output) tt out
+  went-built {out} (through w f) =
+      let s : State = build n (heapSaid heap) .state in
+      let b : List ℕ = savedBytes s in
+      rw (build-taken n heap [] w, front out b (ltb-false (length out) (length b) (or-false-left _ _ f)))
+      (bytes s (built-formed n (heapSaid heap) (build-passed n heap [] w) .1))
+
+  -- in memory, of bytes that have the layout, by how the rule goes
+  ruled-held : {w : BuildOutcome} → Verdict n (heapSaid heap) w → build n (heapSaid heap) ≡ w →
+      Holds (startOf (begunAs (reply (w .answer) .word) heapBegun)) (inMemory (stored (w .state)))
+  unfolding unbuilt reply
+  ruled-held (rejected Duplicate t) e = memory (initial 0) (initial-within 0)
+  ruled-held (rejected (Refused q) t) e = memory (initial 0) (initial-within 0)
+  ruled-held (accepted a) e =
+      let s : State = built n (heapSaid heap) in
+      let f = heap-formed n (heapSaid heap) (a .site) (a .ranged) (a .agreed) (a .few-inserts) .0 in
+      subst (λ (b : BuildOutcome). Holds (b .state) (inMemory (stored s))) (sym e) (memory s (formed-within s f))
+
+  ruled-before : {w : BuildOutcome} → Verdict n (heapSaid heap) w → build n (heapSaid heap) ≡ w →
+      w .integrated ≡ beforehand (begunAs (reply (w .answer) .word) heapBegun)
+  unfolding unbuilt reply
+  ruled-before (rejected Duplicate t) e = refl
+  ruled-before (rejected (Refused q) t) e = refl
+  ruled-before (accepted a) e = ap (λ (b : BuildOutcome). b .integrated) (sym e)
+
+  -- and of any bytes
+  replica-held : (b : Bool) → heapLaidOut heap ≡ b →
+      Holds (startOf (begunAs (reply (builtOutcome n heap .answer) .word) heapBegun))
+      (inMemory (stored (builtOutcome n heap .state)))
+  unfolding builtOutcome unbuilt decided reply
+  replica-held false e = rw e (memory (initial 0) (initial-within 0))
+  replica-held true e = rw e (ruled-held (verdict n (heapSaid heap)) refl)
+
+  replica-before : (b : Bool) → heapLaidOut heap ≡ b →
+      builtOutcome n heap .integrated ≡ beforehand (begunAs (reply (builtOutcome n heap .answer) .word) heapBegun)
+  unfolding builtOutcome unbuilt decided reply
+  replica-before false e = rw e
+  replica-before true e = rw e (ruled-before (verdict n (heapSaid heap)) refl)
+
+pub holds-begun : (a : Start) → Holds (startOf (beginningOf a)) (begun a)
+unfolding begun beginningOf builtBy
 holds-begun (emptyReplica n) = memory (initial n) (initial-within n)
 holds-begun (emptyBytes n out) =
     rw (effect-returned («wimtaze_empty» n) [] out [] [], word-returned («wimtaze_empty» n) [] out [])
-    (went-begun n (went («wimtaze_empty» n) [] out []))
+    (went-empty n (went («wimtaze_empty» n) [] out []))
+holds-begun (builtReplica n heap) = replica-held n heap (heapLaidOut heap) refl
+holds-begun (builtBytes n heap out) =
+    rw (effect-returned («wimtaze_build» n heap) [] out [] [], word-returned («wimtaze_build» n heap) [] out [])
+    (went-built n heap (went («wimtaze_build» n heap) [] out []))
 
--- nothing was carried out to make them
-empty-before : (a : Empty) → beforehand (beginningOf a) ≡ []
-unfolding beginningOf
-empty-before (emptyReplica n) = refl
-empty-before (emptyBytes n out) = go (wordOf (effectOf («wimtaze_empty» n) [] out []))
+-- what was carried out to make them is what the rules begin with
+begun-before : (a : Start) → carriedBefore a ≡ beforehand (beginningOf a)
+unfolding carriedBefore beginningOf builtBy
+begun-before (emptyReplica n) = refl
+begun-before (emptyBytes n out) = go (wordOf (emptiedInto n out))
   where
-    go : (w : Word) → beforehand (begunAs w n) ≡ []
+    go : (w : Word) → [] ≡ beforehand (begunAs w (empty n))
+    go done = refl
+    go waits = refl
+    go known = refl
+    go refused = refl
+begun-before (builtReplica n heap) = replica-before n heap (heapLaidOut heap) refl
+begun-before (builtBytes n heap out) = go (wordOf (builtInto n heap out))
+  where
+    go : (w : Word) →
+        carriedWith w (build n (heapSaid heap) .integrated) ≡ beforehand (begunAs w (heaped n (heapSaid heap)))
     go done = refl
     go waits = refl
     go known = refl
@@ -112,7 +189,7 @@ pub copies-follow : CopiesFollow
 copies-follow a cs =
     record {
       says = says (follow-holds (holds-begun a) cs);
-      carries = follow-carries (holds-begun a) cs ∙ ap (λ (os : List Operation). os ++ integratedBy (startOf (beginningOf a)) (rulesBy (begun a) cs)) (sym (empty-before a));
+      carries = ap₂ _++_ (begun-before a) (follow-carries (holds-begun a) cs);
     }
 
 pub copies-converge : CopiesConverge

@@ -1,4 +1,4 @@
--- The list of calls is computed: every definition on its way is opened.
+-- The lists of calls are computed: every definition on their way is opened.
 use mathlib.Core.Path.{refl}
 use Rattle.codec.specs.Calls.{asWritten, lineLaidOut, laidOut, saidBy}
 use Rattle.codec.specs.Operations.{insertNumbers, toggleNumbers, identifierAt, insertOf, toggleOf, deleteOf, isInsert, isToggle, isDelete, operationOf, operationLine}
@@ -29,7 +29,11 @@ use Rattle.woot.specs.Pending.{executable, crossed, unplaceable, integrate, pen
 use Rattle.woot.specs.Placing.{sequence, indexOf, placeOf, held, above, adjacent, candidate, candidates, narrowed, search, position, between, insertAt, integrateInsert, integrateToggle}
 use Rattle.woot.specs.Ranges.{within, siteNumber, codePoint, characterId, previousId, nextId, siteInRange, insertInRange, toggleInRange, inRange, characterInRange}
 use Rattle.woot.specs.State.{initial, blankCharacter, blankOperation}
-use Rattle.consistency.specs.Examples.{CallsExample}
+use Rattle.woot.specs.Building.{once, building, leftOut, built, heapFull, disagree, disagreeing, buildChecks, unbuilt}
+use Rattle.woot.specs.Building.{build}
+use Rattle.heap.specs.Format.{heapLaidOut, lineSaid, heapSaid}
+use Rattle.consistency.specs.Copies.{beginningOf, carriedBefore}
+use Rattle.consistency.specs.Examples.{CallsExample, BuiltExample}
 
 pub calls-example : CallsExample
 unfolding asWritten lineLaidOut laidOut saidBy insertNumbers toggleNumbers identifierAt insertOf toggleOf deleteOf isInsert isToggle isDelete
@@ -50,3 +54,35 @@ unfolding asWritten lineLaidOut laidOut saidBy insertNumbers toggleNumbers ident
     blankOperation decided continues continued accepted encodedLength headOf decodedSteps decoded codePointsOf gapBelow stopped
     unpasted pasted clockShort overfull pasteChecks pasteWhen paste outcome allIntegrated
 calls-example = record { bytes-left = refl; replies = refl; rules-made = refl }
+
+pub built-example : BuiltExample
+unfolding asWritten lineLaidOut laidOut saidBy insertNumbers toggleNumbers identifierAt insertOf toggleOf deleteOf
+    isInsert isToggle isDelete operationOf operationLine bytesAfter wordRead writtenRead wordOf keptBytes whenMade
+    rulesOf renews onBytes stepOn begun isDigit leadingZero isNumeral valueOf digitsIn digits quiet holding
+    verdictOn numbersOf goesOn numbersAfter numerals hasLayout valuesOf lineOf ended firstLine rest closed hasRoom
+    placed result silent inBits numberOf loadedAs siteNumbers siteOf isSite siteSaid siteLine toggleField
+    characterNumbers characterOf isCharacter characterSaid characterLine isOperation operationSaid savedLine
+    headLine characterLines operationLines laidOutAs stateAs characterWithin operationWithin inRangeAs bytesAs
+    inputChecks oneLine handedChecks ruleChecks productOf callChecks effectOf reply changes answerOf unchanged
+    withCharacters withPending afterDrain insertCarried duplicate conflicting senderFull documentFull receiveChecks
+    carryOut defer accept receiveWhen receive visibles nextIdentifier togglesOf generatedToggle sendToggle
+    notHidden exhausted restoreChecks localRestoreWhen localRestore ownInsert heard presentInserts allInRange
+    sharesKept capacityKept identifiersDistinct togglesDistinct ordered neighboursOrdered noneExecutable
+    clockReaches clockKept wellFormed raised same below sender character origin isVisible withToggles toggledBy
+    sameInsert sameToggle sameOperation executable crossed unplaceable integrate pendingFrom earliest andIntegrated
+    andDiscarded drained drainSteps drain sequence indexOf placeOf held above adjacent candidate candidates
+    narrowed search position between insertAt integrateInsert integrateToggle within siteNumber codePoint
+    characterId previousId nextId siteInRange insertInRange toggleInRange inRange characterInRange initial
+    blankCharacter blankOperation decided once building leftOut built heapFull disagree disagreeing buildChecks
+    unbuilt build heapLaidOut lineSaid heapSaid beginningOf carriedBefore
+built-example =
+    record {
+      bytes-built = refl;
+      one-left-out = refl;
+      carried-out = refl;
+      goes-on = refl;
+      rules-after = refl;
+      none-built = refl;
+      begins-empty = refl;
+      none-carried = refl;
+    }

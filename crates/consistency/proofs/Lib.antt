@@ -5,3 +5,4 @@ pub mod Saving
 pub mod Memory
 pub mod Bytes
 pub mod Claims
+pub mod Receiving

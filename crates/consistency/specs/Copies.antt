@@ -14,14 +14,18 @@ use Rattle.woot.specs.State.{State, initial}
 use Rattle.woot.specs.Memory.{meaning, stored}
 use Rattle.woot.specs.Answers.{Word, done, waits, known, refused, reply, answerOf}
 use Rattle.woot.specs.Text.{text}
-use Rattle.woot.specs.Histories.{inserting, deleting, restoring, receiving, receivingAt, integratedBy, Begun, empty}
+use Rattle.woot.specs.Histories.{inserting, deleting, restoring, receiving, receivingAt, integratedBy}
+use Rattle.woot.specs.Histories.{Begun, empty, heaped}
 use Rattle.woot.specs.Histories.{Call as RuleCall}
 use Rattle.woot.specs.Pasting.{codePointsOf, typings}
+use Rattle.woot.specs.Building.{build}
 use Rattle.replica.specs.Theorems.{called, answerTo}
 use Rattle.pasting.specs.Replicas.{pastedBy}
 use Rattle.lent.specs.declared.Returned.{Returned}
 use Rattle.lent.specs.Lent.{together, returned, siteAfter}
 use Rattle.codec.specs.Calls.{saidBy}
+use Rattle.heap.specs.Format.{heapSaid}
+use Rattle.building.specs.Calls.{builtOutcome, builtBy}
 use Rattle.transcript.specs.Calls.{receivedLine}
 use Rattle.saved.specs.declared.LoadAnswer.{LoadAnswer}
 use Rattle.saved.specs.declared.LoadAnswer.the-variants.{Done as loadDone, Refused as loadRefused}
@@ -214,27 +218,60 @@ abbrev pub carriedBy : Copy → List Call → List Operation
 carriedBy p [] = []
 carriedBy p (c ∷ cs) = integratedBy (worksOn p) (stepOn p c .rules) ++ carriedBy (stepOn p c .copy) cs
 
--- an empty copy of any number: `Replica::empty`, or what `wimtaze_empty` writes into a lent slice, no bytes if it
--- refuses
-pub data Empty : Type 0 where
-  emptyReplica : ℕ → Empty
-  emptyBytes : ℕ → List ℕ → Empty
+-- ---- where a list of calls starts
 
-unfoldable pub begun : Empty → Copy
+-- an empty copy of any number: `Replica::empty`, or what `wimtaze_empty` writes into a lent slice; document 02, Req 08:
+-- or one that is built of a number and a heap, by `building::build`, or as `wimtaze_build` writes it. Where a call for C
+-- refuses there are no bytes
+pub data Start : Type 0 where
+  emptyReplica : ℕ → Start
+  emptyBytes : ℕ → List ℕ → Start
+  builtReplica : ℕ → List ℕ → Start
+  builtBytes : ℕ → List ℕ → List ℕ → Start
+
+-- what the calls for C leave that begin a copy in this slice
+abbrev pub emptiedInto : ℕ → List ℕ → Effect
+emptiedInto n out = effectOf («wimtaze_empty» n) [] out []
+
+abbrev pub builtInto : ℕ → List ℕ → List ℕ → Effect
+builtInto n heap out = effectOf («wimtaze_build» n heap) [] out []
+
+unfoldable pub begun : Start → Copy
 begun (emptyReplica n) = inMemory (stored (initial n))
-begun (emptyBytes n out) = asBytes (keptBytes [] (effectOf («wimtaze_empty» n) [] out []))
+begun (emptyBytes n out) = asBytes (keptBytes [] (emptiedInto n out))
+begun (builtReplica n heap) = inMemory (builtBy n heap .replica)
+begun (builtBytes n heap out) = asBytes (keptBytes [] (builtInto n heap out))
 
--- what the rules begin with: the empty state of that number, or of number 0, which no site has, where there are no
--- bytes
-abbrev pub begunAs : Word → ℕ → Begun
-begunAs done n = empty n
-begunAs waits n = empty 0
-begunAs known n = empty 0
-begunAs refused n = empty 0
+-- what the rules begin with where the word is done; else the empty state of number 0, which no site has
+abbrev pub begunAs : Word → Begun → Begun
+begunAs done b = b
+begunAs waits b = empty 0
+begunAs known b = empty 0
+begunAs refused b = empty 0
 
-unfoldable pub beginningOf : Empty → Begun
+unfoldable pub beginningOf : Start → Begun
 beginningOf (emptyReplica n) = empty n
-beginningOf (emptyBytes n out) = begunAs (wordOf (effectOf («wimtaze_empty» n) [] out [])) n
+beginningOf (emptyBytes n out) = begunAs (wordOf (emptiedInto n out)) (empty n)
+beginningOf (builtReplica n heap) = begunAs (reply (builtBy n heap .answer) .word) (heaped n (heapSaid heap))
+beginningOf (builtBytes n heap out) = begunAs (wordOf (builtInto n heap out)) (heaped n (heapSaid heap))
+
+-- the operations that were carried out to make the start, in order: none where the word is not done
+abbrev pub carriedWith : Word → List Operation → List Operation
+carriedWith done os = os
+carriedWith waits os = []
+carriedWith known os = []
+carriedWith refused os = []
+
+unfoldable pub carriedBefore : Start → List Operation
+carriedBefore (emptyReplica n) = []
+carriedBefore (emptyBytes n out) = []
+carriedBefore (builtReplica n heap) = builtOutcome n heap .integrated
+carriedBefore (builtBytes n heap out) =
+    carriedWith (wordOf (builtInto n heap out)) (build n (heapSaid heap) .integrated)
+
+-- all that was carried out on a copy: to make the start, and over the calls
+abbrev pub carriedSince : Start → List Call → List Operation
+carriedSince a cs = carriedBefore a ++ carriedBy (begun a) cs
 
 -- the characters of a copy, and the bytes of its visible text
 unfoldable pub charactersOf : Copy → List Character

@@ -1,12 +1,13 @@
--- One list of calls for C, computed to the bytes that it leaves: a step that does nothing, or does something else, is
--- told by it. Proved in proofs/ under its name in small letters.
+-- Two lists of calls for C, computed to the bytes that they leave: a step that does nothing, or does something else, is
+-- told by them. One begins empty, the other with what is built of a heap. Proved in proofs/ under their names in small
+-- letters.
 use Prim.Native.Nat.{ℕ, _/_, _%_}
 use mathlib.Core.Path.{_≡_}
 use mathlib.Core.Bool.{cond}
 use mathlib.Core.List.{List, [], _∷_, _++_, map}
 use lib.ListN.{replicate}
 use Rattle.woot.specs.Answers.{Word, done, waits, known, refused}
-use Rattle.woot.specs.Histories.{inserting, deleting, restoring, receiving, receivingAt}
+use Rattle.woot.specs.Histories.{inserting, deleting, restoring, receiving, receivingAt, empty}
 use Rattle.codec.specs.Calls.{saidBy}
 use Rattle.effects.specs.Results.{numberOf}
 use Rattle.effects.specs.Effects.{Effect}
@@ -15,7 +16,7 @@ use Rattle.wimtaze.specs.Calls.{«wimtaze_restore», named, effectOf}
 use Rattle.consistency.specs.Copies.{asBytes, Call, bytesCall, forC, emptyBytes, begun, ran, rulesBy, keptBytes}
 use Rattle.consistency.specs.Copies.{wordOf}
 use Rattle.wimtaze.specs.Calls.{«wimtaze_paste»}
-use Rattle.consistency.specs.Copies.{renews}
+use Rattle.consistency.specs.Copies.{renews, builtBytes, builtInto, beginningOf, carriedBefore}
 
 -- outputs that are long enough, with nothing in them
 abbrev pub room : List ℕ
@@ -109,3 +110,62 @@ pub record CallsExample : Type 0 where
       ∷ inserting 1 233
       ∷ inserting 2 33
       ∷ []
+
+-- ---- document 02, Req 08
+
+-- `I 1 1 78 0 0 0 1`: laptop 1 typed N
+abbrev pub typedLine : List ℕ
+typedLine = 73 ∷ 9 ∷ 49 ∷ 9 ∷ 49 ∷ 9 ∷ 55 ∷ 56 ∷ 9 ∷ 48 ∷ 9 ∷ 48 ∷ 9 ∷ 48 ∷ 9 ∷ 49 ∷ 10 ∷ []
+
+-- `I 1 2 111 1 1 0 1`: and o below it
+abbrev pub typedBelow : List ℕ
+typedBelow =
+    73 ∷ 9 ∷ 49 ∷ 9 ∷ 50 ∷ 9 ∷ 49 ∷ 49 ∷ 49 ∷ 9 ∷ 49 ∷ 9 ∷ 49 ∷ 9 ∷ 48 ∷ 9 ∷ 49 ∷ 10 ∷ []
+
+-- `D 2 1 2`: what `E 2 1 2 1` says
+abbrev pub deletedLine : List ℕ
+deletedLine = 68 ∷ 9 ∷ 50 ∷ 9 ∷ 49 ∷ 9 ∷ 50 ∷ 10 ∷ []
+
+-- each stands before what it needs; the erasing of o and B stand twice, and what has not come is left out
+abbrev pub exampleHeap : List ℕ
+exampleHeap =
+    erasedLine ++ typedBelow ++ insertedLine ++ typedLine ++ insertedLine ++ strayLine ++ deletedLine
+
+-- S2 1 2; C 1 1 78 0 0 0 0 1; C 1 2 111 1 1 1 0 1; C 2 1 66 0 1 1 0 1
+abbrev pub builtExample : List ℕ
+builtExample =
+    (83 ∷ 50 ∷ 9 ∷ 49 ∷ 9 ∷ 50 ∷ 10 ∷ [])
+    ++ (67 ∷ 9 ∷ 49 ∷ 9 ∷ 49 ∷ 9 ∷ 55 ∷ 56 ∷ 9 ∷ 48 ∷ 9 ∷ 48 ∷ 9 ∷ 48 ∷ 9 ∷ 48 ∷ 9 ∷ 49 ∷ 10 ∷ [])
+    ++ (67 ∷ 9 ∷ 49 ∷ 9 ∷ 50 ∷ 9 ∷ 49 ∷ 49 ∷ 49 ∷ 9 ∷ 49 ∷ 9 ∷ 49 ∷ 9 ∷ 49 ∷ 9 ∷ 48 ∷ 9 ∷ 49 ∷ 10 ∷ [])
+    ++ (67 ∷ 9 ∷ 50 ∷ 9 ∷ 49 ∷ 9 ∷ 54 ∷ 54 ∷ 9 ∷ 48 ∷ 9 ∷ 49 ∷ 9 ∷ 49 ∷ 9 ∷ 48 ∷ 9 ∷ 49 ∷ 10 ∷ [])
+
+-- laptop 1 brings o back, and what was in the heap is known
+abbrev pub laterCalls : List CCall
+laterCalls = «wimtaze_restore» 1 2 ∷ «wimtaze_receive» insertedLine ∷ []
+
+-- the same with 2 as the turn of o
+abbrev pub laterBytes : List ℕ
+laterBytes =
+    (83 ∷ 50 ∷ 9 ∷ 49 ∷ 9 ∷ 50 ∷ 10 ∷ [])
+    ++ (67 ∷ 9 ∷ 49 ∷ 9 ∷ 49 ∷ 9 ∷ 55 ∷ 56 ∷ 9 ∷ 48 ∷ 9 ∷ 48 ∷ 9 ∷ 48 ∷ 9 ∷ 48 ∷ 9 ∷ 49 ∷ 10 ∷ [])
+    ++ (67 ∷ 9 ∷ 49 ∷ 9 ∷ 50 ∷ 9 ∷ 49 ∷ 49 ∷ 49 ∷ 9 ∷ 50 ∷ 9 ∷ 49 ∷ 9 ∷ 49 ∷ 9 ∷ 48 ∷ 9 ∷ 49 ∷ 10 ∷ [])
+    ++ (67 ∷ 9 ∷ 50 ∷ 9 ∷ 49 ∷ 9 ∷ 54 ∷ 54 ∷ 9 ∷ 48 ∷ 9 ∷ 49 ∷ 9 ∷ 49 ∷ 9 ∷ 48 ∷ 9 ∷ 49 ∷ 10 ∷ [])
+
+-- how many were left out, as a C program reads it off the returned number
+abbrev pub leftOutRead : ℕ → ℕ
+leftOutRead r = r / 1048576 % 4096
+
+-- what is built of the heap, what was carried out to make it, in the rule's order, and what calls then leave; of a heap
+-- whose last line feed is missing nothing is built, and nothing was carried out
+pub record BuiltExample : Type 0 where
+  pub bytes-built : begun (builtBytes 1 exampleHeap room) ≡ asBytes builtExample
+  pub one-left-out : leftOutRead (numberOf (builtInto 1 exampleHeap room .result)) ≡ 1
+  pub carried-out :
+      carriedBefore (builtBytes 1 exampleHeap room)
+      ≡ saidBy typedLine ∷ saidBy typedBelow ∷ saidBy insertedLine ∷ saidBy deletedLine ∷ []
+  pub goes-on : ran (begun (builtBytes 1 exampleHeap room)) (map withRoom laterCalls) ≡ asBytes laterBytes
+  pub rules-after :
+      rulesBy (begun (builtBytes 1 exampleHeap room)) (map withRoom laterCalls) ≡ restoring (named 1 2) ∷ []
+  pub none-built : begun (builtBytes 1 (exampleHeap ++ 73 ∷ []) room) ≡ asBytes []
+  pub begins-empty : beginningOf (builtBytes 1 (exampleHeap ++ 73 ∷ []) room) ≡ empty 0
+  pub none-carried : carriedBefore (builtBytes 1 (exampleHeap ++ 73 ∷ []) room) ≡ []
