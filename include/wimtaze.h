@@ -34,6 +34,9 @@
  * A text that is there already, as the results on the pairing screen, goes in with one call of wimtaze_paste: see
  * pasting.
  *
+ * A laptop that joins late gets everything at once and in no useful order, and builds its sheet of it with one call of
+ * wimtaze_build: see joining late.
+ *
  *
  * What your program must do
  *
@@ -41,19 +44,20 @@
  * work. These rules are enough for it; without any one of them laptops can end with different texts for good.
  *
  *  1. One number for each laptop, 1 to 16, for the life of the sheet, and one running program on its file. A laptop
- *     whose sheet is lost or old begins an empty sheet, and the others send it everything. It may keep its number,
- *     since its clock follows its own characters as they come back, if nothing that it sent before, line or
- *     acknowledgement, is on its way or held aside by rule 5 any more, and if, until it has all that every other laptop
- *     holds, it types nothing and goes on from no file. Then it sends its own again, as after a crash, those that wait
- *     on its sheet among them. If it cannot know that, or never gets all (more than 32 of its own wait for one that was
- *     lost), it takes a number that nobody has had, and its old one is gone for good.
+ *     whose sheet is lost or old begins an empty sheet, and the others send it everything; or it builds one of all that
+ *     they send, see joining late. It may keep its number, since its clock follows its own characters as they come
+ *     back, if nothing that it sent before, line or acknowledgement, is on its way or held aside by rule 5 any more,
+ *     and if, until it has all that every other laptop holds, it types nothing and goes on from no file. Then it sends
+ *     its own again, as after a crash, those that wait on its sheet among them. If it cannot know that, or never gets
+ *     all (more than 32 of its own wait for one that was lost), it takes a number that nobody has had, and its old one
+ *     is gone for good.
  *  2. Save before you send. The new sheet is on the disk (a new file, synced, renamed over the old one) before its line
  *     is sent, and before the line that it came from is acknowledged. A laptop that crashed goes on from its file.
  *  3. Keep each line that you made until every other laptop has acknowledged it. Until then send it again from time to
  *     time, the oldest first. After a crash, make the lines again from the saved sheet: see the layouts. If a laptop is
  *     gone for good, the others send each other everything.
- *  4. Acknowledge a line only when wimtaze_receive (or wimtaze_receive_at) answered done, waits or known: then the
- *     sheet has it.
+ *  4. Acknowledge a line only when wimtaze_receive (or wimtaze_receive_at) answered done, waits or known, or when it
+ *     stands in a heap of which wimtaze_build left nothing out: then the sheet has it.
  *  5. A line refused with 10 comes in later, unless what it waits for was lost with a sheet. Do not acknowledge it.
  *     Hand the same line over again after something was carried out: keep it until then, or drop it and wait until its
  *     sender sends it again.
@@ -70,7 +74,8 @@
  *         no acknowledgement, sends it again. If wimtaze_counts refuses the sheet too, the file is damaged: rule 1; or
  *         it is, with 1, in the first form: wimtaze_upgrade takes it. Typing, and 2: what was given is no code point.
  *         Restoring, and 2: what was given is no identifier. Upgrading: the file is damaged, or it is, with 1, not in
- *         the first form.
+ *         the first form. Building: some line of the heap was damaged, and is refused as a heap by itself too: drop it,
+ *         and get it again; or, with 2, the number is not 1 to 16.
  *   3     The file is damaged: rule 1.
  *   4     Typing, pasting, erasing: the text is shorter than you thought. It may change with every line that comes.
  *         Receiving with a cursor: the cursor is beyond the text, and the line was not taken in. Set the cursor right,
@@ -79,8 +84,9 @@
  *         line with its number and such a clock came. Rule 6 or 7 was broken.
  *   6     Reserved. No call answers it.
  *   7     Two laptops have one number, or one went on from an old sheet, or typed before it had its own characters
- *         back: rule 1 or 2 was broken. It is told when the line comes, which is never acknowledged. The copies differ
- *         for good: tell a person, and begin a new sheet on every laptop.
+ *         back: rule 1 or 2 was broken. It is told when the line comes, which is never acknowledged, or when a sheet is
+ *         built of a heap that has both lines. The copies differ for good: tell a person, and begin a new sheet on
+ *         every laptop.
  *   8     Receiving: never between laptops that keep the rules. Otherwise as 7.
  *   9     Receiving, typing, pasting: never on a sheet that began empty. Otherwise as 7.
  *   10    Receiving: rule 5. Nothing is wrong; the sender, who gets no acknowledgement, sends the line again.
@@ -93,6 +99,9 @@
  *         hidden for good: type it anew.
  *   15    Downgrading: a character was brought back, or a line waits that says so, and the first form has no place
  *         for that. Nothing is wrong: keep the sheet as it is.
+ *   17    Building: the heap has more than 1,024 I lines, or more than 1,024 E and D lines, repeats counted. Leave out
+ *         the repeats, and of the lines that erase or restore one character all but one with the highest turn. If it
+ *         has more than 1,024 I lines still, rule 6 was broken.
  *   20    Pasting: the text is not UTF-8, or is cut in the middle of a character. Nothing is wrong with the sheet:
  *         bring the text to UTF-8, or give all of it.
  *
@@ -158,6 +167,47 @@
  * With an empty text the answer is done and nothing is written: wimtaze_written is 0, and the sheet you have stands.
  *
  *
+ * Joining late
+ *
+ * A laptop that joins in the middle of an event, or that lost its sheet, is sent what the others hold: each makes the
+ * lines again from its sheet, see the layouts. They come in no useful order, and receiving one by one lets no more than
+ * 32 of a sender wait. So the laptop puts the lines one behind the other as they come, and builds its sheet of this
+ * heap:
+ *
+ *     static uint8_t heap[WIMTAZE_HEAP_MAX];
+ *     uint64_t reply = wimtaze_build(number, heap, heap_length, sheet, sizeof sheet);
+ *     if (wimtaze_word(reply) == WIMTAZE_DONE) {
+ *         length = wimtaze_written(reply);
+ *         save_to_the_disk(sheet, length);
+ *         if (wimtaze_left_out(reply) == 0)
+ *             acknowledge_each(heap, heap_length);
+ *     }
+ *
+ * A heap is lines as they are sent, I, E and D, in any order, each with its line feed and nothing else between them.
+ * The same line may stand in it several times. It has at most 1,024 I lines, and at most 1,024 E and D lines; every
+ * line counts here, a repeated one each time, so that 1,025 times the same I line are refused with 17. No bytes at all
+ * are a heap too, and the empty sheet is built of it.
+ *
+ * The characters of the sheet, their order and their turns are those that wimtaze_receive leaves on an empty sheet when
+ * the lines come one by one, each after all that it needs, in any such sequence. So the order of the heap and its
+ * repeats make no difference, and laptops that build of the same lines show the same text, whatever their numbers.
+ *
+ * Nothing waits on the sheet. An edit that needs something that is not there is left out, and so is an I line whose
+ * neighbours stand in the other order, which receiving refuses with 8; and with each of them all that needs it.
+ * wimtaze_left_out tells how many edits were left out, a repeated one counted once, and a D line as the E line with
+ * turn 1 that it is read as. A line whose turn is not higher than the character's is not left out. If anything was,
+ * some line has not come, or a rule was broken. Then hand each line of the heap to wimtaze_receive: what is on the
+ * sheet is known, and the rest waits there, or is refused, and what to do then is said above. Or, as long as nothing
+ * was edited on the sheet, put what comes next to the heap, and build anew.
+ *
+ * The clock is the highest among the heap's I lines of the laptop's own number, those that are left out among them, or
+ * 0. So no identifier of the heap is used again, and rule 1 holds as for a sheet that was received; the clock can be
+ * higher than receiving leaves it, which passes over the clocks of lines that it refuses.
+ *
+ * Two I lines with one identifier that differ in anything else make the whole heap refused with 7, also if both would
+ * be left out.
+ *
+ *
  * The layouts
  *
  * Lines and saved sheets are text, to be sent and kept in files as they are. Fields are parted by one tab, each line
@@ -202,8 +252,8 @@
  *
  * The calls
  *
- * Inputs. A length is in bytes. Any bytes and any numbers may be passed: what is not a sheet, a line or UTF-8 is
- * refused. Inputs are only read, and are not needed after the call.
+ * Inputs. A length is in bytes. Any bytes and any numbers may be passed: what is not a sheet, a line, a heap or
+ * UTF-8 is refused. Inputs are only read, and are not needed after the call.
  *
  * Outputs. They are yours; the library writes only between the pointer and its length. When the word is done or
  * waits, the new sheet (or the text) stands from the first byte of the first output, wimtaze_written bytes of it, and
@@ -228,9 +278,9 @@ extern "C" {
 #endif
 
 /* The version of this header and of the library that it came with. */
-#define WIMTAZE_VERSION "0.8.0"
+#define WIMTAZE_VERSION "0.9.0"
 #define WIMTAZE_VERSION_MAJOR 0
-#define WIMTAZE_VERSION_MINOR 8
+#define WIMTAZE_VERSION_MINOR 9
 #define WIMTAZE_VERSION_PATCH 0
 
 /* The limits of a sheet. */
@@ -245,6 +295,9 @@ extern "C" {
 #define WIMTAZE_LINE_MAX 37         /* either line */
 #define WIMTAZE_LINES_MAX 37888     /* the lines of a pasted block */
 #define WIMTAZE_TEXT_MAX 4096       /* the text */
+
+/* The bytes of the longest heap that is not refused: 1,024 lines of typed characters and 1,024 of erased ones. */
+#define WIMTAZE_HEAP_MAX 56320
 
 /*
  * The most bytes of stack that a call takes (less than 230 KiB was measured on x86-64). They must be free when the call
@@ -262,18 +315,18 @@ enum wimtaze_words {
 };
 
 /*
- * Why a call is turned away. Where several hold, the first is told, in this order: 1, 2, 20, 3, 15, 4, 13, 14, 5 to 12;
- * but in pasting 11 comes before 9.
+ * Why a call is turned away. Where several hold, the first is told, in this order: 1, 2, 17, 20, 3, 15, 4, 13, 14, 5 to
+ * 12; but in pasting 11 comes before 9.
  */
 enum wimtaze_refusals {
     WIMTAZE_REFUSAL_NONE = 0,           /* not refused */
-    WIMTAZE_REFUSAL_LAYOUT = 1,         /* the line or the saved sheet lacks its layout */
+    WIMTAZE_REFUSAL_LAYOUT = 1,         /* the line, the heap or the saved sheet lacks its layout */
     WIMTAZE_REFUSAL_RANGE = 2,          /* a number, in a line or a sheet or handed to the call, is out of its range */
     WIMTAZE_REFUSAL_FORM = 3,           /* the saved sheet contradicts itself: the library never writes such a one */
     WIMTAZE_REFUSAL_POSITION = 4,       /* no such gap or place: above the count of shown characters, or place 0 */
     WIMTAZE_REFUSAL_CLOCK = 5,          /* the laptop's clock is 65,535, or too near to it for the block to be pasted */
     WIMTAZE_REFUSAL_TAKEN = 6,          /* reserved: the clock follows the laptop's own characters; never answered */
-    WIMTAZE_REFUSAL_CONFLICT = 7,       /* the insert's identifier stands for another insert on the sheet */
+    WIMTAZE_REFUSAL_CONFLICT = 7,       /* an identifier stands for another insert on the sheet or in the heap */
     WIMTAZE_REFUSAL_CROSSED = 8,        /* the insert's two neighbours stand in the other order on the sheet */
     WIMTAZE_REFUSAL_UNPLACEABLE = 9,    /* the sheet gives the insert no place between its neighbours */
     WIMTAZE_REFUSAL_SENDER_FULL = 10,   /* the edit would wait, and its sender has 32 waiting: try it again later */
@@ -282,6 +335,7 @@ enum wimtaze_refusals {
     WIMTAZE_REFUSAL_NOT_HIDDEN = 13,    /* the character to be restored is shown, or is not on the sheet */
     WIMTAZE_REFUSAL_LAST_TURN = 14,     /* the turn of the character to be restored is 255: it stays hidden */
     WIMTAZE_REFUSAL_HIGH_TURN = 15,     /* a turn on the sheet is above 1: the first form has no place for it */
+    WIMTAZE_REFUSAL_HEAP_FULL = 17,     /* the heap has more than 1,024 lines of a kind, repeats counted */
     WIMTAZE_REFUSAL_NOT_UTF8 = 20       /* the text to be pasted is not UTF-8 */
 };
 
@@ -351,6 +405,15 @@ uint64_t wimtaze_paste(const uint8_t *sheet, size_t sheet_length, uint64_t gap, 
                        uint8_t *sheet_out, size_t sheet_out_length, uint8_t *lines_out, size_t lines_out_length);
 
 /*
+ * Builds the sheet of laptop `number`, 1 to 16, of a heap of lines in any order: see joining late. It holds what
+ * receiving leaves when each line comes after all that it needs. What never has all that it needs is left out, and
+ * nothing waits. How many edits were left out is wimtaze_left_out of the reply.
+ * Refusals: 1, 2, 17, 7, 12. Each is of the whole heap, however long it is.
+ */
+uint64_t wimtaze_build(uint64_t number, const uint8_t *heap, size_t heap_length, uint8_t *sheet_out,
+                       size_t sheet_out_length);
+
+/*
  * Writes the text that the sheet shows, in UTF-8. It is for showing and printing, and not the characters themselves:
  * code points 0 to 8, 11 to 31 and 127 stand in it as U+FFFD, bytes EF BF BD. The sheet and the lines keep the real
  * ones.
@@ -382,9 +445,10 @@ uint64_t wimtaze_downgrade(const uint8_t *sheet, size_t sheet_length, uint8_t *o
 /*
  * Every call but wimtaze_moved returns one number, from the lowest bit up: the word (2 bits), the refusal (6), the
  * counts carried and thrown (12 each), and the lengths of what was written to the first output and to the line's (16
- * each). wimtaze_receive_at has the shift in place of the last, in two's complement. wimtaze_counts has, in place of
- * these four, the shown characters, the waiting edits, all characters and the room. Each part has room for its largest
- * value, so none is ever cut; what has no meaning for an answer is 0. The functions below take the number apart.
+ * each). wimtaze_receive_at has the shift in place of the last, in two's complement, and wimtaze_build what it left out
+ * in place of thrown. wimtaze_counts has, in place of these four, the shown characters, the waiting edits, all
+ * characters and the room. Each part has room for its largest value, so none is ever cut; what has no meaning for an
+ * answer is 0. The functions below take the number apart.
  */
 
 /* The answer. */
@@ -401,7 +465,7 @@ static inline enum wimtaze_refusals wimtaze_refusal(uint64_t reply)
 
 /*
  * How many edits the call carried out, its own and those that waited for it: at most 513, by pasting at most 1,536, and
- * 1 by erasing and by restoring; 0 unless the word is done.
+ * 1 by erasing and by restoring; 0 by building, and unless the word is done.
  */
 static inline unsigned wimtaze_carried(uint64_t reply)
 {
@@ -410,6 +474,12 @@ static inline unsigned wimtaze_carried(uint64_t reply)
 
 /* How many waiting edits the call threw out, which met refusal 8 or 9 when they had all they needed: at most 512. */
 static inline unsigned wimtaze_thrown(uint64_t reply)
+{
+    return (unsigned)(reply >> 20 & 4095);
+}
+
+/* Of wimtaze_build: how many different edits of the heap are not on the sheet, at most 2,048; 0 unless it is done. */
+static inline unsigned wimtaze_left_out(uint64_t reply)
 {
     return (unsigned)(reply >> 20 & 4095);
 }
