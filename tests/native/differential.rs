@@ -1,6 +1,6 @@
 //! The C calls of the static library against the plain reference, call by call: random histories of up to sixteen
-//! laptops with lines lost, repeated and reordered, made-up sheets, damaged lines, sheets and blocks of text, outputs
-//! of every length.
+//! laptops with lines lost, repeated and reordered, made-up sheets, heaps of lines, damaged lines, sheets, heaps and
+//! blocks of text, outputs of every length.
 //! A call passes if the returned number and every byte of its inputs and outputs, and of the guards around them, are
 //! what the reference says.
 //!
@@ -12,10 +12,10 @@ mod library;
 mod reference;
 
 use library::{
-    wimtaze_counts, wimtaze_downgrade, wimtaze_empty, wimtaze_erase, wimtaze_moved, wimtaze_paste, wimtaze_receive,
-    wimtaze_receive_at, wimtaze_restore, wimtaze_text, wimtaze_type, wimtaze_upgrade,
+    wimtaze_build, wimtaze_counts, wimtaze_downgrade, wimtaze_empty, wimtaze_erase, wimtaze_moved, wimtaze_paste,
+    wimtaze_receive, wimtaze_receive_at, wimtaze_restore, wimtaze_text, wimtaze_type, wimtaze_upgrade,
 };
-use reference::{Outcome, Reply};
+use reference::{Operation, Outcome, Reply};
 use std::collections::BTreeMap;
 use std::time::{Duration, Instant};
 
@@ -66,6 +66,7 @@ enum Call<'a> {
     Erase(&'a [u8], u64),
     Restore(&'a [u8], u64, u64),
     Paste(&'a [u8], u64, &'a [u8]),
+    Build(u64, &'a [u8]),
     Text(&'a [u8]),
     Counts(&'a [u8]),
     Upgrade(&'a [u8]),
@@ -82,6 +83,7 @@ impl Call<'_> {
             Call::Erase(..) => "erase",
             Call::Restore(..) => "restore",
             Call::Paste(..) => "paste",
+            Call::Build(..) => "build",
             Call::Text(..) => "text",
             Call::Counts(..) => "counts",
             Call::Upgrade(..) => "upgrade",
@@ -89,7 +91,7 @@ impl Call<'_> {
         }
     }
 
-    /// The sheet, and the line or the block, that are handed over.
+    /// The sheet or the heap, and the line or the block, that are handed over.
     fn inputs(&self) -> (&[u8], &[u8]) {
         match self {
             Call::Empty(_) => (&[], &[]),
@@ -98,6 +100,7 @@ impl Call<'_> {
             Call::Type(sheet, ..) | Call::Erase(sheet, _) | Call::Restore(sheet, ..) => (sheet, &[]),
             Call::Text(sheet) | Call::Counts(sheet) => (sheet, &[]),
             Call::Upgrade(sheet) | Call::Downgrade(sheet) => (sheet, &[]),
+            Call::Build(_, heap) => (heap, &[]),
         }
     }
 
@@ -110,6 +113,7 @@ impl Call<'_> {
             Call::Erase(sheet, place) => reference::erase_call(sheet, place),
             Call::Restore(sheet, laptop, clock) => reference::restore_call(sheet, laptop, clock),
             Call::Paste(sheet, gap, block) => reference::paste_call(sheet, gap, block),
+            Call::Build(number, heap) => reference::build_call(number, heap),
             Call::Text(sheet) => reference::text_call(sheet),
             Call::Counts(sheet) => reference::counts_call(sheet),
             Call::Upgrade(old) => reference::upgrade_call(old),
@@ -130,6 +134,7 @@ impl Call<'_> {
                 Call::Erase(_, place) => wimtaze_erase(s, s_len, place, f, f_len, o, o_len),
                 Call::Restore(_, laptop, clock) => wimtaze_restore(s, s_len, laptop, clock, f, f_len, o, o_len),
                 Call::Paste(_, gap, _) => wimtaze_paste(s, s_len, gap, l, l_len, f, f_len, o, o_len),
+                Call::Build(number, _) => wimtaze_build(number, s, s_len, f, f_len),
                 Call::Text(_) => wimtaze_text(s, s_len, f, f_len),
                 Call::Counts(_) => wimtaze_counts(s, s_len),
                 Call::Upgrade(_) => wimtaze_upgrade(s, s_len, f, f_len),
@@ -302,9 +307,7 @@ impl Random {
         };
         let mut sheet = format!("S2\t{}\t{clock}\n", 1 + self.below(of.laptops)).into_bytes();
         let mut ids: Vec<Id> = (1..=of.laptops).flat_map(|l| (1..=of.clocks).map(move |c| (l, c))).collect();
-        for k in (1..ids.len()).rev() {
-            ids.swap(k, self.below(k + 1));
-        }
+        self.shuffle(&mut ids);
         ids.truncate(rows);
         if self.one_in(2) {
             ids.sort();
@@ -381,6 +384,90 @@ impl Random {
             crowd.extend(line.into_bytes());
         }
         (crowd, inserts)
+    }
+
+    fn shuffle<T>(&mut self, all: &mut [T]) {
+        for k in (1..all.len()).rev() {
+            all.swap(k, self.below(k + 1));
+        }
+    }
+
+    /// Made-up operation lines on few identifiers, mostly with one insert for each.
+    fn heap_lines(&mut self) -> Vec<Vec<u8>> {
+        let of = Universe { laptops: 1 + self.below(5), clocks: 2 + self.below(6) };
+        let (twice, most) = (self.one_in(5), self.pick(&[3, 12, 30, 60]));
+        let mut lines: Vec<Vec<u8>> = Vec::new();
+        for _ in 0..self.below(most + 1) {
+            let line = self.line(of);
+            let id = |line: &[u8]| numbers(line, "I").pop().map(|ns| (ns[0], ns[1]));
+            let again = id(&line).is_some() && lines.iter().any(|other| id(other) == id(&line));
+            if twice || !again {
+                lines.push(line);
+            }
+        }
+        lines
+    }
+
+    /// So many inserts of a history: each between two that stand in this order, near each other, and mostly known by
+    /// then; so some cross, since where each is placed is only guessed.
+    fn history_lines(&mut self, count: usize, laptops: usize) -> Vec<Vec<u8>> {
+        let (mut order, mut clocks): (Vec<Id>, Vec<usize>) = (vec![BEGIN, END], vec![0; laptops + 1]);
+        let (reach, spread) = (self.pick(&[1, 1, 1, 2, 8]), self.pick(&[1, 8, 1024]));
+        let mut lines = Vec::new();
+        for _ in 0..count {
+            let laptop = 1 + self.below(laptops);
+            clocks[laptop] += 1;
+            let top = order.len() - 1;
+            let at = if self.one_in(2) { top.saturating_sub(1 + self.below(spread)) } else { self.below(top) };
+            let below = (at + 1 + self.below(reach)).min(top);
+            let id = (laptop, clocks[laptop]);
+            let code = self.pick(&CODE_POINTS);
+            lines.push(format!("I\t{}\t{}\t{code}\t{}\n", id.0, id.1, ends(order[at], order[below])).into_bytes());
+            order.insert(at + 1 + self.below(below - at), id);
+        }
+        lines
+    }
+
+    /// Erase and restore lines of the characters of these lines, and now and then of another.
+    fn turn_lines(&mut self, inserts: &[Vec<u8>], count: usize) -> Vec<Vec<u8>> {
+        let turn = |random: &mut Random| {
+            let line = if inserts.is_empty() { None } else { Some(&inserts[random.below(inserts.len())]) };
+            let named = line.and_then(|line| numbers(line, "I").pop()).filter(|_| !random.one_in(12));
+            let (laptop, clock) = named.map_or((16, 60_000 + random.below(3) as u64), |ns| (ns[0], ns[1]));
+            let (sender, turn) = (1 + random.below(16), random.pick(&[1, 1, 1, 2, 2, 3, 4, 254, 255]));
+            match turn {
+                1 if random.one_in(2) => format!("D\t{sender}\t{laptop}\t{clock}\n").into_bytes(),
+                _ => format!("E\t{sender}\t{laptop}\t{clock}\t{turn}\n").into_bytes(),
+            }
+        };
+        (0..count).map(|_| turn(self)).collect()
+    }
+
+    /// The lines as they come: some lost, some repeated, an `E` line of turn 1 as a `D` line, in any order; now and
+    /// then damaged.
+    fn heap(&mut self, lines: &[Vec<u8>]) -> Vec<u8> {
+        let (lost, again) = (self.pick(&[4, 20, 10_000]), self.pick(&[3, 20, 10_000]));
+        let mut heap = Vec::new();
+        for line in lines {
+            if self.one_in(lost) {
+                continue;
+            }
+            heap.push(line.clone());
+            while self.one_in(again) {
+                let mut repeat = line.clone();
+                if let Some([sender, laptop, clock, 1]) = numbers(line, "E").pop().as_deref() {
+                    repeat = format!("D\t{sender}\t{laptop}\t{clock}\n").into_bytes();
+                }
+                heap.push(repeat);
+            }
+        }
+        match self.below(6) {
+            0 => {}
+            1 => heap.reverse(),
+            _ => self.shuffle(&mut heap),
+        }
+        let heap = heap.concat();
+        if self.one_in(10) { self.damaged(&heap) } else { heap }
     }
 
     fn damaged(&mut self, bytes: &[u8]) -> Vec<u8> {
@@ -540,6 +627,16 @@ fn rows(sheet: &[u8]) -> Vec<Vec<u64>> {
     numbers(sheet, "C").into_iter().filter(|row| row.len() > 3).collect()
 }
 
+/// Whether a sheet holds all that the operation of a line needs.
+fn has_needs(sheet: &[u8], line: &[u8]) -> bool {
+    let rows = rows(sheet);
+    let held = |id: &[u64]| id[0] == 0 || rows.iter().any(|row| row[..2] == *id);
+    match numbers(line, "I").pop() {
+        Some(insert) => held(&insert[3..5]) && held(&insert[5..7]),
+        None => numbers(line, "E").into_iter().chain(numbers(line, "D")).any(|turn| held(&turn[1..3])),
+    }
+}
+
 /// How many rows a saved sheet shows, as far as it can be read.
 fn shown(sheet: &[u8]) -> usize {
     rows(sheet).iter().filter(|row| row[3] % 2 == 0).count()
@@ -565,7 +662,9 @@ struct Tester {
 /// Whether a call that does not type leaves another clock.
 fn raises(call: &Call, outcome: &Outcome) -> bool {
     let (sheet, _) = call.inputs();
-    !matches!(call, Call::Empty(..) | Call::Type(..) | Call::Paste(..) | Call::Text(..) | Call::Counts(..))
+    let begins_or_types = matches!(call, Call::Empty(..) | Call::Build(..) | Call::Type(..) | Call::Paste(..));
+    !begins_or_types
+        && !matches!(call, Call::Text(..) | Call::Counts(..))
         && !outcome.first.is_empty()
         && clock(&outcome.first) != clock(sheet)
 }
@@ -660,6 +759,80 @@ fn pastes(call: &Call, outcome: &Outcome) -> Option<&'static str> {
     }
 }
 
+/// What becomes of a heap: what was left out of it, and why; what was in it that makes no difference, or only to the
+/// clock; that one ground is told where a later one holds too.
+fn builds(call: &Call, outcome: &Outcome) -> Vec<&'static str> {
+    let Call::Build(number, bytes) = call else { return Vec::new() };
+    let Some((heap, all_pass)) = reference::read_heap(bytes) else {
+        return if bytes.contains(&b'\t') { vec!["1-or-more"] } else { vec![] };
+    };
+    let count = |letter| numbers(bytes, letter).len();
+    let (full, both) = (count("I") > 1024 || count("E") + count("D") > 1024, reference::disagree(&heap));
+    let met = match outcome.reply {
+        Reply::Done { thrown, .. } => return built_of(*number, &heap, thrown, outcome),
+        Reply::Refused(2) => [(!all_pass, "2-line"), (all_pass, "2-number"), (full, "2-or-17"), (both, "2-or-7")],
+        Reply::Refused(17) => {
+            let (mut inserts, mut turns) = (Vec::new(), Vec::new());
+            for o in &heap {
+                let seen = if matches!(o, Operation::Insert(_)) { &mut inserts } else { &mut turns };
+                if !seen.contains(o) {
+                    seen.push(*o);
+                }
+            }
+            let few = inserts.len() <= 1024 && turns.len() <= 1024;
+            let many = count("I") > 1024;
+            [(many, "17-inserts"), (!many, "17-turns"), (both, "17-or-7"), (few, "17-repeats")]
+        }
+        Reply::Refused(7) => {
+            let rows = reference::Sheet::build(1, &heap).0.rows;
+            let left_out = |o: &Operation| match o {
+                Operation::Insert(i) => !rows.iter().any(|r| r.insert.id == i.id),
+                _ => true,
+            };
+            let rest: Vec<Operation> = heap.iter().filter(|o| !left_out(o)).copied().collect();
+            [(!reference::disagree(&rest), "7-left-out"), (false, ""), (false, ""), (false, "")]
+        }
+        _ => return Vec::new(),
+    };
+    met.into_iter().filter(|(met, _)| *met).map(|(_, what)| what).collect()
+}
+
+/// The same of a heap that a sheet was built of.
+fn built_of(number: u64, heap: &[Operation], left_out: usize, outcome: &Outcome) -> Vec<&'static str> {
+    let (rows, site) = (rows(&outcome.first), clock(&outcome.first));
+    let held = |id: reference::Id| {
+        id.laptop == 0 || rows.iter().any(|r| (r[0], r[1]) == (id.laptop.into(), id.clock.into()))
+    };
+    let (mut crossing, mut needing, mut not_larger, mut repeats) = (false, false, false, false);
+    for (k, o) in heap.iter().enumerate() {
+        repeats |= heap[..k].contains(o);
+        match o {
+            Operation::Insert(i) if held(i.id) => {}
+            Operation::Insert(i) if held(i.previous) && held(i.next) => crossing = true,
+            Operation::Insert(_) => needing = true,
+            Operation::Turn(t) if held(t.id) => {
+                let larger = |p: &Operation| matches!(p, Operation::Turn(u) if u.id == t.id && u.turn > t.turn);
+                not_larger |= heap.iter().any(larger);
+            }
+            Operation::Turn(_) => needing = true,
+        }
+    }
+    let own = rows.iter().filter(|r| r[0] == number).map(|r| r[1]).max().unwrap_or(0);
+    let what = [
+        (heap.is_empty(), "nothing"),
+        (left_out == 0, "all"),
+        (crossing, "crossing"),
+        (needing, "needing"),
+        (not_larger, "not-larger"),
+        (repeats, "repeats"),
+        (site == Some(own) && own > 0, "own-clock"),
+        (site > Some(own), "clock-left-out"),
+        (rows.len() == 1024, "1024"),
+        (left_out > 1024, "left-out-1025"),
+    ];
+    what.into_iter().filter(|(met, _)| *met).map(|(_, what)| what).collect()
+}
+
 /// Whether the block is read as Rust's own library reads it.
 fn block_is_sound(call: &Call) -> bool {
     let Call::Paste(_, _, block) = call else { return true };
@@ -686,6 +859,7 @@ fn told(call: &Call, n: u64) -> String {
         Call::Counts(_) => ["shown", "waiting", "characters", "room"],
         Call::ReceiveAt(..) => ["carried", "thrown", "written", "shift"],
         Call::Paste(..) => ["carried", "thrown", "written", "lines"],
+        Call::Build(..) => ["carried", "left out", "written", "line"],
         _ => ["carried", "thrown", "written", "line"],
     };
     let last = if names[3] == "shift" { n as i64 >> 48 } else { (n >> 48) as i64 };
@@ -714,7 +888,7 @@ impl Tester {
             *self.met.entry((call.name(), "raising".into())).or_default() += 1;
         }
         let happenings = [turns(call, outcome), crosses(call, outcome), moves(call, outcome), pastes(call, outcome)];
-        for what in happenings.into_iter().flatten() {
+        for what in happenings.into_iter().flatten().chain(builds(call, outcome)) {
             *self.met.entry((call.name(), what.into())).or_default() += 1;
         }
         let word = match outcome.reply {
@@ -786,6 +960,7 @@ impl Tester {
             Call::Erase(_, place) => println!("  place {place}"),
             Call::Restore(_, laptop, clock) => println!("  laptop {laptop}, clock {clock}"),
             Call::Paste(_, gap, block) => println!("  gap {gap}, block {block:02x?}"),
+            Call::Build(number, _) => println!("  number {number}, and the heap"),
             Call::Receive(..) => println!("  line {:?}", String::from_utf8_lossy(line)),
             Call::ReceiveAt(_, _, gap) => println!("  line {:?}, gap {gap}", String::from_utf8_lossy(line)),
             Call::Text(_) | Call::Counts(_) | Call::Upgrade(_) | Call::Downgrade(_) => {}
@@ -1052,7 +1227,112 @@ impl Tester {
         }
         if self.random.one_in(2) {
             self.gather(&sent);
+        } else {
+            self.build(&sent);
         }
+    }
+
+    /// A sheet is built of these lines as they come; what is then done with it; and it must be what the same heap gives
+    /// in another order, and what receiving its lines one by one gives.
+    fn build(&mut self, lines: &[Vec<u8>]) {
+        let heap = self.random.heap(lines);
+        let number = if self.random.one_in(30) { self.random.next() >> self.random.below(64) } else { self.number() };
+        let Some((built, _)) = self.call(&Call::Build(number, &heap)) else { return };
+        let reply = self.last;
+        let mut moved: Vec<&[u8]> = lines_of(&heap).collect();
+        self.random.shuffle(&mut moved);
+        if let Some((again, _)) = self.call(&Call::Build(number, &moved.concat())) {
+            self.meet("build", "permuted");
+            self.expect((again, self.last) == (built.clone(), reply), "a heap in another order gives another sheet");
+        }
+        if moved.len() <= 200 {
+            self.receive_ready(&moved, &rows(&built));
+        }
+        let mut sheet = built;
+        for _ in 0..self.random.below(12) {
+            let line = if moved.is_empty() { b"I\t1\t1\t97\t0\t0\t0\t1\n" } else { self.random.pick(&moved) };
+            if let Some((new, _)) = self.anything(&sheet, line) {
+                sheet = new;
+            }
+        }
+    }
+
+    /// The lines come to an empty sheet of any number one by one, each after all it needs, in any such sequence. That
+    /// must leave these rows.
+    fn receive_ready(&mut self, lines: &[&[u8]], built: &[Vec<u64>]) {
+        let number = self.number();
+        let (mut sheet, mut left) = (self.begin(number), lines.to_vec());
+        loop {
+            let ready: Vec<usize> = (0..left.len()).filter(|k| has_needs(&sheet, left[*k])).collect();
+            if ready.is_empty() {
+                break;
+            }
+            let line = left.swap_remove(self.random.pick(&ready));
+            let written = self.receive(&sheet, line);
+            match self.last {
+                Reply::Refused(4 | 12) => left.push(line),
+                Reply::Refused(8) | Reply::Known => {}
+                Reply::Done { .. } => sheet = written.map_or(sheet, |(new, _)| new),
+                _ => return self.expect(false, "a line that had all it needs was turned away"),
+            }
+        }
+        self.meet("build", "received");
+        self.expect(rows(&sheet) == built, "building gives other rows than receiving one by one");
+    }
+
+    fn number(&mut self) -> u64 {
+        1 + self.random.below(16) as u64
+    }
+
+    fn meet(&mut self, call: &'static str, what: &str) {
+        *self.met.entry((call, what.into())).or_default() += 1;
+    }
+
+    fn expect(&mut self, holds: bool, otherwise: &str) {
+        if !holds {
+            self.failed += 1;
+            println!("seed {}: {otherwise}", self.seed);
+        }
+    }
+
+    /// A heap of made-up operations, or of a history with turns.
+    fn made_up_heap(&mut self) {
+        let random = &mut self.random;
+        let lines = if random.one_in(2) {
+            random.heap_lines()
+        } else {
+            let (count, laptops, turns) = (random.below(60), 1 + random.below(16), random.below(20));
+            let inserts = random.history_lines(count, laptops);
+            let turns = random.turn_lines(&inserts, turns);
+            [inserts, turns].concat()
+        };
+        self.build(&lines);
+    }
+
+    /// A heap at or just above its limits, repeats counted: what it has too much of may be repeats, and some line of it
+    /// may be out of range, or two inserts disagree. Those within the limits are few, since the reference takes long.
+    fn large_heap(&mut self, within: bool) {
+        let random = &mut self.random;
+        let over = if within { (0, 0) } else { random.pick(&[(1, 0), (1, 0), (0, 1), (0, 1), (1, 1), (1000, 0)]) };
+        let (inserts, turns) = (1024 + over.0, if over.1 == 0 { random.pick(&[0, 500, 1024]) } else { 1024 + over.1 });
+        let distinct = if random.one_in(3) { random.pick(&[1, 600, 1000]) } else { inserts };
+        let lines = random.history_lines(distinct.min(inserts), 16);
+        let mut heap: Vec<Vec<u8>> = lines.iter().cycle().take(inserts).cloned().collect();
+        if within && random.one_in(3) {
+            heap.swap_remove(0);
+            heap = heap.into_iter().filter(|line| *line != lines[0]).collect();
+        }
+        heap.extend(random.turn_lines(&lines, turns));
+        if random.one_in(5) {
+            heap[0] = b"I\t1\t1\t96\t0\t0\t0\t1\n".to_vec();
+        }
+        random.shuffle(&mut heap);
+        let mut heap = heap.concat();
+        if random.one_in(6) {
+            heap = random.with_field_replaced(&heap);
+        }
+        let number = if random.one_in(20) { 17 } else { self.number() };
+        self.call(&Call::Build(number, &heap));
     }
 
     /// Two laptops get what was sent, each in an order of its own, and one of them of the turns of a character only the
@@ -1094,12 +1374,21 @@ impl Tester {
         (left.is_empty() && !waits).then_some(sheet)
     }
 
-    /// A laptop that lost its sheet begins with an empty one of its number, and all that was sent comes to it again.
+    /// A laptop that lost its sheet begins with an empty one of its number, and all that was sent comes to it again; or
+    /// it builds its sheet of all that, or most of it, and then gets the lines of which some were left out.
     fn set_up_anew(&mut self, laptop: &mut Laptop, sent: &[Vec<u8>]) {
-        let number = reference::read_sheet(&laptop.sheet).map_or(1, |sheet| sheet.laptop);
-        laptop.sheet = self.begin(number.into());
+        let number = reference::read_sheet(&laptop.sheet).map_or(1, |sheet| sheet.laptop).into();
+        if self.random.one_in(2) {
+            let heap = self.random.heap(sent);
+            if let Some((sheet, _)) = self.call(&Call::Build(number, &heap)) {
+                laptop.sheet = sheet;
+                laptop.inbox = lines_of(&heap).map(<[u8]>::to_vec).collect();
+                return self.meet("build", "anew");
+            }
+        }
+        laptop.sheet = self.begin(number);
         laptop.inbox = sent.to_vec();
-        *self.met.entry(("receive", "anew".into())).or_default() += 1;
+        self.meet("receive", "anew");
     }
 
     /// Some line that is on its way, mostly an early one; it may come again, and comes again if it was turned away.
@@ -1272,6 +1561,10 @@ impl Tester {
         if self.random.one_in(if full { 2 } else { 10 }) {
             self.paste_large(&sheet);
         }
+        if self.random.one_in(2) {
+            let within = self.random.one_in(8);
+            self.large_heap(within);
+        }
         for _ in 0..6 {
             let line = match self.random.below(5) {
                 0 => format!("I\t{sender}\t60000\t97\t0\t0\t0\t1\n").into_bytes(),
@@ -1304,7 +1597,7 @@ impl Tester {
 }
 
 /// Every reply that each call can give, and waiting operations carried and thrown out.
-const TO_MEET: [(&str, &str); 12] = [
+const TO_MEET: [(&str, &str); 13] = [
     ("empty", "done 2 12"),
     ("receive", "done waits known releasing throwing raising anew hiding showing behind equal 1 2 3 7 8 9 10 11 12"),
     (
@@ -1320,6 +1613,12 @@ const TO_MEET: [(&str, &str); 12] = [
         "paste",
         "done releasing throwing empty empty-or-5 empty-or-9 empty-or-11 hidden hidden-at-top pushed 1-or-20 2-or-20 \
          20-or-3 5-or-9 5-later 11-or-9 11-later 9-later 1 2 20 3 4 5 11 9 12",
+    ),
+    (
+        "build",
+        "done nothing all crossing needing not-larger repeats own-clock clock-left-out 1024 left-out-1025 anew \
+         permuted received 1-or-more 2-line 2-number 2-or-17 2-or-7 17-inserts 17-turns 17-repeats 17-or-7 7-left-out \
+         1 2 17 7 12",
     ),
     ("text", "done 1 2 3 12"),
     ("counts", "done 1 2 3"),
@@ -1351,7 +1650,8 @@ impl Tester {
             k if large => self.large(k % 2 == 0),
             0 => self.crowded(),
             1 | 2 => self.history(),
-            3..=5 => self.made_up(),
+            3 | 4 => self.made_up(),
+            5 => (0..6).for_each(|_| self.made_up_heap()),
             _ => self.awaited(),
         }
     }

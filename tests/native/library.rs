@@ -60,6 +60,13 @@ extern "C" {
         lines_out: *mut u8,
         lines_out_length: usize,
     ) -> u64;
+    pub fn wimtaze_build(
+        number: u64,
+        heap: *const u8,
+        heap_length: usize,
+        sheet_out: *mut u8,
+        sheet_out_length: usize,
+    ) -> u64;
     pub fn wimtaze_text(sheet: *const u8, sheet_length: usize, text_out: *mut u8, text_out_length: usize) -> u64;
     pub fn wimtaze_counts(sheet: *const u8, sheet_length: usize) -> u64;
     pub fn wimtaze_upgrade(old: *const u8, old_length: usize, sheet_out: *mut u8, sheet_out_length: usize) -> u64;

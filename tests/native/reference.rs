@@ -66,6 +66,8 @@ pub enum Reply {
 
 const MOST_ROWS: usize = 1024;
 const MOST_WAITING: usize = 32;
+/// Of a heap's inserts, and of its erase or restore lines.
+const MOST_IN_HEAP: usize = 1024;
 
 fn is_laptop(n: u8) -> bool {
     (1..=16).contains(&n)
@@ -441,6 +443,33 @@ impl Sheet {
         (Reply::Done { carried: all_carried, thrown: all_thrown }, sent)
     }
 
+    /// Building from a heap (Req 08): its operations are received one by one, each after all it needs, as often as
+    /// some can be; the count is of those that never can, and of those that meet condition 8. The sequence is the
+    /// heap's from its end.
+    pub fn build(laptop: u8, heap: &[Operation]) -> (Sheet, usize) {
+        let (mut sheet, mut left, mut left_out) = (Sheet::empty(laptop), Vec::new(), 0);
+        for o in heap {
+            if !left.contains(o) {
+                left.push(*o);
+            }
+        }
+        while left.iter().any(|o| sheet.has_all(o)) {
+            for o in std::mem::take(&mut left).into_iter().rev() {
+                if !sheet.has_all(&o) {
+                    left.insert(0, o);
+                } else if sheet.receive(&o) == Reply::Refused(8) {
+                    left_out += 1;
+                }
+            }
+        }
+        let own = heap.iter().filter_map(|o| match o {
+            Operation::Insert(i) if i.id.laptop == laptop => Some(i.id.clock),
+            _ => None,
+        });
+        sheet.clock = own.max().unwrap_or(0);
+        (sheet, left_out + left.len())
+    }
+
     /// Erasing at a place, counted from 1.
     pub fn erase_at(&mut self, place: u64) -> (Reply, Option<Operation>) {
         if !self.in_form() {
@@ -649,6 +678,18 @@ pub fn operation_line(o: &Operation) -> Vec<u8> {
         Operation::Turn(t) => format!("E\t{}\t{}\t{}\t{}\n", t.sender, t.id.laptop, t.id.clock, t.turn),
     };
     line.into_bytes()
+}
+
+/// The operations of a heap (Req 08), each with its line feed: none if it lacks the layout, and without those whose
+/// numbers do not pass, and whether all do.
+pub fn read_heap(bytes: &[u8]) -> Option<(Vec<Operation>, bool)> {
+    let Some((end, lines)) = bytes.split_last() else { return Some((Vec::new(), true)) };
+    if *end != b'\n' {
+        return None;
+    }
+    let read: Option<Vec<Option<Operation>>> = lines.split(|b| *b == b'\n').map(operation_of).collect();
+    let read = read?;
+    Some((read.iter().flatten().copied().collect(), read.iter().all(Option::is_some)))
 }
 
 /// A saved sheet: refusals 1, 2 and 3 over the whole of it, in this order. Loading raises a clock that is too low.
@@ -896,6 +937,33 @@ pub fn paste_call(sheet: &[u8], gap: u64, block: &[u8]) -> Outcome {
             Outcome::of(reply, &sheet, sent)
         }
     }
+}
+
+/// Whether two inserts have one identifier and other fields.
+pub fn disagree(heap: &[Operation]) -> bool {
+    let differ = |o: &Operation, p: &Operation| match (o, p) {
+        (Operation::Insert(i), Operation::Insert(j)) => i.id == j.id && i != j,
+        _ => false,
+    };
+    heap.iter().any(|o| heap.iter().any(|p| differ(o, p)))
+}
+
+/// Building from the bytes of a heap, for a laptop's number: 17 comes after 2, and 7 where it always does.
+pub fn build_call(number: u64, heap: &[u8]) -> Outcome {
+    let Some((heap, all_pass)) = read_heap(heap) else { return Outcome::refused(1) };
+    let laptop = match u8::try_from(number) {
+        Ok(n) if is_laptop(n) && all_pass => n,
+        _ => return Outcome::refused(2),
+    };
+    let inserts = heap.iter().filter(|o| matches!(o, Operation::Insert(_))).count();
+    if inserts > MOST_IN_HEAP || heap.len() - inserts > MOST_IN_HEAP {
+        return Outcome::refused(17);
+    }
+    if disagree(&heap) {
+        return Outcome::refused(7);
+    }
+    let (sheet, thrown) = Sheet::build(laptop, &heap);
+    Outcome::of(Reply::Done { carried: 0, thrown }, &sheet, None)
 }
 
 pub fn text_call(sheet: &[u8]) -> Outcome {
