@@ -12,7 +12,8 @@ enum {
     GUARD = 64,
     ROOM = WIMTAZE_SHEET_MAX + 64,
     LINE_ROOM = WIMTAZE_LINE_MAX + 27,
-    LINES_ROOM = WIMTAZE_LINES_MAX + 64
+    LINES_ROOM = WIMTAZE_LINES_MAX + 64,
+    HEAP_ROOM = 2 * WIMTAZE_HEAP_MAX
 };
 
 static unsigned passed, failed, group_failed;
@@ -21,6 +22,10 @@ static unsigned refusals_seen;
 /* The sheet that a test works on, and the outputs of the last call. */
 static uint8_t sheet[ROOM], first[GUARD + ROOM + GUARD], second[GUARD + LINES_ROOM + GUARD];
 static size_t sheet_length;
+
+/* The heap that a sheet is built of. */
+static uint8_t heap[HEAP_ROOM];
+static size_t heap_length;
 
 #define CHECK(held) check((held), __LINE__, #held)
 
@@ -370,6 +375,52 @@ static uint64_t paste_bytes(uint64_t gap, const void *block, size_t length)
 static uint64_t paste(uint64_t gap, const char *block)
 {
     return paste_bytes(gap, block, strlen(block));
+}
+
+static void heap_load(const char *text)
+{
+    heap_length = tabbed(text, heap);
+}
+
+static void heap_append(const char *text)
+{
+    heap_length += tabbed(text, heap + heap_length);
+}
+
+/* The lines of the heap from the last to the first. */
+static void heap_turned(uint8_t *out)
+{
+    for (size_t end = heap_length, start; end > 0; end = start) {
+        for (start = end - 1; start > 0 && heap[start - 1] != '\n'; start--)
+            ;
+        memcpy(out, heap + start, end - start);
+        out += end - start;
+    }
+}
+
+/* Of the heap at hand. From the last line to the first it gives the same reply and the same bytes. */
+static uint64_t build_in(uint64_t number, size_t room)
+{
+    static uint8_t was[HEAP_ROOM], turned[HEAP_ROOM], again[ROOM];
+    memcpy(was, heap, heap_length);
+    before();
+    uint64_t reply = after(wimtaze_build(number, heap, heap_length, first + GUARD, room), room, 0);
+    CHECK(memcmp(was, heap, heap_length) == 0);
+    CHECK(wimtaze_word(reply) == WIMTAZE_DONE || wimtaze_word(reply) == WIMTAZE_REFUSED);
+    CHECK(wimtaze_carried(reply) == 0 && wimtaze_left_out(reply) <= 2048 && wimtaze_line_written(reply) == 0);
+    if (wimtaze_word(reply) == WIMTAZE_DONE) {
+        heap_turned(turned);
+        CHECK(wimtaze_build(number, turned, heap_length, again, room) == reply);
+        CHECK(memcmp(again, first + GUARD, wimtaze_written(reply)) == 0);
+        keep(reply);
+    }
+    return reply;
+}
+
+static uint64_t build(uint64_t number, const char *lines)
+{
+    heap_load(lines);
+    return build_in(number, ROOM);
 }
 
 static uint64_t text_in(size_t room)
@@ -1990,6 +2041,279 @@ static void most_counts(void)
     CHECK(counted(1024, 0, 1024, 0));
 }
 
+/* ---- Req 08: building from a heap */
+
+/* Whether a sheet was built, just this one, with so many edits left out: then the whole number is fixed. */
+static int built(uint64_t reply, unsigned left_out, const char *text)
+{
+    return reply == ((uint64_t)left_out << 20 | (uint64_t)strlen(text) << 32) && sheet_is(text);
+}
+
+/* P1's rows, one of them erased and brought back, for a laptop that joins at round four: in every order. */
+static void joined_late(void)
+{
+    static const char *const lines[] = {"I 1 1 97 0 0 0 1\n", "I 2 1 98 0 0 0 1\n", "I 3 1 99 0 0 1 1\n",
+        "I 3 2 100 1 1 0 1\n", "E 2 3 1 1\n", "E 5 3 1 2\n"};
+    static const char *const want = "S2 4 0\nC 3 1 99 2 0 0 1 1\nC 1 1 97 0 0 0 0 1\nC 2 1 98 0 0 0 0 1\n"
+                                    "C 3 2 100 0 1 1 0 1\n";
+    for (int number = 0; number < 720; number++) {
+        unsigned left[6] = {0, 1, 2, 3, 4, 5};
+        heap_load("");
+        for (int k = 6, code = number; k > 0; code /= k, k--) {
+            int j = code % k;
+            heap_append(lines[left[j]]);
+            if (number % 7 == k)
+                heap_append(lines[left[j]]);
+            left[j] = left[k - 1];
+        }
+        CHECK(built(build_in(4, ROOM), 0, want));
+    }
+    CHECK(first_is(text(), "cabd"));
+    CHECK(counted(4, 0, 4, 1020));
+    empty(4, ROOM);
+    for (size_t k = 0; k < 6; k++)
+        CHECK(done(receive(lines[k]), 1, 0));
+    CHECK(sheet_is(want));
+    for (unsigned number = 1; number <= 16; number++) {
+        char other[256];
+        sprintf(other, "S2 %u %u%s", number, number == 3 ? 2 : number <= 2, want + 6);
+        CHECK(built(build_in(number, ROOM), 0, other));
+    }
+}
+
+/* No lines: what wimtaze_empty writes. */
+static void nothing_to_build(void)
+{
+    static uint8_t want[ROOM];
+    heap_load("");
+    for (uint64_t number = 0; number <= 17; number++) {
+        uint64_t reply = empty(number, ROOM);
+        memcpy(want, sheet, sheet_length);
+        CHECK(build_in(number, ROOM) == reply);
+        CHECK(memcmp(want, sheet, sheet_length) == 0);
+    }
+    CHECK(refused(build_in(1, 6), WIMTAZE_REFUSAL_OUTPUT) && built(build_in(1, 7), 0, "S2 1 0\n"));
+}
+
+/* What lacks something, what crosses, and all that needs these. */
+static void left_out(void)
+{
+    static const char *const ab = "S2 9 0\nC 1 1 97 0 0 0 0 1\nC 2 1 98 0 0 0 0 1\n";
+    const struct {
+        const char *lines;
+        unsigned count;
+    } cases[] = {
+        /* a previous, a next and a row that never come, and what needs them in turn */
+        {"I 3 1 99 4 1 0 1\n", 1}, {"I 3 1 99 0 0 4 1\n", 1}, {"E 3 4 1 1\n", 1},
+        {"I 3 1 99 4 1 0 1\nI 3 2 99 3 1 0 1\nI 3 3 99 1 1 3 2\nE 1 3 3 2\n", 4},
+        /* two that need each other, and each needs the one before and the next one of them */
+        {"I 3 1 99 4 1 0 1\nI 4 1 99 3 1 0 1\n", 2}, {"I 3 1 99 4 1 0 1\nI 4 1 99 1 1 3 1\n", 2},
+        {"I 3 1 99 5 1 4 1\nI 4 1 99 3 1 5 1\nI 5 1 99 4 1 3 1\n", 3},
+        /* condition 8: next above previous, and next the same as previous; with what needs them */
+        {"I 3 1 99 2 1 1 1\n", 1}, {"I 3 1 99 1 1 1 1\n", 1},
+        {"I 3 1 99 2 1 1 1\nI 3 2 99 3 1 0 1\nI 4 1 99 1 1 3 2\nE 3 3 1 1\nE 3 3 2 1\n", 5},
+        /* repeats count once, and a D line is the E line with turn 1; another sender or another turn is another */
+        {"I 3 1 99 4 1 0 1\nI 3 1 99 4 1 0 1\nI 3 1 99 4 1 0 1\n", 1}, {"E 3 4 1 1\nE 3 4 1 1\n", 1},
+        {"E 3 4 1 1\nD 3 4 1\nD 3 4 1\n", 1}, {"E 3 4 1 2\nD 3 4 1\n", 2}, {"E 3 4 1 1\nE 5 4 1 1\n", 2},
+        {"D 3 4 1\nD 5 4 1\nE 3 4 1 255\nE 3 4 2 1\n", 4}, {"I 1 1 97 0 0 0 1\nI 2 1 98 0 0 0 1\n", 0}};
+    for (size_t k = 0; k < sizeof cases / sizeof *cases; k++) {
+        heap_load(cases[k].lines);
+        heap_append("I 2 1 98 0 0 0 1\nI 1 1 97 0 0 0 1\n");
+        CHECK(built(build_in(9, ROOM), cases[k].count, ab));
+        heap_load("I 1 1 97 0 0 0 1\nI 2 1 98 0 0 0 1\n");
+        heap_append(cases[k].lines);
+        CHECK(built(build_in(9, ROOM), cases[k].count, ab));
+    }
+    /* A turn that is not larger is not left out. */
+    CHECK(built(build(9, "E 1 1 1 4\nD 1 1 1\nE 2 1 1 3\nE 1 1 1 4\nI 1 1 97 0 0 0 1\nE 3 1 1 4\n"), 0,
+                "S2 9 0\nC 1 1 97 4 0 0 0 1\n"));
+    CHECK(built(build(9, "E 1 1 1 254\nE 2 1 1 255\nI 1 1 97 0 0 0 1\n"), 0, "S2 9 0\nC 1 1 97 255 0 0 0 1\n"));
+    CHECK(built(build(9, "D 2 1 1\nI 1 1 97 0 0 0 1\n"), 0, "S2 9 0\nC 1 1 97 1 0 0 0 1\n"));
+    /* All of it. */
+    CHECK(built(build(9, "I 3 1 99 4 1 0 1\nE 1 1 1 1\n"), 2, "S2 9 0\n"));
+}
+
+/* The clock is the largest of the heap's inserts of the laptop's own number, left out or not; no turn counts. */
+static void built_clock(void)
+{
+    CHECK(built(build(3, "I 3 7 97 0 0 0 1\nI 3 5 98 0 0 3 7\nI 4 9 99 3 7 0 1\n"), 0,
+                "S2 3 7\nC 3 5 98 0 0 0 3 7\nC 3 7 97 0 0 0 0 1\nC 4 9 99 0 3 7 0 1\n"));
+    CHECK(built(build(3, "I 3 7 97 9 9 0 1\nI 3 2 98 0 0 0 1\nI 3 4 98 3 7 0 1\n"), 2, "S2 3 7\nC 3 2 98 0 0 0 0 1\n"));
+    CHECK(built(build(3, "I 3 7 97 3 2 3 2\nI 3 2 98 0 0 0 1\nE 3 3 2 1\n"), 1, "S2 3 7\nC 3 2 98 1 0 0 0 1\n"));
+    CHECK(built(build(3, "E 3 3 9 1\nE 3 4 9 200\nI 4 1 98 3 11 0 1\n"), 3, "S2 3 0\n"));
+    CHECK(built(build(16, "I 16 65535 97 1 1 0 1\n"), 1, "S2 16 65535\n"));
+    CHECK(refused(type(0, 'x'), WIMTAZE_REFUSAL_CLOCK));
+    /* What is typed then has the next clock. */
+    CHECK(built(build(3, "I 3 7 97 9 9 0 1\n"), 1, "S2 3 7\n"));
+    CHECK(done(type(0, 'x'), 1, 0) && sheet_is("S2 3 8\nC 3 8 120 0 0 0 0 1\n"));
+}
+
+/* A sheet that was built is a sheet like any other; what was left out is received as ever. */
+static void built_and_used(void)
+{
+    static const char *const lines[] = {"I 2 3 99 2 2 0 1\n", "I 2 2 98 2 1 0 1\n", "E 4 2 2 1\n",
+        "I 5 1 100 0 0 0 1\n", "E 6 5 1 1\n"};
+    heap_load("");
+    for (size_t k = 0; k < 5; k++)
+        heap_append(lines[k]);
+    CHECK(built(build_in(7, ROOM), 3, "S2 7 0\nC 5 1 100 1 0 0 0 1\n"));
+    CHECK(waits(receive(lines[0])) && waits(receive(lines[1])) && waits(receive(lines[2])));
+    CHECK(known(receive(lines[3])) && known(receive(lines[4])));
+    CHECK(done(receive("I 2 1 97 0 0 0 1\n"), 4, 0));
+    CHECK(counted(2, 0, 4, 1020) && first_is(text(), "ac"));
+    CHECK(done(restore(5, 1), 1, 0) && done(paste(1, "xy"), 2, 0) && done(erase(1), 1, 0));
+    CHECK(first_is(text(), "xycd") && refused(downgrade(), WIMTAZE_REFUSAL_HIGH_TURN));
+    /* The line that was missing comes to the heap, and the whole is built anew. */
+    heap_append("I 2 1 97 0 0 0 1\n");
+    CHECK(built(build_in(7, ROOM), 0, "S2 7 0\nC 2 1 97 0 0 0 0 1\nC 2 2 98 1 2 1 0 1\nC 2 3 99 0 2 2 0 1\n"
+                                      "C 5 1 100 1 0 0 0 1\n"));
+}
+
+/* A heap of so many lines, each from its form, with k from 1. */
+static void heap_of(int count, const char *form)
+{
+    char line[64];
+    for (int k = 1; k <= count; k++) {
+        sprintf(line, form, k, k - 1);
+        heap_append(line);
+    }
+}
+
+/* The limits of either kind, repeats counted. */
+static void heap_limits(void)
+{
+    const struct {
+        int inserts, copies, turns, turn_copies, erases;
+        int refused;
+        unsigned left_out;
+    } heaps[] = {{0, 1024, 0, 0, 0, 0, 0}, {0, 1025, 0, 0, 0, 1, 0}, {1023, 1, 0, 0, 0, 0, 1023},
+        {1024, 0, 0, 0, 0, 0, 1024}, {1025, 0, 0, 0, 0, 1, 0}, {1023, 2, 0, 0, 0, 1, 0}, {0, 0, 1024, 0, 0, 0, 1024},
+        {0, 0, 1025, 0, 0, 1, 0}, {0, 0, 0, 1024, 0, 0, 1}, {0, 0, 0, 1025, 0, 1, 0}, {0, 0, 0, 0, 1024, 0, 1},
+        {0, 0, 0, 0, 1025, 1, 0}, {0, 0, 512, 256, 256, 0, 513}, {0, 0, 512, 256, 257, 1, 0},
+        {1024, 0, 1024, 0, 0, 0, 2048}, {1025, 0, 1024, 0, 0, 1, 0}, {1024, 0, 1024, 1, 0, 1, 0},
+        {1025, 0, 1025, 0, 0, 1, 0}, {0, 1024, 1024, 0, 0, 0, 1024}, {0, 2000, 0, 0, 0, 1, 0}};
+    for (size_t k = 0; k < sizeof heaps / sizeof *heaps; k++) {
+        heap_load("");
+        heap_of(heaps[k].inserts, "I 2 %d 98 3 1 0 1\n");
+        heap_of(heaps[k].copies, "I 1 1 97 0 0 0 1\n");
+        heap_of(heaps[k].turns, "E 1 4 %d 1\n");
+        heap_of(heaps[k].turn_copies, "E 1 5 1 1\n");
+        heap_of(heaps[k].erases, "D 1 5 1\n");
+        uint64_t reply = build_in(9, ROOM);
+        if (heaps[k].refused)
+            CHECK(refused(reply, WIMTAZE_REFUSAL_HEAP_FULL));
+        else
+            CHECK(built(reply, heaps[k].left_out, heaps[k].copies ? "S2 9 0\nC 1 1 97 0 0 0 0 1\n" : "S2 9 0\n"));
+    }
+    /* Far above the limits. */
+    heap_load("");
+    heap_of(HEAP_ROOM / 22, "I 1 1 97 0 0 0 1\n");
+    CHECK(refused(build_in(9, ROOM), WIMTAZE_REFUSAL_HEAP_FULL));
+}
+
+/* The longest heap that is not refused, and the deepest: each of 1,024 needs the one that stands behind it. */
+static void longest_heap(void)
+{
+    char line[64];
+    heap_load("");
+    heap_of(1024, "I 16 65535 1114111 16 65534 16 65533\n");
+    heap_of(1024, "E 16 16 65535 255\n");
+    CHECK(heap_length == WIMTAZE_HEAP_MAX);
+    CHECK(built(build_in(16, ROOM), 2, "S2 16 65535\n"));
+    heap_append("D 1 1 1\n");
+    CHECK(refused(build_in(16, ROOM), WIMTAZE_REFUSAL_HEAP_FULL));
+    heap_load("");
+    for (int k = 1024; k > 0; k--) {
+        sprintf(line, k == 1 ? "I 1 1 97 0 0 0 1\n" : "I 1 %d 97 1 %d 0 1\n", k, k - 1);
+        heap_append(line);
+    }
+    heap_of(1024, "E 9 1 %d 255\n");
+    uint64_t reply = build_in(2, WIMTAZE_SHEET_MAX);
+    CHECK(done(reply, 0, 0) && wimtaze_left_out(reply) == 0 && counted(0, 0, 1024, 0));
+    CHECK(refused(receive("I 3 1 97 0 0 0 1\n"), WIMTAZE_REFUSAL_DOCUMENT_FULL));
+    size_t length = sheet_length;
+    CHECK(refused(build_in(2, length - 1), WIMTAZE_REFUSAL_OUTPUT) && refused(build_in(2, 0), WIMTAZE_REFUSAL_OUTPUT));
+    CHECK(build_in(2, length) == reply);
+}
+
+/* Refusals 1, 2 and 7 of a heap, whatever else stands in it before and behind. */
+static void not_built(void)
+{
+    static const char *const no_layout[] = {"\n", " \n", "I\n", "I 1 1 97 0 0 0\n", "I 1 1 97 0 0 0 1 1\n",
+        "I 1 1 97 0 0 0 1\r\n", "I 01 1 97 0 0 0 1\n", "I 1 1 97 0 0 0 +1\n", "I 1 1 97 0 0 0 1 \n",
+        "i 1 1 97 0 0 0 1\n", "E 1 1 1\n", "E 1 1 1 1 1\n", "E 1 1 1 \n", "D 1 1 1 1\n", "D 1 1\n", "S2 1 0\n",
+        "S 1 0\n", "C 1 1 97 0 0 0 0 1\n", "K 1 1 1\n", "\x01\n", "I 1 1 97 0 0 0 1\n\n", "I 1 1 97 0 0 0 x\n"};
+    static const char *const no_range[] = {"I 0 1 97 0 0 0 1\n", "I 17 1 97 0 0 0 1\n", "I 1 0 97 0 0 0 1\n",
+        "I 1 65536 97 0 0 0 1\n", "I 1 1 55296 0 0 0 1\n", "I 1 1 1114112 0 0 0 1\n", "I 1 1 97 0 1 0 1\n",
+        "I 1 1 97 0 0 0 0\n", "I 1 1 97 0 0 0 2\n", "I 1 1 97 1 1 0 1\n", "I 1 1 97 0 0 1 1\n", "I 1 1 97 17 1 0 1\n",
+        "I 1 1 97 0 0 1 65536\n", "I 257 1 97 0 0 0 1\n", "I 4294967297 1 97 0 0 0 1\n",
+        "I 1 18446744073709551617 97 0 0 0 1\n", "E 0 1 1 1\n", "E 17 1 1 1\n", "E 1 0 0 1\n", "E 1 1 0 1\n",
+        "E 1 1 1 0\n", "E 1 1 1 256\n", "E 1 1 65536 1\n", "D 0 1 1\n", "D 1 0 1\n", "D 1 1 0\n", "D 1 17 1\n"};
+    static const char *const conflicts[] = {"I 5 1 98 0 0 0 1\n", "I 5 1 97 6 1 0 1\n", "I 5 1 97 0 0 6 1\n",
+        "I 5 1 98 6 1 6 2\n"};
+    static const char *const around[] = {"", "I 7 1 97 0 0 0 1\n", "D 1 7 1\nE 2 7 1 9\n",
+        "I 7 2 97 8 8 8 9\nE 1 8 8 1\n"};
+    static const uint64_t numbers[] = {0, 17, 256, 257, 65537, UINT64_C(1) << 32 | 1, UINT64_MAX};
+    for (size_t k = 0; k < sizeof around / sizeof *around; k++) {
+        const char *const before_it = around[k], *const behind_it = around[(k + 1) % 4];
+        for (size_t j = 0; j < sizeof no_layout / sizeof *no_layout; j++) {
+            heap_load(before_it), heap_append(no_layout[j]), heap_append(behind_it);
+            CHECK(refused(build_in(9, ROOM), WIMTAZE_REFUSAL_LAYOUT));
+        }
+        for (size_t j = 0; j < sizeof no_range / sizeof *no_range; j++) {
+            heap_load(before_it), heap_append(no_range[j]), heap_append(behind_it);
+            CHECK(refused(build_in(9, ROOM), WIMTAZE_REFUSAL_RANGE));
+        }
+        for (size_t j = 0; j < sizeof numbers / sizeof *numbers; j++) {
+            heap_load(before_it);
+            CHECK(refused(build_in(numbers[j], ROOM), WIMTAZE_REFUSAL_RANGE));
+        }
+        /* With and without the row that the two have between the marks; and both left out. */
+        for (size_t j = 0; j < sizeof conflicts / sizeof *conflicts; j++) {
+            heap_load("I 5 1 97 0 0 0 1\n"), heap_append(before_it), heap_append(conflicts[j]);
+            CHECK(refused(build_in(9, ROOM), WIMTAZE_REFUSAL_CONFLICT));
+            heap_append("I 5 1 97 0 0 0 1\n"), heap_append(behind_it);
+            CHECK(refused(build_in(5, ROOM), WIMTAZE_REFUSAL_CONFLICT));
+        }
+        heap_load("I 5 1 97 6 1 0 1\n"), heap_append(before_it), heap_append("I 5 1 98 6 1 0 1\n");
+        CHECK(refused(build_in(9, ROOM), WIMTAZE_REFUSAL_CONFLICT));
+        heap_load("I 5 1 97 7 1 7 1\n"), heap_append(before_it), heap_append("I 5 1 97 7 1 8 1\n");
+        CHECK(refused(build_in(9, ROOM), WIMTAZE_REFUSAL_CONFLICT));
+    }
+    /* The last line without its line feed, and every shorter part of it. */
+    for (size_t cut = 1; cut < 17; cut++) {
+        heap_load("I 1 1 97 0 0 0 1\nI 2 1 97 0 0 0 1\n");
+        heap_length -= cut;
+        CHECK(refused(build_in(9, ROOM), WIMTAZE_REFUSAL_LAYOUT));
+    }
+}
+
+/* Of two grounds that a heap gives, and a short output, the first is told. */
+static void first_of_two_building(void)
+{
+    static const char *const layout = "I 1 1 97 0 0 0\n", *const range = "E 1 1 1 256\n";
+    static const char *const conflict = "I 2 1 97 0 0 0 1\nI 2 1 98 0 0 0 1\n", *const fine = "I 3 1 97 0 0 0 1\n";
+    const struct {
+        const char *lines, *other;
+        uint64_t number;
+        int copies, told;
+        size_t room;
+    } pairs[] = {{layout, range, 9, 0, 1, ROOM}, {range, layout, 9, 0, 1, ROOM}, {layout, "", 0, 0, 1, ROOM},
+        {layout, "", 9, 1025, 1, ROOM}, {layout, conflict, 9, 0, 1, ROOM}, {layout, "", 9, 0, 1, 0},
+        {range, "", 9, 1025, 2, ROOM}, {fine, "", 17, 1025, 2, ROOM}, {range, conflict, 9, 0, 2, ROOM},
+        {conflict, "", 0, 0, 2, ROOM}, {range, "", 9, 0, 2, 0}, {fine, "", 0, 0, 2, 0},
+        {conflict, "", 9, 1023, 17, ROOM}, {conflict, "", 9, 1022, 7, ROOM}, {fine, "", 9, 1024, 17, 0},
+        {fine, "", 9, 1023, 12, 0}, {conflict, "", 9, 0, 7, 0}, {fine, "", 9, 0, 12, 0}};
+    for (size_t k = 0; k < sizeof pairs / sizeof *pairs; k++)
+        for (int behind = 0; behind < 2; behind++) {
+            heap_load(behind ? "" : pairs[k].lines);
+            heap_append(pairs[k].other);
+            heap_of(pairs[k].copies, "I 1 1 97 0 0 0 1\n");
+            heap_append(behind ? pairs[k].lines : "");
+            CHECK(refused(build_in(pairs[k].number, pairs[k].room), pairs[k].told));
+        }
+}
+
 /* ---- waiting, throwing out, and what releases it */
 
 static void released(void)
@@ -2391,7 +2715,7 @@ static void version(void)
 static void every_refusal(void)
 {
     for (unsigned n = 1; n <= 20; n++)
-        CHECK((refusals_seen >> n & 1) == (n != WIMTAZE_REFUSAL_TAKEN && (n <= 15 || n == WIMTAZE_REFUSAL_NOT_UTF8)));
+        CHECK((refusals_seen >> n & 1) == (n != WIMTAZE_REFUSAL_TAKEN && (n <= 15 || n == 17 || n == 20)));
     CHECK(refusals_seen >> 21 == 0);
 }
 
@@ -2455,6 +2779,15 @@ static const struct {
     {"Req 11: short outputs", short_of_a_block},
     {"Req 11: the largest block", largest_block},
     {"Req 11: the most that it brings", most_counts},
+    {"Req 08: a laptop that joins late, in every order of the lines", joined_late},
+    {"Req 08: an empty heap", nothing_to_build},
+    {"Req 08: what is left out", left_out},
+    {"Req 08: the clock", built_clock},
+    {"Req 08: what is done with the sheet", built_and_used},
+    {"Req 08: the limits of a heap", heap_limits},
+    {"Req 08: the longest heap and the deepest", longest_heap},
+    {"Req 08: refusals of building", not_built},
+    {"Req 08: the first of two refusals", first_of_two_building},
     {"what an insert releases", released},
     {"placing", placing},
     {"layout of lines and sheets", layout},

@@ -1,7 +1,7 @@
 /*
  * How much stack the calls take: every call of the library in a thread whose stack was painted before, on an empty
- * sheet, on a full one and on one where a line or a block releases the edits that wait for it. It must not be more than
- * the header says, below the frame that the calls are made from.
+ * sheet, on a full one and on one where a line or a block releases the edits that wait for it, and on heaps of every
+ * kind. It must not be more than the header says, below the frame that the calls are made from.
  */
 #include "wimtaze.h"
 
@@ -12,8 +12,8 @@
 enum { PAINT = 0xa5, PAGE = 4096, PAINTED = 4 * WIMTAZE_STACK };
 
 static uint8_t sheet[WIMTAZE_SHEET_MAX], after[WIMTAZE_SHEET_MAX], line[WIMTAZE_LINE_MAX], text[WIMTAZE_TEXT_MAX];
-static uint8_t lines[WIMTAZE_LINES_MAX];
-static size_t length;
+static uint8_t lines[WIMTAZE_LINES_MAX], heap[2 * WIMTAZE_HEAP_MAX];
+static size_t length, heap_length;
 static int failures;
 
 static uint8_t space[PAGE + PAINTED];
@@ -94,6 +94,48 @@ static void blocks(void)
     keep(wimtaze_paste(sheet, length, 0, text, 2048, after, sizeof after, lines, sizeof lines), WIMTAZE_REFUSED);
 }
 
+/* Adds an insert with this clock and previous, and an erase of it. */
+static void heap_put(unsigned clock, unsigned previous)
+{
+    heap_length += (size_t)sprintf((char *)heap + heap_length, "I\t2\t%u\t66\t%d\t%u\t0\t1\nE\t3\t2\t%u\t1\n", clock,
+                                   previous == 0 ? 0 : 2, previous, clock);
+}
+
+static void build(unsigned word, unsigned left_out)
+{
+    uint64_t reply = wimtaze_build(2, heap, heap_length, after, sizeof after);
+    if (wimtaze_left_out(reply) != left_out)
+        failures++;
+    keep(reply, word);
+}
+
+/*
+ * A heap of nothing, of a chain from its end, of inserts between the marks, of such as all lack something, of one line
+ * too many; one with two that disagree, and one whose last line is cut.
+ */
+static void heaps(void)
+{
+    unsigned k;
+    build(WIMTAZE_DONE, 0);
+    for (k = 1024; k > 0; k--)
+        heap_put(k, k - 1);
+    build(WIMTAZE_DONE, 0);
+    heap_put(1, 0);
+    build(WIMTAZE_REFUSED, 0);
+    for (k = 1024, heap_length = 0; k > 0; k--)
+        heap_put(k, 0);
+    build(WIMTAZE_DONE, 0);
+    for (k = 1024, heap_length = 0; k > 0; k--)
+        heap_put(k, k + 1);
+    build(WIMTAZE_DONE, 2048);
+    heap_length = 0;
+    heap_put(1, 0);
+    heap_put(1, 2);
+    build(WIMTAZE_REFUSED, 0);
+    heap_length--;
+    build(WIMTAZE_REFUSED, 0);
+}
+
 static void *calls(void *unused)
 {
     uint8_t here;
@@ -122,6 +164,7 @@ static void *calls(void *unused)
     receive_at("E\t2\t3\t1\t255\n", 1024, WIMTAZE_WAITS, 1024);
     keep(wimtaze_receive(sheet, length, (const uint8_t *)"E\t2\t2\t1\t255\n", 12, after, sizeof after), WIMTAZE_DONE);
     blocks();
+    heaps();
     return unused;
 }
 
