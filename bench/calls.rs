@@ -1,6 +1,6 @@
 //! Times the C calls of the static library, saved sheets in and out, against the same calls of the plain Rust in
-//! tests/native/reference.rs; and pasting against typing through the library, and against the Rust with a table in
-//! tabled.rs. Both sides leave the same bytes, which is checked on the way.
+//! tests/native/reference.rs; and pasting against typing through the library, building against receiving, and both
+//! against the Rust with a table in tabled.rs. Both sides leave the same bytes, which is checked on the way.
 
 #[path = "../tests/native/library.rs"]
 #[allow(dead_code)]
@@ -13,8 +13,10 @@ mod table;
 #[allow(dead_code)]
 mod tabled;
 
-use library::{wimtaze_erase, wimtaze_paste, wimtaze_receive, wimtaze_text, wimtaze_type};
-use reference::{erase_call, operation_line, read_sheet, receive_call, sheet_bytes, text_call, type_call, Outcome, Reply};
+use library::{wimtaze_build, wimtaze_erase, wimtaze_paste, wimtaze_receive, wimtaze_text, wimtaze_type};
+use reference::{
+    erase_call, operation_line, read_heap, read_sheet, receive_call, sheet_bytes, text_call, type_call, Outcome, Reply,
+};
 use tabled::Tabled;
 
 const COUNT: u64 = 1024;
@@ -172,6 +174,75 @@ fn shown_plain(from: &Left) -> u64 {
     (0..TEXTS).map(|_| text_call(&from.sheet).first.len() as u64).max().unwrap_or(0)
 }
 
+/// The sheet of laptop 2, built so many times of a heap.
+fn built(heap: &[u8], times: usize) -> Left {
+    let (mut left, mut sheet) = (empty(2), [0u8; SHEET]);
+    for _ in 0..times {
+        let r = unsafe { wimtaze_build(2, heap.as_ptr(), heap.len(), sheet.as_mut_ptr(), SHEET) };
+        left.keep_written(r, &sheet, &[]);
+    }
+    left
+}
+
+fn built_tabled(heap: &[u8], times: usize) -> Left {
+    let mut left = empty(2);
+    for _ in 0..times {
+        let (operations, all_pass) = read_heap(heap).unwrap();
+        assert!(all_pass);
+        let (sheet, _) = Tabled::build(2, &operations).unwrap_or_else(|n| panic!("refused with {n}"));
+        left.sheet = sheet_bytes(&sheet.sheet());
+    }
+    left
+}
+
+/// 1,024 inserts of sixteen laptops in turn, each after the one before, and an `E` line for each.
+fn joined_late() -> Vec<Vec<u8>> {
+    let ids: Vec<_> = (0..COUNT).map(|k| (k % 16 + 1, k / 16 + 1)).collect();
+    let line = |k: usize, (l, c): (u64, u64)| format!("E\t{}\t{l}\t{c}\t{}\n", k % 16 + 1, k % 4 + 1).into_bytes();
+    let turns = ids.iter().enumerate().map(|(k, id)| line(k, *id));
+    typed_as(&ids).into_iter().chain(turns).collect()
+}
+
+/// The same lines in an order by chance, the same each time.
+fn shuffled(lines: &[Vec<u8>]) -> Vec<Vec<u8>> {
+    let (mut lines, mut seed) = (lines.to_vec(), 1u64);
+    for k in (1..lines.len()).rev() {
+        seed = seed.wrapping_mul(6_364_136_223_846_793_005).wrapping_add(1_442_695_040_888_963_407);
+        lines.swap(k, (seed >> 33) as usize % (k + 1));
+    }
+    lines
+}
+
+fn insert_line(id: (u64, u64), previous: (u64, u64), next: (u64, u64)) -> Vec<u8> {
+    format!("I\t{}\t{}\t97\t{}\t{}\t{}\t{}\n", id.0, id.1, previous.0, previous.1, next.0, next.1).into_bytes()
+}
+
+/// 64 identifiers of each laptop, rising.
+fn rising() -> Vec<(u64, u64)> {
+    (0..COUNT).map(|k| (k / 64 + 1, k % 64 + 1)).collect()
+}
+
+/// A chain of 512, and then inserts between the marks, each of which passes all of it one by one.
+fn behind_a_chain() -> Vec<u8> {
+    let ids = rising();
+    let others = ids[512..].iter().rev().map(|id| insert_line(*id, (0, 0), (0, 1)));
+    typed_as(&ids[..512]).into_iter().chain(others).flatten().collect()
+}
+
+/// The heap that takes longest, of those that we found, with these identifiers. A chain stands above 32 rows, and each
+/// of the others goes above one of these: it passes all of the chain one by one, and at each step those that are there
+/// already are no candidates, which is seen only when both of their neighbours were looked up.
+fn enemys_heap(mut ids: Vec<(u64, u64)>) -> Vec<u8> {
+    let (chain, ends) = (341, 32);
+    ids.sort();
+    let (rows, others) = ids.split_at(chain + ends);
+    let mut lines = typed_as(rows);
+    for (group, end) in others.chunks(others.len().div_ceil(ends)).zip(&rows[chain..]) {
+        lines.extend(group.iter().rev().map(|id| insert_line(*id, rows[20], *end)));
+    }
+    lines.concat()
+}
+
 /// Inserts of these identifiers, each after the one before.
 fn typed_as(ids: &[(u64, u64)]) -> Vec<Vec<u8>> {
     let before = std::iter::once(&(0, 0)).chain(ids);
@@ -180,12 +251,12 @@ fn typed_as(ids: &[(u64, u64)]) -> Vec<Vec<u8>> {
 
 /// Identifiers as an enemy of the library's table would choose them: all of one chain, which at most 1,027 share, and with
 /// as many low bits alike as can be, so that its tree is deep. No choice of 512 makes the walks longer by a twentieth.
-fn colliding() -> Vec<(u64, u64)> {
+fn colliding(count: usize) -> Vec<(u64, u64)> {
     let key = |&(l, c): &(u64, u64)| l * 65_536 + c;
     let all = (1..=16).flat_map(|l| (1..=65_535).map(move |c| (l, c)));
     let mut chosen: Vec<_> = all.filter(|id| (key(id) * 2_654_435_769 >> 22) % 1024 == 789).collect();
     chosen.sort_by_key(|id| std::cmp::Reverse(key(id).reverse_bits()));
-    chosen.truncate(512);
+    chosen.truncate(count);
     chosen
 }
 
@@ -198,8 +269,23 @@ fn main() {
     table::row("wimtaze_text, 100 times 1,024 characters", &|| shown_plain(&full), &|| shown(&full));
     let usual = typed_as(&(0..512).map(|k| (k % 16 + 1, k / 16 + 1)).collect::<Vec<_>>());
     table::row("wimtaze_receive, 512 lines", &|| received_plain(&usual).sum(), &|| received(&usual).sum());
-    let enemy = typed_as(&colliding());
+    let enemy = typed_as(&colliding(512));
     table::row("the same, their identifiers all of one chain", &|| received_plain(&enemy).sum(), &|| received(&enemy).sum());
     table::row("paste 1,024, against 1,024 of wimtaze_type", &|| typed(|k| k).sum(), &|| pasted(1).sum());
     table::row("10 times, against the Rust with a table", &|| pasted_tabled(10).sum(), &|| pasted(10).sum());
+    let lines = joined_late();
+    let heap = lines.concat();
+    table::row("build of 2,048 lines, against receiving them", &|| received(&lines).sum(), &|| built(&heap, 1).sum());
+    let heaps = [
+        ("10 times, against the Rust with a table", heap, 10),
+        ("the same in an order by chance", shuffled(&lines).concat(), 10),
+        ("the same from the last line to the first", lines.iter().rev().flatten().copied().collect(), 10),
+        ("build of a chain, and 512 between the marks", behind_a_chain(), 1),
+        ("build of the slowest heap that we found", enemys_heap(rising()), 1),
+    ];
+    for (name, heap, times) in &heaps {
+        table::row(name, &|| built_tabled(heap, *times).sum(), &|| built(heap, *times).sum());
+    }
+    let enemy = enemys_heap(colliding(COUNT as usize));
+    table::alone("the same, its identifiers all of one chain", &|| built(&enemy, 1).sum());
 }

@@ -7,6 +7,7 @@ mod plot;
 #[path = "../tests/native/reference.rs"]
 #[allow(dead_code)]
 mod reference;
+#[allow(dead_code)]
 mod table;
 #[allow(dead_code)]
 mod tabled;

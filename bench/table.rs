@@ -27,3 +27,9 @@ pub fn row(name: &str, plain: &dyn Fn() -> u64, library: &dyn Fn() -> u64) {
     let (slow, fast) = (slow.as_secs_f64() * 1e3, fast.as_secs_f64() * 1e3);
     println!("{name:<44} {slow:>9.1} ms {fast:>9.1} ms {:>7.2}", fast / slow);
 }
+
+/// The library's side alone, where the other would take too long.
+pub fn alone(name: &str, library: &dyn Fn() -> u64) {
+    let fast = (0..RUNS).map(|_| timed(library).1).min().unwrap_or_default();
+    println!("{name:<44} {:>12} {:>9.1} ms", "", fast.as_secs_f64() * 1e3);
+}

@@ -1,6 +1,6 @@
-//! Receiving and pasting with a table, as a Rust programmer would write them for speed: the checks of documents 01 and 02
-//! at each call, the form and the table among them, rows found through the chains of a table that is kept beside them and
-//! made anew after an insert, the sheet changed in place.
+//! Receiving, pasting and building with a table, as a Rust programmer would write them for speed: the checks of
+//! documents 01 and 02 at each call, the form and the table among them, rows found through the chains of a table that is
+//! kept beside them and made anew after an insert, the sheet changed in place.
 
 use crate::reference::{is_code_point, read_block, Id, Insert, Operation, Reply, Row, Sheet, Turn, BEGIN, END};
 
@@ -57,6 +57,13 @@ fn insert_of(o: &Operation) -> Option<&Insert> {
     match o {
         Operation::Insert(i) => Some(i),
         Operation::Turn(_) => None,
+    }
+}
+
+fn turn_of(o: &Operation) -> Option<&Turn> {
+    match o {
+        Operation::Turn(t) => Some(t),
+        Operation::Insert(_) => None,
     }
 }
 
@@ -277,6 +284,71 @@ impl Tabled {
             sent.push(Operation::Insert(insert));
         }
         (Reply::Done { carried: counts.0, thrown: counts.1 }, sent)
+    }
+
+    /// Takes the insert in behind the others, and into the table.
+    fn push(&mut self, insert: Insert) {
+        let (c, k) = (chain(insert.id), self.rows.len());
+        self.rows.push(Row { insert, turn: 0 });
+        self.links[k] = self.heads[c];
+        self.heads[c] = k as u16 + 1;
+    }
+
+    /// The inserts of a heap, a repeated one once, or refusal 7: each is looked for among those before it.
+    fn once(inserts: &[Insert]) -> Result<Vec<Insert>, u8> {
+        let mut kept = Tabled::empty(1);
+        for i in inserts {
+            match kept.row(i.id) {
+                None => kept.push(*i),
+                Some(k) if kept.rows[k].insert == *i => {}
+                Some(_) => return Err(7),
+            }
+        }
+        Ok(kept.rows.iter().map(|r| r.insert).collect())
+    }
+
+    /// One pass over the inserts that are left: each that has its neighbours is placed, unless it meets condition 8.
+    /// Those that lack one are left.
+    fn pass(&mut self, left: Vec<Insert>) -> Vec<Insert> {
+        let mut missing = Vec::with_capacity(left.len());
+        for i in left {
+            if !self.has_all(&Operation::Insert(i)) {
+                missing.push(i);
+            } else if let Ok(k) = self.find_place(&i) {
+                self.put(i, k);
+            }
+        }
+        missing
+    }
+
+    /// Building from a heap whose numbers pass, by passes over its inserts until one places none, and then its turns:
+    /// the sheet, and how many operations were left out.
+    pub fn build(laptop: u8, heap: &[Operation]) -> Result<(Tabled, usize), u8> {
+        let inserts: Vec<Insert> = heap.iter().filter_map(insert_of).copied().collect();
+        let turns: Vec<&Turn> = heap.iter().filter_map(turn_of).collect();
+        if inserts.len() > ROWS || turns.len() > ROWS {
+            return Err(17);
+        }
+        let (mut sheet, mut left) = (Tabled::empty(laptop), Tabled::once(&inserts)?);
+        let mut left_out = left.len();
+        loop {
+            let before = sheet.rows.len();
+            left = sheet.pass(left);
+            if sheet.rows.len() == before {
+                break;
+            }
+        }
+        left_out -= sheet.rows.len();
+        for (k, t) in turns.iter().enumerate() {
+            match sheet.row(t.id) {
+                Some(_) => sheet.turn(t),
+                None => left_out += usize::from(!turns[k + 1..].contains(t)),
+            }
+        }
+        for i in &inserts {
+            sheet.hear(i);
+        }
+        Ok((sheet, left_out))
     }
 
     pub fn receive(&mut self, o: &Operation) -> Reply {
