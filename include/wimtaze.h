@@ -207,6 +207,8 @@
  * Two I lines with one identifier that differ in anything else make the whole heap refused with 7, also if both would
  * be left out.
  *
+ * A full heap takes some milliseconds. One that somebody chose to be slow can take more than a second: rule 7.
+ *
  *
  * The layouts
  *
