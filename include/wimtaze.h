@@ -107,7 +107,7 @@
  *
  * If wimtaze_thrown is not 0, an edit that waited has met 8 or 9. The file laptop.h, which is installed with the
  * examples, keeps all these rules and can be copied, with anew.h for a laptop that lost its sheet; playing_hall.c there
- * runs sixteen such laptops over a bad network.
+ * runs sixteen such laptops over a bad network, and joining.c is for a laptop that joins late.
  *
  *
  * The cursor
