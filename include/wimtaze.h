@@ -88,7 +88,7 @@
  *         built of a heap that has both lines. The copies differ for good: tell a person, and begin a new sheet on
  *         every laptop.
  *   8     Receiving: never between laptops that keep the rules. Otherwise as 7.
- *   9     Receiving, typing, pasting: never on a sheet that began empty. Otherwise as 7.
+ *   9     Receiving, typing, pasting: never on a sheet that began empty or was built of a heap. Otherwise as 7.
  *   10    Receiving: rule 5. Nothing is wrong; the sender, who gets no acknowledgement, sends the line again.
  *   11    Typing: the sheet is full, and erasing makes no room. Pasting: it has no room for the whole block. Receiving:
  *         rule 6 was broken, and the copies differ for good. Begin a new sheet on every laptop.
