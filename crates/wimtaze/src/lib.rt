@@ -14,6 +14,7 @@ ghost use Rattle.woot.specs.Cursor.{movedBy};
 ghost use Rattle.wimtaze.specs.Calls.{effectOf, «wimtaze_empty», «wimtaze_receive», «wimtaze_receive_at»};
 ghost use Rattle.wimtaze.specs.Calls.{«wimtaze_type», «wimtaze_erase», «wimtaze_restore», «wimtaze_text»};
 ghost use Rattle.wimtaze.specs.Calls.{«wimtaze_paste», «wimtaze_counts», «wimtaze_upgrade», «wimtaze_downgrade»};
+ghost use Rattle.wimtaze.specs.Calls.{«wimtaze_build»};
 
 // Writes the empty replica of a site.
 #[no_mangle]
@@ -21,6 +22,16 @@ pub extern "C" fn wimtaze_empty(number: u64, out: &mut [u8]) -> u64
     ensures { λ r. ⌜ Leaves (effectOf («wimtaze_empty» number) [] (now (out .entry)) []) r (now (out .exit)) [] ⌝ }
 {
     sheets::begin(number, out)
+}
+
+// Builds the replica of a site from a heap of lines, and writes it. How many operations were left out goes where other
+// calls tell how many they threw out. (Document 02, Req 08.)
+#[no_mangle]
+pub extern "C" fn wimtaze_build(number: u64, heap: &[u8], out: &mut [u8]) -> u64
+    ensures { λ r. ⌜ Leaves (effectOf («wimtaze_build» number (now (heap .entry))) [] (now (out .entry)) [])
+        r (now (out .exit)) [] ⌝ }
+{
+    sheets::build(number, heap, out)
 }
 
 // Writes the visible text of a saved replica.

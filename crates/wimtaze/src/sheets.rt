@@ -1,5 +1,5 @@
-// What the calls do that ask no rule: an empty replica is saved, the visible text of a saved one is written, and what
-// it holds is counted.
+// What the calls do that begin a replica or read one: an empty one is saved, or one that is built from a heap, the
+// visible text of a saved one is written, and what it holds is counted.
 use saved::LoadAnswer;
 use woot::Answer;
 use woot::Refusal;
@@ -8,7 +8,7 @@ ghost use mathlib.Core.Path.{_≡_};
 ghost use mathlib.Core.List.{[]};
 ghost use Rattle.effects.specs.Results.{numberOf};
 ghost use Rattle.effects.specs.Effects.{Leaves};
-ghost use Rattle.wimtaze.specs.Steps.{beginning, showingText, counting};
+ghost use Rattle.wimtaze.specs.Steps.{beginning, buildingHere, showingText, counting};
 
 // Writes the empty replica of a site.
 pub(crate) fn begin(number: u64, out: &mut [u8]) -> u64
@@ -25,6 +25,19 @@ pub(crate) fn begin(number: u64, out: &mut [u8]) -> u64
         discarded: 0,
     };
     effects::save(none, Replica::empty(number as u8), out)
+}
+
+// Builds the replica of a site from a heap, and writes it. (Document 02, Req 08.)
+pub(crate) fn build(number: u64, heap: &[u8], out: &mut [u8]) -> u64
+    ensures { λ r. ⌜ Leaves (buildingHere number (now (heap .entry)) (now (out .entry))) r (now (out .exit)) [] ⌝ }
+{
+    let built = building::build(number, heap);
+    let answer = built.answer;
+    if !answer.is_change() {
+        return effects::results::number_of(answer, 0, 0);
+    }
+    let replica = built.replica;
+    effects::save(answer, replica, out)
 }
 
 // Writes the visible text of a saved replica.
