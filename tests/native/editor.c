@@ -4,7 +4,8 @@
  * any order, some twice, and what is lost is sent again later. After every line that the editor takes in, and every
  * edit of its own, the character on the left of the cursor must be the one that was there, or, if it is hidden, the
  * nearest shown one above it. Both are looked up by identifier in the rows of the saved sheets, and the shift has no
- * say in that. The first run where that is not so is the last.
+ * say in that. At the end, when all have everything, the sheet that is built of all lines at once must be the one that
+ * each has. The first run where that is not so is the last.
  *
  *     editor [RUNS [SEED]]
  */
@@ -513,6 +514,31 @@ static int lacks_lines(const struct laptop *laptop)
     return 0;
 }
 
+/* Whether all lines on one heap, in any order, give the sheet that the laptop has: another begins with it late. */
+static int is_built(unsigned number)
+{
+    static uint8_t heap[LINES * WIMTAZE_LINE_MAX];
+    unsigned order[LINES], kinds[2] = {0, 0};
+    size_t length = 0;
+    for (unsigned k = 0; k < line_count; k++) {
+        unsigned other = below(k + 1);
+        order[k] = order[other];
+        order[other] = k;
+    }
+    for (unsigned k = 0; k < line_count; k++) {
+        const struct line *line = &lines[order[k]];
+        memcpy(heap + length, line->bytes, line->length);
+        length += line->length;
+        kinds[line->bytes[0] == 'I']++;
+    }
+    uint64_t reply = wimtaze_build(number, heap, length, after, sizeof after);
+    if (kinds[0] > 1024)
+        return wimtaze_refusal(reply) == WIMTAZE_REFUSAL_HEAP_FULL;
+    return wimtaze_word(reply) == WIMTAZE_DONE && wimtaze_left_out(reply) == 0 &&
+           wimtaze_written(reply) == laptops[number].length &&
+           memcmp(after, laptops[number].sheet, laptops[number].length) == 0;
+}
+
 /* All that was lost comes, in any order, until every laptop has everything; then all show the same. */
 static void mend(void)
 {
@@ -532,6 +558,7 @@ static void mend(void)
             memcpy(text, other, n);
         }
         check(n == length && memcmp(text, other, n) == 0, "all show the same");
+        check(is_built(number), "building gives the same sheet");
     }
 }
 
