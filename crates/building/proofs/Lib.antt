@@ -7,3 +7,4 @@ pub mod Counting
 pub mod Firsts
 pub mod Assembling
 pub mod Judging
+pub mod Replicas

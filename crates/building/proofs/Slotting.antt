@@ -8,14 +8,13 @@ use lib.ListN.{length, take, set, getD, length-set}
 use lib.Seq.{getD-take, take-set-lt, take-take, length-take-le}
 use Rattle.lists.proofs.Indices.{map-getD, take-map}
 use Rattle.woot.specs.declared.Insert.{Insert}
-use Rattle.woot.specs.declared.Operation.the-variants.{Insert as insert}
 use Rattle.woot.specs.Operations.{origin}
-use Rattle.woot.specs.Ranges.{insertInRange, inRange}
+use Rattle.woot.specs.Ranges.{insertInRange}
 use Rattle.woot.specs.Table.{key}
-use Rattle.woot.specs.Memory.{identifier, characterOf, keyColumn, previousColumn, nextColumn, codePointColumn}
+use Rattle.woot.specs.Memory.{characterOf, keyColumn, previousColumn, nextColumn, codePointColumn}
 use Rattle.memory.proofs.Characters.{identifier-key}
-use Rattle.memory.proofs.Operations.{range-keyed}
 use Rattle.heap.specs.Columns.{InsertsIn, insertAt}
+use Rattle.heap.proofs.Inserts.{keyed, numbers-at}
 use Rattle.heap.specs.Keeping.{Moved}
 
 pub map-set : {A B : Type 0} (f : A → B) (l : List A) (i : ℕ) (y : A) → set (map f l) i (f y) ≡ map f (set l i y)
@@ -44,16 +43,18 @@ module _ {A : Type 0} (f : A → ℕ) (ys : List A) (xs : List ℕ) (e : take (l
 module _ {xs : List ℕ} {is : List Insert} (h : InsertsIn xs is) where
   module _ (i : ℕ) (d : Insert) (low : i < length is) where
     pub insert-read : insertInRange (getD is i d) ≡ true → insertAt xs i ≡ getD is i d
-    unfolding insertAt origin characterOf inRange
+    unfolding insertAt origin characterOf
     insert-read r =
-        let k = range-keyed (insert (getD is i d)) r in
-        λ j.
+        let g = numbers-at h i d low in
+        let k = keyed (getD is i d) r in
+        rw (g .id, g .previous, g .next, g .point)
+        (λ j.
         record {
-          id = (ap identifier (column-read (λ x. key (x .id)) is (keyColumn xs) (h .ids) i d low) ∙ identifier-key _ (k .id)) j;
-          «code_point» = column-read (λ x. x .«code_point») is (codePointColumn xs) (h .points) i d low j;
-          previous = (ap identifier (column-read (λ x. key (x .previous)) is (previousColumn xs) (h .previous) i d low) ∙ identifier-key _ (k .previous)) j;
-          next = (ap identifier (column-read (λ x. key (x .next)) is (nextColumn xs) (h .next) i d low) ∙ identifier-key _ (k .next)) j;
-        }
+          id = identifier-key (getD is i d .id) (k .id) j;
+          «code_point» = getD is i d .«code_point»;
+          previous = identifier-key (getD is i d .previous) (k .previous) j;
+          next = identifier-key (getD is i d .next) (k .next) j;
+        })
 
     pub inserts-moved : (k : ℕ) → k < length is → {ys : List ℕ} → Moved xs i k ys → InsertsIn ys (set is k (getD is i d))
     inserts-moved k within m =
