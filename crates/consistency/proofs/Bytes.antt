@@ -29,10 +29,10 @@ use Rattle.saved.specs.Calls.{loadChecks, unread, loaded, loadedState}
 use Rattle.saved.proofs.Trips.{saved-loads, saved-reads-back}
 use Rattle.effects.specs.Results.{result, silent}
 use Rattle.effects.specs.Effects.{Effect, quiet}
-use Rattle.wimtaze.specs.Calls.{CCall, «wimtaze_empty», «wimtaze_receive», «wimtaze_receive_at», «wimtaze_type», «wimtaze_erase», «wimtaze_restore», «wimtaze_paste», «wimtaze_text», «wimtaze_counts», «wimtaze_upgrade», «wimtaze_downgrade», inputChecks, named, ruleChecks, handedChecks, earlierChecks, callChecks, productOf, effectOf}
-use Rattle.wimtaze.specs.Calls.{«wimtaze_build»}
-use Rattle.wimtaze.proofs.Fitting.{front}
-use Rattle.wimtaze.proofs.Listing.{Earlier, Made, Went, away, lacking, through, went, product-made, paste-taken}
+use Rattle.c_calls.specs.Calls.{CCall, «wimtaze_empty», «wimtaze_receive», «wimtaze_receive_at», «wimtaze_type», «wimtaze_erase», «wimtaze_restore», «wimtaze_paste», «wimtaze_text», «wimtaze_counts», «wimtaze_upgrade», «wimtaze_downgrade», inputChecks, named, ruleChecks, handedChecks, earlierChecks, callChecks, productOf, effectOf}
+use Rattle.c_calls.specs.Calls.{«wimtaze_build»}
+use Rattle.c_calls.proofs.Fitting.{front}
+use Rattle.c_calls.proofs.Listing.{Earlier, Made, Went, away, lacking, through, went, product-made, paste-taken}
 use Rattle.consistency.specs.Copies.{BytesCall, load, forC, bytesCall, asBytes, bytesAfter, wordOf, keptBytes, afterLoading, whenMade, rulesOf, renews, onBytes, stepOn}
 use Rattle.consistency.proofs.Holding.{Holds, memory, bytes, nothing, Steps, made-none}
 use Rattle.consistency.proofs.Returned.{kept, word-returned, effect-returned}

@@ -41,11 +41,11 @@ use Rattle.heap.specs.Format.{heapLaidOut, heapSaid}
 use Rattle.building.specs.Calls.{builtOutcome, builtBy}
 use Rattle.effects.specs.Results.{result, silent}
 use Rattle.effects.specs.Effects.{Effect, quiet}
-use Rattle.wimtaze.specs.Calls.{«wimtaze_empty», «wimtaze_build», handedChecks, productOf}
-use Rattle.wimtaze.specs.Theorems.{bytesWritten, convertedFrom}
-use Rattle.wimtaze.proofs.Fitting.{front}
-use Rattle.wimtaze.proofs.Listing.{Went, away, lacking, through, went, build-passed, build-taken}
-use Rattle.wimtaze.proofs.Trips.{from-done, trips-return}
+use Rattle.c_calls.specs.Calls.{«wimtaze_empty», «wimtaze_build», handedChecks, productOf}
+use Rattle.c_calls.specs.Theorems.{bytesWritten, convertedFrom}
+use Rattle.c_calls.proofs.Fitting.{front}
+use Rattle.c_calls.proofs.Listing.{Went, away, lacking, through, went, build-passed, build-taken}
+use Rattle.c_calls.proofs.Trips.{from-done, trips-return}
 use Rattle.consistency.specs.Copies.{Copy, inMemory, asBytes, Call, memoryCall, bytesCall, bytesAfter, wordOf}
 use Rattle.consistency.specs.Copies.{stepOn, ran, rulesBy, carriedBy, Start, emptyReplica, emptyBytes, builtReplica}
 use Rattle.consistency.specs.Copies.{builtBytes, emptiedInto, builtInto, begun, begunAs, beginningOf, carriedWith}

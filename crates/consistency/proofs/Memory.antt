@@ -28,7 +28,7 @@ use Rattle.replica.specs.Theorems.{called, answerTo}
 use Rattle.replica.proofs.Runs.{Within, formed-within, run-within, meaning-stored, form-stored, ran-stored}
 use Rattle.pasting.specs.Replicas.{afterTyping, pastedWith, pastedBy}
 use Rattle.pasting.proofs.Replicas.{pasted-is-typing}
-use Rattle.wimtaze.proofs.Blocks.{read-as}
+use Rattle.c_calls.proofs.Blocks.{read-as}
 use Rattle.lent.specs.Lent.{returned}
 use Rattle.lent.proofs.Sites.{lent-follows}
 use Rattle.codec.specs.Calls.{laidOut, saidBy, readOperation}

@@ -37,13 +37,13 @@ use Rattle.saved.proofs.Sizes.{saved-length}
 use Rattle.saved.proofs.Trips.{saved-laid, in-range-back, second-says, saved-loads}
 use Rattle.effects.specs.Results.{result, silent}
 use Rattle.effects.specs.Effects.{Effect, quiet, turned as turnedAway, writing, afterReceiving}
-use Rattle.wimtaze.specs.Calls.{«wimtaze_receive», «wimtaze_empty», «wimtaze_build», inputChecks, oneLine, handedChecks}
-use Rattle.wimtaze.specs.Calls.{earlierChecks, effectOf}
-use Rattle.wimtaze.specs.Steps.{beginning, receivingLine as lineReceived}
-use Rattle.wimtaze.proofs.Bodies.{empty-body, receive-body}
-use Rattle.wimtaze.proofs.Own.{line-back}
-use Rattle.wimtaze.proofs.Fitting.{front}
-use Rattle.wimtaze.proofs.Listing.{Went, away, lacking, through, went, build-passed}
+use Rattle.c_calls.specs.Calls.{«wimtaze_receive», «wimtaze_empty», «wimtaze_build», inputChecks, oneLine, handedChecks}
+use Rattle.c_calls.specs.Calls.{earlierChecks, effectOf}
+use Rattle.c_calls.specs.Steps.{beginning, receivingLine as lineReceived}
+use Rattle.c_calls.proofs.Bodies.{empty-body, receive-body}
+use Rattle.c_calls.proofs.Own.{line-back}
+use Rattle.c_calls.proofs.Fitting.{front}
+use Rattle.c_calls.proofs.Listing.{Went, away, lacking, through, went, build-passed}
 use Rattle.consistency.specs.Copies.{Copy, asBytes, bytesAfter, renews, onBytes, stepOn, ran, begun, emptyBytes}
 use Rattle.consistency.specs.Copies.{charactersOf}
 use Rattle.consistency.specs.Copies.{wordOf, stateOf, Start, builtBytes, builtInto, beginningOf, carriedBefore}

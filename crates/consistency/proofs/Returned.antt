@@ -6,8 +6,8 @@ use lib.ListN.{take}
 use Rattle.woot.specs.Answers.{Word, done, waits, known, refused}
 use Rattle.effects.specs.Results.{wordNumber, numberOf}
 use Rattle.effects.specs.Effects.{Effect}
-use Rattle.wimtaze.specs.Calls.{CCall, effectOf}
-use Rattle.wimtaze.proofs.Fitting.{returned-reads-back}
+use Rattle.c_calls.specs.Calls.{CCall, effectOf}
+use Rattle.c_calls.proofs.Fitting.{returned-reads-back}
 use Rattle.consistency.specs.Copies.{bytesAfter, wordRead, writtenRead, wordOf, keptBytes}
 
 word-read : (r : ℕ) (w : Word) → r % 4 ≡ wordNumber w → wordRead r ≡ w

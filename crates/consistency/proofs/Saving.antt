@@ -17,7 +17,7 @@ use Rattle.replica.proofs.Runs.{Within, meaning-stored, form-stored}
 use Rattle.saved.specs.Format.{savedBytes}
 use Rattle.saved.specs.Calls.{bytesOf, saved, savedOut}
 use Rattle.saved.proofs.Refusals.{unformed, formed}
-use Rattle.wimtaze.proofs.Fitting.{front}
+use Rattle.c_calls.proofs.Fitting.{front}
 
 -- what saving comes to
 pub data Saving (s : State) (out : List ℕ) : Type 0 where

@@ -33,10 +33,10 @@ use Rattle.saved.specs.Format.{savedState}
 use Rattle.saved.specs.Calls.{loadedState, loaded, saved, savedOut}
 use Rattle.effects.specs.Results.{numberOf}
 use Rattle.effects.specs.Effects.{Effect}
-use Rattle.wimtaze.specs.Calls.{CCall, «wimtaze_empty», «wimtaze_receive», «wimtaze_receive_at», «wimtaze_type»}
-use Rattle.wimtaze.specs.Calls.{«wimtaze_erase», «wimtaze_restore», «wimtaze_text», «wimtaze_counts», «wimtaze_upgrade»}
-use Rattle.wimtaze.specs.Calls.{«wimtaze_downgrade», named, effectOf}
-use Rattle.wimtaze.specs.Calls.{«wimtaze_paste», «wimtaze_build»}
+use Rattle.c_calls.specs.Calls.{CCall, «wimtaze_empty», «wimtaze_receive», «wimtaze_receive_at», «wimtaze_type»}
+use Rattle.c_calls.specs.Calls.{«wimtaze_erase», «wimtaze_restore», «wimtaze_text», «wimtaze_counts», «wimtaze_upgrade»}
+use Rattle.c_calls.specs.Calls.{«wimtaze_downgrade», named, effectOf}
+use Rattle.c_calls.specs.Calls.{«wimtaze_paste», «wimtaze_build»}
 
 -- a replica in memory, or the bytes of a saved one
 pub data Copy : Type 0 where

@@ -11,11 +11,11 @@ use Rattle.woot.specs.Histories.{inserting, deleting, restoring, receiving, rec
 use Rattle.codec.specs.Calls.{saidBy}
 use Rattle.effects.specs.Results.{numberOf}
 use Rattle.effects.specs.Effects.{Effect}
-use Rattle.wimtaze.specs.Calls.{CCall, «wimtaze_receive», «wimtaze_receive_at», «wimtaze_type», «wimtaze_erase»}
-use Rattle.wimtaze.specs.Calls.{«wimtaze_restore», named, effectOf}
+use Rattle.c_calls.specs.Calls.{CCall, «wimtaze_receive», «wimtaze_receive_at», «wimtaze_type», «wimtaze_erase»}
+use Rattle.c_calls.specs.Calls.{«wimtaze_restore», named, effectOf}
 use Rattle.consistency.specs.Copies.{asBytes, Call, bytesCall, forC, emptyBytes, begun, ran, rulesBy, keptBytes}
 use Rattle.consistency.specs.Copies.{wordOf}
-use Rattle.wimtaze.specs.Calls.{«wimtaze_paste»}
+use Rattle.c_calls.specs.Calls.{«wimtaze_paste»}
 use Rattle.consistency.specs.Copies.{renews, builtBytes, builtInto, beginningOf, carriedBefore}
 
 -- outputs that are long enough, with nothing in them

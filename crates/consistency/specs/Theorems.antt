@@ -14,8 +14,8 @@ use Rattle.codec.specs.Calls.{saidBy}
 use Rattle.heap.specs.Format.{heapSaid}
 use Rattle.saved.specs.declared.Version.the-variants.{First, Second}
 use Rattle.saved.specs.Theorems.{savedMost}
-use Rattle.wimtaze.specs.Calls.{«wimtaze_receive», oneLine}
-use Rattle.wimtaze.specs.Theorems.{bytesWritten, convertedFrom}
+use Rattle.c_calls.specs.Calls.{«wimtaze_receive», oneLine}
+use Rattle.c_calls.specs.Theorems.{bytesWritten, convertedFrom}
 use Rattle.consistency.specs.Copies.{Copy, asBytes, Call, bytesCall, forC, wordOf, stateOf, stepOn, ran, rulesBy}
 use Rattle.consistency.specs.Copies.{Start, emptyBytes, builtBytes, builtInto, begun, beginningOf}
 use Rattle.consistency.specs.Copies.{carriedBefore, carriedSince}

@@ -5,8 +5,8 @@ use woot::Refusal;
 ghost use mathlib.Core.Path.{_≡_};
 ghost use Rattle.codec.specs.Calls.{readAs, saidBy};
 ghost use Rattle.woot.specs.Ranges.{characterId};
-ghost use Rattle.wimtaze.specs.Calls.{oneLine, named};
-ghost use Rattle.wimtaze.specs.Inputs.{firstOf};
+ghost use Rattle.c_calls.specs.Calls.{oneLine, named};
+ghost use Rattle.c_calls.specs.Inputs.{firstOf};
 
 // Reads one line, after which no byte may follow.
 pub(crate) fn read_one(line: &[u8]) -> Read

@@ -11,10 +11,10 @@ ghost use mathlib.Core.List.{[]};
 ghost use Rattle.effects.specs.Results.{numberOf};
 ghost use Rattle.effects.specs.Effects.{Leaves};
 ghost use Rattle.woot.specs.Cursor.{movedBy};
-ghost use Rattle.wimtaze.specs.Calls.{effectOf, «wimtaze_empty», «wimtaze_receive», «wimtaze_receive_at»};
-ghost use Rattle.wimtaze.specs.Calls.{«wimtaze_type», «wimtaze_erase», «wimtaze_restore», «wimtaze_text»};
-ghost use Rattle.wimtaze.specs.Calls.{«wimtaze_paste», «wimtaze_counts», «wimtaze_upgrade», «wimtaze_downgrade»};
-ghost use Rattle.wimtaze.specs.Calls.{«wimtaze_build»};
+ghost use Rattle.c_calls.specs.Calls.{effectOf, «wimtaze_empty», «wimtaze_receive», «wimtaze_receive_at»};
+ghost use Rattle.c_calls.specs.Calls.{«wimtaze_type», «wimtaze_erase», «wimtaze_restore», «wimtaze_text»};
+ghost use Rattle.c_calls.specs.Calls.{«wimtaze_paste», «wimtaze_counts», «wimtaze_upgrade», «wimtaze_downgrade»};
+ghost use Rattle.c_calls.specs.Calls.{«wimtaze_build»};
 
 // Writes the empty replica of a site.
 #[no_mangle]

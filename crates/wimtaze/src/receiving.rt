@@ -4,7 +4,7 @@ use codec::Read;
 use saved::LoadAnswer;
 ghost use mathlib.Core.List.{[]};
 ghost use Rattle.effects.specs.Effects.{Leaves};
-ghost use Rattle.wimtaze.specs.Steps.{receivingLineAt};
+ghost use Rattle.c_calls.specs.Steps.{receivingLineAt};
 
 // Receives the operation of a line with a cursor at an insertion point, and writes the new saved replica. The shift
 // goes into the last sixteen bits of what is returned. (Document 02, Req 02.)

@@ -4,7 +4,7 @@ use saved::LoadAnswer;
 use woot::CHARACTER_NUMBERS;
 use woot::Refusal;
 ghost use Rattle.effects.specs.Effects.{Leaves};
-ghost use Rattle.wimtaze.specs.Steps.{insertingHere, deletingHere, restoringHere, pastingHere};
+ghost use Rattle.c_calls.specs.Steps.{insertingHere, deletingHere, restoringHere, pastingHere};
 
 // Inserts a character, and writes the new saved replica and the line to be sent.
 pub(crate) fn insert(

@@ -8,7 +8,7 @@ ghost use mathlib.Core.Path.{_≡_};
 ghost use mathlib.Core.List.{[]};
 ghost use Rattle.effects.specs.Results.{numberOf};
 ghost use Rattle.effects.specs.Effects.{Leaves};
-ghost use Rattle.wimtaze.specs.Steps.{beginning, buildingHere, showingText, counting};
+ghost use Rattle.c_calls.specs.Steps.{beginning, buildingHere, showingText, counting};
 
 // Writes the empty replica of a site.
 pub(crate) fn begin(number: u64, out: &mut [u8]) -> u64

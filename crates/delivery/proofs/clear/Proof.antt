@@ -15,8 +15,7 @@ renew-requires : tie.Need-renew-requires
 renew-requires c κs =
     let s = c .before .before .before .before .before .before .before .before in
     let a = s .args in
-    let l = s .pre .1 .1 in
-    (
+    let l = s .pre .1 .1 in (
       omega (arith, s .pre .0, l .few),
       subst (λ (ks : List ℕ). Tabled (record { heads = a .heads .now; links = a .links .now }) ks)
           (take-take _ 1024 _ (l .few)) (l .tabled),

@@ -1,7 +1,7 @@
 -- `wimtaze::wimtaze_build` meets its contract: its body leaves what the list of its conditions says.
 use mathlib.Core.List.{[]}
 use Rattle.effects.proofs.Outputs.{leaves-by}
-use Rattle.wimtaze.proofs.Bodies.{build-body}
+use Rattle.c_calls.proofs.Bodies.{build-body}
 use borrow.Author.Needs.{needs}
 use Rattle.wimtaze.proofs.wimtaze_build.Statement.{statement}
 use Rattle.wimtaze.proofs.wimtaze_build.Tie as tie

@@ -2,7 +2,7 @@
 use mathlib.Core.List.{[]}
 use mathlib.Core.Path.{sym, ap, _∙_}
 use Rattle.effects.specs.Results.{numberOf}
-use Rattle.wimtaze.proofs.Bodies.{counts-body}
+use Rattle.c_calls.proofs.Bodies.{counts-body}
 use borrow.Author.Needs.{needs}
 use Rattle.wimtaze.proofs.wimtaze_counts.Statement.{statement}
 use Rattle.wimtaze.proofs.wimtaze_counts.Tie as tie

@@ -1,7 +1,7 @@
 -- `wimtaze::wimtaze_empty` meets its contract: its body leaves what the list of its conditions says.
 use mathlib.Core.List.{[]}
 use Rattle.effects.proofs.Outputs.{leaves-by}
-use Rattle.wimtaze.proofs.Bodies.{empty-body}
+use Rattle.c_calls.proofs.Bodies.{empty-body}
 use borrow.Author.Needs.{needs}
 use Rattle.wimtaze.proofs.wimtaze_empty.Statement.{statement}
 use Rattle.wimtaze.proofs.wimtaze_empty.Tie as tie

@@ -1,6 +1,6 @@
 -- `wimtaze::wimtaze_erase` meets its contract: its body leaves what the list of its conditions says.
 use Rattle.effects.proofs.Outputs.{leaves-by}
-use Rattle.wimtaze.proofs.Bodies.{erase-body}
+use Rattle.c_calls.proofs.Bodies.{erase-body}
 use borrow.Author.Needs.{needs}
 use Rattle.wimtaze.proofs.wimtaze_erase.Statement.{statement}
 use Rattle.wimtaze.proofs.wimtaze_erase.Tie as tie

@@ -1,6 +1,6 @@
 -- `wimtaze::wimtaze_paste` meets its contract: its body leaves what the list of its conditions says.
 use Rattle.effects.proofs.Outputs.{leaves-by}
-use Rattle.wimtaze.proofs.Bodies.{paste-body}
+use Rattle.c_calls.proofs.Bodies.{paste-body}
 use borrow.Author.Needs.{needs}
 use Rattle.wimtaze.proofs.wimtaze_paste.Statement.{statement}
 use Rattle.wimtaze.proofs.wimtaze_paste.Tie as tie

@@ -2,7 +2,7 @@
 use mathlib.Core.Path.{sym}
 use borrow.Author.Needs.{needs}
 use Rattle.effects.proofs.Outputs.{leaves-by}
-use Rattle.wimtaze.proofs.Shifting.{top-receives}
+use Rattle.c_calls.proofs.Shifting.{top-receives}
 use Rattle.wimtaze.proofs.wimtaze_receive.Statement.{statement}
 use Rattle.wimtaze.proofs.wimtaze_receive.Tie as tie
 

@@ -1,6 +1,6 @@
 -- `wimtaze::wimtaze_receive_at` meets its contract: its body leaves what the list of its conditions says.
 use Rattle.effects.proofs.Outputs.{leaves-by}
-use Rattle.wimtaze.proofs.Bodies.{receive-at-body}
+use Rattle.c_calls.proofs.Bodies.{receive-at-body}
 use borrow.Author.Needs.{needs}
 use Rattle.wimtaze.proofs.wimtaze_receive_at.Statement.{statement}
 use Rattle.wimtaze.proofs.wimtaze_receive_at.Tie as tie

@@ -1,6 +1,6 @@
 -- `wimtaze::wimtaze_restore` meets its contract: its body leaves what the list of its conditions says.
 use Rattle.effects.proofs.Outputs.{leaves-by}
-use Rattle.wimtaze.proofs.Bodies.{restore-body}
+use Rattle.c_calls.proofs.Bodies.{restore-body}
 use borrow.Author.Needs.{needs}
 use Rattle.wimtaze.proofs.wimtaze_restore.Statement.{statement}
 use Rattle.wimtaze.proofs.wimtaze_restore.Tie as tie

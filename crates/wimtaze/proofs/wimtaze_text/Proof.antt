@@ -1,6 +1,6 @@
 -- `wimtaze::wimtaze_text` meets its contract: its body leaves what the list of its conditions says.
 use Rattle.effects.proofs.Outputs.{leaves-by}
-use Rattle.wimtaze.proofs.Bodies.{text-body}
+use Rattle.c_calls.proofs.Bodies.{text-body}
 use borrow.Author.Needs.{needs}
 use Rattle.wimtaze.proofs.wimtaze_text.Statement.{statement}
 use Rattle.wimtaze.proofs.wimtaze_text.Tie as tie

@@ -1,6 +1,6 @@
 -- `wimtaze::wimtaze_type` meets its contract: its body leaves what the list of its conditions says.
 use Rattle.effects.proofs.Outputs.{leaves-by}
-use Rattle.wimtaze.proofs.Bodies.{type-body}
+use Rattle.c_calls.proofs.Bodies.{type-body}
 use borrow.Author.Needs.{needs}
 use Rattle.wimtaze.proofs.wimtaze_type.Statement.{statement}
 use Rattle.wimtaze.proofs.wimtaze_type.Tie as tie

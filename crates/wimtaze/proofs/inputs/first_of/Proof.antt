@@ -1,5 +1,5 @@
 -- `wimtaze::inputs::first_of` meets its contract, variant by variant.
-use Rattle.wimtaze.specs.Inputs.{firstOf}
+use Rattle.c_calls.specs.Inputs.{firstOf}
 use borrow.Author.Needs.{needs}
 use Rattle.wimtaze.proofs.inputs.first_of.Statement.{statement}
 use Rattle.wimtaze.proofs.inputs.first_of.Tie as tie

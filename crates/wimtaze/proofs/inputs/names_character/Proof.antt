@@ -7,7 +7,7 @@ use lib.Dec.{leb}
 use borrow.Author.Tests.{le-leb, lt-leb}
 use Rattle.woot.specs.Limits.{lastSite, lastClock}
 use Rattle.woot.specs.Ranges.{within, siteNumber, characterId}
-use Rattle.wimtaze.specs.Calls.{named}
+use Rattle.c_calls.specs.Calls.{named}
 use Rattle.ranges.proofs.Laws.{within-under, within-above}
 use Rattle.wimtaze.proofs.inputs.names_character.Statement.{statement}
 use Rattle.wimtaze.proofs.inputs.names_character.Tie as tie

@@ -1,7 +1,7 @@
 -- `wimtaze::inputs::read_one` meets its contract: bytes that follow are a fault of the layout.
 use mathlib.Core.Path.{sym, ap, _∙_}
 use lib.ListN.{length}
-use Rattle.wimtaze.proofs.Refusals.{followed, sole}
+use Rattle.c_calls.proofs.Refusals.{followed, sole}
 use borrow.Author.Needs.{needs}
 use Rattle.wimtaze.proofs.inputs.read_one.Statement.{statement}
 use Rattle.wimtaze.proofs.inputs.read_one.Tie as tie

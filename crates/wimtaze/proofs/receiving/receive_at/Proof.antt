@@ -4,10 +4,10 @@ use mathlib.Core.Option.{some}
 use Rattle.woot.specs.declared.ReceiptAt.{ReceiptAt}
 use Rattle.effects.specs.Effects.{quiet, turned}
 use Rattle.effects.specs.Steps.{receiptAtLeft}
-use Rattle.wimtaze.specs.Steps.{receivingLineAt}
-use Rattle.wimtaze.proofs.Refusals.{refused-line, refused-beside, passed-beside}
+use Rattle.c_calls.specs.Steps.{receivingLineAt}
+use Rattle.c_calls.proofs.Refusals.{refused-line, refused-beside, passed-beside}
 use Rattle.effects.proofs.Outputs.{leaves-by, turned-away}
-use Rattle.wimtaze.proofs.Bridging.{goes-on, receive-bridge}
+use Rattle.c_calls.proofs.Bridging.{goes-on, receive-bridge}
 use borrow.Author.Needs.{needs}
 use Rattle.wimtaze.proofs.receiving.receive_at.Statement.{statement}
 use Rattle.wimtaze.proofs.receiving.receive_at.Tie as tie

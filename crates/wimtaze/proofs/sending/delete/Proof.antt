@@ -3,10 +3,10 @@ use mathlib.Core.Path.{refl, sym, ap, _∙_}
 use Rattle.woot.specs.declared.Generated.{Generated}
 use Rattle.effects.specs.Effects.{quiet, turned}
 use Rattle.effects.specs.Steps.{generatedLeft}
-use Rattle.wimtaze.specs.Steps.{deletingHere}
-use Rattle.wimtaze.proofs.Refusals.{refused-alone, passed}
+use Rattle.c_calls.specs.Steps.{deletingHere}
+use Rattle.c_calls.proofs.Refusals.{refused-alone, passed}
 use Rattle.effects.proofs.Outputs.{leaves-by, turned-away}
-use Rattle.wimtaze.proofs.Bridging.{goes-on, erase-bridge, delete-sendable}
+use Rattle.c_calls.proofs.Bridging.{goes-on, erase-bridge, delete-sendable}
 use borrow.Author.Needs.{needs}
 use Rattle.wimtaze.proofs.sending.delete.Statement.{statement}
 use Rattle.wimtaze.proofs.sending.delete.Tie as tie

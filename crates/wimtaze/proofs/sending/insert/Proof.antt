@@ -7,11 +7,11 @@ use Rattle.woot.specs.declared.Generated.{Generated}
 use Rattle.woot.specs.Answers.{first}
 use Rattle.effects.specs.Effects.{quiet, turned}
 use Rattle.effects.specs.Steps.{generatedLeft}
-use Rattle.wimtaze.specs.Calls.{inputChecks}
-use Rattle.wimtaze.specs.Steps.{insertingHere}
-use Rattle.wimtaze.proofs.Refusals.{refused-alone, passed, refused-range}
+use Rattle.c_calls.specs.Calls.{inputChecks}
+use Rattle.c_calls.specs.Steps.{insertingHere}
+use Rattle.c_calls.proofs.Refusals.{refused-alone, passed, refused-range}
 use Rattle.effects.proofs.Outputs.{leaves-by, turned-away}
-use Rattle.wimtaze.proofs.Bridging.{goes-on, type-bridge, insert-sendable}
+use Rattle.c_calls.proofs.Bridging.{goes-on, type-bridge, insert-sendable}
 use borrow.Author.Needs.{needs}
 use Rattle.wimtaze.proofs.sending.insert.Statement.{statement}
 use Rattle.wimtaze.proofs.sending.insert.Tie as tie

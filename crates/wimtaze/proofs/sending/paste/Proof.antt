@@ -5,10 +5,10 @@ use Rattle.woot.specs.Memory.{inColumns}
 use Rattle.woot.specs.Answers.{decided}
 use Rattle.typing.specs.Columns.{typedColumns}
 use Rattle.effects.specs.Effects.{quiet, turned}
-use Rattle.wimtaze.specs.Steps.{pastingHere}
-use Rattle.wimtaze.proofs.Refusals.{refused-reading, passed-reading, passed}
+use Rattle.c_calls.specs.Steps.{pastingHere}
+use Rattle.c_calls.proofs.Refusals.{refused-reading, passed-reading, passed}
 use Rattle.effects.proofs.Outputs.{leaves-by, turned-away}
-use Rattle.wimtaze.proofs.Bridging.{goes-on, paste-bridge, lines-bridge, lines-sendable}
+use Rattle.c_calls.proofs.Bridging.{goes-on, paste-bridge, lines-bridge, lines-sendable}
 use borrow.Author.Needs.{needs}
 use Rattle.wimtaze.proofs.sending.paste.Statement.{statement}
 use Rattle.wimtaze.proofs.sending.paste.Tie as tie

@@ -15,11 +15,11 @@ use Rattle.woot.specs.Replicas.{restored}
 use Rattle.codec.proofs.Fitting.{fits-whole}
 use Rattle.effects.specs.Effects.{quiet, turned}
 use Rattle.effects.specs.Steps.{generatedLeft}
-use Rattle.wimtaze.specs.Calls.{inputChecks, named}
-use Rattle.wimtaze.specs.Steps.{restoringHere}
-use Rattle.wimtaze.proofs.Refusals.{refused-alone, passed, refused-range}
+use Rattle.c_calls.specs.Calls.{inputChecks, named}
+use Rattle.c_calls.specs.Steps.{restoringHere}
+use Rattle.c_calls.proofs.Refusals.{refused-alone, passed, refused-range}
 use Rattle.effects.proofs.Outputs.{leaves-by, turned-away}
-use Rattle.wimtaze.proofs.Bridging.{goes-on, restore-bridge, restore-sendable}
+use Rattle.c_calls.proofs.Bridging.{goes-on, restore-bridge, restore-sendable}
 use borrow.Author.Needs.{needs}
 use Rattle.wimtaze.proofs.sending.restore.Statement.{statement}
 use Rattle.wimtaze.proofs.sending.restore.Tie as tie

@@ -8,11 +8,11 @@ use Rattle.woot.specs.Answers.{decided}
 use Rattle.effects.specs.Effects.{quiet, turned}
 use Rattle.woot.specs.State.{initial}
 use Rattle.saved.specs.Calls.{bytesOf}
-use Rattle.wimtaze.specs.Steps.{beginning}
+use Rattle.c_calls.specs.Steps.{beginning}
 use Rattle.woot.specs.Memory.{replicaWellFormed}
 use Rattle.replica.proofs.Runs.{initial-within}
 use Rattle.replica.proofs.Kept.{empty-replica-formed}
-use Rattle.wimtaze.proofs.Bridging.{stored-bytes}
+use Rattle.c_calls.proofs.Bridging.{stored-bytes}
 use borrow.Author.Needs.{needs}
 use Rattle.wimtaze.proofs.sheets.begin.Statement.{statement}
 use Rattle.wimtaze.proofs.sheets.begin.Tie as tie

@@ -4,7 +4,7 @@ use Rattle.lists.proofs.Tests.{failed, passed}
 use Rattle.effects.specs.Results.{silent}
 use Rattle.effects.specs.Effects.{quiet}
 use Rattle.effects.proofs.Outputs.{leaves-by}
-use Rattle.wimtaze.proofs.Built.{build-savable, build-refused, build-saved}
+use Rattle.c_calls.proofs.Built.{build-savable, build-refused, build-saved}
 use borrow.Author.Needs.{needs}
 use Rattle.wimtaze.proofs.sheets.build.Statement.{statement}
 use Rattle.wimtaze.proofs.sheets.build.Tie as tie

@@ -1,8 +1,8 @@
 -- `wimtaze::sheets::count` meets its contract: what the reader refuses is refused, and what it reads is counted.
 use mathlib.Core.Path.{sym, ap, _∙_}
 use Rattle.effects.specs.Results.{numberOf}
-use Rattle.wimtaze.proofs.Refusals.{refused-alone, passed}
-use Rattle.wimtaze.proofs.Bridging.{counts-refused, counts-passed}
+use Rattle.c_calls.proofs.Refusals.{refused-alone, passed}
+use Rattle.c_calls.proofs.Bridging.{counts-refused, counts-passed}
 use borrow.Author.Needs.{needs}
 use Rattle.wimtaze.proofs.sheets.count.Statement.{statement}
 use Rattle.wimtaze.proofs.sheets.count.Tie as tie

@@ -2,10 +2,10 @@
 use mathlib.Core.Path.{refl, _∙_}
 use mathlib.Core.List.{[]}
 use Rattle.effects.specs.Effects.{quiet, turned}
-use Rattle.wimtaze.specs.Steps.{showingText}
-use Rattle.wimtaze.proofs.Refusals.{refused-alone, passed}
+use Rattle.c_calls.specs.Steps.{showingText}
+use Rattle.c_calls.proofs.Refusals.{refused-alone, passed}
 use Rattle.effects.proofs.Outputs.{leaves-by, turned-away}
-use Rattle.wimtaze.proofs.Bridging.{goes-on, text-bridge}
+use Rattle.c_calls.proofs.Bridging.{goes-on, text-bridge}
 use borrow.Author.Needs.{needs}
 use Rattle.wimtaze.proofs.sheets.show.Statement.{statement}
 use Rattle.wimtaze.proofs.sheets.show.Tie as tie

@@ -42,19 +42,19 @@ use Rattle.saved.specs.declared.Version.the-variants.{First, Second}
 use Rattle.saved.specs.Conversion.{conversion}
 use Rattle.effects.specs.Results.{Result, result, silent}
 use Rattle.effects.specs.Effects.{Effect, quiet, turned, writingNoted, writing, writingBoth, afterReceiving, afterReceivingAt, sending, afterSending, sendingAll, afterPasting}
-use Rattle.wimtaze.specs.Calls.{CCall, «wimtaze_empty», «wimtaze_receive», «wimtaze_receive_at», «wimtaze_type», «wimtaze_erase», «wimtaze_restore», «wimtaze_paste», «wimtaze_text», «wimtaze_counts», «wimtaze_upgrade», «wimtaze_downgrade», inputChecks, oneLine, named, answering, handedChecks, ruleChecks, callChecks, Product, bytesAlone, replicaAfter, replicaAndLine, replicaAndLines, productOf, short, delivered, effectOf}
-use Rattle.wimtaze.specs.Calls.{«wimtaze_build»}
+use Rattle.c_calls.specs.Calls.{CCall, «wimtaze_empty», «wimtaze_receive», «wimtaze_receive_at», «wimtaze_type», «wimtaze_erase», «wimtaze_restore», «wimtaze_paste», «wimtaze_text», «wimtaze_counts», «wimtaze_upgrade», «wimtaze_downgrade», inputChecks, oneLine, named, answering, handedChecks, ruleChecks, callChecks, Product, bytesAlone, replicaAfter, replicaAndLine, replicaAndLines, productOf, short, delivered, effectOf}
+use Rattle.c_calls.specs.Calls.{«wimtaze_build»}
 use Rattle.woot.specs.Building.{leftOut, built, heapFull, disagreeing, buildChecks, unbuilt, build}
 use Rattle.woot.specs.Operations.{inserts}
 use Rattle.woot.specs.Ranges.{siteNumber}
 use Rattle.lists.specs.Lists.{every}
 use Rattle.heap.specs.Format.{heapLaidOut, heapSaid}
 use Rattle.building.specs.Calls.{builtOutcome}
-use Rattle.wimtaze.specs.Steps.{buildingHere}
+use Rattle.c_calls.specs.Steps.{buildingHere}
 use Rattle.effects.specs.Counts.{countsOf}
-use Rattle.wimtaze.specs.Steps.{beginning, receivingLine, receivingLineAt, insertingHere, deletingHere, restoringHere, pastingHere, showingText, counting, converting, upgrading, downgrading}
-use Rattle.wimtaze.proofs.Listing.{first-behind}
-use Rattle.wimtaze.proofs.Blocks.{own-some}
+use Rattle.c_calls.specs.Steps.{beginning, receivingLine, receivingLineAt, insertingHere, deletingHere, restoringHere, pastingHere, showingText, counting, converting, upgrading, downgrading}
+use Rattle.c_calls.proofs.Listing.{first-behind}
+use Rattle.c_calls.proofs.Blocks.{own-some}
 
 -- ---- what is handed is looked at first
 

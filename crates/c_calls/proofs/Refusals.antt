@@ -26,8 +26,8 @@ use Rattle.saved.specs.declared.Version.the-variants.{Second}
 use Rattle.saved.specs.Format.{savedLaidOut, savedInRange, savedState}
 use Rattle.saved.specs.Calls.{loadedState, unread, raisedInArrays, readingChecks, savedRead}
 use Rattle.loading.proofs.Forming.{both, form-is, means-so}
-use Rattle.wimtaze.specs.Calls.{inputChecks, oneLine}
-use Rattle.wimtaze.specs.Inputs.{firstOf}
+use Rattle.c_calls.specs.Calls.{inputChecks, oneLine}
+use Rattle.c_calls.specs.Inputs.{firstOf}
 
 -- ---- over the tests alone
 

@@ -43,10 +43,10 @@ use Rattle.saved.specs.Conversion.{converted, convertedOut, firstMost}
 use Rattle.saved.specs.Theorems.{savedMost}
 use Rattle.effects.specs.Results.{Result, wordNumber, inBits, numberOf}
 use Rattle.effects.specs.Effects.{Effect}
-use Rattle.wimtaze.specs.Calls.{CCall, «wimtaze_empty», «wimtaze_receive», «wimtaze_receive_at», «wimtaze_type»}
-use Rattle.wimtaze.specs.Calls.{«wimtaze_erase», «wimtaze_restore», «wimtaze_text», «wimtaze_counts»}
-use Rattle.wimtaze.specs.Calls.{«wimtaze_upgrade», «wimtaze_downgrade», callChecks, effectOf}
-use Rattle.wimtaze.specs.Calls.{«wimtaze_paste», «wimtaze_build»}
+use Rattle.c_calls.specs.Calls.{CCall, «wimtaze_empty», «wimtaze_receive», «wimtaze_receive_at», «wimtaze_type»}
+use Rattle.c_calls.specs.Calls.{«wimtaze_erase», «wimtaze_restore», «wimtaze_text», «wimtaze_counts»}
+use Rattle.c_calls.specs.Calls.{«wimtaze_upgrade», «wimtaze_downgrade», callChecks, effectOf}
+use Rattle.c_calls.specs.Calls.{«wimtaze_paste», «wimtaze_build»}
 use Rattle.effects.specs.Effects.{quiet}
 
 -- ---- refusals: any call, any bytes, numbers and slices

@@ -18,12 +18,12 @@ use Rattle.saved.specs.Conversion.{conversion, conversionRefusals, Converts, Re
 use Rattle.saved.proofs.Conversions.{down-after-up, up-after-down}
 use Rattle.effects.specs.Results.{result, silent}
 use Rattle.effects.specs.Effects.{Effect, quiet, turned, writing}
-use Rattle.wimtaze.specs.Calls.{effectOf}
-use Rattle.wimtaze.specs.Steps.{converting}
-use Rattle.wimtaze.specs.Theorems.{bytesWritten, convertedFrom, other, Converting, TripsTell, ReturnsBytes, TripsReturn}
-use Rattle.wimtaze.proofs.Fitting.{front}
-use Rattle.wimtaze.proofs.Bridging.{converting-tells}
-use Rattle.wimtaze.proofs.Bodies.{upgrade-body, downgrade-body}
+use Rattle.c_calls.specs.Calls.{effectOf}
+use Rattle.c_calls.specs.Steps.{converting}
+use Rattle.c_calls.specs.Theorems.{bytesWritten, convertedFrom, other, Converting, TripsTell, ReturnsBytes, TripsReturn}
+use Rattle.c_calls.proofs.Fitting.{front}
+use Rattle.c_calls.proofs.Bridging.{converting-tells}
+use Rattle.c_calls.proofs.Bodies.{upgrade-body, downgrade-body}
 
 -- a way is the conversion from its form to the other
 pub from-is : (v : Version) (bytes out : List ℕ) → convertedFrom v bytes out ≡ converting v (other v) bytes out

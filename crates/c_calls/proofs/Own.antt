@@ -35,13 +35,13 @@ use Rattle.saved.specs.Format.{savedLaidOut, savedInRange, savedBytes}
 use Rattle.saved.specs.Calls.{loadedState}
 use Rattle.effects.specs.Results.{result, silent}
 use Rattle.effects.specs.Effects.{Effect, quiet, turned, writingNoted, afterReceivingAt}
-use Rattle.wimtaze.specs.Calls.{CCall, «wimtaze_empty», «wimtaze_receive», «wimtaze_receive_at», «wimtaze_type», «wimtaze_erase», «wimtaze_restore», «wimtaze_paste», «wimtaze_text», «wimtaze_counts», «wimtaze_upgrade», «wimtaze_downgrade», inputChecks, oneLine, named, handedChecks, earlierChecks, replicaAndLine, productOf, short, delivered, effectOf}
-use Rattle.wimtaze.specs.Calls.{«wimtaze_build»}
-use Rattle.wimtaze.specs.Steps.{receivingLineAt}
-use Rattle.wimtaze.specs.Theorems.{bytesWritten, lineWritten, sends, receivedAtBy, SavesAs, OwnLineReceived}
-use Rattle.wimtaze.proofs.Listing.{Went, away, lacking, through, went, type-taken, erase-taken, restore-taken}
-use Rattle.wimtaze.proofs.Fitting.{front}
-use Rattle.wimtaze.proofs.Bodies.{receive-at-body}
+use Rattle.c_calls.specs.Calls.{CCall, «wimtaze_empty», «wimtaze_receive», «wimtaze_receive_at», «wimtaze_type», «wimtaze_erase», «wimtaze_restore», «wimtaze_paste», «wimtaze_text», «wimtaze_counts», «wimtaze_upgrade», «wimtaze_downgrade», inputChecks, oneLine, named, handedChecks, earlierChecks, replicaAndLine, productOf, short, delivered, effectOf}
+use Rattle.c_calls.specs.Calls.{«wimtaze_build»}
+use Rattle.c_calls.specs.Steps.{receivingLineAt}
+use Rattle.c_calls.specs.Theorems.{bytesWritten, lineWritten, sends, receivedAtBy, SavesAs, OwnLineReceived}
+use Rattle.c_calls.proofs.Listing.{Went, away, lacking, through, went, type-taken, erase-taken, restore-taken}
+use Rattle.c_calls.proofs.Fitting.{front}
+use Rattle.c_calls.proofs.Bodies.{receive-at-body}
 
 -- a line that was written is one line, in range, and says its operation
 pub line-back : (o : Operation) → inRange o ≡ true → (oneLine (operationLine o) ≡ true) × (saidBy (operationLine o) ≡ o)

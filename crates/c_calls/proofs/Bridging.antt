@@ -54,10 +54,10 @@ use Rattle.convergence.proofs.Steps.{first-none}
 use Rattle.convergence.proofs.Pasting.{paste-form-kept}
 use Rattle.effects.specs.Effects.{Effect, quiet, turned, writing, writingBoth, sending, afterSending, writingNoted, afterReceivingAt, sendingAll, afterPasting}
 use Rattle.effects.specs.Results.{silent, result}
-use Rattle.wimtaze.specs.Calls.{inputChecks}
-use Rattle.wimtaze.specs.Steps.{counting, converting}
-use Rattle.wimtaze.proofs.Refusals.{Reads, formLeft}
-use Rattle.wimtaze.proofs.Blocks.{own-few, own-inserts}
+use Rattle.c_calls.specs.Calls.{inputChecks}
+use Rattle.c_calls.specs.Steps.{counting, converting}
+use Rattle.c_calls.proofs.Refusals.{Reads, formLeft}
+use Rattle.c_calls.proofs.Blocks.{own-few, own-inserts}
 use Rattle.effects.proofs.Outputs.{checked-written}
 use Rattle.effects.specs.Steps.{afterNoting, afterWriting, sentLeft, generatedLeft, textLeft, receiptAtLeft}
 use Rattle.effects.proofs.Columns.{inserts-back, lines-left}

@@ -43,14 +43,14 @@ use Rattle.saved.proofs.Sizes.{saved-length}
 use Rattle.saved.proofs.Trips.{saved-laid, in-range-back, second-says, saved-loads}
 use Rattle.effects.specs.Results.{result, silent}
 use Rattle.effects.specs.Effects.{Effect, quiet, writingBoth, sending, afterSending, sendingAll, afterPasting}
-use Rattle.wimtaze.specs.Calls.{«wimtaze_type», «wimtaze_paste», inputChecks, handedChecks, earlierChecks, productOf, short, delivered, effectOf}
-use Rattle.wimtaze.specs.Steps.{insertingHere, pastingHere}
-use Rattle.wimtaze.specs.Theorems.{bytesWritten, lineWritten, typedInC, AllDone, total, lastBytes, WritesAs, PasteTypes, PasteEmptyWrites}
-use Rattle.wimtaze.proofs.Listing.{Went, away, lacking, through, went, paste-passed}
-use Rattle.wimtaze.proofs.Blocks.{line-few, pasting-done}
-use Rattle.wimtaze.proofs.Fitting.{front}
-use Rattle.wimtaze.proofs.Bodies.{type-body, paste-body}
-use Rattle.wimtaze.proofs.Own.{insert-sent, sent-told}
+use Rattle.c_calls.specs.Calls.{«wimtaze_type», «wimtaze_paste», inputChecks, handedChecks, earlierChecks, productOf, short, delivered, effectOf}
+use Rattle.c_calls.specs.Steps.{insertingHere, pastingHere}
+use Rattle.c_calls.specs.Theorems.{bytesWritten, lineWritten, typedInC, AllDone, total, lastBytes, WritesAs, PasteTypes, PasteEmptyWrites}
+use Rattle.c_calls.proofs.Listing.{Went, away, lacking, through, went, paste-passed}
+use Rattle.c_calls.proofs.Blocks.{line-few, pasting-done}
+use Rattle.c_calls.proofs.Fitting.{front}
+use Rattle.c_calls.proofs.Bodies.{type-body, paste-body}
+use Rattle.c_calls.proofs.Own.{insert-sent, sent-told}
 
 -- ---- one typing call
 

@@ -32,7 +32,7 @@ use Rattle.lines.specs.Lines.{concatenated}
 use Rattle.codec.specs.Operations.{operationLine}
 use Rattle.codec.specs.Theorems.{insertMost}
 use Rattle.codec.proofs.Sizes.{line-lengths}
-use Rattle.wimtaze.specs.Theorems.{linesMost}
+use Rattle.c_calls.specs.Theorems.{linesMost}
 
 -- ---- the lines
 

@@ -12,7 +12,7 @@ use Rattle.woot.specs.Operations.{isVisible}
 use Rattle.woot.specs.Text.{printed, encoded, text}
 use Rattle.convergence.proofs.Forms.{formed}
 use Rattle.lists.proofs.Members.{keep-length}
-use Rattle.wimtaze.specs.Theorems.{TextLength}
+use Rattle.c_calls.specs.Theorems.{TextLength}
 
 -- ---- the text
 

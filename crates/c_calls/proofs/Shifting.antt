@@ -30,12 +30,12 @@ use Rattle.saved.specs.Calls.{loadedState}
 use Rattle.saved.proofs.Trips.{saved-loads}
 use Rattle.effects.specs.Results.{wordNumber, result, silent}
 use Rattle.effects.specs.Effects.{Effect, quiet, writing, afterReceiving, afterReceivingAt}
-use Rattle.wimtaze.specs.Calls.{«wimtaze_receive_at», earlierChecks, productOf}
-use Rattle.wimtaze.specs.Steps.{receivingLine, receivingLineAt}
-use Rattle.wimtaze.specs.Theorems.{bytesWritten, shiftGiven, shiftReturned, receivedAtBy, ShiftReadsBack, ShiftWithin, ReturnedShiftBounds, CursorReturned, TopReceives}
-use Rattle.wimtaze.proofs.Listing.{Went, away, lacking, through, went, receive-at-taken}
-use Rattle.wimtaze.proofs.Fitting.{front, returned-reads-back}
-use Rattle.wimtaze.proofs.Bodies.{accept-changes, receive-body, receive-at-body}
+use Rattle.c_calls.specs.Calls.{«wimtaze_receive_at», earlierChecks, productOf}
+use Rattle.c_calls.specs.Steps.{receivingLine, receivingLineAt}
+use Rattle.c_calls.specs.Theorems.{bytesWritten, shiftGiven, shiftReturned, receivedAtBy, ShiftReadsBack, ShiftWithin, ReturnedShiftBounds, CursorReturned, TopReceives}
+use Rattle.c_calls.proofs.Listing.{Went, away, lacking, through, went, receive-at-taken}
+use Rattle.c_calls.proofs.Fitting.{front, returned-reads-back}
+use Rattle.c_calls.proofs.Bodies.{accept-changes, receive-body, receive-at-body}
 
 pub top-receives : TopReceives
 unfolding receivingLine receivingLineAt afterReceiving afterReceivingAt writing receive receiveAt shiftAt shiftBits

@@ -31,13 +31,13 @@ use Rattle.saved.specs.Calls.{loaded, loadedState, bytesOf}
 use Rattle.saved.proofs.Trips.{saved-loads, saved-reads-back}
 use Rattle.effects.specs.Results.{result, silent}
 use Rattle.effects.specs.Effects.{Effect, quiet, turned, writing}
-use Rattle.wimtaze.specs.Calls.{«wimtaze_build», handedChecks, earlierChecks, productOf}
-use Rattle.wimtaze.specs.Theorems.{bytesWritten, BuildWritten, BuildWrites, BuildEmptyHeap}
-use Rattle.wimtaze.proofs.Listing.{Went, away, lacking, through, went, build-passed, build-taken}
-use Rattle.wimtaze.specs.Steps.{beginning, buildingHere}
-use Rattle.wimtaze.proofs.Fitting.{front}
-use Rattle.wimtaze.proofs.Bridging.{stored-bytes}
-use Rattle.wimtaze.proofs.Bodies.{turned-still, empty-body, build-body}
+use Rattle.c_calls.specs.Calls.{«wimtaze_build», handedChecks, earlierChecks, productOf}
+use Rattle.c_calls.specs.Theorems.{bytesWritten, BuildWritten, BuildWrites, BuildEmptyHeap}
+use Rattle.c_calls.proofs.Listing.{Went, away, lacking, through, went, build-passed, build-taken}
+use Rattle.c_calls.specs.Steps.{beginning, buildingHere}
+use Rattle.c_calls.proofs.Fitting.{front}
+use Rattle.c_calls.proofs.Bridging.{stored-bytes}
+use Rattle.c_calls.proofs.Bodies.{turned-still, empty-body, build-body}
 
 module _ (n : ℕ) (heap : List ℕ) where
   -- bytes that lack the layout are turned away, and others are judged by the rule

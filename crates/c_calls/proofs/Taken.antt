@@ -28,10 +28,10 @@ use Rattle.effects.specs.Results.{result, silent}
 use Rattle.effects.specs.Effects.{Effect, quiet}
 use Rattle.saved.specs.Format.{savedInRange}
 use Rattle.saved.specs.Calls.{loadedState}
-use Rattle.wimtaze.specs.Calls.{CCall, «wimtaze_empty», «wimtaze_receive», «wimtaze_receive_at», «wimtaze_type», «wimtaze_erase», «wimtaze_restore», «wimtaze_paste», «wimtaze_text», «wimtaze_counts», «wimtaze_upgrade», «wimtaze_downgrade», inputChecks, answering, handedChecks, ruleChecks, callChecks, effectOf}
-use Rattle.wimtaze.specs.Calls.{«wimtaze_build»}
-use Rattle.wimtaze.specs.Theorems.{meets, RefusalsMet, CallsNeverTaken}
-use Rattle.wimtaze.proofs.Listing.{Went, away, lacking, through, went, earlier-reported, output-reported, product-made, calls-meet, calls-refuse}
+use Rattle.c_calls.specs.Calls.{CCall, «wimtaze_empty», «wimtaze_receive», «wimtaze_receive_at», «wimtaze_type», «wimtaze_erase», «wimtaze_restore», «wimtaze_paste», «wimtaze_text», «wimtaze_counts», «wimtaze_upgrade», «wimtaze_downgrade», inputChecks, answering, handedChecks, ruleChecks, callChecks, effectOf}
+use Rattle.c_calls.specs.Calls.{«wimtaze_build»}
+use Rattle.c_calls.specs.Theorems.{meets, RefusalsMet, CallsNeverTaken}
+use Rattle.c_calls.proofs.Listing.{Went, away, lacking, through, went, earlier-reported, output-reported, product-made, calls-meet, calls-refuse}
 
 -- what is reported is among the numbers of the list
 met : {a : Answer} {cs : List (Check Answer)} → Reported a cs → any (eqb (reply a .refusal)) (numbersOf cs) ≡ true

@@ -45,14 +45,14 @@ use Rattle.saved.proofs.Sizes.{saved-length, first-length}
 use Rattle.effects.specs.Results.{Result, result}
 use Rattle.effects.specs.Counts.{countsOf}
 use Rattle.effects.proofs.Totals.{known-few}
-use Rattle.wimtaze.specs.Calls.{CCall, «wimtaze_empty», «wimtaze_receive», «wimtaze_receive_at», «wimtaze_type», «wimtaze_erase», «wimtaze_restore», «wimtaze_text», «wimtaze_counts», «wimtaze_upgrade», «wimtaze_downgrade», inputChecks, named, handedChecks, earlierChecks, Product, bytesAlone, replicaAndLine, productOf}
-use Rattle.wimtaze.specs.Calls.{«wimtaze_paste», «wimtaze_build»}
-use Rattle.wimtaze.specs.Theorems.{boundsOf, roomOf, saves, Fits, CountsWithin}
-use Rattle.wimtaze.proofs.Sizes.{text-length}
-use Rattle.wimtaze.proofs.Counts.{Fine, Sends, receive-fine, receive-at-fine, insert-sends, delete-sends, restore-sends}
-use Rattle.wimtaze.proofs.Listing.{receive-taken, receive-at-taken, type-taken, erase-taken, restore-taken, paste-passed, paste-taken}
-use Rattle.wimtaze.proofs.Listing.{build-passed, build-taken}
-use Rattle.wimtaze.proofs.Blocks.{lines-short}
+use Rattle.c_calls.specs.Calls.{CCall, «wimtaze_empty», «wimtaze_receive», «wimtaze_receive_at», «wimtaze_type», «wimtaze_erase», «wimtaze_restore», «wimtaze_text», «wimtaze_counts», «wimtaze_upgrade», «wimtaze_downgrade», inputChecks, named, handedChecks, earlierChecks, Product, bytesAlone, replicaAndLine, productOf}
+use Rattle.c_calls.specs.Calls.{«wimtaze_paste», «wimtaze_build»}
+use Rattle.c_calls.specs.Theorems.{boundsOf, roomOf, saves, Fits, CountsWithin}
+use Rattle.c_calls.proofs.Sizes.{text-length}
+use Rattle.c_calls.proofs.Counts.{Fine, Sends, receive-fine, receive-at-fine, insert-sends, delete-sends, restore-sends}
+use Rattle.c_calls.proofs.Listing.{receive-taken, receive-at-taken, type-taken, erase-taken, restore-taken, paste-passed, paste-taken}
+use Rattle.c_calls.proofs.Listing.{build-passed, build-taken}
+use Rattle.c_calls.proofs.Blocks.{lines-short}
 
 -- the first output is the bytes of a state in form, all of them
 pub record Saved (p : Product) : Type 0 where

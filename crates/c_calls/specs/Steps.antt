@@ -23,7 +23,7 @@ use Rattle.effects.specs.Results.{Result, silent}
 use Rattle.effects.specs.Effects.{Effect, quiet, turned, writing, afterReceiving, afterReceivingAt}
 use Rattle.effects.specs.Effects.{afterSending, afterPasting}
 use Rattle.effects.specs.Counts.{countsOf}
-use Rattle.wimtaze.specs.Calls.{inputChecks, oneLine, named}
+use Rattle.c_calls.specs.Calls.{inputChecks, oneLine, named}
 
 -- `wimtaze_empty`
 unfoldable pub beginning : ℕ → List ℕ → Effect
