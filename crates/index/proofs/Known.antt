@@ -94,7 +94,9 @@ module _ (links ks : List ℕ) (k : ℕ) where
   walk-early n (suc m) rest at next i size h e =
       let s = walk-step m rest at next i e in
       ⊎-elim (λ w. omega (arith, s .later, w .1))
-      (λ w. let on = walk-leads m (rest / 2) next (getD links (slot next rest) 0) i (w .1) in omega (arith, on .0, on .1))
+      (λ w.
+      let on = walk-leads m (rest / 2) next (getD links (slot next rest) 0) i (w .1) in
+      omega (arith, on .0, on .1))
       (s .comes)
 
 -- ---- without the entry of the last key
