@@ -24,13 +24,13 @@ use Rattle.woot.specs.Calls.{visibles, insertCarried, afterDrain, carryOut, acc
 use Rattle.woot.specs.Cursor.{visibleThrough, cursorAfter, receiveAtChecks, receiveAtWhen, receiveAt, newGap, shiftOf, shiftAt}
 use Rattle.woot.specs.Situations.{letter, _at_, stateAt, Done, pointing, shifted, seen, numbered, upward, crowded, releasing}
 use Rattle.woot.proofs.Situations.{lowest-shift}
-use Rattle.woot.proofs.Ends.{crowded-formed, releasing-passes}
 use Rattle.convergence.specs.Cursors.{ShiftEnds}
 use Rattle.convergence.proofs.Identifiers.{same-refl, ne-same}
 use Rattle.convergence.proofs.Places.{index-here, index-later, held-begin, held-id, place-above}
 use Rattle.convergence.proofs.Placing.{position-adjacent, is-adjacent}
 use Rattle.convergence.proofs.Drains.{draining-recurs}
 use Rattle.convergence.proofs.Through.{upTo, shownIn, through-character}
+use Rattle.convergence.proofs.Crowded.{crowded-formed, releasing-passes}
 
 -- the characters with m more on top, the last of them highest
 tower : ℕ → ℕ → Identifier → List Character → List Character

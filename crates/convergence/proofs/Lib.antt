@@ -44,6 +44,7 @@ pub mod Faithful
 pub mod Histories
 pub mod Refusals
 pub mod Cursors
+pub mod Crowded
 pub mod Ends
 pub mod Full
 pub mod Grown
