@@ -11,7 +11,7 @@ use lib.ListN.{getD}
 use Rattle.woot.specs.declared.Operation.{Operation}
 use Rattle.woot.specs.declared.Operation.the-variants.{Insert as insert, Toggle as toggle}
 use Rattle.woot.specs.declared.Refusal.{Refusal}
-use Rattle.woot.specs.declared.Refusal.the-variants.{Layout, Range, HeapFull, NotUtf8, Form, Unrepresentable, Position, NotHidden, LastToggle, Clock, Taken, Conflict, Crossed, Unplaceable, SenderFull, DocumentFull, Output}
+use Rattle.woot.specs.declared.Refusal.the-variants.{Layout, Range, HeapFull, NotUtf8, Form, Unrepresentable, Unreachable, Position, NotHidden, LastToggle, Clock, Taken, Conflict, Crossed, Unplaceable, SenderFull, DocumentFull, Output}
 use Rattle.woot.specs.declared.Answer.{Answer}
 use Rattle.woot.specs.declared.Answer.the-variants.{Done, Deferred, Duplicate, Refused}
 use Rattle.woot.specs.declared.Sent.{Sent}
@@ -34,7 +34,7 @@ refusalOf : ℕ → Refusal
 refusalOf n =
     getD
     (Layout ∷ Layout ∷ Range ∷ Form ∷ Position ∷ Clock ∷ Taken ∷ Conflict ∷ Crossed ∷ Unplaceable ∷ SenderFull ∷ DocumentFull ∷ Output
-    ∷ NotHidden ∷ LastToggle ∷ Unrepresentable ∷ Layout ∷ HeapFull ∷ Layout ∷ Layout ∷ NotUtf8 ∷ []) n Layout
+    ∷ NotHidden ∷ LastToggle ∷ Unrepresentable ∷ Unreachable ∷ HeapFull ∷ Layout ∷ Layout ∷ NotUtf8 ∷ []) n Layout
 
 refusal-of : (r : Refusal) → refusalOf (number r) ≡ r
 unfolding refusalOf
@@ -44,6 +44,7 @@ refusal-of HeapFull = refl
 refusal-of NotUtf8 = refl
 refusal-of Form = refl
 refusal-of Unrepresentable = refl
+refusal-of Unreachable = refl
 refusal-of Position = refl
 refusal-of NotHidden = refl
 refusal-of LastToggle = refl
@@ -66,6 +67,7 @@ positive HeapFull e = omega arith
 positive NotUtf8 e = omega arith
 positive Form e = omega arith
 positive Unrepresentable e = omega arith
+positive Unreachable e = omega arith
 positive Position e = omega arith
 positive NotHidden e = omega arith
 positive LastToggle e = omega arith
@@ -86,6 +88,7 @@ number-few HeapFull = omega arith
 number-few NotUtf8 = omega arith
 number-few Form = omega arith
 number-few Unrepresentable = omega arith
+number-few Unreachable = omega arith
 number-few Position = omega arith
 number-few NotHidden = omega arith
 number-few LastToggle = omega arith

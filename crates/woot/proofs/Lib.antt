@@ -2,3 +2,4 @@ pub mod Situations
 pub mod Text
 pub mod PasteCases
 pub mod BuildCases
+pub mod LoadCases

@@ -9,8 +9,9 @@ use lib.Dec.{leb}
 use Rattle.woot.specs.declared.Operation.{Operation}
 use Rattle.woot.specs.declared.Refusal.{Refusal}
 use Rattle.woot.specs.declared.Refusal.the-variants.{Layout, Range, HeapFull, NotUtf8, Form, Unrepresentable}
-use Rattle.woot.specs.declared.Refusal.the-variants.{Position, NotHidden, LastToggle, Clock, Taken, Conflict}
-use Rattle.woot.specs.declared.Refusal.the-variants.{Crossed, Unplaceable, SenderFull, DocumentFull, Output}
+use Rattle.woot.specs.declared.Refusal.the-variants.{Unreachable, Position, NotHidden, LastToggle, Clock, Taken}
+use Rattle.woot.specs.declared.Refusal.the-variants.{Conflict, Crossed, Unplaceable, SenderFull, DocumentFull}
+use Rattle.woot.specs.declared.Refusal.the-variants.{Output}
 use Rattle.woot.specs.declared.Answer.{Answer}
 use Rattle.woot.specs.declared.Answer.the-variants.{Done, Deferred, Duplicate, Refused}
 use Rattle.woot.specs.declared.Sent.{Sent}
@@ -24,6 +25,7 @@ number HeapFull = 17
 number NotUtf8 = 20
 number Form = 3
 number Unrepresentable = 15
+number Unreachable = 16
 number Position = 4
 number NotHidden = 13
 number LastToggle = 14
@@ -41,7 +43,8 @@ abbrev pub highestRefusal : ℕ
 highestRefusal = 20
 
 -- the place of a refusal in the checking order: what compares two refusals compares these, since a later number may be
--- checked earlier; 13 and 14 "come after 4, in that order", 15 comes "after 3", and 17 and 20 "after 2", of which no call has both
+-- checked earlier; 13 and 14 "come after 4, in that order", 15 and 16 "after 3", and 17 and 20 "after 2". No call has
+-- both 15 and 16, or both 17 and 20
 abbrev pub rank : Refusal → ℕ
 rank Layout = 1
 rank Range = 2
@@ -49,17 +52,18 @@ rank HeapFull = 3
 rank NotUtf8 = 4
 rank Form = 5
 rank Unrepresentable = 6
-rank Position = 7
-rank NotHidden = 8
-rank LastToggle = 9
-rank Clock = 10
-rank Taken = 11
-rank Conflict = 12
-rank Crossed = 13
-rank Unplaceable = 14
-rank SenderFull = 15
-rank DocumentFull = 16
-rank Output = 17
+rank Unreachable = 7
+rank Position = 8
+rank NotHidden = 9
+rank LastToggle = 10
+rank Clock = 11
+rank Taken = 12
+rank Conflict = 13
+rank Crossed = 14
+rank Unplaceable = 15
+rank SenderFull = 16
+rank DocumentFull = 17
+rank Output = 18
 
 -- of two refusals the one that comes first in the checking order
 unfoldable pub earlier : Refusal → Refusal → Refusal

@@ -16,8 +16,10 @@ pub mod Memory
 pub mod Replicas
 pub mod Text
 pub mod Building
+pub mod Loading
 pub mod Histories
 pub mod Situations
 pub mod Pasting
 pub mod PasteCases
 pub mod BuildCases
+pub mod LoadCases

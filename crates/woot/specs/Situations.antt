@@ -15,8 +15,9 @@ use Rattle.woot.specs.State.{State, initial}
 use Rattle.woot.specs.Placing.{identifiers}
 use Rattle.woot.specs.declared.Refusal.{Refusal}
 use Rattle.woot.specs.declared.Refusal.the-variants.{Layout, Range, HeapFull, NotUtf8, Form, Unrepresentable}
-use Rattle.woot.specs.declared.Refusal.the-variants.{Position, NotHidden, LastToggle, Clock, Taken, Conflict, Crossed}
-use Rattle.woot.specs.declared.Refusal.the-variants.{Unplaceable, SenderFull, DocumentFull, Output}
+use Rattle.woot.specs.declared.Refusal.the-variants.{Unreachable, Position, NotHidden, LastToggle, Clock, Taken}
+use Rattle.woot.specs.declared.Refusal.the-variants.{Conflict, Crossed, Unplaceable, SenderFull, DocumentFull}
+use Rattle.woot.specs.declared.Refusal.the-variants.{Output}
 use Rattle.woot.specs.declared.Answer.{Answer}
 use Rattle.woot.specs.declared.Answer.the-variants.{Done as answerDone, Deferred, Duplicate}
 use Rattle.woot.specs.declared.Answer.the-variants.{Refused as answerRefused}
@@ -543,10 +544,12 @@ rises [] = true
 rises (n ∷ []) = true
 rises (n ∷ m ∷ ns) = ltb n m && rises (m ∷ ns)
 
--- all refusals in checking order: 17 and 20 "after 2", 15 "after 3", and 13 and 14 "after 4, in that order"
+-- all refusals in checking order: 17 and 20 "after 2", 15 and 16 "after 3", and 13 and 14 "after 4, in that order"
 abbrev pub inOrder : List Refusal
 inOrder =
-    Layout ∷ Range ∷ HeapFull ∷ NotUtf8 ∷ Form ∷ Unrepresentable ∷ Position ∷ NotHidden ∷ LastToggle ∷ Clock ∷ Taken
+    Layout ∷ Range ∷ HeapFull ∷ NotUtf8 ∷ Form ∷ Unrepresentable ∷ Unreachable ∷ Position ∷ NotHidden ∷ LastToggle
+    ∷ Clock
+    ∷ Taken
     ∷ Conflict
     ∷ Crossed
     ∷ Unplaceable
@@ -558,7 +561,7 @@ inOrder =
 -- by their numbers, and each of a higher rank than the one before it
 abbrev pub RanksTell : Type 0
 RanksTell =
-    (map number inOrder ≡ 1 ∷ 2 ∷ 17 ∷ 20 ∷ 3 ∷ 15 ∷ 4 ∷ 13 ∷ 14 ∷ 5 ∷ 6 ∷ 7 ∷ 8 ∷ 9 ∷ 10 ∷ 11 ∷ 12 ∷ [])
+    (map number inOrder ≡ 1 ∷ 2 ∷ 17 ∷ 20 ∷ 3 ∷ 15 ∷ 16 ∷ 4 ∷ 13 ∷ 14 ∷ 5 ∷ 6 ∷ 7 ∷ 8 ∷ 9 ∷ 10 ∷ 11 ∷ 12 ∷ [])
     × (rises (map rank inOrder) ≡ true)
 
 -- receiving meets 2, 3, known, 7, 8, 9, 10, 11, with a cursor 4 after known; typing 2, 3, 4, 5, 6 (reserved), 9, 11;

@@ -169,6 +169,8 @@ pub enum Refusal {
     Form,
     // 15: toggles above 1, which the first form of a saved replica cannot say.
     Unrepresentable,
+    // 16: the characters are none that received operations could have made.
+    Unreachable,
     // 4: no such insertion point or visible character.
     Position,
     // 13: the character to be restored is not held, or is visible.
@@ -205,6 +207,7 @@ impl Refusal {
             Refusal::NotUtf8 => 20,
             Refusal::Form => 3,
             Refusal::Unrepresentable => 15,
+            Refusal::Unreachable => 16,
             Refusal::Position => 4,
             Refusal::NotHidden => 13,
             Refusal::LastToggle => 14,
@@ -230,17 +233,18 @@ impl Refusal {
             Refusal::NotUtf8 => 4,
             Refusal::Form => 5,
             Refusal::Unrepresentable => 6,
-            Refusal::Position => 7,
-            Refusal::NotHidden => 8,
-            Refusal::LastToggle => 9,
-            Refusal::Clock => 10,
-            Refusal::Taken => 11,
-            Refusal::Conflict => 12,
-            Refusal::Crossed => 13,
-            Refusal::Unplaceable => 14,
-            Refusal::SenderFull => 15,
-            Refusal::DocumentFull => 16,
-            Refusal::Output => 17,
+            Refusal::Unreachable => 7,
+            Refusal::Position => 8,
+            Refusal::NotHidden => 9,
+            Refusal::LastToggle => 10,
+            Refusal::Clock => 11,
+            Refusal::Taken => 12,
+            Refusal::Conflict => 13,
+            Refusal::Crossed => 14,
+            Refusal::Unplaceable => 15,
+            Refusal::SenderFull => 16,
+            Refusal::DocumentFull => 17,
+            Refusal::Output => 18,
         }
     }
 
