@@ -10,6 +10,8 @@ pub mod Placing
 pub mod Standing
 pub mod Characters
 pub mod Sorting
+pub mod Peeling
+pub mod Loadable
 pub mod Growth
 pub mod Agreement
 pub mod Listing
@@ -35,12 +37,15 @@ pub mod Receiving
 pub mod Sequences
 pub mod Built
 pub mod Heaped
+pub mod Used
 pub mod Alike
 pub mod Counting
 pub mod Work
 pub mod Passes
 pub mod Hearing
 pub mod Faithful
+pub mod Arrivals
+pub mod Loaded
 pub mod Histories
 pub mod Refusals
 pub mod Cursors
@@ -59,3 +64,5 @@ pub mod Writing
 pub mod Typings
 pub mod Pasting
 pub mod Building
+pub mod Making
+pub mod Loading

@@ -6,3 +6,4 @@ pub mod Passes
 pub mod Cursors
 pub mod Pasting
 pub mod Building
+pub mod Loading
