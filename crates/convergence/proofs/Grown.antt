@@ -1,4 +1,4 @@
--- Every state begun empty has grown by integration alone, so placing never fails there.
+-- Every state of a history has grown by integration alone, so placing never fails there.
 use Prim.Native.Nat.{ℕ}
 use native.Mathlib.Omega.{arith}
 use mathlib.Core.Path.{_≡_, refl, ap, sym, _∙_}
@@ -20,7 +20,7 @@ use Rattle.woot.specs.Form.{wellFormed}
 use Rattle.woot.specs.Answers.{Reported}
 use Rattle.woot.specs.Calls.{Outcome, unchanged, withCharacters, withPending, carryOut, defer, receiveChecks, receive, generatedInsert, insertChecks, localInsert, deleteChecks, localDelete, restoreChecks, localRestore}
 use Rattle.woot.specs.Cursor.{receiveAt}
-use Rattle.woot.specs.Histories.{Call, Begun, empty, heaped, startOf, inserting, deleting, restoring, receiving, receivingAt, outcome, run}
+use Rattle.woot.specs.Histories.{Call, Begun, empty, heaped, loaded, startOf, inserting, deleting, restoring, receiving, receivingAt, outcome, run}
 use Rattle.convergence.specs.Agreement.{Grown}
 use Rattle.convergence.specs.Theorems.{GrownThroughout, NeverUnplaceable}
 use Rattle.lists.proofs.Tests.{clash, and-left}
@@ -30,6 +30,7 @@ use Rattle.convergence.proofs.Soundness.{fresh-unheld, sound-in}
 use Rattle.convergence.proofs.Steps.{Step, turned, adds, raises, defers, step, generated-uncrossed, after-insert}
 use Rattle.convergence.proofs.Offering.{sound-offered, ended}
 use Rattle.convergence.proofs.Heaped.{heaped-grown}
+use Rattle.convergence.proofs.Used.{used-grown}
 use Rattle.convergence.proofs.Pointing.{receive-at-else}
 use Rattle.convergence.proofs.Refusals.{skipped, held-there, never, unreported, other, other-sent, receive-refuses, insert-refuses, delete-refuses, restore-refuses, answer-refused}
 
@@ -52,6 +53,7 @@ begun-grown : (b : Begun) → Grown (startOf b .characters)
 unfolding initial
 begun-grown (empty n) = grown-empty
 begun-grown (heaped n heap) = heaped-grown n heap
+begun-grown (loaded s) = used-grown s
 
 pub grown-throughout : GrownThroughout
 grown-throughout b cs = grown-run (startOf b) cs (begun-grown b)

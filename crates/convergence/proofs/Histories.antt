@@ -16,7 +16,8 @@ use Rattle.woot.specs.State.{State, initial}
 use Rattle.woot.specs.Pending.{executable, crossed, unplaceable, integrate, Drained, andIntegrated, andDiscarded, drained}
 use Rattle.woot.specs.Calls.{Outcome, unchanged, allIntegrated, withCharacters, withPending, insertCarried, carryOut, defer}
 use Rattle.woot.specs.Building.{once, building, built, BuildOutcome, unbuilt, build}
-use Rattle.woot.specs.Histories.{Call, Begun, empty, heaped, startOf, beforehand, outcome, run, integratedBy, drainedBy, discardedBy, isDeferred, historyOf, charactersAfter}
+use Rattle.woot.specs.Loading.{useOutcome}
+use Rattle.woot.specs.Histories.{Call, Begun, empty, heaped, loaded, startOf, beforehand, outcome, run, integratedBy, drainedBy, discardedBy, isDeferred, historyOf, charactersAfter}
 use Rattle.convergence.specs.Theorems.{HeldAreInserted, HeldCount, TogglesAreLargest, WaitsBalance}
 use Rattle.lists.proofs.Members.{every-member}
 use Rattle.convergence.proofs.Extract.{Extract, extract-itself}
@@ -28,6 +29,8 @@ use Rattle.convergence.proofs.Offering.{Offered, sound-offered, offered
 use Rattle.convergence.proofs.Heap.{agreeing, heap-offered}
 use Rattle.convergence.proofs.Heaped.{Verdict, turned as refused, accepted, verdict}
 use Rattle.convergence.proofs.Faithful.{Faithful, faithful-empty, faithful-insert, faithful-toggle}
+use Rattle.convergence.proofs.Used.{used-grown}
+use Rattle.convergence.proofs.Loaded.{loaded-faithful}
 
 -- a pending operation carried out
 faithful-carry : {cs : List Character} {ps qs os : List Operation} (o : Operation) → Extract o qs ps → Offered cs ps
@@ -79,11 +82,12 @@ heaped-faithful n heap = go (verdict n heap)
         faithful-drained [] (draining [] (once heap)) (heap-offered heap (a .ranged) (agreeing heap (a .agreed)))
         faithful-empty
 
--- a beginning is faithful to what was carried out to make it
+-- a beginning is faithful to what was carried out to make it, or could have been
 begun-faithful : (b : Begun) → Faithful (startOf b .characters) (beforehand b)
 unfolding initial
 begun-faithful (empty n) = faithful-empty
 begun-faithful (heaped n heap) = heaped-faithful n heap
+begun-faithful (loaded s) = loaded-faithful 1 (useOutcome s .state .characters) (used-grown s .standing)
 
 pub faithful : (b : Begun) (cs : List Call) → Faithful (charactersAfter b cs) (historyOf b cs)
 faithful b cs = faithful-run (startOf b) (beforehand b) cs (begun-faithful b)

@@ -4,7 +4,7 @@ use Prim.Native.Nat.{ℕ, _≤_}
 use native.Mathlib.Omega.{arith}
 use mathlib.Core.Path.{_≡_, refl, ap, sym, _∙_, subst}
 use mathlib.Core.Bool.{true, false}
-use mathlib.Core.Logic.{_⊎_, inl, inr, ⊎-elim}
+use mathlib.Core.Logic.{_⊎_, inl, inr, ⊎-elim, _↔_}
 use mathlib.Core.List.{List, [], _∷_, _++_, map, List·Memᴰ, Memᴰ·of-map, Memᴰ·append-left, Memᴰ·append-right}
 use mathlib.Core.List.{List·Memᴰ·append-cases}
 use lib.ListN.{length}
@@ -22,13 +22,13 @@ use Rattle.woot.specs.Placing.{held}
 use Rattle.woot.specs.Pending.{executable, crossed}
 use Rattle.woot.specs.Calls.{receive}
 use Rattle.woot.specs.Building.{once, building, leftOut}
-use Rattle.woot.specs.Loading.{arrivals, turnings, loadable}
+use Rattle.woot.specs.Loading.{arrivals, turnings, loadable, useOutcome}
 use Rattle.woot.specs.Histories.{receiving, outcome, run}
 use Rattle.lists.specs.Lists.{every}
 use Rattle.lists.proofs.Members.{member-every}
 use Rattle.convergence.specs.Agreement.{Grown}
 use Rattle.convergence.specs.Building.{received}
-use Rattle.convergence.specs.Loading.{Made, LoadableMade}
+use Rattle.convergence.specs.Loading.{Made, LoadableMade, BeforehandMakes}
 use Rattle.convergence.proofs.Ranges.{origin-ranged, toggles-ranged, to-toggle-range}
 use Rattle.convergence.proofs.Characters.{same-character, id-in-range}
 use Rattle.convergence.proofs.Places.{held-id}
@@ -44,6 +44,7 @@ use Rattle.convergence.proofs.Built.{inside-not, left-to}
 use Rattle.convergence.proofs.Grown.{grown-run}
 use Rattle.convergence.proofs.Arrivals.{turn, arrival, turning, turned-in, origin-arrives}
 use Rattle.convergence.proofs.Arrivals.{arrived-origin, arrivals-count, turnings-count}
+use Rattle.convergence.proofs.Used.{used-grown, used-formed}
 use Rattle.convergence.proofs.Loadable.{loadable-grown, grown-loadable}
 
 toggle-eq : {t u : Toggle} → toggle t ≡ toggle u → t ≡ u
@@ -149,13 +150,19 @@ module _ (cs : List Character) (g : Grown cs) (few : length cs ≤ capacity) whe
           (λ v. Memᴰ·append-right (building all .pending) v) k in
           inside-not g o (inside o m) (subst Unmet builds (left-to all ranged-all consistent-all o left .1))
 
-  pub makes : (n : ℕ) → siteNumber n ≡ true → Made n cs
+  all-carried : (o : Operation) → List·Memᴰ o (building all .integrated) → List·Memᴰ o all
+  all-carried o m = once-among all (heap-ended all ranged-all consistent-all .integrated o m .0)
+
+  pub makes : (n : ℕ) → siteNumber n ≡ true
+      → (os : List Operation) × (received (initial n) os .characters ≡ cs)
+      × ((o : Operation) → List·Memᴰ o os ↔ List·Memᴰ o (arrivals cs ++ turnings 1 cs))
+  unfolding all
   makes n q = (
     building all .integrated,
-    sym (received-built all consistent-all ranged-all few-all n q (building all .integrated)
-        (λ o m. once-among all (heap-ended all ranged-all consistent-all .integrated o m .0))
+    sym (received-built all consistent-all ranged-all few-all n q (building all .integrated) all-carried
         (ready-built all consistent-all ranged-all few-all n q) (λ o m. inl (carried-all o m)))
         ∙ builds,
+    λ o. (all-carried o, carried-all o),
   )
 
 -- ---- made by receiving, hence grown
@@ -179,4 +186,14 @@ loadable-made s f n q = (to, λ w. made-loadable n (w .0) (s .characters) (w .1)
     to h =
         let g = loadable-grown (s .characters) (standing (formed s f .sound)) h in
         let few : length (s .characters) ≤ capacity = omega (arith, formed s f .sound .room) in
-        makes (s .characters) g few n q
+        let w = makes (s .characters) g few n q in
+        (w .0, w .1)
+
+pub beforehand-makes : BeforehandMakes
+unfolding initial
+beforehand-makes s n q = makes (useOutcome s .state .characters) (used-grown s) few n q
+  where
+    few : length (useOutcome s .state .characters) ≤ capacity
+    few =
+        ⊎-elim (λ e. let k = ap (λ (t : State). length (t .characters)) e in omega (arith, k))
+        (λ f. omega (arith, formed (useOutcome s .state) f .sound .room)) (used-formed s)

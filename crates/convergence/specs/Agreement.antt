@@ -1,4 +1,4 @@
--- What holds of the characters of every replica begun empty, and by which two of them agree.
+-- What holds of the characters of every replica, from any beginning, and by which two of them agree.
 use Prim.Native.Nat.{ℕ, _<_}
 use mathlib.Core.Path.{_≡_}
 use mathlib.Core.Bool.{true}

@@ -16,7 +16,8 @@ use Rattle.woot.specs.Form.{wellFormed}
 use Rattle.woot.specs.Answers.{done, number, reply, NoneHolds, Reported}
 use Rattle.woot.specs.Building.{build}
 use Rattle.woot.specs.Loading.{loadable, useChecks, unused, useWhen, useOutcome}
-use Rattle.woot.specs.Histories.{Call, Begun, startOf, outcome, run, charactersAfter}
+use Rattle.woot.specs.Histories.{Call, Begun, loaded, startOf, beforehand, outcome, run}
+use Rattle.woot.specs.Histories.{charactersAfter}
 use Rattle.convergence.specs.Building.{received}
 
 -- ---- which characters
@@ -82,9 +83,18 @@ UseKeeps =
     (reply (useOutcome s .answer) .word ≡ done → useOutcome s ≡ record { answer = Done 0 0; state = s })
     × ((r : Refusal) → useOutcome s .answer ≡ Refused r → useOutcome s ≡ unused (Refused r))
 
--- ---- afterwards
+-- ---- afterwards: what is loaded is a beginning of histories, `loaded` of `woot/Histories`
 
--- "After such a load refusal 9 can't occur as long as every call gets the sheet as the call before left it"
+-- what is taken for its past, which nobody knows, is one that it can have: received in some sequence, these operations
+-- and no others make it
+abbrev pub BeforehandMakes : Type 0
+BeforehandMakes =
+    (s : State) (n : ℕ) → siteNumber n ≡ true →
+    (os : List Operation) × (received (initial n) os .characters ≡ startOf (loaded s) .characters)
+    × ((o : Operation) → List·Memᴰ o os ↔ List·Memᴰ o (beforehand (loaded s)))
+
+-- "After such a load refusal 9 can't occur as long as every call gets the sheet as the call before left it"; of pasting
+-- it is `PasteNeverUnplaceable`
 abbrev pub NeverAfterLoad : Type 0
 NeverAfterLoad =
     (s : State) → reply (useOutcome s .answer) .word ≡ done → (cs : List Call) (c : Call) →

@@ -58,7 +58,7 @@ PastedSends =
     (os : List Operation) × (map some os ≡ sentTyping (meaning r) g ns) × (pastedBy r g block .typed ≡ typedColumns os)
     × (pastedBy r g block .count ≡ length ns)
 
--- replicas begun by `Replica::empty`, after a list of calls and a pasting, are those after a list of calls: what is
+-- replicas from any beginning, after a list of calls and a pasting, are those after a list of calls: what is
 -- said of lists of calls, demand 3 too, is said of pasting
 abbrev pub PastedFollows : Type 0
 PastedFollows =

@@ -30,9 +30,11 @@ use Rattle.woot.specs.Answers.{answerOf}
 use Rattle.woot.specs.Calls.{Outcome, unchanged, receive, localInsert, localDelete, localRestore}
 use Rattle.woot.specs.Cursor.{receiveAt}
 use Rattle.woot.specs.Building.{build}
-use Rattle.woot.specs.Histories.{Begun, empty, heaped, startOf, Call, inserting, deleting, restoring, receiving, receivingAt, outcome, run}
+use Rattle.woot.specs.Loading.{useOutcome}
+use Rattle.woot.specs.Histories.{Begun, empty, heaped, loaded, startOf, Call, inserting, deleting, restoring, receiving, receivingAt, outcome, run}
 use Rattle.lists.proofs.Tests.{either, clash, three}
 use Rattle.convergence.proofs.Heaped.{heaped-formed}
+use Rattle.convergence.proofs.Used.{used-formed}
 use Rattle.convergence.proofs.Forms.{formed, reformed}
 use Rattle.convergence.proofs.Shares.{pending-bound}
 use Rattle.convergence.proofs.Steps.{Step, turned, adds, raises, defers, step}
@@ -166,6 +168,8 @@ begun-within (empty n) = initial-within n
 begun-within (heaped n heap) =
     ⊎-elim (λ e. subst Within (sym e) (initial-within 0)) (λ f. formed-within (build n heap .state) f)
     (heaped-formed n heap)
+begun-within (loaded s) =
+    ⊎-elim (λ e. subst Within (sym e) (initial-within 0)) (λ f. formed-within (useOutcome s .state) f) (used-formed s)
 
 pub replicas-follow : ReplicasFollow
 replicas-follow b cs = ran-stored (startOf b) cs (begun-within b)

@@ -21,8 +21,10 @@ use Rattle.woot.specs.State.{State, blankCharacter, initial}
 use Rattle.woot.specs.Memory.{meaning, stored, documentOf, tableAgrees, charactersIn, charactersOf, replicaWellFormed}
 use Rattle.woot.specs.Form.{wellFormed}
 use Rattle.woot.specs.Building.{build}
-use Rattle.woot.specs.Histories.{empty, heaped}
+use Rattle.woot.specs.Loading.{useOutcome}
+use Rattle.woot.specs.Histories.{empty, heaped, loaded}
 use Rattle.convergence.proofs.Heaped.{heaped-formed}
+use Rattle.convergence.proofs.Used.{used-formed}
 use Rattle.convergence.proofs.Forms.{formed}
 use Rattle.index.specs.Keys.{Small, AllSmall}
 use Rattle.index.specs.Tabled.{Tabled}
@@ -71,6 +73,10 @@ begun-searches (heaped n heap) =
     ⊎-elim (λ e. subst (λ s. Searches (stored s)) (sym e) (initial-searches 0))
     (λ f. stored-searches (build n heap .state) f)
     (heaped-formed n heap)
+begun-searches (loaded s) =
+    ⊎-elim (λ e. subst (λ t. Searches (stored t)) (sym e) (initial-searches 0))
+    (λ f. stored-searches (useOutcome s .state) f)
+    (used-formed s)
 
 -- ---- the other way
 

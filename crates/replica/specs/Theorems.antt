@@ -51,7 +51,7 @@ AcceptedFormed = (r : Replica) (c : Call) → changes (answerTo r c) ≡ true �
 abbrev pub EmptyReplicaFormed : Type 0
 EmptyReplicaFormed = (n : ℕ) → replicaWellFormed (stored (initial n)) ≡ siteNumber n
 
--- replicas in memory, begun by `Replica::empty`, are at every moment the states of the rules as they are stored
+-- replicas in memory, from any beginning, are at every moment the states of the rules as they are stored
 abbrev pub ReplicasFollow : Type 0
 ReplicasFollow = (b : Begun) (cs : List Call) → ran (stored (startOf b)) cs ≡ stored (run (startOf b) cs)
 
