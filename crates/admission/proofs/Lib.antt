@@ -1,0 +1,6 @@
+pub mod Passing
+pub mod Knots
+pub mod Concurrent
+pub mod Finding
+pub mod Answering
+pub mod Promises
