@@ -47,7 +47,8 @@ module _ (cs : List Character) (s : Standing cs) (small : AllSmall cs) (ids ups 
         → suc j < placeOf cs (at i .next) → key (at i .id) ≤ key (at j .id)
     unfolding pairAt
     ranked i j l m p q =
-        let cell = throughout-at (pairAt ids downs (getD ups j 0) j) j i l (throughout-at (rowAt ids ups downs) (length cs) j m h) in
+        let row = throughout-at (rowAt ids ups downs) (length cs) j m h in
+        let cell = throughout-at (pairAt ids downs (getD ups j 0) j) j i l row in
         let lower : ltb (j + 1) (getD downs i 0) ≡ true =
         lt-ltb (j + 1) (getD downs i 0) (omega (arith, next i (omega arith))) in
         ⊎-elim (λ e. absurd (omega (arith, ltb-true i (getD ups j 0) e, previous j m)))
@@ -126,7 +127,8 @@ module _ (cs : List Character) (s : Standing cs) (small : AllSmall cs) (ids ups 
     where
       cell : (k : ℕ) → k < length cs → (j : ℕ) → j < k
           → ltb j (getD ups k 0) || not (ltb (k + 1) (getD downs j 0) && ltb (getD ids k 0) (getD ids j 0)) ≡ true
-      cell k l j i = ⊎-elim (or-left up (not (down && less))) (λ e. or-right up (not (down && less)) (rest e)) (either up)
+      cell k l j i =
+          ⊎-elim (or-left up (not (down && less))) (λ e. or-right up (not (down && less)) (rest e)) (either up)
         where
           up : Bool
           up = ltb j (getD ups k 0)

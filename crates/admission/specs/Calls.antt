@@ -1,4 +1,4 @@
--- Document 02, Req 07, on replicas as they lie in memory: the rule applied to what a replica means, and what comes back.
+-- Document 02, Req 07, on replicas as they lie in memory: the rule applied to their meaning, and what comes back.
 use Rattle.woot.specs.declared.Replica.{Replica}
 use Rattle.woot.specs.declared.Answer.{Answer}
 use Rattle.woot.specs.declared.Answer.the-variants.{Done, Deferred, Duplicate, Refused}

@@ -36,7 +36,8 @@ examined : (c : tie.Else1) → Examined (viewed (passedIn (c .before)))
 examined c = lent-examined _ _ _ (full (c .before)) (sym (form-view (passedIn (c .before))) ∙ formed c)
 
 -- the test of the rows
-made : (c : tie.After-can-be-made) → let r = passedIn (c .before .before .before .before .before .before .before .before .before) in
+made : (c : tie.After-can-be-made)
+    → let r = passedIn (c .before .before .before .before .before .before .before .before .before) in
     c .can-be-made .result ≡ loadable (meaning r .characters)
 made c =
     let e = c .before .before .before .before .before .before .before .before in

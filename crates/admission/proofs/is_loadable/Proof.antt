@@ -20,10 +20,9 @@ find-places-requires c κs =
 find-places-requires-2 : tie.Need-find-places-requires-2
 find-places-requires-2 c κs =
     let p = c .before .before .before .before in
-    let s = p .before .before .before .before .before .before in (
-      s .pre .0,
-      (p .place-of .ensures, (omega arith, (s .pre .1 .1, omega (arith, s .pre .0 .few, length-replicate {A = ℕ} 1024 0)))),
-    )
+    let s = p .before .before .before .before .before .before in
+    let full = length-replicate {A = ℕ} 1024 0 in
+    (s .pre .0, (p .place-of .ensures, (omega arith, (s .pre .1 .1, omega (arith, s .pre .0 .few, full)))))
 
 ordered-requires : tie.Need-ordered-requires
 ordered-requires c κs =

@@ -20,7 +20,8 @@ abbrev μ-loop : tie.MeasureT-loop
 loop-holds : tie.Need-loop-holds Inv-loop μ-loop
 loop-holds c =
     let s = c .before .before in
-    (remaining-first 1024 (s .args .n) (s .pre .0), spared-first _ _ (s .args .n) (s .pre .0), length-replicate {A = ℕ} 1024 0)
+    let full = length-replicate {A = ℕ} 1024 0 in
+    (remaining-first 1024 (s .args .n) (s .pre .0), spared-first _ _ (s .args .n) (s .pre .0), full)
 
 pass-down-requires : tie.Need-pass-down-requires Inv-loop μ-loop
 pass-down-requires c κs =

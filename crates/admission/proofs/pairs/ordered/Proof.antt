@@ -29,7 +29,8 @@ loop-holds c = (omega arith, refl)
 
 row : (c : tie.After-row-ordered Inv-loop μ-loop)
     → let a = c .before .before .before .before .before .before .before .before .args in
-    c .row-ordered .result ≡ rowAt (a .ids .now) (a .above .now) (a .below .now) (c .before .before .before .before .loop .k)
+    let l = c .before .before .before .before .loop in
+    c .row-ordered .result ≡ rowAt (a .ids .now) (a .above .now) (a .below .now) (l .k)
 row c =
     let a = c .before .before .before .before .before .before .before .before .args in
     read (a .ids .now) (a .above .now) (a .below .now) (c .before .before .before .before .loop .k)
