@@ -43,14 +43,15 @@ use Rattle.saved.specs.Conversion.{conversion}
 use Rattle.effects.specs.Results.{Result, result, silent}
 use Rattle.effects.specs.Effects.{Effect, quiet, turned, writingNoted, writing, writingBoth, afterReceiving, afterReceivingAt, sending, afterSending, sendingAll, afterPasting}
 use Rattle.c_calls.specs.Calls.{CCall, «wimtaze_empty», «wimtaze_receive», «wimtaze_receive_at», «wimtaze_type», «wimtaze_erase», «wimtaze_restore», «wimtaze_paste», «wimtaze_text», «wimtaze_counts», «wimtaze_upgrade», «wimtaze_downgrade», inputChecks, oneLine, named, answering, handedChecks, ruleChecks, callChecks, Product, bytesAlone, replicaAfter, replicaAndLine, replicaAndLines, productOf, short, delivered, effectOf}
-use Rattle.c_calls.specs.Calls.{«wimtaze_build»}
+use Rattle.c_calls.specs.Calls.{«wimtaze_build», «wimtaze_load»}
 use Rattle.woot.specs.Building.{leftOut, built, heapFull, disagreeing, buildChecks, unbuilt, build}
+use Rattle.woot.specs.Loading.{loadable, useChecks}
 use Rattle.woot.specs.Operations.{inserts}
 use Rattle.woot.specs.Ranges.{siteNumber}
 use Rattle.lists.specs.Lists.{every}
 use Rattle.heap.specs.Format.{heapLaidOut, heapSaid}
 use Rattle.building.specs.Calls.{builtOutcome}
-use Rattle.c_calls.specs.Steps.{buildingHere}
+use Rattle.c_calls.specs.Steps.{buildingHere, usedHere, loadingHere}
 use Rattle.effects.specs.Counts.{countsOf}
 use Rattle.c_calls.specs.Steps.{beginning, receivingLine, receivingLineAt, insertingHere, deletingHere, restoringHere, pastingHere, showingText, counting, converting, upgrading, downgrading}
 use Rattle.c_calls.proofs.Listing.{first-behind}
@@ -419,3 +420,19 @@ module _ (bytes out : List ℕ) where
       go true true false true l r f a = rw (l, r, f, a)
       go true true false false l r f a =
           rw (l, r, f, a) (noted (Done 0 (length (leftOut os))) 0 (savedBytes (built n os)) out)
+
+-- ---- loading for use
+
+module _ (bytes out : List ℕ) where
+  -- by the one condition of its rule that is left
+  load-ruled : (b : Bool) → loadable (loadedState bytes .characters) ≡ b →
+      ruled «wimtaze_load» bytes out [] ≡ usedHere (loadedState bytes) out
+  unfolding ruleChecks productOf usedHere useChecks decided turned writing
+  load-ruled false e = rw e
+  load-ruled true e = rw e (noted (Done 0 0) 0 (savedBytes (loadedState bytes)) out)
+
+  pub load-body : effectOf «wimtaze_load» bytes out [] ≡ loadingHere bytes out
+  unfolding loadingHere handedChecks
+  load-body =
+      by-body «wimtaze_load» bytes out [] (usedHere (loadedState bytes) out)
+      (λ h. load-ruled (loadable (loadedState bytes .characters)) refl)

@@ -24,7 +24,7 @@ use Rattle.saved.proofs.Trips.{saved-reads-back}
 use Rattle.effects.specs.Results.{Result, result, silent, wordNumber, inBits, numberOf}
 use Rattle.effects.specs.Effects.{Effect, quiet}
 use Rattle.c_calls.specs.Calls.{CCall, «wimtaze_empty», «wimtaze_receive», «wimtaze_receive_at», «wimtaze_type», «wimtaze_erase», «wimtaze_restore», «wimtaze_paste», «wimtaze_text», «wimtaze_counts», «wimtaze_upgrade», «wimtaze_downgrade», productOf, short, delivered, effectOf}
-use Rattle.c_calls.specs.Calls.{«wimtaze_build»}
+use Rattle.c_calls.specs.Calls.{«wimtaze_build», «wimtaze_load»}
 use Rattle.c_calls.specs.Theorems.{Bounds, boundsOf, roomOf, saves, Fits, ResultsFit, PartsReadBack, ReadsBack, ReturnedReadsBack, CountsWithin, CountsFit, BuffersSuffice, bytesWritten, Formed, Loads, WrittenLoads}
 use Rattle.c_calls.proofs.Listing.{Earlier, Went, away, lacking, through, went, product-made}
 use Rattle.c_calls.proofs.Products.{Saved, Sound, counts-within, counts-formed, product-sound}
@@ -86,6 +86,7 @@ narrow b = ltb (b .integrated) 4096 && ltb (b .discarded) 4096 && ltb (b .writte
 all-narrow : (c : CCall) → narrow (boundsOf c) ≡ true
 all-narrow («wimtaze_empty» n) = refl
 all-narrow («wimtaze_build» n heap) = refl
+all-narrow «wimtaze_load» = refl
 all-narrow («wimtaze_receive» l) = refl
 all-narrow («wimtaze_receive_at» l g) = refl
 all-narrow («wimtaze_type» g n) = refl

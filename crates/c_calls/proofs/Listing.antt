@@ -12,7 +12,7 @@ use borrow.Author.Tests.{not-false}
 use Rattle.woot.specs.declared.Operation.{Operation}
 use Rattle.woot.specs.declared.Operation.the-variants.{Insert as insert, Toggle as toggle}
 use Rattle.woot.specs.declared.Refusal.{Refusal}
-use Rattle.woot.specs.declared.Refusal.the-variants.{HeapFull}
+use Rattle.woot.specs.declared.Refusal.the-variants.{HeapFull, Unreachable}
 use Rattle.woot.specs.declared.Refusal.the-variants.{Layout, Range, NotUtf8, Form, Unrepresentable, Position, NotHidden, LastToggle, Clock, Taken, Conflict, Crossed, Unplaceable, SenderFull, DocumentFull, Output}
 use Rattle.woot.specs.declared.Answer.{Answer}
 use Rattle.woot.specs.declared.Answer.the-variants.{Done, Deferred, Duplicate, Refused}
@@ -26,6 +26,7 @@ use Rattle.woot.specs.Calls.{unchanged, carryOut, defer, accept, receiveChecks,
 use Rattle.woot.specs.Cursor.{receiveAtChecks, receiveAtWhen, receiveAt}
 use Rattle.woot.specs.Pasting.{codePointsOf, typings, pasted, pasteChecks, pasteWhen, paste}
 use Rattle.woot.specs.Building.{leftOut, buildChecks, build}
+use Rattle.woot.specs.Loading.{useChecks}
 use Rattle.convergence.proofs.Building.{build-does, left-out-count}
 use Rattle.convergence.proofs.Refusals.{first-reported, reported-first}
 use Rattle.convergence.proofs.Replies.{none-first, positive, answer-number}
@@ -40,15 +41,16 @@ use Rattle.effects.specs.Results.{Result, result, silent}
 use Rattle.effects.specs.Effects.{Effect, quiet}
 use Rattle.effects.specs.Counts.{countsOf}
 use Rattle.c_calls.specs.Calls.{CCall, «wimtaze_empty», «wimtaze_receive», «wimtaze_receive_at», «wimtaze_type», «wimtaze_erase», «wimtaze_restore», «wimtaze_paste», «wimtaze_text», «wimtaze_counts», «wimtaze_upgrade», «wimtaze_downgrade», inputChecks, named, answering, handedChecks, ruleChecks, earlierChecks, callChecks, Product, productOf, short, delivered, effectOf}
-use Rattle.c_calls.specs.Calls.{«wimtaze_build»}
+use Rattle.c_calls.specs.Calls.{«wimtaze_build», «wimtaze_load»}
 use Rattle.c_calls.specs.Theorems.{CallsMeet, CallsRise, CallsRefuse, CallsKnow, Untouched, TurnedUntouched}
 
 -- ---- the lists
 
 pub calls-meet : CallsMeet
-unfolding callChecks handedChecks ruleChecks inputChecks conversionRefusals receiveChecks receiveAtChecks insertChecks deleteChecks restoreChecks pasteChecks buildChecks reply answerOf
+unfolding callChecks handedChecks ruleChecks inputChecks conversionRefusals receiveChecks receiveAtChecks insertChecks deleteChecks restoreChecks pasteChecks buildChecks useChecks reply answerOf
 calls-meet («wimtaze_empty» n) bytes out line = refl
 calls-meet («wimtaze_build» n heap) bytes out line = refl
+calls-meet «wimtaze_load» bytes out line = refl
 calls-meet («wimtaze_receive» l) bytes out line = refl
 calls-meet («wimtaze_receive_at» l gap) bytes out line = refl
 calls-meet («wimtaze_type» gap n) bytes out line = refl
@@ -61,9 +63,10 @@ calls-meet «wimtaze_upgrade» bytes out line = refl
 calls-meet «wimtaze_downgrade» bytes out line = refl
 
 pub calls-rise : CallsRise
-unfolding callChecks handedChecks ruleChecks inputChecks conversionRefusals receiveChecks receiveAtChecks insertChecks deleteChecks restoreChecks pasteChecks buildChecks answerOf
+unfolding callChecks handedChecks ruleChecks inputChecks conversionRefusals receiveChecks receiveAtChecks insertChecks deleteChecks restoreChecks pasteChecks buildChecks useChecks answerOf
 calls-rise («wimtaze_empty» n) bytes out line = refl
 calls-rise («wimtaze_build» n heap) bytes out line = refl
+calls-rise «wimtaze_load» bytes out line = refl
 calls-rise («wimtaze_receive» l) bytes out line = refl
 calls-rise («wimtaze_receive_at» l gap) bytes out line = refl
 calls-rise («wimtaze_type» gap n) bytes out line = refl
@@ -89,10 +92,12 @@ unfolding reply
 earlier-known = record { turned = tt; other = refl }
 
 all-earlier : (c : CCall) (bytes : List ℕ) → All Earlier (earlierChecks c bytes)
-unfolding handedChecks ruleChecks inputChecks conversionRefusals receiveChecks receiveAtChecks insertChecks deleteChecks restoreChecks pasteChecks buildChecks answerOf
+unfolding handedChecks ruleChecks inputChecks conversionRefusals receiveChecks receiveAtChecks insertChecks deleteChecks restoreChecks pasteChecks buildChecks useChecks answerOf
 all-earlier («wimtaze_empty» n) bytes = (earlier Range refl, tt)
 all-earlier («wimtaze_build» n heap) bytes =
     (earlier Layout refl, (earlier Range refl, (earlier HeapFull refl, (earlier Conflict refl, tt))))
+all-earlier «wimtaze_load» bytes =
+    (earlier Layout refl, (earlier Range refl, (earlier Form refl, (earlier Unreachable refl, tt))))
 all-earlier («wimtaze_receive» l) bytes = (
   earlier Layout refl,
   (
@@ -302,6 +307,7 @@ pub product-made : (c : CCall) (bytes : List ℕ) → NoneHolds (earlierChecks c
 unfolding productOf result countsOf sendInsert sendToggle carryOut answerOf pasted
 product-made («wimtaze_empty» n) bytes w = done-made 0 0
 product-made («wimtaze_build» n heap) bytes w = rw (build-taken n heap bytes w) (done-made 0 _)
+product-made «wimtaze_load» bytes w = done-made 0 0
 product-made («wimtaze_receive» l) bytes w = rw (receive-taken bytes l w .1) (accept-made _ _)
 product-made («wimtaze_receive_at» l g) bytes w = rw (receive-at-taken bytes l g w .1) (accept-made _ _)
 product-made («wimtaze_type» g n) bytes w = rw (type-taken bytes g n w .1) (done-made _ _)

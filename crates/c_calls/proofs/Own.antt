@@ -36,7 +36,7 @@ use Rattle.saved.specs.Calls.{loadedState}
 use Rattle.effects.specs.Results.{result, silent}
 use Rattle.effects.specs.Effects.{Effect, quiet, turned, writingNoted, afterReceivingAt}
 use Rattle.c_calls.specs.Calls.{CCall, «wimtaze_empty», «wimtaze_receive», «wimtaze_receive_at», «wimtaze_type», «wimtaze_erase», «wimtaze_restore», «wimtaze_paste», «wimtaze_text», «wimtaze_counts», «wimtaze_upgrade», «wimtaze_downgrade», inputChecks, oneLine, named, handedChecks, earlierChecks, replicaAndLine, productOf, short, delivered, effectOf}
-use Rattle.c_calls.specs.Calls.{«wimtaze_build»}
+use Rattle.c_calls.specs.Calls.{«wimtaze_build», «wimtaze_load»}
 use Rattle.c_calls.specs.Steps.{receivingLineAt}
 use Rattle.c_calls.specs.Theorems.{bytesWritten, lineWritten, sends, receivedAtBy, SavesAs, OwnLineReceived}
 use Rattle.c_calls.proofs.Listing.{Went, away, lacking, through, went, type-taken, erase-taken, restore-taken}
@@ -184,6 +184,7 @@ module _ (bytes : List ℕ) (gap : ℕ) where
         SavesAs (delivered (productOf c bytes) out line) (receivedAtBy bytes (lineWritten (delivered (productOf c bytes) out line)) gap again)
     product-own («wimtaze_empty» n) k = absurd (false≢true k)
     product-own («wimtaze_build» n heap) k = absurd (false≢true k)
+    product-own «wimtaze_load» k = absurd (false≢true k)
     product-own («wimtaze_receive» l) k = absurd (false≢true k)
     product-own («wimtaze_receive_at» l g) k = absurd (false≢true k)
     product-own («wimtaze_type» g n) k = type-own g n

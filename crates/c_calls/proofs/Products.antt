@@ -46,7 +46,7 @@ use Rattle.effects.specs.Results.{Result, result}
 use Rattle.effects.specs.Counts.{countsOf}
 use Rattle.effects.proofs.Totals.{known-few}
 use Rattle.c_calls.specs.Calls.{CCall, «wimtaze_empty», «wimtaze_receive», «wimtaze_receive_at», «wimtaze_type», «wimtaze_erase», «wimtaze_restore», «wimtaze_text», «wimtaze_counts», «wimtaze_upgrade», «wimtaze_downgrade», inputChecks, named, handedChecks, earlierChecks, Product, bytesAlone, replicaAndLine, productOf}
-use Rattle.c_calls.specs.Calls.{«wimtaze_paste», «wimtaze_build»}
+use Rattle.c_calls.specs.Calls.{«wimtaze_paste», «wimtaze_build», «wimtaze_load»}
 use Rattle.c_calls.specs.Theorems.{boundsOf, roomOf, saves, Fits, CountsWithin}
 use Rattle.c_calls.proofs.Sizes.{text-length}
 use Rattle.c_calls.proofs.Counts.{Fine, Sends, receive-fine, receive-at-fine, insert-sends, delete-sends, restore-sends}
@@ -268,6 +268,13 @@ module _ (bytes : List ℕ) where
         saved = λ h. record { state = t; formed = k; bytes = refl; length-told = refl };
       }
 
+  load-sound : NoneHolds (earlierChecks «wimtaze_load» bytes) → Sound «wimtaze_load» (productOf «wimtaze_load» bytes)
+  unfolding productOf handedChecks inputChecks
+  load-sound w =
+      let k = not-false (wellFormed said) (w .1 .1 .0) in
+      let long = saved-length said k in
+      plain-sound «wimtaze_load» _ long long (λ h. (said, k, refl))
+
   text-sound : NoneHolds (earlierChecks «wimtaze_text» bytes) → Sound «wimtaze_text» (productOf «wimtaze_text» bytes)
   unfolding productOf
   text-sound w =
@@ -311,6 +318,7 @@ module _ (bytes : List ℕ) where
 pub product-sound : (c : CCall) (bytes : List ℕ) → NoneHolds (earlierChecks c bytes) → Sound c (productOf c bytes)
 product-sound («wimtaze_empty» n) bytes w = empty-sound bytes n w
 product-sound («wimtaze_build» n heap) bytes w = build-sound bytes n heap w
+product-sound «wimtaze_load» bytes w = load-sound bytes w
 product-sound («wimtaze_receive» l) bytes w = receive-sound bytes l (receive-taken bytes l w .0)
 product-sound («wimtaze_receive_at» l g) bytes w = receive-at-sound bytes l g (receive-at-taken bytes l g w .0)
 product-sound («wimtaze_type» g n) bytes w = type-sound bytes g n w

@@ -29,7 +29,7 @@ use Rattle.effects.specs.Effects.{Effect, quiet}
 use Rattle.saved.specs.Format.{savedInRange}
 use Rattle.saved.specs.Calls.{loadedState}
 use Rattle.c_calls.specs.Calls.{CCall, «wimtaze_empty», «wimtaze_receive», «wimtaze_receive_at», «wimtaze_type», «wimtaze_erase», «wimtaze_restore», «wimtaze_paste», «wimtaze_text», «wimtaze_counts», «wimtaze_upgrade», «wimtaze_downgrade», inputChecks, answering, handedChecks, ruleChecks, callChecks, effectOf}
-use Rattle.c_calls.specs.Calls.{«wimtaze_build»}
+use Rattle.c_calls.specs.Calls.{«wimtaze_build», «wimtaze_load»}
 use Rattle.c_calls.specs.Theorems.{meets, RefusalsMet, CallsNeverTaken}
 use Rattle.c_calls.proofs.Listing.{Went, away, lacking, through, went, earlier-reported, output-reported, product-made, calls-meet, calls-refuse}
 
@@ -41,9 +41,12 @@ met {a} (here {c = c} {cs = cs} h e) = rw (e, eqb-same (reply a .refusal))
     eqb-same n = eq-eqb n n refl
 met {a} (later {c = c} {cs = cs} h r) = or-right (eqb (reply a .refusal) (reply (c .answer) .refusal)) _ (met r)
 
-unmet : (c : CCall) (bytes out line : List ℕ) → any (eqb 6) (meets c) ≡ false → Reported (Refused Taken) (callChecks c bytes out line) → ⊥
+-- so a refusal whose number a call does not have is not reported
+pub unmet : (q : Refusal) (c : CCall) (bytes out line : List ℕ) → any (eqb (number q)) (meets c) ≡ false →
+    Reported (Refused q) (callChecks c bytes out line) → ⊥
 unfolding reply
-unmet c bytes out line h r = false≢true (sym h ∙ ap (any (eqb 6)) (sym (calls-meet c bytes out line)) ∙ met r)
+unmet q c bytes out line h r =
+    false≢true (sym h ∙ ap (any (eqb (number q))) (sym (calls-meet c bytes out line)) ∙ met r)
 
 -- the refusal of an effect is 0, or among the numbers of the list
 went-met : (c : CCall) (bytes out line : List ℕ) {e : Effect} → Went c bytes out line e →
@@ -60,7 +63,7 @@ refusals-met c bytes out line =
     ∙ went-met c bytes out line (went c bytes out line)
 
 -- a refusal that is reported of the answers is reported of what is sent
-unanswered : (q : Refusal) (cs : List (Check Sent)) (last : Check Answer) → (last .answer ≡ Refused q → ⊥) →
+pub unanswered : (q : Refusal) (cs : List (Check Sent)) (last : Check Answer) → (last .answer ≡ Refused q → ⊥) →
     Reported (Refused q) (answering cs ++ last ∷ []) → Reported (sentRefused q) cs
 unanswered q [] last apart (here h e) = absurd (apart e)
 unanswered q (c ∷ cs) last apart (here h e) = here h (answer-refused (c .answer) q e)
@@ -82,15 +85,16 @@ pub calls-never-taken : CallsNeverTaken
 calls-never-taken c bytes out line h = go c (calls-refuse c bytes out line Taken .0 h)
   where
     go : (d : CCall) → Reported (Refused Taken) (callChecks d bytes out line) → ⊥
-    go («wimtaze_empty» n) r = unmet («wimtaze_empty» n) bytes out line refl r
-    go («wimtaze_build» n heap) r = unmet («wimtaze_build» n heap) bytes out line refl r
-    go («wimtaze_receive» l) r = unmet («wimtaze_receive» l) bytes out line refl r
-    go («wimtaze_receive_at» l g) r = unmet («wimtaze_receive_at» l g) bytes out line refl r
+    go («wimtaze_empty» n) r = unmet Taken («wimtaze_empty» n) bytes out line refl r
+    go («wimtaze_build» n heap) r = unmet Taken («wimtaze_build» n heap) bytes out line refl r
+    go «wimtaze_load» r = unmet Taken «wimtaze_load» bytes out line refl r
+    go («wimtaze_receive» l) r = unmet Taken («wimtaze_receive» l) bytes out line refl r
+    go («wimtaze_receive_at» l g) r = unmet Taken («wimtaze_receive_at» l g) bytes out line refl r
     go («wimtaze_type» g n) r = type-untaken bytes g n out line r
-    go («wimtaze_erase» p) r = unmet («wimtaze_erase» p) bytes out line refl r
-    go («wimtaze_restore» n t) r = unmet («wimtaze_restore» n t) bytes out line refl r
-    go («wimtaze_paste» g block) r = unmet («wimtaze_paste» g block) bytes out line refl r
-    go «wimtaze_text» r = unmet «wimtaze_text» bytes out line refl r
-    go «wimtaze_counts» r = unmet «wimtaze_counts» bytes out line refl r
-    go «wimtaze_upgrade» r = unmet «wimtaze_upgrade» bytes out line refl r
-    go «wimtaze_downgrade» r = unmet «wimtaze_downgrade» bytes out line refl r
+    go («wimtaze_erase» p) r = unmet Taken («wimtaze_erase» p) bytes out line refl r
+    go («wimtaze_restore» n t) r = unmet Taken («wimtaze_restore» n t) bytes out line refl r
+    go («wimtaze_paste» g block) r = unmet Taken («wimtaze_paste» g block) bytes out line refl r
+    go «wimtaze_text» r = unmet Taken «wimtaze_text» bytes out line refl r
+    go «wimtaze_counts» r = unmet Taken «wimtaze_counts» bytes out line refl r
+    go «wimtaze_upgrade» r = unmet Taken «wimtaze_upgrade» bytes out line refl r
+    go «wimtaze_downgrade» r = unmet Taken «wimtaze_downgrade» bytes out line refl r

@@ -25,6 +25,7 @@ use Rattle.woot.specs.Calls.{generatedDelete, localDelete, restoreChecks, gener
 use Rattle.woot.specs.Cursor.{receiveAtChecks, receiveAt, shiftAt}
 use Rattle.woot.specs.Pasting.{PasteOutcome, pasteChecks, paste}
 use Rattle.woot.specs.Building.{BuildOutcome, buildChecks, build}
+use Rattle.woot.specs.Loading.{useChecks}
 use Rattle.woot.specs.Text.{text}
 use Rattle.lines.specs.Lines.{rest, concatenated}
 use Rattle.cursor.specs.Bits.{shiftBits}
@@ -45,6 +46,8 @@ pub data CCall : Type 0 where
   «wimtaze_empty» : ℕ → CCall
   -- a site's number and a heap; it takes no saved replica either
   «wimtaze_build» : ℕ → List ℕ → CCall
+  -- the saved replica alone, which is loaded for use
+  «wimtaze_load» : CCall
   -- a line
   «wimtaze_receive» : List ℕ → CCall
   -- a line and a gap
@@ -90,6 +93,7 @@ unfoldable pub handedChecks : CCall → List ℕ → List (Check Refusal)
 handedChecks («wimtaze_empty» n) bytes = (not (siteNumber n) ⇒ Range) ∷ []
 handedChecks («wimtaze_build» n heap) bytes =
     (not (heapLaidOut heap) ⇒ Layout) ∷ (not (siteNumber n && every inRange (heapSaid heap)) ⇒ Range) ∷ []
+handedChecks «wimtaze_load» bytes = inputChecks bytes true true
 handedChecks («wimtaze_receive» line) bytes = inputChecks bytes (oneLine line) (inRange (saidBy line))
 handedChecks («wimtaze_receive_at» line gap) bytes = inputChecks bytes (oneLine line) (inRange (saidBy line))
 handedChecks («wimtaze_type» gap n) bytes = inputChecks bytes true (codePoint n)
@@ -113,6 +117,7 @@ answering cs = map (λ c. c .holds ⇒ answerOf (c .answer)) cs
 unfoldable pub ruleChecks : CCall → State → List (Check Answer)
 ruleChecks («wimtaze_empty» n) s = []
 ruleChecks («wimtaze_build» n heap) s = drop 1 (buildChecks n (heapSaid heap))
+ruleChecks «wimtaze_load» s = drop 1 (useChecks true s)
 ruleChecks («wimtaze_receive» line) s = drop 2 (receiveChecks true s (saidBy line))
 ruleChecks («wimtaze_receive_at» line gap) s = drop 2 (receiveAtChecks true s (saidBy line) gap)
 ruleChecks («wimtaze_type» gap n) s = answering (drop 2 (insertChecks true s gap n))
@@ -173,6 +178,7 @@ replicaAndLines w (b ∷ block) =
 unfoldable pub productOf : CCall → List ℕ → Product
 productOf («wimtaze_empty» n) bytes = bytesAlone (savedBytes (initial n))
 productOf («wimtaze_build» n heap) bytes = replicaBuilt (build n (heapSaid heap))
+productOf «wimtaze_load» bytes = bytesAlone (savedBytes (loadedState bytes))
 productOf («wimtaze_receive» line) bytes = replicaAfter (receive (loadedState bytes) (saidBy line)) 0
 productOf («wimtaze_receive_at» line gap) bytes =
     replicaAfter (receiveAt (loadedState bytes) (saidBy line) gap)

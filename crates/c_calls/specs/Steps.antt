@@ -3,21 +3,24 @@
 use Prim.Native.Nat.{ℕ}
 use mathlib.Core.Bool.{true, not, cond}
 use mathlib.Core.List.{List, [], _∷_}
-use Rattle.woot.specs.declared.Refusal.the-variants.{Layout, Range}
+use Rattle.woot.specs.declared.Refusal.the-variants.{Layout, Range, Unreachable}
 use Rattle.woot.specs.declared.Answer.the-variants.{Done, Refused}
+use Rattle.woot.specs.declared.Replica.{Replica}
 use Rattle.woot.specs.Ranges.{siteNumber, codePoint, characterId, inRange}
-use Rattle.woot.specs.State.{initial}
+use Rattle.woot.specs.State.{State, initial}
 use Rattle.woot.specs.Answers.{changes, _⇒_, first, decided}
 use Rattle.woot.specs.Calls.{receive, localInsert, localDelete, localRestore}
 use Rattle.woot.specs.Cursor.{receiveAt, shiftAt}
 use Rattle.woot.specs.Pasting.{paste}
+use Rattle.woot.specs.Loading.{loadable}
 use Rattle.woot.specs.Text.{text}
+use Rattle.admission.specs.Calls.{admittedBy}
 use Rattle.codec.specs.Calls.{saidBy}
 use Rattle.building.specs.Calls.{builtOutcome}
 use Rattle.saved.specs.declared.Version.{Version}
 use Rattle.saved.specs.declared.Version.the-variants.{First, Second}
 use Rattle.saved.specs.Format.{savedLaidOut, savedInRange, savedBytes}
-use Rattle.saved.specs.Calls.{loadedState}
+use Rattle.saved.specs.Calls.{loadedState, bytesOf}
 use Rattle.saved.specs.Conversion.{conversion, conversionRefusals}
 use Rattle.effects.specs.Results.{Result, silent}
 use Rattle.effects.specs.Effects.{Effect, quiet, turned, writing, afterReceiving, afterReceivingAt}
@@ -37,6 +40,23 @@ buildingHere number heap out =
     cond (changes (builtOutcome number heap .answer))
     (writing (builtOutcome number heap .answer) (savedBytes (builtOutcome number heap .state)) out)
     (quiet out [] (builtOutcome number heap .answer))
+
+-- a state in form: "refused with 16, after 3", or saved as it is
+unfoldable pub usedHere : State → List ℕ → Effect
+usedHere s out =
+    decided (turned out []) (first ((not (loadable (s .characters)) ⇒ Unreachable) ∷ []))
+    (writing (Done 0 0) (savedBytes s) out)
+
+-- `wimtaze_load`: document 02, Req 07
+unfoldable pub loadingHere : List ℕ → List ℕ → Effect
+loadingHere bytes out =
+    decided (turned out []) (first (inputChecks bytes true true)) (usedHere (loadedState bytes) out)
+
+-- the same of a replica that was read, whose form is still to be checked
+unfoldable pub replicaUsed : Replica → List ℕ → Effect
+replicaUsed r out =
+    cond (changes (admittedBy r .answer)) (writing (admittedBy r .answer) (bytesOf (admittedBy r .replica)) out)
+    (quiet out [] (admittedBy r .answer))
 
 -- `wimtaze_receive`
 unfoldable pub receivingLine : List ℕ → List ℕ → List ℕ → Effect

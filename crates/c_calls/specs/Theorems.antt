@@ -16,12 +16,15 @@ use Rattle.woot.specs.declared.Answer.{Answer}
 use Rattle.woot.specs.declared.Answer.the-variants.{Done, Deferred, Duplicate, Refused}
 use Rattle.woot.specs.Limits.{capacity}
 use Rattle.woot.specs.State.{State}
+use Rattle.woot.specs.Ranges.{siteNumber}
 use Rattle.woot.specs.Form.{wellFormed}
 use Rattle.woot.specs.Answers.{number, highestRefusal, Word, done, waits, known, refused, Reported}
 use Rattle.woot.specs.Calls.{nextIdentifier, beyondVisible}
 use Rattle.woot.specs.Cursor.{cursorAfter, shiftAt, lastNumber, movedBy}
 use Rattle.woot.specs.Pasting.{gapBelow}
 use Rattle.woot.specs.Building.{leftOut, build}
+use Rattle.woot.specs.Loading.{loadable}
+use Rattle.convergence.specs.Loading.{Made}
 use Rattle.woot.specs.Text.{text}
 use Rattle.woot.specs.Memory.{pendingSlots}
 use Rattle.woot.specs.Situations.{numbersOf, ranksOf, rises}
@@ -46,7 +49,7 @@ use Rattle.effects.specs.Effects.{Effect}
 use Rattle.c_calls.specs.Calls.{CCall, «wimtaze_empty», «wimtaze_receive», «wimtaze_receive_at», «wimtaze_type»}
 use Rattle.c_calls.specs.Calls.{«wimtaze_erase», «wimtaze_restore», «wimtaze_text», «wimtaze_counts»}
 use Rattle.c_calls.specs.Calls.{«wimtaze_upgrade», «wimtaze_downgrade», callChecks, effectOf}
-use Rattle.c_calls.specs.Calls.{«wimtaze_paste», «wimtaze_build»}
+use Rattle.c_calls.specs.Calls.{«wimtaze_paste», «wimtaze_build», «wimtaze_load»}
 use Rattle.effects.specs.Effects.{quiet}
 
 -- ---- refusals: any call, any bytes, numbers and slices
@@ -56,6 +59,7 @@ use Rattle.effects.specs.Effects.{quiet}
 abbrev pub meets : CCall → List ℕ
 meets («wimtaze_empty» n) = 2 ∷ 12 ∷ []
 meets («wimtaze_build» n heap) = 1 ∷ 2 ∷ 17 ∷ 7 ∷ 12 ∷ []
+meets «wimtaze_load» = 1 ∷ 2 ∷ 3 ∷ 16 ∷ 12 ∷ []
 meets («wimtaze_receive» line) = 1 ∷ 2 ∷ 3 ∷ 0 ∷ 7 ∷ 8 ∷ 9 ∷ 10 ∷ 11 ∷ 12 ∷ []
 meets («wimtaze_receive_at» line gap) = 1 ∷ 2 ∷ 3 ∷ 0 ∷ 4 ∷ 7 ∷ 8 ∷ 9 ∷ 10 ∷ 11 ∷ 12 ∷ []
 meets («wimtaze_type» gap n) = 1 ∷ 2 ∷ 3 ∷ 4 ∷ 5 ∷ 6 ∷ 9 ∷ 11 ∷ 12 ∷ []
@@ -81,6 +85,7 @@ exchanged (Refused q) = Refused (cond (eqb (number q) 9) DocumentFull (cond (eqb
 abbrev pub rankedAs : CCall → Answer → Answer
 rankedAs («wimtaze_empty» n) a = a
 rankedAs («wimtaze_build» n heap) a = a
+rankedAs «wimtaze_load» a = a
 rankedAs («wimtaze_receive» line) a = a
 rankedAs («wimtaze_receive_at» line gap) a = a
 rankedAs («wimtaze_type» gap n) a = a
@@ -165,6 +170,7 @@ abbrev pub boundsOf : CCall → Bounds
 boundsOf («wimtaze_empty» n) = boundsOfBytes savedMost
 boundsOf («wimtaze_build» n heap) =
     record { integrated = 0; discarded = heapLines; written = savedMost; line = 0 }
+boundsOf «wimtaze_load» = boundsOfBytes savedMost
 boundsOf («wimtaze_receive» line) = record { integrated = 513; discarded = pendingSlots; written = savedMost; line = 0 }
 boundsOf («wimtaze_receive_at» line gap) =
     record { integrated = 513; discarded = pendingSlots; written = savedMost; line = 65535 }
@@ -240,6 +246,7 @@ pub record Room : Type 0 where
 abbrev pub roomOf : CCall → Room
 roomOf («wimtaze_empty» n) = record { output = savedMost; line = 0 }
 roomOf («wimtaze_build» n heap) = record { output = savedMost; line = 0 }
+roomOf «wimtaze_load» = record { output = savedMost; line = 0 }
 roomOf («wimtaze_receive» line) = record { output = savedMost; line = 0 }
 roomOf («wimtaze_receive_at» line gap) = record { output = savedMost; line = 0 }
 roomOf («wimtaze_type» gap n) = record { output = savedMost; line = insertMost }
@@ -272,6 +279,7 @@ pub record Formed (bytes : List ℕ) : Type 0 where
 abbrev pub saves : CCall → Bool
 saves («wimtaze_empty» n) = true
 saves («wimtaze_build» n heap) = true
+saves «wimtaze_load» = true
 saves («wimtaze_receive» line) = true
 saves («wimtaze_receive_at» line gap) = true
 saves («wimtaze_type» gap n) = true
@@ -343,6 +351,7 @@ lineWritten e = take (e .result .line) (e .line)
 abbrev pub sends : CCall → Bool
 sends («wimtaze_empty» n) = false
 sends («wimtaze_build» n heap) = false
+sends «wimtaze_load» = false
 sends («wimtaze_receive» line) = false
 sends («wimtaze_receive_at» line gap) = false
 sends («wimtaze_type» gap n) = true
@@ -490,3 +499,42 @@ BuildWrites =
 -- a heap of no lines is an empty replica, with every answer and every byte as `wimtaze_empty` gives them
 abbrev pub BuildEmptyHeap : Type 0
 BuildEmptyHeap = (n : ℕ) (out : List ℕ) → builtInC n [] out ≡ effectOf («wimtaze_empty» n) [] out []
+
+-- ---- document 02, Req 07
+
+-- what `wimtaze_load` returns and leaves
+abbrev pub loadedInC : List ℕ → List ℕ → Effect
+loadedInC bytes out = effectOf «wimtaze_load» bytes out []
+
+-- the saved replica is in form, its clock raised
+pub record InForm (bytes : List ℕ) : Type 0 where
+  pub laid-out : savedLaidOut bytes ≡ true
+  pub in-range : savedInRange bytes ≡ true
+  pub formed : wellFormed (loadedState bytes) ≡ true
+
+-- "accept a sheet in form exactly when some sequence of received operations, begun from an empty sheet, leaves those
+-- rows with those neighbours, order and turns": begun from one of any number, into an output of the header's size
+abbrev pub LoadAccepts : Type 0
+LoadAccepts =
+    (bytes out : List ℕ) (n : ℕ) → siteNumber n ≡ true → savedMost ≤ length out →
+    (loadedInC bytes out .result .reply .word ≡ done) ↔ (InForm bytes × Made n (loadedState bytes .characters))
+
+-- "A sheet in form that can't be made so is refused with 16, after 3": where 1, 2 and 3 do not hold and the rows are
+-- not loadable, whatever waits and however short the output is
+abbrev pub LoadExactly : Type 0
+LoadExactly =
+    (bytes out : List ℕ) →
+    (loadedInC bytes out .result .reply .refusal ≡ 16)
+    ↔ (InForm bytes × (loadable (loadedState bytes .characters) ≡ false))
+
+-- a saved replica that is accepted is written as it was handed: what is written says the same state, the first line
+-- alone may differ, which has the raised clock, and where the clock needs no raising not one byte does
+pub record LoadWritten (bytes : List ℕ) (e : Effect) : Type 0 where
+  pub same-state : loadedState (bytesWritten e) ≡ loadedState bytes
+  pub line-raised : bytesWritten e ≡ siteLine Second (loadedState bytes .site) ++ rest bytes
+  pub same-bytes : needsRaising bytes ≡ false → bytesWritten e ≡ bytes
+
+abbrev pub LoadSame : Type 0
+LoadSame =
+    (bytes out : List ℕ) → loadedInC bytes out .result .reply .word ≡ done →
+    LoadWritten bytes (loadedInC bytes out)

@@ -30,7 +30,7 @@ use Rattle.saved.proofs.Trips.{saved-loads, saved-reads-back}
 use Rattle.effects.specs.Results.{result, silent}
 use Rattle.effects.specs.Effects.{Effect, quiet}
 use Rattle.c_calls.specs.Calls.{CCall, «wimtaze_empty», «wimtaze_receive», «wimtaze_receive_at», «wimtaze_type», «wimtaze_erase», «wimtaze_restore», «wimtaze_paste», «wimtaze_text», «wimtaze_counts», «wimtaze_upgrade», «wimtaze_downgrade», inputChecks, named, ruleChecks, handedChecks, earlierChecks, callChecks, productOf, effectOf}
-use Rattle.c_calls.specs.Calls.{«wimtaze_build»}
+use Rattle.c_calls.specs.Calls.{«wimtaze_build», «wimtaze_load»}
 use Rattle.c_calls.proofs.Fitting.{front}
 use Rattle.c_calls.proofs.Listing.{Earlier, Made, Went, away, lacking, through, went, product-made, paste-taken}
 use Rattle.consistency.specs.Copies.{BytesCall, load, forC, bytesCall, asBytes, bytesAfter, wordOf, keptBytes, afterLoading, whenMade, rulesOf, renews, onBytes, stepOn}
@@ -55,6 +55,7 @@ ruled : (s : State) → wellFormed s ≡ true → (c : CCall) → NoneHolds (ear
 unfolding productOf rulesOf renews outcome result
 ruled s h («wimtaze_empty» n) w k = absurd (false≢true k)
 ruled s h («wimtaze_build» n heap) w k = absurd (false≢true k)
+ruled s h «wimtaze_load» w k = record { output = rw (saved-loads s h); told = refl; formed = h }
 ruled s h («wimtaze_receive» l) w k = record { output = rw (saved-loads s h); told = refl; formed = form-kept s (receiving (saidBy l)) h }
 ruled s h («wimtaze_receive_at» l g) w k = record { output = rw (saved-loads s h); told = refl; formed = form-kept s (receivingAt (saidBy l) g) h }
 ruled s h («wimtaze_type» g n) w k = record { output = rw (saved-loads s h); told = refl; formed = form-kept s (inserting g n) h }
@@ -97,6 +98,7 @@ no-rules : (s : State) (c : CCall) → renews c ≡ false → rulesOf s c ≡ []
 unfolding renews rulesOf codePointsOf decoded decodedSteps headOf
 no-rules s («wimtaze_empty» n) k = refl
 no-rules s («wimtaze_build» n heap) k = refl
+no-rules s «wimtaze_load» k = absurd (false≢true (sym k))
 no-rules s («wimtaze_receive» l) k = absurd (false≢true (sym k))
 no-rules s («wimtaze_receive_at» l g) k = absurd (false≢true (sym k))
 no-rules s («wimtaze_type» g n) k = absurd (false≢true (sym k))
@@ -164,6 +166,7 @@ no-bytes-refused : (c : CCall) → renews c ≡ true → (out line : List ℕ) �
 unfolding renews effectOf callChecks handedChecks inputChecks decided
 no-bytes-refused («wimtaze_empty» n) k out line = absurd (false≢true k)
 no-bytes-refused («wimtaze_build» n heap) k out line = absurd (false≢true k)
+no-bytes-refused «wimtaze_load» k out line = rw no-bytes
 no-bytes-refused («wimtaze_receive» l) k out line = rw no-bytes
 no-bytes-refused («wimtaze_receive_at» l g) k out line = rw no-bytes
 no-bytes-refused («wimtaze_type» g n) k out line = rw no-bytes

@@ -36,7 +36,7 @@ use Rattle.effects.specs.Effects.{Effect}
 use Rattle.c_calls.specs.Calls.{CCall, «wimtaze_empty», «wimtaze_receive», «wimtaze_receive_at», «wimtaze_type»}
 use Rattle.c_calls.specs.Calls.{«wimtaze_erase», «wimtaze_restore», «wimtaze_text», «wimtaze_counts», «wimtaze_upgrade»}
 use Rattle.c_calls.specs.Calls.{«wimtaze_downgrade», named, effectOf}
-use Rattle.c_calls.specs.Calls.{«wimtaze_paste», «wimtaze_build»}
+use Rattle.c_calls.specs.Calls.{«wimtaze_paste», «wimtaze_build», «wimtaze_load»}
 
 -- a replica in memory, or the bytes of a saved one
 pub data Copy : Type 0 where
@@ -133,6 +133,7 @@ whenMade refused rs = []
 unfoldable pub rulesOf : State → CCall → List RuleCall
 rulesOf s («wimtaze_empty» n) = []
 rulesOf s («wimtaze_build» n heap) = []
+rulesOf s «wimtaze_load» = []
 rulesOf s («wimtaze_receive» line) = receiving (saidBy line) ∷ []
 rulesOf s («wimtaze_receive_at» line gap) = receivingAt (saidBy line) gap ∷ []
 rulesOf s («wimtaze_type» gap n) = inserting gap n ∷ []
@@ -148,6 +149,7 @@ rulesOf s «wimtaze_downgrade» = []
 unfoldable pub renews : CCall → Bool
 renews («wimtaze_empty» n) = false
 renews («wimtaze_build» n heap) = false
+renews «wimtaze_load» = true
 renews («wimtaze_receive» line) = true
 renews («wimtaze_receive_at» line gap) = true
 renews («wimtaze_type» gap n) = true
