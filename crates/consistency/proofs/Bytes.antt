@@ -34,7 +34,7 @@ use Rattle.c_calls.specs.Calls.{«wimtaze_build», «wimtaze_load»}
 use Rattle.c_calls.proofs.Fitting.{front}
 use Rattle.c_calls.proofs.Listing.{Earlier, Made, Went, away, lacking, through, went, product-made, paste-taken}
 use Rattle.consistency.specs.Copies.{BytesCall, load, forC, bytesCall, asBytes, bytesAfter, wordOf, keptBytes, afterLoading, whenMade, rulesOf, renews, onBytes, stepOn}
-use Rattle.consistency.proofs.Holding.{Holds, memory, bytes, nothing, Steps, made-none}
+use Rattle.consistency.proofs.Holding.{Holds, bytes, nothing, stored-held, Steps, made-none}
 use Rattle.consistency.proofs.Returned.{kept, word-returned, effect-returned}
 
 -- ---- what is made
@@ -149,7 +149,7 @@ module _ (s : State) (h : wellFormed s ≡ true) where
   unfolding stepOn onBytes afterLoading
   load-step =
       let d = saved-reads-back s h in
-      rw (d .0, d .1) (memory s (formed-within s h))
+      rw (d .0, d .1) (stored-held s (formed-within s h))
 
   pub bytes-step : (c : BytesCall) → Steps s (asBytes (savedBytes s)) (bytesCall c)
   bytes-step load = load-step

@@ -19,9 +19,11 @@ use Rattle.woot.specs.Form.{wellFormed}
 use Rattle.woot.specs.Answers.{Word, done, waits, known, refused, reply, decided}
 use Rattle.woot.specs.Calls.{allIntegrated}
 use Rattle.woot.specs.Text.{text}
-use Rattle.woot.specs.Histories.{Begun, empty, heaped, startOf, beforehand, outcome, run, integratedBy}
+use Rattle.woot.specs.Histories.{Begun, empty, heaped, loaded, startOf, beforehand, outcome, run, integratedBy}
 use Rattle.woot.specs.Histories.{Call as RuleCall}
-use Rattle.woot.specs.Memory.{stored}
+use Rattle.woot.specs.declared.Replica.{Replica}
+use Rattle.woot.specs.Memory.{stored, meaning, replicaWellFormed}
+use Rattle.woot.specs.Loading.{loadable, useChecks, unused, useWhen, useOutcome}
 use Rattle.woot.specs.Building.{built, BuildOutcome, unbuilt, build}
 use Rattle.convergence.proofs.Built.{heap-formed}
 use Rattle.convergence.proofs.Heaped.{Verdict, turned as rejected, accepted, verdict}
@@ -32,26 +34,29 @@ use Rattle.convergence.proofs.Convergence.{convergence}
 use Rattle.lines.specs.Lines.{rest}
 use Rattle.saved.specs.declared.Version.the-variants.{First, Second}
 use Rattle.saved.specs.Format.{siteLine, savedLaidOut, savedBytes}
-use Rattle.saved.specs.Calls.{loadedAs, raisingAs}
+use Rattle.saved.specs.Calls.{loadedAs, raisingAs, loadedState}
 use Rattle.saved.specs.Conversion.{Converts}
 use Rattle.saved.proofs.Sizes.{saved-length}
 use Rattle.saved.proofs.Trips.{loaded-again, unraised-again, unraised, second-says}
-use Rattle.replica.proofs.Runs.{initial-within, formed-within}
+use Rattle.replica.proofs.Runs.{initial-within, formed-within, form-meant}
+use Rattle.admission.specs.Calls.{usedAfter, admittedAs, admittedBy}
 use Rattle.heap.specs.Format.{heapLaidOut, heapSaid}
 use Rattle.building.specs.Calls.{builtOutcome, builtBy}
 use Rattle.effects.specs.Results.{result, silent}
 use Rattle.effects.specs.Effects.{Effect, quiet}
-use Rattle.c_calls.specs.Calls.{«wimtaze_empty», «wimtaze_build», handedChecks, productOf}
+use Rattle.c_calls.specs.Calls.{«wimtaze_empty», «wimtaze_build», «wimtaze_load», handedChecks, productOf}
 use Rattle.c_calls.specs.Theorems.{bytesWritten, convertedFrom}
 use Rattle.c_calls.proofs.Fitting.{front}
 use Rattle.c_calls.proofs.Listing.{Went, away, lacking, through, went, build-passed, build-taken}
+use Rattle.c_calls.proofs.Loaded.{load-passed, load-formed}
 use Rattle.c_calls.proofs.Trips.{from-done, trips-return}
 use Rattle.consistency.specs.Copies.{Copy, inMemory, asBytes, Call, memoryCall, bytesCall, bytesAfter, wordOf}
 use Rattle.consistency.specs.Copies.{stepOn, ran, rulesBy, carriedBy, Start, emptyReplica, emptyBytes, builtReplica}
 use Rattle.consistency.specs.Copies.{builtBytes, emptiedInto, builtInto, begun, begunAs, beginningOf, carriedWith}
-use Rattle.consistency.specs.Copies.{carriedBefore, charactersOf, textOf}
+use Rattle.consistency.specs.Copies.{loadedReplica, loadedBytes, loadedInto, carriedFor, carriedBefore}
+use Rattle.consistency.specs.Copies.{charactersOf, textOf}
 use Rattle.consistency.specs.Theorems.{CopiesFollow, TripsKeep, CopiesConverge}
-use Rattle.consistency.proofs.Holding.{Holds, memory, bytes, nothing, Steps, says, works}
+use Rattle.consistency.proofs.Holding.{Holds, memory, bytes, nothing, stored-held, Steps, says, works}
 use Rattle.consistency.proofs.Returned.{kept, word-returned, effect-returned}
 use Rattle.consistency.proofs.Memory.{memory-step}
 use Rattle.consistency.proofs.Bytes.{no-bytes, bytes-step, nothing-step}
@@ -60,8 +65,8 @@ use Rattle.consistency.proofs.Bytes.{no-bytes, bytes-step, nothing-step
 
 step : {s : State} {p : Copy} → Holds s p → (c : Call) → Steps s p c
 unfolding stepOn
-step (memory s w) (memoryCall c) = memory-step s w c
-step (memory s w) (bytesCall c) = memory s w
+step (memory r s m) (memoryCall c) = memory-step r s m c
+step (memory r s m) (bytesCall c) = memory r s m
 step (bytes s h) (memoryCall c) = bytes s h
 step (bytes s h) (bytesCall c) = bytes-step s h c
 step nothing (memoryCall c) = nothing
@@ -125,12 +130,12 @@ module _ (n : ℕ) (heap : List ℕ) where
   ruled-held : {w : BuildOutcome} → Verdict n (heapSaid heap) w → build n (heapSaid heap) ≡ w →
       Holds (startOf (begunAs (reply (w .answer) .word) heapBegun)) (inMemory (stored (w .state)))
   unfolding unbuilt reply
-  ruled-held (rejected Duplicate t) e = memory (initial 0) (initial-within 0)
-  ruled-held (rejected (Refused q) t) e = memory (initial 0) (initial-within 0)
+  ruled-held (rejected Duplicate t) e = stored-held (initial 0) (initial-within 0)
+  ruled-held (rejected (Refused q) t) e = stored-held (initial 0) (initial-within 0)
   ruled-held (accepted a) e =
       let s : State = built n (heapSaid heap) in
       let f = heap-formed n (heapSaid heap) (a .site) (a .ranged) (a .agreed) (a .few-inserts) .0 in
-      subst (λ (b : BuildOutcome). Holds (b .state) (inMemory (stored s))) (sym e) (memory s (formed-within s f))
+      subst (λ (b : BuildOutcome). Holds (b .state) (inMemory (stored s))) (sym e) (stored-held s (formed-within s f))
 
   ruled-before : {w : BuildOutcome} → Verdict n (heapSaid heap) w → build n (heapSaid heap) ≡ w →
       w .integrated ≡ beforehand (begunAs (reply (w .answer) .word) heapBegun)
@@ -144,7 +149,7 @@ module _ (n : ℕ) (heap : List ℕ) where
       Holds (startOf (begunAs (reply (builtOutcome n heap .answer) .word) heapBegun))
       (inMemory (stored (builtOutcome n heap .state)))
   unfolding builtOutcome unbuilt decided reply
-  replica-held false e = rw e (memory (initial 0) (initial-within 0))
+  replica-held false e = rw e (stored-held (initial 0) (initial-within 0))
   replica-held true e = rw e (ruled-held (verdict n (heapSaid heap)) refl)
 
   replica-before : (b : Bool) → heapLaidOut heap ≡ b →
@@ -153,9 +158,61 @@ module _ (n : ℕ) (heap : List ℕ) where
   replica-before false e = rw e
   replica-before true e = rw e (ruled-before (verdict n (heapSaid heap)) refl)
 
+-- a state in form that is loadable is the one that is loaded
+used-whole : (s : State) → (wellFormed s ≡ true) × (loadable (s .characters) ≡ true) → useOutcome s .state ≡ s
+unfolding useOutcome useWhen useChecks decided
+used-whole s p = rw (p .0, p .1)
+
+module _ (given : List ℕ) where
+  abbrev said : State
+  said = loadedState given
+
+  went-loaded : {out : List ℕ} {e : Effect} → Went «wimtaze_load» given out [] e →
+      Holds (startOf (begunAs (e .result .reply .word) (loaded said))) (asBytes (kept [] e))
+  unfolding quiet silent result reply bytesAfter productOf
+  went-loaded {out} (away a t r) = quiet-begun (loaded said) a (t .turned) out
+  went-loaded {out} (lacking w f) = quiet-begun (loaded said) (Refused Output) tt out
+  went-loaded {out} (through w f) =
+      let b : List ℕ = savedBytes said in
+      let p = load-formed given out w in
+      rw (front out b (ltb-false (length out) (length b) (or-false-left _ _ f)), used-whole said p) (bytes said (p .0))
+
+  loaded-before : (out : List ℕ) (w : Word) → wordOf (loadedInto given out) ≡ w →
+      carriedWith w (carriedFor (said .characters)) ≡ beforehand (begunAs w (loaded said))
+  loaded-before out done e =
+      let d = sym (word-returned «wimtaze_load» given out []) ∙ e in
+      ap (λ (s : State). carriedFor (s .characters))
+      (sym (used-whole said (load-formed given out (load-passed given out d))))
+  loaded-before out waits e = refl
+  loaded-before out known e = refl
+  loaded-before out refused e = refl
+
+-- the replica that is admitted, or that stands beside a refusal, by the two tests
+module _ (r : Replica) where
+  admitted-held : (f l : Bool) → replicaWellFormed r ≡ f → loadable (meaning r .characters) ≡ l →
+      Holds (startOf (begunAs (reply (admittedBy r .answer) .word) (loaded (meaning r))))
+      (inMemory (admittedBy r .replica))
+  unfolding admittedBy admittedAs usedAfter useWhen useChecks unused decided reply
+  admitted-held true true a b =
+      let f = form-meant r a in
+      rw (a, b) (subst (λ (t : State). Holds t (inMemory r)) (sym (used-whole (meaning r) (f, b)))
+      (memory r (meaning r) (record { meant = refl; form = a ∙ sym f })))
+  admitted-held true false a b = rw (a, b) (stored-held (initial 0) (initial-within 0))
+  admitted-held false l a b = rw a (stored-held (initial 0) (initial-within 0))
+
+  admitted-before : (f l : Bool) → replicaWellFormed r ≡ f → loadable (meaning r .characters) ≡ l →
+      carriedWith (reply (admittedBy r .answer) .word) (carriedFor (meaning r .characters))
+      ≡ beforehand (begunAs (reply (admittedBy r .answer) .word) (loaded (meaning r)))
+  unfolding admittedBy admittedAs useWhen useChecks unused decided reply
+  admitted-before true true a b =
+      let e = used-whole (meaning r) (form-meant r a, b) in
+      rw (a, b) (ap (λ (s : State). carriedFor (s .characters)) (sym e))
+  admitted-before true false a b = rw (a, b)
+  admitted-before false l a b = rw a
+
 pub holds-begun : (a : Start) → Holds (startOf (beginningOf a)) (begun a)
 unfolding begun beginningOf builtBy
-holds-begun (emptyReplica n) = memory (initial n) (initial-within n)
+holds-begun (emptyReplica n) = stored-held (initial n) (initial-within n)
 holds-begun (emptyBytes n out) =
     rw (effect-returned («wimtaze_empty» n) [] out [] [], word-returned («wimtaze_empty» n) [] out [])
     (went-empty n (went («wimtaze_empty» n) [] out []))
@@ -163,6 +220,11 @@ holds-begun (builtReplica n heap) = replica-held n heap (heapLaidOut heap) refl
 holds-begun (builtBytes n heap out) =
     rw (effect-returned («wimtaze_build» n heap) [] out [] [], word-returned («wimtaze_build» n heap) [] out [])
     (went-built n heap (went («wimtaze_build» n heap) [] out []))
+holds-begun (loadedReplica r) =
+    admitted-held r (replicaWellFormed r) (loadable (meaning r .characters)) refl refl
+holds-begun (loadedBytes given out) =
+    rw (effect-returned «wimtaze_load» given out [] [], word-returned «wimtaze_load» given out [])
+    (went-loaded given (went «wimtaze_load» given out []))
 
 -- what was carried out to make them is what the rules begin with
 begun-before : (a : Start) → carriedBefore a ≡ beforehand (beginningOf a)
@@ -184,6 +246,9 @@ begun-before (builtBytes n heap out) = go (wordOf (builtInto n heap out))
     go waits = refl
     go known = refl
     go refused = refl
+begun-before (loadedReplica r) =
+    admitted-before r (replicaWellFormed r) (loadable (meaning r .characters)) refl refl
+begun-before (loadedBytes given out) = loaded-before given out (wordOf (loadedInto given out)) refl
 
 pub copies-follow : CopiesFollow
 copies-follow a cs =
@@ -205,7 +270,7 @@ copies-converge a b cs ds inserted toggled =
 
 -- a copy that is bytes has none, or those of a state in form
 as-saved : {s : State} {p : Copy} → Holds s p → (b : List ℕ) → p ≡ asBytes b → (b ≡ []) ⊎ ((wellFormed s ≡ true) × (b ≡ savedBytes s))
-as-saved (memory s w) b e = let z : _≡_ {A = ℕ} 0 1 = cc in absurd (omega arith)
+as-saved (memory r s m) b e = let z : _≡_ {A = ℕ} 0 1 = cc in absurd (omega arith)
 as-saved (bytes s h) b e = let same : savedBytes s ≡ b = cc in inr (h, sym same)
 as-saved nothing b e = let same : [] ≡ b = cc in inl (sym same)
 

@@ -33,7 +33,9 @@ use Rattle.woot.specs.Building.{once, building, leftOut, built, heapFull, disag
 use Rattle.woot.specs.Building.{build}
 use Rattle.heap.specs.Format.{heapLaidOut, lineSaid, heapSaid}
 use Rattle.consistency.specs.Copies.{beginningOf, carriedBefore}
-use Rattle.consistency.specs.Examples.{CallsExample, BuiltExample}
+use Rattle.woot.specs.Loading.{among, free, bound, peeled, acyclic, orderedPair, orderedPairs, loadable, turnings}
+use Rattle.woot.specs.Loading.{useChecks}
+use Rattle.consistency.specs.Examples.{CallsExample, BuiltExample, LoadedExample}
 
 pub calls-example : CallsExample
 unfolding asWritten lineLaidOut laidOut saidBy insertNumbers toggleNumbers identifierAt insertOf toggleOf deleteOf isInsert isToggle isDelete
@@ -83,6 +85,38 @@ built-example =
       goes-on = refl;
       rules-after = refl;
       none-built = refl;
+      begins-empty = refl;
+      none-carried = refl;
+    }
+
+pub loaded-example : LoadedExample
+unfolding asWritten lineLaidOut laidOut saidBy insertNumbers toggleNumbers identifierAt insertOf toggleOf deleteOf
+    isInsert isToggle isDelete operationOf operationLine bytesAfter wordRead writtenRead wordOf keptBytes whenMade
+    rulesOf renews onBytes stepOn begun isDigit leadingZero isNumeral valueOf digitsIn digits quiet holding
+    verdictOn numbersOf goesOn numbersAfter numerals hasLayout valuesOf lineOf ended firstLine rest closed hasRoom
+    placed result silent inBits numberOf loadedAs siteNumbers siteOf isSite siteSaid siteLine toggleField
+    characterNumbers characterOf isCharacter characterSaid characterLine isOperation operationSaid savedLine
+    headLine characterLines operationLines laidOutAs stateAs characterWithin operationWithin inRangeAs bytesAs
+    inputChecks oneLine handedChecks ruleChecks productOf callChecks effectOf reply changes answerOf unchanged
+    withCharacters withPending afterDrain insertCarried duplicate conflicting senderFull documentFull receiveChecks
+    carryOut defer accept receiveWhen receive visibles nextIdentifier togglesOf generatedToggle sendToggle
+    notHidden exhausted restoreChecks localRestoreWhen localRestore ownInsert heard presentInserts allInRange
+    sharesKept capacityKept identifiersDistinct togglesDistinct ordered neighboursOrdered noneExecutable
+    clockReaches clockKept wellFormed raised same below sender character origin isVisible withToggles toggledBy
+    sameInsert sameToggle sameOperation executable crossed unplaceable integrate pendingFrom earliest andIntegrated
+    andDiscarded drained drainSteps drain sequence indexOf placeOf held above adjacent candidate candidates
+    narrowed search position between insertAt integrateInsert integrateToggle within siteNumber codePoint
+    characterId previousId nextId siteInRange insertInRange toggleInRange inRange characterInRange initial
+    blankCharacter blankOperation decided among free bound peeled acyclic orderedPair
+    orderedPairs loadable turnings useChecks beginningOf carriedBefore
+loaded-example =
+    record {
+      bytes-loaded = refl;
+      carried-out = refl;
+      same-again = refl;
+      rules-after = refl;
+      sixteen = refl;
+      none-loaded = refl;
       begins-empty = refl;
       none-carried = refl;
     }

@@ -6,3 +6,4 @@ pub mod Memory
 pub mod Bytes
 pub mod Claims
 pub mod Receiving
+pub mod Nines

@@ -12,14 +12,17 @@ use Rattle.woot.specs.declared.Written.{Written}
 use Rattle.woot.specs.declared.Written.the-variants.{Length, Refused as writtenRefused}
 use Rattle.woot.specs.State.{State, initial}
 use Rattle.woot.specs.Memory.{meaning, stored}
-use Rattle.woot.specs.Answers.{Word, done, waits, known, refused, reply, answerOf}
+use Rattle.woot.specs.Answers.{Word, done, waits, known, refused, reply, changes, answerOf}
+use Rattle.woot.specs.Writing.{writtenNumber}
 use Rattle.woot.specs.Text.{text}
 use Rattle.woot.specs.Histories.{inserting, deleting, restoring, receiving, receivingAt, integratedBy}
-use Rattle.woot.specs.Histories.{Begun, empty, heaped}
+use Rattle.woot.specs.Histories.{Begun, empty, heaped, loaded as loadedForUse}
 use Rattle.woot.specs.Histories.{Call as RuleCall}
 use Rattle.woot.specs.Pasting.{codePointsOf, typings}
 use Rattle.woot.specs.Building.{build}
+use Rattle.woot.specs.Loading.{arrivals, turnings}
 use Rattle.replica.specs.Theorems.{called, answerTo}
+use Rattle.admission.specs.Calls.{admittedBy}
 use Rattle.pasting.specs.Replicas.{pastedBy}
 use Rattle.lent.specs.declared.Returned.{Returned}
 use Rattle.lent.specs.Lent.{together, returned, siteAfter}
@@ -30,7 +33,7 @@ use Rattle.transcript.specs.Calls.{receivedLine}
 use Rattle.saved.specs.declared.LoadAnswer.{LoadAnswer}
 use Rattle.saved.specs.declared.LoadAnswer.the-variants.{Done as loadDone, Refused as loadRefused}
 use Rattle.saved.specs.Format.{savedState}
-use Rattle.saved.specs.Calls.{loadedState, loaded, saved, savedOut}
+use Rattle.saved.specs.Calls.{loadedState, loaded, loadNumber, saved, savedOut}
 use Rattle.effects.specs.Results.{numberOf}
 use Rattle.effects.specs.Effects.{Effect}
 use Rattle.c_calls.specs.Calls.{CCall, «wimtaze_empty», «wimtaze_receive», «wimtaze_receive_at», «wimtaze_type»}
@@ -53,6 +56,8 @@ pub data MemoryCall : Type 0 where
   onBlock : ℕ → List ℕ → MemoryCall
   -- `transcript::answer_line`: the first line of these bytes is read and received
   onLine : List ℕ → MemoryCall
+  -- `admission::admit`, loading for use
+  admit : MemoryCall
   -- `saving::save` into a lent slice
   save : List ℕ → MemoryCall
 
@@ -89,6 +94,10 @@ wordRead r = cond (eqb (r % 4) 0) done (cond (eqb (r % 4) 1) waits (cond (eqb (r
 unfoldable pub writtenRead : ℕ → ℕ
 writtenRead r = r / 2 ^ 32 % 65536
 
+-- and the refusal's number
+abbrev pub refusalRead : ℕ → ℕ
+refusalRead r = r / 4 % 64
+
 -- the word that a call on bytes replies with
 unfoldable pub wordOf : Effect → Word
 wordOf e = wordRead (numberOf (e .result))
@@ -100,6 +109,10 @@ keptBytes bytes e = bytesAfter (wordOf e) bytes (take (writtenRead (numberOf (e 
 -- inserting on the lent record: the record as it is left, and the document that came back
 unfoldable pub afterRecord : Replica → Returned → Replica
 afterRecord r x = together (siteAfter (r .site) (x .answer)) (x .document)
+
+-- loading for use: the replica that came back, and with a refusal, beside which none does, the one that was handed
+unfoldable pub afterAdmitting : Replica → Replica
+afterAdmitting r = cond (changes (admittedBy r .answer)) (admittedBy r .replica) r
 
 -- saved, the copy is the bytes at the front of the slice
 unfoldable pub afterSaving : Replica → List ℕ → Written → Copy
@@ -184,6 +197,7 @@ onMemory r (onLine s) =
       copy = inMemory (receivedLine r s .replica);
       rules = whenMade (reply (receivedLine r s .answer) .word) (receiving (saidBy s) ∷ []);
     }
+onMemory r admit = record { copy = inMemory (afterAdmitting r); rules = [] }
 onMemory r (save out) = record { copy = afterSaving r (savedOut r out) (saved r out); rules = [] }
 
 -- on saved bytes
@@ -202,6 +216,29 @@ stepOn (inMemory r) (memoryCall c) = onMemory r c
 stepOn (inMemory r) (bytesCall c) = record { copy = inMemory r; rules = [] }
 stepOn (asBytes b) (memoryCall c) = record { copy = asBytes b; rules = [] }
 stepOn (asBytes b) (bytesCall c) = onBytes b c
+
+-- ---- what a call answers
+
+-- the number of the refusal on a replica in memory, 0 where there is none
+unfoldable pub refusalInMemory : Replica → MemoryCall → ℕ
+refusalInMemory r (onReplica c) = reply (answerTo r c) .refusal
+refusalInMemory r (onRecord g n) = reply (answerOf (returned (r .site) (r .document) g n .answer)) .refusal
+refusalInMemory r (onBlock g block) = reply (pastedBy r g block .answer) .refusal
+refusalInMemory r (onLine s) = reply (receivedLine r s .answer) .refusal
+refusalInMemory r admit = reply (admittedBy r .answer) .refusal
+refusalInMemory r (save out) = writtenNumber (saved r out)
+
+-- on saved bytes
+unfoldable pub refusalOnBytes : List ℕ → BytesCall → ℕ
+refusalOnBytes b load = loadNumber (loaded b .answer)
+refusalOnBytes b (forC c out line) = refusalRead (numberOf (effectOf c b out line .result))
+
+-- a call that is not made is not refused
+unfoldable pub refusalOn : Copy → Call → ℕ
+refusalOn (inMemory r) (memoryCall c) = refusalInMemory r c
+refusalOn (inMemory r) (bytesCall c) = 0
+refusalOn (asBytes b) (memoryCall c) = 0
+refusalOn (asBytes b) (bytesCall c) = refusalOnBytes b c
 
 -- ---- lists of calls
 
@@ -223,13 +260,16 @@ carriedBy p (c ∷ cs) = integratedBy (worksOn p) (stepOn p c .rules) ++ carried
 -- ---- where a list of calls starts
 
 -- an empty copy of any number: `Replica::empty`, or what `wimtaze_empty` writes into a lent slice; document 02, Req 08:
--- or one that is built of a number and a heap, by `building::build`, or as `wimtaze_build` writes it. Where a call for C
--- refuses there are no bytes
+-- or one that is built of a number and a heap, by `building::build`, or as `wimtaze_build` writes it; Req 07: or what
+-- `admission::admit` returns of any replica, or `wimtaze_load` writes of any bytes. Where a call for C refuses there
+-- are no bytes
 pub data Start : Type 0 where
   emptyReplica : ℕ → Start
   emptyBytes : ℕ → List ℕ → Start
   builtReplica : ℕ → List ℕ → Start
   builtBytes : ℕ → List ℕ → List ℕ → Start
+  loadedReplica : Replica → Start
+  loadedBytes : List ℕ → List ℕ → Start
 
 -- what the calls for C leave that begin a copy in this slice
 abbrev pub emptiedInto : ℕ → List ℕ → Effect
@@ -238,11 +278,16 @@ emptiedInto n out = effectOf («wimtaze_empty» n) [] out []
 abbrev pub builtInto : ℕ → List ℕ → List ℕ → Effect
 builtInto n heap out = effectOf («wimtaze_build» n heap) [] out []
 
+abbrev pub loadedInto : List ℕ → List ℕ → Effect
+loadedInto bytes out = effectOf «wimtaze_load» bytes out []
+
 unfoldable pub begun : Start → Copy
 begun (emptyReplica n) = inMemory (stored (initial n))
 begun (emptyBytes n out) = asBytes (keptBytes [] (emptiedInto n out))
 begun (builtReplica n heap) = inMemory (builtBy n heap .replica)
 begun (builtBytes n heap out) = asBytes (keptBytes [] (builtInto n heap out))
+begun (loadedReplica r) = inMemory (admittedBy r .replica)
+begun (loadedBytes bytes out) = asBytes (keptBytes [] (loadedInto bytes out))
 
 -- what the rules begin with where the word is done; else the empty state of number 0, which no site has
 abbrev pub begunAs : Word → Begun → Begun
@@ -256,6 +301,8 @@ beginningOf (emptyReplica n) = empty n
 beginningOf (emptyBytes n out) = begunAs (wordOf (emptiedInto n out)) (empty n)
 beginningOf (builtReplica n heap) = begunAs (reply (builtBy n heap .answer) .word) (heaped n (heapSaid heap))
 beginningOf (builtBytes n heap out) = begunAs (wordOf (builtInto n heap out)) (heaped n (heapSaid heap))
+beginningOf (loadedReplica r) = begunAs (reply (admittedBy r .answer) .word) (loadedForUse (meaning r))
+beginningOf (loadedBytes bytes out) = begunAs (wordOf (loadedInto bytes out)) (loadedForUse (loadedState bytes))
 
 -- the operations that were carried out to make the start, in order: none where the word is not done
 abbrev pub carriedWith : Word → List Operation → List Operation
@@ -264,12 +311,21 @@ carriedWith waits os = []
 carriedWith known os = []
 carriedWith refused os = []
 
+-- nobody knows what was carried out to make characters that are loaded: it is taken to be their inserts, and a toggle
+-- of each that has been toggled
+abbrev pub carriedFor : List Character → List Operation
+carriedFor cs = arrivals cs ++ turnings 1 cs
+
 unfoldable pub carriedBefore : Start → List Operation
 carriedBefore (emptyReplica n) = []
 carriedBefore (emptyBytes n out) = []
 carriedBefore (builtReplica n heap) = builtOutcome n heap .integrated
 carriedBefore (builtBytes n heap out) =
     carriedWith (wordOf (builtInto n heap out)) (build n (heapSaid heap) .integrated)
+carriedBefore (loadedReplica r) =
+    carriedWith (reply (admittedBy r .answer) .word) (carriedFor (meaning r .characters))
+carriedBefore (loadedBytes bytes out) =
+    carriedWith (wordOf (loadedInto bytes out)) (carriedFor (loadedState bytes .characters))
 
 -- all that was carried out on a copy: to make the start, and over the calls
 abbrev pub carriedSince : Start → List Call → List Operation

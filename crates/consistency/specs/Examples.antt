@@ -1,6 +1,6 @@
--- Two lists of calls for C, computed to the bytes that they leave: a step that does nothing, or does something else, is
--- told by them. One begins empty, the other with what is built of a heap. Proved in proofs/ under their names in small
--- letters.
+-- Lists of calls for C, computed to the bytes that they leave: a step that does nothing, or does something else, is
+-- told by them. One begins empty, one with what is built of a heap, and one with what is loaded for use. Proved in
+-- proofs/ under their names in small letters.
 use Prim.Native.Nat.{ℕ, _/_, _%_}
 use mathlib.Core.Path.{_≡_}
 use mathlib.Core.Bool.{cond}
@@ -15,8 +15,9 @@ use Rattle.c_calls.specs.Calls.{CCall, «wimtaze_receive», «wimtaze_receive_a
 use Rattle.c_calls.specs.Calls.{«wimtaze_restore», named, effectOf}
 use Rattle.consistency.specs.Copies.{asBytes, Call, bytesCall, forC, emptyBytes, begun, ran, rulesBy, keptBytes}
 use Rattle.consistency.specs.Copies.{wordOf}
-use Rattle.c_calls.specs.Calls.{«wimtaze_paste»}
-use Rattle.consistency.specs.Copies.{renews, builtBytes, builtInto, beginningOf, carriedBefore}
+use Rattle.c_calls.specs.Calls.{«wimtaze_paste», «wimtaze_load»}
+use Rattle.consistency.specs.Copies.{refusalRead, renews, builtBytes, builtInto, beginningOf, carriedBefore}
+use Rattle.consistency.specs.Copies.{loadedBytes, loadedInto}
 
 -- outputs that are long enough, with nothing in them
 abbrev pub room : List ℕ
@@ -74,10 +75,6 @@ exampleBytes =
     ++ (67 ∷ 9 ∷ 49 ∷ 9 ∷ 52 ∷ 9 ∷ 51 ∷ 51 ∷ 9 ∷ 48 ∷ 9 ∷ 49 ∷ 9 ∷ 51 ∷ 9 ∷ 50 ∷ 9 ∷ 49 ∷ 10 ∷ [])
     ++ (67 ∷ 9 ∷ 50 ∷ 9 ∷ 49 ∷ 9 ∷ 54 ∷ 54 ∷ 9 ∷ 48 ∷ 9 ∷ 49 ∷ 9 ∷ 49 ∷ 9 ∷ 48 ∷ 9 ∷ 49 ∷ 10 ∷ [])
     ++ (69 ∷ 9 ∷ 50 ∷ 9 ∷ 55 ∷ 9 ∷ 55 ∷ 9 ∷ 49 ∷ 10 ∷ [])
-
--- the refusal's number, as a C program reads it off the returned number
-abbrev pub refusalRead : ℕ → ℕ
-refusalRead r = r / 4 % 64
 
 -- the words and refusals that the calls reply with, each given the bytes that the one before left
 abbrev pub repliesOf : List ℕ → List CCall → List (Word × ℕ)
@@ -169,3 +166,47 @@ pub record BuiltExample : Type 0 where
   pub none-built : begun (builtBytes 1 (exampleHeap ++ 73 ∷ []) room) ≡ asBytes []
   pub begins-empty : beginningOf (builtBytes 1 (exampleHeap ++ 73 ∷ []) room) ≡ empty 0
   pub none-carried : carriedBefore (builtBytes 1 (exampleHeap ++ 73 ∷ []) room) ≡ []
+
+-- ---- document 02, Req 07
+
+-- S2 2 0, and the rows of what was built: laptop 2 has a row whose clock is above its own
+abbrev pub lowExample : List ℕ
+lowExample =
+    (83 ∷ 50 ∷ 9 ∷ 50 ∷ 9 ∷ 48 ∷ 10 ∷ [])
+    ++ (67 ∷ 9 ∷ 49 ∷ 9 ∷ 49 ∷ 9 ∷ 55 ∷ 56 ∷ 9 ∷ 48 ∷ 9 ∷ 48 ∷ 9 ∷ 48 ∷ 9 ∷ 48 ∷ 9 ∷ 49 ∷ 10 ∷ [])
+    ++ (67 ∷ 9 ∷ 49 ∷ 9 ∷ 50 ∷ 9 ∷ 49 ∷ 49 ∷ 49 ∷ 9 ∷ 49 ∷ 9 ∷ 49 ∷ 9 ∷ 49 ∷ 9 ∷ 48 ∷ 9 ∷ 49 ∷ 10 ∷ [])
+    ++ (67 ∷ 9 ∷ 50 ∷ 9 ∷ 49 ∷ 9 ∷ 54 ∷ 54 ∷ 9 ∷ 48 ∷ 9 ∷ 49 ∷ 9 ∷ 49 ∷ 9 ∷ 48 ∷ 9 ∷ 49 ∷ 10 ∷ [])
+
+-- the same with S2 2 1
+abbrev pub raisedExample : List ℕ
+raisedExample =
+    (83 ∷ 50 ∷ 9 ∷ 50 ∷ 9 ∷ 49 ∷ 10 ∷ [])
+    ++ (67 ∷ 9 ∷ 49 ∷ 9 ∷ 49 ∷ 9 ∷ 55 ∷ 56 ∷ 9 ∷ 48 ∷ 9 ∷ 48 ∷ 9 ∷ 48 ∷ 9 ∷ 48 ∷ 9 ∷ 49 ∷ 10 ∷ [])
+    ++ (67 ∷ 9 ∷ 49 ∷ 9 ∷ 50 ∷ 9 ∷ 49 ∷ 49 ∷ 49 ∷ 9 ∷ 49 ∷ 9 ∷ 49 ∷ 9 ∷ 49 ∷ 9 ∷ 48 ∷ 9 ∷ 49 ∷ 10 ∷ [])
+    ++ (67 ∷ 9 ∷ 50 ∷ 9 ∷ 49 ∷ 9 ∷ 54 ∷ 54 ∷ 9 ∷ 48 ∷ 9 ∷ 49 ∷ 9 ∷ 49 ∷ 9 ∷ 48 ∷ 9 ∷ 49 ∷ 10 ∷ [])
+
+-- `E 1 1 2 1`: what is taken for the erasing of o
+abbrev pub turnedLine : List ℕ
+turnedLine = 69 ∷ 9 ∷ 49 ∷ 9 ∷ 49 ∷ 9 ∷ 50 ∷ 9 ∷ 49 ∷ 10 ∷ []
+
+-- S2 1 1; C 2 1 66 0 0 0 0 1; C 1 1 65 0 0 0 0 1: in form, and the lower identifier of two concurrent rows stands below
+abbrev pub unreachableExample : List ℕ
+unreachableExample =
+    (83 ∷ 50 ∷ 9 ∷ 49 ∷ 9 ∷ 49 ∷ 10 ∷ [])
+    ++ (67 ∷ 9 ∷ 50 ∷ 9 ∷ 49 ∷ 9 ∷ 54 ∷ 54 ∷ 9 ∷ 48 ∷ 9 ∷ 48 ∷ 9 ∷ 48 ∷ 9 ∷ 48 ∷ 9 ∷ 49 ∷ 10 ∷ [])
+    ++ (67 ∷ 9 ∷ 49 ∷ 9 ∷ 49 ∷ 9 ∷ 54 ∷ 53 ∷ 9 ∷ 48 ∷ 9 ∷ 48 ∷ 9 ∷ 48 ∷ 9 ∷ 48 ∷ 9 ∷ 49 ∷ 10 ∷ [])
+
+-- what is loaded has its clock raised, and what is taken for its past is counted as carried out; loaded again it is as
+-- it was. What no operations leave is refused with 16: it is no start, and nothing was carried out
+pub record LoadedExample : Type 0 where
+  pub bytes-loaded : begun (loadedBytes lowExample room) ≡ asBytes raisedExample
+  pub carried-out :
+      carriedBefore (loadedBytes lowExample room)
+      ≡ saidBy typedLine ∷ saidBy typedBelow ∷ saidBy insertedLine ∷ saidBy turnedLine ∷ []
+  pub same-again :
+      ran (begun (loadedBytes lowExample room)) (map withRoom («wimtaze_load» ∷ [])) ≡ asBytes raisedExample
+  pub rules-after : rulesBy (begun (loadedBytes lowExample room)) (map withRoom («wimtaze_load» ∷ [])) ≡ []
+  pub sixteen : refusalRead (numberOf (loadedInto unreachableExample room .result)) ≡ 16
+  pub none-loaded : begun (loadedBytes unreachableExample room) ≡ asBytes []
+  pub begins-empty : beginningOf (loadedBytes unreachableExample room) ≡ empty 0
+  pub none-carried : carriedBefore (loadedBytes unreachableExample room) ≡ []

@@ -18,11 +18,11 @@ use Rattle.c_calls.specs.Calls.{«wimtaze_receive», oneLine}
 use Rattle.c_calls.specs.Theorems.{bytesWritten, convertedFrom}
 use Rattle.consistency.specs.Copies.{Copy, asBytes, Call, bytesCall, forC, wordOf, stateOf, stepOn, ran, rulesBy}
 use Rattle.consistency.specs.Copies.{Start, emptyBytes, builtBytes, builtInto, begun, beginningOf}
-use Rattle.consistency.specs.Copies.{carriedBefore, carriedSince}
+use Rattle.consistency.specs.Copies.{refusalOn, carriedBefore, carriedSince}
 use Rattle.consistency.specs.Copies.{charactersOf, textOf}
 
--- a copy begun empty or built says at every moment what the calls of the rules leave that were made by the calls on it,
--- and what was carried out on it is what they carried out
+-- a copy begun empty, built or loaded says at every moment what the calls of the rules leave that were made by the
+-- calls on it, and what was carried out on it is what they carried out
 pub record Follows (a : Start) (cs : List Call) : Type 0 where
   pub says : stateOf (ran (begun a) cs) ≡ run (startOf (beginningOf a)) (rulesBy (begun a) cs)
   pub carries : carriedSince a cs ≡ historyOf (beginningOf a) (rulesBy (begun a) cs)
@@ -30,8 +30,8 @@ pub record Follows (a : Start) (cs : List Call) : Type 0 where
 abbrev pub CopiesFollow : Type 0
 CopiesFollow = (a : Start) (cs : List Call) → Follows a cs
 
--- document 02, Req 06: a saved copy begun empty or built that goes back to the first form and forward again is the one
--- that it was, so that a list of calls may go on with it
+-- document 02, Req 06: a saved copy begun empty, built or loaded that goes back to the first form and forward again is
+-- the one that it was, so that a list of calls may go on with it
 abbrev pub TripsKeep : Type 0
 TripsKeep =
     (a : Start) (cs : List Call) (bytes out back : List ℕ) → ran (begun a) cs ≡ asBytes bytes →
@@ -87,3 +87,10 @@ abbrev pub BuildSequence : Type 0
 BuildSequence =
     (n m : ℕ) (heap out room : List ℕ) → wordOf (builtInto n heap out) ≡ done → siteNumber m ≡ true →
     savedMost ≤ length room → InSequence heap m room (map operationLine (carriedBefore (builtBytes n heap out)))
+
+-- ---- document 02, Req 07
+
+-- "After such a load refusal 9 can't occur as long as every call gets the sheet as the call before left it": with every
+-- kind of call, and from the other starts too
+abbrev pub LoadedNeverNine : Type 0
+LoadedNeverNine = (a : Start) (cs : List Call) (c : Call) → refusalOn (ran (begun a) cs) c ≡ 9 → ⊥
