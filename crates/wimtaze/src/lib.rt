@@ -14,7 +14,7 @@ ghost use Rattle.woot.specs.Cursor.{movedBy};
 ghost use Rattle.c_calls.specs.Calls.{effectOf, «wimtaze_empty», «wimtaze_receive», «wimtaze_receive_at»};
 ghost use Rattle.c_calls.specs.Calls.{«wimtaze_type», «wimtaze_erase», «wimtaze_restore», «wimtaze_text»};
 ghost use Rattle.c_calls.specs.Calls.{«wimtaze_paste», «wimtaze_counts», «wimtaze_upgrade», «wimtaze_downgrade»};
-ghost use Rattle.c_calls.specs.Calls.{«wimtaze_build»};
+ghost use Rattle.c_calls.specs.Calls.{«wimtaze_build», «wimtaze_load»};
 
 // Writes the empty replica of a site.
 #[no_mangle]
@@ -32,6 +32,16 @@ pub extern "C" fn wimtaze_build(number: u64, heap: &[u8], out: &mut [u8]) -> u64
         r (now (out .exit)) [] ⌝ }
 {
     sheets::build(number, heap, out)
+}
+
+// Loads a saved replica for use: writes it as it is, its clock raised, if some sequence of received operations leaves
+// its rows. (Document 02, Req 07.)
+#[no_mangle]
+pub extern "C" fn wimtaze_load(bytes: &[u8], out: &mut [u8]) -> u64
+    ensures { λ r. ⌜ Leaves (effectOf «wimtaze_load» (now (bytes .entry)) (now (out .entry)) [])
+        r (now (out .exit)) [] ⌝ }
+{
+    sheets::load(bytes, out)
 }
 
 // Writes the visible text of a saved replica.

@@ -1,5 +1,5 @@
-// What the calls do that begin a replica or read one: an empty one is saved, or one that is built from a heap, the
-// visible text of a saved one is written, and what it holds is counted.
+// What the calls do that begin a replica or read one: an empty one is saved, or one that is built from a heap, a saved
+// one is loaded for use, its visible text is written, and what it holds is counted.
 use saved::LoadAnswer;
 use woot::Answer;
 use woot::Refusal;
@@ -8,7 +8,7 @@ ghost use mathlib.Core.Path.{_≡_};
 ghost use mathlib.Core.List.{[]};
 ghost use Rattle.effects.specs.Results.{numberOf};
 ghost use Rattle.effects.specs.Effects.{Leaves};
-ghost use Rattle.c_calls.specs.Steps.{beginning, buildingHere, showingText, counting};
+ghost use Rattle.c_calls.specs.Steps.{beginning, buildingHere, loadingHere, replicaUsed, showingText, counting};
 
 // Writes the empty replica of a site.
 pub(crate) fn begin(number: u64, out: &mut [u8]) -> u64
@@ -38,6 +38,34 @@ pub(crate) fn build(number: u64, heap: &[u8], out: &mut [u8]) -> u64
     }
     let replica = built.replica;
     effects::save(answer, replica, out)
+}
+
+// Writes a replica that was read, where it may be used. A step of loading, which has read the replica.
+fn save_admitted(replica: Replica, out: &mut [u8]) -> u64
+    ensures { λ r. ⌜ Leaves (replicaUsed replica (now (out .entry))) r (now (out .exit)) [] ⌝ }
+{
+    let admitted = admission::admit(replica);
+    let answer = admitted.answer;
+    if !answer.is_change() {
+        return effects::results::number_of(answer, 0, 0);
+    }
+    let same = admitted.replica;
+    effects::save(answer, same, out)
+}
+
+// Loads a saved replica for use, and writes it. (Document 02, Req 07.)
+pub(crate) fn load(bytes: &[u8], out: &mut [u8]) -> u64
+    ensures { λ r. ⌜ Leaves (loadingHere (now (bytes .entry)) (now (out .entry))) r (now (out .exit)) [] ⌝ }
+{
+    let loaded = loading::read(bytes);
+    let answer = loaded.answer;
+    match answer {
+        LoadAnswer::Refused(q) => effects::results::number_of_refusal(q),
+        LoadAnswer::Done => {
+            let replica = loaded.replica;
+            save_admitted(replica, out)
+        }
+    }
 }
 
 // Writes the visible text of a saved replica.
