@@ -37,6 +37,9 @@
  * A laptop that joins late gets everything at once and in no useful order, and builds its sheet of it with one call of
  * wimtaze_build: see joining late.
  *
+ * A sheet that another program may have written goes through wimtaze_load before it is used: see sheets of other
+ * programs.
+ *
  *
  * What your program must do
  *
@@ -76,7 +79,7 @@
  *         Restoring, and 2: what was given is no identifier. Upgrading: the file is damaged, or it is, with 1, not in
  *         the first form. Building: some line of the heap was damaged, and is refused as a heap by itself too: drop it,
  *         and get it again; or, with 2, the number is not 1 to 16.
- *   3     The file is damaged: rule 1.
+ *   3     The file is damaged: rule 1; or another program wrote it, and wrongly.
  *   4     Typing, pasting, erasing: the text is shorter than you thought. It may change with every line that comes.
  *         Receiving with a cursor: the cursor is beyond the text, and the line was not taken in. Set the cursor right,
  *         and hand the line over again.
@@ -88,7 +91,8 @@
  *         built of a heap that has both lines. The copies differ for good: tell a person, and begin a new sheet on
  *         every laptop.
  *   8     Receiving: never between laptops that keep the rules. Otherwise as 7.
- *   9     Receiving, typing, pasting: never on a sheet that began empty or was built of a heap. Otherwise as 7.
+ *   9     Receiving, typing, pasting: never on a sheet that began empty or was built of a heap, or that wimtaze_load
+ *         took, as long as every call gets the sheet as the call before left it. Otherwise as 7.
  *   10    Receiving: rule 5. Nothing is wrong; the sender, who gets no acknowledgement, sends the line again.
  *   11    Typing: the sheet is full, and erasing makes no room. Pasting: it has no room for the whole block. Receiving:
  *         rule 6 was broken, and the copies differ for good. Begin a new sheet on every laptop.
@@ -99,6 +103,8 @@
  *         hidden for good: type it anew.
  *   15    Downgrading: a character was brought back, or a line waits that says so, and the first form has no place
  *         for that. Nothing is wrong: keep the sheet as it is.
+ *   16    Loading: no typing leaves such a sheet. Another program wrote it, or it is damaged: as 3. Do not go on from
+ *         it.
  *   17    Building: the heap has more than 1,024 I lines, or more than 1,024 E and D lines, repeats counted. Leave out
  *         the repeats, and of the lines that erase or restore one character all but one with the highest turn. If it
  *         has more than 1,024 I lines still, rule 6 was broken.
@@ -210,6 +216,31 @@
  * A full heap takes some milliseconds. One that somebody chose to be slow can take more than a second: rule 7.
  *
  *
+ * Sheets of other programs
+ *
+ * Every call reads a sheet for its layout, its ranges and its form: refusals 1, 2 and 3. A sheet in form may still be
+ * one that no typing could make, and there an insert that comes later can fail with 9, or be thrown out for that. The
+ * library makes no such sheet, but another program may. So a program that reads sheets which it did not write hands
+ * each to wimtaze_load first, and goes on from what that writes:
+ *
+ *     uint64_t reply = wimtaze_load(file, file_length, sheet, sizeof sheet);
+ *     if (wimtaze_word(reply) == WIMTAZE_DONE)
+ *         length = wimtaze_written(reply);
+ *     else
+ *         tell_a_person(wimtaze_refusal(reply));
+ *
+ * It takes a sheet in form exactly when some lines, received one after another on an empty sheet, leave its
+ * characters, each with its neighbours and its turn, in this order; it makes no difference whose the empty sheet is.
+ * Any other is refused with 16. The lines that wait on the sheet are looked at for their form only, and are kept.
+ *
+ * What it writes is the same sheet, its clock raised where it is too low (see the layouts); if it is not, the same
+ * bytes. From there on 9 is never answered, and nothing that waits is thrown out but for 8, through any list of calls,
+ * as long as every call gets the sheet as the call before left it. And laptops agree as ever: one that loaded its sheet
+ * and one that did not show the same text when they hold the same characters and have carried out the same edits since.
+ *
+ * It cannot tell who typed the characters, nor whether the sheet is an old one: rule 1 is for your program to keep.
+ *
+ *
  * The layouts
  *
  * Lines and saved sheets are text, to be sent and kept in files as they are. Fields are parted by one tab, each line
@@ -280,9 +311,9 @@ extern "C" {
 #endif
 
 /* The version of this header and of the library that it came with. */
-#define WIMTAZE_VERSION "0.9.0"
+#define WIMTAZE_VERSION "0.10.0"
 #define WIMTAZE_VERSION_MAJOR 0
-#define WIMTAZE_VERSION_MINOR 9
+#define WIMTAZE_VERSION_MINOR 10
 #define WIMTAZE_VERSION_PATCH 0
 
 /* The limits of a sheet. */
@@ -317,8 +348,8 @@ enum wimtaze_words {
 };
 
 /*
- * Why a call is turned away. Where several hold, the first is told, in this order: 1, 2, 17, 20, 3, 15, 4, 13, 14, 5 to
- * 12; but in pasting 11 comes before 9.
+ * Why a call is turned away. Where several hold, the first is told, in this order: 1, 2, 17, 20, 3, 15, 16, 4, 13, 14,
+ * 5 to 12; but in pasting 11 comes before 9.
  */
 enum wimtaze_refusals {
     WIMTAZE_REFUSAL_NONE = 0,           /* not refused */
@@ -337,6 +368,7 @@ enum wimtaze_refusals {
     WIMTAZE_REFUSAL_NOT_HIDDEN = 13,    /* the character to be restored is shown, or is not on the sheet */
     WIMTAZE_REFUSAL_LAST_TURN = 14,     /* the turn of the character to be restored is 255: it stays hidden */
     WIMTAZE_REFUSAL_HIGH_TURN = 15,     /* a turn on the sheet is above 1: the first form has no place for it */
+    WIMTAZE_REFUSAL_UNREACHABLE = 16,   /* the saved sheet is one that no typing could make */
     WIMTAZE_REFUSAL_HEAP_FULL = 17,     /* the heap has more than 1,024 lines of a kind, repeats counted */
     WIMTAZE_REFUSAL_NOT_UTF8 = 20       /* the text to be pasted is not UTF-8 */
 };
@@ -416,6 +448,14 @@ uint64_t wimtaze_build(uint64_t number, const uint8_t *heap, size_t heap_length,
                        size_t sheet_out_length);
 
 /*
+ * Takes a saved sheet that another program may have written, and writes it again for use: the same sheet, its clock
+ * raised where it is too low. A sheet that no lines received from an empty one leave is refused with 16; on one that is
+ * taken, 9 never comes: see sheets of other programs. What waits on it is looked at for its form only.
+ * Refusals: 1, 2, 3, 16, 12.
+ */
+uint64_t wimtaze_load(const uint8_t *sheet, size_t sheet_length, uint8_t *sheet_out, size_t sheet_out_length);
+
+/*
  * Writes the text that the sheet shows, in UTF-8. It is for showing and printing, and not the characters themselves:
  * code points 0 to 8, 11 to 31 and 127 stand in it as U+FFFD, bytes EF BF BD. The sheet and the lines keep the real
  * ones.
@@ -467,7 +507,7 @@ static inline enum wimtaze_refusals wimtaze_refusal(uint64_t reply)
 
 /*
  * How many edits the call carried out, its own and those that waited for it: at most 513, by pasting at most 1,536, and
- * 1 by erasing and by restoring; 0 by building, and unless the word is done.
+ * 1 by erasing and by restoring; 0 by building and by loading, and unless the word is done.
  */
 static inline unsigned wimtaze_carried(uint64_t reply)
 {
