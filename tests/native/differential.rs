@@ -1,6 +1,6 @@
 //! The C calls of the static library against the plain reference, call by call: random histories of up to sixteen
-//! laptops with lines lost, repeated and reordered, made-up sheets, heaps of lines, damaged lines, sheets, heaps and
-//! blocks of text, outputs of every length.
+//! laptops with lines lost, repeated and reordered, made-up sheets and such as other programs write, heaps of lines,
+//! damaged lines, sheets, heaps and blocks of text, outputs of every length.
 //! A call passes if the returned number and every byte of its inputs and outputs, and of the guards around them, are
 //! what the reference says.
 //!
@@ -12,8 +12,8 @@ mod library;
 mod reference;
 
 use library::{
-    wimtaze_build, wimtaze_counts, wimtaze_downgrade, wimtaze_empty, wimtaze_erase, wimtaze_moved, wimtaze_paste,
-    wimtaze_receive, wimtaze_receive_at, wimtaze_restore, wimtaze_text, wimtaze_type, wimtaze_upgrade,
+    wimtaze_build, wimtaze_counts, wimtaze_downgrade, wimtaze_empty, wimtaze_erase, wimtaze_load, wimtaze_moved,
+    wimtaze_paste, wimtaze_receive, wimtaze_receive_at, wimtaze_restore, wimtaze_text, wimtaze_type, wimtaze_upgrade,
 };
 use reference::{Operation, Outcome, Reply};
 use std::collections::BTreeMap;
@@ -67,6 +67,7 @@ enum Call<'a> {
     Restore(&'a [u8], u64, u64),
     Paste(&'a [u8], u64, &'a [u8]),
     Build(u64, &'a [u8]),
+    Load(&'a [u8]),
     Text(&'a [u8]),
     Counts(&'a [u8]),
     Upgrade(&'a [u8]),
@@ -84,6 +85,7 @@ impl Call<'_> {
             Call::Restore(..) => "restore",
             Call::Paste(..) => "paste",
             Call::Build(..) => "build",
+            Call::Load(..) => "load",
             Call::Text(..) => "text",
             Call::Counts(..) => "counts",
             Call::Upgrade(..) => "upgrade",
@@ -98,7 +100,7 @@ impl Call<'_> {
             Call::Receive(sheet, line) | Call::ReceiveAt(sheet, line, _) => (sheet, line),
             Call::Paste(sheet, _, block) => (sheet, block),
             Call::Type(sheet, ..) | Call::Erase(sheet, _) | Call::Restore(sheet, ..) => (sheet, &[]),
-            Call::Text(sheet) | Call::Counts(sheet) => (sheet, &[]),
+            Call::Load(sheet) | Call::Text(sheet) | Call::Counts(sheet) => (sheet, &[]),
             Call::Upgrade(sheet) | Call::Downgrade(sheet) => (sheet, &[]),
             Call::Build(_, heap) => (heap, &[]),
         }
@@ -114,6 +116,7 @@ impl Call<'_> {
             Call::Restore(sheet, laptop, clock) => reference::restore_call(sheet, laptop, clock),
             Call::Paste(sheet, gap, block) => reference::paste_call(sheet, gap, block),
             Call::Build(number, heap) => reference::build_call(number, heap),
+            Call::Load(sheet) => reference::load_call(sheet),
             Call::Text(sheet) => reference::text_call(sheet),
             Call::Counts(sheet) => reference::counts_call(sheet),
             Call::Upgrade(old) => reference::upgrade_call(old),
@@ -135,6 +138,7 @@ impl Call<'_> {
                 Call::Restore(_, laptop, clock) => wimtaze_restore(s, s_len, laptop, clock, f, f_len, o, o_len),
                 Call::Paste(_, gap, _) => wimtaze_paste(s, s_len, gap, l, l_len, f, f_len, o, o_len),
                 Call::Build(number, _) => wimtaze_build(number, s, s_len, f, f_len),
+                Call::Load(_) => wimtaze_load(s, s_len, f, f_len),
                 Call::Text(_) => wimtaze_text(s, s_len, f, f_len),
                 Call::Counts(_) => wimtaze_counts(s, s_len),
                 Call::Upgrade(_) => wimtaze_upgrade(s, s_len, f, f_len),
@@ -344,6 +348,41 @@ impl Random {
             sheet += &format!("C\t{}\t{}\t97\t{}\t{}\n", id.0, id.1, self.row_turn(1), ends(previous, next));
         }
         sheet.into_bytes()
+    }
+
+    /// A sheet as another program may write it: rows change places, or take other neighbours that stand above and below
+    /// them, or two become each other's neighbours. Mostly it is in form still.
+    fn foreign(&mut self, sheet: &[u8]) -> Vec<u8> {
+        let mut rows = rows(sheet);
+        rows.retain(|row| row.len() == 8);
+        for _ in 0..if rows.len() < 2 { 0 } else { 1 + self.below(3) } {
+            let (k, last) = (self.below(rows.len()), rows.len() - 1);
+            let next = (k + 1).min(last);
+            match self.below(5) {
+                0 => rows.swap(k, next),
+                1 => {
+                    let other = self.below(rows.len());
+                    rows.swap(k, other);
+                }
+                2 | 3 => {
+                    let (up, down) = (self.below(k + 1), self.below(last - k + 1));
+                    let previous = if up == 0 { [0, 0] } else { [rows[k - up][0], rows[k - up][1]] };
+                    let next = if down == 0 { [0, 1] } else { [rows[k + down][0], rows[k + down][1]] };
+                    rows[k].splice(4.., previous.into_iter().chain(next));
+                }
+                _ if k < next => {
+                    let ids = [rows[k][0], rows[k][1], rows[next][0], rows[next][1]];
+                    rows[k][6..].copy_from_slice(&ids[2..]);
+                    rows[next][4..6].copy_from_slice(&ids[..2]);
+                }
+                _ => {}
+            }
+        }
+        let fields = |row: &Vec<u64>| row.iter().map(|n| format!("\t{n}")).collect::<String>();
+        let rows: String = rows.iter().map(|row| format!("C{}\n", fields(row))).collect();
+        let mut others = lines_of(sheet).filter(|line| !line.starts_with(b"C"));
+        let head = others.next().unwrap_or_default();
+        [head, rows.as_bytes(), &others.collect::<Vec<_>>().concat()].concat()
     }
 
     /// Adds the line if the sheet stays in form, and now and then if it does not.
@@ -637,6 +676,35 @@ fn has_needs(sheet: &[u8], line: &[u8]) -> bool {
     }
 }
 
+/// The lines that would be received to make the rows of a sheet, from any sender.
+fn lines_of_rows(sheet: &[u8]) -> Vec<Vec<u8>> {
+    let id = |row: &[u64]| format!("{}\t{}", row[0], row[1]);
+    let (mut inserts, mut turns) = (Vec::new(), Vec::new());
+    for row in rows(sheet) {
+        inserts.push(format!("I\t{}\t{}\t{}\t{}\n", id(&row), row[2], id(&row[4..]), id(&row[6..])).into_bytes());
+        if row[3] > 0 {
+            turns.push(format!("E\t9\t{}\t{}\n", id(&row), row[3]).into_bytes());
+        }
+    }
+    [inserts, turns].concat()
+}
+
+/// Whether what waited on a sheet and is gone from the one that a call left was thrown out for condition 8: its
+/// neighbours stand there in the other order.
+fn thrown_for_8(sheet: &[u8], left: &[u8]) -> bool {
+    let (rows, waiting) = (rows(left), numbers(left, "I"));
+    let place = |id: &[u64]| match id {
+        [0, 0] => Some(0),
+        [0, _] => Some(rows.len() + 1),
+        _ => rows.iter().position(|row| row[..2] == *id).map(|k| k + 1),
+    };
+    let gone = |i: &Vec<u64>| place(&i[..2]).is_none() && !waiting.contains(i);
+    numbers(sheet, "I").iter().filter(|i| gone(i)).all(|i| match (place(&i[3..5]), place(&i[5..7])) {
+        (Some(previous), Some(next)) => previous >= next,
+        _ => false,
+    })
+}
+
 /// How many rows a saved sheet shows, as far as it can be read.
 fn shown(sheet: &[u8]) -> usize {
     rows(sheet).iter().filter(|row| row[3] % 2 == 0).count()
@@ -833,6 +901,27 @@ fn built_of(number: u64, heap: &[Operation], left_out: usize, outcome: &Outcome)
     what.into_iter().filter(|(met, _)| *met).map(|(_, what)| what).collect()
 }
 
+/// What becomes of a sheet that is loaded: what it has that makes no difference, and why it cannot be made.
+fn loads(call: &Call, outcome: &Outcome) -> Vec<&'static str> {
+    let Call::Load(sheet) = call else { return Vec::new() };
+    let Ok(read) = reference::read_sheet(sheet) else { return Vec::new() };
+    let waiting = !read.waiting.is_empty();
+    let what = match outcome.reply {
+        Reply::Done { .. } => {
+            let turned = read.rows.iter().any(|row| row.turn > 1);
+            let same = outcome.first == *sheet;
+            [(same, "same"), (waiting, "waiting"), (turned, "turned"), (read.rows.len() == 1024, "1024")]
+        }
+        Reply::Refused(16) => {
+            let made = read.made_anew().len();
+            let (all, most) = (made == read.rows.len(), read.rows.len() == 1024);
+            [(all, "16-order"), (!all, "16-never-all"), (waiting, "16-waiting"), (most, "16-1024")]
+        }
+        _ => return Vec::new(),
+    };
+    what.into_iter().filter(|(met, _)| *met).map(|(_, what)| what).collect()
+}
+
 /// Whether the block is read as Rust's own library reads it.
 fn block_is_sound(call: &Call) -> bool {
     let Call::Paste(_, _, block) = call else { return true };
@@ -888,7 +977,7 @@ impl Tester {
             *self.met.entry((call.name(), "raising".into())).or_default() += 1;
         }
         let happenings = [turns(call, outcome), crosses(call, outcome), moves(call, outcome), pastes(call, outcome)];
-        for what in happenings.into_iter().flatten().chain(builds(call, outcome)) {
+        for what in happenings.into_iter().flatten().chain(builds(call, outcome)).chain(loads(call, outcome)) {
             *self.met.entry((call.name(), what.into())).or_default() += 1;
         }
         let word = match outcome.reply {
@@ -963,7 +1052,7 @@ impl Tester {
             Call::Build(number, _) => println!("  number {number}, and the heap"),
             Call::Receive(..) => println!("  line {:?}", String::from_utf8_lossy(line)),
             Call::ReceiveAt(_, _, gap) => println!("  line {:?}, gap {gap}", String::from_utf8_lossy(line)),
-            Call::Text(_) | Call::Counts(_) | Call::Upgrade(_) | Call::Downgrade(_) => {}
+            Call::Load(_) | Call::Text(_) | Call::Counts(_) | Call::Upgrade(_) | Call::Downgrade(_) => {}
         }
         let shortened: String = String::from_utf8_lossy(sheet).chars().take(2000).collect();
         println!("  sheet {shortened:?}");
@@ -1105,13 +1194,14 @@ impl Tester {
 
     /// Any call on the sheet.
     fn anything(&mut self, sheet: &[u8], line: &[u8]) -> Written {
-        match self.random.below(17) {
+        match self.random.below(18) {
             0..=4 => self.receive(sheet, line),
             5..=7 => self.type_somewhere(sheet),
             8 => self.erase_somewhere(sheet),
             9 | 10 => self.restore_somewhere(sheet),
             11 => self.change_form(sheet),
             12..=14 => self.paste_somewhere(sheet),
+            15 => self.call(&Call::Load(sheet)),
             _ => self.look(sheet),
         }
     }
@@ -1230,6 +1320,57 @@ impl Tester {
         } else {
             self.build(&sent);
         }
+        let sheet = &laptops[self.random.below(count)].sheet;
+        self.load(sheet);
+        self.expect(self.last != Reply::Refused(16), "a sheet that calls made is not loaded");
+        let foreign = self.random.foreign(sheet);
+        self.load(&foreign);
+    }
+
+    /// A sheet is loaded for use. If it is taken, the lines of its rows, received one by one, make these rows, and what
+    /// is done with it later never meets 9; if not, they make others.
+    fn load(&mut self, sheet: &[u8]) {
+        let (written, reply) = (self.call(&Call::Load(sheet)), self.last);
+        if !matches!(reply, Reply::Done { .. } | Reply::Refused(16)) {
+            return;
+        }
+        let lines = lines_of_rows(sheet);
+        if lines.len() <= 100 {
+            let made = self.received_ready(&lines.iter().map(Vec::as_slice).collect::<Vec<_>>());
+            self.meet("load", "received");
+            let same = made.is_some_and(|made| made == rows(sheet));
+            self.expect(same == written.is_some(), "a sheet is loaded, or is not, against what receiving makes");
+        }
+        if let Some((loaded, _)) = written {
+            self.expect(loaded == with_raised_clock(sheet), "a sheet was loaded as another one");
+            self.use_loaded(loaded, &lines);
+        }
+        self.last = reply;
+    }
+
+    /// Any calls on a sheet that was loaded, each on the sheet as the call before left it: lines that it has, such as
+    /// what waits there needs, and others.
+    fn use_loaded(&mut self, mut sheet: Vec<u8>, lines: &[Vec<u8>]) {
+        let of = Universe { laptops: 16, clocks: 4 };
+        for _ in 0..self.random.below(12) {
+            let waiting = numbers(&sheet, "I");
+            let awaited = if waiting.is_empty() { None } else { Some(self.random.below(waiting.len())) };
+            let line = match (self.random.below(3), awaited) {
+                (0, Some(k)) => {
+                    let neighbour = if waiting[k][3] == 0 { &waiting[k][5..] } else { &waiting[k][3..] };
+                    format!("I\t{}\t{}\t98\t{}\n", neighbour[0], neighbour[1], ends(BEGIN, END)).into_bytes()
+                }
+                (1, _) if !lines.is_empty() => lines[self.random.below(lines.len())].clone(),
+                _ => self.random.line(of),
+            };
+            let written = self.anything(&sheet, &line);
+            self.meet("load", "used");
+            self.expect(self.last != Reply::Refused(9), "9 was answered after a sheet was loaded");
+            if let Some((new, _)) = written {
+                self.expect(thrown_for_8(&sheet, &new), "something was thrown out of a loaded sheet, and not for 8");
+                sheet = new;
+            }
+        }
     }
 
     /// A sheet is built of these lines as they come; what is then done with it; and it must be what the same heap gives
@@ -1246,7 +1387,10 @@ impl Tester {
             self.expect((again, self.last) == (built.clone(), reply), "a heap in another order gives another sheet");
         }
         if moved.len() <= 200 {
-            self.receive_ready(&moved, &rows(&built));
+            if let Some(received) = self.received_ready(&moved) {
+                self.meet("build", "received");
+                self.expect(received == rows(&built), "building gives other rows than receiving one by one");
+            }
         }
         let mut sheet = built;
         for _ in 0..self.random.below(12) {
@@ -1257,9 +1401,9 @@ impl Tester {
         }
     }
 
-    /// The lines come to an empty sheet of any number one by one, each after all it needs, in any such sequence. That
-    /// must leave these rows.
-    fn receive_ready(&mut self, lines: &[&[u8]], built: &[Vec<u64>]) {
+    /// The lines come to an empty sheet of any number one by one, each after all it needs, in any such sequence: the
+    /// rows that this leaves.
+    fn received_ready(&mut self, lines: &[&[u8]]) -> Option<Vec<Vec<u64>>> {
         let number = self.number();
         let (mut sheet, mut left) = (self.begin(number), lines.to_vec());
         loop {
@@ -1273,11 +1417,13 @@ impl Tester {
                 Reply::Refused(4 | 12) => left.push(line),
                 Reply::Refused(8) | Reply::Known => {}
                 Reply::Done { .. } => sheet = written.map_or(sheet, |(new, _)| new),
-                _ => return self.expect(false, "a line that had all it needs was turned away"),
+                _ => {
+                    self.expect(false, "a line that had all it needs was turned away");
+                    return None;
+                }
             }
         }
-        self.meet("build", "received");
-        self.expect(rows(&sheet) == built, "building gives other rows than receiving one by one");
+        Some(rows(&sheet))
     }
 
     fn number(&mut self) -> u64 {
@@ -1332,7 +1478,10 @@ impl Tester {
             heap = random.with_field_replaced(&heap);
         }
         let number = if random.one_in(20) { 17 } else { self.number() };
-        self.call(&Call::Build(number, &heap));
+        if let Some((built, _)) = self.call(&Call::Build(number, &heap)) {
+            self.call(&Call::Load(&built));
+            self.expect(self.last != Reply::Refused(16), "a sheet that was built is not loaded");
+        }
     }
 
     /// Two laptops get what was sent, each in an order of its own, and one of them of the turns of a character only the
@@ -1456,6 +1605,9 @@ impl Tester {
         self.anything(&damaged, &line);
         self.anything(&old, &line);
         self.change_form(&sheet);
+        let foreign = if self.random.one_in(2) { self.random.foreign(&sheet) } else { sheet };
+        let low = if self.random.one_in(3) { with_clock(&foreign, 0) } else { foreign };
+        self.load(&low);
     }
 
     /// Operations that all wait, one way or another, for one insert; then it comes.
@@ -1597,7 +1749,7 @@ impl Tester {
 }
 
 /// Every reply that each call can give, and waiting operations carried and thrown out.
-const TO_MEET: [(&str, &str); 13] = [
+const TO_MEET: [(&str, &str); 14] = [
     ("empty", "done 2 12"),
     ("receive", "done waits known releasing throwing raising anew hiding showing behind equal 1 2 3 7 8 9 10 11 12"),
     (
@@ -1619,6 +1771,10 @@ const TO_MEET: [(&str, &str); 13] = [
         "done nothing all crossing needing not-larger repeats own-clock clock-left-out 1024 left-out-1025 anew \
          permuted received 1-or-more 2-line 2-number 2-or-17 2-or-7 17-inserts 17-turns 17-repeats 17-or-7 7-left-out \
          1 2 17 7 12",
+    ),
+    (
+        "load",
+        "done same raising waiting turned 1024 received used 16-order 16-never-all 16-waiting 16-1024 1 2 3 16 12",
     ),
     ("text", "done 1 2 3 12"),
     ("counts", "done 1 2 3"),

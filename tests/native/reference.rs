@@ -470,6 +470,20 @@ impl Sheet {
         (sheet, left_out + left.len())
     }
 
+    /// What receiving leaves of these rows, begun from an empty sheet: their inserts come one by one, each after both
+    /// of its neighbours, as often as some can, and then their turns. Those that go round in a circle never come.
+    pub fn made_anew(&self) -> Vec<Row> {
+        let mut made = Sheet::empty(1);
+        let mut left: Vec<Operation> = self.rows.iter().map(|r| Operation::Insert(r.insert)).collect();
+        while let Some(k) = left.iter().position(|o| made.has_all(o)) {
+            made.receive(&left.remove(k));
+        }
+        for r in self.rows.iter().filter(|r| r.turn > 0) {
+            made.receive(&Operation::Turn(Turn { sender: 1, id: r.insert.id, turn: r.turn }));
+        }
+        made.rows
+    }
+
     /// Erasing at a place, counted from 1.
     pub fn erase_at(&mut self, place: u64) -> (Reply, Option<Operation>) {
         if !self.in_form() {
@@ -964,6 +978,16 @@ pub fn build_call(number: u64, heap: &[u8]) -> Outcome {
     }
     let (sheet, thrown) = Sheet::build(laptop, &heap);
     Outcome::of(Reply::Done { carried: 0, thrown }, &sheet, None)
+}
+
+/// Loading for use in the hall (Req 07): 16 comes after 3, where trying to make these rows comes to others. Only the
+/// form of what waits is looked at.
+pub fn load_call(sheet: &[u8]) -> Outcome {
+    match read_sheet(sheet) {
+        Ok(s) if s.made_anew() == s.rows => Outcome::done(sheet_bytes(&s)),
+        Ok(_) => Outcome::refused(16),
+        Err(n) => Outcome::refused(n),
+    }
 }
 
 pub fn text_call(sheet: &[u8]) -> Outcome {
