@@ -444,7 +444,7 @@ static uint64_t counts(void)
     return reply;
 }
 
-/* Between the forms: a call takes the sheet at hand in the one, which is then there in the other. */
+/* A call that takes the sheet at hand, and writes it anew, in another form or in the same. */
 static uint64_t change_form_in(uint64_t (*call)(const uint8_t *, size_t, uint8_t *, size_t), size_t room)
 {
     static uint8_t was[ROOM];
@@ -475,6 +475,25 @@ static uint64_t downgrade_in(size_t room)
 static uint64_t downgrade(void)
 {
     return downgrade_in(ROOM);
+}
+
+/* Loads the sheet at hand for use. What is loaded then is loaded once more, which gives the same reply and bytes. */
+static uint64_t use_in(size_t room)
+{
+    static uint8_t again[ROOM];
+    uint64_t reply = change_form_in(wimtaze_load, room);
+    CHECK(wimtaze_word(reply) == WIMTAZE_DONE || wimtaze_word(reply) == WIMTAZE_REFUSED);
+    CHECK(wimtaze_carried(reply) == 0 && wimtaze_thrown(reply) == 0 && wimtaze_line_written(reply) == 0);
+    if (wimtaze_word(reply) == WIMTAZE_DONE) {
+        CHECK(wimtaze_load(sheet, sheet_length, again, room) == reply);
+        CHECK(memcmp(again, sheet, sheet_length) == 0);
+    }
+    return reply;
+}
+
+static uint64_t use(void)
+{
+    return use_in(ROOM);
 }
 
 /* ---- replies */
@@ -2314,6 +2333,213 @@ static void first_of_two_building(void)
         }
 }
 
+/* ---- Req 07: sheets of other programs */
+
+static const char *const MADE[] = {"S2 16 0\n", "S2 16 0\nC 3 1 67 0 0 0 1 1\nC 1 1 65 0 0 0 0 1\nC 2 1 66 0 0 0 0 1\n",
+    "S2 9 0\nC 1 1 65 0 0 0 0 1\nC 2 1 66 0 0 0 0 1\n",
+    /* One was typed behind the other, or in front of it, so that their identifiers do not matter. */
+    "S2 9 0\nC 2 1 66 0 0 0 0 1\nC 1 1 65 0 2 1 0 1\n", "S2 9 0\nC 2 1 66 0 0 0 1 1\nC 1 1 65 0 0 0 0 1\n",
+    /* Any turns. */
+    "S2 9 0\nC 1 1 65 255 0 0 0 1\nC 2 1 66 254 0 0 0 1\nC 3 1 66 1 2 1 0 1\n",
+    /* The second was typed between the first and the third. */
+    "S2 9 0\nC 5 1 65 0 0 0 0 1\nC 1 1 66 0 5 1 6 1\nC 6 1 67 0 0 0 0 1\n",
+    /* One typed in front of a row, and one behind it. */
+    "S2 9 0\nC 7 1 65 0 0 0 8 1\nC 8 1 66 0 0 0 0 1\nC 1 1 67 0 8 1 0 1\n",
+    "S2 16 65535\nC 16 65535 1114111 0 0 0 0 1\n"};
+
+/* Sheets in form that nothing received leaves. */
+static const char *const NOT_MADE[] = {
+    /* P7's: each needs the other. */
+    "S2 16 0\nC 1 1 65 0 0 0 2 1\nC 2 1 66 0 1 1 0 1\n",
+    /* Between the marks, the higher identifier above; 9 never comes there. */
+    "S2 9 0\nC 2 1 66 0 0 0 0 1\nC 1 1 65 0 0 0 0 1\n", "S2 9 0\nC 1 2 66 0 0 0 0 1\nC 1 1 65 0 0 0 0 1\n",
+    "S2 9 0\nC 2 1 66 0 0 0 0 1\nC 1 9 65 0 0 0 0 1\n",
+    /* The same of rows that are hidden, one or both. */
+    "S2 9 0\nC 2 1 66 1 0 0 0 1\nC 1 1 65 0 0 0 0 1\n", "S2 9 0\nC 2 1 66 0 0 0 0 1\nC 1 1 65 3 0 0 0 1\n",
+    "S2 9 0\nC 2 1 66 1 0 0 0 1\nC 1 1 65 255 0 0 0 1\n",
+    /* Rows that need each other in a circle of three, alone and beside others. */
+    "S2 9 0\nC 1 1 65 0 0 0 3 1\nC 2 1 66 0 1 1 0 1\nC 3 1 67 0 2 1 0 1\n",
+    "S2 9 0\nC 1 1 65 0 0 0 0 1\nC 2 1 66 0 1 1 4 1\nC 3 1 67 0 2 1 0 1\nC 4 1 68 0 3 1 0 1\nC 5 1 69 0 4 1 0 1\n",
+    /* The first and the last stand between each other's neighbours, with a row between them that needs the first. */
+    "S2 9 0\nC 3 1 65 0 0 0 0 1\nC 4 1 66 0 3 1 0 1\nC 2 1 67 0 0 0 0 1\n",
+    /* Two that were typed after one row, the higher above, that row hidden. */
+    "S2 9 0\nC 1 1 65 1 0 0 0 1\nC 3 1 66 0 1 1 0 1\nC 2 1 67 0 1 1 0 1\n",
+    /* Two that were typed between hidden rows, the higher above. */
+    "S2 9 0\nC 1 1 65 1 0 0 0 1\nC 5 1 66 0 1 1 9 1\nC 4 1 67 0 1 1 9 1\nC 9 1 65 1 1 1 0 1\n",
+    /* The first row in front of the last, and the second between the marks: each between the other's neighbours. */
+    "S2 9 0\nC 7 1 65 0 0 0 8 1\nC 6 1 67 0 0 0 0 1\nC 8 1 66 0 0 0 0 1\n"};
+
+/* Lines that wait, in form: one would meet 8 if what it needs came, and two need each other. */
+static const char *const AWAITING[] = {"I 7 1 97 8 1 0 1\n", "I 7 1 97 8 1 8 1\n", "E 7 8 1 1\n",
+    "I 7 1 97 8 1 0 1\nI 8 1 97 7 1 0 1\nE 1 7 1 2\nE 16 8 1 255\n"};
+
+/* Sheets that can be made come out as they are, whatever waits on them. */
+static void loaded(void)
+{
+    char with_waiting[512];
+    for (size_t k = 0; k < sizeof MADE / sizeof *MADE; k++) {
+        load(MADE[k]);
+        CHECK(changed(use(), MADE[k]));
+        for (size_t j = 0; k < 3 && j < sizeof AWAITING / sizeof *AWAITING; j++) {
+            sprintf(with_waiting, "%s%s", MADE[k], AWAITING[j]);
+            load(with_waiting);
+            CHECK(changed(use(), with_waiting));
+        }
+    }
+    load(FOUR_ROWS);
+    CHECK(changed(use(), FOUR_ROWS));
+}
+
+/* Sheets that cannot, whatever waits, and whatever their own laptop's number and clock; the sheet at hand stays. */
+static void not_loaded(void)
+{
+    char with_waiting[512];
+    for (size_t k = 0; k < sizeof NOT_MADE / sizeof *NOT_MADE; k++) {
+        load(NOT_MADE[k]);
+        CHECK(refused(use(), WIMTAZE_REFUSAL_UNREACHABLE) && sheet_is(NOT_MADE[k]));
+        CHECK(done(text(), 0, 0));
+        for (size_t laptop = 1; laptop <= 16; laptop++) {
+            sprintf(with_waiting, "S2 %u %u\n%s", (unsigned)laptop, laptop % 2 ? 0u : 65535u,
+                    strchr(NOT_MADE[k], '\n') + 1);
+            load(with_waiting);
+            CHECK(refused(use(), WIMTAZE_REFUSAL_UNREACHABLE));
+        }
+        for (size_t j = 0; k < 3 && j < sizeof AWAITING / sizeof *AWAITING; j++) {
+            sprintf(with_waiting, "%s%s", NOT_MADE[k], AWAITING[j]);
+            load(with_waiting);
+            CHECK(refused(use(), WIMTAZE_REFUSAL_UNREACHABLE));
+        }
+    }
+}
+
+/* A clock that is too low, for a row or for what waits, is raised, and nothing else is changed. */
+static void loaded_clock(void)
+{
+    load("S2 2 0\nC 2 5 65 3 0 0 0 1\n");
+    CHECK(changed(use(), "S2 2 5\nC 2 5 65 3 0 0 0 1\n"));
+    load("S2 2 6\nC 2 5 65 3 0 0 0 1\n");
+    CHECK(changed(use(), "S2 2 6\nC 2 5 65 3 0 0 0 1\n"));
+    load("S2 2 6\nC 2 5 65 0 0 0 0 1\nI 2 9 66 3 1 0 1\nI 3 12 66 3 1 0 1\nE 2 2 13 1\n");
+    CHECK(changed(use(), "S2 2 9\nC 2 5 65 0 0 0 0 1\nI 2 9 66 3 1 0 1\nI 3 12 66 3 1 0 1\nE 2 2 13 1\n"));
+    load("S2 2 0\nC 2 65535 65 0 0 0 0 1\n");
+    CHECK(changed(use(), "S2 2 65535\nC 2 65535 65 0 0 0 0 1\n"));
+    CHECK(refused(type(0, 'x'), WIMTAZE_REFUSAL_CLOCK));
+    /* The raised clock may be longer, which counts where an output is short. */
+    load("S2 2 0\nC 2 5000 65 1 0 0 0 1\n");
+    CHECK(refused(use_in(sheet_length + 2), WIMTAZE_REFUSAL_OUTPUT));
+    CHECK(done(use_in(sheet_length + 3), 0, 0));
+    /* 16 is told whatever the clock. */
+    load("S2 2 0\nC 2 5 65 0 0 0 0 1\nC 1 5 65 0 0 0 0 1\n");
+    CHECK(refused(use(), WIMTAZE_REFUSAL_UNREACHABLE));
+}
+
+/* What is done with a sheet that was loaded: what other programs' sheets refuse with 9 comes in here. */
+static void loaded_and_used(void)
+{
+    load("S2 16 0\nC 1 1 65 0 0 0 0 1\nC 2 1 66 0 1 1 0 1\nI 4 1 67 5 1 0 1\nI 4 2 68 5 1 1 1\n");
+    CHECK(done(use(), 0, 0));
+    CHECK(done(receive("I 3 1 67 0 0 0 1\n"), 1, 0));
+    CHECK(sheet_is("S2 16 0\nC 1 1 65 0 0 0 0 1\nC 2 1 66 0 1 1 0 1\nC 3 1 67 0 0 0 0 1\nI 4 1 67 5 1 0 1\n"
+                   "I 4 2 68 5 1 1 1\n"));
+    /* What waited is carried out, or thrown out since it meets 8. */
+    CHECK(done(receive("I 5 1 69 1 1 0 1\n"), 2, 1));
+    CHECK(done(type(0, 'x'), 1, 0) && done(paste(1, "yz"), 2, 0) && done(erase(1), 1, 0) && done(use(), 0, 0));
+    CHECK(done(restore(16, 1), 1, 0) && done(use(), 0, 0));
+    /* P7's sheet, for comparison. */
+    load(NOT_MADE[0]);
+    CHECK(refused(use(), WIMTAZE_REFUSAL_UNREACHABLE));
+    CHECK(refused(receive("I 3 1 67 0 0 0 1\n"), WIMTAZE_REFUSAL_UNPLACEABLE));
+}
+
+/* Every sheet that the calls make is loaded as it is: begun, received, typed, pasted, erased, restored, built. */
+static void own_sheets_loaded(void)
+{
+    size_t length;
+    CHECK(done(empty(7, ROOM), 0, 0) && done(use(), 0, 0));
+    CHECK(done(paste(0, "Board 7: 1-0"), 12, 0) && done(type(3, 'x'), 1, 0) && done(erase(5), 1, 0));
+    CHECK(done(receive("I 3 1 67 0 0 7 1\n"), 1, 0) && waits(receive("E 3 4 1 9\n")));
+    length = sheet_length;
+    CHECK(done(use(), 0, 0) && sheet_length == length);
+    CHECK(done(build(9, "I 2 1 66 0 0 0 1\nI 1 1 65 0 0 0 1\nI 3 1 67 0 0 1 1\nI 3 2 68 1 1 0 1\nE 4 1 1 7\n"), 0, 0));
+    length = sheet_length;
+    CHECK(done(use(), 0, 0) && sheet_length == length);
+}
+
+/* The refusals 1, 2 and 3 of a sheet to be loaded, and 12 by one byte. */
+static void not_read_for_use(void)
+{
+    static const char *const layouts[] = {"", "\n", "S 1 0\n", "S2 1 0", "S2 1\n", "S2 1 0 0\n", "S2 01 0\n",
+        "S2 1 0\n\n", "S2 1 0\nD 1 1 1\n", "S2 1 0\nC 1 1 65 0 0 0 0\n", "S2 1 0\nE 1 1 1 1\nC 1 1 65 0 0 0 0 1\n",
+        "S2 1 0\nK 1 1 1\n", "C 1 1 65 0 0 0 0 1\n", "S2 1 0\nC 1 1 65 0 0 0 0 1"};
+    static const char *const numbers[] = {"S2 0 0\n", "S2 17 0\n", "S2 1 65536\n", "S2 1 0\nC 2 1 65 256 0 0 0 1\n",
+        "S2 1 0\nC 17 1 65 0 0 0 0 1\n", "S2 1 0\nC 2 0 65 0 0 0 0 1\n", "S2 1 0\nC 2 1 55296 0 0 0 0 1\n",
+        "S2 1 0\nC 2 1 65 0 2 1 0 1\n", "S2 1 0\nE 1 1 1 0\n", "S2 1 0\nI 1 1 65 0 1 0 1\n"};
+    static const char *const forms[] = {"S2 1 0\nE 1 1 1 1\nE 1 1 1 1\n", "S2 1 0\nC 1 1 65 1 0 0 0 1\nE 2 1 1 1\n",
+        "S2 1 0\nC 1 1 65 0 0 0 0 1\nC 1 1 65 0 0 0 0 1\n", "S2 1 0\nI 1 1 65 0 0 0 1\n",
+        "S2 1 0\nC 1 1 65 0 2 1 0 1\n", "S2 1 0\nC 1 1 65 0 2 1 0 1\nC 2 1 66 0 0 0 0 1\n",
+        "S2 1 0\nC 1 1 65 0 0 0 0 1\nI 1 1 65 2 1 0 1\n"};
+    for (size_t k = 0; k < sizeof layouts / sizeof *layouts; k++) {
+        load(layouts[k]);
+        CHECK(refused(use(), WIMTAZE_REFUSAL_LAYOUT));
+    }
+    for (size_t k = 0; k < sizeof numbers / sizeof *numbers; k++) {
+        load(numbers[k]);
+        CHECK(refused(use(), WIMTAZE_REFUSAL_RANGE));
+    }
+    for (size_t k = 0; k < sizeof forms / sizeof *forms; k++) {
+        load(forms[k]);
+        CHECK(refused(use(), WIMTAZE_REFUSAL_FORM));
+    }
+    load(FOUR_ROWS);
+    CHECK(refused(use_in(0), WIMTAZE_REFUSAL_OUTPUT) && refused(use_in(sheet_length - 1), WIMTAZE_REFUSAL_OUTPUT));
+    CHECK(done(use_in(sheet_length), 0, 0));
+}
+
+/* Two grounds that hold at once, every such pair: the first in checking order is told. */
+static void first_of_two_loading(void)
+{
+    static const struct {
+        const char *sheet;
+        int told, other;
+    } pairs[] = {{"S2 1 0\nE 1 1 1 0\nD 1 1 1\n", 1, 2}, {"S2 1 0\nI 1 1 65 0 0 0 1\nD 1 1 1\n", 1, 3},
+        {"S2 9 0\nC 2 1 66 0 0 0 0 1\nC 1 1 65 0 0 0 0 1\nD 1 1 1\n", 1, 16}, {"S2 1 0\nD 1 1 1\n", 1, 12},
+        {"S2 1 0\nI 1 1 65 0 0 0 1\nE 1 1 1 0\n", 2, 3},
+        {"S2 9 0\nC 2 1 66 0 0 0 0 1\nC 1 1 65 256 0 0 0 1\n", 2, 16}, {"S2 1 0\nE 1 1 1 0\n", 2, 12},
+        {"S2 9 0\nC 2 1 66 0 0 0 0 1\nC 1 1 65 0 0 0 0 1\nE 3 1 1 1\n", 3, 16},
+        {"S2 9 0\nC 2 1 66 0 0 0 0 1\nC 1 1 65 0 0 0 0 1\nC 2 1 66 0 0 0 0 1\n", 3, 16},
+        {"S2 9 0\nC 1 1 65 0 0 0 2 1\nC 2 1 66 0 1 1 0 1\nI 3 1 67 1 1 2 1\n", 3, 16},
+        {"S2 1 0\nE 1 1 1 1\nE 1 1 1 1\n", 3, 12}, {"S2 9 0\nC 2 1 66 0 0 0 0 1\nC 1 1 65 0 0 0 0 1\n", 16, 12},
+        {"S2 9 0\nC 1 1 65 0 0 0 2 1\nC 2 1 66 0 1 1 0 1\n", 16, 12}};
+    for (size_t k = 0; k < sizeof pairs / sizeof *pairs; k++) {
+        load(pairs[k].sheet);
+        CHECK(refused(use_in(pairs[k].other == 12 ? 0 : ROOM), pairs[k].told));
+    }
+}
+
+/* The largest sheets: typed, all between the marks, and both with one pair the wrong way round or one circle of all. */
+static void largest_loaded(void)
+{
+    char row[64];
+    for (int circle = 0; circle < 2; circle++) {
+        load("S2 9 0\n");
+        for (int k = 1; k <= 1024; k++) {
+            int first_in_circle = circle && k == 1;
+            sprintf(row, first_in_circle ? "C 1 1 97 1 0 0 1 1024\n" : k == 1 ? "C 1 1 97 1 0 0 0 1\n"
+                                         : "C 1 %d 97 1 1 %d 0 1\n", k, k - 1);
+            append(row);
+        }
+        CHECK(circle ? refused(use(), WIMTAZE_REFUSAL_UNREACHABLE) : done(use_in(sheet_length), 0, 0));
+    }
+    for (int wrong = 0; wrong < 2; wrong++) {
+        load("S2 9 0\n");
+        for (int k = 1; k <= 1024; k++) {
+            sprintf(row, "C 1 %d 97 0 0 0 0 1\n", wrong && k == 1024 ? 1 : wrong ? k + 1 : k);
+            append(row);
+        }
+        CHECK(wrong ? refused(use(), WIMTAZE_REFUSAL_UNREACHABLE) : done(use_in(sheet_length), 0, 0));
+    }
+}
+
 /* ---- waiting, throwing out, and what releases it */
 
 static void released(void)
@@ -2715,7 +2941,7 @@ static void version(void)
 static void every_refusal(void)
 {
     for (unsigned n = 1; n <= 20; n++)
-        CHECK((refusals_seen >> n & 1) == (n != WIMTAZE_REFUSAL_TAKEN && (n <= 15 || n == 17 || n == 20)));
+        CHECK((refusals_seen >> n & 1) == (n != WIMTAZE_REFUSAL_TAKEN && (n <= 17 || n == 20)));
     CHECK(refusals_seen >> 21 == 0);
 }
 
@@ -2788,6 +3014,14 @@ static const struct {
     {"Req 08: the longest heap and the deepest", longest_heap},
     {"Req 08: refusals of building", not_built},
     {"Req 08: the first of two refusals", first_of_two_building},
+    {"Req 07: sheets that can be made", loaded},
+    {"Req 07: sheets that cannot", not_loaded},
+    {"Req 07: the clock", loaded_clock},
+    {"Req 07: what is done with the sheet", loaded_and_used},
+    {"Req 07: sheets that the calls made", own_sheets_loaded},
+    {"Req 07: refusals 1, 2, 3 and 12", not_read_for_use},
+    {"Req 07: the first of two refusals", first_of_two_loading},
+    {"Req 07: the largest sheets", largest_loaded},
     {"what an insert releases", released},
     {"placing", placing},
     {"layout of lines and sheets", layout},

@@ -1,7 +1,7 @@
 /*
  * How much stack the calls take: every call of the library in a thread whose stack was painted before, on an empty
- * sheet, on a full one and on one where a line or a block releases the edits that wait for it, and on heaps of every
- * kind. It must not be more than the header says, below the frame that the calls are made from.
+ * sheet, on a full one and on one where a line or a block releases the edits that wait for it, on heaps of every kind
+ * and on sheets that other programs write. It must not be more than the header says, below the frame that the calls are made from.
  */
 #include "wimtaze.h"
 
@@ -136,6 +136,21 @@ static void heaps(void)
     build(WIMTAZE_REFUSED, 0);
 }
 
+/* 1,024 rows: a chain, rows between the marks, and each with one that no typing could make. */
+static void foreign(void)
+{
+    for (unsigned kind = 0; kind < 4; kind++) {
+        char *at = (char *)sheet + sprintf((char *)sheet, "S2\t1\t0\n");
+        for (unsigned k = 1; k <= 1024; k++) {
+            unsigned clock = kind == 3 ? 1025 - k : k, previous = kind < 2 ? k - 1 : 0;
+            at += sprintf(at, "C\t2\t%u\t66\t1\t%d\t%u\t%d\t%u\n", clock, previous == 0 ? 0 : 2, previous,
+                          kind == 1 && k == 1 ? 2 : 0, kind == 1 && k == 1 ? 1024u : 1u);
+        }
+        length = (size_t)(at - (char *)sheet);
+        keep(wimtaze_load(sheet, length, after, sizeof after), kind % 2 == 0 ? WIMTAZE_DONE : WIMTAZE_REFUSED);
+    }
+}
+
 static void *calls(void *unused)
 {
     uint8_t here;
@@ -165,6 +180,7 @@ static void *calls(void *unused)
     keep(wimtaze_receive(sheet, length, (const uint8_t *)"E\t2\t2\t1\t255\n", 12, after, sizeof after), WIMTAZE_DONE);
     blocks();
     heaps();
+    foreign();
     return unused;
 }
 
