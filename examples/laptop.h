@@ -80,7 +80,7 @@ static void laptop_die(const char *what)
     exit(EXIT_FAILURE);
 }
 
-/* ---- reading a sheet, which the library wrote or has checked */
+/* ---- reading a sheet, which the library wrote */
 
 /* The number in field k of a line; field 0 is its letter. */
 static unsigned laptop_field(const uint8_t *line, unsigned k)
@@ -408,7 +408,10 @@ static void laptop_begin(struct laptop *laptop)
     laptop_save(laptop);
 }
 
-/* Goes on from the file. Where there is none yet, and not where one was lost, it begins an empty sheet. */
+/*
+ * Goes on from the file. Where there is none yet, and not where one was lost, it begins an empty sheet. A file that is
+ * refused was damaged, or another program wrote it: with 16 it is one that no typing leaves.
+ */
 static void laptop_load(struct laptop *laptop)
 {
     if (access(laptop->anew_file, F_OK) == 0) {
@@ -422,15 +425,17 @@ static void laptop_load(struct laptop *laptop)
         laptop_begin(laptop);
         return;
     }
-    laptop->length = fread(laptop->sheet, 1, sizeof laptop->sheet, file);
-    laptop->saved = 1;
+    size_t length = fread(laptop->after, 1, sizeof laptop->after, file);
     if (ferror(file) || fclose(file) != 0)
         laptop_die(laptop->file);
-    if (wimtaze_word(wimtaze_counts(laptop->sheet, laptop->length)) != WIMTAZE_DONE ||
-        laptop_field(laptop->sheet, 1) != laptop->number) {
-        fprintf(stderr, "%s: not the sheet of laptop %u\n", laptop->file, laptop->number);
+    uint64_t reply = wimtaze_load(laptop->after, length, laptop->sheet, sizeof laptop->sheet);
+    if (wimtaze_word(reply) != WIMTAZE_DONE || laptop_field(laptop->sheet, 1) != laptop->number) {
+        fprintf(stderr, "%s: not the sheet of laptop %u (%d)\n", laptop->file, laptop->number,
+                (int)wimtaze_refusal(reply));
         exit(EXIT_FAILURE);
     }
+    laptop->length = wimtaze_written(reply);
+    laptop->saved = laptop->length == length && memcmp(laptop->sheet, laptop->after, length) == 0;
     laptop_fill_outbox(laptop);
 }
 
