@@ -1,6 +1,7 @@
 //! Times the C calls of the static library, saved sheets in and out, against the same calls of the plain Rust in
-//! tests/native/reference.rs; and pasting against typing through the library, building against receiving, and both
-//! against the Rust with a table in tabled.rs. Both sides leave the same bytes, which is checked on the way.
+//! tests/native/reference.rs; and pasting against typing through the library, building against receiving, and these
+//! two and loading against the Rust with a table in tabled.rs. Both sides leave the same bytes, which is checked on the
+//! way.
 
 #[path = "../tests/native/library.rs"]
 #[allow(dead_code)]
@@ -13,9 +14,10 @@ mod table;
 #[allow(dead_code)]
 mod tabled;
 
-use library::{wimtaze_build, wimtaze_erase, wimtaze_paste, wimtaze_receive, wimtaze_text, wimtaze_type};
+use library::{wimtaze_build, wimtaze_erase, wimtaze_load, wimtaze_paste, wimtaze_receive, wimtaze_text, wimtaze_type};
 use reference::{
-    erase_call, operation_line, read_heap, read_sheet, receive_call, sheet_bytes, text_call, type_call, Outcome, Reply,
+    erase_call, operation_line, read_heap, read_numbers, read_sheet, receive_call, sheet_bytes, text_call, type_call,
+    Form, Outcome, Reply,
 };
 use tabled::Tabled;
 
@@ -195,6 +197,54 @@ fn built_tabled(heap: &[u8], times: usize) -> Left {
     left
 }
 
+/// The sheet, loaded for use so many times.
+fn loaded(from: &[u8], times: usize) -> Left {
+    let (mut left, mut sheet) = (empty(2), [0u8; SHEET]);
+    for _ in 0..times {
+        let r = unsafe { wimtaze_load(from.as_ptr(), from.len(), sheet.as_mut_ptr(), SHEET) };
+        left.keep_written(r, &sheet, &[]);
+    }
+    left
+}
+
+fn loaded_tabled(from: &[u8], times: usize) -> Left {
+    let mut left = empty(2);
+    for _ in 0..times {
+        let sheet = Tabled::of(read_numbers(from, Form::Second).unwrap());
+        sheet.load().unwrap_or_else(|n| panic!("refused with {n}"));
+        left.sheet = sheet_bytes(&sheet.sheet());
+    }
+    left
+}
+
+type Row = ((u64, u64), (u64, u64), (u64, u64));
+
+/// The sheet of laptop 2 with these rows.
+fn sheet_of(rows: impl Iterator<Item = Row>) -> Vec<u8> {
+    let numbers = |((l, c), (pl, pc), (nl, nc)): Row| format!("C\t{l}\t{c}\t97\t0\t{pl}\t{pc}\t{nl}\t{nc}\n");
+    let rows: String = rows.map(numbers).collect();
+    [b"S2\t2\t65535\n", rows.as_bytes()].concat()
+}
+
+/// All rows between the marks: any two are a pair to be compared.
+fn between_the_marks(ids: &[(u64, u64)]) -> Vec<u8> {
+    sheet_of(ids.iter().map(|id| (*id, (0, 0), (0, 1))))
+}
+
+/// The sheet that takes longest, of those that we found, with these identifiers from the lowest. Each row of the upper
+/// half has as its next the one that is as far from the bottom, and that has as its previous the row below the first. So
+/// the rows can be taken away from the middle only, one in each pass, and most pairs are to be compared as well.
+fn crosswise(mut ids: Vec<(u64, u64)>) -> Vec<u8> {
+    ids.sort();
+    let (last, half) = (ids.len() - 1, ids.len() / 2);
+    let row = |k: usize| match k {
+        _ if k < half => (ids[k], (0, 0), ids[last - k]),
+        _ if k == half => (ids[k], (0, 0), (0, 1)),
+        _ => (ids[k], ids[last - k + 1], (0, 1)),
+    };
+    sheet_of((0..ids.len()).map(row))
+}
+
 /// 1,024 inserts of sixteen laptops in turn, each after the one before, and an `E` line for each.
 fn joined_late() -> Vec<Vec<u8>> {
     let ids: Vec<_> = (0..COUNT).map(|k| (k % 16 + 1, k / 16 + 1)).collect();
@@ -288,4 +338,14 @@ fn main() {
     }
     let enemy = enemys_heap(colliding(COUNT as usize));
     table::alone("the same, its identifiers all of one chain", &|| built(&enemy, 1).sum());
+    let sheets = [
+        ("10 times wimtaze_load, of 1,024 rows typed", full.sheet),
+        ("the same of those that were built", built(&lines.concat(), 1).sheet),
+        ("the same with all rows between the marks", between_the_marks(&rising())),
+        ("the same of the slowest sheet that we found", crosswise(rising())),
+        ("the same, its identifiers all of one chain", crosswise(colliding(COUNT as usize))),
+    ];
+    for (name, sheet) in &sheets {
+        table::row(name, &|| loaded_tabled(sheet, 10).sum(), &|| loaded(sheet, 10).sum());
+    }
 }

@@ -1,5 +1,5 @@
-//! Receiving, pasting and building with a table, as a Rust programmer would write them for speed: the checks of
-//! documents 01 and 02 at each call, the form and the table among them, rows found through the chains of a table that is
+//! Receiving, pasting, building and loading with a table, as a Rust programmer would write them for speed: the checks
+//! of documents 01 and 02 at each call, the form and the table among them, rows found through the chains of a table that is
 //! kept beside them and made anew after an insert, the sheet changed in place.
 
 use crate::reference::{is_code_point, read_block, Id, Insert, Operation, Reply, Row, Sheet, Turn, BEGIN, END};
@@ -65,6 +65,27 @@ fn turn_of(o: &Operation) -> Option<&Turn> {
         Operation::Turn(t) => Some(t),
         Operation::Insert(_) => None,
     }
+}
+
+/// Whether every row can be taken away, each after both of its neighbours, whose places these are: in passes down and
+/// up, until one takes none.
+fn acyclic(above: &[usize], below: &[usize]) -> bool {
+    let n = above.len();
+    let (mut taken, mut left) = (vec![false; n + 2], n);
+    (taken[0], taken[n + 1]) = (true, true);
+    while left > 0 {
+        let before = left;
+        for k in (0..n).chain((0..n).rev()) {
+            if !taken[k + 1] && taken[above[k]] && taken[below[k]] {
+                taken[k + 1] = true;
+                left -= 1;
+            }
+        }
+        if left == before {
+            return false;
+        }
+    }
+    true
 }
 
 impl Tabled {
@@ -349,6 +370,23 @@ impl Tabled {
             sheet.hear(i);
         }
         Ok((sheet, left_out))
+    }
+
+    /// Whether any two rows that stand between each other's neighbours are in the order of identifiers.
+    fn pairs_ordered(&self, above: &[usize], below: &[usize]) -> bool {
+        let id = |k: usize| self.rows[k].insert.id;
+        let ordered = |j: usize, k: usize| k + 1 >= below[j] || id(j) < id(k);
+        above.iter().enumerate().all(|(k, from)| (*from..k).all(|j| ordered(j, k)))
+    }
+
+    /// Loading for use, of a sheet that was read: refusal 3 or 16, or none.
+    pub fn load(&self) -> Result<(), u8> {
+        if !self.in_form() {
+            return Err(3);
+        }
+        let places = |of: fn(&Insert) -> Id| self.rows.iter().map(|r| self.place(of(&r.insert)).unwrap()).collect();
+        let (above, below): (Vec<usize>, Vec<usize>) = (places(|i| i.previous), places(|i| i.next));
+        if self.pairs_ordered(&above, &below) && acyclic(&above, &below) { Ok(()) } else { Err(16) }
     }
 
     pub fn receive(&mut self, o: &Operation) -> Reply {

@@ -706,8 +706,9 @@ pub fn read_heap(bytes: &[u8]) -> Option<(Vec<Operation>, bool)> {
     Some((read.iter().flatten().copied().collect(), read.iter().all(Option::is_some)))
 }
 
-/// A saved sheet: refusals 1, 2 and 3 over the whole of it, in this order. Loading raises a clock that is too low.
-pub fn read_saved(bytes: &[u8], form: Form) -> Result<Sheet, u8> {
+/// A saved sheet whose form is not looked at: refusals 1 and 2 over the whole of it, in this order. Loading raises a
+/// clock that is too low.
+pub fn read_numbers(bytes: &[u8], form: Form) -> Result<Sheet, u8> {
     if bytes.last() != Some(&b'\n') {
         return Err(1);
     }
@@ -739,10 +740,13 @@ pub fn read_saved(bytes: &[u8], form: Form) -> Result<Sheet, u8> {
         return Err(2);
     }
     sheet.hear_all();
-    if !sheet.in_form() {
-        return Err(3);
-    }
     Ok(sheet)
+}
+
+/// A saved sheet: refusal 3 after these.
+pub fn read_saved(bytes: &[u8], form: Form) -> Result<Sheet, u8> {
+    let sheet = read_numbers(bytes, form)?;
+    if sheet.in_form() { Ok(sheet) } else { Err(3) }
 }
 
 pub fn read_sheet(bytes: &[u8]) -> Result<Sheet, u8> {
