@@ -1,7 +1,8 @@
 /*
  * The sheets of archive/, which version 0.4.0 saved in the first form, on the way forward and back. What the way
- * forward writes is read by the other calls and shows what 0.4.0 showed; the way back gives the file again, byte for
- * byte. A file whose clock was lowered comes back with the clock that it had, and else as it was handed over.
+ * forward writes is read by the other calls, is loaded for use as it is, and shows what 0.4.0 showed; the way back
+ * gives the file again, byte for byte. A file whose clock was lowered comes back with the clock that it had, and else
+ * as it was handed over.
  *
  *     archive DIRECTORY
  */
@@ -97,6 +98,10 @@ static void go(const char *directory, size_t k)
     check(trip(file, length, &reached) == length && memcmp(back, file, length) == 0, name, "back it is the file");
     check(shows(reached, sheets[k].text, sheets[k].times), name, "forward it shows the text");
     uint64_t counts = wimtaze_counts(sheet, reached);
+    uint64_t loaded = wimtaze_load(sheet, reached, forward, sizeof forward);
+    check(wimtaze_word(loaded) == WIMTAZE_DONE && wimtaze_written(loaded) == reached &&
+              memcmp(forward, sheet, reached) == 0,
+          name, "forward it is loaded as it is");
     check(wimtaze_word(counts) == WIMTAZE_DONE && wimtaze_shown_count(counts) == sheets[k].shown &&
               wimtaze_waiting_count(counts) == sheets[k].waiting &&
               wimtaze_character_count(counts) == sheets[k].characters && wimtaze_room(counts) == sheets[k].room,

@@ -5,7 +5,7 @@
  * edit of its own, the character on the left of the cursor must be the one that was there, or, if it is hidden, the
  * nearest shown one above it. Both are looked up by identifier in the rows of the saved sheets, and the shift has no
  * say in that. At the end, when all have everything, the sheet that is built of all lines at once must be the one that
- * each has. The first run where that is not so is the last.
+ * each has, and each is loaded for use as it is. The first run where that is not so is the last.
  *
  *     editor [RUNS [SEED]]
  */
@@ -539,6 +539,14 @@ static int is_built(unsigned number)
            memcmp(after, laptops[number].sheet, laptops[number].length) == 0;
 }
 
+/* Whether the laptop's sheet is loaded for use as it is. */
+static int is_loaded(const struct laptop *laptop)
+{
+    uint64_t reply = wimtaze_load(laptop->sheet, laptop->length, after, sizeof after);
+    return wimtaze_word(reply) == WIMTAZE_DONE && wimtaze_written(reply) == laptop->length &&
+           memcmp(after, laptop->sheet, laptop->length) == 0;
+}
+
 /* All that was lost comes, in any order, until every laptop has everything; then all show the same. */
 static void mend(void)
 {
@@ -559,6 +567,7 @@ static void mend(void)
         }
         check(n == length && memcmp(text, other, n) == 0, "all show the same");
         check(is_built(number), "building gives the same sheet");
+        check(is_loaded(laptop), "loading gives the same sheet");
     }
 }
 

@@ -1,7 +1,8 @@
 /*
  * How much stack the calls take: every call of the library in a thread whose stack was painted before, on an empty
  * sheet, on a full one and on one where a line or a block releases the edits that wait for it, on heaps of every kind
- * and on sheets that other programs write. It must not be more than the header says, below the frame that the calls are made from.
+ * and on sheets that other programs write. It must not be more than the header says, below the frame that the calls are
+ * made from.
  */
 #include "wimtaze.h"
 
