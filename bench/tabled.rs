@@ -75,12 +75,12 @@ fn acyclic(above: &[usize], below: &[usize]) -> bool {
     (taken[0], taken[n + 1]) = (true, true);
     while left > 0 {
         let before = left;
-        for k in (0..n).chain((0..n).rev()) {
+        (0..n).chain((0..n).rev()).for_each(|k| {
             if !taken[k + 1] && taken[above[k]] && taken[below[k]] {
                 taken[k + 1] = true;
                 left -= 1;
             }
-        }
+        });
         if left == before {
             return false;
         }

@@ -77,6 +77,7 @@
  *         no acknowledgement, sends it again. If wimtaze_counts refuses the sheet too, the file is damaged: rule 1; or
  *         it is, with 1, in the first form: wimtaze_upgrade takes it. Typing, and 2: what was given is no code point.
  *         Restoring, and 2: what was given is no identifier. Upgrading: the file is damaged, or it is, with 1, not in
+ *         the first form. Loading: the file is damaged, or another program wrote it, and wrongly; or it is, with 1, in
  *         the first form. Building: some line of the heap was damaged, and is refused as a heap by itself too: drop it,
  *         and get it again; or, with 2, the number is not 1 to 16.
  *   3     The file is damaged: rule 1; or another program wrote it, and wrongly.
