@@ -203,13 +203,17 @@ pub fn gather(bytes: &[u8], inserts: &mut [u32], toggles: &mut [u32]) -> Gathere
     at
 }
 
-// Moves the insert in one slot into another. A step of the calls and not a call: they have such slots.
+// Moves the insert in one slot into another, which may be the same: most that stay behind are in their slot already. A
+// step of the calls and not a call: they have such slots.
 pub fn move_insert(inserts: &mut [u32], from: usize, to: usize)
     requires { ⌜ length (now inserts) ≡ characterNumbers ⌝ }
     requires { ⌜ from < characterSlots ⌝ }
     requires { ⌜ to < characterSlots ⌝ }
     ensures { λ _. ⌜ Moved (now (inserts .entry)) from to (now (inserts .exit)) ⌝ }
 {
+    if from == to {
+        return;
+    }
     let id = inserts[from];
     let previous = inserts[PREVIOUS_KEYS + from];
     let next = inserts[NEXT_KEYS + from];
