@@ -29,10 +29,12 @@ ghost use Rattle.woot.specs.Operations.{sameToggle};
 ghost use Rattle.woot.specs.Placing.{held};
 ghost use Rattle.woot.specs.Table.{keys};
 ghost use Rattle.woot.specs.declared.Character.{Character};
-ghost use Rattle.woot.specs.Memory.{characterNumbers, characterSlots, keyColumn};
+ghost use Rattle.woot.specs.Memory.{characterNumbers, characterSlots, keyColumn, previousColumn, nextColumn};
+ghost use Rattle.woot.specs.Memory.{previousKeys, nextKeys};
 ghost use Rattle.convergence.specs.Passes.{pass, passes, toggledAll, absentees};
 ghost use Rattle.index.specs.Keys.{AllSmall};
 ghost use Rattle.index.specs.Tabled.{Tabled};
+ghost use Rattle.integration.specs.Placements.{placementOf};
 ghost use Rattle.heap.specs.Columns.{toggleNumbers};
 ghost use Rattle.building.specs.Calls.{builtBy};
 ghost use Rattle.building.specs.Assembly.{judged, Assembles, assembled, Gathers, outcomeOf, returned};
@@ -69,6 +71,31 @@ pub struct Passed {
     pub left: usize,
 }
 
+// Where an insert goes among the first n characters. Its previous is looked up before anything else: in a heap that comes
+// in no useful order most inserts are offered too early, and it is what most of these lack.
+fn place_for<'a>(
+    heads: &'a [u16],
+    links: &'a [u16],
+    characters: &'a [u32],
+    n: usize,
+    insert: Insert,
+) -> Placement
+    requires { ⌜ n ≤ characterSlots ⌝ }
+    requires { ⌜ length (now characters) ≡ characterNumbers ⌝ }
+    requires { ⌜ Tabled (record { heads = now heads; links = now links }) (take n (keyColumn (now characters))) ⌝ }
+    ensures { λ r. ⌜ ((cs : List Character)
+        → take n (keyColumn (now (characters .entry))) ≡ keys cs
+        → take n (previousColumn (now (characters .entry))) ≡ previousKeys cs
+        → take n (nextColumn (now (characters .entry))) ≡ nextKeys cs → AllSmall cs
+        → r ≡ placementOf cs insert) ⌝ }
+{
+    let previous = insert.previous;
+    if ready::is_held(heads, links, &characters[..n], index::key(previous)) {
+        return delivery::find_place(heads, links, characters, n, insert);
+    }
+    Placement::Missing
+}
+
 // Places one insert among the first n characters, where it can be.
 fn take_in(
     characters: &mut [u32],
@@ -86,7 +113,7 @@ fn take_in(
         → TakenAs (t .characters) insert (now (characters .exit)) (now (toggles .exit)) n (now (heads .exit))
         (now (links .exit)) r) ⌝ }
 {
-    let placement = delivery::find_place(heads, links, characters, n, insert);
+    let placement = place_for(heads, links, characters, n, insert);
     match placement {
         Placement::Below(k) => {
             characters::put_in(characters, toggles, heads, links, n, k, insert);

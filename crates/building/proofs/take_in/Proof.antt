@@ -5,8 +5,8 @@ use borrow.Author.Needs.{needs}
 use Rattle.building.proofs.take_in.Statement.{statement}
 use Rattle.building.proofs.take_in.Tie as tie
 
-find-place-requires : tie.Need-find-place-requires
-find-place-requires c κs =
+place-for-requires : tie.Need-place-for-requires
+place-for-requires c κs =
     let s = c .before .before .before .before .before .before .before in
     let l = s .pre .1 .1 .laid in
     (laid-count l, (s .pre .0, laid-tabled l))
@@ -17,7 +17,7 @@ put-in-requires c κs =
     let s = f .before .before .before .before .before .before .before .before in
     let l = s .pre .1 .1 .laid in
     let z = laid-slots l in
-    let k = below-within (s .args .characters .now) l _ _ (f .find-place .ensures) _ (c .before .before .before .before .before .placement .given .1) in
+    let k = below-within (s .args .characters .now) l _ _ (f .place-for .ensures) _ (c .before .before .before .before .before .placement .given .1) in
     (k, (s .pre .1 .0, (s .pre .0, (z .toggles, (z .heads, z .links)))))
 
 returns : tie.Need-returns
@@ -26,25 +26,25 @@ returns c t =
     let f = p .before .before .before .before .before .before .before .before in
     let s = f .before .before .before .before .before .before .before .before in
     let e = p .put-in .ensures in
-    taken-placed (s .args .characters .now) (t .laid) _ _ (f .find-place .ensures) _ (p .before .before .before .before .before .before .placement .given .1) (s .pre .1 .0)
+    taken-placed (s .args .characters .now) (t .laid) _ _ (f .place-for .ensures) _ (p .before .before .before .before .before .before .placement .given .1) (s .pre .1 .0)
     (p .put-in .last .0) (e .0) (e .1 .0) (e .1 .1 .0) (e .1 .1 .1 .0) (e .1 .1 .1 .1 .0) (e .1 .1 .1 .1 .1)
 
 returns-2 : tie.Need-returns-2
 returns-2 c t =
-    taken-lacking (c .before .before .before .before .before .before .before .before .before .before .args .characters .now) (t .laid) _ _ (c .before .before .find-place .ensures) (c .enum-told .given .1)
+    taken-lacking (c .before .before .before .before .before .before .before .before .before .before .args .characters .now) (t .laid) _ _ (c .before .before .place-for .ensures) (c .enum-told .given .1)
 
 returns-3 : tie.Need-returns-3
 returns-3 c t =
-    taken-crossed (c .before .before .before .before .before .before .before .before .before .before .args .characters .now) (t .laid) _ _ (c .before .before .find-place .ensures) (c .enum-told2 .given .1)
+    taken-crossed (c .before .before .before .before .before .before .before .before .before .before .args .characters .now) (t .laid) _ _ (c .before .before .place-for .ensures) (c .enum-told2 .given .1)
 
 returns-4 : tie.Need-returns-4
 returns-4 c t =
-    taken-unplaceable (c .before .before .before .before .before .before .before .before .before .before .args .characters .now) (t .laid) _ _ (c .before .before .find-place .ensures) (c .enum-told3 .given .1)
+    taken-unplaceable (c .before .before .before .before .before .before .before .before .before .before .args .characters .now) (t .laid) _ _ (c .before .before .place-for .ensures) (c .enum-told3 .given .1)
 
 pub take-in-spec : {M : Type 1} → statement M
 take-in-spec =
     tie.close
-    (tie.spec find-place-requires (λ c. search needs) put-in-requires (λ c. search needs) (λ c. search needs)
+    (tie.spec place-for-requires (λ c. search needs) put-in-requires (λ c. search needs) (λ c. search needs)
     (λ c. search needs) (λ c. search needs) (λ c. search needs) (λ c. search needs) (λ c. search needs) returns
     (λ c. search needs) (λ c. search needs) (λ c. search needs) returns-2 (λ c. search needs) (λ c. search needs)
     (λ c. search needs) returns-3 (λ c. search needs) (λ c. search needs) (λ c. search needs) returns-4)
