@@ -71,8 +71,8 @@ pub struct Passed {
     pub left: usize,
 }
 
-// Where an insert goes among the first n characters. Its previous is looked up before anything else: in a heap that comes
-// in no useful order most inserts are offered too early, and it is what most of these lack.
+// Where an insert goes among the first n characters. Its previous is looked up before anything else: in a heap that
+// comes in no useful order most inserts are offered too early, and it is what most of these lack.
 fn place_for<'a>(
     heads: &'a [u16],
     links: &'a [u16],

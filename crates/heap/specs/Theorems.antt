@@ -26,8 +26,8 @@ HeapReadsBack =
 
 -- ---- some heaps
 
--- an insert, a `D`, which "is read as turn 1", and an `E` are read in their order; no bytes at all are a heap of nothing;
--- an empty line, a last line without its line feed and another letter lack the layout
+-- an insert, a `D`, which "is read as turn 1", and an `E` are read in their order; no bytes at all are a heap of
+-- nothing; an empty line, a last line without its line feed and another letter lack the layout
 abbrev pub HeapExamples : Type 0
 HeapExamples =
     ((heapLaidOut (exampleInsertBytes ++ (exampleDeleteBytes ++ exampleToggleBytes)) ≡ true)

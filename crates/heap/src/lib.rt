@@ -176,6 +176,7 @@ fn gather_line(line: &[u8], inserts: &mut [u32], toggles: &mut [u32], at: Gather
 
 // Reads a heap, however long it is: each line once, inserts and toggles into their arrays as far as these have slots. A
 // line that is out of range, or has no slot left, does not end the reading: a fault of the layout after it comes first.
+// A step of the calls and not a call: they lend arrays of these sizes.
 pub fn gather(bytes: &[u8], inserts: &mut [u32], toggles: &mut [u32]) -> Gathered
     requires { ⌜ length (now inserts) ≡ characterNumbers ⌝ }
     requires { ⌜ length (now toggles) ≡ toggleNumbers ⌝ }
