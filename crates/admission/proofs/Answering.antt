@@ -1,11 +1,11 @@
 -- What loading for use answers, by whether the replica is in form and its characters are loadable.
 use mathlib.Core.Path.{_≡_, sym, ap}
 use mathlib.Core.Bool.{Bool, true, false}
-use Rattle.woot.specs.declared.Refusal.the-variants.{Form, Unreachable}
-use Rattle.woot.specs.declared.Answer.{Answer}
-use Rattle.woot.specs.declared.Answer.the-variants.{Done, Refused}
+use Rattle.answers.specs.declared.Refusal.the-variants.{Form, Unreachable}
+use Rattle.answers.specs.declared.Answer.{Answer}
+use Rattle.answers.specs.declared.Answer.the-variants.{Done, Refused}
 use Rattle.woot.specs.declared.Replica.{Replica}
-use Rattle.woot.specs.Answers.{decided}
+use Rattle.answers.specs.Answers.{decided}
 use Rattle.woot.specs.State.{State, initial}
 use Rattle.woot.specs.Loading.{loadable, useChecks, unused, useWhen}
 use Rattle.woot.specs.Memory.{meaning, stored, replicaWellFormed}

@@ -5,11 +5,11 @@ use mathlib.Core.Path.{_≡_, sym, ap, _∙_}
 use mathlib.Core.Bool.{Bool, true, false}
 use mathlib.Core.Logic.{_⊎_, inl, inr}
 use Rattle.lists.proofs.Tests.{either}
-use Rattle.woot.specs.declared.Refusal.the-variants.{Form, Unreachable}
-use Rattle.woot.specs.declared.Answer.{Answer}
-use Rattle.woot.specs.declared.Answer.the-variants.{Done, Refused}
+use Rattle.answers.specs.declared.Refusal.the-variants.{Form, Unreachable}
+use Rattle.answers.specs.declared.Answer.{Answer}
+use Rattle.answers.specs.declared.Answer.the-variants.{Done, Refused}
 use Rattle.woot.specs.declared.Replica.{Replica}
-use Rattle.woot.specs.Answers.{reply}
+use Rattle.answers.specs.Answers.{reply}
 use Rattle.woot.specs.Loading.{loadable}
 use Rattle.woot.specs.Memory.{meaning, replicaWellFormed}
 use Rattle.convergence.proofs.Replies.{never-refused}

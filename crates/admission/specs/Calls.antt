@@ -1,7 +1,7 @@
 -- Document 02, Req 07, on replicas as they lie in memory: the rule applied to their meaning, and what comes back.
 use Rattle.woot.specs.declared.Replica.{Replica}
-use Rattle.woot.specs.declared.Answer.{Answer}
-use Rattle.woot.specs.declared.Answer.the-variants.{Done, Deferred, Duplicate, Refused}
+use Rattle.answers.specs.declared.Answer.{Answer}
+use Rattle.answers.specs.declared.Answer.the-variants.{Done, Deferred, Duplicate, Refused}
 use Rattle.woot.specs.State.{initial}
 use Rattle.woot.specs.Memory.{meaning, stored, replicaWellFormed}
 use Rattle.woot.specs.Loading.{useWhen}

@@ -4,12 +4,12 @@ pub mod cycles;
 pub mod pairs;
 pub mod places;
 
-use woot::Answer;
+use answers::Answer;
+use answers::Refusal;
 use woot::CHARACTERS;
 use woot::CODE_POINTS;
 use woot::NEXT_KEYS;
 use woot::PREVIOUS_KEYS;
-use woot::Refusal;
 use woot::Replica;
 ghost use mathlib.Core.Path.{_≡_};
 ghost use mathlib.Core.List.{List};

@@ -19,9 +19,9 @@ use Rattle.woot.specs.declared.Operation.the-variants.{Insert as insert, Toggle
 use Rattle.woot.specs.declared.Character.{Character}
 use Rattle.woot.specs.declared.Replica.{Replica}
 use Rattle.woot.specs.declared.Document.{Document}
-use Rattle.woot.specs.declared.Refusal.the-variants.{Conflict}
-use Rattle.woot.specs.declared.Answer.the-variants.{Done, Refused}
-use Rattle.woot.specs.Answers.{decided}
+use Rattle.answers.specs.declared.Refusal.the-variants.{Conflict}
+use Rattle.answers.specs.declared.Answer.the-variants.{Done, Refused}
+use Rattle.answers.specs.Answers.{decided}
 use Rattle.woot.specs.Clock.{heard, heardAll}
 use Rattle.woot.specs.Operations.{inserts, togglesAmong}
 use Rattle.woot.specs.Ranges.{insertInRange, toggleInRange, inRange}

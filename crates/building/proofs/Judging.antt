@@ -11,10 +11,10 @@ use lib.Seq.{take-all}
 use Rattle.lists.specs.Lists.{every}
 use Rattle.lists.proofs.Tests.{and-left, and-right, or-false-left, or-false-right}
 use Rattle.woot.specs.declared.Operation.{Operation}
-use Rattle.woot.specs.declared.Answer.the-variants.{Refused}
+use Rattle.answers.specs.declared.Answer.the-variants.{Refused}
 use Rattle.woot.specs.Operations.{inserts, togglesAmong}
 use Rattle.woot.specs.Ranges.{siteNumber, inRange}
-use Rattle.woot.specs.Answers.{decided}
+use Rattle.answers.specs.Answers.{decided}
 use Rattle.woot.specs.Building.{unbuilt, heapFull, buildChecks, build}
 use Rattle.convergence.proofs.Ranges.{within-high}
 use Rattle.heap.specs.Format.{heapLaidOut, heapSaid}

@@ -5,13 +5,13 @@ use mathlib.Core.Path.{_≡_, refl, ap, sym, subst, _∙_}
 use mathlib.Core.Bool.{Bool, true, false}
 use mathlib.Core.List.{List, [], _∷_, map}
 use Rattle.woot.specs.declared.Operation.{Operation}
-use Rattle.woot.specs.declared.Refusal.the-variants.{Layout}
-use Rattle.woot.specs.declared.Answer.the-variants.{Refused}
+use Rattle.answers.specs.declared.Refusal.the-variants.{Layout}
+use Rattle.answers.specs.declared.Answer.the-variants.{Refused}
 use Rattle.woot.specs.declared.Replica.{Replica}
 use Rattle.woot.specs.State.{State, initial}
 use Rattle.woot.specs.Calls.{receive}
 use Rattle.woot.specs.Memory.{meaning, stored, replicaWellFormed}
-use Rattle.woot.specs.Answers.{decided, done, reply}
+use Rattle.answers.specs.Answers.{decided, done, reply}
 use Rattle.woot.specs.Histories.{empty, heaped, startOf, receiving, outcome, run}
 use Rattle.woot.specs.Building.{unbuilt, build}
 use Rattle.convergence.specs.Building.{received}

@@ -10,12 +10,12 @@ use Rattle.woot.specs.declared.Site.{Site}
 use Rattle.woot.specs.declared.Insert.{Insert}
 use Rattle.woot.specs.declared.Toggle.{Toggle}
 use Rattle.woot.specs.declared.Operation.{Operation}
-use Rattle.woot.specs.declared.Refusal.the-variants.{Layout, Range, HeapFull, Conflict}
-use Rattle.woot.specs.declared.Answer.the-variants.{Done, Refused}
+use Rattle.answers.specs.declared.Refusal.the-variants.{Layout, Range, HeapFull, Conflict}
+use Rattle.answers.specs.declared.Answer.the-variants.{Done, Refused}
 use Rattle.woot.specs.Limits.{capacity}
 use Rattle.woot.specs.Operations.{inserts, togglesAmong}
 use Rattle.woot.specs.Ranges.{siteNumber, inRange}
-use Rattle.woot.specs.Answers.{_⇒_, first, decided}
+use Rattle.answers.specs.Answers.{_⇒_, first, decided}
 use Rattle.woot.specs.Memory.{stored}
 use Rattle.woot.specs.Building.{BuildOutcome, unbuilt, building, leftOut, built, disagreeing}
 use Rattle.convergence.specs.Passes.{placed, toggledAll, absentees}

@@ -3,9 +3,9 @@
 use Prim.Native.Nat.{ℕ}
 use mathlib.Core.Bool.{not}
 use mathlib.Core.List.{List, [], _∷_}
-use Rattle.woot.specs.declared.Refusal.the-variants.{Layout}
-use Rattle.woot.specs.declared.Answer.the-variants.{Refused}
-use Rattle.woot.specs.Answers.{_⇒_, first, decided}
+use Rattle.answers.specs.declared.Refusal.the-variants.{Layout}
+use Rattle.answers.specs.declared.Answer.the-variants.{Refused}
+use Rattle.answers.specs.Answers.{_⇒_, first, decided}
 use Rattle.woot.specs.Memory.{stored}
 use Rattle.woot.specs.Building.{BuildOutcome, unbuilt, build}
 use Rattle.heap.specs.Format.{heapLaidOut, heapSaid}

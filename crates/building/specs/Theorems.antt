@@ -5,12 +5,12 @@ use mathlib.Core.Path.{_≡_}
 use mathlib.Core.Bool.{true}
 use mathlib.Core.List.{List, map}
 use Rattle.woot.specs.declared.Operation.{Operation}
-use Rattle.woot.specs.declared.Refusal.{Refusal}
-use Rattle.woot.specs.declared.Answer.the-variants.{Refused}
+use Rattle.answers.specs.declared.Refusal.{Refusal}
+use Rattle.answers.specs.declared.Answer.the-variants.{Refused}
 use Rattle.woot.specs.State.{initial}
 use Rattle.woot.specs.Ranges.{siteNumber}
 use Rattle.woot.specs.Memory.{meaning, stored, replicaWellFormed}
-use Rattle.woot.specs.Answers.{done, reply}
+use Rattle.answers.specs.Answers.{done, reply}
 use Rattle.woot.specs.Histories.{heaped, startOf, receiving}
 use Rattle.convergence.specs.Building.{eachReady, FromHeap, AllOfHeap}
 use Rattle.replica.specs.Theorems.{ran}

@@ -1,18 +1,18 @@
 // Building the document of a heap of operations: its inserts are placed in passes over those that are left, then its
 // toggles are carried out, and what is left out is counted. (Document 02, Req 08.)
+use answers::Answer;
+use answers::Refusal;
 use heap::Gathered;
 use heap::STAMPS;
 use heap::TOGGLE_NUMBERS;
 use integration::Placement;
 use pending::ready;
-use woot::Answer;
 use woot::CHAINS;
 use woot::CHARACTER_NUMBERS;
 use woot::CHARACTERS;
 use woot::Document;
 use woot::Insert;
 use woot::LINKS;
-use woot::Refusal;
 use woot::Replica;
 use woot::Site;
 use woot::Table;

@@ -20,7 +20,8 @@ use Rattle.woot.specs.Operations.{inserts}
 use Rattle.woot.specs.Ranges.{inRange}
 use Rattle.woot.specs.State.{State}
 use Rattle.woot.specs.Form.{presentInserts, wellFormed}
-use Rattle.woot.specs.Answers.{done, reply, sentOperation, NoneHolds}
+use Rattle.answers.specs.Answers.{done, reply, NoneHolds}
+use Rattle.woot.specs.Sending.{sentOperation}
 use Rattle.woot.specs.Calls.{generatedInsert, localInsert}
 use Rattle.woot.specs.Pasting.{orNothing, codePointsOf, overfull, pasteChecks, paste}
 use Rattle.convergence.specs.Pasting.{sentTyping}

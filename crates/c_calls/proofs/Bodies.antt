@@ -15,17 +15,18 @@ use Rattle.output.proofs.Laws.{placed-room}
 use Rattle.woot.specs.declared.Identifier.{Identifier}
 use Rattle.woot.specs.declared.Operation.{Operation}
 use Rattle.woot.specs.declared.Operation.the-variants.{Insert as insert, Toggle as toggle}
-use Rattle.woot.specs.declared.Refusal.{Refusal}
-use Rattle.woot.specs.declared.Refusal.the-variants.{Output}
-use Rattle.woot.specs.declared.Answer.{Answer}
-use Rattle.woot.specs.declared.Answer.the-variants.{Done, Deferred, Duplicate, Refused}
+use Rattle.answers.specs.declared.Refusal.{Refusal}
+use Rattle.answers.specs.declared.Refusal.the-variants.{Output}
+use Rattle.answers.specs.declared.Answer.{Answer}
+use Rattle.answers.specs.declared.Answer.the-variants.{Done, Deferred, Duplicate, Refused}
 use Rattle.woot.specs.declared.Sent.{Sent}
 use Rattle.woot.specs.declared.Sent.the-variants.{Done as sentDone, Refused as sentRefused}
 use Rattle.woot.specs.Ranges.{codePoint, characterId, inRange}
 use Rattle.woot.specs.State.{State, initial}
 use Rattle.woot.specs.Form.{wellFormed}
 use Rattle.woot.specs.Pending.{executable}
-use Rattle.woot.specs.Answers.{changes, answerOf, Check, _⇒_, first, decided, NoneHolds}
+use Rattle.answers.specs.Answers.{changes, Check, _⇒_, first, decided, NoneHolds}
+use Rattle.woot.specs.Sending.{answerOf}
 use Rattle.woot.specs.Pasting.{unpasted, pasteChecks, pasteWhen, paste}
 use Rattle.lines.specs.Lines.{concatenated}
 use Rattle.convergence.proofs.Pasting.{paste-nothing}

@@ -15,10 +15,10 @@ use Rattle.woot.specs.declared.Operation.{Operation}
 use Rattle.woot.specs.declared.Operation.the-variants.{Insert as insert}
 use Rattle.woot.specs.declared.Character.{Character}
 use Rattle.woot.specs.declared.Replica.{Replica}
-use Rattle.woot.specs.declared.Refusal.{Refusal}
-use Rattle.woot.specs.declared.Refusal.the-variants.{NotUtf8, Form}
-use Rattle.woot.specs.declared.Answer.{Answer}
-use Rattle.woot.specs.declared.Answer.the-variants.{Done, Deferred, Duplicate, Refused}
+use Rattle.answers.specs.declared.Refusal.{Refusal}
+use Rattle.answers.specs.declared.Refusal.the-variants.{NotUtf8, Form}
+use Rattle.answers.specs.declared.Answer.{Answer}
+use Rattle.answers.specs.declared.Answer.the-variants.{Done, Deferred, Duplicate, Refused}
 use Rattle.woot.specs.declared.Sent.{Sent}
 use Rattle.woot.specs.declared.Sent.the-variants.{Done as sentDone, Refused as sentRefused}
 use Rattle.woot.specs.declared.ReceiptAt.{ReceiptAt}
@@ -31,7 +31,8 @@ use Rattle.woot.specs.Memory.{characterSlots, characterNumbers, previousKeys, n
 use Rattle.woot.specs.Form.{wellFormed}
 use Rattle.woot.specs.declared.Written.{Written}
 use Rattle.woot.specs.declared.Written.the-variants.{Length, Refused as writtenRefused}
-use Rattle.woot.specs.Answers.{reply, changes, answerOf, Check, _⇒_, first, decided, NoneHolds}
+use Rattle.answers.specs.Answers.{reply, changes, Check, _⇒_, first, decided, NoneHolds}
+use Rattle.woot.specs.Sending.{answerOf}
 use Rattle.woot.specs.Writing.{writtenNumber, writtenLength}
 use Rattle.woot.specs.Calls.{Outcome, unchanged, insertChecks, localInsertWhen, localInsert, deleteChecks, localDeleteWhen, localDelete, restoreChecks, localRestoreWhen, localRestore}
 use Rattle.woot.specs.Cursor.{receiveAtChecks, receiveAtWhen, receiveAt, shiftOf, shiftAt}

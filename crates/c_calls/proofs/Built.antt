@@ -8,13 +8,13 @@ use mathlib.Core.List.{List, []}
 use lib.ListN.{length}
 use borrow.Author.Tests.{ltb-false, not-false}
 use Rattle.lists.proofs.Tests.{or-false-left}
-use Rattle.woot.specs.declared.Refusal.the-variants.{Layout}
-use Rattle.woot.specs.declared.Answer.the-variants.{Done, Deferred, Duplicate, Refused}
+use Rattle.answers.specs.declared.Refusal.the-variants.{Layout}
+use Rattle.answers.specs.declared.Answer.the-variants.{Done, Deferred, Duplicate, Refused}
 use Rattle.woot.specs.Ranges.{siteNumber}
 use Rattle.woot.specs.Form.{wellFormed}
 use Rattle.woot.specs.State.{State, initial}
 use Rattle.woot.specs.Pending.{drained, drainSteps, drain}
-use Rattle.woot.specs.Answers.{done, reply, changes, decided, NoneHolds}
+use Rattle.answers.specs.Answers.{done, reply, changes, decided, NoneHolds}
 use Rattle.woot.specs.Building.{once, building, leftOut, built, heapFull, disagreeing, buildChecks, BuildOutcome}
 use Rattle.woot.specs.Building.{unbuilt, build}
 use Rattle.woot.specs.Memory.{stored, replicaWellFormed}

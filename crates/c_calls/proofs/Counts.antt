@@ -13,16 +13,16 @@ use Rattle.woot.specs.declared.Identifier.{Identifier}
 use Rattle.woot.specs.declared.Insert.{Insert}
 use Rattle.woot.specs.declared.Operation.{Operation}
 use Rattle.woot.specs.declared.Operation.the-variants.{Insert as insert, Toggle as toggle}
-use Rattle.woot.specs.declared.Refusal.{Refusal}
-use Rattle.woot.specs.declared.Answer.{Answer}
-use Rattle.woot.specs.declared.Answer.the-variants.{Done, Deferred, Duplicate, Refused}
+use Rattle.answers.specs.declared.Refusal.{Refusal}
+use Rattle.answers.specs.declared.Answer.{Answer}
+use Rattle.answers.specs.declared.Answer.the-variants.{Done, Deferred, Duplicate, Refused}
 use Rattle.woot.specs.declared.Sent.{Sent}
 use Rattle.woot.specs.declared.Sent.the-variants.{Done as sentDone, Refused as sentRefused}
 use Rattle.woot.specs.Ranges.{codePoint, inRange}
 use Rattle.woot.specs.State.{State}
 use Rattle.woot.specs.Form.{wellFormed}
 use Rattle.woot.specs.Pending.{executable}
-use Rattle.woot.specs.Answers.{number, Check, first, NoneHolds, decided}
+use Rattle.answers.specs.Answers.{number, Check, first, NoneHolds, decided}
 use Rattle.woot.specs.Calls.{Outcome, unchanged, insertCarried, receiveChecks, carryOut, defer, accept, receiveWhen, receive, generatedInsert, insertChecks, sendInsert, localInsertWhen, localInsert, generatedDelete, deleteChecks, sendToggle, localDeleteWhen, localDelete, generatedToggle, restoreChecks, localRestoreWhen, localRestore}
 use Rattle.woot.specs.Cursor.{receiveAtChecks, receiveAtWhen, receiveAt}
 use Rattle.convergence.proofs.Forms.{formed}

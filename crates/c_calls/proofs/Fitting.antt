@@ -13,10 +13,10 @@ use Rattle.lists.proofs.Tests.{four, or-cases, or-false-left}
 use mathlib.Core.Logic.{⊎-elim}
 use Rattle.output.specs.Output.{placed}
 use Rattle.output.proofs.Laws.{placed-room}
-use Rattle.woot.specs.declared.Answer.{Answer}
-use Rattle.woot.specs.declared.Answer.the-variants.{Done, Deferred, Duplicate, Refused}
-use Rattle.woot.specs.declared.Refusal.the-variants.{Taken, Output}
-use Rattle.woot.specs.Answers.{number, Word, done, waits, known, refused, reply}
+use Rattle.answers.specs.declared.Answer.{Answer}
+use Rattle.answers.specs.declared.Answer.the-variants.{Done, Deferred, Duplicate, Refused}
+use Rattle.answers.specs.declared.Refusal.the-variants.{Taken, Output}
+use Rattle.answers.specs.Answers.{number, Word, done, waits, known, refused, reply}
 use Rattle.convergence.proofs.Replies.{number-few}
 use Rattle.convergence.proofs.Steps.{Turned}
 use Rattle.saved.specs.Format.{savedBytes}

@@ -11,17 +11,18 @@ use lib.ListN.{length, drop}
 use borrow.Author.Tests.{not-false}
 use Rattle.woot.specs.declared.Operation.{Operation}
 use Rattle.woot.specs.declared.Operation.the-variants.{Insert as insert, Toggle as toggle}
-use Rattle.woot.specs.declared.Refusal.{Refusal}
-use Rattle.woot.specs.declared.Refusal.the-variants.{HeapFull, Unreachable}
-use Rattle.woot.specs.declared.Refusal.the-variants.{Layout, Range, NotUtf8, Form, Unrepresentable, Position, NotHidden, LastToggle, Clock, Taken, Conflict, Crossed, Unplaceable, SenderFull, DocumentFull, Output}
-use Rattle.woot.specs.declared.Answer.{Answer}
-use Rattle.woot.specs.declared.Answer.the-variants.{Done, Deferred, Duplicate, Refused}
+use Rattle.answers.specs.declared.Refusal.{Refusal}
+use Rattle.answers.specs.declared.Refusal.the-variants.{HeapFull, Unreachable}
+use Rattle.answers.specs.declared.Refusal.the-variants.{Layout, Range, NotUtf8, Form, Unrepresentable, Position, NotHidden, LastToggle, Clock, Taken, Conflict, Crossed, Unplaceable, SenderFull, DocumentFull, Output}
+use Rattle.answers.specs.declared.Answer.{Answer}
+use Rattle.answers.specs.declared.Answer.the-variants.{Done, Deferred, Duplicate, Refused}
 use Rattle.woot.specs.declared.Sent.{Sent}
 use Rattle.woot.specs.Ranges.{codePoint, characterId, inRange}
 use Rattle.woot.specs.State.{State}
 use Rattle.woot.specs.Form.{wellFormed}
 use Rattle.woot.specs.Pending.{executable}
-use Rattle.woot.specs.Answers.{number, Word, done, waits, known, refused, Reply, reply, answerOf, Check, first, _⇒_, NoneHolds, Reported, here, later, decided}
+use Rattle.answers.specs.Answers.{number, Word, done, waits, known, refused, Reply, reply, Check, first, _⇒_, NoneHolds, Reported, here, later, decided}
+use Rattle.woot.specs.Sending.{answerOf}
 use Rattle.woot.specs.Calls.{unchanged, carryOut, defer, accept, receiveChecks, receiveWhen, receive, insertChecks, generatedInsert, sendInsert, localInsertWhen, localInsert, deleteChecks, generatedDelete, sendToggle, localDeleteWhen, localDelete, restoreChecks, generatedToggle, localRestoreWhen, localRestore}
 use Rattle.woot.specs.Cursor.{receiveAtChecks, receiveAtWhen, receiveAt}
 use Rattle.woot.specs.Pasting.{codePointsOf, typings, pasted, pasteChecks, pasteWhen, paste}

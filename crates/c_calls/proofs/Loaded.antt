@@ -9,11 +9,11 @@ use lib.ListN.{length}
 use borrow.Author.Tests.{ltb-false, le-ltb, not-false}
 use Rattle.lists.proofs.Tests.{and-left, or-false-left}
 use Rattle.woot.specs.declared.Replica.{Replica}
-use Rattle.woot.specs.declared.Refusal.the-variants.{Unreachable, Output}
-use Rattle.woot.specs.declared.Answer.the-variants.{Done, Deferred, Duplicate, Refused}
+use Rattle.answers.specs.declared.Refusal.the-variants.{Unreachable, Output}
+use Rattle.answers.specs.declared.Answer.the-variants.{Done, Deferred, Duplicate, Refused}
 use Rattle.woot.specs.Form.{wellFormed}
 use Rattle.woot.specs.State.{State}
-use Rattle.woot.specs.Answers.{done, reply, changes, decided, _⇒_, NoneHolds, Reported, here, later}
+use Rattle.answers.specs.Answers.{done, reply, changes, decided, _⇒_, NoneHolds, Reported, here, later}
 use Rattle.woot.specs.Loading.{loadable, useChecks, unused, useWhen}
 use Rattle.woot.specs.Memory.{meaning, replicaWellFormed}
 use Rattle.convergence.proofs.Making.{loadable-made}

@@ -12,14 +12,15 @@ use Rattle.lists.proofs.Tests.{and-left, and-right, or-false-left, or-false-rig
 use Rattle.woot.specs.declared.Identifier.{Identifier}
 use Rattle.woot.specs.declared.Operation.{Operation}
 use Rattle.woot.specs.declared.Operation.the-variants.{Insert as insert, Toggle as toggle}
-use Rattle.woot.specs.declared.Answer.{Answer}
-use Rattle.woot.specs.declared.Answer.the-variants.{Done, Deferred, Duplicate, Refused}
+use Rattle.answers.specs.declared.Answer.{Answer}
+use Rattle.answers.specs.declared.Answer.the-variants.{Done, Deferred, Duplicate, Refused}
 use Rattle.woot.specs.declared.Sent.{Sent}
 use Rattle.woot.specs.declared.Sent.the-variants.{Done as sentDone}
 use Rattle.woot.specs.Ranges.{codePoint, characterId, inRange}
 use Rattle.woot.specs.State.{State}
 use Rattle.woot.specs.Form.{wellFormed}
-use Rattle.woot.specs.Answers.{done, reply, changes, answerOf, sentOperation, NoneHolds, _⇒_, first, decided}
+use Rattle.answers.specs.Answers.{done, reply, changes, NoneHolds, _⇒_, first, decided}
+use Rattle.woot.specs.Sending.{answerOf, sentOperation}
 use Rattle.woot.specs.Calls.{Outcome, beyondVisible, carryOut, localInsert, sendInsert, generatedInsert, localDelete, sendToggle, generatedDelete, localRestore, generatedToggle}
 use Rattle.woot.specs.Cursor.{receiveAt, shiftAt}
 use Rattle.woot.specs.Histories.{Call as RuleCall, inserting, deleting, restoring, receivingAt, withAnswer, outcome}

@@ -14,14 +14,15 @@ use Rattle.utf8.specs.Decoding.{encodings}
 use Rattle.utf8.specs.Theorems.{Encodes}
 use Rattle.woot.specs.declared.Operation.{Operation}
 use Rattle.woot.specs.declared.Operation.the-variants.{Insert as insert}
-use Rattle.woot.specs.declared.Answer.{Answer}
-use Rattle.woot.specs.declared.Answer.the-variants.{Done, Deferred, Duplicate, Refused}
+use Rattle.answers.specs.declared.Answer.{Answer}
+use Rattle.answers.specs.declared.Answer.the-variants.{Done, Deferred, Duplicate, Refused}
 use Rattle.woot.specs.declared.Sent.{Sent}
 use Rattle.woot.specs.declared.Sent.the-variants.{Done as sentDone}
 use Rattle.woot.specs.Ranges.{codePoint}
 use Rattle.woot.specs.State.{State}
 use Rattle.woot.specs.Form.{wellFormed}
-use Rattle.woot.specs.Answers.{done, Reply, reply, answerOf, first, decided, NoneHolds}
+use Rattle.answers.specs.Answers.{done, Reply, reply, first, decided, NoneHolds}
+use Rattle.woot.specs.Sending.{answerOf}
 use Rattle.woot.specs.Calls.{Outcome, carryOut, nextIdentifier, generatedInsert, insertChecks, sendInsert, localInsertWhen, localInsert}
 use Rattle.woot.specs.Histories.{Call, inserting, outcome, run}
 use Rattle.woot.specs.Pasting.{gapBelow, typings, ownBy, PasteOutcome, unpasted, pasted, pasteChecks, paste}

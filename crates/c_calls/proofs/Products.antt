@@ -10,15 +10,16 @@ use lib.ListN.{length, length-map}
 use borrow.Author.Tests.{not-false}
 use Rattle.woot.specs.declared.Operation.{Operation}
 use Rattle.woot.specs.declared.Character.{Character}
-use Rattle.woot.specs.declared.Answer.{Answer}
-use Rattle.woot.specs.declared.Answer.the-variants.{Done, Deferred, Duplicate, Refused}
+use Rattle.answers.specs.declared.Answer.{Answer}
+use Rattle.answers.specs.declared.Answer.the-variants.{Done, Deferred, Duplicate, Refused}
 use Rattle.woot.specs.declared.Sent.{Sent}
 use Rattle.woot.specs.declared.Sent.the-variants.{Done as sentDone}
 use Rattle.woot.specs.Ranges.{siteNumber}
 use Rattle.woot.specs.Operations.{isVisible}
 use Rattle.woot.specs.State.{State, initial}
 use Rattle.woot.specs.Form.{wellFormed}
-use Rattle.woot.specs.Answers.{number, highestRefusal, reply, answerOf, NoneHolds}
+use Rattle.answers.specs.Answers.{number, highestRefusal, reply, NoneHolds}
+use Rattle.woot.specs.Sending.{answerOf}
 use Rattle.woot.specs.Calls.{Outcome, visibles, receive, carryOut, localInsert, sendInsert, sendToggle, localDelete, localRestore}
 use Rattle.woot.specs.Cursor.{receiveAt, shiftAt}
 use Rattle.woot.specs.Pasting.{pasted, paste}

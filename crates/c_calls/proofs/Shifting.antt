@@ -10,12 +10,12 @@ use lib.Signed.{_≤ℤ_}
 use borrow.Author.Tests.{ltb-false}
 use Rattle.lists.proofs.Tests.{or-false-left}
 use Rattle.woot.specs.declared.Operation.{Operation}
-use Rattle.woot.specs.declared.Answer.{Answer}
-use Rattle.woot.specs.declared.Answer.the-variants.{Done, Deferred, Duplicate, Refused}
-use Rattle.woot.specs.declared.Refusal.the-variants.{Output}
+use Rattle.answers.specs.declared.Answer.{Answer}
+use Rattle.answers.specs.declared.Answer.the-variants.{Done, Deferred, Duplicate, Refused}
+use Rattle.answers.specs.declared.Refusal.the-variants.{Output}
 use Rattle.woot.specs.State.{State}
 use Rattle.woot.specs.Form.{wellFormed}
-use Rattle.woot.specs.Answers.{Word, done, waits, known, refused, reply, changes, NoneHolds}
+use Rattle.answers.specs.Answers.{Word, done, waits, known, refused, reply, changes, NoneHolds}
 use Rattle.woot.specs.Calls.{Outcome, receive}
 use Rattle.woot.specs.Cursor.{cursorAfter, receiveAt, newGap, shiftAt, movedBy}
 use Rattle.woot.specs.Histories.{receivingAt, outcome}

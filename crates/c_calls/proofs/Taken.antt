@@ -9,18 +9,19 @@ use lib.ListN.{drop}
 use borrow.Author.Tests.{not-false, eq-eqb}
 use Rattle.lists.specs.Lists.{any}
 use Rattle.lists.proofs.Tests.{and-right, or-right}
-use Rattle.woot.specs.declared.Refusal.{Refusal}
-use Rattle.woot.specs.declared.Refusal.the-variants.{Taken, Output}
-use Rattle.woot.specs.declared.Answer.{Answer}
-use Rattle.woot.specs.declared.Answer.the-variants.{Refused}
+use Rattle.answers.specs.declared.Refusal.{Refusal}
+use Rattle.answers.specs.declared.Refusal.the-variants.{Taken, Output}
+use Rattle.answers.specs.declared.Answer.{Answer}
+use Rattle.answers.specs.declared.Answer.the-variants.{Refused}
 use Rattle.woot.specs.declared.Sent.{Sent}
 use Rattle.woot.specs.declared.Sent.the-variants.{Refused as sentRefused}
 use Rattle.woot.specs.Ranges.{codePoint}
 use Rattle.woot.specs.Form.{wellFormed}
 use Rattle.woot.specs.State.{State}
-use Rattle.woot.specs.Answers.{number, reply, answerOf, Check, Reported, here, later}
+use Rattle.answers.specs.Answers.{number, reply, Check, Reported, here, later}
+use Rattle.woot.specs.Sending.{answerOf}
 use Rattle.woot.specs.Calls.{insertChecks}
-use Rattle.woot.specs.Situations.{numbersOf}
+use Rattle.answers.specs.Order.{numbersOf}
 use Rattle.convergence.proofs.Forms.{formed}
 use Rattle.convergence.proofs.Hearing.{insert-untaken}
 use Rattle.convergence.proofs.Refusals.{skipped, other, answer-refused}

@@ -11,15 +11,16 @@ use Rattle.utf8.specs.Decoding.{decoded}
 use Rattle.woot.specs.declared.Identifier.{Identifier}
 use Rattle.woot.specs.declared.Operation.{Operation}
 use Rattle.woot.specs.declared.Operation.the-variants.{Insert as insert, Toggle as toggle}
-use Rattle.woot.specs.declared.Refusal.{Refusal}
-use Rattle.woot.specs.declared.Refusal.the-variants.{Layout, Range, NotUtf8, Form, Output}
-use Rattle.woot.specs.declared.Answer.{Answer}
-use Rattle.woot.specs.declared.Answer.the-variants.{Done, Refused}
+use Rattle.answers.specs.declared.Refusal.{Refusal}
+use Rattle.answers.specs.declared.Refusal.the-variants.{Layout, Range, NotUtf8, Form, Output}
+use Rattle.answers.specs.declared.Answer.{Answer}
+use Rattle.answers.specs.declared.Answer.the-variants.{Done, Refused}
 use Rattle.woot.specs.declared.Sent.{Sent}
 use Rattle.woot.specs.Ranges.{siteNumber, codePoint, characterId, inRange}
 use Rattle.woot.specs.State.{State, initial}
 use Rattle.woot.specs.Form.{wellFormed}
-use Rattle.woot.specs.Answers.{answerOf, Check, _⇒_, first, decided}
+use Rattle.answers.specs.Answers.{Check, _⇒_, first, decided}
+use Rattle.woot.specs.Sending.{answerOf}
 use Rattle.woot.specs.Calls.{Outcome, receiveChecks, receive, insertChecks, generatedInsert, localInsert, deleteChecks}
 use Rattle.woot.specs.Calls.{generatedDelete, localDelete, restoreChecks, generatedToggle, localRestore}
 use Rattle.woot.specs.Cursor.{receiveAtChecks, receiveAt, shiftAt}

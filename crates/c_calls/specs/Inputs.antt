@@ -1,7 +1,7 @@
 -- For the proofs of the code alone, whose readers answer refusals 1 and 2: which refusal comes first where both a saved
 -- replica and what else was handed have one.
-use Rattle.woot.specs.declared.Refusal.{Refusal}
-use Rattle.woot.specs.Answers.{earlier}
+use Rattle.answers.specs.declared.Refusal.{Refusal}
+use Rattle.answers.specs.Answers.{earlier}
 use Rattle.saved.specs.declared.LoadAnswer.{LoadAnswer}
 use Rattle.saved.specs.declared.LoadAnswer.the-variants.{Done, Refused}
 

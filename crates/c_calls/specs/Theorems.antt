@@ -10,15 +10,15 @@ use lib.ListN.{length, take}
 use lib.IntN.{ℤ, pos, negsuc}
 use lib.Signed.{_≤ℤ_}
 use Rattle.woot.specs.declared.Operation.{Operation}
-use Rattle.woot.specs.declared.Refusal.{Refusal}
-use Rattle.woot.specs.declared.Refusal.the-variants.{Taken, Unplaceable, DocumentFull}
-use Rattle.woot.specs.declared.Answer.{Answer}
-use Rattle.woot.specs.declared.Answer.the-variants.{Done, Deferred, Duplicate, Refused}
+use Rattle.answers.specs.declared.Refusal.{Refusal}
+use Rattle.answers.specs.declared.Refusal.the-variants.{Taken, Unplaceable, DocumentFull}
+use Rattle.answers.specs.declared.Answer.{Answer}
+use Rattle.answers.specs.declared.Answer.the-variants.{Done, Deferred, Duplicate, Refused}
 use Rattle.woot.specs.Limits.{capacity}
 use Rattle.woot.specs.State.{State}
 use Rattle.woot.specs.Ranges.{siteNumber}
 use Rattle.woot.specs.Form.{wellFormed}
-use Rattle.woot.specs.Answers.{number, highestRefusal, Word, done, waits, known, refused, Reported}
+use Rattle.answers.specs.Answers.{number, highestRefusal, Word, done, waits, known, refused, Reported}
 use Rattle.woot.specs.Calls.{nextIdentifier, beyondVisible}
 use Rattle.woot.specs.Cursor.{cursorAfter, shiftAt, lastNumber, movedBy}
 use Rattle.woot.specs.Pasting.{gapBelow}
@@ -27,7 +27,7 @@ use Rattle.woot.specs.Loading.{loadable}
 use Rattle.convergence.specs.Loading.{Made}
 use Rattle.woot.specs.Text.{text}
 use Rattle.woot.specs.Memory.{pendingSlots}
-use Rattle.woot.specs.Situations.{numbersOf, ranksOf, rises}
+use Rattle.answers.specs.Order.{numbersOf, ranksOf, rises}
 use Rattle.woot.specs.Writing.{writtenNumber, writtenLength}
 use Rattle.lists.specs.Lists.{any}
 use Rattle.utf8.specs.Theorems.{Encodes}

@@ -2,7 +2,7 @@
 use mathlib.Core.Path.{refl}
 use Rattle.woot.specs.Identifiers.{same}
 use Rattle.woot.specs.Ranges.{within, siteNumber, codePoint, characterId, previousId, nextId, insertInRange, toggleInRange, inRange}
-use Rattle.woot.specs.Answers.{decided}
+use Rattle.answers.specs.Answers.{decided}
 use Rattle.decimal.specs.Numeral.{isDigit, leadingZero, isNumeral, valueOf, digitsIn, digits}
 use Rattle.lines.specs.Lines.{ended, firstLine}
 use Rattle.lines.specs.Fields.{numerals, hasLayout, valuesOf, lineOf}

@@ -6,8 +6,8 @@ use Prim.Native.Nat.{ℕ, _+_}
 use lib.ListN.{replicate}
 use Rattle.woot.specs.declared.Operation.{Operation}
 use Rattle.woot.specs.declared.Operation.the-variants.{Insert as insert, Toggle as toggle}
-use Rattle.woot.specs.declared.Refusal.the-variants.{Layout, Range}
-use Rattle.woot.specs.Answers.{decided}
+use Rattle.answers.specs.declared.Refusal.the-variants.{Layout, Range}
+use Rattle.answers.specs.Answers.{decided}
 use Rattle.woot.specs.Ranges.{inRange}
 use Rattle.lists.proofs.Tests.{fails, clash}
 use Rattle.convergence.proofs.Identifiers.{identifier-path}

@@ -6,7 +6,7 @@ use Prim.Native.Nat.{ℕ}
 use lib.ListN.{getD}
 use borrow.Author.Tests.{eqb-false}
 use Rattle.woot.specs.declared.Operation.the-variants.{Insert as insert, Toggle as toggle}
-use Rattle.woot.specs.declared.Refusal.the-variants.{Layout}
+use Rattle.answers.specs.declared.Refusal.the-variants.{Layout}
 use Rattle.lines.specs.Lines.{ended, firstLine}
 use Rattle.lines.specs.Fields.{fields, hasLayout, valuesOf}
 use Rattle.lines.proofs.Spelling.{spelled, other-letter}

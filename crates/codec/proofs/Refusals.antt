@@ -8,11 +8,11 @@ use Prim.Native.Nat.{ℕ, _≤_, _<_}
 use native.Mathlib.Omega.{arith}
 use lib.ListN.{length}
 use Rattle.woot.specs.declared.Operation.{Operation}
-use Rattle.woot.specs.declared.Refusal.{Refusal}
-use Rattle.woot.specs.declared.Refusal.the-variants.{Layout, Range, Output}
+use Rattle.answers.specs.declared.Refusal.{Refusal}
+use Rattle.answers.specs.declared.Refusal.the-variants.{Layout, Range, Output}
 use Rattle.woot.specs.declared.Written.{Written}
 use Rattle.woot.specs.declared.Written.the-variants.{Length, Refused as writtenRefused}
-use Rattle.woot.specs.Answers.{_⇒_, number}
+use Rattle.answers.specs.Answers.{_⇒_, number}
 use Rattle.woot.specs.Ranges.{inRange}
 use Rattle.woot.specs.Writing.{writtenAs, writtenNumber, writtenLength}
 use Rattle.lists.proofs.Tests.{some-eq, no-some, side}

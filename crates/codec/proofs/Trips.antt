@@ -12,7 +12,7 @@ use Rattle.woot.specs.declared.Insert.{Insert}
 use Rattle.woot.specs.declared.Toggle.{Toggle}
 use Rattle.woot.specs.declared.Operation.{Operation}
 use Rattle.woot.specs.declared.Operation.the-variants.{Insert as insert, Toggle as toggle}
-use Rattle.woot.specs.declared.Refusal.the-variants.{Layout, Range}
+use Rattle.answers.specs.declared.Refusal.the-variants.{Layout, Range}
 use Rattle.woot.specs.Ranges.{inRange}
 use Rattle.lists.proofs.Tests.{either, clash, and-left, and-right, or-cases}
 use Rattle.codec.specs.declared.Read.the-variants.{Operation as readsAs, Refused as readRefused}

@@ -5,8 +5,8 @@ use mathlib.Core.List.{List, [], _∷_}
 use mathlib.Core.Bool.{Bool, _&&_, _||_, not}
 use mathlib.Core.Option.{Option, none, some}
 use Rattle.woot.specs.declared.Operation.{Operation}
-use Rattle.woot.specs.declared.Refusal.the-variants.{Layout, Range}
-use Rattle.woot.specs.Answers.{Check, _⇒_, first, decided, number}
+use Rattle.answers.specs.declared.Refusal.the-variants.{Layout, Range}
+use Rattle.answers.specs.Answers.{Check, _⇒_, first, decided, number}
 use Rattle.woot.specs.Writing.{writtenAs, outputAfter}
 use Rattle.woot.specs.Ranges.{inRange}
 use Rattle.codec.specs.declared.Read.{Read}

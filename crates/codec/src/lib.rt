@@ -1,12 +1,12 @@
 // Operations as lines of text: read from bytes here, and written by `writing`.
 pub mod writing;
 
+use answers::Refusal;
 use lines::Numbers;
 use lines::Verdict;
 use woot::Identifier;
 use woot::Insert;
 use woot::Operation;
-use woot::Refusal;
 use woot::Toggle;
 ghost use mathlib.Core.Path.{_≡_};
 ghost use mathlib.Core.Bool.{true};

@@ -1,10 +1,10 @@
 // Operations put as lines of text into a lent slice.
 use crate::INSERT;
 use crate::TOGGLE;
+use answers::Refusal;
 use lines::writing::Room;
 use woot::Insert;
 use woot::Operation;
-use woot::Refusal;
 use woot::Toggle;
 use woot::Written;
 ghost use mathlib.Core.Path.{_≡_};

@@ -14,7 +14,8 @@ use Rattle.effects.specs.Results.{result, silent, inBits, numberOf}
 use Rattle.saved.specs.Calls.{loadedAs}
 use Rattle.saved.specs.Format.{siteNumbers, siteOf, isSite, siteSaid, siteLine, toggleField, characterNumbers, characterOf, isCharacter, characterSaid, characterLine, isOperation, operationSaid, savedLine, headLine, characterLines, operationLines, laidOutAs, stateAs, characterWithin, operationWithin, inRangeAs, bytesAs}
 use Rattle.c_calls.specs.Calls.{inputChecks, oneLine, handedChecks, ruleChecks, productOf, callChecks, effectOf}
-use Rattle.woot.specs.Answers.{decided, reply, changes, answerOf}
+use Rattle.answers.specs.Answers.{decided, reply, changes}
+use Rattle.woot.specs.Sending.{answerOf}
 use Rattle.woot.specs.Calls.{unchanged, allIntegrated, withCharacters, withPending, afterDrain, insertCarried, duplicate, conflicting, senderFull, documentFull, receiveChecks, carryOut, defer, accept, receiveWhen, receive, visibles, nextIdentifier, generatedInsert, beyondVisible, identifierTaken, insertChecks, sendInsert, localInsertWhen, localInsert, togglesOf, generatedToggle, sendToggle, notVisible, deleteChecks, generatedDelete, localDeleteWhen, localDelete, notHidden, exhausted, restoreChecks, localRestoreWhen, localRestore}
 use Rattle.utf8.specs.Encoding.{encodedLength}
 use Rattle.utf8.specs.Decoding.{accepted, continues, continued, headOf, decodedSteps, decoded}

@@ -4,12 +4,12 @@ use mathlib.Core.Path.{_≡_, refl}
 use mathlib.Core.Bool.{true, false≢true}
 use mathlib.Core.List.{List, []}
 use Rattle.woot.specs.declared.Replica.{Replica}
-use Rattle.woot.specs.declared.Answer.{Answer}
-use Rattle.woot.specs.declared.Answer.the-variants.{Done, Deferred, Duplicate, Refused}
+use Rattle.answers.specs.declared.Answer.{Answer}
+use Rattle.answers.specs.declared.Answer.the-variants.{Done, Deferred, Duplicate, Refused}
 use Rattle.woot.specs.State.{State, initial}
 use Rattle.woot.specs.Memory.{stored, meaning, replicaWellFormed}
 use Rattle.woot.specs.Form.{presentInserts, wellFormed, raised}
-use Rattle.woot.specs.Answers.{Word, done, waits, known, refused, changes, reply}
+use Rattle.answers.specs.Answers.{Word, done, waits, known, refused, changes, reply}
 use Rattle.woot.specs.Calls.{Outcome, unchanged}
 use Rattle.woot.specs.Histories.{outcome, run, Call as RuleCall}
 use Rattle.convergence.proofs.Forms.{reformed}

@@ -8,15 +8,16 @@ use mathlib.Core.Option.{Option, none, some}
 use Rattle.woot.specs.declared.Identifier.{Identifier}
 use Rattle.woot.specs.declared.Operation.{Operation}
 use Rattle.woot.specs.declared.Replica.{Replica}
-use Rattle.woot.specs.declared.Answer.{Answer}
-use Rattle.woot.specs.declared.Answer.the-variants.{Done, Deferred, Duplicate, Refused}
+use Rattle.answers.specs.declared.Answer.{Answer}
+use Rattle.answers.specs.declared.Answer.the-variants.{Done, Deferred, Duplicate, Refused}
 use Rattle.woot.specs.declared.Sent.{Sent}
 use Rattle.woot.specs.declared.Sent.the-variants.{Done as sentDone, Refused as sentRefused}
 use Rattle.woot.specs.Ranges.{inRange}
 use Rattle.woot.specs.State.{State}
 use Rattle.woot.specs.Memory.{meaning, stored, replicaWellFormed}
 use Rattle.woot.specs.Loading.{useWhen}
-use Rattle.woot.specs.Answers.{done, reply, changes, answerOf, Check, first, decided, NoneHolds}
+use Rattle.answers.specs.Answers.{done, reply, changes, Check, first, decided, NoneHolds}
+use Rattle.woot.specs.Sending.{answerOf}
 use Rattle.woot.specs.Pasting.{codePointsOf, typings, unpasted, pasteChecks, pasteWhen}
 use Rattle.utf8.specs.Theorems.{Encodes}
 use Rattle.convergence.proofs.Steps.{All, first-none, first-some}

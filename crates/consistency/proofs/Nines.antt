@@ -11,14 +11,15 @@ use borrow.Author.Tests.{not-false}
 use Rattle.lists.proofs.Tests.{and-left, and-right, side}
 use Rattle.woot.specs.declared.Operation.{Operation}
 use Rattle.woot.specs.declared.Replica.{Replica}
-use Rattle.woot.specs.declared.Refusal.{Refusal}
-use Rattle.woot.specs.declared.Refusal.the-variants.{Unplaceable}
-use Rattle.woot.specs.declared.Answer.{Answer}
-use Rattle.woot.specs.declared.Answer.the-variants.{Refused}
+use Rattle.answers.specs.declared.Refusal.{Refusal}
+use Rattle.answers.specs.declared.Refusal.the-variants.{Unplaceable}
+use Rattle.answers.specs.declared.Answer.{Answer}
+use Rattle.answers.specs.declared.Answer.the-variants.{Refused}
 use Rattle.woot.specs.Ranges.{codePoint, inRange}
 use Rattle.woot.specs.State.{State}
 use Rattle.woot.specs.Form.{wellFormed}
-use Rattle.woot.specs.Answers.{reply, answerOf, Check, decided, Reported, here, later}
+use Rattle.answers.specs.Answers.{reply, Check, decided, Reported, here, later}
+use Rattle.woot.specs.Sending.{answerOf}
 use Rattle.woot.specs.Calls.{receiveChecks, receive, insertChecks, localInsert}
 use Rattle.woot.specs.Cursor.{receiveAtChecks, receiveAt}
 use Rattle.woot.specs.Pasting.{pasteChecks, paste}

@@ -11,14 +11,14 @@ use Rattle.lists.specs.Lists.{every}
 use Rattle.lists.proofs.Tests.{and-left, and-right, and-intro, three}
 use Rattle.lists.proofs.Members.{every-member, member-every}
 use Rattle.woot.specs.declared.Operation.{Operation}
-use Rattle.woot.specs.declared.Answer.{Answer}
-use Rattle.woot.specs.declared.Answer.the-variants.{Done, Deferred, Duplicate, Refused}
+use Rattle.answers.specs.declared.Answer.{Answer}
+use Rattle.answers.specs.declared.Answer.the-variants.{Done, Deferred, Duplicate, Refused}
 use Rattle.woot.specs.declared.Character.{Character}
 use Rattle.woot.specs.Ranges.{siteNumber, inRange}
 use Rattle.woot.specs.State.{State, initial}
 use Rattle.woot.specs.Form.{wellFormed}
 use Rattle.woot.specs.Pending.{executable}
-use Rattle.woot.specs.Answers.{done, reply, changes, decided, NoneHolds}
+use Rattle.answers.specs.Answers.{done, reply, changes, decided, NoneHolds}
 use Rattle.woot.specs.Calls.{Outcome, unchanged, carryOut, defer, receive}
 use Rattle.woot.specs.Histories.{receiving, outcome, startOf}
 use Rattle.woot.specs.Building.{build}

@@ -3,7 +3,7 @@ use Prim.Native.Nat.{ℕ, _%_}
 use mathlib.Core.Path.{_≡_}
 use mathlib.Core.List.{List}
 use lib.ListN.{take}
-use Rattle.woot.specs.Answers.{Word, done, waits, known, refused}
+use Rattle.answers.specs.Answers.{Word, done, waits, known, refused}
 use Rattle.effects.specs.Results.{wordNumber, numberOf}
 use Rattle.effects.specs.Effects.{Effect}
 use Rattle.c_calls.specs.Calls.{CCall, effectOf}

@@ -12,7 +12,8 @@ use Rattle.woot.specs.declared.Written.{Written}
 use Rattle.woot.specs.declared.Written.the-variants.{Length, Refused as writtenRefused}
 use Rattle.woot.specs.State.{State, initial}
 use Rattle.woot.specs.Memory.{meaning, stored}
-use Rattle.woot.specs.Answers.{Word, done, waits, known, refused, reply, changes, answerOf}
+use Rattle.answers.specs.Answers.{Word, done, waits, known, refused, reply, changes}
+use Rattle.woot.specs.Sending.{answerOf}
 use Rattle.woot.specs.Writing.{writtenNumber}
 use Rattle.woot.specs.Text.{text}
 use Rattle.woot.specs.Histories.{inserting, deleting, restoring, receiving, receivingAt, integratedBy}

@@ -6,7 +6,7 @@ use mathlib.Core.Path.{_≡_}
 use mathlib.Core.Bool.{cond}
 use mathlib.Core.List.{List, [], _∷_, _++_, map}
 use lib.ListN.{replicate}
-use Rattle.woot.specs.Answers.{Word, done, waits, known, refused}
+use Rattle.answers.specs.Answers.{Word, done, waits, known, refused}
 use Rattle.woot.specs.Histories.{inserting, deleting, restoring, receiving, receivingAt, empty}
 use Rattle.codec.specs.Calls.{saidBy}
 use Rattle.effects.specs.Results.{numberOf}

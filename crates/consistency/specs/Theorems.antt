@@ -6,7 +6,7 @@ use mathlib.Core.List.{List, [], _∷_, map}
 use lib.ListN.{length}
 use Rattle.woot.specs.Ranges.{siteNumber}
 use Rattle.woot.specs.Pending.{executable}
-use Rattle.woot.specs.Answers.{done}
+use Rattle.answers.specs.Answers.{done}
 use Rattle.woot.specs.Histories.{startOf, run, historyOf, SameInserted, SameToggled}
 use Rattle.convergence.specs.Building.{FromHeap, AllOfHeap}
 use Rattle.codec.specs.Operations.{operationLine}

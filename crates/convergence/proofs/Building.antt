@@ -14,8 +14,8 @@ use Rattle.woot.specs.declared.Insert.{Insert}
 use Rattle.woot.specs.declared.Operation.{Operation}
 use Rattle.woot.specs.declared.Operation.the-variants.{Insert as insert, Toggle as toggle}
 use Rattle.woot.specs.declared.Character.{Character}
-use Rattle.woot.specs.declared.Answer.{Answer}
-use Rattle.woot.specs.declared.Answer.the-variants.{Done, Duplicate, Refused}
+use Rattle.answers.specs.declared.Answer.{Answer}
+use Rattle.answers.specs.declared.Answer.the-variants.{Done, Duplicate, Refused}
 use Rattle.woot.specs.Limits.{capacity}
 use Rattle.woot.specs.Identifiers.{same}
 use Rattle.woot.specs.Operations.{inserts, togglesAmong, sameInsert, sameOperation}
@@ -24,7 +24,7 @@ use Rattle.woot.specs.State.{initial}
 use Rattle.woot.specs.Placing.{held}
 use Rattle.woot.specs.Form.{wellFormed}
 use Rattle.woot.specs.Pending.{executable, crossed, drain, drainSteps, drained}
-use Rattle.woot.specs.Answers.{done, reply, first, decided, NoneHolds}
+use Rattle.answers.specs.Answers.{done, reply, first, decided, NoneHolds}
 use Rattle.woot.specs.Building.{once, building, leftOut, built, heapFull, disagree, disagreeing, buildChecks, BuildOutcome, unbuilt, build}
 use Rattle.lists.specs.Lists.{any, every, keep}
 use Rattle.lists.proofs.Tests.{some-eq, no-some, either, agree, clash, fails, and-intro, and-left, and-right, not-intro}

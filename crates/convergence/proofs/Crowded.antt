@@ -10,7 +10,7 @@ use Rattle.woot.specs.Placing.{sequence, indexOf, placeOf, held, above, adjacen
 use Rattle.woot.specs.Pending.{executable, crossed, unplaceable, pendingFrom}
 use Rattle.woot.specs.Form.{presentInserts, allInRange, sharesKept, capacityKept, identifiersDistinct, togglesDistinct, ordered, neighboursOrdered, noneExecutable, clockReaches, clockKept, wellFormed}
 use Rattle.woot.specs.Clock.{ownInsert}
-use Rattle.woot.specs.Answers.{first}
+use Rattle.answers.specs.Answers.{first}
 use Rattle.woot.specs.Calls.{duplicate, conflicting, senderFull, documentFull, visibles, beyondVisible}
 use Rattle.woot.specs.Cursor.{receiveAtChecks}
 use Rattle.woot.specs.Situations.{crowded, releasing}

@@ -15,14 +15,14 @@ use borrow.Author.Tests.{ltb-true, ltb-false}
 use Rattle.woot.specs.declared.Identifier.{Identifier}
 use Rattle.woot.specs.declared.Operation.{Operation}
 use Rattle.woot.specs.declared.Character.{Character}
-use Rattle.woot.specs.declared.Answer.{Answer}
-use Rattle.woot.specs.declared.Answer.the-variants.{Deferred, Duplicate, Refused}
+use Rattle.answers.specs.declared.Answer.{Answer}
+use Rattle.answers.specs.declared.Answer.the-variants.{Deferred, Duplicate, Refused}
 use Rattle.woot.specs.Limits.{capacity}
 use Rattle.woot.specs.Identifiers.{begin}
 use Rattle.woot.specs.Operations.{isVisible}
 use Rattle.woot.specs.State.{State}
 use Rattle.woot.specs.Form.{wellFormed}
-use Rattle.woot.specs.Answers.{changes, first, decided}
+use Rattle.answers.specs.Answers.{changes, first, decided}
 use Rattle.woot.specs.Calls.{Outcome, unchanged, carryOut, defer, accept, withPending, visibles, beyondVisible}
 use Rattle.woot.specs.Cursor.{leftOf, visibleThrough, cursorAfter, receiveAtChecks, receiveAtWhen, receiveAt, newGap, shiftOf, shiftAt, lastNumber, nearest, movedBy}
 use Rattle.woot.specs.Histories.{receivingAt, outcome}

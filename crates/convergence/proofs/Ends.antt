@@ -17,9 +17,9 @@ use Rattle.woot.specs.Operations.{character, isVisible}
 use Rattle.woot.specs.Placing.{identifiers, sequence, placeOf, held, position, between, insertAt, integrateInsert}
 use Rattle.woot.specs.Pending.{executable, crossed, unplaceable, integrate, earliest, Drained, andIntegrated, drained, drain}
 use Rattle.woot.specs.State.{State}
-use Rattle.woot.specs.declared.Answer.the-variants.{Done as answerDone}
+use Rattle.answers.specs.declared.Answer.the-variants.{Done as answerDone}
 use Rattle.woot.specs.Form.{wellFormed}
-use Rattle.woot.specs.Answers.{reply, changes, first, decided}
+use Rattle.answers.specs.Answers.{reply, changes, first, decided}
 use Rattle.woot.specs.Calls.{visibles, insertCarried, afterDrain, carryOut, accept}
 use Rattle.woot.specs.Cursor.{visibleThrough, cursorAfter, receiveAtChecks, receiveAtWhen, receiveAt, newGap, shiftOf, shiftAt}
 use Rattle.woot.specs.Situations.{letter, _at_, stateAt, Done, pointing, shifted, seen, numbered, upward, crowded, releasing}

@@ -10,14 +10,14 @@ use Rattle.woot.specs.declared.Identifier.{Identifier}
 use Rattle.woot.specs.declared.Operation.{Operation}
 use Rattle.woot.specs.declared.Operation.the-variants.{Insert as insert, Toggle as toggle}
 use Rattle.woot.specs.declared.Character.{Character}
-use Rattle.woot.specs.declared.Refusal.the-variants.{Position, Unplaceable}
-use Rattle.woot.specs.declared.Answer.{Answer}
-use Rattle.woot.specs.declared.Answer.the-variants.{Refused}
+use Rattle.answers.specs.declared.Refusal.the-variants.{Position, Unplaceable}
+use Rattle.answers.specs.declared.Answer.{Answer}
+use Rattle.answers.specs.declared.Answer.the-variants.{Refused}
 use Rattle.woot.specs.declared.Sent.the-variants.{Refused as sentRefused}
 use Rattle.woot.specs.State.{State, initial}
 use Rattle.woot.specs.Pending.{executable, crossed, unplaceable}
 use Rattle.woot.specs.Form.{wellFormed}
-use Rattle.woot.specs.Answers.{Reported}
+use Rattle.answers.specs.Answers.{Reported}
 use Rattle.woot.specs.Calls.{Outcome, unchanged, withCharacters, withPending, carryOut, defer, receiveChecks, receive, generatedInsert, insertChecks, localInsert, deleteChecks, localDelete, restoreChecks, localRestore}
 use Rattle.woot.specs.Cursor.{receiveAt}
 use Rattle.woot.specs.Histories.{Call, Begun, empty, heaped, loaded, startOf, inserting, deleting, restoring, receiving, receivingAt, outcome, run}

@@ -10,14 +10,14 @@ use lib.Dec.{ltb}
 use lib.ListN.{length}
 use borrow.Author.Tests.{ltb-false, not-false}
 use Rattle.woot.specs.declared.Operation.{Operation}
-use Rattle.woot.specs.declared.Answer.{Answer}
-use Rattle.woot.specs.declared.Answer.the-variants.{Done}
+use Rattle.answers.specs.declared.Answer.{Answer}
+use Rattle.answers.specs.declared.Answer.the-variants.{Done}
 use Rattle.woot.specs.Limits.{capacity}
 use Rattle.woot.specs.Operations.{inserts, togglesAmong}
 use Rattle.woot.specs.Ranges.{siteNumber, inRange}
 use Rattle.woot.specs.State.{initial}
 use Rattle.woot.specs.Form.{wellFormed}
-use Rattle.woot.specs.Answers.{first, decided, NoneHolds}
+use Rattle.answers.specs.Answers.{first, decided, NoneHolds}
 use Rattle.woot.specs.Building.{building, leftOut, built, heapFull, disagreeing, buildChecks, BuildOutcome, unbuilt, build}
 use Rattle.lists.specs.Lists.{every}
 use Rattle.lists.proofs.Tests.{and-left, and-right, or-false-left, or-false-right}

@@ -11,13 +11,13 @@ use lib.ListN.{length, take, getD}
 use borrow.Author.Tests.{eqb-true, eqb-false, eq-eqb, ne-eqb, leb-true, le-leb, ltb-false, not-false}
 use Rattle.woot.specs.declared.Identifier.{Identifier}
 use Rattle.woot.specs.declared.Character.{Character}
-use Rattle.woot.specs.declared.Answer.{Answer}
+use Rattle.answers.specs.declared.Answer.{Answer}
 use Rattle.woot.specs.Identifiers.{same}
 use Rattle.woot.specs.Operations.{isVisible, withToggles}
 use Rattle.woot.specs.State.{State, blankCharacter}
 use Rattle.woot.specs.Placing.{identifiers, placeOf, held, above, integrateToggle}
 use Rattle.woot.specs.Form.{wellFormed}
-use Rattle.woot.specs.Answers.{changes}
+use Rattle.answers.specs.Answers.{changes}
 use Rattle.woot.specs.Calls.{Outcome, withCharacters, carryOut, visibles, beyondVisible, generatedToggle, notVisible, deleteChecks, generatedDelete, localDelete, notHidden, restoreChecks, localRestore}
 use Rattle.woot.specs.Cursor.{leftOf, through, visibleThrough, cursorAfter, newGap}
 use Rattle.woot.specs.Histories.{outcome}

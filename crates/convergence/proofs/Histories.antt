@@ -9,8 +9,8 @@ use lib.ListN.{length, length-append}
 use Rattle.woot.specs.declared.Operation.{Operation}
 use Rattle.woot.specs.declared.Operation.the-variants.{Insert as insert, Toggle as toggle}
 use Rattle.woot.specs.declared.Character.{Character}
-use Rattle.woot.specs.declared.Answer.{Answer}
-use Rattle.woot.specs.declared.Answer.the-variants.{Duplicate, Refused}
+use Rattle.answers.specs.declared.Answer.{Answer}
+use Rattle.answers.specs.declared.Answer.the-variants.{Duplicate, Refused}
 use Rattle.woot.specs.Ranges.{inRange}
 use Rattle.woot.specs.State.{State, initial}
 use Rattle.woot.specs.Pending.{executable, crossed, unplaceable, integrate, Drained, andIntegrated, andDiscarded, drained}

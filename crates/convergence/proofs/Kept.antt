@@ -9,8 +9,8 @@ use Rattle.woot.specs.declared.Insert.{Insert}
 use Rattle.woot.specs.declared.Operation.{Operation}
 use Rattle.woot.specs.declared.Operation.the-variants.{Insert as insert, Toggle as toggle}
 use Rattle.woot.specs.declared.Character.{Character}
-use Rattle.woot.specs.declared.Answer.{Answer}
-use Rattle.woot.specs.declared.Answer.the-variants.{Duplicate, Refused}
+use Rattle.answers.specs.declared.Answer.{Answer}
+use Rattle.answers.specs.declared.Answer.the-variants.{Duplicate, Refused}
 use Rattle.woot.specs.Limits.{lastClock}
 use Rattle.woot.specs.Operations.{inserts}
 use Rattle.woot.specs.Ranges.{within, siteNumber, characterId, siteInRange, insertInRange, inRange}
@@ -18,7 +18,7 @@ use Rattle.woot.specs.State.{State}
 use Rattle.woot.specs.Clock.{heard, heardAll}
 use Rattle.woot.specs.Placing.{identifiers, integrateToggle}
 use Rattle.woot.specs.Pending.{executable}
-use Rattle.woot.specs.Answers.{reply}
+use Rattle.answers.specs.Answers.{reply}
 use Rattle.woot.specs.Calls.{Outcome, unchanged, allIntegrated, withCharacters, withPending, carryOut, defer}
 use Rattle.woot.specs.Histories.{outcome}
 use Rattle.convergence.specs.Theorems.{FormKept, NothingReady, CountsTrue, CountsBounded}

@@ -6,14 +6,14 @@ use mathlib.Core.List.{List, [], _∷_, List·Memᴰ, List·Memᴰ·not-nil}
 use native.Mathlib.Omega.{arith}
 use borrow.Author.Tests.{not-true, not-false}
 use Rattle.woot.specs.declared.Operation.{Operation}
-use Rattle.woot.specs.declared.Refusal.{Refusal}
-use Rattle.woot.specs.declared.Refusal.the-variants.{Unreachable}
-use Rattle.woot.specs.declared.Answer.{Answer}
-use Rattle.woot.specs.declared.Answer.the-variants.{Done, Refused}
+use Rattle.answers.specs.declared.Refusal.{Refusal}
+use Rattle.answers.specs.declared.Refusal.the-variants.{Unreachable}
+use Rattle.answers.specs.declared.Answer.{Answer}
+use Rattle.answers.specs.declared.Answer.the-variants.{Done, Refused}
 use Rattle.woot.specs.State.{State}
 use Rattle.woot.specs.Pending.{crossed}
 use Rattle.woot.specs.Form.{wellFormed}
-use Rattle.woot.specs.Answers.{done, reply, first, decided, NoneHolds, here, later}
+use Rattle.answers.specs.Answers.{done, reply, first, decided, NoneHolds, here, later}
 use Rattle.woot.specs.Calls.{Outcome, unchanged, carryOut, defer}
 use Rattle.woot.specs.Building.{build}
 use Rattle.woot.specs.Loading.{loadable, useChecks, UseOutcome, unused, useWhen, useOutcome}

@@ -13,7 +13,7 @@ use Rattle.woot.specs.declared.Toggle.{Toggle}
 use Rattle.woot.specs.declared.Operation.{Operation}
 use Rattle.woot.specs.declared.Operation.the-variants.{Insert as insert, Toggle as toggle}
 use Rattle.woot.specs.declared.Character.{Character}
-use Rattle.woot.specs.declared.Answer.the-variants.{Done}
+use Rattle.answers.specs.declared.Answer.the-variants.{Done}
 use Rattle.woot.specs.Identifiers.{same}
 use Rattle.woot.specs.Operations.{origin, inserts, sameInsert, sameToggle, sameOperation}
 use Rattle.woot.specs.Ranges.{inRange}
@@ -21,7 +21,8 @@ use Rattle.woot.specs.State.{State}
 use Rattle.woot.specs.Placing.{held}
 use Rattle.woot.specs.Pending.{executable, crossed, unplaceable}
 use Rattle.woot.specs.Form.{presentInserts, wellFormed}
-use Rattle.woot.specs.Answers.{answerOf, NoneHolds, decided}
+use Rattle.answers.specs.Answers.{NoneHolds, decided}
+use Rattle.woot.specs.Sending.{answerOf}
 use Rattle.woot.specs.Calls.{duplicate, conflicting, documentFull, carryOut, receive, generatedInsert, identifierTaken, insertChecks, sendInsert, localInsertWhen, localInsert, togglesOf, generatedToggle, sendToggle, deleteChecks, generatedDelete, localDeleteWhen, localDelete, restoreChecks, localRestoreWhen, localRestore}
 use Rattle.woot.specs.Cursor.{receiveAt}
 use Rattle.woot.specs.Histories.{Call, deleting, inserting, restoring, outcome}

@@ -21,10 +21,10 @@ use Rattle.woot.specs.declared.Site.{Site}
 use Rattle.woot.specs.declared.Operation.{Operation}
 use Rattle.woot.specs.declared.Operation.the-variants.{Insert as insert, Toggle as toggle}
 use Rattle.woot.specs.declared.Character.{Character}
-use Rattle.woot.specs.declared.Refusal.{Refusal}
-use Rattle.woot.specs.declared.Refusal.the-variants.{NotUtf8, Unplaceable}
-use Rattle.woot.specs.declared.Answer.{Answer}
-use Rattle.woot.specs.declared.Answer.the-variants.{Done, Duplicate, Refused}
+use Rattle.answers.specs.declared.Refusal.{Refusal}
+use Rattle.answers.specs.declared.Refusal.the-variants.{NotUtf8, Unplaceable}
+use Rattle.answers.specs.declared.Answer.{Answer}
+use Rattle.answers.specs.declared.Answer.the-variants.{Done, Duplicate, Refused}
 use Rattle.woot.specs.declared.Sent.{Sent}
 use Rattle.woot.specs.declared.Sent.the-variants.{Done as sentDone, Refused as sentRefused}
 use Rattle.woot.specs.Limits.{lastClock, capacity}
@@ -34,7 +34,8 @@ use Rattle.woot.specs.State.{State}
 use Rattle.woot.specs.Placing.{held, integrateInsert}
 use Rattle.woot.specs.Pending.{executable, crossed, unplaceable, integrate, Drained, andIntegrated, andDiscarded, drained}
 use Rattle.woot.specs.Form.{presentInserts, wellFormed}
-use Rattle.woot.specs.Answers.{number, done, reply, answerOf, sentOperation, first, decided, NoneHolds, Reported, here}
+use Rattle.answers.specs.Answers.{number, done, reply, first, decided, NoneHolds, Reported, here}
+use Rattle.woot.specs.Sending.{answerOf, sentOperation}
 use Rattle.woot.specs.Calls.{Outcome, unchanged, allIntegrated, afterDrain, insertCarried, carryOut, defer, visibles, nextIdentifier, generatedInsert, beyondVisible, insertChecks, localInsert}
 use Rattle.woot.specs.Cursor.{visibleThrough}
 use Rattle.woot.specs.Histories.{Call, startOf, beforehand, inserting, outcome, run, integratedBy, drainedBy, discardedBy, isDeferred, deferredBy, historyOf}

@@ -3,11 +3,11 @@ use mathlib.Core.Path.{_≡_, refl, ap}
 use mathlib.Core.Bool.{Bool, true, false, not, cond}
 use mathlib.Core.Option.{Option, some}
 use mathlib.Core.Logic.{_⊎_, inl, inr, ⊎-elim}
-use Rattle.woot.specs.declared.Refusal.the-variants.{Range, Form, Position}
-use Rattle.woot.specs.declared.Answer.{Answer}
-use Rattle.woot.specs.declared.Answer.the-variants.{Duplicate, Refused}
+use Rattle.answers.specs.declared.Refusal.the-variants.{Range, Form, Position}
+use Rattle.answers.specs.declared.Answer.{Answer}
+use Rattle.answers.specs.declared.Answer.the-variants.{Duplicate, Refused}
 use Rattle.woot.specs.Ranges.{inRange}
-use Rattle.woot.specs.Answers.{first, decided}
+use Rattle.answers.specs.Answers.{first, decided}
 use Rattle.woot.specs.Calls.{Outcome, unchanged, duplicate, newChecks, receiveChecks, receiveWhen, accept, beyondVisible}
 use Rattle.woot.specs.Cursor.{receiveAtChecks, receiveAtWhen}
 use Rattle.convergence.specs.Cursors.{ReceiveAtSame, ReceiveAtElse}

@@ -12,9 +12,9 @@ use Rattle.woot.specs.declared.Toggle.{Toggle}
 use Rattle.woot.specs.declared.Operation.{Operation}
 use Rattle.woot.specs.declared.Operation.the-variants.{Insert as insert, Toggle as toggle}
 use Rattle.woot.specs.declared.Character.{Character}
-use Rattle.woot.specs.declared.Refusal.the-variants.{Crossed}
-use Rattle.woot.specs.declared.Answer.{Answer}
-use Rattle.woot.specs.declared.Answer.the-variants.{Done, Duplicate, Refused}
+use Rattle.answers.specs.declared.Refusal.the-variants.{Crossed}
+use Rattle.answers.specs.declared.Answer.{Answer}
+use Rattle.answers.specs.declared.Answer.the-variants.{Done, Duplicate, Refused}
 use Rattle.woot.specs.Identifiers.{same}
 use Rattle.woot.specs.Operations.{origin, sameInsert, sameOperation, toggledBy, withToggles}
 use Rattle.woot.specs.Ranges.{inRange}
@@ -22,7 +22,7 @@ use Rattle.woot.specs.State.{State}
 use Rattle.woot.specs.Placing.{identifiers, integrateInsert, integrateToggle}
 use Rattle.woot.specs.Pending.{executable, crossed, unplaceable, integrate, drainSteps, drain, drained}
 use Rattle.woot.specs.Form.{wellFormed}
-use Rattle.woot.specs.Answers.{decided}
+use Rattle.answers.specs.Answers.{decided}
 use Rattle.woot.specs.Calls.{Outcome, unchanged, withCharacters, afterDrain, insertCarried, duplicate, conflicting, senderFull, documentFull, receiveChecks, carryOut, accept, receiveWhen, receive}
 use Rattle.lists.specs.Lists.{any}
 use Rattle.lists.proofs.Tests.{either, clash, and-intro, and-left, and-right, or-cases}

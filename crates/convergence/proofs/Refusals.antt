@@ -9,15 +9,16 @@ use mathlib.Core.List.{List, [], _∷_}
 use native.Mathlib.Omega.{arith}
 use Rattle.woot.specs.declared.Operation.{Operation}
 use Rattle.woot.specs.declared.Operation.the-variants.{Insert as insert, Toggle as toggle}
-use Rattle.woot.specs.declared.Refusal.{Refusal}
-use Rattle.woot.specs.declared.Answer.{Answer}
-use Rattle.woot.specs.declared.Answer.the-variants.{Done, Deferred, Duplicate, Refused}
+use Rattle.answers.specs.declared.Refusal.{Refusal}
+use Rattle.answers.specs.declared.Answer.{Answer}
+use Rattle.answers.specs.declared.Answer.the-variants.{Done, Deferred, Duplicate, Refused}
 use Rattle.woot.specs.declared.Sent.{Sent}
 use Rattle.woot.specs.declared.Sent.the-variants.{Done as sentDone, Refused as sentRefused}
 use Rattle.woot.specs.State.{State}
 use Rattle.woot.specs.Pending.{executable}
 use Rattle.woot.specs.Form.{wellFormed}
-use Rattle.woot.specs.Answers.{Check, first, decided, Reported, here, later, number, answerOf}
+use Rattle.answers.specs.Answers.{Check, first, decided, Reported, here, later, number}
+use Rattle.woot.specs.Sending.{answerOf}
 use Rattle.woot.specs.Calls.{Outcome, unchanged, carryOut, defer, accept, receiveChecks, receiveWhen, receive, insertChecks, generatedInsert, sendInsert, localInsertWhen, localInsert, deleteChecks, generatedDelete, sendToggle, localDeleteWhen, localDelete, restoreChecks, generatedToggle, localRestoreWhen, localRestore}
 use Rattle.woot.specs.Cursor.{receiveAtChecks, receiveAtWhen, receiveAt}
 use Rattle.woot.specs.Histories.{inserting, deleting, restoring, receiving, receivingAt, withAnswer, outcome}

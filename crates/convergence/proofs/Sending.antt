@@ -17,7 +17,7 @@ use Rattle.woot.specs.Ranges.{inRange}
 use Rattle.woot.specs.State.{State}
 use Rattle.woot.specs.Form.{wellFormed}
 use Rattle.woot.specs.Placing.{identifiers, integrateToggle}
-use Rattle.woot.specs.Answers.{decided}
+use Rattle.answers.specs.Answers.{decided}
 use Rattle.woot.specs.Calls.{withCharacters, carryOut, insertChecks, togglesOf, generatedToggle, sendToggle, deleteChecks, generatedDelete, restoreChecks, localInsert, localDeleteWhen, localDelete, localRestoreWhen, localRestore}
 use Rattle.convergence.specs.Theorems.{SentInRange, raisedAt, RaisedByOne}
 use Rattle.convergence.proofs.Forms.{formed}

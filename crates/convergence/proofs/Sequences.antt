@@ -40,7 +40,7 @@ use Rattle.convergence.proofs.Unique.{Consistent, Complete, complete-un
 use Rattle.convergence.proofs.Progress.{Progress, progress-none, progress-on, Settled, settled-later, completed, stopped}
 use Rattle.convergence.proofs.Heap.{insert-listed, listed-insert, built-complete, heap-offered, once-among}
 use Rattle.convergence.proofs.Receiving.{Taken, taken, received-known, received-done, known-settled, carried-alone, toggle-again}
-use Rattle.woot.specs.declared.Answer.{Answer}
+use Rattle.answers.specs.declared.Answer.{Answer}
 use Rattle.convergence.proofs.Places.{held-id}
 use Rattle.convergence.proofs.Soundness.{standing, fresh-unheld}
 use Rattle.convergence.proofs.Drains.{Draining, stop, discard, carry, draining}

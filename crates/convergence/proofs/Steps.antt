@@ -17,9 +17,9 @@ use Rattle.woot.specs.declared.Toggle.{Toggle}
 use Rattle.woot.specs.declared.Operation.{Operation}
 use Rattle.woot.specs.declared.Operation.the-variants.{Insert as insert, Toggle as toggle}
 use Rattle.woot.specs.declared.Character.{Character}
-use Rattle.woot.specs.declared.Refusal.the-variants.{Position}
-use Rattle.woot.specs.declared.Answer.{Answer}
-use Rattle.woot.specs.declared.Answer.the-variants.{Done, Deferred, Duplicate, Refused}
+use Rattle.answers.specs.declared.Refusal.the-variants.{Position}
+use Rattle.answers.specs.declared.Answer.{Answer}
+use Rattle.answers.specs.declared.Answer.the-variants.{Done, Deferred, Duplicate, Refused}
 use Rattle.woot.specs.declared.Sent.{Sent}
 use Rattle.woot.specs.declared.Sent.the-variants.{Done as sentDone, Refused as sentRefused}
 use Rattle.woot.specs.Limits.{lastClock, capacity, share}
@@ -32,7 +32,8 @@ use Rattle.woot.specs.Placing.{identifiers, held, integrateInsert}
 use Rattle.woot.specs.Pending.{executable, crossed, unplaceable, pendingFrom, Drained}
 use Rattle.woot.specs.Clock.{ownInsert, heard, heardAll}
 use Rattle.woot.specs.Form.{presentInserts, wellFormed}
-use Rattle.woot.specs.Answers.{Check, first, NoneHolds, decided, answerOf}
+use Rattle.answers.specs.Answers.{Check, first, NoneHolds, decided}
+use Rattle.woot.specs.Sending.{answerOf}
 use Rattle.woot.specs.Calls.{Outcome, unchanged, afterDrain, insertCarried, duplicate, conflicting, senderFull, documentFull, receiveChecks, carryOut, defer, accept, receiveWhen, receive, visibles, nextIdentifier, generatedInsert, beyondVisible, identifierTaken, insertChecks, sendInsert, localInsertWhen, localInsert, generatedToggle, deleteChecks, generatedDelete, sendToggle, localDeleteWhen, localDelete, restoreChecks, localRestoreWhen, localRestore}
 use Rattle.woot.specs.Cursor.{leftOf, receiveAtChecks, receiveAt}
 use Rattle.woot.specs.Histories.{Call, inserting, deleting, restoring, receiving, receivingAt, withAnswer, outcome}

@@ -19,10 +19,11 @@ use Rattle.woot.specs.Operations.{character, isVisible}
 use Rattle.woot.specs.State.{State}
 use Rattle.woot.specs.Placing.{placeOf, held, insertAt, integrateInsert}
 use Rattle.woot.specs.Pending.{executable, Drained, andIntegrated, andDiscarded, drained}
-use Rattle.woot.specs.declared.Answer.{Answer}
-use Rattle.woot.specs.declared.Answer.the-variants.{Done as answerDone}
+use Rattle.answers.specs.declared.Answer.{Answer}
+use Rattle.answers.specs.declared.Answer.the-variants.{Done as answerDone}
 use Rattle.woot.specs.Form.{wellFormed}
-use Rattle.woot.specs.Answers.{reply, changes, sentOperation, NoneHolds}
+use Rattle.answers.specs.Answers.{reply, changes, NoneHolds}
+use Rattle.woot.specs.Sending.{sentOperation}
 use Rattle.woot.specs.Calls.{Outcome, afterDrain, insertCarried, carryOut, visibles, beyondVisible, generatedInsert, insertChecks, localInsert}
 use Rattle.woot.specs.Cursor.{leftOf, through, visibleThrough, cursorAfter, receiveAt, newGap}
 use Rattle.woot.specs.Histories.{inserting, outcome}

@@ -15,16 +15,17 @@ use Rattle.woot.specs.declared.Insert.{Insert}
 use Rattle.woot.specs.declared.Operation.{Operation}
 use Rattle.woot.specs.declared.Operation.the-variants.{Insert as insert, Toggle as toggle}
 use Rattle.woot.specs.declared.Character.{Character}
-use Rattle.woot.specs.declared.Refusal.the-variants.{Unplaceable}
-use Rattle.woot.specs.declared.Answer.{Answer}
-use Rattle.woot.specs.declared.Answer.the-variants.{Done, Refused}
+use Rattle.answers.specs.declared.Refusal.the-variants.{Unplaceable}
+use Rattle.answers.specs.declared.Answer.{Answer}
+use Rattle.answers.specs.declared.Answer.the-variants.{Done, Refused}
 use Rattle.woot.specs.Limits.{lastClock, capacity}
 use Rattle.woot.specs.Operations.{inserts}
 use Rattle.woot.specs.Ranges.{codePoint}
 use Rattle.woot.specs.State.{State}
 use Rattle.woot.specs.Pending.{executable, crossed, unplaceable, integrate, Drained, andIntegrated, andDiscarded, drained}
 use Rattle.woot.specs.Form.{presentInserts, wellFormed}
-use Rattle.woot.specs.Answers.{number, done, reply, answerOf, NoneHolds, here, later}
+use Rattle.answers.specs.Answers.{number, done, reply, NoneHolds, here, later}
+use Rattle.woot.specs.Sending.{answerOf}
 use Rattle.woot.specs.Calls.{Outcome, unchanged, allIntegrated, withCharacters, withPending, documentFull, carryOut, defer, visibles, nextIdentifier, generatedInsert, beyondVisible, identifierTaken, insertChecks, localInsert}
 use Rattle.woot.specs.Cursor.{visibleThrough}
 use Rattle.woot.specs.Histories.{Call, inserting, outcome, run, integratedBy, discardedBy}

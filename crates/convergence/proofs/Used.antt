@@ -6,11 +6,11 @@ use mathlib.Core.Logic.{_⊎_, inl, inr}
 use mathlib.Core.Option.{Option, none, some}
 use mathlib.Core.List.{List}
 use borrow.Author.Tests.{not-false}
-use Rattle.woot.specs.declared.Answer.{Answer}
-use Rattle.woot.specs.declared.Answer.the-variants.{Done}
+use Rattle.answers.specs.declared.Answer.{Answer}
+use Rattle.answers.specs.declared.Answer.the-variants.{Done}
 use Rattle.woot.specs.State.{State, initial}
 use Rattle.woot.specs.Form.{wellFormed}
-use Rattle.woot.specs.Answers.{first, decided, NoneHolds}
+use Rattle.answers.specs.Answers.{first, decided, NoneHolds}
 use Rattle.woot.specs.Loading.{loadable, useChecks, UseOutcome, unused, useWhen, useOutcome}
 use Rattle.convergence.specs.Agreement.{Grown}
 use Rattle.convergence.proofs.Forms.{formed}

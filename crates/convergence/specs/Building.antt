@@ -13,15 +13,15 @@ use Rattle.woot.specs.declared.Insert.{Insert}
 use Rattle.woot.specs.declared.Toggle.{Toggle}
 use Rattle.woot.specs.declared.Operation.{Operation}
 use Rattle.woot.specs.declared.Operation.the-variants.{Insert as insert, Toggle as toggle}
-use Rattle.woot.specs.declared.Refusal.{Refusal}
-use Rattle.woot.specs.declared.Answer.the-variants.{Done, Refused}
+use Rattle.answers.specs.declared.Refusal.{Refusal}
+use Rattle.answers.specs.declared.Answer.the-variants.{Done, Refused}
 use Rattle.woot.specs.Operations.{inserts, sameOperation}
 use Rattle.woot.specs.Ranges.{siteNumber}
 use Rattle.woot.specs.State.{State, initial}
 use Rattle.woot.specs.Placing.{held}
 use Rattle.woot.specs.Pending.{executable, crossed}
 use Rattle.woot.specs.Form.{wellFormed}
-use Rattle.woot.specs.Answers.{done, number, reply, NoneHolds, Reported}
+use Rattle.answers.specs.Answers.{done, number, reply, NoneHolds, Reported}
 use Rattle.woot.specs.Calls.{receive}
 use Rattle.woot.specs.Building.{leftOut, disagreeing, buildChecks, unbuilt, build}
 use Rattle.convergence.specs.Agreement.{Grown}

@@ -5,14 +5,14 @@ use mathlib.Core.Bool.{true, false}
 use mathlib.Core.List.{List, [], _∷_, _++_}
 use mathlib.Core.Logic.{_↔_}
 use Rattle.woot.specs.declared.Operation.{Operation}
-use Rattle.woot.specs.declared.Refusal.the-variants.{Taken}
-use Rattle.woot.specs.declared.Answer.{Answer}
-use Rattle.woot.specs.declared.Answer.the-variants.{Done, Deferred, Duplicate, Refused}
+use Rattle.answers.specs.declared.Refusal.the-variants.{Taken}
+use Rattle.answers.specs.declared.Answer.{Answer}
+use Rattle.answers.specs.declared.Answer.the-variants.{Done, Deferred, Duplicate, Refused}
 use Rattle.woot.specs.Operations.{inserts}
 use Rattle.woot.specs.State.{State}
 use Rattle.woot.specs.Clock.{heardAll}
 use Rattle.woot.specs.Form.{allInRange, clockKept, wellFormed, raised}
-use Rattle.woot.specs.Answers.{done, reply}
+use Rattle.answers.specs.Answers.{done, reply}
 use Rattle.woot.specs.Calls.{allIntegrated, identifierTaken}
 use Rattle.woot.specs.Histories.{Call, inserting, deleting, restoring, receiving, receivingAt, outcome}
 

@@ -14,14 +14,15 @@ use Rattle.woot.specs.declared.Insert.{Insert}
 use Rattle.woot.specs.declared.Operation.{Operation}
 use Rattle.woot.specs.declared.Operation.the-variants.{Insert as insert, Toggle as toggle}
 use Rattle.woot.specs.declared.Character.{Character}
-use Rattle.woot.specs.declared.Refusal.{Refusal}
-use Rattle.woot.specs.declared.Refusal.the-variants.{Position}
-use Rattle.woot.specs.declared.Answer.the-variants.{Deferred, Duplicate, Refused}
+use Rattle.answers.specs.declared.Refusal.{Refusal}
+use Rattle.answers.specs.declared.Refusal.the-variants.{Position}
+use Rattle.answers.specs.declared.Answer.the-variants.{Deferred, Duplicate, Refused}
 use Rattle.woot.specs.Identifiers.{begin, same}
 use Rattle.woot.specs.State.{State}
 use Rattle.woot.specs.Placing.{above}
 use Rattle.woot.specs.Pending.{executable}
-use Rattle.woot.specs.Answers.{number, done, waits, reply, changes, sentOperation, NoneHolds, Reported}
+use Rattle.answers.specs.Answers.{number, done, waits, reply, changes, NoneHolds, Reported}
+use Rattle.woot.specs.Sending.{sentOperation}
 use Rattle.woot.specs.Calls.{unchanged, receiveWhen, visibles, beyondVisible, localInsert, localDelete, localRestore}
 use Rattle.woot.specs.Cursor.{leftOf, visibleThrough, receiveAtChecks, receiveAtWhen, receiveAt, newGap, shiftOf}
 use Rattle.woot.specs.Cursor.{shiftAt, lastNumber, movedBy}

@@ -6,14 +6,14 @@ use mathlib.Core.List.{List, List·Memᴰ}
 use mathlib.Core.Logic.{_↔_}
 use Rattle.woot.specs.declared.Operation.{Operation}
 use Rattle.woot.specs.declared.Character.{Character}
-use Rattle.woot.specs.declared.Refusal.{Refusal}
-use Rattle.woot.specs.declared.Refusal.the-variants.{Unreachable, Unplaceable}
-use Rattle.woot.specs.declared.Answer.the-variants.{Done, Refused}
+use Rattle.answers.specs.declared.Refusal.{Refusal}
+use Rattle.answers.specs.declared.Refusal.the-variants.{Unreachable, Unplaceable}
+use Rattle.answers.specs.declared.Answer.the-variants.{Done, Refused}
 use Rattle.woot.specs.Ranges.{siteNumber}
 use Rattle.woot.specs.State.{State, initial}
 use Rattle.woot.specs.Pending.{crossed}
 use Rattle.woot.specs.Form.{wellFormed}
-use Rattle.woot.specs.Answers.{done, number, reply, NoneHolds, Reported}
+use Rattle.answers.specs.Answers.{done, number, reply, NoneHolds, Reported}
 use Rattle.woot.specs.Building.{build}
 use Rattle.woot.specs.Loading.{loadable, useChecks, unused, useWhen, useOutcome}
 use Rattle.woot.specs.Histories.{Call, Begun, loaded, startOf, beforehand, outcome, run}

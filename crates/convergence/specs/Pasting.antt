@@ -9,13 +9,14 @@ use mathlib.Core.Option.{Option, some}
 use lib.ListN.{length}
 use Rattle.utf8.specs.Theorems.{Encodes}
 use Rattle.woot.specs.declared.Operation.{Operation}
-use Rattle.woot.specs.declared.Refusal.{Refusal}
-use Rattle.woot.specs.declared.Refusal.the-variants.{NotUtf8, Unplaceable}
-use Rattle.woot.specs.declared.Answer.the-variants.{Done, Refused}
+use Rattle.answers.specs.declared.Refusal.{Refusal}
+use Rattle.answers.specs.declared.Refusal.the-variants.{NotUtf8, Unplaceable}
+use Rattle.answers.specs.declared.Answer.the-variants.{Done, Refused}
 use Rattle.woot.specs.Operations.{inserts}
 use Rattle.woot.specs.State.{State}
 use Rattle.woot.specs.Form.{wellFormed}
-use Rattle.woot.specs.Answers.{done, number, reply, sentOperation, NoneHolds, Reported}
+use Rattle.answers.specs.Answers.{done, number, reply, NoneHolds, Reported}
+use Rattle.woot.specs.Sending.{sentOperation}
 use Rattle.woot.specs.Calls.{nextIdentifier, beyondVisible, localInsert}
 use Rattle.woot.specs.Cursor.{leftOf}
 use Rattle.woot.specs.Histories.{Call, Begun, startOf, inserting, outcome, run, historyOf}

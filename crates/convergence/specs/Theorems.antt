@@ -12,9 +12,9 @@ use Rattle.woot.specs.declared.Toggle.{Toggle}
 use Rattle.woot.specs.declared.Operation.{Operation}
 use Rattle.woot.specs.declared.Operation.the-variants.{Insert as insert, Toggle as toggle}
 use Rattle.woot.specs.declared.Character.{Character}
-use Rattle.woot.specs.declared.Refusal.{Refusal}
-use Rattle.woot.specs.declared.Refusal.the-variants.{Unplaceable, SenderFull, DocumentFull}
-use Rattle.woot.specs.declared.Answer.the-variants.{Deferred, Duplicate, Refused}
+use Rattle.answers.specs.declared.Refusal.{Refusal}
+use Rattle.answers.specs.declared.Refusal.the-variants.{Unplaceable, SenderFull, DocumentFull}
+use Rattle.answers.specs.declared.Answer.the-variants.{Deferred, Duplicate, Refused}
 use Rattle.woot.specs.declared.Sent.the-variants.{Refused as sentRefused}
 use Rattle.woot.specs.declared.Written.{Written}
 use Rattle.woot.specs.declared.Written.the-variants.{Length, Refused as writtenRefused}
@@ -28,7 +28,8 @@ use Rattle.woot.specs.Placing.{identifiers, above, Interval, adjacent, candidat
 use Rattle.woot.specs.Pending.{executable, crossed, unplaceable, integrate, sentBy, Extracted, earliest, Drained}
 use Rattle.woot.specs.Pending.{andIntegrated, andDiscarded, drained, drain}
 use Rattle.woot.specs.Form.{wellFormed}
-use Rattle.woot.specs.Answers.{number, done, waits, reply, answerOf, sentOperation, Check, NoneHolds, Reported}
+use Rattle.answers.specs.Answers.{number, done, waits, reply, Check, NoneHolds, Reported}
+use Rattle.woot.specs.Sending.{answerOf, sentOperation}
 use Rattle.woot.specs.Calls.{unchanged, allIntegrated, receiveChecks, receiveWhen, receive, insertChecks}
 use Rattle.woot.specs.Calls.{generatedInsert, localInsertWhen, localInsert, deleteChecks, generatedDelete}
 use Rattle.woot.specs.Calls.{localDeleteWhen, localDelete, restoreChecks, generatedToggle, localRestoreWhen}

@@ -1,9 +1,9 @@
 // Saved replicas from one form to the other: the way forward reads the first form, and the way back writes it.
+use answers::Refusal;
 use saved::LoadAnswer;
 use saved::Version;
 use woot::PENDING;
 use woot::PENDING_NUMBERS;
-use woot::Refusal;
 use woot::VALUES;
 use woot::Written;
 ghost use mathlib.Core.Path.{_≡_};

@@ -2,8 +2,8 @@
 use mathlib.Core.Path.{_≡_, refl, ap}
 use mathlib.Core.Bool.{Bool, true, false, not}
 use borrow.Author.Tests.{not-false}
-use Rattle.woot.specs.declared.Answer.{Answer}
-use Rattle.woot.specs.declared.Answer.the-variants.{Done, Deferred, Duplicate, Refused}
+use Rattle.answers.specs.declared.Answer.{Answer}
+use Rattle.answers.specs.declared.Answer.the-variants.{Done, Deferred, Duplicate, Refused}
 use Rattle.reception.specs.declared.Decision.{Decision}
 use Rattle.reception.specs.declared.Decision.the-variants.{Answered, Defer, Place, Toggle as toggleAt}
 use Rattle.cursor.specs.Steps.{answerAt, overruled}

@@ -15,7 +15,7 @@ use Rattle.woot.specs.declared.Replica.{Replica}
 use Rattle.woot.specs.declared.ReceiptAt.{ReceiptAt}
 use Rattle.woot.specs.State.{State}
 use Rattle.woot.specs.Memory.{meaning}
-use Rattle.woot.specs.Answers.{changes}
+use Rattle.answers.specs.Answers.{changes}
 use Rattle.woot.specs.Cursor.{leftOf, nearest, cursorAfter, receiveAt, newGap, shiftAt, lastNumber, movedBy}
 use Rattle.woot.specs.Replicas.{receiptAt, receivedAt}
 use Rattle.lists.proofs.Tests.{either, clash}

@@ -15,12 +15,12 @@ use Rattle.woot.specs.declared.Identifier.{Identifier}
 use Rattle.woot.specs.declared.Operation.{Operation}
 use Rattle.woot.specs.declared.Operation.the-variants.{Insert as insert, Toggle as toggle}
 use Rattle.woot.specs.declared.Character.{Character}
-use Rattle.woot.specs.declared.Refusal.the-variants.{Range, Form, Position}
+use Rattle.answers.specs.declared.Refusal.the-variants.{Range, Form, Position}
 use Rattle.woot.specs.declared.Replica.{Replica}
 use Rattle.woot.specs.declared.ReceiptAt.{ReceiptAt}
 use Rattle.woot.specs.declared.Receipt.{Receipt}
-use Rattle.woot.specs.declared.Answer.{Answer}
-use Rattle.woot.specs.declared.Answer.the-variants.{Done, Deferred, Duplicate, Refused}
+use Rattle.answers.specs.declared.Answer.{Answer}
+use Rattle.answers.specs.declared.Answer.the-variants.{Done, Deferred, Duplicate, Refused}
 use Rattle.woot.specs.Identifiers.{begin}
 use Rattle.woot.specs.Operations.{isVisible}
 use Rattle.woot.specs.Ranges.{inRange}
@@ -30,7 +30,7 @@ use Rattle.woot.specs.Table.{keys}
 use Rattle.woot.specs.Memory as memory
 use Rattle.woot.specs.Memory.{identifier, toggleCounts}
 use Rattle.woot.specs.Pending.{executable}
-use Rattle.woot.specs.Answers.{earlier, changes, first, decided}
+use Rattle.answers.specs.Answers.{earlier, changes, first, decided}
 use Rattle.woot.specs.Calls.{Outcome, unchanged, duplicate, newChecks, receiveChecks, receiveWhen, carryOut, defer, accept, visibles, beyondVisible}
 use Rattle.woot.specs.Cursor.{leftOf, visibleThrough, cursorAfter, receiveAtChecks, receiveAtWhen, receiveAt, newGap, shiftOf}
 use Rattle.woot.specs.Histories.{receivingAt, outcome}

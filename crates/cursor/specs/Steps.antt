@@ -8,10 +8,10 @@ use lib.Dec.{ltb}
 use lib.ListN.{length}
 use Rattle.woot.specs.declared.Character.{Character}
 use Rattle.woot.specs.declared.Operation.{Operation}
-use Rattle.woot.specs.declared.Refusal.the-variants.{Position}
-use Rattle.woot.specs.declared.Answer.{Answer}
-use Rattle.woot.specs.declared.Answer.the-variants.{Done, Deferred, Duplicate, Refused}
-use Rattle.woot.specs.Answers.{earlier}
+use Rattle.answers.specs.declared.Refusal.the-variants.{Position}
+use Rattle.answers.specs.declared.Answer.{Answer}
+use Rattle.answers.specs.declared.Answer.the-variants.{Done, Deferred, Duplicate, Refused}
+use Rattle.answers.specs.Answers.{earlier}
 use Rattle.woot.specs.Calls.{visibles}
 use Rattle.woot.specs.Cursor.{leftOf, receiveAtWhen}
 use Rattle.woot.specs.Table.{key}

@@ -11,7 +11,7 @@ use Rattle.woot.specs.declared.Character.{Character}
 use Rattle.woot.specs.declared.Operation.{Operation}
 use Rattle.woot.specs.declared.Replica.{Replica}
 use Rattle.woot.specs.Memory.{meaning}
-use Rattle.woot.specs.Answers.{changes}
+use Rattle.answers.specs.Answers.{changes}
 use Rattle.woot.specs.Calls.{beyondVisible}
 use Rattle.woot.specs.Cursor.{leftOf, cursorAfter, lastNumber, movedBy}
 use Rattle.convergence.specs.Cursors.{shown, NearestAbove}

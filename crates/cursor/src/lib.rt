@@ -1,14 +1,14 @@
 // Receiving with an editor's cursor, which stands at an insertion point and keeps to what stands on its left: that is
 // taken down as a key before the call, and the visible characters through it are counted afterwards. The steps read the
 // replica's arrays as they lie, with a slot for each of the n characters. (Document 02, Req 02.)
+use answers::Answer;
+use answers::Refusal;
 use index::Found;
 use reception::Decision;
-use woot::Answer;
 use woot::CHARACTERS;
 use woot::Document;
 use woot::Operation;
 use woot::ReceiptAt;
-use woot::Refusal;
 use woot::Replica;
 use woot::Site;
 use woot::Table;
@@ -20,7 +20,7 @@ ghost use lib.IntN.{pos, negsuc, subℕ};
 ghost use lib.Signed.{_≤ℤ_, _<ℤ_};
 ghost use lib.ListN.{length, take};
 ghost use Rattle.woot.specs.declared.Character.{Character};
-ghost use Rattle.woot.specs.Answers.{changes};
+ghost use Rattle.answers.specs.Answers.{changes};
 ghost use Rattle.woot.specs.Cursor.{visibleThrough, lastNumber, movedBy};
 ghost use Rattle.woot.specs.Table.{keys};
 ghost use Rattle.woot.specs.Memory.{identifier, toggleCounts, characterNumbers, characterSlots};

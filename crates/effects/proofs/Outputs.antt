@@ -13,16 +13,16 @@ use lib.ListN.{length}
 use Rattle.output.specs.Output.{hasRoom, placed}
 use Rattle.woot.specs.declared.Operation.{Operation}
 use Rattle.woot.specs.declared.Replica.{Replica}
-use Rattle.woot.specs.declared.Refusal.{Refusal}
-use Rattle.woot.specs.declared.Refusal.the-variants.{Form, Output}
-use Rattle.woot.specs.declared.Answer.{Answer}
-use Rattle.woot.specs.declared.Answer.the-variants.{Done}
+use Rattle.answers.specs.declared.Refusal.{Refusal}
+use Rattle.answers.specs.declared.Refusal.the-variants.{Form, Output}
+use Rattle.answers.specs.declared.Answer.{Answer}
+use Rattle.answers.specs.declared.Answer.the-variants.{Done}
 use Rattle.woot.specs.declared.Sent.the-variants.{Done as sentDone, Refused as sentRefused}
 use Rattle.woot.specs.declared.ReceiptAt.{ReceiptAt}
 use Rattle.woot.specs.declared.Generated.{Generated}
 use Rattle.woot.specs.declared.Written.the-variants.{Length, Refused as writtenRefused}
 use Rattle.woot.specs.declared.Written.{Written}
-use Rattle.woot.specs.Answers.{changes, Check, _⇒_, first, decided}
+use Rattle.answers.specs.Answers.{changes, Check, _⇒_, first, decided}
 use Rattle.woot.specs.Writing.{refusing, writingChecks, writtenAs, outputAfter}
 use Rattle.lists.proofs.Tests.{side}
 use Rattle.convergence.proofs.Writing.{length-refused, own-first, own-none, too-short, has-room}

@@ -22,7 +22,8 @@ use Rattle.woot.specs.Table.{key, keys}
 use Rattle.woot.specs.declared.Sent.{Sent}
 use Rattle.woot.specs.declared.Sent.the-variants.{Done}
 use Rattle.woot.specs.declared.Generated.{Generated}
-use Rattle.woot.specs.Answers.{changes, answerOf}
+use Rattle.answers.specs.Answers.{changes}
+use Rattle.woot.specs.Sending.{answerOf}
 use Rattle.woot.proofs.Generated as generated
 use Rattle.memory.proofs.Fullness.{FullArrays, full-replica}
 use Rattle.woot.specs.declared.Replica.{Replica}

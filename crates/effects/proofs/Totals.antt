@@ -6,14 +6,14 @@ use mathlib.Core.Bool.{true, false}
 use lib.ListN.{length, take}
 use lib.Seq.{take-take}
 use Rattle.woot.specs.declared.Replica.{Replica}
-use Rattle.woot.specs.declared.Refusal.the-variants.{Form}
-use Rattle.woot.specs.declared.Answer.the-variants.{Refused}
+use Rattle.answers.specs.declared.Refusal.the-variants.{Form}
+use Rattle.answers.specs.declared.Answer.the-variants.{Refused}
 use Rattle.woot.specs.Limits.{capacity}
 use Rattle.woot.specs.Operations.{inserts}
 use Rattle.woot.specs.State.{State}
 use Rattle.woot.specs.Memory.{meaning, replicaWellFormed}
 use Rattle.woot.specs.Form.{presentInserts, wellFormed}
-use Rattle.woot.specs.Answers.{decided}
+use Rattle.answers.specs.Answers.{decided}
 use Rattle.convergence.proofs.Forms.{formed, known-length}
 use Rattle.memory.specs.Columns as columns
 use Rattle.memory.specs.Lent.{viewed}

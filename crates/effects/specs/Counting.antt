@@ -7,11 +7,11 @@ use lib.ListN.{length}
 use Rattle.lists.specs.Lists.{keep}
 use Rattle.woot.specs.declared.Character.{Character}
 use Rattle.woot.specs.declared.Replica.{Replica}
-use Rattle.woot.specs.declared.Refusal.the-variants.{Form}
-use Rattle.woot.specs.declared.Answer.the-variants.{Done, Refused}
+use Rattle.answers.specs.declared.Refusal.the-variants.{Form}
+use Rattle.answers.specs.declared.Answer.the-variants.{Done, Refused}
 use Rattle.woot.specs.Limits.{capacity}
 use Rattle.woot.specs.Memory.{meaning, replicaWellFormed}
-use Rattle.woot.specs.Answers.{_⇒_, first, decided}
+use Rattle.answers.specs.Answers.{_⇒_, first, decided}
 use Rattle.woot.specs.Calls.{visibles}
 use Rattle.effects.specs.Results.{Result, result, silent}
 use Rattle.effects.specs.Counts.{countsOf}

@@ -1,7 +1,7 @@
 -- How much a state holds, as the result of a call.
 use Prim.Native.Nat.{_-_}
 use lib.ListN.{length}
-use Rattle.woot.specs.declared.Answer.the-variants.{Done}
+use Rattle.answers.specs.declared.Answer.the-variants.{Done}
 use Rattle.woot.specs.Limits.{capacity}
 use Rattle.woot.specs.State.{State}
 use Rattle.woot.specs.Form.{presentInserts}

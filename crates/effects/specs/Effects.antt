@@ -8,14 +8,14 @@ use lib.IntN.{ℤ}
 use lib.ListN.{length}
 use Rattle.output.specs.Output.{placed}
 use Rattle.woot.specs.declared.Operation.{Operation}
-use Rattle.woot.specs.declared.Refusal.{Refusal}
-use Rattle.woot.specs.declared.Refusal.the-variants.{Output}
-use Rattle.woot.specs.declared.Answer.{Answer}
-use Rattle.woot.specs.declared.Answer.the-variants.{Done, Refused}
+use Rattle.answers.specs.declared.Refusal.{Refusal}
+use Rattle.answers.specs.declared.Refusal.the-variants.{Output}
+use Rattle.answers.specs.declared.Answer.{Answer}
+use Rattle.answers.specs.declared.Answer.the-variants.{Done, Refused}
 use Rattle.woot.specs.declared.Sent.{Sent}
 use Rattle.woot.specs.declared.Sent.the-variants.{Done as sentDone, Refused as sentRefused}
 use Rattle.woot.specs.State.{State}
-use Rattle.woot.specs.Answers.{changes, _⇒_, first, decided}
+use Rattle.answers.specs.Answers.{changes, _⇒_, first, decided}
 use Rattle.woot.specs.Calls.{Outcome}
 use Rattle.woot.specs.Pasting.{PasteOutcome}
 use Rattle.lines.specs.Lines.{concatenated}

@@ -1,7 +1,7 @@
 -- What a call returns: a reply and two lengths, or a length and a shift, in one number.
 use Prim.Native.Nat.{ℕ, _+_, _*_, _%_, _^_}
-use Rattle.woot.specs.declared.Answer.{Answer}
-use Rattle.woot.specs.Answers.{Word, done, waits, known, refused, Reply, reply}
+use Rattle.answers.specs.declared.Answer.{Answer}
+use Rattle.answers.specs.Answers.{Word, done, waits, known, refused, Reply, reply}
 
 -- a reply, and how many bytes were written to the first output and to the second, which takes the line; receiving with
 -- a cursor has no second output, and its shift stands there in sixteen bits

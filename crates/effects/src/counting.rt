@@ -1,10 +1,10 @@
 // How much a replica holds, as the number that a call for C returns: its visible characters, its pending operations,
 // all its characters, and how many more it has room for.
 use crate::results;
+use answers::Answer;
+use answers::Refusal;
 use pending::counts;
-use woot::Answer;
 use woot::CHARACTERS;
-use woot::Refusal;
 use woot::Replica;
 ghost use mathlib.Core.Path.{_≡_};
 ghost use mathlib.Core.List.{List};

@@ -3,12 +3,12 @@
 pub mod counting;
 pub mod results;
 
+use answers::Answer;
+use answers::Refusal;
 use lines::writing::Room;
 use saved::Version;
-use woot::Answer;
 use woot::Generated;
 use woot::Operation;
-use woot::Refusal;
 use woot::Replica;
 use woot::Sent;
 use woot::Site;
@@ -18,8 +18,9 @@ ghost use mathlib.Core.Bool.{true};
 ghost use mathlib.Core.List.{[]};
 ghost use Prim.Native.Nat.{_≤_};
 ghost use lib.ListN.{length};
-ghost use Rattle.woot.specs.declared.Answer.the-variants.{Done};
-ghost use Rattle.woot.specs.Answers.{changes, answerOf};
+ghost use Rattle.answers.specs.declared.Answer.the-variants.{Done};
+ghost use Rattle.answers.specs.Answers.{changes};
+ghost use Rattle.woot.specs.Sending.{answerOf};
 ghost use Rattle.woot.specs.Memory.{replicaWellFormed, characterNumbers, characterSlots, pendingNumbers, pendingSlots};
 ghost use Rattle.woot.specs.Replicas.{receivedAt};
 ghost use Rattle.codec.specs.Operations.{operationLine};

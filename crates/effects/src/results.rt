@@ -1,8 +1,8 @@
 // The number that a call returns: a reply and two lengths, or a length and a shift, in the bits of one `u64`.
-use woot::Answer;
-use woot::Refusal;
+use answers::Answer;
+use answers::Refusal;
 ghost use mathlib.Core.Path.{_≡_};
-ghost use Rattle.woot.specs.declared.Answer.the-variants.{Refused};
+ghost use Rattle.answers.specs.declared.Answer.the-variants.{Refused};
 ghost use Rattle.effects.specs.Results.{inBits, result, numberOf, silent};
 
 // The parts in their bits.

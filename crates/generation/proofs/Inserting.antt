@@ -10,14 +10,14 @@ use Rattle.lists.proofs.Tests.{clash}
 use Rattle.woot.specs.declared.Insert.{Insert}
 use Rattle.woot.specs.declared.Operation.the-variants.{Insert as insert}
 use Rattle.woot.specs.declared.Character.{Character}
-use Rattle.woot.specs.declared.Refusal.the-variants.{Position, Clock, Unplaceable as placeless, DocumentFull}
+use Rattle.answers.specs.declared.Refusal.the-variants.{Position, Clock, Unplaceable as placeless, DocumentFull}
 use Rattle.woot.specs.declared.Sent.the-variants.{Refused as sentRefused}
 use Rattle.memory.specs.Columns.{Replica}
 use Rattle.woot.specs.Limits.{lastClock}
 use Rattle.woot.specs.Ranges.{codePoint}
 use Rattle.woot.specs.State.{State}
 use Rattle.woot.specs.Pending.{unplaceable}
-use Rattle.woot.specs.Answers.{decided}
+use Rattle.answers.specs.Answers.{decided}
 use Rattle.woot.specs.Cursor.{leftOf}
 use Rattle.woot.specs.Calls.{unchanged, visibles, nextIdentifier, generatedInsert, beyondVisible, documentFull, insertChecks, sendInsert, localInsertWhen}
 use Rattle.woot.specs.Table.{key}

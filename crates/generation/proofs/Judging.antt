@@ -3,9 +3,9 @@ use Prim.Native.Nat.{ℕ}
 use mathlib.Core.Path.{_≡_}
 use mathlib.Core.Bool.{true, false}
 use Rattle.woot.specs.declared.Identifier.{Identifier}
-use Rattle.woot.specs.declared.Refusal.the-variants.{Range, Form}
+use Rattle.answers.specs.declared.Refusal.the-variants.{Range, Form}
 use Rattle.woot.specs.Ranges.{codePoint, characterId}
-use Rattle.woot.specs.Answers.{decided}
+use Rattle.answers.specs.Answers.{decided}
 use Rattle.woot.specs.Calls.{insertChecks, localInsertWhen, deleteChecks, localDeleteWhen, restoreChecks, localRestoreWhen}
 use Rattle.memory.specs.Columns.{Replica, replicaWellFormed}
 use Rattle.generation.specs.declared.Made.the-variants.{Refused}

@@ -13,7 +13,7 @@ use Rattle.woot.specs.declared.Identifier.{Identifier}
 use Rattle.woot.specs.declared.Toggle.{Toggle}
 use Rattle.woot.specs.declared.Character.{Character}
 use Rattle.woot.specs.declared.Operation.the-variants.{Toggle as toggle}
-use Rattle.woot.specs.declared.Refusal.the-variants.{Position, NotHidden, LastToggle}
+use Rattle.answers.specs.declared.Refusal.the-variants.{Position, NotHidden, LastToggle}
 use Rattle.memory.specs.Columns.{Replica}
 use Rattle.woot.specs.Limits.{lastToggles}
 use Rattle.woot.specs.Identifiers.{begin, same}
@@ -21,7 +21,7 @@ use Rattle.woot.specs.Operations.{isVisible}
 use Rattle.woot.specs.Ranges.{characterId}
 use Rattle.woot.specs.State.{blankCharacter}
 use Rattle.woot.specs.Placing.{identifiers}
-use Rattle.woot.specs.Answers.{decided}
+use Rattle.answers.specs.Answers.{decided}
 use Rattle.woot.specs.Calls.{visibles, beyondVisible, togglesOf, generatedToggle, sendToggle, notVisible, deleteChecks, generatedDelete, localDeleteWhen}
 use Rattle.woot.specs.Calls.{notHidden, exhausted, restoreChecks, localRestoreWhen}
 use Rattle.woot.specs.Memory.{identifier, characterOf, characterAt, toggleCounts}

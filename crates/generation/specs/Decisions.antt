@@ -6,7 +6,7 @@ use mathlib.Core.List.{List}
 use Rattle.woot.specs.declared.Identifier.{Identifier}
 use Rattle.woot.specs.declared.Insert.{Insert}
 use Rattle.woot.specs.declared.Operation.the-variants.{Insert as insert}
-use Rattle.woot.specs.declared.Refusal.the-variants.{Unplaceable, DocumentFull}
+use Rattle.answers.specs.declared.Refusal.the-variants.{Unplaceable, DocumentFull}
 use Rattle.woot.specs.declared.Sent.{Sent}
 use Rattle.woot.specs.declared.Sent.the-variants.{Done as sentDone, Refused as sentRefused}
 use Rattle.woot.specs.Calls.{Outcome, unchanged, carryOut, localInsertWhen, localDeleteWhen, localRestoreWhen}

@@ -1,5 +1,6 @@
 // What inserting, deleting and restoring here come to, on lent arrays, before any of them is changed: a refusal, or an
 // operation and where it goes. (Document 01: typing and erasing; document 02, Req 05: restoring.)
+use answers::Refusal;
 use index::Found;
 use index::table;
 use integration::Placement;
@@ -13,7 +14,6 @@ use woot::NEXT_KEYS;
 use woot::Operation;
 use woot::PENDING;
 use woot::PREVIOUS_KEYS;
-use woot::Refusal;
 use woot::Site;
 use woot::Toggle;
 ghost use mathlib.Core.Path.{_≡_};

@@ -1,5 +1,6 @@
 // A heap of operations as lines, in no useful order: read into lent arrays, inserts apart from toggles, and the inserts
 // that are repeated dropped. The public functions are steps of `building` and not calls. (Document 02, Req 08.)
+use answers::Refusal;
 use codec::INSERT;
 use codec::Read;
 use index::Found;
@@ -9,7 +10,6 @@ use woot::Insert;
 use woot::NEXT_KEYS;
 use woot::Operation;
 use woot::PREVIOUS_KEYS;
-use woot::Refusal;
 use woot::Toggle;
 ghost use mathlib.Core.Path.{_≡_};
 ghost use mathlib.Core.Bool.{true};

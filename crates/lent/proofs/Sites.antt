@@ -8,7 +8,7 @@ use Rattle.woot.specs.declared.Replica.{Replica}
 use Rattle.woot.specs.declared.Sent.{Sent}
 use Rattle.woot.specs.declared.Sent.the-variants.{Done, Refused}
 use Rattle.woot.specs.Memory.{meaning, stored, replicaWellFormed}
-use Rattle.woot.specs.Answers.{NoneHolds, first, decided}
+use Rattle.answers.specs.Answers.{NoneHolds, first, decided}
 use Rattle.woot.specs.Calls.{Outcome, unchanged, afterDrain, insertChecks, generatedInsert, carryOut, sendInsert, localInsertWhen}
 use Rattle.convergence.proofs.Forms.{Formed, formed}
 use Rattle.convergence.proofs.Steps.{All, first-none, first-some, drained-still, generated-addable, typed-heard}

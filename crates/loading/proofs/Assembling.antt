@@ -16,8 +16,8 @@ use Rattle.woot.specs.declared.Site.{Site}
 use Rattle.woot.specs.declared.Character.{Character}
 use Rattle.woot.specs.declared.Operation.{Operation}
 use Rattle.woot.specs.declared.Table.{Table}
-use Rattle.woot.specs.declared.Refusal.the-variants.{Layout, Range}
-use Rattle.woot.specs.Answers.{decided}
+use Rattle.answers.specs.declared.Refusal.the-variants.{Layout, Range}
+use Rattle.answers.specs.Answers.{decided}
 use Rattle.woot.specs.Ranges.{siteInRange, characterInRange, inRange}
 use Rattle.woot.specs.State.{State}
 use Rattle.woot.specs.Memory.{characterSlots, pendingSlots}

@@ -6,12 +6,12 @@ use mathlib.Core.Bool.{Bool, true, false}
 use mathlib.Core.Logic.{_⊎_, inl, inr, ⊎-elim}
 use mathlib.Core.Option.{Option, none, some}
 use Prim.Native.Nat.{ℕ}
-use Rattle.woot.specs.declared.Refusal.{Refusal}
-use Rattle.woot.specs.declared.Refusal.the-variants.{Layout, Range, Form}
+use Rattle.answers.specs.declared.Refusal.{Refusal}
+use Rattle.answers.specs.declared.Refusal.the-variants.{Layout, Range, Form}
 use Rattle.woot.specs.declared.Replica.{Replica}
 use Rattle.woot.specs.Memory.{meaning, stored, replicaWellFormed, characterSlots, documentOf}
 use Rattle.woot.specs.Form.{wellFormed}
-use Rattle.woot.specs.Answers.{first, decided}
+use Rattle.answers.specs.Answers.{first, decided}
 use Rattle.saved.specs.declared.LoadAnswer.{LoadAnswer}
 use Rattle.saved.specs.declared.LoadAnswer.the-variants.{Done, Refused}
 use Rattle.saved.specs.declared.Loaded.{Loaded}

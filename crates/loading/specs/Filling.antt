@@ -10,7 +10,7 @@ use Rattle.woot.specs.declared.Site.{Site}
 use Rattle.woot.specs.declared.Character.{Character}
 use Rattle.woot.specs.declared.Operation.{Operation}
 use Rattle.woot.specs.declared.Replica.{Replica}
-use Rattle.woot.specs.Answers.{first, decided}
+use Rattle.answers.specs.Answers.{first, decided}
 use Rattle.woot.specs.Memory.{characterSlots, pendingSlots, inColumns, previousKeys, nextKeys, codePoints}
 use Rattle.woot.specs.Table.{keys}
 use Rattle.woot.specs.Memory.{ownKey, firstKey, secondKey, valueOf}

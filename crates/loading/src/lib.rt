@@ -2,6 +2,7 @@
 mod filling;
 mod reading;
 
+use answers::Refusal;
 use reading::both;
 use saved::LoadAnswer;
 use saved::Loaded;
@@ -13,7 +14,6 @@ use woot::Document;
 use woot::LINKS;
 use woot::PENDING;
 use woot::PENDING_NUMBERS;
-use woot::Refusal;
 use woot::Replica;
 use woot::Site;
 use woot::Table;

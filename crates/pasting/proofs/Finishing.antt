@@ -12,15 +12,15 @@ use Rattle.lists.proofs.Padding.{pad-take}
 use Rattle.utf8.specs.Theorems.{Encodes}
 use Rattle.utf8.proofs.Decoding.{decoded-exactly}
 use Rattle.woot.specs.declared.Operation.{Operation}
-use Rattle.woot.specs.declared.Refusal.the-variants.{Unplaceable}
-use Rattle.woot.specs.declared.Answer.{Answer}
-use Rattle.woot.specs.declared.Answer.the-variants.{Done, Refused}
+use Rattle.answers.specs.declared.Refusal.the-variants.{Unplaceable}
+use Rattle.answers.specs.declared.Answer.{Answer}
+use Rattle.answers.specs.declared.Answer.the-variants.{Done, Refused}
 use Rattle.woot.specs.declared.Replica.{Replica}
 use Rattle.woot.specs.Limits.{lastClock, capacity}
 use Rattle.woot.specs.Ranges.{codePoint}
 use Rattle.woot.specs.State.{State}
 use Rattle.woot.specs.Form.{presentInserts, wellFormed}
-use Rattle.woot.specs.Answers.{done, reply}
+use Rattle.answers.specs.Answers.{done, reply}
 use Rattle.woot.specs.Histories.{run}
 use Rattle.woot.specs.Memory as memory
 use Rattle.woot.specs.Pasting.{typings, ownBy, stopped, PasteOutcome, unpasted, pasted, clockShort, overfull, pasteWhen, paste}

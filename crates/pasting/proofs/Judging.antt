@@ -11,14 +11,14 @@ use lib.ListN.{length, take}
 use Rattle.lists.specs.Lists.{keep}
 use Rattle.utf8.specs.Decoding.{decoded}
 use Rattle.woot.specs.declared.Character.{Character}
-use Rattle.woot.specs.declared.Refusal.the-variants.{NotUtf8, Form, Position, Clock, Unplaceable, DocumentFull}
-use Rattle.woot.specs.declared.Answer.{Answer}
-use Rattle.woot.specs.declared.Answer.the-variants.{Done, Refused}
+use Rattle.answers.specs.declared.Refusal.the-variants.{NotUtf8, Form, Position, Clock, Unplaceable, DocumentFull}
+use Rattle.answers.specs.declared.Answer.{Answer}
+use Rattle.answers.specs.declared.Answer.the-variants.{Done, Refused}
 use Rattle.woot.specs.Limits.{lastClock, capacity}
 use Rattle.woot.specs.Operations.{inserts}
 use Rattle.woot.specs.State.{State}
 use Rattle.woot.specs.Form.{presentInserts}
-use Rattle.woot.specs.Answers.{decided}
+use Rattle.answers.specs.Answers.{decided}
 use Rattle.woot.specs.Calls.{visibles, beyondVisible}
 use Rattle.woot.specs.Memory.{toggleCounts}
 use Rattle.woot.specs.Pasting.{codePointsOf, typings, stopped, unpasted, pasted, clockShort, overfull, pasteChecks, pasteWhen}

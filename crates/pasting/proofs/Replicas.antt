@@ -8,16 +8,17 @@ use mathlib.Core.Option.{Option, none, some}
 use borrow.Author.Tests.{not-false}
 use lib.ListN.{length}
 use Rattle.woot.specs.declared.Operation.{Operation}
-use Rattle.woot.specs.declared.Refusal.{Refusal}
-use Rattle.woot.specs.declared.Answer.{Answer}
-use Rattle.woot.specs.declared.Answer.the-variants.{Done, Refused}
+use Rattle.answers.specs.declared.Refusal.{Refusal}
+use Rattle.answers.specs.declared.Answer.{Answer}
+use Rattle.answers.specs.declared.Answer.the-variants.{Done, Refused}
 use Rattle.woot.specs.declared.Sent.{Sent}
 use Rattle.woot.specs.declared.Sent.the-variants.{Done as sentDone, Refused as sentRefused}
 use Rattle.woot.specs.declared.Replica.{Replica}
 use Rattle.woot.specs.State.{State}
 use Rattle.woot.specs.Form.{wellFormed}
 use Rattle.woot.specs.Memory.{meaning, stored, replicaWellFormed}
-use Rattle.woot.specs.Answers.{first, decided, done, reply, answerOf}
+use Rattle.answers.specs.Answers.{first, decided, done, reply}
+use Rattle.woot.specs.Sending.{answerOf}
 use Rattle.woot.specs.Calls.{localInsertWhen, localInsert, nextIdentifier}
 use Rattle.woot.specs.Histories.{Call, Begun, startOf, inserting, outcome, run}
 use Rattle.woot.specs.Pasting.{codePointsOf, gapBelow, typings, ownBy, PasteOutcome, unpasted, pasted, pasteChecks, pasteWhen, paste}

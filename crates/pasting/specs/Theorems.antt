@@ -8,13 +8,13 @@ use mathlib.Core.Option.{some}
 use lib.ListN.{length}
 use Rattle.utf8.specs.Theorems.{Encodes}
 use Rattle.woot.specs.declared.Operation.{Operation}
-use Rattle.woot.specs.declared.Refusal.{Refusal}
-use Rattle.woot.specs.declared.Refusal.the-variants.{Unplaceable}
-use Rattle.woot.specs.declared.Answer.{Answer}
-use Rattle.woot.specs.declared.Answer.the-variants.{Done, Refused}
+use Rattle.answers.specs.declared.Refusal.{Refusal}
+use Rattle.answers.specs.declared.Refusal.the-variants.{Unplaceable}
+use Rattle.answers.specs.declared.Answer.{Answer}
+use Rattle.answers.specs.declared.Answer.the-variants.{Done, Refused}
 use Rattle.woot.specs.declared.Replica.{Replica}
 use Rattle.woot.specs.Memory.{meaning, stored, replicaWellFormed}
-use Rattle.woot.specs.Answers.{done, reply}
+use Rattle.answers.specs.Answers.{done, reply}
 use Rattle.woot.specs.Calls.{beyondVisible}
 use Rattle.woot.specs.Histories.{Call, Begun, startOf, run}
 use Rattle.woot.specs.Pasting.{typings}

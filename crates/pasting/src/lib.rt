@@ -1,16 +1,16 @@
 // Pasting a block of text in UTF-8 at an insertion point, all of it or none: the whole block is looked at, and then its
 // characters are typed one after another. (Document 02, Req 11.)
+use answers::Answer;
+use answers::Refusal;
 use pending::counts;
 use typing::Ended;
 use utf8::Counted;
 use utf8::Decoded;
-use woot::Answer;
 use woot::CHARACTER_NUMBERS;
 use woot::CHARACTERS;
 use woot::CODE_POINTS;
 use woot::Document;
 use woot::PENDING;
-use woot::Refusal;
 use woot::Replica;
 use woot::Site;
 use woot::Table;

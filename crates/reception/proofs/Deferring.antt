@@ -9,15 +9,15 @@ use lib.ListN.{length, take, length-append}
 use Rattle.woot.specs.declared.Operation.{Operation}
 use Rattle.woot.specs.declared.Operation.the-variants.{Insert as insert, Toggle as toggle}
 use Rattle.woot.specs.declared.Character.{Character}
-use Rattle.woot.specs.declared.Refusal.the-variants.{SenderFull, DocumentFull}
-use Rattle.woot.specs.declared.Answer.the-variants.{Refused}
+use Rattle.answers.specs.declared.Refusal.the-variants.{SenderFull, DocumentFull}
+use Rattle.answers.specs.declared.Answer.the-variants.{Refused}
 use Rattle.memory.specs.Columns.{Replica}
 use Rattle.woot.specs.Limits.{share}
 use Rattle.woot.specs.Operations.{sender}
 use Rattle.woot.specs.Ranges.{inRange}
 use Rattle.woot.specs.State.{State}
 use Rattle.woot.specs.Pending.{executable, crossed, unplaceable, pendingFrom}
-use Rattle.woot.specs.Answers.{changes}
+use Rattle.answers.specs.Answers.{changes}
 use Rattle.woot.specs.Calls.{duplicate, conflicting, senderFull, documentFull}
 use Rattle.memory.specs.Columns.{meaning}
 use Rattle.convergence.proofs.Shares.{pending-bound}

@@ -6,13 +6,13 @@ use mathlib.Core.Bool.{Bool, true, false, cond}
 use lib.ListN.{take}
 use Rattle.woot.specs.declared.Insert.{Insert}
 use Rattle.woot.specs.declared.Operation.the-variants.{Insert as insert}
-use Rattle.woot.specs.declared.Refusal.the-variants.{Conflict, DocumentFull}
-use Rattle.woot.specs.declared.Answer.the-variants.{Duplicate, Refused}
+use Rattle.answers.specs.declared.Refusal.the-variants.{Conflict, DocumentFull}
+use Rattle.answers.specs.declared.Answer.the-variants.{Duplicate, Refused}
 use Rattle.memory.specs.Columns.{Replica}
 use Rattle.woot.specs.Ranges.{insertInRange, inRange}
 use Rattle.woot.specs.State.{State}
 use Rattle.woot.specs.Pending.{executable, crossed, unplaceable}
-use Rattle.woot.specs.Answers.{changes}
+use Rattle.answers.specs.Answers.{changes}
 use Rattle.woot.specs.Calls.{duplicate, conflicting, senderFull, documentFull}
 use Rattle.memory.specs.Columns.{meaning}
 use Rattle.convergence.proofs.Soundness.{sound-in}

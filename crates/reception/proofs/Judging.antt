@@ -5,10 +5,10 @@ use mathlib.Core.Bool.{true, false}
 use lib.ListN.{length}
 use Rattle.woot.specs.declared.Operation.{Operation}
 use Rattle.woot.specs.declared.Operation.the-variants.{Insert as insert, Toggle as toggle}
-use Rattle.woot.specs.declared.Refusal.the-variants.{Range, Form}
-use Rattle.woot.specs.declared.Answer.the-variants.{Done, Refused}
+use Rattle.answers.specs.declared.Refusal.the-variants.{Range, Form}
+use Rattle.answers.specs.declared.Answer.the-variants.{Done, Refused}
 use Rattle.woot.specs.Ranges.{inRange}
-use Rattle.woot.specs.Answers.{changes, decided}
+use Rattle.answers.specs.Answers.{changes, decided}
 use Rattle.woot.specs.Memory.{pendingSlots}
 use Rattle.woot.specs.Calls.{unchanged, carryOut, defer, receiveChecks, receiveWhen}
 use Rattle.memory.specs.Columns.{Replica, meaning, replicaWellFormed}

@@ -14,14 +14,14 @@ use Rattle.woot.specs.declared.Toggle.{Toggle}
 use Rattle.woot.specs.declared.Operation.{Operation}
 use Rattle.woot.specs.declared.Operation.the-variants.{Insert as insert, Toggle as toggle}
 use Rattle.woot.specs.declared.Character.{Character}
-use Rattle.woot.specs.declared.Answer.the-variants.{Duplicate}
+use Rattle.answers.specs.declared.Answer.the-variants.{Duplicate}
 use Rattle.memory.specs.Columns.{Replica}
 use Rattle.woot.specs.Identifiers.{same}
 use Rattle.woot.specs.Operations.{sameToggle, sameOperation}
 use Rattle.woot.specs.Ranges.{characterId, toggleInRange, inRange}
 use Rattle.woot.specs.Placing.{held, identifiers}
 use Rattle.woot.specs.Pending.{executable, crossed, unplaceable}
-use Rattle.woot.specs.Answers.{changes}
+use Rattle.answers.specs.Answers.{changes}
 use Rattle.woot.specs.Calls.{duplicate, conflicting, senderFull, documentFull}
 use Rattle.woot.specs.Table.{key}
 use Rattle.woot.specs.Memory.{characterOf, valueOf}

@@ -11,9 +11,9 @@ use Rattle.woot.specs.declared.Insert.{Insert}
 use Rattle.woot.specs.declared.Toggle.{Toggle}
 use Rattle.woot.specs.declared.Operation.{Operation}
 use Rattle.woot.specs.declared.Operation.the-variants.{Insert as insert, Toggle as toggle}
-use Rattle.woot.specs.declared.Refusal.the-variants.{Crossed, Unplaceable, SenderFull, DocumentFull}
-use Rattle.woot.specs.declared.Answer.{Answer}
-use Rattle.woot.specs.declared.Answer.the-variants.{Done, Duplicate, Refused}
+use Rattle.answers.specs.declared.Refusal.the-variants.{Crossed, Unplaceable, SenderFull, DocumentFull}
+use Rattle.answers.specs.declared.Answer.{Answer}
+use Rattle.answers.specs.declared.Answer.the-variants.{Done, Duplicate, Refused}
 use Rattle.woot.specs.Limits.{capacity, share}
 use Rattle.woot.specs.Identifiers.{same}
 use Rattle.woot.specs.Operations.{sender, character, inserts}
@@ -21,7 +21,7 @@ use Rattle.woot.specs.State.{State}
 use Rattle.woot.specs.Memory.{pendingSlots, valueOf}
 use Rattle.woot.specs.Placing.{identifiers, insertAt, integrateInsert}
 use Rattle.woot.specs.Clock.{heard, heardAll}
-use Rattle.woot.specs.Answers.{changes}
+use Rattle.answers.specs.Answers.{changes}
 use Rattle.woot.specs.Calls.{Outcome, unchanged, insertCarried, carryOut, defer, receiveWhen}
 use Rattle.woot.specs.Table.{key}
 use Rattle.memory.specs.Columns.{Replica, meaning, replicaWellFormed}

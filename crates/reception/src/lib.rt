@@ -2,13 +2,14 @@
 // nothing, or what is to be done and where. The caller then edits each array where it lies.
 pub mod holder;
 
+use answers::Answer;
+use answers::Refusal;
 use holder::Holder;
 use holder::Seen;
 use index::Found;
 use index::table;
 use integration::Placement;
 use pending::counts;
-use woot::Answer;
 use woot::CHARACTERS;
 use woot::CODE_POINTS;
 use woot::FIRST_KEYS;
@@ -18,7 +19,6 @@ use woot::Operation;
 use woot::PENDING;
 use woot::PENDING_NUMBERS;
 use woot::PREVIOUS_KEYS;
-use woot::Refusal;
 use woot::SECOND_KEYS;
 use woot::Site;
 use woot::Toggle;

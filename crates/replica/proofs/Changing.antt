@@ -10,7 +10,7 @@ use Rattle.woot.specs.declared.Insert.{Insert}
 use Rattle.woot.specs.declared.Toggle.{Toggle}
 use Rattle.woot.specs.declared.Operation.{Operation}
 use Rattle.woot.specs.declared.Operation.the-variants.{Insert as insert, Toggle as toggle}
-use Rattle.woot.specs.declared.Answer.{Answer}
+use Rattle.answers.specs.declared.Answer.{Answer}
 use Rattle.woot.specs.Operations.{inserts}
 use Rattle.woot.specs.Clock.{heard, heardAll}
 use Rattle.woot.specs.Placing.{integrateInsert, integrateToggle}

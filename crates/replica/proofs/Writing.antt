@@ -5,7 +5,7 @@ use mathlib.Core.Bool.{true, false}
 use mathlib.Core.List.{List, []}
 use lib.ListN.{take}
 use Rattle.woot.specs.declared.Replica.{Replica}
-use Rattle.woot.specs.declared.Refusal.the-variants.{Form}
+use Rattle.answers.specs.declared.Refusal.the-variants.{Form}
 use Rattle.woot.specs.declared.Written.the-variants.{Refused}
 use Rattle.woot.specs.Text.{text}
 use Rattle.woot.specs.Writing.{writtenAs, outputAfter}

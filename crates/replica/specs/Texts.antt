@@ -3,11 +3,11 @@ use Prim.Native.Nat.{ℕ}
 use mathlib.Core.Bool.{not}
 use mathlib.Core.List.{List, [], _∷_}
 use Rattle.woot.specs.declared.Replica.{Replica}
-use Rattle.woot.specs.declared.Refusal.the-variants.{Form}
+use Rattle.answers.specs.declared.Refusal.the-variants.{Form}
 use Rattle.woot.specs.declared.Written.{Written}
 use Rattle.woot.specs.declared.Written.the-variants.{Refused}
 use Rattle.woot.specs.Memory.{meaning, replicaWellFormed}
-use Rattle.woot.specs.Answers.{Check, _⇒_}
+use Rattle.answers.specs.Answers.{Check, _⇒_}
 use Rattle.woot.specs.Writing.{writtenAs, outputAfter}
 use Rattle.woot.specs.Text.{text}
 

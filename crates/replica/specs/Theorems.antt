@@ -5,13 +5,14 @@ use mathlib.Core.Path.{_≡_}
 use mathlib.Core.Bool.{true}
 use mathlib.Core.List.{List, [], _∷_}
 use Rattle.woot.specs.declared.Replica.{Replica}
-use Rattle.woot.specs.declared.Answer.{Answer}
-use Rattle.woot.specs.declared.Refusal.the-variants.{Taken}
+use Rattle.answers.specs.declared.Answer.{Answer}
+use Rattle.answers.specs.declared.Refusal.the-variants.{Taken}
 use Rattle.woot.specs.declared.Sent.the-variants.{Refused as sentRefused}
 use Rattle.woot.specs.State.{initial}
 use Rattle.woot.specs.Memory.{meaning, stored, replicaWellFormed}
 use Rattle.woot.specs.Ranges.{siteNumber}
-use Rattle.woot.specs.Answers.{changes, answerOf}
+use Rattle.answers.specs.Answers.{changes}
+use Rattle.woot.specs.Sending.{answerOf}
 use Rattle.woot.specs.Histories.{Call, Begun, startOf, inserting, deleting, restoring, receiving, receivingAt, run}
 use Rattle.woot.specs.Histories.{historyOf, SameInserted, SameToggled}
 use Rattle.woot.specs.Replicas.{received, receivedAt, inserted, deleted, restored}

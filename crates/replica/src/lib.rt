@@ -3,9 +3,10 @@
 pub mod changes;
 pub mod copying;
 
+use answers::Answer;
+use answers::Refusal;
 use generation::Made;
 use reception::Decision;
-use woot::Answer;
 use woot::CHARACTER_NUMBERS;
 use woot::CODE_POINTS;
 use woot::Document;
@@ -13,7 +14,6 @@ use woot::Generated;
 use woot::Identifier;
 use woot::Operation;
 use woot::Receipt;
-use woot::Refusal;
 use woot::Replica;
 use woot::Sent;
 use woot::Table;

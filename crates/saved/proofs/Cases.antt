@@ -16,7 +16,7 @@ use Rattle.saved.specs.Conversion.{conversion, FormsExample, Representab
 use Rattle.saved.specs.Theorems.{SavedExample, SecondFormOnly}
 use Rattle.woot.specs.Placing.{sequence, indexOf, placeOf, held, above}
 use Rattle.woot.specs.Pending.{executable, pendingFrom}
-use Rattle.woot.specs.Answers.{decided}
+use Rattle.answers.specs.Answers.{decided}
 use Rattle.woot.specs.Writing.{writtenAs, outputAfter, writingChecks, writtenNumber}
 use Rattle.output.specs.Output.{hasRoom, placed}
 

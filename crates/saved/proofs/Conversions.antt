@@ -13,11 +13,11 @@ use Rattle.woot.specs.declared.Character.{Character}
 use Rattle.woot.specs.declared.Operation.{Operation}
 use Rattle.woot.specs.declared.Operation.the-variants.{Insert as insert, Toggle as toggle}
 use Rattle.woot.specs.Operations.{togglesAmong}
-use Rattle.woot.specs.declared.Refusal.{Refusal}
-use Rattle.woot.specs.declared.Refusal.the-variants.{Layout, Range, Form, Unrepresentable, Output}
+use Rattle.answers.specs.declared.Refusal.{Refusal}
+use Rattle.answers.specs.declared.Refusal.the-variants.{Layout, Range, Form, Unrepresentable, Output}
 use Rattle.woot.specs.declared.Written.the-variants.{Length, Refused}
 use Rattle.woot.specs.Form.{allInRange, wellFormed, raised}
-use Rattle.woot.specs.Answers.{number, first}
+use Rattle.answers.specs.Answers.{number, first}
 use Rattle.woot.specs.Writing.{writtenAs, outputAfter, writtenNumber, writtenLength}
 use Rattle.lists.specs.Lists.{any, every}
 use Rattle.lists.proofs.Tests.{and-left, and-right, and-intro, clash, side}

@@ -8,13 +8,13 @@ use Prim.Native.Nat.{ℕ, _≤_}
 use native.Mathlib.Omega.{arith}
 use lib.ListN.{length, length-append}
 use Rattle.woot.specs.declared.Replica.{Replica}
-use Rattle.woot.specs.declared.Refusal.{Refusal}
-use Rattle.woot.specs.declared.Refusal.the-variants.{Layout, Range, Form}
+use Rattle.answers.specs.declared.Refusal.{Refusal}
+use Rattle.answers.specs.declared.Refusal.the-variants.{Layout, Range, Form}
 use Rattle.woot.specs.declared.Written.the-variants.{Refused as writtenRefused}
 use Rattle.woot.specs.State.{State}
 use Rattle.woot.specs.Memory.{meaning, stored, replicaWellFormed}
 use Rattle.woot.specs.Form.{wellFormed}
-use Rattle.woot.specs.Answers.{first, decided}
+use Rattle.answers.specs.Answers.{first, decided}
 use Rattle.woot.specs.Writing.{writtenAs, outputAfter}
 use Rattle.lists.proofs.Tests.{some-eq, no-some, clash}
 use Rattle.convergence.proofs.Refusals.{decided-exactly}

@@ -7,13 +7,13 @@ use mathlib.Core.Option.{Option, none, some}
 use lib.ListN.{length, take}
 use Rattle.woot.specs.declared.Document.{Document}
 use Rattle.woot.specs.declared.Replica.{Replica}
-use Rattle.woot.specs.declared.Refusal.the-variants.{Layout, Range, Form}
+use Rattle.answers.specs.declared.Refusal.the-variants.{Layout, Range, Form}
 use Rattle.woot.specs.declared.Written.{Written}
 use Rattle.woot.specs.declared.Written.the-variants.{Refused as writtenRefused}
 use Rattle.woot.specs.State.{State, initial}
 use Rattle.woot.specs.Memory.{characterSlots, pendingSlots, meaning, stored, replicaWellFormed, documentOf}
 use Rattle.woot.specs.Form.{clockKept, wellFormed, raised}
-use Rattle.woot.specs.Answers.{Check, _⇒_, first, decided, number}
+use Rattle.answers.specs.Answers.{Check, _⇒_, first, decided, number}
 use Rattle.woot.specs.Writing.{writtenAs, outputAfter}
 use Rattle.saved.specs.declared.LoadAnswer.{LoadAnswer}
 use Rattle.saved.specs.declared.LoadAnswer.the-variants.{Done, Refused}

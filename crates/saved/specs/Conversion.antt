@@ -10,16 +10,16 @@ use lib.ListN.{length, replicate}
 use Rattle.lists.specs.Lists.{any}
 use Rattle.woot.specs.declared.Operation.{Operation}
 use Rattle.woot.specs.declared.Operation.the-variants.{Insert as insert, Toggle as toggle}
-use Rattle.woot.specs.declared.Refusal.{Refusal}
-use Rattle.woot.specs.declared.Refusal.the-variants.{Layout, Range, Form, Unrepresentable}
+use Rattle.answers.specs.declared.Refusal.{Refusal}
+use Rattle.answers.specs.declared.Refusal.the-variants.{Layout, Range, Form, Unrepresentable}
 use Rattle.woot.specs.declared.Written.{Written}
 use Rattle.woot.specs.declared.Written.the-variants.{Refused}
 use Rattle.woot.specs.Identifiers.{begin, end}
 use Rattle.woot.specs.Operations.{togglesAmong}
 use Rattle.woot.specs.State.{State}
 use Rattle.woot.specs.Form.{wellFormed}
-use Rattle.woot.specs.Answers.{number, rank, Check, _⇒_, Reported}
-use Rattle.woot.specs.Situations.{rises}
+use Rattle.answers.specs.Answers.{number, rank, Check, _⇒_, Reported}
+use Rattle.answers.specs.Order.{rises}
 use Rattle.woot.specs.Writing.{refusing, writtenAs, outputAfter, writingChecks, writtenNumber, writtenLength}
 use Rattle.lines.specs.Lines.{rest}
 use Rattle.saved.specs.declared.Version.{Version}

@@ -8,14 +8,14 @@ use mathlib.Core.Option.{some}
 use lib.ListN.{length}
 use Rattle.woot.specs.declared.Operation.the-variants.{Insert as insert, Toggle as toggle}
 use Rattle.woot.specs.declared.Replica.{Replica}
-use Rattle.woot.specs.declared.Refusal.{Refusal}
+use Rattle.answers.specs.declared.Refusal.{Refusal}
 use Rattle.woot.specs.declared.Written.the-variants.{Refused as writtenRefused}
 use Rattle.woot.specs.Identifiers.{begin, end}
 use Rattle.woot.specs.State.{State}
 use Rattle.woot.specs.Memory.{meaning, stored, replicaWellFormed}
 use Rattle.woot.specs.Form.{allInRange, wellFormed, raised}
 use Rattle.lines.specs.Lines.{rest}
-use Rattle.woot.specs.Answers.{Reported}
+use Rattle.answers.specs.Answers.{Reported}
 use Rattle.woot.specs.Writing.{writingChecks, writtenNumber, writtenLength}
 use Rattle.replica.specs.Tables.{Searches}
 use Rattle.saved.specs.declared.LoadAnswer.the-variants.{Done, Refused}

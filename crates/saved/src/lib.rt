@@ -1,6 +1,6 @@
 // Saved replicas: the types and the definitions of their format, and the theorems about it. `loading` reads them, and
 // `saving` writes them.
-use woot::Refusal;
+use answers::Refusal;
 use woot::Replica;
 ghost use mathlib.Core.Path.{_≡_};
 ghost use Rattle.saved.specs.Format.{lastToggleField, toggleField};

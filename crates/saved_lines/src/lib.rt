@@ -1,5 +1,6 @@
 // Reading one line of a saved replica: whether it has the layout of its kind, whether it is in range, and what it says.
 // These are steps of `loading`, and not calls.
+use answers::Refusal;
 use codec::Read;
 use lines::Numbers;
 use lines::Verdict;
@@ -11,7 +12,6 @@ use woot::Character;
 use woot::Identifier;
 use woot::Insert;
 use woot::Operation;
-use woot::Refusal;
 use woot::Site;
 ghost use mathlib.Core.Path.{_≡_};
 ghost use mathlib.Core.Bool.{true};

@@ -20,7 +20,7 @@ use Rattle.lines.proofs.Sequences.{room-on, room-short}
 use Rattle.woot.specs.declared.Site.{Site}
 use Rattle.woot.specs.declared.Insert.{Insert}
 use Rattle.woot.specs.declared.Operation.the-variants.{Insert as insert}
-use Rattle.woot.specs.declared.Refusal.the-variants.{Output}
+use Rattle.answers.specs.declared.Refusal.the-variants.{Output}
 use Rattle.woot.specs.declared.Written.the-variants.{Length, Refused}
 use Rattle.woot.specs.Writing.{writtenAs, outputAfter}
 use Rattle.woot.specs.State.{blankCharacter, blankOperation}

@@ -3,9 +3,9 @@
 use crate::numbered;
 use crate::numbered::Line;
 use crate::site_line;
+use answers::Refusal;
 use lines::writing::Room;
 use saved::Version;
-use woot::Refusal;
 use woot::Site;
 use woot::Written;
 ghost use mathlib.Core.Path.{_≡_};

@@ -4,6 +4,7 @@ mod numbered;
 pub mod operations;
 mod site_line;
 
+use answers::Refusal;
 use saved::Version;
 use woot::CHARACTER_NUMBERS;
 use woot::CHARACTERS;
@@ -13,7 +14,6 @@ use woot::NEXT_KEYS;
 use woot::PENDING;
 use woot::PENDING_NUMBERS;
 use woot::PREVIOUS_KEYS;
-use woot::Refusal;
 use woot::Replica;
 use woot::SECOND_KEYS;
 use woot::Site;

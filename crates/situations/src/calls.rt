@@ -1,6 +1,6 @@
 // The calls of the steps: each prints what it answered and returns the replica.
 use crate::print;
-use woot::Answer;
+use answers::Answer;
 use woot::Identifier;
 use woot::Insert;
 use woot::Operation;
@@ -8,7 +8,7 @@ use woot::Replica;
 use woot::Sent;
 ghost use mathlib.Core.Path.{_≡_};
 ghost use Prim.Native.Nat.{_≤_};
-ghost use Rattle.woot.specs.Answers.{answerOf};
+ghost use Rattle.woot.specs.Sending.{answerOf};
 ghost use Rattle.woot.specs.Replicas.{received};
 
 // An insert between another character and the end mark. Its code point tells its clock: 97 at clock 1.

@@ -1,5 +1,5 @@
 // What the program prints: a sentence for each situation, and under it a line for each step.
-use woot::Answer;
+use answers::Answer;
 use woot::Replica;
 use woot::Written;
 ghost use mathlib.Core.Path.{_≡_};

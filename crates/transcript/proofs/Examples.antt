@@ -12,7 +12,7 @@ use Rattle.woot.specs.Placing.{sequence, indexOf, placeOf, held, above, adjacen
 use Rattle.woot.specs.Pending.{executable, crossed, unplaceable, integrate, pendingFrom, earliest, andIntegrated, andDiscarded, drained, drainSteps, drain}
 use Rattle.woot.specs.Form.{presentInserts, allInRange, sharesKept, capacityKept, identifiersDistinct, togglesDistinct, ordered, neighboursOrdered, noneExecutable, clockReaches, clockKept, wellFormed}
 use Rattle.woot.specs.Clock.{ownInsert, heard}
-use Rattle.woot.specs.Answers.{reply, decided}
+use Rattle.answers.specs.Answers.{reply, decided}
 use Rattle.woot.specs.Calls.{unchanged, allIntegrated, withCharacters, withPending, afterDrain, insertCarried, duplicate, conflicting, senderFull, documentFull, receiveChecks, carryOut, defer, accept, receiveWhen}
 use Rattle.decimal.specs.Numeral.{isDigit, leadingZero, isNumeral, valueOf, digitsIn, digits}
 use Rattle.lines.specs.Lines.{ended, firstLine, rest}

@@ -7,13 +7,13 @@ use native.Mathlib.Omega.{arith}
 use lib.ListN.{length, take, length-take}
 use Rattle.woot.specs.declared.Replica.{Replica}
 use Rattle.woot.specs.declared.Operation.{Operation}
-use Rattle.woot.specs.declared.Answer.{Answer}
+use Rattle.answers.specs.declared.Answer.{Answer}
 use Rattle.woot.specs.declared.Written.the-variants.{Length}
 use Rattle.woot.specs.State.{initial}
 use Rattle.woot.specs.Memory.{meaning, stored, replicaWellFormed}
 use Rattle.woot.specs.Ranges.{within, siteNumber}
 use Rattle.woot.specs.Form.{wellFormed}
-use Rattle.woot.specs.Answers.{reply}
+use Rattle.answers.specs.Answers.{reply}
 use Rattle.woot.specs.Calls.{receive}
 use Rattle.woot.specs.Histories.{receiving, outcome}
 use Rattle.woot.specs.Replicas.{receipt, received}

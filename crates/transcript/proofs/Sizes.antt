@@ -6,9 +6,9 @@ use Prim.Native.Nat.{ℕ, _+_, _*_, _^_, _≤_, _<_}
 use native.Mathlib.Omega.{arith}
 use lib.ListN.{length, length-append}
 use Rattle.woot.specs.declared.Character.{Character}
-use Rattle.woot.specs.declared.Answer.{Answer}
-use Rattle.woot.specs.declared.Answer.the-variants.{Done, Deferred, Duplicate, Refused}
-use Rattle.woot.specs.Answers.{Reply, reply, number}
+use Rattle.answers.specs.declared.Answer.{Answer}
+use Rattle.answers.specs.declared.Answer.the-variants.{Done, Deferred, Duplicate, Refused}
+use Rattle.answers.specs.Answers.{Reply, reply, number}
 use Rattle.lists.specs.Lists.{every}
 use Rattle.woot.specs.Operations.{isVisible, origin}
 use Rattle.woot.specs.Ranges.{characterInRange}

@@ -7,7 +7,7 @@ use lib.ListN.{length, drop}
 use lib.Seq.{take-append-seam}
 use borrow.Author.Tests.{le-ltb}
 use Rattle.output.proofs.Laws.{placed-room}
-use Rattle.woot.specs.Answers.{decided}
+use Rattle.answers.specs.Answers.{decided}
 use Rattle.woot.specs.Writing.{writingChecks, writtenAs, outputAfter, writtenLength}
 use Rattle.transcript.specs.Loop.{front}
 

@@ -2,13 +2,13 @@
 use Prim.Native.Nat.{ℕ, suc}
 use mathlib.Core.List.{List, [], _∷_, _++_, map}
 use lib.ListN.{length}
-use Rattle.woot.specs.declared.Answer.{Answer}
+use Rattle.answers.specs.declared.Answer.{Answer}
 use Rattle.woot.specs.declared.Character.{Character}
 use Rattle.woot.specs.Operations.{isVisible}
 use Rattle.lists.specs.Lists.{keep}
 use Rattle.woot.specs.Memory.{characterSlots}
 use Rattle.lists.specs.Padding.{pad}
-use Rattle.woot.specs.Answers.{Word, done, waits, known, refused, Reply, reply}
+use Rattle.answers.specs.Answers.{Word, done, waits, known, refused, Reply, reply}
 use Rattle.decimal.specs.Numeral.{digits}
 use Rattle.lines.specs.Fields.{tab, lineOf}
 use Rattle.transcript.specs.declared.report.Listing.{Listing}

@@ -4,9 +4,9 @@ use mathlib.Core.Path.{_≡_}
 use mathlib.Core.Bool.{true}
 use mathlib.Core.List.{List, [], _∷_, _++_}
 use lib.ListN.{length, take}
-use Rattle.woot.specs.declared.Answer.{Answer}
+use Rattle.answers.specs.declared.Answer.{Answer}
 use Rattle.woot.specs.declared.Replica.{Replica}
-use Rattle.woot.specs.Answers.{reply}
+use Rattle.answers.specs.Answers.{reply}
 use Rattle.woot.specs.Memory.{meaning, replicaWellFormed}
 use Rattle.lines.specs.Lines.{rest}
 use Rattle.transcript.specs.Lines.{reportLine, textLine}

@@ -1,7 +1,7 @@
 // What the hall program makes of its input: it answers a line, and reports on it by `report`.
 pub mod report;
 
-use woot::Answer;
+use answers::Answer;
 use woot::Receipt;
 use woot::Replica;
 use woot::Written;

@@ -1,5 +1,5 @@
 // The lines that the hall program prints: one for each line of its input, and last the visible characters.
-use woot::Answer;
+use answers::Answer;
 use woot::CHARACTER_NUMBERS;
 use woot::CODE_POINTS;
 use woot::Replica;

@@ -19,15 +19,15 @@ use Rattle.woot.specs.declared.Insert.{Insert}
 use Rattle.woot.specs.declared.Operation.{Operation}
 use Rattle.woot.specs.declared.Operation.the-variants.{Insert as insert, Toggle as toggle}
 use Rattle.woot.specs.declared.Character.{Character}
-use Rattle.woot.specs.declared.Refusal.the-variants.{Unplaceable as nowhere}
-use Rattle.woot.specs.declared.Answer.{Answer}
-use Rattle.woot.specs.declared.Answer.the-variants.{Done, Refused}
+use Rattle.answers.specs.declared.Refusal.the-variants.{Unplaceable as nowhere}
+use Rattle.answers.specs.declared.Answer.{Answer}
+use Rattle.answers.specs.declared.Answer.the-variants.{Done, Refused}
 use Rattle.woot.specs.Operations.{character, inserts}
 use Rattle.woot.specs.Ranges.{codePoint}
 use Rattle.woot.specs.State.{State}
 use Rattle.woot.specs.Pending.{unplaceable}
 use Rattle.woot.specs.Form.{wellFormed}
-use Rattle.woot.specs.Answers.{number, reply}
+use Rattle.answers.specs.Answers.{number, reply}
 use Rattle.woot.specs.Calls.{Outcome, unchanged, allIntegrated, carryOut, generatedInsert}
 use Rattle.woot.specs.Histories.{inserting, outcome, run, integratedBy, discardedBy}
 use Rattle.woot.specs.Pasting.{typings, ownBy, stopped}

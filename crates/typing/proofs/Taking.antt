@@ -15,16 +15,16 @@ use Rattle.lists.proofs.Tests.{clash, and-left}
 use Rattle.woot.specs.declared.Insert.{Insert}
 use Rattle.woot.specs.declared.Operation.the-variants.{Insert as insert}
 use Rattle.woot.specs.declared.Character.{Character}
-use Rattle.woot.specs.declared.Refusal.the-variants.{Unplaceable as nowhere}
-use Rattle.woot.specs.declared.Answer.{Answer}
-use Rattle.woot.specs.declared.Answer.the-variants.{Done, Refused}
+use Rattle.answers.specs.declared.Refusal.the-variants.{Unplaceable as nowhere}
+use Rattle.answers.specs.declared.Answer.{Answer}
+use Rattle.answers.specs.declared.Answer.the-variants.{Done, Refused}
 use Rattle.woot.specs.Limits.{lastClock}
 use Rattle.woot.specs.Ranges.{codePoint, inRange}
 use Rattle.woot.specs.State.{State}
 use Rattle.woot.specs.Placing.{integrateInsert}
 use Rattle.woot.specs.Pending.{unplaceable}
 use Rattle.woot.specs.Form.{wellFormed}
-use Rattle.woot.specs.Answers.{done, reply}
+use Rattle.answers.specs.Answers.{done, reply}
 use Rattle.woot.specs.Calls.{Outcome, unchanged, allIntegrated, insertCarried, afterDrain, carryOut, nextIdentifier, generatedInsert}
 use Rattle.woot.specs.Cursor.{visibleThrough}
 use Rattle.woot.specs.Histories.{inserting, outcome}

@@ -1,8 +1,8 @@
 // The visible characters of a document on its lent arrays: how many there are, where one of them stands, the keys
 // beside an insertion point, and their text. The public functions are steps of the calls and not calls: they lend
 // arrays that have a slot for each of the n characters.
+use answers::Refusal;
 use index::Found;
-use woot::Refusal;
 use woot::Written;
 ghost use mathlib.Core.Path.{_≡_};
 ghost use mathlib.Core.List.{List, _++_, _∷_, []};

@@ -1,7 +1,7 @@
 // What a call was handed beside a saved replica, and which refusal over all of it comes first.
+use answers::Refusal;
 use codec::Read;
 use saved::LoadAnswer;
-use woot::Refusal;
 ghost use mathlib.Core.Path.{_≡_};
 ghost use Rattle.codec.specs.Calls.{readAs, saidBy};
 ghost use Rattle.woot.specs.Ranges.{characterId};

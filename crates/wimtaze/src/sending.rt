@@ -1,8 +1,8 @@
 // What the calls do that make operations here and give their lines: inserting, deleting, restoring and pasting.
 use crate::inputs;
+use answers::Refusal;
 use saved::LoadAnswer;
 use woot::CHARACTER_NUMBERS;
-use woot::Refusal;
 ghost use Rattle.effects.specs.Effects.{Leaves};
 ghost use Rattle.c_calls.specs.Steps.{insertingHere, deletingHere, restoringHere, pastingHere};
 

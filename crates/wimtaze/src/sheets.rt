@@ -1,8 +1,8 @@
 // What the calls do that begin a replica or read one: an empty one is saved, or one that is built from a heap, a saved
 // one is loaded for use, its visible text is written, and what it holds is counted.
+use answers::Answer;
+use answers::Refusal;
 use saved::LoadAnswer;
-use woot::Answer;
-use woot::Refusal;
 use woot::Replica;
 ghost use mathlib.Core.Path.{_≡_};
 ghost use mathlib.Core.List.{[]};

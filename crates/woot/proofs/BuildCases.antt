@@ -8,7 +8,7 @@ use Rattle.woot.specs.State.{initial}
 use Rattle.woot.specs.Placing.{sequence, indexOf, placeOf, held, above, adjacent, candidate, candidates, narrowed, search, position, between, insertAt, integrateInsert, integrateToggle}
 use Rattle.woot.specs.Pending.{executable, crossed, unplaceable, integrate, earliest, andIntegrated, andDiscarded, drained, drainSteps, drain}
 use Rattle.woot.specs.Clock.{ownInsert, heard}
-use Rattle.woot.specs.Answers.{reply, decided}
+use Rattle.answers.specs.Answers.{reply, decided}
 use Rattle.woot.specs.Building.{once, building, leftOut, built, heapFull, disagree, disagreeing, buildChecks, unbuilt, build}
 use Rattle.woot.specs.BuildCases.{buildCases, BuildTells, BuildWaitsTells, BuildFullTells, BuildOrder}
 

@@ -8,7 +8,7 @@ use Rattle.woot.specs.Placing.{sequence, indexOf, placeOf, held, above}
 use Rattle.woot.specs.Pending.{executable, pendingFrom}
 use Rattle.woot.specs.Form.{presentInserts, allInRange, sharesKept, capacityKept, identifiersDistinct, togglesDistinct, ordered, neighboursOrdered, noneExecutable, clockReaches, clockKept, wellFormed}
 use Rattle.woot.specs.Clock.{ownInsert}
-use Rattle.woot.specs.Answers.{reply, decided}
+use Rattle.answers.specs.Answers.{reply, decided}
 use Rattle.woot.specs.Loading.{among, free, bound, peeled, acyclic, orderedPair, orderedPairs, loadable, useChecks, unused, useWhen, useOutcome}
 use Rattle.woot.specs.LoadCases.{loadCases, LoadTells, UseOrder}
 

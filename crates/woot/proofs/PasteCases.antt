@@ -10,7 +10,8 @@ use Rattle.woot.specs.Placing.{sequence, indexOf, placeOf, held, above, 
 use Rattle.woot.specs.Pending.{executable, crossed, unplaceable, integrate, pendingFrom, earliest, andIntegrated, andDiscarded, drained, drainSteps, drain}
 use Rattle.woot.specs.Form.{presentInserts, allInRange, sharesKept, capacityKept, identifiersDistinct, togglesDistinct, ordered, neighboursOrdered, noneExecutable, clockReaches, clockKept, wellFormed}
 use Rattle.woot.specs.Clock.{ownInsert, heard}
-use Rattle.woot.specs.Answers.{reply, answerOf, decided}
+use Rattle.answers.specs.Answers.{reply, decided}
+use Rattle.woot.specs.Sending.{answerOf}
 use Rattle.woot.specs.Calls.{unchanged, allIntegrated, withCharacters, afterDrain, insertCarried, documentFull, carryOut, visibles, nextIdentifier, generatedInsert, beyondVisible, identifierTaken, insertChecks, sendInsert, localInsertWhen, localInsert}
 use Rattle.woot.specs.Cursor.{through, visibleThrough}
 use Rattle.woot.specs.Histories.{outcome}

@@ -12,7 +12,8 @@ use Rattle.woot.specs.Placing.{sequence, indexOf, placeOf, held, above, 
 use Rattle.woot.specs.Pending.{executable, crossed, unplaceable, integrate, pendingFrom, earliest, andIntegrated, andDiscarded, drained, drainSteps, drain}
 use Rattle.woot.specs.Form.{presentInserts, allInRange, sharesKept, capacityKept, identifiersDistinct, togglesDistinct, ordered, neighboursOrdered, noneExecutable, clockReaches, clockKept, wellFormed}
 use Rattle.woot.specs.Clock.{ownInsert, heard}
-use Rattle.woot.specs.Answers.{number, reply, changes, answerOf, decided}
+use Rattle.answers.specs.Answers.{number, reply, changes, decided}
+use Rattle.woot.specs.Sending.{answerOf}
 use Rattle.woot.specs.Calls.{unchanged, allIntegrated, withCharacters, withPending, afterDrain, insertCarried, duplicate, conflicting, senderFull, documentFull, receiveChecks, carryOut, defer, accept, receiveWhen, receive, visibles, nextIdentifier, generatedInsert, beyondVisible, identifierTaken, insertChecks, sendInsert, localInsertWhen, localInsert, togglesOf, generatedToggle, sendToggle, notVisible, deleteChecks, generatedDelete, localDeleteWhen, localDelete, notHidden, exhausted, restoreChecks, localRestoreWhen, localRestore}
 use Rattle.woot.specs.Cursor.{through, visibleThrough, cursorAfter, receiveAtChecks, receiveAtWhen, receiveAt, newGap, shiftOf, shiftAt}
 use Rattle.woot.specs.Text.{unprintable, printed, encoded, text}
@@ -22,9 +23,9 @@ use Rattle.woot.specs.declared.Character.{Character}
 use Rattle.woot.specs.declared.Operation.{Operation}
 use Rattle.woot.specs.State.{State}
 use Rattle.woot.specs.Placing.{identifiers}
-use Rattle.woot.specs.Answers.{Reply}
+use Rattle.answers.specs.Answers.{Reply}
 use Rattle.woot.specs.Histories.{Call, run, integratedBy}
-use Rattle.woot.specs.Situations.{Given, calling, carrying, showing, pointing, Seen, calls, operations, bytes, shifted, replies, seen, Situation, table, slipCases, answerCases, clockCases, toggleCases, cursorCases, SituationsHold, full, FullTells, LowestShift, TypedElsewhere, CasesTell, LargestTells, RanksTell, CheckingOrder}
+use Rattle.woot.specs.Situations.{Given, calling, carrying, showing, pointing, Seen, calls, operations, bytes, shifted, replies, seen, Situation, table, slipCases, answerCases, clockCases, toggleCases, cursorCases, SituationsHold, full, FullTells, LowestShift, TypedElsewhere, CasesTell, LargestTells, CheckingOrder}
 
 -- k at xs, whose cells are computed first
 whole : {A B : Type 0} → List A → (List A → B) → B
@@ -111,9 +112,6 @@ largest-tells = (refl, refl, refl)
 pub full-tells : FullTells
 unfolding full same sender character origin isVisible sameInsert sameToggle sameOperation within siteNumber codePoint characterId previousId nextId insertInRange toggleInRange inRange sequence indexOf placeOf held above adjacent search position between executable crossed unplaceable pendingFrom presentInserts reply answerOf unchanged decided duplicate conflicting senderFull documentFull receiveChecks carryOut defer accept receiveWhen visibles nextIdentifier generatedInsert beyondVisible identifierTaken insertChecks localInsertWhen
 full-tells = (refl, refl, refl, refl, refl, refl, refl)
-
-pub ranks-tell : RanksTell
-ranks-tell = (refl, refl)
 
 pub checking-order : (formed : Bool) (s : State) → CheckingOrder formed s
 unfolding receiveChecks receiveAtChecks insertChecks deleteChecks restoreChecks reply answerOf

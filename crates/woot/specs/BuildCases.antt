@@ -9,8 +9,9 @@ use Rattle.woot.specs.declared.Operation.{Operation}
 use Rattle.woot.specs.declared.Operation.the-variants.{Insert as insert}
 use Rattle.woot.specs.Identifiers.{begin, end}
 use Rattle.woot.specs.Placing.{identifiers}
-use Rattle.woot.specs.Answers.{Reply, reply}
-use Rattle.woot.specs.Situations.{_at_, letter, toggleBy, deleteBy, stray, Done, Refused, numbersOf}
+use Rattle.answers.specs.Answers.{Reply, reply}
+use Rattle.woot.specs.Situations.{_at_, letter, toggleBy, deleteBy, stray, Done, Refused}
+use Rattle.answers.specs.Order.{numbersOf}
 use Rattle.woot.specs.Building.{BuildOutcome, heapFull, buildChecks, build}
 
 -- a number and a heap; what is seen: the reply with how many are left out, the clock, and the identifiers and toggles

@@ -8,9 +8,9 @@ use lib.ListN.{length}
 use Rattle.lists.specs.Lists.{any, every}
 use Rattle.woot.specs.declared.Insert.{Insert}
 use Rattle.woot.specs.declared.Operation.{Operation}
-use Rattle.woot.specs.declared.Refusal.the-variants.{Range, HeapFull, Conflict}
-use Rattle.woot.specs.declared.Answer.{Answer}
-use Rattle.woot.specs.declared.Answer.the-variants.{Done, Refused}
+use Rattle.answers.specs.declared.Refusal.the-variants.{Range, HeapFull, Conflict}
+use Rattle.answers.specs.declared.Answer.{Answer}
+use Rattle.answers.specs.declared.Answer.the-variants.{Done, Refused}
 use Rattle.woot.specs.Limits.{capacity}
 use Rattle.woot.specs.Identifiers.{same}
 use Rattle.woot.specs.Operations.{inserts, togglesAmong, sameInsert, sameOperation}
@@ -18,7 +18,7 @@ use Rattle.woot.specs.Ranges.{siteNumber, inRange}
 use Rattle.woot.specs.State.{State, initial}
 use Rattle.woot.specs.Pending.{Drained, drain}
 use Rattle.woot.specs.Clock.{heardAll}
-use Rattle.woot.specs.Answers.{Check, _⇒_, first, decided}
+use Rattle.answers.specs.Answers.{Check, _⇒_, first, decided}
 
 -- ---- what a heap comes to
 

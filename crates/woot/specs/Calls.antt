@@ -13,10 +13,10 @@ use Rattle.woot.specs.declared.Toggle.{Toggle}
 use Rattle.woot.specs.declared.Operation.{Operation}
 use Rattle.woot.specs.declared.Operation.the-variants.{Insert as insert, Toggle as toggle}
 use Rattle.woot.specs.declared.Character.{Character}
-use Rattle.woot.specs.declared.Refusal.the-variants.{Range, Form, Position, NotHidden, LastToggle, Clock, Taken}
-use Rattle.woot.specs.declared.Refusal.the-variants.{Conflict, Crossed, Unplaceable, SenderFull, DocumentFull}
-use Rattle.woot.specs.declared.Answer.{Answer}
-use Rattle.woot.specs.declared.Answer.the-variants.{Done, Deferred, Duplicate, Refused}
+use Rattle.answers.specs.declared.Refusal.the-variants.{Range, Form, Position, NotHidden, LastToggle, Clock, Taken}
+use Rattle.answers.specs.declared.Refusal.the-variants.{Conflict, Crossed, Unplaceable, SenderFull, DocumentFull}
+use Rattle.answers.specs.declared.Answer.{Answer}
+use Rattle.answers.specs.declared.Answer.the-variants.{Done, Deferred, Duplicate, Refused}
 use Rattle.woot.specs.declared.Sent.{Sent}
 use Rattle.woot.specs.declared.Sent.the-variants.{Done as sentDone, Refused as sentRefused}
 use Rattle.woot.specs.Limits.{lastClock, lastToggles, capacity, share}
@@ -28,7 +28,7 @@ use Rattle.woot.specs.Clock.{heardAll}
 use Rattle.woot.specs.Placing.{identifiers, integrateInsert, integrateToggle}
 use Rattle.woot.specs.Pending.{executable, crossed, unplaceable, pendingFrom, drain, Drained}
 use Rattle.woot.specs.Form.{presentInserts, wellFormed}
-use Rattle.woot.specs.Answers.{Check, _⇒_, first, decided}
+use Rattle.answers.specs.Answers.{Check, _⇒_, first, decided}
 use Rattle.lists.specs.Lists.{any, keep}
 
 -- what a call answers and leaves: the state, its own operation where that was carried out, and what was drained from

@@ -8,14 +8,14 @@ use lib.ListN.{length, take, getD}
 use Rattle.woot.specs.declared.Identifier.{Identifier}
 use Rattle.woot.specs.declared.Operation.{Operation}
 use Rattle.woot.specs.declared.Character.{Character}
-use Rattle.woot.specs.declared.Refusal.the-variants.{Position}
-use Rattle.woot.specs.declared.Answer.{Answer}
-use Rattle.woot.specs.declared.Answer.the-variants.{Refused}
+use Rattle.answers.specs.declared.Refusal.the-variants.{Position}
+use Rattle.answers.specs.declared.Answer.{Answer}
+use Rattle.answers.specs.declared.Answer.the-variants.{Refused}
 use Rattle.woot.specs.Identifiers.{begin}
 use Rattle.woot.specs.State.{State}
 use Rattle.woot.specs.Placing.{placeOf}
 use Rattle.woot.specs.Form.{wellFormed}
-use Rattle.woot.specs.Answers.{Check, _⇒_, first, decided, changes}
+use Rattle.answers.specs.Answers.{Check, _⇒_, first, decided, changes}
 use Rattle.woot.specs.Calls.{Outcome, unchanged, unlessKnown, newChecks, accept, visibles, beyondVisible}
 
 -- ---- where the cursor goes

@@ -9,11 +9,11 @@ use Rattle.woot.specs.declared.Insert.{Insert}
 use Rattle.woot.specs.declared.Operation.{Operation}
 use Rattle.woot.specs.declared.Operation.the-variants.{Insert as insert, Toggle as toggle}
 use Rattle.woot.specs.declared.Character.{Character}
-use Rattle.woot.specs.declared.Answer.{Answer}
-use Rattle.woot.specs.declared.Answer.the-variants.{Done, Deferred, Duplicate, Refused}
+use Rattle.answers.specs.declared.Answer.{Answer}
+use Rattle.answers.specs.declared.Answer.the-variants.{Done, Deferred, Duplicate, Refused}
 use Rattle.woot.specs.Identifiers.{same}
 use Rattle.woot.specs.State.{State, initial}
-use Rattle.woot.specs.Answers.{answerOf}
+use Rattle.woot.specs.Sending.{answerOf}
 use Rattle.woot.specs.Calls.{Outcome, allIntegrated, receive, localInsert, localDelete, localRestore}
 use Rattle.woot.specs.Cursor.{receiveAt}
 use Rattle.woot.specs.Building.{build}

@@ -10,9 +10,10 @@ use Rattle.woot.specs.declared.Character.{Character}
 use Rattle.woot.specs.Identifiers.{begin, end}
 use Rattle.woot.specs.Operations.{character, withToggles}
 use Rattle.woot.specs.State.{State, initial}
-use Rattle.woot.specs.Answers.{Reply, reply}
+use Rattle.answers.specs.Answers.{Reply, reply}
 use Rattle.woot.specs.Situations.{_at_, letter, stray, deleteBy, stateAt, holding, namingEachOther, toggledTo}
-use Rattle.woot.specs.Situations.{Done, Refused, numbersOf, ranksOf, rises}
+use Rattle.woot.specs.Situations.{Done, Refused}
+use Rattle.answers.specs.Order.{numbersOf, ranksOf, rises}
 use Rattle.woot.specs.Loading.{UseOutcome, useChecks, useOutcome}
 
 -- a state; what is seen: the reply, and the state that is left

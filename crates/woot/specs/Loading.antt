@@ -10,15 +10,15 @@ use Rattle.woot.specs.declared.Identifier.{Identifier}
 use Rattle.woot.specs.declared.Operation.{Operation}
 use Rattle.woot.specs.declared.Operation.the-variants.{Insert as insert, Toggle as toggle}
 use Rattle.woot.specs.declared.Character.{Character}
-use Rattle.woot.specs.declared.Refusal.the-variants.{Form, Unreachable}
-use Rattle.woot.specs.declared.Answer.{Answer}
-use Rattle.woot.specs.declared.Answer.the-variants.{Done, Refused}
+use Rattle.answers.specs.declared.Refusal.the-variants.{Form, Unreachable}
+use Rattle.answers.specs.declared.Answer.{Answer}
+use Rattle.answers.specs.declared.Answer.the-variants.{Done, Refused}
 use Rattle.woot.specs.Identifiers.{same, below}
 use Rattle.woot.specs.Operations.{origin}
 use Rattle.woot.specs.State.{State, initial}
 use Rattle.woot.specs.Placing.{identifiers, above}
 use Rattle.woot.specs.Form.{wellFormed}
-use Rattle.woot.specs.Answers.{Check, _⇒_, first, decided}
+use Rattle.answers.specs.Answers.{Check, _⇒_, first, decided}
 
 -- ---- neighbours come first
 

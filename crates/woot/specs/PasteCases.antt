@@ -10,9 +10,9 @@ use Rattle.woot.specs.Identifiers.{begin, end}
 use Rattle.woot.specs.Operations.{character, withToggles, inserts}
 use Rattle.woot.specs.State.{State}
 use Rattle.woot.specs.Placing.{identifiers}
-use Rattle.woot.specs.Answers.{Reply, reply}
+use Rattle.answers.specs.Answers.{Reply, reply}
 use Rattle.woot.specs.Situations.{_at_, letter, deleteBy, stateAt, rowsFrom, toggledTo, full, Done, Refused}
-use Rattle.woot.specs.Situations.{numbersOf}
+use Rattle.answers.specs.Order.{numbersOf}
 use Rattle.woot.specs.Pasting.{PasteOutcome, overfull, pasteChecks, pasteWhen, paste}
 
 -- a state, a gap and a block; what is seen: the reply, the identifiers from the top, and what stood above each

@@ -10,13 +10,13 @@ use Rattle.lists.specs.Lists.{missing}
 use Rattle.utf8.specs.Decoding.{decoded}
 use Rattle.woot.specs.declared.Identifier.{Identifier}
 use Rattle.woot.specs.declared.Operation.{Operation}
-use Rattle.woot.specs.declared.Refusal.the-variants.{NotUtf8, Form, Position, Clock, Unplaceable, DocumentFull}
-use Rattle.woot.specs.declared.Answer.{Answer}
-use Rattle.woot.specs.declared.Answer.the-variants.{Done, Refused}
+use Rattle.answers.specs.declared.Refusal.the-variants.{NotUtf8, Form, Position, Clock, Unplaceable, DocumentFull}
+use Rattle.answers.specs.declared.Answer.{Answer}
+use Rattle.answers.specs.declared.Answer.the-variants.{Done, Refused}
 use Rattle.woot.specs.Limits.{lastClock, capacity}
 use Rattle.woot.specs.State.{State}
 use Rattle.woot.specs.Form.{presentInserts, wellFormed}
-use Rattle.woot.specs.Answers.{number, reply, Check, _⇒_, first, decided}
+use Rattle.answers.specs.Answers.{number, reply, Check, _⇒_, first, decided}
 use Rattle.woot.specs.Calls.{nextIdentifier, beyondVisible}
 use Rattle.woot.specs.Cursor.{visibleThrough}
 use Rattle.woot.specs.Histories.{Call, inserting, outcome, run, integratedBy, discardedBy}

@@ -1,8 +1,7 @@
 -- Document 01's situations marked P, as one table with one statement, and the cases that tell the slips it lists.
 use Prim.Native.Nat.{ℕ, zero, suc, _+_, _/_, _%_}
 use mathlib.Core.Path.{_≡_}
-use mathlib.Core.Bool.{Bool, true, _&&_}
-use lib.Dec.{ltb}
+use mathlib.Core.Bool.{Bool, true}
 use lib.IntN.{ℤ, pos, negsuc}
 use mathlib.Core.List.{List, [], _∷_, map}
 use Rattle.woot.specs.declared.Identifier.{Identifier}
@@ -13,16 +12,10 @@ use Rattle.woot.specs.Identifiers.{begin, end}
 use Rattle.woot.specs.Operations.{character, withToggles}
 use Rattle.woot.specs.State.{State, initial}
 use Rattle.woot.specs.Placing.{identifiers}
-use Rattle.woot.specs.declared.Refusal.{Refusal}
-use Rattle.woot.specs.declared.Refusal.the-variants.{Layout, Range, HeapFull, NotUtf8, Form, Unrepresentable}
-use Rattle.woot.specs.declared.Refusal.the-variants.{Unreachable, Position, NotHidden, LastToggle, Clock, Taken}
-use Rattle.woot.specs.declared.Refusal.the-variants.{Conflict, Crossed, Unplaceable, SenderFull, DocumentFull}
-use Rattle.woot.specs.declared.Refusal.the-variants.{Output}
-use Rattle.woot.specs.declared.Answer.{Answer}
-use Rattle.woot.specs.declared.Answer.the-variants.{Done as answerDone, Deferred, Duplicate}
-use Rattle.woot.specs.declared.Answer.the-variants.{Refused as answerRefused}
 use Rattle.woot.specs.declared.Sent.{Sent}
-use Rattle.woot.specs.Answers.{number, rank, done, waits, known, refused, Reply, reply, answerOf, Check}
+use Rattle.answers.specs.Answers.{done, waits, known, refused, Reply, reply, Check}
+use Rattle.answers.specs.Order.{numbersOf, ranksOf, rises}
+use Rattle.woot.specs.Sending.{answerOf}
 use Rattle.woot.specs.Calls.{receiveChecks, receiveWhen, insertChecks, localInsertWhen, deleteChecks}
 use Rattle.woot.specs.Calls.{restoreChecks}
 use Rattle.woot.specs.Cursor.{visibleThrough, receiveAtChecks, receiveAt, shiftAt, lastNumber}
@@ -523,46 +516,9 @@ LargestTells =
 
 -- ---- the checking order
 
--- the refusals of a list of checks by their numbers, 0 for known
-abbrev pub numbersOf : List (Check Answer) → List ℕ
-numbersOf cs = map (λ c. reply (c .answer) .refusal) cs
-
+-- the refusals of a list of checks by their numbers
 abbrev pub sentNumbersOf : List (Check Sent) → List ℕ
 sentNumbersOf cs = map (λ c. reply (answerOf (c .answer)) .refusal) cs
-
--- the ranks of the refusals among answers, those of known left out
-abbrev pub ranksOf : List Answer → List ℕ
-ranksOf [] = []
-ranksOf (answerDone n m ∷ answers) = ranksOf answers
-ranksOf (Deferred ∷ answers) = ranksOf answers
-ranksOf (Duplicate ∷ answers) = ranksOf answers
-ranksOf (answerRefused r ∷ answers) = rank r ∷ ranksOf answers
-
--- each is above the one before it
-abbrev pub rises : List ℕ → Bool
-rises [] = true
-rises (n ∷ []) = true
-rises (n ∷ m ∷ ns) = ltb n m && rises (m ∷ ns)
-
--- all refusals in checking order: 17 and 20 "after 2", 15 and 16 "after 3", and 13 and 14 "after 4, in that order"
-abbrev pub inOrder : List Refusal
-inOrder =
-    Layout ∷ Range ∷ HeapFull ∷ NotUtf8 ∷ Form ∷ Unrepresentable ∷ Unreachable ∷ Position ∷ NotHidden ∷ LastToggle
-    ∷ Clock
-    ∷ Taken
-    ∷ Conflict
-    ∷ Crossed
-    ∷ Unplaceable
-    ∷ SenderFull
-    ∷ DocumentFull
-    ∷ Output
-    ∷ []
-
--- by their numbers, and each of a higher rank than the one before it
-abbrev pub RanksTell : Type 0
-RanksTell =
-    (map number inOrder ≡ 1 ∷ 2 ∷ 17 ∷ 20 ∷ 3 ∷ 15 ∷ 16 ∷ 4 ∷ 13 ∷ 14 ∷ 5 ∷ 6 ∷ 7 ∷ 8 ∷ 9 ∷ 10 ∷ 11 ∷ 12 ∷ [])
-    × (rises (map rank inOrder) ≡ true)
 
 -- receiving meets 2, 3, known, 7, 8, 9, 10, 11, with a cursor 4 after known; typing 2, 3, 4, 5, 6 (reserved), 9, 11;
 -- erasing 3, 4; restoring 2, 3, 13, 14: in this order, on any state

@@ -1,6 +1,6 @@
 // The operations that bench/ times, received on an empty replica: inserts of sixteen sites in turn, and then a delete
 // of each character.
-use woot::Answer;
+use answers::Answer;
 use woot::Identifier;
 use woot::Insert;
 use woot::Operation;

@@ -1,5 +1,5 @@
 -- `refused` stores the empty state of number 0.
-use Rattle.woot.specs.declared.Answer.the-variants.{Refused}
+use Rattle.answers.specs.declared.Answer.the-variants.{Refused}
 use borrow.Author.Needs.{needs}
 use Rattle.admission.proofs.refused.Statement.{statement}
 use Rattle.admission.proofs.refused.Tie as tie

@@ -1,5 +1,5 @@
 -- `building::refused` stores the empty state of number 0.
-use Rattle.woot.specs.declared.Answer.the-variants.{Refused}
+use Rattle.answers.specs.declared.Answer.the-variants.{Refused}
 use Rattle.woot.specs.Building.{unbuilt}
 use Rattle.building.specs.Assembly.{returned}
 use borrow.Author.Needs.{needs}

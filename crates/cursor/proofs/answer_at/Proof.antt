@@ -2,7 +2,7 @@
 use mathlib.Core.Path.{ap, _∙_}
 use borrow.Author.Needs.{needs}
 use borrow.Author.Tests.{not-true}
-use Rattle.woot.specs.declared.Answer.the-variants.{Refused}
+use Rattle.answers.specs.declared.Answer.the-variants.{Refused}
 use Rattle.cursor.specs.Steps.{answerAt}
 use Rattle.cursor.proofs.Answering.{at-within, at-beyond}
 use Rattle.cursor.proofs.answer_at.Statement.{statement}

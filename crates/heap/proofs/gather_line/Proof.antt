@@ -5,9 +5,9 @@ use Prim.Native.Nat.{ℕ}
 use lib.Dec.{eqb}
 use types.Run.{OneOf, miss}
 use denote.Enum.Declared.{tagOf}
-use Rattle.woot.specs.declared.Refusal.{Refusal}
-use Rattle.woot.specs.declared.Refusal.the-variants.{Range}
-use Rattle.woot.proofs.Refusal.{the-type}
+use Rattle.answers.specs.declared.Refusal.{Refusal}
+use Rattle.answers.specs.declared.Refusal.the-variants.{Range}
+use Rattle.answers.proofs.Refusal.{the-type}
 use Rattle.lists.proofs.Tests.{clash}
 use Rattle.heap.specs.declared.Gathered.{Gathered}
 use Rattle.heap.proofs.Gathering.{was-read, out-of-range, lacks-layout, counted-letter, kept-line, no-line}

@@ -10,8 +10,8 @@ use native.Mathlib.Omega.{arith}
 use lib.ListN.{length, getD}
 use borrow.Author.Tests.{not-true, not-false}
 use Rattle.lists.proofs.Tests.{three}
-use Rattle.woot.specs.declared.Refusal.{Refusal}
-use Rattle.woot.specs.declared.Refusal.the-variants.{Layout, Range}
+use Rattle.answers.specs.declared.Refusal.{Refusal}
+use Rattle.answers.specs.declared.Refusal.the-variants.{Layout, Range}
 use Rattle.saved.specs.declared.LoadAnswer.{LoadAnswer}
 use Rattle.saved.specs.declared.LoadAnswer.the-variants.{Done, Refused}
 use Rattle.saved_lines.specs.Judging.{siteRead}

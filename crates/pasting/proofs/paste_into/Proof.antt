@@ -1,8 +1,8 @@
 -- `pasting::paste_into` counts the characters of the block, judges it by the replica, and types it.
 use mathlib.Core.Path.{sym, _∙_}
 use Rattle.utf8.proofs.Offsets.{counted-some, counted-none}
-use Rattle.woot.specs.declared.Refusal.the-variants.{NotUtf8}
-use Rattle.woot.specs.declared.Answer.the-variants.{Refused}
+use Rattle.answers.specs.declared.Refusal.the-variants.{NotUtf8}
+use Rattle.answers.specs.declared.Answer.the-variants.{Refused}
 use Rattle.pasting.specs.Replicas.{pastedAs}
 use Rattle.pasting.proofs.Judging.{not-utf8, told-answer, told-enough}
 use Rattle.pasting.proofs.Finishing.{answered-so}

@@ -4,9 +4,9 @@ use mathlib.Core.List.{List, [], _∷_}
 use Prim.Native.Nat.{ℕ}
 use types.Run.{OneOf, miss}
 use denote.Enum.Declared.{tagOf}
-use Rattle.woot.specs.declared.Refusal.{Refusal}
-use Rattle.woot.specs.declared.Refusal.the-variants.{Range}
-use Rattle.woot.proofs.Refusal.{the-type}
+use Rattle.answers.specs.declared.Refusal.{Refusal}
+use Rattle.answers.specs.declared.Refusal.the-variants.{Range}
+use Rattle.answers.proofs.Refusal.{the-type}
 use Rattle.saved_lines.specs.Judging.{judgement}
 use Rattle.saved_lines.proofs.Judging.{operation-done, operation-range, operation-layout}
 use borrow.Author.Needs.{needs}

@@ -1,5 +1,5 @@
 -- `effects::results::number_of` meets its contract: each answer has its word, and a refusal its number.
-use Rattle.woot.specs.Answers.{reply}
+use Rattle.answers.specs.Answers.{reply}
 use Rattle.effects.specs.Results.{result, numberOf}
 use borrow.Author.Needs.{needs}
 use Rattle.effects.proofs.results.number_of.Statement.{statement}

@@ -1,6 +1,6 @@
 -- `situations::calls::answer_of` meets its contract: each case is one of the definition's.
 use borrow.Author.Needs.{needs}
-use Rattle.woot.specs.Answers.{answerOf}
+use Rattle.woot.specs.Sending.{answerOf}
 use Rattle.situations.proofs.calls.answer_of.Statement.{statement}
 use Rattle.situations.proofs.calls.answer_of.Tie as tie
 

@@ -1,6 +1,6 @@
 -- `transcript::report::report_line` meets its contract: the arm knows the variant, and the reply goes by it.
 use borrow.Author.Needs.{needs}
-use Rattle.woot.specs.Answers.{reply}
+use Rattle.answers.specs.Answers.{reply}
 use Rattle.transcript.specs.Lines.{spelled, replyLine, reportLine}
 use Rattle.transcript.proofs.report.report_line.Statement.{statement}
 use Rattle.transcript.proofs.report.report_line.Tie as tie

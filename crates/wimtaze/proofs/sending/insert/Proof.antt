@@ -4,7 +4,7 @@ use mathlib.Core.Bool.{Bool, true}
 use mathlib.Core.Option.{some}
 use borrow.Author.Tests.{not-true, not-false}
 use Rattle.woot.specs.declared.Generated.{Generated}
-use Rattle.woot.specs.Answers.{first}
+use Rattle.answers.specs.Answers.{first}
 use Rattle.effects.specs.Effects.{quiet, turned}
 use Rattle.effects.specs.Steps.{generatedLeft}
 use Rattle.c_calls.specs.Calls.{inputChecks}

@@ -2,7 +2,7 @@
 use mathlib.Core.Path.{refl, _∙_}
 use Rattle.lists.specs.Padding.{pad}
 use Rattle.woot.specs.Memory.{inColumns}
-use Rattle.woot.specs.Answers.{decided}
+use Rattle.answers.specs.Answers.{decided}
 use Rattle.typing.specs.Columns.{typedColumns}
 use Rattle.effects.specs.Effects.{quiet, turned}
 use Rattle.c_calls.specs.Steps.{pastingHere}

@@ -8,7 +8,7 @@ use borrow.Author.Tests.{not-true, not-false}
 use Rattle.woot.specs.declared.Generated.{Generated}
 use Rattle.woot.specs.Limits.{lastSite, lastClock}
 use Rattle.woot.specs.Ranges.{within, siteNumber, characterId}
-use Rattle.woot.specs.Answers.{first}
+use Rattle.answers.specs.Answers.{first}
 use Rattle.lists.proofs.Tests.{and-left, and-right}
 use Rattle.convergence.proofs.Ranges.{within-high}
 use Rattle.woot.specs.Replicas.{restored}

@@ -4,7 +4,7 @@ use Prim.Native.Nat.{ℕ}
 use borrow.Author.Tests.{le-leb, lt-leb}
 use native.Mathlib.Omega.{arith}
 use Rattle.woot.specs.Ranges.{within, siteNumber}
-use Rattle.woot.specs.Answers.{decided}
+use Rattle.answers.specs.Answers.{decided}
 use Rattle.effects.specs.Effects.{quiet, turned}
 use Rattle.woot.specs.State.{initial}
 use Rattle.saved.specs.Calls.{bytesOf}

@@ -1,9 +1,9 @@
--- `woot::Refusal::rank` meets its contract: each refusal has its place in the order.
+-- `answers::Refusal::rank` meets its contract: each refusal has its place in the order.
 use mathlib.Core.Path.{sym, ap}
 use borrow.Author.Needs.{needs}
-use Rattle.woot.specs.Answers.{rank}
-use Rattle.woot.proofs.Refusal.rank.Statement.{statement}
-use Rattle.woot.proofs.Refusal.rank.Tie as tie
+use Rattle.answers.specs.Answers.{rank}
+use Rattle.answers.proofs.Refusal.rank.Statement.{statement}
+use Rattle.answers.proofs.Refusal.rank.Tie as tie
 
 pub rank-spec : {M : Type 1} → statement M
 rank-spec =

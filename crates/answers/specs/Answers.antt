@@ -6,16 +6,13 @@ use mathlib.Core.Path.{_≡_}
 use mathlib.Core.List.{List, [], _∷_}
 use mathlib.Core.Option.{Option, none, some}
 use lib.Dec.{leb}
-use Rattle.woot.specs.declared.Operation.{Operation}
-use Rattle.woot.specs.declared.Refusal.{Refusal}
-use Rattle.woot.specs.declared.Refusal.the-variants.{Layout, Range, HeapFull, NotUtf8, Form, Unrepresentable}
-use Rattle.woot.specs.declared.Refusal.the-variants.{Unreachable, Position, NotHidden, LastToggle, Clock, Taken}
-use Rattle.woot.specs.declared.Refusal.the-variants.{Conflict, Crossed, Unplaceable, SenderFull, DocumentFull}
-use Rattle.woot.specs.declared.Refusal.the-variants.{Output}
-use Rattle.woot.specs.declared.Answer.{Answer}
-use Rattle.woot.specs.declared.Answer.the-variants.{Done, Deferred, Duplicate, Refused}
-use Rattle.woot.specs.declared.Sent.{Sent}
-use Rattle.woot.specs.declared.Sent.the-variants.{Done as sentDone, Refused as sentRefused}
+use Rattle.answers.specs.declared.Refusal.{Refusal}
+use Rattle.answers.specs.declared.Refusal.the-variants.{Layout, Range, HeapFull, NotUtf8, Form, Unrepresentable}
+use Rattle.answers.specs.declared.Refusal.the-variants.{Unreachable, Position, NotHidden, LastToggle, Clock, Taken}
+use Rattle.answers.specs.declared.Refusal.the-variants.{Conflict, Crossed, Unplaceable, SenderFull, DocumentFull}
+use Rattle.answers.specs.declared.Refusal.the-variants.{Output}
+use Rattle.answers.specs.declared.Answer.{Answer}
+use Rattle.answers.specs.declared.Answer.the-variants.{Done, Deferred, Duplicate, Refused}
 
 -- document 01, "Grounds for turning a call away", and the numbers that document 02 adds
 abbrev pub number : Refusal → ℕ
@@ -93,16 +90,6 @@ changes (Done n m) = true
 changes Deferred = true
 changes Duplicate = false
 changes (Refused r) = false
-
--- the answer of a call that sends, without the operation
-unfoldable pub answerOf : Sent → Answer
-answerOf (sentDone o n m) = Done n m
-answerOf (sentRefused r) = Refused r
-
--- the operation to be sent, none with a refusal
-unfoldable pub sentOperation : Sent → Option Operation
-sentOperation (sentDone o n m) = some o
-sentOperation (sentRefused r) = none
 
 -- a condition, and the answer where it holds
 pub record Check (A : Type 0) : Type 0 where

@@ -1,9 +1,9 @@
--- `woot::Refusal::number` meets its contract: each refusal has its number.
+-- `answers::Refusal::number` meets its contract: each refusal has its number.
 use mathlib.Core.Path.{sym, ap}
 use borrow.Author.Needs.{needs}
-use Rattle.woot.specs.Answers.{number}
-use Rattle.woot.proofs.Refusal.number.Statement.{statement}
-use Rattle.woot.proofs.Refusal.number.Tie as tie
+use Rattle.answers.specs.Answers.{number}
+use Rattle.answers.proofs.Refusal.number.Statement.{statement}
+use Rattle.answers.proofs.Refusal.number.Tie as tie
 
 pub number-spec : {M : Type 1} → statement M
 number-spec =

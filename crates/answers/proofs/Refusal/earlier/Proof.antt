@@ -1,4 +1,4 @@
--- `woot::Refusal::earlier` meets its contract: the ranks are compared.
+-- `answers::Refusal::earlier` meets its contract: the ranks are compared.
 use Prim.Native.Nat.{_≤_, _<_}
 use native.Mathlib.Omega.{arith}
 use mathlib.Core.Path.{_≡_}
@@ -6,10 +6,10 @@ use mathlib.Core.Bool.{true, false}
 use borrow.Author.Needs.{needs}
 use borrow.Author.Tests.{le-leb, lt-leb}
 use lib.Dec.{leb}
-use Rattle.woot.specs.declared.Refusal.{Refusal}
-use Rattle.woot.specs.Answers.{rank, earlier}
-use Rattle.woot.proofs.Refusal.earlier.Statement.{statement}
-use Rattle.woot.proofs.Refusal.earlier.Tie as tie
+use Rattle.answers.specs.declared.Refusal.{Refusal}
+use Rattle.answers.specs.Answers.{rank, earlier}
+use Rattle.answers.proofs.Refusal.earlier.Statement.{statement}
+use Rattle.answers.proofs.Refusal.earlier.Tie as tie
 
 first-kept : (p q : Refusal) → rank p ≤ rank q → p ≡ earlier p q
 unfolding earlier

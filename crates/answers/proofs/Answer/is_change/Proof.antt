@@ -1,8 +1,8 @@
--- `woot::Answer::is_change` meets its contract, variant by variant.
-use Rattle.woot.specs.Answers.{changes}
+-- `answers::Answer::is_change` meets its contract, variant by variant.
+use Rattle.answers.specs.Answers.{changes}
 use borrow.Author.Needs.{needs}
-use Rattle.woot.proofs.Answer.is_change.Statement.{statement}
-use Rattle.woot.proofs.Answer.is_change.Tie as tie
+use Rattle.answers.proofs.Answer.is_change.Statement.{statement}
+use Rattle.answers.proofs.Answer.is_change.Tie as tie
 
 returns : tie.Need-returns
 unfolding changes
