@@ -41,11 +41,12 @@ use Rattle.clock.specs.Hearing.{heardId, heardKeys}
 use Rattle.clock.proofs.Hearing.{heard-id}
 use Rattle.heap.specs.declared.Kept.{Kept}
 use Rattle.heap.specs.Keeping.{KeptOnce}
+use Rattle.passes.specs.Steps.{laidAs, Laid, Offers}
+use Rattle.passes.proofs.Repeating.{pass-balanced}
 use Rattle.building.specs.declared.Built.{Built}
 use Rattle.building.specs.Assembly.{Assembles, assembled, Gathers, outcomeOf, returned}
-use Rattle.building.specs.Steps.{laidAs, Laid, Offers, Among, Toggles}
+use Rattle.building.specs.Steps.{Among, Toggles}
 use Rattle.building.proofs.Firsts.{firsts-offered}
-use Rattle.building.proofs.Repeating.{pass-balanced}
 
 -- ---- no more characters than inserts
 

@@ -6,8 +6,8 @@ use mathlib.Core.Path.{_≡_, refl, sym, ap, _∙_}
 use mathlib.Core.Bool.{Bool, true, false, _&&_, _||_, not, cond}
 use mathlib.Core.List.{List, [], _∷_}
 use lib.Dec.{eqb}
-use lib.ListN.{length, take, drop, getD, drop-of-length-le}
-use lib.Seq.{drop-cons, getD-take, take-take}
+use lib.ListN.{length, drop, getD, drop-of-length-le}
+use lib.Seq.{drop-cons, getD-take}
 use Rattle.lists.specs.Lists.{any}
 use Rattle.lists.proofs.Tests.{passed}
 use Rattle.lists.proofs.Members.{every-member, get-member}
@@ -102,10 +102,6 @@ module _ {xs : List ℕ} {m : ℕ} {ts : List Toggle} (g : Among xs m ts) where
 
       pub absent-else : b ≡ false → {c : Bool} → c ≡ any (sameToggle (getD ts j z)) (drop (j + 1) ts) → not c ≡ not passedOver
       absent-else h k = rw (sym found-held ∙ h, k)
-
--- the keys in use at the front of the array are those of its first column
-pub front : (xs : List ℕ) (n : ℕ) → n ≤ 1024 → take n xs ≡ take n (take 1024 xs)
-front xs n h = sym (take-take n 1024 xs h)
 
 pub no-absentees : (cs : List Character) → absentees cs [] ≡ 0
 unfolding absentees

@@ -17,7 +17,7 @@ use Rattle.convergence.specs.Passes.{keptOnce, firsts}
 use Rattle.convergence.proofs.Identifiers.{same-sym}
 use Rattle.convergence.proofs.Extract.{extract-last, extract-map, extract-distinct}
 use Rattle.convergence.proofs.Steps.{any-map}
-use Rattle.building.specs.Steps.{Offered}
+use Rattle.passes.specs.Steps.{Offered}
 
 kept-ranged : (kept is : List Insert) → every insertInRange kept ≡ true → every insertInRange is ≡ true → every insertInRange (keptOnce kept is) ≡ true
 unfolding keptOnce

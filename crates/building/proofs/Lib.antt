@@ -1,7 +1,3 @@
-pub mod Laying
-pub mod Slotting
-pub mod Passing
-pub mod Repeating
 pub mod Toggling
 pub mod Counting
 pub mod Firsts

@@ -33,9 +33,10 @@ use Rattle.delivery.specs.Steps.{toggledAt}
 use Rattle.delivery.proofs.Stepping.{first-targeted}
 use Rattle.delivery.proofs.Changes.{found-parts}
 use Rattle.heap.specs.Columns.{targetColumn, stampColumn, TogglesIn}
-use Rattle.building.specs.Steps.{laidAs, Laid, toggleAt, Among, Toggles}
-use Rattle.building.proofs.Slotting.{column-read}
-use Rattle.building.proofs.Laying.{laid-parts, laid-keys}
+use Rattle.passes.specs.Steps.{laidAs, Laid}
+use Rattle.passes.proofs.Slotting.{column-read}
+use Rattle.passes.proofs.Laying.{laid-parts, laid-keys}
+use Rattle.building.specs.Steps.{toggleAt, Among, Toggles}
 
 -- ---- one toggle
 

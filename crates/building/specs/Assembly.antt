@@ -21,10 +21,11 @@ use Rattle.woot.specs.Building.{BuildOutcome, unbuilt, building, leftOut, built
 use Rattle.convergence.specs.Passes.{placed, toggledAll, absentees}
 use Rattle.heap.specs.declared.Gathered.{Gathered}
 use Rattle.heap.specs.Columns.{InsertsIn}
+use Rattle.passes.specs.Steps.{Offered}
 use Rattle.building.specs.declared.Built.{Built}
 use Rattle.building.specs.declared.Judged.{Judged}
 use Rattle.building.specs.declared.Judged.the-variants.{Refused as refused, Fits}
-use Rattle.building.specs.Steps.{Offered, Among}
+use Rattle.building.specs.Steps.{Among}
 
 -- ---- the refusals before 7
 

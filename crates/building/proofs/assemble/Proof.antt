@@ -5,7 +5,7 @@ use mathlib.Core.Path.{refl, ap, _∙_}
 use mathlib.Core.List.{List}
 use Prim.Native.Nat.{ℕ}
 use Rattle.memory.specs.Lent.{columnsAs}
-use Rattle.building.proofs.Laying.{laid-parts, laid-count, laid-slots, laid-keys, laid-tabled}
+use Rattle.passes.proofs.Laying.{laid-parts, laid-count, laid-slots, laid-keys, laid-tabled}
 use Rattle.building.proofs.Assembling.{placed-few, assembled-so, empty-size, empty-pending, empty-pending-size}
 use Rattle.building.proofs.Assembling.{empty-offers, toggles-on}
 use borrow.Author.Needs.{needs}

@@ -2,7 +2,8 @@
 use native.Mathlib.Omega.{arith}
 use mathlib.Core.Path.{_∙_}
 use lib.ListN.{length-take}
-use Rattle.building.proofs.Counting.{front, absent-held, absent-else}
+use Rattle.passes.proofs.Laying.{front}
+use Rattle.building.proofs.Counting.{absent-held, absent-else}
 use borrow.Author.Needs.{needs}
 use Rattle.building.proofs.is_absent.Statement.{statement}
 use Rattle.building.proofs.is_absent.Tie as tie

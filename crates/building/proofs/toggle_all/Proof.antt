@@ -2,8 +2,9 @@
 -- comes to what all of them come to.
 use Prim.Native.Nat.{_-_}
 use native.Mathlib.Omega.{arith}
-use Rattle.building.specs.Steps.{laidAs, Toggles}
-use Rattle.building.proofs.Laying.{laid-count, laid-slots, laid-tabled}
+use Rattle.passes.specs.Steps.{laidAs}
+use Rattle.building.specs.Steps.{Toggles}
+use Rattle.passes.proofs.Laying.{laid-count, laid-slots, laid-tabled}
 use Rattle.building.proofs.Toggling.{Changing, changing-begun, changing-again, changing-ended, slots-low}
 use Rattle.building.proofs.Toggling.{read-ranged}
 use Rattle.building.proofs.toggle_all.Statement.{statement}

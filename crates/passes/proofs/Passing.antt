@@ -32,10 +32,10 @@ use Rattle.memory.proofs.Stored.{document-parts}
 use Rattle.index.proofs.Keys.{all-range-small}
 use Rattle.heap.specs.Columns.{insertAt as readAt}
 use Rattle.heap.specs.Keeping.{Moved}
-use Rattle.building.proofs.Laying.{laid-slots}
-use Rattle.building.proofs.Slotting.{insert-read, inserts-moved, inserts-front}
-use Rattle.building.specs.declared.Taken.the-variants.{Placed, Lacking, Dropped}
-use Rattle.building.specs.Steps.{laidAs, Laid, Offered, Offering, TakenAs, ahead, Reached}
+use Rattle.passes.proofs.Laying.{laid-slots}
+use Rattle.passes.proofs.Slotting.{insert-read, inserts-moved, inserts-front}
+use Rattle.passes.specs.declared.Taken.the-variants.{Placed, Lacking, Dropped}
+use Rattle.passes.specs.Steps.{laidAs, Laid, Offered, Offering, TakenAs, ahead, Reached}
 
 -- ---- what becomes of the first
 

@@ -1,9 +1,9 @@
--- `building::take_in` looks for the place and, where there is one, puts the insert in.
-use Rattle.building.proofs.Laying.{laid-count, laid-slots, laid-tabled, taken-lacking, taken-crossed}
-use Rattle.building.proofs.Laying.{taken-unplaceable, below-within, taken-placed}
+-- `passes::take_in` looks for the place and, where there is one, puts the insert in.
+use Rattle.passes.proofs.Laying.{laid-count, laid-slots, laid-tabled, taken-lacking, taken-crossed}
+use Rattle.passes.proofs.Laying.{taken-unplaceable, below-within, taken-placed}
 use borrow.Author.Needs.{needs}
-use Rattle.building.proofs.take_in.Statement.{statement}
-use Rattle.building.proofs.take_in.Tie as tie
+use Rattle.passes.proofs.take_in.Statement.{statement}
+use Rattle.passes.proofs.take_in.Tie as tie
 
 place-for-requires : tie.Need-place-for-requires
 place-for-requires c κs =

@@ -1,4 +1,4 @@
--- `building::place_for` meets its contract: where the previous is not held, a neighbour is missing.
+-- `passes::place_for` meets its contract: where the previous is not held, a neighbour is missing.
 use Prim.Native.Nat.{ℕ}
 use native.Mathlib.Omega.{arith}
 use mathlib.Core.Path.{_≡_, sym, ap, _∙_}
@@ -15,10 +15,10 @@ use Rattle.integration.specs.declared.Placement.the-variants.{Missing}
 use Rattle.integration.specs.Placements.{placementOf}
 use Rattle.pending.specs.Ready.{heldIn}
 use Rattle.pending.proofs.Earliest.{held-keys}
-use Rattle.building.proofs.Counting.{front}
+use Rattle.passes.proofs.Laying.{front}
 use borrow.Author.Needs.{needs}
-use Rattle.building.proofs.place_for.Statement.{statement}
-use Rattle.building.proofs.place_for.Tie as tie
+use Rattle.passes.proofs.place_for.Statement.{statement}
+use Rattle.passes.proofs.place_for.Tie as tie
 
 unheld : (cs : List Character) (i : Insert) → held cs (i .previous) ≡ false → Missing ≡ placementOf cs i
 unfolding placementOf executable

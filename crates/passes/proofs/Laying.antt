@@ -5,6 +5,7 @@ use native.Mathlib.Omega.{arith}
 use mathlib.Core.Path.{_≡_, sym, _∙_}
 use mathlib.Core.List.{List, []}
 use lib.ListN.{length, take}
+use lib.Seq.{take-take}
 use Rattle.lists.proofs.Tests.{or-left, or-right, or-false}
 use Rattle.slots.specs.Slots.{putAt}
 use Rattle.woot.specs.declared.Insert.{Insert}
@@ -26,8 +27,8 @@ use Rattle.integration.specs.Placements.{placementOf}
 use Rattle.integration.proofs.Placements.{says}
 use Rattle.delivery.proofs.Works.{parts-slots, parts-swept, used}
 use Rattle.delivery.proofs.Changes.{placed-parts}
-use Rattle.building.specs.declared.Taken.the-variants.{Placed, Lacking, Dropped}
-use Rattle.building.specs.Steps.{laidAs, Laid, TakenAs}
+use Rattle.passes.specs.declared.Taken.the-variants.{Placed, Lacking, Dropped}
+use Rattle.passes.specs.Steps.{laidAs, Laid, TakenAs}
 
 module _ {d : Document} {cs : List Character} (l : Laid d cs) where
   pub laid-parts : Parts d cs []
@@ -54,6 +55,10 @@ module _ {d : Document} {cs : List Character} (l : Laid d cs) where
 
   pub laid-tabled : Tabled (d .table) (take (d .length) (d .ids))
   laid-tabled = rw (laid-keys, laid-parts .table) kept
+
+-- the keys in use at the front of the array are those of its first column
+pub front : (xs : List ℕ) (n : ℕ) → n ≤ 1024 → take n xs ≡ take n (take 1024 xs)
+front xs n h = sym (take-take n 1024 xs h)
 
 -- ---- an insert that is offered
 

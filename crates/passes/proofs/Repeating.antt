@@ -18,8 +18,8 @@ use Rattle.convergence.specs.Passes.{Passed, andLeft, pass, passes}
 use Rattle.convergence.proofs.Insertion.{insert-length}
 use Rattle.memory.specs.Columns.{Document}
 use Rattle.memory.proofs.Stored.{document-parts}
-use Rattle.building.specs.Steps.{Laid, Offering, Offers}
-use Rattle.building.proofs.Passing.{offered-laid}
+use Rattle.passes.specs.Steps.{Laid, Offering, Offers}
+use Rattle.passes.proofs.Passing.{offered-laid}
 
 -- ---- how many there are
 

@@ -1,16 +1,16 @@
--- `building::place_all` makes passes until one places none. The loop's invariant: passes over those that are left
+-- `passes::place_all` makes passes until one places none. The loop's invariant: passes over those that are left
 -- come to what they came to from the beginning, and there are enough of them.
 use native.Mathlib.Omega.{arith}
 use mathlib.Core.Path.{_≡_, _∙_}
 use Prim.Native.Nat.{suc}
 use lib.ListN.{length}
 use Rattle.convergence.specs.Passes.{passes}
-use Rattle.building.specs.Steps.{laidAs, Offers}
-use Rattle.building.proofs.Passing.{offering-slots}
-use Rattle.building.proofs.Repeating.{Repeating, repeating-begun, repeating-offers, repeating-ended}
-use Rattle.building.proofs.Repeating.{repeating-fewer, repeating-again}
-use Rattle.building.proofs.place_all.Statement.{statement}
-use Rattle.building.proofs.place_all.Tie as tie
+use Rattle.passes.specs.Steps.{laidAs, Offers}
+use Rattle.passes.proofs.Passing.{offering-slots}
+use Rattle.passes.proofs.Repeating.{Repeating, repeating-begun, repeating-offers, repeating-ended}
+use Rattle.passes.proofs.Repeating.{repeating-fewer, repeating-again}
+use Rattle.passes.proofs.place_all.Statement.{statement}
+use Rattle.passes.proofs.place_all.Tie as tie
 
 abbrev Inv-loop : tie.InvT-loop
 Inv-loop characters₀ toggles₀ heads₀ links₀ inserts₀ n m length₀ left₀ characters toggles heads links inserts count left =

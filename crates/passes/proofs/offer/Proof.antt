@@ -1,17 +1,17 @@
--- `building::offer` reads the insert, takes it in, and moves one that lacks a neighbour behind those that are left.
+-- `passes::offer` reads the insert, takes it in, and moves one that lacks a neighbour behind those that are left.
 use Prim.Native.Nat.{ℕ}
 use native.Mathlib.Omega.{arith}
 use mathlib.Core.Path.{_≡_, subst}
 use mathlib.Core.List.{List}
 use Rattle.memory.specs.Columns.{Document}
-use Rattle.building.specs.declared.Taken.{Taken}
-use Rattle.building.specs.declared.Taken.the-variants.{Placed, Lacking, Dropped}
-use Rattle.building.specs.Steps.{laidAs, Lays, TakenAs, Reaches}
-use Rattle.building.proofs.Passing.{reached-ranged, reached-laid, reached-room, reached-slots, reached-placed}
-use Rattle.building.proofs.Passing.{reached-dropped, reached-lacking}
+use Rattle.passes.specs.declared.Taken.{Taken}
+use Rattle.passes.specs.declared.Taken.the-variants.{Placed, Lacking, Dropped}
+use Rattle.passes.specs.Steps.{laidAs, Lays, TakenAs, Reaches}
+use Rattle.passes.proofs.Passing.{reached-ranged, reached-laid, reached-room, reached-slots, reached-placed}
+use Rattle.passes.proofs.Passing.{reached-dropped, reached-lacking}
 use borrow.Author.Needs.{needs}
-use Rattle.building.proofs.offer.Statement.{statement}
-use Rattle.building.proofs.offer.Tie as tie
+use Rattle.passes.proofs.offer.Statement.{statement}
+use Rattle.passes.proofs.offer.Tie as tie
 
 abbrev lays : {d : Document} {xs : List ℕ} {k i : ℕ} → Reaches d xs k i → Lays d
 lays g = record { characters = g .reached .characters; laid = reached-laid (g .reached) (g .within) }

@@ -1,14 +1,14 @@
--- `building::pass` offers one insert after another. The loop's invariant: what the pass is to come to, by the rules,
+-- `passes::pass` offers one insert after another. The loop's invariant: what the pass is to come to, by the rules,
 -- it will.
 use Prim.Native.Nat.{_-_, _≤_}
 use native.Mathlib.Omega.{arith}
 use mathlib.Core.Path.{_≡_, _∙_}
 use lib.ListN.{length}
 use Rattle.convergence.specs.Passes.{pass}
-use Rattle.building.specs.Steps.{laidAs, Offers, Reaches, Reached}
-use Rattle.building.proofs.Passing.{reached-begun, reached-ended, offering-slots, reaching-slots}
-use Rattle.building.proofs.pass.Statement.{statement}
-use Rattle.building.proofs.pass.Tie as tie
+use Rattle.passes.specs.Steps.{laidAs, Offers, Reaches, Reached}
+use Rattle.passes.proofs.Passing.{reached-begun, reached-ended, offering-slots, reaching-slots}
+use Rattle.passes.proofs.pass.Statement.{statement}
+use Rattle.passes.proofs.pass.Tie as tie
 
 abbrev Inv-loop : tie.InvT-loop
 Inv-loop characters₀ toggles₀ heads₀ links₀ inserts₀ n m at₀ i₀ characters toggles heads links inserts at i =

@@ -1,0 +1,4 @@
+pub mod Laying
+pub mod Slotting
+pub mod Passing
+pub mod Repeating
