@@ -53,7 +53,7 @@ use Rattle.well_formed.proofs.Examining as examining
 use Rattle.reception.specs.declared.Decision.{Decision}
 use Rattle.reception.specs.declared.Decision.the-variants.{Answered, Defer, Place, Toggle as toggleAt}
 use Rattle.reception.specs.Decisions.{outcomeOf, Executed, Feasible, Judged}
-use Rattle.replica.specs.Outcomes.{Left, leftBy, answerBy}
+use Rattle.execution.specs.Outcomes.{Left, leftBy, answerBy}
 use Rattle.replica.proofs.Runs.{formed-within, form-meant, form-stored, meaning-stored}
 use Rattle.replica.proofs.Returning.{received-so}
 use Rattle.cursor.specs.declared.Anchor.{Anchor}

@@ -236,7 +236,7 @@ pub fn receive_at(replica: Replica, operation: Operation, point: usize) -> Recei
     let mut pending = replica.document.pending;
     let mut heads = replica.document.table.heads;
     let mut links = replica.document.table.links;
-    let carried = replica::changes::carry(
+    let carried = execution::carry(
         &mut characters,
         &mut toggles,
         &mut pending,
@@ -248,7 +248,7 @@ pub fn receive_at(replica: Replica, operation: Operation, point: usize) -> Recei
         operation,
         decision,
     );
-    let answer = replica::answer(decision, carried.integrated, carried.discarded);
+    let answer = execution::answer(decision, carried.integrated, carried.discarded);
     let shift = shift_with(
         &characters,
         &toggles,

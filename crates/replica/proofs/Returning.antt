@@ -31,7 +31,8 @@ use Rattle.generation.specs.declared.Made.{Made}
 use Rattle.generation.specs.declared.Made.the-variants.{Refused as madeNothing, Send}
 use Rattle.reception.specs.Decisions.{outcomeOf, Executed, Feasible, Judged}
 use Rattle.generation.specs.Decisions.{MadeFor, InsertMade, DeleteMade, RestoreMade}
-use Rattle.replica.specs.Outcomes.{Left, leftOf, leftBy, answerBy, Sendable, sentBy}
+use Rattle.execution.specs.Outcomes.{Left, leftOf, leftBy, answerBy}
+use Rattle.replica.specs.Outcomes.{Sendable, sentBy}
 
 -- ---- arrays that have the columns of others, and of a state
 

@@ -1,12 +1,9 @@
 // The calls on a replica: receiving, inserting, deleting, restoring, the check of its form and the visible text. What
 // is asked is looked at on the replica's arrays and decided on, and then carried out where they lie.
-pub mod changes;
 pub mod copying;
 
-use answers::Answer;
 use answers::Refusal;
 use generation::Made;
-use reception::Decision;
 use woot::CHARACTER_NUMBERS;
 use woot::CODE_POINTS;
 use woot::Document;
@@ -29,7 +26,7 @@ ghost use Rattle.woot.specs.Text.{text};
 ghost use Rattle.woot.specs.Writing.{writtenAs, outputAfter};
 ghost use Rattle.woot.specs.Replicas.{received, inserted, deleted, restored};
 ghost use Rattle.memory.specs.Lent.{viewed};
-ghost use Rattle.replica.specs.Outcomes.{answerBy, Sendable, sentBy};
+ghost use Rattle.replica.specs.Outcomes.{Sendable, sentBy};
 ghost use Rattle.replica.specs.Texts.{textWritten, textOut};
 
 // Whether a replica is well formed. (Document 01: in form.)
@@ -46,24 +43,6 @@ pub fn well_formed(replica: Replica) -> bool
         &replica.document.table.heads,
         &replica.document.table.links,
     )
-}
-
-// The answer to a received operation, once it was carried out. A step of the calls and not a call.
-pub fn answer(decision: Decision, integrated: usize, discarded: usize) -> Answer
-    ensures { λ r. ⌜ r ≡ answerBy decision integrated discarded ⌝ }
-{
-    match decision {
-        Decision::Answered(answer) => answer,
-        Decision::Defer => Answer::Deferred,
-        Decision::Place(_) => Answer::Done {
-            integrated,
-            discarded,
-        },
-        Decision::Toggle(_) => Answer::Done {
-            integrated,
-            discarded,
-        },
-    }
 }
 
 // Receives an operation. (Document 01: receiving.)
@@ -86,7 +65,7 @@ pub fn receive(replica: Replica, operation: Operation) -> Receipt
         &links,
         operation,
     );
-    let carried = changes::carry(
+    let carried = execution::carry(
         &mut characters,
         &mut toggles,
         &mut pending,
@@ -98,7 +77,7 @@ pub fn receive(replica: Replica, operation: Operation) -> Receipt
         operation,
         decision,
     );
-    let answer = answer(decision, carried.integrated, carried.discarded);
+    let answer = execution::answer(decision, carried.integrated, carried.discarded);
     let site = carried.site;
     let mut after = replica;
     after.site = site;
@@ -131,7 +110,7 @@ fn send(replica: Replica, made: Made) -> Generated
             let mut pending = replica.document.pending;
             let mut heads = replica.document.table.heads;
             let mut links = replica.document.table.links;
-            let carried = changes::carry(
+            let carried = execution::carry(
                 &mut characters,
                 &mut toggles,
                 &mut pending,

@@ -23,7 +23,7 @@ use Rattle.delivery.specs.Work.{Lent, Work, workOf, finished, Placed as Placeab
 use Rattle.reception.specs.Decisions.{Executed, Feasible}
 use Rattle.reception.specs.declared.Decision.{Decision}
 use Rattle.reception.specs.declared.Decision.the-variants.{Answered, Defer, Place, Toggle as toggleAt}
-use Rattle.replica.specs.Outcomes.{Left, leftOf, leftBy}
+use Rattle.execution.specs.Outcomes.{Left, leftOf, leftBy}
 
 lent : (r : Replica) → Examined r → Lent (r .document)
 unfolding meaning

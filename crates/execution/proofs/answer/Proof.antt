@@ -1,8 +1,8 @@
--- `replica::answer` goes by the decision.
+-- `execution::answer` goes by the decision.
 use borrow.Author.Needs.{needs}
-use Rattle.replica.specs.Outcomes.{answerBy}
-use Rattle.replica.proofs.answer.Statement.{statement}
-use Rattle.replica.proofs.answer.Tie as tie
+use Rattle.execution.specs.Outcomes.{answerBy}
+use Rattle.execution.proofs.answer.Statement.{statement}
+use Rattle.execution.proofs.answer.Tie as tie
 
 returns : tie.Need-returns
 unfolding answerBy

@@ -1,4 +1,5 @@
-// A decision carried out: the arrays of a replica are edited where they lie.
+// A decision carried out: the arrays of a replica are edited where they lie, and what was received is answered.
+use answers::Answer;
 use reception::Decision;
 use woot::Operation;
 use woot::Site;
@@ -7,7 +8,7 @@ ghost use lib.ListN.{length};
 ghost use Rattle.woot.specs.Memory.{characterNumbers, pendingNumbers};
 ghost use Rattle.memory.specs.Lent.{replicaAs};
 ghost use Rattle.reception.specs.Decisions.{Feasible};
-ghost use Rattle.replica.specs.Outcomes.{leftAs, leftBy};
+ghost use Rattle.execution.specs.Outcomes.{leftAs, leftBy, answerBy};
 
 // What a call has to put back beside the arrays: the site, how many characters and pending operations there are, and
 // how many operations were carried out and how many discarded.
@@ -98,6 +99,24 @@ pub fn carry(
                 delivery::toggle(characters, toggles, pending, heads, links, n, w, k, t);
                 left(site, n, w, 1, 0)
             }
+        },
+    }
+}
+
+// The answer to a received operation, once it was carried out. A step of the calls and not a call.
+pub fn answer(decision: Decision, integrated: usize, discarded: usize) -> Answer
+    ensures { λ r. ⌜ r ≡ answerBy decision integrated discarded ⌝ }
+{
+    match decision {
+        Decision::Answered(answer) => answer,
+        Decision::Defer => Answer::Deferred,
+        Decision::Place(_) => Answer::Done {
+            integrated,
+            discarded,
+        },
+        Decision::Toggle(_) => Answer::Done {
+            integrated,
+            discarded,
         },
     }
 }

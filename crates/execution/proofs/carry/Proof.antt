@@ -1,4 +1,4 @@
--- `changes::carry` goes by the decision: each change leaves what the rules leave.
+-- `execution::carry` goes by the decision: each change leaves what the rules leave.
 use native.Mathlib.Omega.{arith}
 use mathlib.Core.Path.{refl, ap, _∙_}
 use Rattle.woot.specs.declared.Operation.the-variants.{Insert as insert, Toggle as toggle}
@@ -6,12 +6,12 @@ use Rattle.memory.specs.Columns.{Replica}
 use Rattle.memory.specs.Lent.{replicaAs}
 use Rattle.reception.specs.declared.Decision.the-variants.{Defer, Place, Toggle as toggleAt}
 use Rattle.reception.specs.Decisions.{Feasible}
-use Rattle.replica.specs.Outcomes.{leftAs}
-use Rattle.replica.proofs.Changing.{told, defer-lent, defer-slot, placeable, targeted, no-place, no-target}
-use Rattle.replica.proofs.Changing.{answered-left, deferred-left, integrated-left, toggled-left}
+use Rattle.execution.specs.Outcomes.{leftAs}
+use Rattle.execution.proofs.Changing.{told, defer-lent, defer-slot, placeable, targeted, no-place, no-target}
+use Rattle.execution.proofs.Changing.{answered-left, deferred-left, integrated-left, toggled-left}
 use borrow.Author.Needs.{needs}
-use Rattle.replica.proofs.changes.carry.Statement.{statement}
-use Rattle.replica.proofs.changes.carry.Tie as tie
+use Rattle.execution.proofs.carry.Statement.{statement}
+use Rattle.execution.proofs.carry.Tie as tie
 
 -- the replica with the arrays
 abbrev made : tie.Start → Replica
