@@ -44,8 +44,8 @@ use Rattle.visible.proofs.Visibility.{visibles-length, visible-identifier, getD
 use Rattle.visible.proofs.Shown.{NthAt, nth-says}
 use Rattle.reception.specs.declared.Decision.the-variants.{Toggle as toggleAt}
 use Rattle.reception.specs.Decisions.{Executed}
-use Rattle.reception.proofs.Holders.{CharacterAt}
-use Rattle.reception.proofs.Having.{characters-apart, inSlot, character-member, character-named}
+use Rattle.holder.proofs.Holders.{CharacterAt}
+use Rattle.holder.proofs.Having.{characters-apart, inSlot, character-member, character-named}
 use Rattle.generation.specs.declared.Made.the-variants.{Refused, Send}
 use Rattle.generation.specs.Decisions.{MadeFor, DeleteMade, RestoreMade}
 

@@ -23,11 +23,11 @@ use Rattle.integration.specs.Placements.{placementOf}
 use Rattle.integration.proofs.Placements.{says}
 use Rattle.well_formed.specs.Examined.{Examined}
 use Rattle.well_formed.proofs.Examining.{form, room-counted}
-use Rattle.reception.specs.declared.holder.Seen.{Seen}
-use Rattle.reception.specs.declared.holder.Seen.the-variants.{New as unseen, Same, Other}
+use Rattle.holder.specs.declared.Seen.{Seen}
+use Rattle.holder.specs.declared.Seen.the-variants.{New as unseen, Same, Other}
 use Rattle.reception.specs.declared.Decision.{Decision}
 use Rattle.reception.specs.declared.Decision.the-variants.{Answered, Place}
-use Rattle.reception.specs.Holder.{seenOf}
+use Rattle.holder.specs.Holder.{seenOf}
 use Rattle.reception.specs.Decisions.{fullIn, placedIn, Placed}
 use Rattle.reception.proofs.Judging.{Decided}
 use Rattle.reception.proofs.Deferring.{New, lacking-decided}

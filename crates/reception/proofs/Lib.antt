@@ -1,8 +1,3 @@
-pub mod Comparing
-pub mod Holders
-pub mod Having
-pub mod Named
-pub mod Seeing
 pub mod Outcomes
 pub mod Deferring
 pub mod Inserting

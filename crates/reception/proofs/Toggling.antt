@@ -42,8 +42,8 @@ use Rattle.well_formed.proofs.Examining.{form, keyed, own-used, first-used, val
 use Rattle.reception.specs.declared.Decision.the-variants.{Answered, Toggle as toggleAt}
 use Rattle.reception.specs.Decisions.{lackingIn, absentIn}
 use Rattle.reception.proofs.Judging.{Decided}
-use Rattle.reception.proofs.Holders.{CharacterAt}
-use Rattle.reception.proofs.Having.{inSlot, character-member, character-named, characters-apart}
+use Rattle.holder.proofs.Holders.{CharacterAt}
+use Rattle.holder.proofs.Having.{inSlot, character-member, character-named, characters-apart}
 use Rattle.reception.proofs.Deferring.{lacking-decided}
 use Rattle.reception.proofs.Outcomes as outcomes
 

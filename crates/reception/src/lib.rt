@@ -1,10 +1,7 @@
 // What is decided of a received operation, on lent arrays, before any of them is changed: the answer that changes
 // nothing, or what is to be done and where. The caller then edits each array where it lies.
-pub mod holder;
-
 use answers::Answer;
 use answers::Refusal;
-use holder::Holder;
 use holder::Seen;
 use index::Found;
 use index::table;
@@ -30,10 +27,8 @@ ghost use lib.ListN.{length, take};
 ghost use Rattle.woot.specs.declared.Operation.the-variants.{Insert as ofInsert, Toggle as ofToggle};
 ghost use Rattle.woot.specs.Operations.{sender};
 ghost use Rattle.woot.specs.Ranges.{insertInRange, toggleInRange};
-ghost use Rattle.memory.specs.Columns.{meaning};
 ghost use Rattle.memory.specs.Lent.{replicaAs, Sized};
 ghost use Rattle.well_formed.specs.Examined.{Examined};
-ghost use Rattle.reception.specs.Holder.{seenOf};
 ghost use Rattle.reception.specs.Decisions.{fullWith, lackingIn, placedIn, absentIn, Judged};
 
 pub enum Decision {
@@ -139,36 +134,6 @@ fn absent<'a>(
     lacking(n, own, values, w, Operation::Toggle(toggle))
 }
 
-// What a received insert is to the replica: the one that has its identifier decides.
-fn seen_by<'a>(
-    site: Site,
-    characters: &'a [u32],
-    toggles: &'a [u8],
-    n: usize,
-    pending: &'a [u32],
-    w: usize,
-    heads: &'a [u16],
-    links: &'a [u16],
-    insert: Insert,
-) -> Seen
-    requires { ⌜ Sized (now characters) (now toggles) (now pending) (now heads) (now links) ⌝ }
-    requires { ⌜ Examined
-        (replicaAs site (now characters) (now toggles) n (now pending) w (now heads) (now links)) ⌝ }
-    requires { ⌜ insertInRange insert ≡ true ⌝ }
-    ensures { λ r. ⌜ r
-        ≡ seenOf (meaning (replicaAs site (now (characters .entry)) (now (toggles .entry)) n
-        (now (pending .entry)) w (now (heads .entry)) (now (links .entry)))) insert ⌝ }
-{
-    let id = insert.id;
-    let ids = &characters[0..CHARACTERS];
-    let own = &pending[0..PENDING];
-    match holder::holder_of(heads, links, ids, n, own, w, index::key(id)) {
-        Holder::Character(k) => holder::compared(characters, CHARACTERS, k, insert),
-        Holder::Pending(j) => holder::compared(pending, PENDING, j, insert),
-        Holder::Nobody => Seen::New,
-    }
-}
-
 // Decides on an insert: what it is to the replica is looked at before its place.
 fn decide_insert<'a>(
     site: Site,
@@ -188,7 +153,7 @@ fn decide_insert<'a>(
     ensures { λ r. ⌜ Judged (replicaAs site (now (characters .entry)) (now (toggles .entry)) n
         (now (pending .entry)) w (now (heads .entry)) (now (links .entry))) (ofInsert insert) r ⌝ }
 {
-    match seen_by(
+    match holder::seen_by(
         site,
         characters,
         toggles,

@@ -14,7 +14,7 @@ use Rattle.memory.specs.Lent.{replicaAs}
 use Rattle.memory.proofs.Fullness.{begins, Ends, ends}
 use Rattle.well_formed.specs.Examined.{Examined}
 use Rattle.well_formed.proofs.Examining.{lent-examined, few, fits, examined-tabled}
-use Rattle.reception.proofs.Having.{StandsAt, stands-at, found-first, character-within}
+use Rattle.holder.proofs.Having.{StandsAt, stands-at, found-first, character-within}
 use Rattle.generation.proofs.Judging.{unranged-restore, unformed-restore}
 use Rattle.generation.proofs.Toggling.{restore-nowhere, restore-visible, restore-last, restore-below, restore-decided}
 use borrow.Author.Needs.{needs}

@@ -11,7 +11,7 @@ use Rattle.index.specs.declared.Found.{Found}
 use Rattle.index.specs.Keys.{found}
 use Rattle.memory.proofs.Fullness.{begins, Ends, ends}
 use Rattle.well_formed.proofs.Examining.{few, fits, examined-tabled}
-use Rattle.reception.proofs.Having.{StandsAt, stands-at, found-first, character-within}
+use Rattle.holder.proofs.Having.{StandsAt, stands-at, found-first, character-within}
 use Rattle.reception.proofs.Judging.{judged}
 use Rattle.reception.proofs.Toggling.{target-ranged, again-decided, toggle-decided, absent-decided}
 use Rattle.reception.proofs.decide_toggle.Statement.{statement}

@@ -2,8 +2,8 @@
 use native.Mathlib.Omega.{arith}
 use lib.ListN.{length-take}
 use borrow.Author.Needs.{needs}
-use Rattle.reception.proofs.holder.is_pending.Statement.{statement}
-use Rattle.reception.proofs.holder.is_pending.Tie as tie
+use Rattle.holder.proofs.is_pending.Statement.{statement}
+use Rattle.holder.proofs.is_pending.Tie as tie
 
 slice-aggregate-has-toggle : tie.Need-slice-aggregate-has-toggle
 slice-aggregate-has-toggle c = simp length-take (omega arith)

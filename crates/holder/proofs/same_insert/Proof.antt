@@ -2,9 +2,9 @@
 use mathlib.Core.Path.{refl, sym, _∙_}
 use borrow.Author.Needs.{needs}
 use borrow.Author.Tests.{ne-eqb, eq-eqb}
-use Rattle.reception.proofs.Comparing.{key-told, insert-read}
-use Rattle.reception.proofs.holder.same_insert.Statement.{statement}
-use Rattle.reception.proofs.holder.same_insert.Tie as tie
+use Rattle.holder.proofs.Comparing.{key-told, insert-read}
+use Rattle.holder.proofs.same_insert.Statement.{statement}
+use Rattle.holder.proofs.same_insert.Tie as tie
 
 returns : tie.Need-returns
 returns c = sym (insert-read _ _ _ _ _ (sym (key-told _ _ _ (c .before .key .ensures)) ∙ ne-eqb _ _ (c .if1 .taken)) refl refl refl)

@@ -7,11 +7,11 @@ use Rattle.woot.specs.Ranges.{characterId}
 use Rattle.convergence.proofs.Ranges.{in-range}
 use Rattle.memory.proofs.Fullness.{begins, Ends, ends}
 use Rattle.well_formed.proofs.Examining.{few, fits, examined-tabled}
-use Rattle.reception.specs.declared.holder.Holder.{Holder}
-use Rattle.reception.proofs.Having.{Has, has, character-within, pending-within}
-use Rattle.reception.proofs.Seeing.{seen-character, seen-pending, seen-nobody}
-use Rattle.reception.proofs.seen_by.Statement.{statement}
-use Rattle.reception.proofs.seen_by.Tie as tie
+use Rattle.holder.specs.declared.Holder.{Holder}
+use Rattle.holder.proofs.Having.{Has, has, character-within, pending-within}
+use Rattle.holder.proofs.Seeing.{seen-character, seen-pending, seen-nobody}
+use Rattle.holder.proofs.seen_by.Statement.{statement}
+use Rattle.holder.proofs.seen_by.Tie as tie
 
 id-ranged : (s : tie.Start) → characterId (s .args .insert .id) ≡ true
 id-ranged s = in-range (s .args .insert) (s .pre .1 .1) .id

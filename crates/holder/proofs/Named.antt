@@ -18,8 +18,8 @@ use Rattle.lists.proofs.Members.{any-append}
 use Rattle.convergence.proofs.Forms.{Formed, known-ids}
 use Rattle.convergence.proofs.Steps.{any-map}
 use Rattle.convergence.proofs.Named.{none-named, one-named}
-use Rattle.reception.specs.declared.holder.Seen.the-variants.{New}
-use Rattle.reception.specs.Holder.{comparedTo, seenOf}
+use Rattle.holder.specs.declared.Seen.the-variants.{New}
+use Rattle.holder.specs.Holder.{comparedTo, seenOf}
 
 -- ---- the inserts that a state knows
 

@@ -3,18 +3,26 @@
 use index::Found;
 use index::table;
 use pending::counts;
+use woot::CHARACTERS;
 use woot::Insert;
+use woot::PENDING;
+use woot::Site;
 use woot::Toggle;
 ghost use mathlib.Core.Path.{_≡_};
+ghost use mathlib.Core.Bool.{true};
 ghost use Prim.Native.Nat.{_*_, _≤_, _<_};
 ghost use lib.ListN.{length, take};
 ghost use Rattle.woot.specs.declared.Operation.the-variants.{Toggle as ofToggle};
 ghost use Rattle.woot.specs.Operations.{origin, sameInsert};
+ghost use Rattle.woot.specs.Ranges.{insertInRange};
 ghost use Rattle.woot.specs.Table.{key};
 ghost use Rattle.woot.specs.Memory.{characterOf, valueOf, column};
 ghost use Rattle.index.specs.Tabled.{Tabled};
 ghost use Rattle.pending.specs.Counts.{hasToggle};
-ghost use Rattle.reception.specs.Holder.{holderIn, insertIn, comparedTo};
+ghost use Rattle.memory.specs.Columns.{meaning};
+ghost use Rattle.memory.specs.Lent.{replicaAs, Sized};
+ghost use Rattle.well_formed.specs.Examined.{Examined};
+ghost use Rattle.holder.specs.Holder.{holderIn, insertIn, comparedTo, seenOf};
 
 // Who has an identifier: the character or the pending insert in a slot, or nobody.
 pub enum Holder {
@@ -117,4 +125,35 @@ pub fn compared(numbers: &[u32], slots: usize, k: usize, insert: Insert) -> Seen
         return Seen::Same;
     }
     Seen::Other
+}
+
+// What a received insert is to the replica: the one that has its identifier decides. A step of the calls and not a
+// call: they have checked the form and the ranges.
+pub fn seen_by<'a>(
+    site: Site,
+    characters: &'a [u32],
+    toggles: &'a [u8],
+    n: usize,
+    pending: &'a [u32],
+    w: usize,
+    heads: &'a [u16],
+    links: &'a [u16],
+    insert: Insert,
+) -> Seen
+    requires { ⌜ Sized (now characters) (now toggles) (now pending) (now heads) (now links) ⌝ }
+    requires { ⌜ Examined
+        (replicaAs site (now characters) (now toggles) n (now pending) w (now heads) (now links)) ⌝ }
+    requires { ⌜ insertInRange insert ≡ true ⌝ }
+    ensures { λ r. ⌜ r
+        ≡ seenOf (meaning (replicaAs site (now (characters .entry)) (now (toggles .entry)) n
+        (now (pending .entry)) w (now (heads .entry)) (now (links .entry)))) insert ⌝ }
+{
+    let id = insert.id;
+    let ids = &characters[0..CHARACTERS];
+    let own = &pending[0..PENDING];
+    match holder_of(heads, links, ids, n, own, w, index::key(id)) {
+        Holder::Character(k) => compared(characters, CHARACTERS, k, insert),
+        Holder::Pending(j) => compared(pending, PENDING, j, insert),
+        Holder::Nobody => Seen::New,
+    }
 }

@@ -13,10 +13,10 @@ use Rattle.woot.specs.Calls.{duplicate, conflicting}
 use Rattle.index.specs.declared.Found.{Found}
 use Rattle.index.specs.declared.Found.the-variants.{At, Nothing}
 use Rattle.index.specs.Keys.{found}
-use Rattle.reception.specs.declared.holder.Holder.{Holder}
-use Rattle.reception.specs.declared.holder.Holder.the-variants.{Character, Pending, Nobody}
-use Rattle.reception.specs.declared.holder.Seen.{Seen}
-use Rattle.reception.specs.declared.holder.Seen.the-variants.{New, Same, Other}
+use Rattle.holder.specs.declared.Holder.{Holder}
+use Rattle.holder.specs.declared.Holder.the-variants.{Character, Pending, Nobody}
+use Rattle.holder.specs.declared.Seen.{Seen}
+use Rattle.holder.specs.declared.Seen.the-variants.{New, Same, Other}
 
 -- a character before a pending insert
 unfoldable pub firstHolder : Found → Found → Holder

@@ -1,10 +1,10 @@
 -- `holder::compared` goes by the test of the numbers in the slot.
 use mathlib.Core.Path.{sym, _∙_}
-use Rattle.reception.specs.Holder.{comparedTo}
-use Rattle.reception.proofs.Comparing.{in-columns}
+use Rattle.holder.specs.Holder.{comparedTo}
+use Rattle.holder.proofs.Comparing.{in-columns}
 use borrow.Author.Needs.{needs}
-use Rattle.reception.proofs.holder.compared.Statement.{statement}
-use Rattle.reception.proofs.holder.compared.Tie as tie
+use Rattle.holder.proofs.compared.Statement.{statement}
+use Rattle.holder.proofs.compared.Tie as tie
 
 returns : tie.Need-returns
 unfolding comparedTo

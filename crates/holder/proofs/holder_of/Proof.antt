@@ -2,10 +2,10 @@
 use mathlib.Core.Path.{sym, _∙_}
 use native.Mathlib.Omega.{arith}
 use lib.ListN.{length-take}
-use Rattle.reception.specs.Holder.{firstHolder, holderIn}
+use Rattle.holder.specs.Holder.{firstHolder, holderIn}
 use borrow.Author.Needs.{needs}
-use Rattle.reception.proofs.holder.holder_of.Statement.{statement}
-use Rattle.reception.proofs.holder.holder_of.Tie as tie
+use Rattle.holder.proofs.holder_of.Statement.{statement}
+use Rattle.holder.proofs.holder_of.Tie as tie
 
 find-among-requires : tie.Need-find-among-requires
 find-among-requires c κs = (c .before .before .before .before .pre .0, c .before .before .before .before .pre .1 .1)

@@ -17,10 +17,10 @@ use Rattle.woot.specs.Table.{key, keys}
 use Rattle.index.specs.Keys.{Small, AllSmall, found}
 use Rattle.index.specs.declared.Found.{Found}
 use Rattle.index.specs.declared.Found.the-variants.{At, Nothing}
-use Rattle.reception.specs.declared.holder.Holder.{Holder}
-use Rattle.reception.specs.declared.holder.Holder.the-variants.{Character as ofCharacter, Pending as ofPending, Nobody}
+use Rattle.holder.specs.declared.Holder.{Holder}
+use Rattle.holder.specs.declared.Holder.the-variants.{Character as ofCharacter, Pending as ofPending, Nobody}
 use Rattle.woot.specs.Memory.{ownKey}
-use Rattle.reception.specs.Holder.{firstHolder, holderIn}
+use Rattle.holder.specs.Holder.{firstHolder, holderIn}
 use Rattle.index.proofs.Searches.{Says, first-says, first-map}
 use Rattle.index.proofs.Keys.{key-injective, key-same}
 use Rattle.lists.proofs.Members.{any-none, none-any}

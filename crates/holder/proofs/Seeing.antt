@@ -18,11 +18,11 @@ use Rattle.memory.specs.Columns.{meaning}
 use Rattle.convergence.proofs.Ranges.{in-range}
 use Rattle.well_formed.specs.Examined.{Examined}
 use Rattle.well_formed.proofs.Examining.{form, pending-read}
-use Rattle.reception.specs.declared.holder.Holder.the-variants.{Character as ofCharacter, Pending as ofPending, Nobody}
-use Rattle.reception.specs.declared.holder.Seen.the-variants.{New}
-use Rattle.reception.specs.Holder.{insertIn, comparedTo, seenOf}
-use Rattle.reception.proofs.Named.{seen-held, seen-new}
-use Rattle.reception.proofs.Having.{Has, nobody, pending-within, inSlot, character-member, character-named}
+use Rattle.holder.specs.declared.Holder.the-variants.{Character as ofCharacter, Pending as ofPending, Nobody}
+use Rattle.holder.specs.declared.Seen.the-variants.{New}
+use Rattle.holder.specs.Holder.{insertIn, comparedTo, seenOf}
+use Rattle.holder.proofs.Named.{seen-held, seen-new}
+use Rattle.holder.proofs.Having.{Has, nobody, pending-within, inSlot, character-member, character-named}
 
 -- numbers that stand for an insert are those of its own
 numbers-insert : (a b c v : ℕ) (j : Insert) → operationOf a b c v ≡ insert j → origin (characterOf a b c v 0) ≡ j

@@ -16,7 +16,7 @@ use Rattle.index.specs.Keys.{Small}
 use Rattle.index.proofs.Keys.{key-same}
 use Rattle.memory.proofs.Characters.{key-identifier, identifier-small}
 use Rattle.memory.proofs.Views.{column-at}
-use Rattle.reception.specs.Holder.{insertIn}
+use Rattle.holder.specs.Holder.{insertIn}
 
 pub key-told : (x : Identifier) (k r : ℕ) → (r ≡ key x) × Small x → eqb r k ≡ same x (identifier k)
 key-told x k r h = ap₂ eqb (h .0) (sym (key-identifier k)) ∙ key-same x (identifier k) (h .1) (identifier-small k)

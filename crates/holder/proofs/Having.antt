@@ -35,10 +35,10 @@ use Rattle.index.proofs.Searches.{first-map}
 use Rattle.memory.proofs.Operations.{positive-key}
 use Rattle.well_formed.specs.Examined.{Examined}
 use Rattle.well_formed.proofs.Examining.{form, small, keyed, characters-counted, pending-counted, ids-used, own-used, character-read}
-use Rattle.reception.specs.declared.holder.Holder.{Holder}
-use Rattle.reception.specs.declared.holder.Holder.the-variants.{Character as ofCharacter, Pending as ofPending, Nobody}
-use Rattle.reception.specs.Holder.{holderIn}
-use Rattle.reception.proofs.Holders.{CharacterAt, Stands, stands, Holds, holds}
+use Rattle.holder.specs.declared.Holder.{Holder}
+use Rattle.holder.specs.declared.Holder.the-variants.{Character as ofCharacter, Pending as ofPending, Nobody}
+use Rattle.holder.specs.Holder.{holderIn}
+use Rattle.holder.proofs.Holders.{CharacterAt, Stands, stands, Holds, holds}
 
 -- the character that a search among keys finds is the one that has the identifier
 named-first : (x : Identifier) → Small x → (cs : List Character) → AllSmall cs

@@ -1,0 +1,5 @@
+pub mod Comparing
+pub mod Holders
+pub mod Having
+pub mod Named
+pub mod Seeing
