@@ -5,6 +5,7 @@ use native.Mathlib.Omega.{arith}
 use mathlib.Core.Path.{_≡_, refl, _∙_}
 use lib.ListN.{length, getD}
 use lib.Seq.{length-take-le}
+use Rattle.woot.specs.State.{State}
 use Rattle.woot.specs.Memory.{codePointColumn}
 use Rattle.memory.specs.Columns.{meaning}
 use Rattle.memory.specs.Lent.{replicaAs, Sized}
@@ -85,6 +86,12 @@ loop-less c =
     let m = c .before .before .before .before .before .before .before .before .before .before .before .before .before .before .before .before .before in
     omega (arith, m .before .before .before .before .before .before .before .loop-test .taken)
 
+-- the state that the loop has come to
+abbrev reached : tie.In-loop Inv-loop μ-loop → State
+reached c =
+    let l = c .before .loop in
+    meaning (replicaAs (l .at .site) (l .characters) (l .toggles) (l .at .length) (l .pending) (l .at .waiting) (l .heads) (l .links))
+
 -- ---- at the end
 
 returns : tie.Need-returns Inv-loop μ-loop
@@ -94,7 +101,8 @@ returns c =
     let d = m .before .before .before .before .before .before .before in
     let l = m .type-next .last in
     going-stopped (d .before .loop .inv .2) (short d)
-    (told-nowhere _ _ (read d) (l .0) (l .1 .0) (l .1 .1 .0) (l .1 .1 .1 .0) (l .1 .1 .1 .1 .0) (m .type-next .ensures) (c .enum-told .given .1))
+    (told-nowhere (reached d) (d .before .loop .at) (read d) (l .0) (l .1 .0) (l .1 .1 .0) (l .1 .1 .1 .0) (l .1 .1 .1 .1 .0)
+    (m .type-next .ensures) (c .enum-told .given .1))
 
 loop-again : tie.Need-loop-again Inv-loop μ-loop
 loop-again c =
@@ -104,7 +112,9 @@ loop-again c =
     let l = m .type-next .last in
     let k = m .type-next .kept in
     let told = c .before .before .before .before .before .step .given .1 in
-    let t = told-taken _ _ (read d) (l .0) (l .1 .0) (l .1 .1 .0) (l .1 .1 .1 .0) (l .1 .1 .1 .1 .0) (m .type-next .ensures) told in (
+    let t = told-taken (reached d) (d .before .loop .at) (read d) (l .0) (l .1 .0) (l .1 .1 .0) (l .1 .1 .1 .0) (l .1 .1 .1 .1 .0)
+    (m .type-next .ensures) told
+    in (
       sized-still (v .0) (k .0) (k .1 .0) (k .1 .1 .0) (k .1 .1 .1 .0) (k .1 .1 .1 .1 .0),
       c .before .before .inscribe .kept .0 ∙ v .1,
       going-again (v .2) (short d) (few (start d)) t (c .before .before .inscribe .ensures),
