@@ -7,10 +7,10 @@ use mathlib.Core.List.{List, [], _∷_}
 use mathlib.Core.Option.{Option, none, some}
 use lib.Dec.{leb}
 use Rattle.answers.specs.declared.Refusal.{Refusal}
-use Rattle.answers.specs.declared.Refusal.the-variants.{Layout, Range, HeapFull, NotUtf8, Form, Unrepresentable}
-use Rattle.answers.specs.declared.Refusal.the-variants.{Unreachable, Position, NotHidden, LastToggle, Clock, Taken}
-use Rattle.answers.specs.declared.Refusal.the-variants.{Conflict, Crossed, Unplaceable, SenderFull, DocumentFull}
-use Rattle.answers.specs.declared.Refusal.the-variants.{Output}
+use Rattle.answers.specs.declared.Refusal.the-variants.{Layout, Range, HeapFull, Mislisted, NotUtf8, Form}
+use Rattle.answers.specs.declared.Refusal.the-variants.{Unrepresentable, Unreachable, Position, NotHidden, LastToggle}
+use Rattle.answers.specs.declared.Refusal.the-variants.{Clock, Taken, Conflict, Crossed, Unplaceable, SenderFull}
+use Rattle.answers.specs.declared.Refusal.the-variants.{DocumentFull, Output}
 use Rattle.answers.specs.declared.Answer.{Answer}
 use Rattle.answers.specs.declared.Answer.the-variants.{Done, Deferred, Duplicate, Refused}
 
@@ -19,6 +19,7 @@ abbrev pub number : Refusal → ℕ
 number Layout = 1
 number Range = 2
 number HeapFull = 17
+number Mislisted = 18
 number NotUtf8 = 20
 number Form = 3
 number Unrepresentable = 15
@@ -40,27 +41,28 @@ abbrev pub highestRefusal : ℕ
 highestRefusal = 20
 
 -- the place of a refusal in the checking order: what compares two refusals compares these, since a later number may be
--- checked earlier; 13 and 14 "come after 4, in that order", 15 and 16 "after 3", and 17 and 20 "after 2". No call has
--- both 15 and 16, or both 17 and 20
+-- checked earlier; 13 and 14 "come after 4, in that order", 15 and 16 "after 3", and 17, 18 and 20 "after 2". No call
+-- has both 15 and 16, or two of 17, 18 and 20
 abbrev pub rank : Refusal → ℕ
 rank Layout = 1
 rank Range = 2
 rank HeapFull = 3
-rank NotUtf8 = 4
-rank Form = 5
-rank Unrepresentable = 6
-rank Unreachable = 7
-rank Position = 8
-rank NotHidden = 9
-rank LastToggle = 10
-rank Clock = 11
-rank Taken = 12
-rank Conflict = 13
-rank Crossed = 14
-rank Unplaceable = 15
-rank SenderFull = 16
-rank DocumentFull = 17
-rank Output = 18
+rank Mislisted = 4
+rank NotUtf8 = 5
+rank Form = 6
+rank Unrepresentable = 7
+rank Unreachable = 8
+rank Position = 9
+rank NotHidden = 10
+rank LastToggle = 11
+rank Clock = 12
+rank Taken = 13
+rank Conflict = 14
+rank Crossed = 15
+rank Unplaceable = 16
+rank SenderFull = 17
+rank DocumentFull = 18
+rank Output = 19
 
 -- of two refusals the one that comes first in the checking order
 unfoldable pub earlier : Refusal → Refusal → Refusal

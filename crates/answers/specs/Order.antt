@@ -5,10 +5,10 @@ use mathlib.Core.Path.{_≡_}
 use mathlib.Core.List.{List, [], _∷_, map}
 use lib.Dec.{ltb}
 use Rattle.answers.specs.declared.Refusal.{Refusal}
-use Rattle.answers.specs.declared.Refusal.the-variants.{Layout, Range, HeapFull, NotUtf8, Form, Unrepresentable}
-use Rattle.answers.specs.declared.Refusal.the-variants.{Unreachable, Position, NotHidden, LastToggle, Clock, Taken}
-use Rattle.answers.specs.declared.Refusal.the-variants.{Conflict, Crossed, Unplaceable, SenderFull, DocumentFull}
-use Rattle.answers.specs.declared.Refusal.the-variants.{Output}
+use Rattle.answers.specs.declared.Refusal.the-variants.{Layout, Range, HeapFull, Mislisted, NotUtf8, Form}
+use Rattle.answers.specs.declared.Refusal.the-variants.{Unrepresentable, Unreachable, Position, NotHidden, LastToggle}
+use Rattle.answers.specs.declared.Refusal.the-variants.{Clock, Taken, Conflict, Crossed, Unplaceable, SenderFull}
+use Rattle.answers.specs.declared.Refusal.the-variants.{DocumentFull, Output}
 use Rattle.answers.specs.declared.Answer.{Answer}
 use Rattle.answers.specs.declared.Answer.the-variants.{Done, Deferred, Duplicate, Refused}
 use Rattle.answers.specs.Answers.{number, rank, reply, Check}
@@ -31,10 +31,11 @@ rises [] = true
 rises (n ∷ []) = true
 rises (n ∷ m ∷ ns) = ltb n m && rises (m ∷ ns)
 
--- all refusals in checking order: 17 and 20 "after 2", 15 and 16 "after 3", and 13 and 14 "after 4, in that order"
+-- all refusals in checking order: 17, 18 and 20 "after 2", 15 and 16 "after 3", and 13 and 14 "after 4, in that order"
 abbrev pub inOrder : List Refusal
 inOrder =
-    Layout ∷ Range ∷ HeapFull ∷ NotUtf8 ∷ Form ∷ Unrepresentable ∷ Unreachable ∷ Position ∷ NotHidden ∷ LastToggle
+    Layout ∷ Range ∷ HeapFull ∷ Mislisted ∷ NotUtf8 ∷ Form ∷ Unrepresentable ∷ Unreachable ∷ Position ∷ NotHidden
+    ∷ LastToggle
     ∷ Clock
     ∷ Taken
     ∷ Conflict
@@ -48,5 +49,5 @@ inOrder =
 -- by their numbers, and each of a higher rank than the one before it
 abbrev pub RanksTell : Type 0
 RanksTell =
-    (map number inOrder ≡ 1 ∷ 2 ∷ 17 ∷ 20 ∷ 3 ∷ 15 ∷ 16 ∷ 4 ∷ 13 ∷ 14 ∷ 5 ∷ 6 ∷ 7 ∷ 8 ∷ 9 ∷ 10 ∷ 11 ∷ 12 ∷ [])
+    (map number inOrder ≡ 1 ∷ 2 ∷ 17 ∷ 18 ∷ 20 ∷ 3 ∷ 15 ∷ 16 ∷ 4 ∷ 13 ∷ 14 ∷ 5 ∷ 6 ∷ 7 ∷ 8 ∷ 9 ∷ 10 ∷ 11 ∷ 12 ∷ [])
     × (rises (map rank inOrder) ≡ true)

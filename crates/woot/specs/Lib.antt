@@ -17,6 +17,7 @@ pub mod Replicas
 pub mod Text
 pub mod Building
 pub mod Loading
+pub mod Catching
 pub mod Histories
 pub mod Situations
 pub mod Pasting
