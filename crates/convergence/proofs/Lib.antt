@@ -14,6 +14,8 @@ pub mod Peeling
 pub mod Loadable
 pub mod Growth
 pub mod Agreement
+pub mod Words
+pub mod Chunks
 pub mod Listing
 pub mod Forms
 pub mod Soundness
