@@ -87,7 +87,8 @@ unfolding marks
 unmarked k x h = rw h
 
 -- chunks behind one that would speak of x do not mark it
-pub silent : (k : Chunk) (ks : List Chunk) (x : Identifier) → After k ks → heading k ≡ headingOf x → listedIn ks x ≡ false
+pub silent : (k : Chunk) (ks : List Chunk) (x : Identifier) → After k ks → heading k ≡ headingOf x
+    → listedIn ks x ≡ false
 unfolding listedIn
 silent k ks x a e =
     none-any (λ l. marks l x) ks

@@ -14,8 +14,6 @@ pub mod Peeling
 pub mod Loadable
 pub mod Growth
 pub mod Agreement
-pub mod Words
-pub mod Chunks
 pub mod Listing
 pub mod Forms
 pub mod Soundness
@@ -68,3 +66,6 @@ pub mod Pasting
 pub mod Building
 pub mod Making
 pub mod Loading
+pub mod Words
+pub mod Chunks
+pub mod Marking

@@ -7,3 +7,4 @@ pub mod Cursors
 pub mod Pasting
 pub mod Building
 pub mod Loading
+pub mod Catching
