@@ -1,5 +1,5 @@
 -- How many are left out, by what the characters hold: those that are about a character that is not there.
-use Prim.Native.Nat.{suc, _+_}
+use Prim.Native.Nat.{_+_}
 use native.Mathlib.Omega.{arith}
 use mathlib.Core.Path.{_≡_, refl, ap, sym, _∙_, subst}
 use mathlib.Core.Bool.{Bool, true, false, not, cond}
@@ -19,6 +19,7 @@ use Rattle.lists.specs.Lists.{every, keep}
 use Rattle.lists.proofs.Tests.{not-intro, either, fails}
 use Rattle.lists.proofs.Members.{every-member}
 use Rattle.convergence.proofs.Extract.{Extract, extract-length, keep-extract, keep-same}
+use Rattle.convergence.proofs.Peeling.{keep-all}
 use Rattle.convergence.proofs.Places.{held-id}
 use Rattle.convergence.proofs.Characters.{held-is-character, insert-id-in-range}
 use Rattle.woot.specs.Building.{once, building, leftOut}
@@ -73,10 +74,6 @@ module _ (p : Operation → Bool) where
   keep-none : (os : List Operation) → ((o : Operation) → List·Memᴰ o os → p o ≡ false) → length (keep p os) ≡ 0
   keep-none [] f = refl
   keep-none (o ∷ os) f = rw (f o (List·Memᴰ·head refl)) (keep-none os (λ q m. f q (List·Memᴰ·tail m)))
-
-  keep-all : (os : List Operation) → ((o : Operation) → List·Memᴰ o os → p o ≡ true) → length (keep p os) ≡ length os
-  keep-all [] f = refl
-  keep-all (o ∷ os) f = rw (f o (List·Memᴰ·head refl)) (ap suc (keep-all os (λ q m. f q (List·Memᴰ·tail m))))
 
 module _ (heap : List Operation) (r : every inRange heap ≡ true) (c : Consistent heap) where
   abbrev rows : List Character

@@ -69,3 +69,4 @@ pub mod Loading
 pub mod Words
 pub mod Chunks
 pub mod Marking
+pub mod Sequencing

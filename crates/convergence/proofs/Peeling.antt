@@ -106,6 +106,13 @@ keep-less p (y ∷ ys) {x} (List·Memᴰ·tail m) h = go (p y) (keep-less p ys m
     go true r = omega arith
     go false r = omega arith
 
+pub keep-all : {A : Type 0} (p : A → Bool) (xs : List A) → ((x : A) → List·Memᴰ x xs → p x ≡ true)
+    → length (keep p xs) ≡ length xs
+keep-all p [] f = refl
+keep-all p (x ∷ xs) f =
+    let h = f x (List·Memᴰ·head refl) in
+    rw h (ap suc (keep-all p xs (λ y m. f y (List·Memᴰ·tail m))))
+
 module _ (cs : List Character) (b : Births cs) where
   abbrev Within : List Character → Type 0
   Within left = (c : Character) → List·Memᴰ c left → List·Memᴰ c cs
