@@ -21,8 +21,11 @@ use Rattle.woot.specs.Loading.{arrivals, turnings}
 abbrev pub turn : ℕ → Character → Toggle
 turn n c = record { sender = n; target = c .id; toggles = c .toggles }
 
-insert-eq : {i j : Insert} → insert i ≡ insert j → i ≡ j
+pub insert-eq : {i j : Insert} → insert i ≡ insert j → i ≡ j
 insert-eq e = cc
+
+pub toggle-eq : {t u : Toggle} → toggle t ≡ toggle u → t ≡ u
+toggle-eq e = cc
 
 -- ---- which they are
 
@@ -84,12 +87,21 @@ pub arrivals-count : (cs : List Character) (os : List Operation)
 arrivals-count [] os = omega arith
 arrivals-count (c ∷ cs) os = omega (arith, arrivals-count cs os)
 
-pub turnings-count : (n : ℕ) (cs : List Character) → length (inserts (turnings n cs)) ≡ 0
+-- the toggles bring none
+no-inserts : (n : ℕ) (cs : List Character) → inserts (turnings n cs) ≡ []
 unfolding turnings
-turnings-count n [] = refl
-turnings-count n (c ∷ cs) = go (eqb (c .toggles) 0) (turnings-count n cs)
+no-inserts n [] = refl
+no-inserts n (c ∷ cs) = go (eqb (c .toggles) 0) (no-inserts n cs)
   where
-    go : (b : Bool) → length (inserts (turnings n cs)) ≡ 0
-        → length (inserts (cond b (turnings n cs) (toggle (turn n c) ∷ turnings n cs))) ≡ 0
+    go : (b : Bool) → inserts (turnings n cs) ≡ []
+        → inserts (cond b (turnings n cs) (toggle (turn n c) ∷ turnings n cs)) ≡ []
     go true r = r
     go false r = r
+
+pub turnings-count : (n : ℕ) (cs : List Character) → length (inserts (turnings n cs)) ≡ 0
+turnings-count n cs = ap length (no-inserts n cs)
+
+pub arrivals-alone : (cs : List Character) (n : ℕ) (ds : List Character)
+    → inserts (arrivals cs ++ turnings n ds) ≡ map origin cs
+arrivals-alone [] n ds = no-inserts n ds
+arrivals-alone (c ∷ cs) n ds = ap (λ (is : List Insert). origin c ∷ is) (arrivals-alone cs n ds)

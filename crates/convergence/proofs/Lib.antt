@@ -70,3 +70,4 @@ pub mod Words
 pub mod Chunks
 pub mod Marking
 pub mod Sequencing
+pub mod Catching

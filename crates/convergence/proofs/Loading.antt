@@ -106,7 +106,7 @@ use-unreachable s n q = (
 pub built-loadable : BuiltLoadable
 built-loadable n heap = grown-loadable (build n heap .state .characters) (heaped-grown n heap)
 
-form-run : (s : State) (cs : List Call) → wellFormed s ≡ true → wellFormed (run s cs) ≡ true
+pub form-run : (s : State) (cs : List Call) → wellFormed s ≡ true → wellFormed (run s cs) ≡ true
 form-run s [] f = f
 form-run s (c ∷ cs) f = form-run (outcome s c .state) cs (form-kept s c f)
 

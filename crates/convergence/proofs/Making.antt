@@ -42,13 +42,10 @@ use Rattle.convergence.proofs.Heap.{heap-ended, once-among, among-once,
 use Rattle.convergence.proofs.Sequences.{ready-built, received-built}
 use Rattle.convergence.proofs.Built.{inside-not, left-to}
 use Rattle.convergence.proofs.Grown.{grown-run}
-use Rattle.convergence.proofs.Arrivals.{turn, arrival, turning, turned-in, origin-arrives}
+use Rattle.convergence.proofs.Arrivals.{turn, toggle-eq, arrival, turning, turned-in, origin-arrives}
 use Rattle.convergence.proofs.Arrivals.{arrived-origin, arrivals-count, turnings-count}
 use Rattle.convergence.proofs.Used.{used-grown, used-formed}
 use Rattle.convergence.proofs.Loadable.{loadable-grown, grown-loadable}
-
-toggle-eq : {t u : Toggle} → toggle t ≡ toggle u → t ≡ u
-toggle-eq e = cc
 
 one-site : siteNumber 1 ≡ true
 unfolding siteNumber within

@@ -1,11 +1,12 @@
 -- Receiving an operation that has all it needs settles it: it is known, it crosses, or it is carried out.
-use Prim.Native.Nat.{max}
+use Prim.Native.Nat.{suc, _+_, _≤_, max}
 use native.Mathlib.Omega.{arith}
 use mathlib.Core.Path.{_≡_, refl, ap, ap₂, sym, _∙_, subst}
 use mathlib.Core.Bool.{true, false, _&&_}
 use mathlib.Core.Logic.{_⊎_, inl, inr, ⊎-elim}
 use mathlib.Core.List.{List, _∷_, _++_, map, List·Memᴰ, Memᴰ·map, [], List·Memᴰ·head, List·Memᴰ·tail}
 use lib.Dec.{leb}
+use lib.ListN.{length}
 use borrow.Author.Tests.{leb-true}
 use Rattle.woot.specs.declared.Insert.{Insert}
 use Rattle.woot.specs.declared.Toggle.{Toggle}
@@ -14,9 +15,9 @@ use Rattle.woot.specs.declared.Operation.the-variants.{Insert as insert, Toggle
 use Rattle.woot.specs.declared.Character.{Character}
 use Rattle.answers.specs.declared.Refusal.the-variants.{Crossed}
 use Rattle.answers.specs.declared.Answer.{Answer}
-use Rattle.answers.specs.declared.Answer.the-variants.{Done, Duplicate, Refused}
+use Rattle.answers.specs.declared.Answer.the-variants.{Done, Deferred, Duplicate, Refused}
 use Rattle.woot.specs.Identifiers.{same}
-use Rattle.woot.specs.Operations.{origin, sameInsert, sameOperation, toggledBy, withToggles}
+use Rattle.woot.specs.Operations.{origin, inserts, sameInsert, sameOperation, toggledBy, withToggles}
 use Rattle.woot.specs.Ranges.{inRange}
 use Rattle.woot.specs.State.{State}
 use Rattle.woot.specs.Placing.{identifiers, integrateInsert, integrateToggle}
@@ -60,12 +61,22 @@ received-done s o f r d c x p e l = rw (f, r, d, c, x, p, e, l)
 
 -- ---- what it comes to
 
--- what the call leaves
+-- done or known, or refused with 8
+abbrev pub Said : List Character → Operation → Answer → Type 0
+Said cs o (Done n m) = Unit
+Said cs o Duplicate = Unit
+Said cs o Deferred = ⊥
+Said cs o (Refused r) = crossed cs o ≡ true
+
+-- what the call answers and leaves
 pub record Taken (heap : List Operation) (s : State) (o : Operation) (r : Outcome Answer) : Type 0 where
   pub grown : Grown (r .state .characters)
   pub progress : Progress heap (s .characters) (r .state .characters)
   pub settled : Settled (r .state .characters) o
   pub waiting : (p : Operation) → List·Memᴰ p (r .state .pending) → List·Memᴰ p (s .pending)
+  pub present : length (r .state .characters) + length (inserts (r .state .pending))
+      ≤ suc (length (s .characters) + length (inserts (s .pending)))
+  pub said : Said (s .characters) o (r .answer)
 
 -- ---- what is known already
 
@@ -110,14 +121,16 @@ known-settled s f (toggle t) ready d =
 
 module _ (heap : List Operation) (s : State) (o : Operation) (g : Grown (s .characters)) where
   -- a call that changes nothing
-  still : (a : Answer) → Settled (s .characters) o → Taken heap s o (unchanged s a)
+  still : (a : Answer) → Said (s .characters) o a → Settled (s .characters) o → Taken heap s o (unchanged s a)
   unfolding unchanged
-  still a t =
+  still a w t =
       record {
         grown = g;
         progress = progress-none heap (g .standing);
         settled = t;
         waiting = λ p m. m;
+        present = omega arith;
+        said = w;
       }
 
 -- an operation that is carried out
@@ -136,6 +149,8 @@ acted heap s (insert i) g f r d c ready uncrossed m among =
       progress = progress-on (y .progress) (z .progress);
       settled = settled-later (z .progress) (y .grown) (z .grown) (insert i) (y .settled);
       waiting = z .waiting;
+      present = omega (arith, z .count, y .count);
+      said = tt;
     }
   where
     offered-insert : (s : State) (i : Insert) → Formed s → inRange (insert i) ≡ true
@@ -159,6 +174,8 @@ acted heap s (toggle t) g f r d c ready uncrossed m among =
       progress = y .progress;
       settled = y .settled;
       waiting = λ p n. n;
+      present = omega (arith, y .count);
+      said = tt;
     }
   where
     toggle-placed : unplaceable (s .characters) (toggle t) ≡ false
@@ -180,10 +197,10 @@ taken heap s o g f r c ready room m among = go (either (duplicate s o)) (either 
         → (crossed (s .characters) o ≡ true) ⊎ (crossed (s .characters) o ≡ false) → Taken heap s o (receive s o)
     go (inl d) x =
         subst (Taken heap s o) (sym (received-known s o f r d))
-        (still heap s o g Duplicate (known-settled s (formed s f) o ready d))
+        (still heap s o g Duplicate tt (known-settled s (formed s f) o ready d))
     go (inr d) (inl x) =
         subst (Taken heap s o) (sym (received-crossed s o f r d c x))
-        (still heap s o g (Refused Crossed) (stopped g o ready (inl x)))
+        (still heap s o g (Refused Crossed) x (stopped g o ready (inl x)))
     go (inr d) (inr x) =
         subst (Taken heap s o) (sym (received-done s o f r d c x (placed o ready x) ready (room d)))
         (acted heap s o g (formed s f) r d c ready x m among)

@@ -5,7 +5,7 @@ use native.Mathlib.Omega.{arith}
 use mathlib.Core.Path.{_≡_, refl, ap, sym, _∙_, subst}
 use mathlib.Core.Bool.{true, false, _&&_, not, false≢true}
 use mathlib.Core.Logic.{_⊎_, inl, inr, ⊎-elim}
-use mathlib.Core.List.{List, [], _∷_, map, List·Memᴰ, List·Memᴰ·head, List·Memᴰ·tail, List·Memᴰ·cases-cons, List·Memᴰ·not-nil, Memᴰ·map, Memᴰ·of-map, List·Memᴰ·append-cases}
+use mathlib.Core.List.{List, [], _∷_, _++_, map, List·Memᴰ, List·Memᴰ·head, List·Memᴰ·tail, List·Memᴰ·cases-cons, List·Memᴰ·not-nil, Memᴰ·map, Memᴰ·of-map, List·Memᴰ·append-cases}
 use lib.Dec.{leb}
 use lib.ListN.{length, length-map}
 use borrow.Author.Tests.{leb-true, not-true}
@@ -81,6 +81,10 @@ crossed-ready : (cs : List Character) (o : Operation) → crossed cs o ≡ true 
 unfolding crossed
 crossed-ready cs (insert i) e = and-left (executable cs (insert i)) (not (above cs (i .previous) (i .next))) e
 crossed-ready cs (toggle t) e = absurd (false≢true e)
+
+pub received-append : (s : State) (os ps : List Operation) → received s (os ++ ps) ≡ received (received s os) ps
+received-append s [] ps = refl
+received-append s (o ∷ os) ps = received-append (receive s o .state) os ps
 
 -- ---- the whole sequence
 
