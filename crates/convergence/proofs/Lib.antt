@@ -71,3 +71,4 @@ pub mod Chunks
 pub mod Marking
 pub mod Sequencing
 pub mod Catching
+pub mod Meeting
