@@ -3,3 +3,4 @@ pub mod Text
 pub mod PasteCases
 pub mod BuildCases
 pub mod LoadCases
+pub mod CatchCases

@@ -24,3 +24,4 @@ pub mod Pasting
 pub mod PasteCases
 pub mod BuildCases
 pub mod LoadCases
+pub mod CatchCases
