@@ -9,7 +9,7 @@ use mathlib.Core.List.{List, [], _∷_, _++_, map, List·Memᴰ, List·Memᴰ·h
 use mathlib.Core.List.{List·Memᴰ·not-nil, Memᴰ·map, Memᴰ·of-map, Memᴰ·append-left, Memᴰ·append-right}
 use mathlib.Core.List.{List·Memᴰ·append-cases}
 use lib.Dec.{leb}
-use lib.ListN.{length}
+use lib.ListN.{length, length-map}
 use borrow.Author.Tests.{leb-true, not-true}
 use Rattle.lists.specs.Lists.{every, distinct}
 use Rattle.lists.proofs.Tests.{either, clash, and-intro, and-left, and-right, fails}
@@ -36,7 +36,7 @@ use Rattle.woot.specs.Catching.{listedIn, listing, sent, operationsFor, answerF
 use Rattle.woot.specs.Histories.{receiving, outcome}
 use Rattle.convergence.specs.Agreement.{Grown}
 use Rattle.convergence.specs.Building.{received}
-use Rattle.convergence.specs.Catching.{AnswerInserts, AnswerToggles, Grew, BegunGrew, AskerKept}
+use Rattle.convergence.specs.Catching.{AnswerInserts, SpaceCounts, AnswerToggles, Grew, BegunGrew, AskerKept}
 use Rattle.convergence.specs.Catching.{OneMeaningAsked}
 use Rattle.convergence.specs.Catching.{Space, DoneOrKnown, NoneWaits, HoldsAll, CatchingUp}
 use Rattle.convergence.proofs.Places.{Holding, is-begin, is-character, is-end, holding, held-begin, held-end}
@@ -510,10 +510,16 @@ catching-up s t g h one room = let z = asked s t g h one room in (z .fine, z .ho
 -- ---- what the answer consists of
 
 pub answer-inserts : AnswerInserts
+unfolding answerFor operationsFor
+answer-inserts t l =
+    arrivals-alone (sent (listedIn (l .chunks)) (t .characters)) (t .site .number) (t .characters)
+
+pub space-counts : SpaceCounts
 unfolding operationsFor
-answer-inserts s t f =
-    ap inserts (answer-alike s t f)
-    ∙ arrivals-alone (sent (among (s .characters)) (t .characters)) (t .site .number) (t .characters)
+space-counts s t f =
+    let held-sent = sent (among (s .characters)) (t .characters) in
+    ap (λ (os : List Operation). length (inserts os)) (answer-alike s t f)
+    ∙ ap length (arrivals-alone held-sent (t .site .number) (t .characters)) ∙ length-map held-sent origin
 
 pub answer-toggles : AnswerToggles
 unfolding answerFor operationsFor

@@ -62,7 +62,7 @@ ListingAccepted =
     (s : State) → wellFormed s ≡ true →
     (listingInRange (listing s) ≡ true) × (mislisted (listing s) ≡ false)
 
--- "that marks clock 0": of any laptop
+-- "that marks clock 0": of any site
 abbrev pub ZeroListed : Type 0
 ZeroListed =
     (ks : List Chunk) →
@@ -96,11 +96,11 @@ SentFree =
     (listed : Identifier → Bool) (cs : List Character) → distinct same (identifiers cs) ≡ true →
     (ps qs : List Character) (c : Character) → sent listed cs ≡ ps ++ c ∷ qs → Chosen (c ∷ qs) c
 
--- what the answer's inserts are
+-- "answers with the inserts of its rows that aren't listed", to any list
 abbrev pub AnswerInserts : Type 0
 AnswerInserts =
-    (s t : State) → wellFormed s ≡ true →
-    inserts (answerFor t (listing s)) ≡ map origin (sent (among (s .characters)) (t .characters))
+    (t : State) (l : Listing) →
+    inserts (answerFor t l) ≡ map origin (sent (listedIn (l .chunks)) (t .characters))
 
 -- "an `E` line for every row with turn above 0, with the answering laptop as sender", listed or not
 abbrev pub AnswerToggles : Type 0
@@ -130,10 +130,15 @@ abbrev pub OneMeaningAsked : State → List Character → Type 0
 OneMeaningAsked s ds =
     (i : Insert) (d : Character) → List·Memᴰ i (presentInserts s) → List·Memᴰ d ds → i .id ≡ d .id → i ≡ origin d
 
--- "and space: the asker's rows, its waiting inserts and the inserts sent are together at most 1,024"; that these are
--- the inserts sent is `AnswerInserts`
+-- "and space: the asker's rows, its waiting inserts and the inserts sent are together at most 1,024"
 abbrev pub Space : State → State → Type 0
 Space s t = length (presentInserts s) + length (sent (among (s .characters)) (t .characters)) ≤ capacity
+
+-- these are the inserts sent
+abbrev pub SpaceCounts : Type 0
+SpaceCounts =
+    (s t : State) → wellFormed s ≡ true →
+    length (inserts (answerFor t (listing s))) ≡ length (sent (among (s .characters)) (t .characters))
 
 -- ---- catching up
 
