@@ -6,9 +6,11 @@ use mathlib.Core.Bool.{Bool, true, false, cond}
 use mathlib.Core.Logic.{_⊎_, inl, inr, ⊎-elim}
 use mathlib.Core.List.{List, [], _∷_, _++_, map, List·Memᴰ, List·Memᴰ·head, List·Memᴰ·tail, List·Memᴰ·cases-cons}
 use mathlib.Core.List.{List·Memᴰ·not-nil, Memᴰ·map, Memᴰ·of-map, List·Memᴰ·append-cases}
-use lib.Dec.{eqb}
+use lib.Dec.{eqb, ltb}
 use lib.ListN.{length}
-use borrow.Author.Tests.{eqb-true, eqb-false}
+use borrow.Author.Tests.{eqb-true, eqb-false, lt-ltb, le-ltb}
+use Rattle.lists.specs.Lists.{keep}
+use Rattle.lists.proofs.Tests.{either}
 use Rattle.woot.specs.declared.Insert.{Insert}
 use Rattle.woot.specs.declared.Toggle.{Toggle}
 use Rattle.woot.specs.declared.Operation.{Operation}
@@ -64,6 +66,17 @@ turned-in n (d ∷ cs) {c} m = go (eqb (d .toggles) 0) refl (List·Memᴰ·cases
     go true e (inr k) r = r k
     go false e (inl q) r = inr (List·Memᴰ·head (ap (λ (b : Character). toggle (turn n b)) q))
     go false e (inr k) r = ⊎-elim (λ z. inl z) (λ z. inr (List·Memᴰ·tail z)) (r k)
+
+pub turnings-are : (n : ℕ) (cs : List Character)
+    → turnings n cs ≡ map (λ c. toggle (turn n c)) (keep (λ c. ltb 0 (c .toggles)) cs)
+unfolding turnings
+turnings-are n [] = refl
+turnings-are n (c ∷ cs) =
+    ⊎-elim
+    (λ e. rw (e, le-ltb 0 (c .toggles) (omega (arith, eqb-true (c .toggles) 0 e))) (turnings-are n cs))
+    (λ e. rw (e, lt-ltb 0 (c .toggles) (omega (arith, eqb-false (c .toggles) 0 e)))
+    (ap (λ os. toggle (turn n c) ∷ os) (turnings-are n cs)))
+    (either (eqb (c .toggles) 0))
 
 pub origin-arrives : (cs : List Character) (i : Insert) → List·Memᴰ i (map origin cs)
     → List·Memᴰ (insert i) (arrivals cs)

@@ -36,8 +36,8 @@ use Rattle.woot.specs.Catching.{listedIn, listing, sent, operationsFor, answerF
 use Rattle.woot.specs.Histories.{receiving, outcome}
 use Rattle.convergence.specs.Agreement.{Grown}
 use Rattle.convergence.specs.Building.{received}
-use Rattle.convergence.specs.Catching.{AnswerInserts, SpaceCounts, AnswerToggles, Grew, BegunGrew, AskerKept}
-use Rattle.convergence.specs.Catching.{OneMeaningAsked}
+use Rattle.convergence.specs.Catching.{AnswerIs, AnswerInserts, SpaceCounts, AnswerToggles, Grew, BegunGrew}
+use Rattle.convergence.specs.Catching.{AskerKept, OneMeaningAsked}
 use Rattle.convergence.specs.Catching.{Space, DoneOrKnown, NoneWaits, HoldsAll, CatchingUp}
 use Rattle.convergence.proofs.Places.{Holding, is-begin, is-character, is-end, holding, held-begin, held-end}
 use Rattle.convergence.proofs.Places.{held-id}
@@ -56,7 +56,7 @@ use Rattle.convergence.proofs.Receiving.{Said, Taken, taken}
 use Rattle.convergence.proofs.Sequences.{Of, of-unconflicting, of-later, received-append}
 use Rattle.convergence.proofs.Peeling.{among-member, member-among}
 use Rattle.convergence.proofs.Arrivals.{turn, insert-eq, toggle-eq, arrivals-alone, arrival, turning}
-use Rattle.convergence.proofs.Arrivals.{turned-in, origin-arrives, arrived-origin}
+use Rattle.convergence.proofs.Arrivals.{turned-in, turnings-are, origin-arrives, arrived-origin}
 use Rattle.convergence.proofs.Grown.{grown-run, grown-throughout}
 use Rattle.convergence.proofs.Loading.{form-run}
 use Rattle.convergence.proofs.Marking.{listed-exactly}
@@ -508,6 +508,12 @@ pub catching-up : CatchingUp
 catching-up s t g h one room = let z = asked s t g h one room in (z .fine, z .holds)
 
 -- ---- what the answer consists of
+
+pub answer-is : AnswerIs
+unfolding answerFor operationsFor
+answer-is t l =
+    ap (λ (os : List Operation). arrivals (sent (listedIn (l .chunks)) (t .characters)) ++ os)
+    (turnings-are (t .site .number) (t .characters))
 
 pub answer-inserts : AnswerInserts
 unfolding answerFor operationsFor

@@ -5,13 +5,14 @@ use mathlib.Core.Path.{_≡_}
 use mathlib.Core.Bool.{Bool, true, false}
 use mathlib.Core.List.{List, [], _∷_, _++_, map, List·Memᴰ}
 use mathlib.Core.Logic.{_↔_}
+use lib.Dec.{ltb}
 use lib.ListN.{length}
-use Rattle.lists.specs.Lists.{any, every, distinct}
+use Rattle.lists.specs.Lists.{any, every, keep, distinct}
 use Rattle.woot.specs.declared.Identifier.{Identifier}
 use Rattle.woot.specs.declared.Insert.{Insert}
 use Rattle.woot.specs.declared.Toggle.{Toggle}
 use Rattle.woot.specs.declared.Operation.{Operation}
-use Rattle.woot.specs.declared.Operation.the-variants.{Toggle as toggle}
+use Rattle.woot.specs.declared.Operation.the-variants.{Insert as insert, Toggle as toggle}
 use Rattle.woot.specs.declared.Character.{Character}
 use Rattle.answers.specs.declared.Answer.{Answer}
 use Rattle.answers.specs.declared.Answer.the-variants.{Done, Deferred, Duplicate, Refused}
@@ -95,6 +96,16 @@ abbrev pub SentFree : Type 0
 SentFree =
     (listed : Identifier → Bool) (cs : List Character) → distinct same (identifiers cs) ≡ true →
     (ps qs : List Character) (c : Character) → sent listed cs ≡ ps ++ c ∷ qs → Chosen (c ∷ qs) c
+
+-- the whole answer, to any list: the inserts, and "Then, from the top, comes an `E` line for every row with turn above
+-- 0, with the answering laptop as sender"
+abbrev pub AnswerIs : Type 0
+AnswerIs =
+    (t : State) (l : Listing) →
+    answerFor t l
+    ≡ map (λ c. insert (origin c)) (sent (listedIn (l .chunks)) (t .characters))
+    ++ map (λ c. toggle (record { sender = t .site .number; target = c .id; toggles = c .toggles }))
+    (keep (λ c. ltb 0 (c .toggles)) (t .characters))
 
 -- "answers with the inserts of its rows that aren't listed", to any list
 abbrev pub AnswerInserts : Type 0
