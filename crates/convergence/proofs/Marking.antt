@@ -2,13 +2,15 @@
 use Prim.Native.Nat.{ℕ, _≤_}
 use native.Mathlib.Omega.{arith}
 use mathlib.Core.Path.{_≡_, refl, ap, sym, _∙_, subst}
-use mathlib.Core.Bool.{true, false, _&&_, not, and-assoc}
-use mathlib.Core.List.{Memᴰ·of-map}
+use mathlib.Core.Bool.{Bool, true, false, _&&_, _||_, not, and-assoc}
+use mathlib.Core.Logic.{_⊎_, inl, inr, ⊎-elim}
+use mathlib.Core.List.{List, Memᴰ·of-map}
 use lib.Dec.{eqb}
 use lib.ListN.{length, length-map}
-use borrow.Author.Tests.{eq-eqb}
+use borrow.Author.Tests.{eq-eqb, eqb-true, not-true}
 use Rattle.lists.specs.Lists.{any, every}
-use Rattle.lists.proofs.Tests.{and-intro, and-left, and-right, or-false, fails}
+use Rattle.lists.proofs.Tests.{clash, and-intro, and-left, and-right, or-cases, or-left, or-right, or-false, fails}
+use Rattle.lists.proofs.Tests.{not-intro}
 use Rattle.lists.proofs.Members.{any-member, member-any, member-every}
 use Rattle.woot.specs.declared.Identifier.{Identifier}
 use Rattle.woot.specs.declared.Character.{Character}
@@ -18,11 +20,11 @@ use Rattle.woot.specs.State.{State}
 use Rattle.woot.specs.Placing.{identifiers}
 use Rattle.woot.specs.Form.{wellFormed}
 use Rattle.woot.specs.Loading.{among}
-use Rattle.woot.specs.Catching.{Chunk, bitOf, speaksOf, marks, listedIn, onesIn, chunksOf, listing}
+use Rattle.woot.specs.Catching.{Chunk, bitOf, speaksOf, marks, listedIn, onesIn, inSequence, chunksOf, listing}
 use Rattle.woot.specs.Catching.{listingInRange, marksZero, mislisted}
 use Rattle.convergence.specs.Agreement.{Standing}
 use Rattle.convergence.specs.Catching.{BitsStand, ListedExactly, ListedAlone, ListedTotal, ListingAccepted}
-use Rattle.convergence.specs.Catching.{ZeroListed}
+use Rattle.convergence.specs.Catching.{ZeroListed, MislistedWhen}
 use Rattle.convergence.proofs.Ranges.{within-low, to-within}
 use Rattle.convergence.proofs.Characters.{id-in-range}
 use Rattle.convergence.proofs.Forms.{formed}
@@ -57,6 +59,42 @@ zero-listed ks = (to, from)
         let w = any-member (λ k. marks k (record { site = r .0; clock = 0 })) ks (r .1) in
         member-any marksZero (w .1)
         (and-right (eqb (w .0 .site) (r .0)) (marksZero (w .0)) (sym (zero-marked (w .0) (r .0)) ∙ w .2))
+
+-- ---- what is wrong with a list
+
+pub mislisted-when : MislistedWhen
+unfolding mislisted
+mislisted-when l = (to, from)
+  where
+    ks : List Chunk
+    ks = l .chunks
+
+    differs : Bool
+    differs = not (eqb (l .total) (onesIn ks))
+
+    Zero : Type 0
+    Zero = (n : ℕ) × (listedIn ks (record { site = n; clock = 0 }) ≡ true)
+
+    Wrong : Type 0
+    Wrong = ((l .total ≡ onesIn ks) → ⊥) ⊎ (Zero ⊎ (inSequence ks ≡ false))
+
+    to : mislisted l ≡ true → Wrong
+    to h =
+        ⊎-elim
+        (λ a. ⊎-elim (λ b. inl (λ e. clash (eq-eqb (l .total) (onesIn ks) e) (not-true (eqb (l .total) (onesIn ks)) b)))
+        (λ b. inr (inl (zero-listed ks .0 b))) (or-cases differs (any marksZero ks) a))
+        (λ a. inr (inr (not-true (inSequence ks) a)))
+        (or-cases (differs || any marksZero ks) (not (inSequence ks)) h)
+
+    from : Wrong → mislisted l ≡ true
+    from (inl f) =
+        or-left (differs || any marksZero ks) (not (inSequence ks))
+        (or-left differs (any marksZero ks) (not-intro (fails (eqb (l .total) (onesIn ks))
+        (λ h. f (eqb-true (l .total) (onesIn ks) h)))))
+    from (inr (inl z)) =
+        or-left (differs || any marksZero ks) (not (inSequence ks))
+        (or-right differs (any marksZero ks) (zero-listed ks .1 z))
+    from (inr (inr e)) = or-right (differs || any marksZero ks) (not (inSequence ks)) (not-intro e)
 
 -- ---- a state in form
 

@@ -4,7 +4,7 @@ use Prim.Native.Nat.{ℕ, _+_, _*_, _≤_, _<_}
 use mathlib.Core.Path.{_≡_}
 use mathlib.Core.Bool.{Bool, true, false}
 use mathlib.Core.List.{List, [], _∷_, _++_, map, List·Memᴰ}
-use mathlib.Core.Logic.{_↔_}
+use mathlib.Core.Logic.{_⊎_, _↔_}
 use lib.Dec.{ltb}
 use lib.ListN.{length}
 use Rattle.lists.specs.Lists.{any, every, keep, distinct}
@@ -24,8 +24,8 @@ use Rattle.woot.specs.Placing.{identifiers}
 use Rattle.woot.specs.Form.{presentInserts, wellFormed}
 use Rattle.woot.specs.Calls.{receive}
 use Rattle.woot.specs.Loading.{among, free}
-use Rattle.woot.specs.Catching.{Chunk, Listing, wordBits, bitOf, marks, listedIn, inSequence, listing, unlisted, sent}
-use Rattle.woot.specs.Catching.{answerFor, chunkInRange, listingInRange, marksZero, mislisted}
+use Rattle.woot.specs.Catching.{Chunk, Listing, wordBits, bitOf, marks, listedIn, onesIn, inSequence, listing, unlisted}
+use Rattle.woot.specs.Catching.{sent, answerFor, chunkInRange, listingInRange, marksZero, mislisted}
 use Rattle.woot.specs.Histories.{Call, Begun, startOf, run}
 use Rattle.convergence.specs.Agreement.{Grown, OneMeaning}
 use Rattle.convergence.specs.Building.{received}
@@ -68,6 +68,15 @@ abbrev pub ZeroListed : Type 0
 ZeroListed =
     (ks : List Chunk) →
     (any marksZero ks ≡ true) ↔ ((n : ℕ) × (listedIn ks (record { site = n; clock = 0 }) ≡ true))
+
+-- "A list whose total differs from the ones counted, that marks clock 0, or whose `K` lines are out of sequence", and
+-- no other
+abbrev pub MislistedWhen : Type 0
+MislistedWhen =
+    (l : Listing) →
+    (mislisted l ≡ true)
+    ↔ (((l .total ≡ onesIn (l .chunks)) → ⊥)
+    ⊎ (((n : ℕ) × (listedIn (l .chunks) (record { site = n; clock = 0 }) ≡ true)) ⊎ (inSequence (l .chunks) ≡ false)))
 
 -- ---- the inserts that are sent
 
