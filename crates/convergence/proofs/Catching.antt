@@ -90,6 +90,32 @@ none-waits-append : (s : State) (os ps : List Operation) → NoneWaits s os → 
 none-waits-append s [] ps f h = h
 none-waits-append s (o ∷ os) ps f h = (f .0, none-waits-append (receive s o .state) os ps (f .1) h)
 
+-- ---- step by step
+
+module _ (heap : List Operation) where
+  -- each operation takes the characters further by operations of the heap
+  abbrev pub Advances : State → List Operation → Type 0
+  Advances s [] = Unit
+  Advances s (o ∷ os) =
+      Progress heap (s .characters) (receive s o .state .characters) × Advances (receive s o .state) os
+
+  advances-append : (s : State) (os ps : List Operation) → Advances s os → Advances (received s os) ps
+      → Advances s (os ++ ps)
+  advances-append s [] ps a b = b
+  advances-append s (o ∷ os) ps a b = (a .0, advances-append (receive s o .state) os ps (a .1) b)
+
+  -- as far as some of them
+  pub advances-part : (s : State) (os ps : List Operation) → Advances s (os ++ ps) → Advances s os
+  advances-part s [] ps a = tt
+  advances-part s (o ∷ os) ps a = (a .0, advances-part (receive s o .state) os ps (a .1))
+
+  -- all in all
+  pub advanced : (s : State) (os : List Operation) → Grew s → Advances s os
+      → Progress heap (s .characters) (received s os .characters)
+  advanced s [] g a = progress-none heap (g .grown .standing)
+  advanced s (o ∷ os) g a =
+      progress-on (a .0) (advanced (receive s o .state) os (asker-kept s (o ∷ []) g) (a .1))
+
 -- ---- one after another, with all operations that the two have as a heap
 
 -- a character of the other whose insert is among these is held there under its identifier
@@ -109,6 +135,9 @@ module _ (heap : List Operation) (c : Consistent heap) (r : every inRange heap �
     pub room : length (s .characters) + length (inserts (s .pending)) + length left ≤ capacity
     pub have : (d : Character) → List·Memᴰ d ds
         → List·Memᴰ d left ⊎ List·Memᴰ (origin d) (map origin (s .characters))
+
+  between-grew : {s : State} {left : List Character} → Between s left → Grew s
+  between-grew b = record { form = b .form; grown = b .grown }
 
   -- what the other holds and is not left is held
   there : (s : State) (left : List Character) → Between s left → (x : Identifier) → held ds x ≡ true
@@ -214,17 +243,17 @@ module _ (heap : List Operation) (c : Consistent heap) (r : every inRange heap �
   record Inserted (s : State) (os : List Operation) : Type 0 where
     after : Between (received s os) []
     fine : NoneWaits s os
-    progress : Progress heap (s .characters) (received s os .characters)
+    advances : Advances heap s os
 
   all-inserted : (left : List Character) (s : State) → Between s left → EachFree left
       → ((d : Character) → List·Memᴰ d left → List·Memᴰ d ds) → Inserted s (arrivals left)
-  all-inserted [] s b o f = record { after = b; fine = tt; progress = progress-none heap (b .grown .standing) }
+  all-inserted [] s b o f = record { after = b; fine = tt; advances = tt }
   all-inserted (d ∷ left) s b o f =
       let y = stepped s d left b (o .0) (f d (List·Memᴰ·head refl)) in
       let z =
       all-inserted left (receive s (insert (origin d)) .state) (y .after) (o .1) (λ e m. f e (List·Memᴰ·tail m))
       in
-      record { after = z .after; fine = (y .fine, z .fine); progress = progress-on (y .progress) (z .progress) }
+      record { after = z .after; fine = (y .fine, z .fine); advances = (y .progress, z .advances) }
 
   -- ---- the toggles
 
@@ -266,7 +295,7 @@ module _ (heap : List Operation) (c : Consistent heap) (r : every inRange heap �
   record Toggled (s : State) (os : List Operation) : Type 0 where
     after : Between (received s os) []
     fine : NoneWaits s os
-    progress : Progress heap (s .characters) (received s os .characters)
+    advances : Advances heap s os
     settled : (o : Operation) → List·Memᴰ o os → Settled (received s os .characters) o
 
   all-toggled : (os : List Operation) (s : State) → Between s []
@@ -275,7 +304,7 @@ module _ (heap : List Operation) (c : Consistent heap) (r : every inRange heap �
       record {
         after = b;
         fine = tt;
-        progress = progress-none heap (b .grown .standing);
+        advances = tt;
         settled = λ o m. absurd (List·Memᴰ·not-nil m);
       }
   all-toggled (o ∷ os) s b f =
@@ -288,9 +317,10 @@ module _ (heap : List Operation) (c : Consistent heap) (r : every inRange heap �
       record {
         after = z .after;
         fine = (y .fine, z .fine);
-        progress = progress-on (y .progress) (z .progress);
+        advances = (y .progress, z .advances);
         settled = λ p m. ⊎-elim (λ k. subst (Settled (received (receive s o .state) os .characters)) (sym k)
-            (settled-later (z .progress) (y .after .grown) (z .after .grown) o (y .settled)))
+            (settled-later (advanced heap (receive s o .state) os (between-grew (y .after)) (z .advances))
+            (y .after .grown) (z .after .grown) o (y .settled)))
             (λ k. z .settled p k) (List·Memᴰ·cases-cons m);
       }
 
@@ -299,7 +329,7 @@ module _ (heap : List Operation) (c : Consistent heap) (r : every inRange heap �
   pub record Caught (s : State) (os : List Operation) : Type 0 where
     pub after : Between (received s os) []
     pub fine : NoneWaits s os
-    pub progress : Progress heap (s .characters) (received s os .characters)
+    pub advances : Advances heap s os
     pub holds : HoldsAll (received s os .characters) ds
 
   caught : (n : ℕ) (left : List Character) (s : State) → Between s left → EachFree left
@@ -307,15 +337,15 @@ module _ (heap : List Operation) (c : Consistent heap) (r : every inRange heap �
       → ((o : Operation) → List·Memᴰ o (turnings n ds) → List·Memᴰ o heap) → Caught s (arrivals left ++ turnings n ds)
   unfolding origin
   caught n left s b o f own =
-      subst (λ (t : State). (Between t [] × Progress heap (s .characters) (t .characters) × HoldsAll (t .characters) ds)
+      subst (λ (t : State). (Between t [] × HoldsAll (t .characters) ds)
       → Caught s (arrivals left ++ turnings n ds)) (received-append s (arrivals left) (turnings n ds))
       (λ w. record {
         after = w .0;
         fine = none-waits-append s (arrivals left) (turnings n ds) (x .fine) (y .fine);
-        progress = w .1;
-        holds = w .2;
+        advances = advances-append heap s (arrivals left) (turnings n ds) (x .advances) (y .advances);
+        holds = w .1;
       })
-      (y .after, progress-on (x .progress) (y .progress), holding-all)
+      (y .after, holding-all)
     where
       x : Inserted s (arrivals left)
       x = all-inserted left s b o f
@@ -341,7 +371,8 @@ module _ (heap : List Operation) (c : Consistent heap) (r : every inRange heap �
       holding-all : HoldsAll (received mid (turnings n ds) .characters) ds
       holding-all d m =
           let es = received mid (turnings n ds) .characters in
-          let w = Memᴰ·of-map origin es (y .progress .kept (origin d) (here d m)) in
+          let p = advanced heap mid (turnings n ds) (between-grew (x .after)) (y .advances) in
+          let w = Memᴰ·of-map origin es (p .kept (origin d) (here d m)) in
           let e : w .0 .id ≡ d .id = ap (λ (i : Insert). i .id) (w .2) in (
             w .0,
             w .1,

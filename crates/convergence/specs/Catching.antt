@@ -192,8 +192,16 @@ CatchingUp =
     NoneWaits s (answerFor t (listing s)) × HoldsAll (caughtUp s t .characters) (t .characters)
 
 -- "Where, besides, neither laptop had anything waiting and each answers the other, with no other call that changes
--- either sheet in between, both end with equal rows": whether the second answers before it takes in the first's answer,
--- or after
+-- either sheet in between, both end with equal rows": the one that has begun to take in the other's answer may answer
+-- after any of its lines. Space for the one is space for the other too.
+abbrev pub MeetMidway : Type 0
+MeetMidway =
+    (s t : State) → Grew s → Grew t → s .pending ≡ [] → t .pending ≡ [] → OneMeaning (s .characters) (t .characters) →
+    Space s t → (os ps : List Operation) → answerFor t (listing s) ≡ os ++ ps →
+    let u = received s os in
+    Space t u × (caughtUp s t .characters ≡ caughtUp t u .characters)
+
+-- so it is where it answers before it takes in any line, or after it took in all
 abbrev pub BothCatchUp : Type 0
 BothCatchUp =
     (s t : State) → Grew s → Grew t → s .pending ≡ [] → t .pending ≡ [] → OneMeaning (s .characters) (t .characters) →
