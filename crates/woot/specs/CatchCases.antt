@@ -59,6 +59,11 @@ listCase s l = record { state = s; listed = l }
 abbrev pub toggled : ℕ → Insert → Character
 toggled n i = withToggles (character i) n
 
+-- the same on a replica of site n
+abbrev pub ofSite : ℕ → State → State
+ofSite n s =
+    record { site = record { number = n; clock = s .site .clock }; characters = s .characters; pending = s .pending }
+
 unfoldable pub listCases : List ListCase
 listCases =
     listCase (rowsOf []) (list 1 0 [])
@@ -68,6 +73,8 @@ listCases =
     -- waiting inserts listed, or counted
     ∷ listCase (stateAt 9 (letter (2 at 1) begin end ∷ letter (1 at 2) begin end ∷ []) (stray (2 at 2) ∷ []))
     (list 1 2 (chunk 1 0 4 ∷ chunk 2 0 2 ∷ []))
+    -- the list said to be that of site 1, whichever lists
+    ∷ listCase (ofSite 2 (rowsOf (toggled 0 (letter (1 at 1) begin end) ∷ []))) (list 2 1 (chunk 1 0 2 ∷ []))
     ∷ []
 
 -- each state has the list that is expected
@@ -116,11 +123,22 @@ answerCases =
     -- nothing sent where none is free: P7's rows
     ∷ answerCase namingEachOther []
     (insert (letter (1 at 1) begin (2 at 1)) ∷ insert (letter (2 at 1) (1 at 1) end) ∷ [])
+    -- where none is free, the topmost and not the lowest
+    ∷ answerCase (holding (letter (2 at 1) begin (1 at 1) ∷ letter (1 at 1) (2 at 1) end ∷ [])) []
+    (insert (letter (1 at 1) (2 at 1) end) ∷ insert (letter (2 at 1) begin (1 at 1)) ∷ [])
+    -- once none is free, all that are left by identifier
+    ∷ answerCase
+    (holding (letter (1 at 1) begin (2 at 1) ∷ letter (2 at 1) (1 at 1) end ∷ letter (1 at 2) (2 at 1) end ∷ []))
+    []
+    (insert (letter (1 at 1) begin (2 at 1)) ∷ insert (letter (2 at 1) (1 at 1) end)
+    ∷ insert (letter (1 at 2) (2 at 1) end) ∷ [])
     -- what is listed sent too, or needed to be sent; what is listed and not held
     ∷ answerCase (holding (i11 ∷ i12 ∷ i21 ∷ [])) (2 at 1 ∷ 1 at 1 ∷ 9 at 9 ∷ []) (insert i12 ∷ [])
     -- no toggle for a row that is listed, or toggled an even number of times; a toggle for 0; the asker as sender
     ∷ answerCase (rowsOf (toggled 2 i11 ∷ toggled 0 i12 ∷ toggled 3 i21 ∷ [])) (1 at 1 ∷ 1 at 2 ∷ [])
     (insert i21 ∷ toggleBy 1 (1 at 1) 2 ∷ toggleBy 1 (2 at 1) 3 ∷ [])
+    -- site 1, or that of the row, as sender
+    ∷ answerCase (ofSite 2 (rowsOf (toggled 1 i11 ∷ []))) (1 at 1 ∷ []) (toggleBy 2 (1 at 1) 1 ∷ [])
     -- hidden rows not sent; the toggles in the sequence of the inserts, and not from the top
     ∷ answerCase (rowsOf (toggled 1 i13 ∷ toggled 1 i21 ∷ [])) []
     (insert i21 ∷ insert i13 ∷ toggleBy 1 (1 at 3) 1 ∷ toggleBy 1 (2 at 1) 1 ∷ [])
@@ -168,6 +186,7 @@ judgeCases =
     ∷ judgeCase (list 0 0 []) false false
     ∷ judgeCase (list 16 1 (chunk 16 lastIndex 1 ∷ [])) true false
     ∷ judgeCase (list 17 0 []) false false
+    ∷ judgeCase (list 1 1 (chunk 0 0 2 ∷ [])) false false
     ∷ judgeCase (list 1 1 (chunk 17 1 1 ∷ [])) false false
     ∷ judgeCase (list 1 1 (chunk 1 (lastIndex + 1) 1 ∷ [])) false false
     ∷ judgeCase (list 1 0 (chunk 1 1 0 ∷ [])) false false
