@@ -1,0 +1,4 @@
+pub mod Bits
+pub mod Heads
+pub mod Marking
+pub mod Collected
