@@ -1,12 +1,12 @@
 -- What writing answers, by its conditions.
 use mathlib.Core.Path.{_≡_, refl, sym, ap, _∙_}
-use mathlib.Core.List.{List, []}
+use mathlib.Core.List.{List, [], _++_}
 use mathlib.Core.Logic.{_⊎_, inl, inr}
 use mathlib.Core.Bool.{true, false, cond}
-use Prim.Native.Nat.{ℕ, _≤_, _<_}
+use Prim.Native.Nat.{ℕ, _+_, _≤_, _<_}
 use native.Mathlib.Omega.{arith}
 use lib.Dec.{eqb}
-use lib.ListN.{length}
+use lib.ListN.{length, length-append}
 use borrow.Author.Tests.{ne-eqb}
 use Rattle.output.specs.Output.{placed, past}
 use Rattle.output.proofs.Laws.{placed-short, past-room, past-short, length-placed}
@@ -21,7 +21,8 @@ use Rattle.convergence.proofs.Writing.{own-first, own-none, too-short, has-room
 use Rattle.lines.specs.declared.writing.Room.{Room}
 use Rattle.lines.specs.declared.writing.Room.the-variants.{Until, Short}
 use Rattle.lines.specs.Room.{roomFor}
-use Rattle.lines.proofs.Rooms.{until-tells, short-tells}
+use Rattle.lines.proofs.Rooms.{until-tells, short-tells, Run, run-none, run-on}
+use Rattle.lines.proofs.Sequences.{room-on, room-short as front-lacks}
 use Rattle.codec.specs.Operations.{operationLine}
 use Rattle.codec.specs.Calls.{writeChecks, written, writtenOut}
 
@@ -73,6 +74,38 @@ module _ (bytes out : List ℕ) where
           let long : n ≡ length bytes = cc in
           let kept : length after ≡ length out = ap length (o ∙ has-room [] bytes out refl h .1) ∙ length-placed out 0 bytes in
           omega arith
+
+-- ---- a front and what follows it, measured and then put
+
+module _ (a b bytes out : List ℕ) (all : a ++ b ≡ bytes) {x : Room} (e : x ≡ roomFor (length out) 0 a) where
+  pub front-short : x ≡ Short → (writtenRefused Output ≡ writtenAs [] bytes out) × (out ≡ outputAfter [] bytes out)
+  front-short q = rw (← all) (room-short (a ++ b) out (front-lacks (length out) 0 a b e q) refl)
+
+  module _ {start : ℕ} (q : x ≡ Until start) where
+    pub front-fits : start ≤ length out
+    front-fits = let t = until-tells (length out) 0 a e q in omega (arith, t .0, t .1)
+
+    module _ {y : Room} (f : y ≡ roomFor (length out) start b) where
+      both : y ≡ roomFor (length out) 0 (a ++ b)
+      both = f ∙ room-on (length out) 0 a b e q
+
+      pub body-short : y ≡ Short → (writtenRefused Output ≡ writtenAs [] bytes out) × (out ≡ outputAfter [] bytes out)
+      body-short p = rw (← all) (room-short (a ++ b) out both p)
+
+      module _ {n : ℕ} (p : y ≡ Until n) {out₁ : List ℕ} {at : ℕ} (front : (at ≡ past out 0 a) × (out₁ ≡ placed out 0 a)) where
+        fits : 0 + length (a ++ b) ≤ length out
+        fits = omega (arith, room-fits (a ++ b) out both p)
+
+        first : Run out 0 a out₁ at
+        first = run-on (run-none out 0 (omega arith)) a (omega (arith, fits, length-append a b)) (front .0) (front .1)
+
+        pub body-room : at + length b ≤ length out₁
+        body-room = omega (arith, first .offset, fits, length-append a b, ap length (front .1), length-placed out 0 a)
+
+        pub body-put : {out₂ : List ℕ} → out₂ ≡ placed out₁ at b → (Length n ≡ writtenAs [] bytes out) × (out₂ ≡ outputAfter [] bytes out)
+        body-put r =
+            let second : Run out 0 (a ++ b) _ (past out₁ at b) = run-on first b fits refl r in
+            rw (← all) (room-fitted (a ++ b) out both p, put-after (a ++ b) out (second .bytes))
 
 module _ (o : Operation) (out : List ℕ) where
   pub not-in-range : inRange o ≡ false → (writtenRefused Range ≡ written o out) × (out ≡ writtenOut o out)

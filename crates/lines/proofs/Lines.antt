@@ -12,9 +12,9 @@ use borrow.Author.Tests.{eqb-true, eqb-false}
 use Rattle.lists.proofs.Tests.{either, clash, passes, or-false}
 use Rattle.lists.proofs.Members.{any-append}
 use Rattle.lines.specs.Lines.{lineFeed, has, before, after, ended, firstLine, rest, onLine, lines, last, closed, leading, trailing, concatenated}
-use Rattle.lines.specs.Fields.{tab, columns, lineOf}
+use Rattle.lines.specs.Fields.{tab, fields, hasLayout, valuesOf, columns, lineOf}
 use Rattle.lines.proofs.Bytes.{split, before-append, after-append, has-append-seam}
-use Rattle.lines.proofs.Spelling.{no-columns}
+use Rattle.lines.proofs.Spelling.{no-columns, spelled}
 
 -- ---- the first line, and the others
 
@@ -192,6 +192,15 @@ rejoined (b ∷ d ∷ s) e = go (eqb b lineFeed) refl (rejoined (d ∷ s) e)
     go : (t : Bool) → eqb b lineFeed ≡ t → d ∷ s ≡ concatenated whole (lines (d ∷ s)) → b ∷ d ∷ s ≡ concatenated whole (lines (b ∷ d ∷ s))
     go true p others = rw (p, eqb-true b lineFeed p) (ap (λ (x : List ℕ). lineFeed ∷ x) others)
     go false p others = rw p (more (lines (d ∷ s)) others)
+
+-- a line with the layout is its head word and its numbers
+pub respelled : (head : List ℕ) (count : ℕ) (line ns : List ℕ) → hasLayout head count (fields line) ≡ true
+    → ns ≡ valuesOf (fields line) → lineOf head ns ≡ whole line
+unfolding lineOf
+respelled head count line ns h e =
+    ap (λ (ms : List ℕ). head ++ (columns ms ++ (lineFeed ∷ []))) e
+    ∙ sym (append-assoc head (columns (valuesOf (fields line))) (lineFeed ∷ []))
+    ∙ sym (ap whole (spelled head count line h .0))
 
 -- ---- lists taken apart by a test
 

@@ -1,7 +1,7 @@
 -- A line of a saved replica is spelled in one way only: what is written is read as it was, and what is read is written as it
 -- was.
-use mathlib.Core.Path.{_≡_, refl, sym, ap, _∙_}
-use mathlib.Core.List.{List, [], _∷_, _++_, append-assoc}
+use mathlib.Core.Path.{_≡_, refl, sym}
+use mathlib.Core.List.{List, _∷_, _++_}
 use mathlib.Core.Bool.{Bool, true, false}
 use Prim.Native.Nat.{ℕ, zero, suc}
 use native.Mathlib.Omega.{arith}
@@ -16,7 +16,7 @@ use Rattle.woot.specs.declared.Operation.the-variants.{Insert as insert, Toggle
 use Rattle.woot.specs.declared.Character.{Character}
 use Rattle.lists.proofs.Tests.{or-right}
 use Rattle.lines.specs.Lines.{lineFeed, has, lines, rest, closed}
-use Rattle.lines.specs.Fields.{tab, fields, hasLayout, valuesOf, columns, lineOf}
+use Rattle.lines.specs.Fields.{tab, fields, valuesOf, columns}
 use Rattle.codec.specs.Operations.{insertHead, toggleHead, deleteHead, insertNumbers, toggleNumbers, deleteNumbers, identifierAt, insertOf, toggleOf, deleteOf, isInsert, isToggle, isDelete, operationOf, operationLine}
 use Rattle.codec.specs.Calls.{asWritten, asWrittenFirst}
 use Rattle.lines.proofs.Spelling.{layout-line, values-line, spelled, other-letter}
@@ -25,7 +25,7 @@ use Rattle.codec.proofs.Letters.{delete-alone}
 use Rattle.saved.specs.declared.Version.{Version}
 use Rattle.saved.specs.declared.Version.the-variants.{First, Second}
 use Rattle.saved.specs.Format.{siteHead, siteNumbers, siteOf, isSite, siteSaid, siteLine, characterHead, toggleField, characterNumbers, characterOf, isCharacter, characterSaid, characterLine, isOperation, operationSaid, savedLine}
-use Rattle.lines.proofs.Lines.{whole, lines-line, closed-line, line-rest}
+use Rattle.lines.proofs.Lines.{whole, lines-line, closed-line, line-rest, respelled}
 
 -- ---- lines without their line feeds
 
@@ -161,14 +161,6 @@ operation-other Second (insert i) = other-letter 67 8 (insertHead ++ columns (in
 operation-other Second (toggle t) = other-letter 67 8 (bareToggle Second t) (eqb-false 69 67 refl)
 
 -- ---- what is read, written
-
--- a line with the layout is its head word and its numbers
-respelled : (head : List ℕ) (count : ℕ) (line ns : List ℕ) → hasLayout head count (fields line) ≡ true → ns ≡ valuesOf (fields line) → lineOf head ns ≡ whole line
-unfolding lineOf
-respelled head count line ns h e =
-    ap (λ (ms : List ℕ). head ++ (columns ms ++ (lineFeed ∷ []))) e
-    ∙ sym (append-assoc head (columns (valuesOf (fields line))) (lineFeed ∷ []))
-    ∙ sym (ap whole (spelled head count line h .0))
 
 pub site-again : (v : Version) (line : List ℕ) → isSite v line ≡ true → siteLine v (siteSaid line) ≡ whole line
 unfolding isSite siteLine siteSaid siteNumbers siteOf

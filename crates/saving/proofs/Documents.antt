@@ -7,27 +7,16 @@ use mir.Val.{Val}
 use denote.Laws.{Is}
 use lib.ListN.{length, take, getD, length-append, length-map, List·getD-append}
 use lib.Seq.{take-all, getD-append-add}
-use Rattle.output.specs.Output.{placed, past}
-use Rattle.output.proofs.Laws.{length-placed}
 use Rattle.lists.proofs.Indices.{map-getD}
 use Rattle.lines.specs.Lines.{concatenated}
 use Rattle.lines.proofs.Lines.{concatenated-append}
-use Rattle.lines.specs.declared.writing.Room.{Room}
-use Rattle.lines.specs.declared.writing.Room.the-variants.{Until, Short}
-use Rattle.lines.specs.Room.{roomFor}
-use Rattle.lines.proofs.Rooms.{until-tells, Run, run-none, run-on}
-use Rattle.lines.proofs.Sequences.{room-on, room-short}
 use Rattle.woot.specs.declared.Site.{Site}
 use Rattle.woot.specs.declared.Insert.{Insert}
 use Rattle.woot.specs.declared.Operation.the-variants.{Insert as insert}
-use Rattle.answers.specs.declared.Refusal.the-variants.{Output}
-use Rattle.woot.specs.declared.Written.the-variants.{Length, Refused}
-use Rattle.woot.specs.Writing.{writtenAs, outputAfter}
 use Rattle.woot.specs.State.{blankCharacter, blankOperation}
 use Rattle.woot.specs.Memory.{characterAt, charactersOf, operationAt, operationsOf}
 use Rattle.memory.proofs.Characters.{rows-length, rows-at}
 use Rattle.memory.proofs.Operations.{operations-length, operations-at}
-use Rattle.codec.proofs.Answers.{put-after, room-short as not-written, room-fits, room-fitted}
 use Rattle.codec.specs.Operations.{operationLine}
 use Rattle.saved.specs.declared.Version.{Version}
 use Rattle.saved.specs.declared.Version.the-variants.{First, Second}
@@ -116,35 +105,3 @@ lines-alone is ps ns cs ts os fs ss vs w = concatenated-lines operationLine (ope
 pub alone-fits : (is ps ns cs ts os fs ss vs : List ℕ) (w m : ℕ) → length (concatenated operationLine (operationsOf os fs ss vs w)) ≤ m →
     0 + length (bodyAs Second (listsOf is ps ns cs ts 0 os fs ss vs w)) ≤ m
 alone-fits is ps ns cs ts os fs ss vs w m h = omega (arith, ap length (lines-alone is ps ns cs ts os fs ss vs w))
-
--- ---- a front and what follows it, measured and then put
-
-module _ (a b bytes out : List ℕ) (all : a ++ b ≡ bytes) {x : Room} (e : x ≡ roomFor (length out) 0 a) where
-  pub front-short : x ≡ Short → (Refused Output ≡ writtenAs [] bytes out) × (out ≡ outputAfter [] bytes out)
-  front-short q = rw (← all) (not-written (a ++ b) out (room-short (length out) 0 a b e q) refl)
-
-  module _ {start : ℕ} (q : x ≡ Until start) where
-    pub front-fits : start ≤ length out
-    front-fits = let t = until-tells (length out) 0 a e q in omega (arith, t .0, t .1)
-
-    module _ {y : Room} (f : y ≡ roomFor (length out) start b) where
-      both : y ≡ roomFor (length out) 0 (a ++ b)
-      both = f ∙ room-on (length out) 0 a b e q
-
-      pub body-short : y ≡ Short → (Refused Output ≡ writtenAs [] bytes out) × (out ≡ outputAfter [] bytes out)
-      body-short p = rw (← all) (not-written (a ++ b) out both p)
-
-      module _ {n : ℕ} (p : y ≡ Until n) {out₁ : List ℕ} {at : ℕ} (front : (at ≡ past out 0 a) × (out₁ ≡ placed out 0 a)) where
-        fits : 0 + length (a ++ b) ≤ length out
-        fits = omega (arith, room-fits (a ++ b) out both p)
-
-        first : Run out 0 a out₁ at
-        first = run-on (run-none out 0 (omega arith)) a (omega (arith, fits, length-append a b)) (front .0) (front .1)
-
-        pub body-room : at + length b ≤ length out₁
-        body-room = omega (arith, first .offset, fits, length-append a b, ap length (front .1), length-placed out 0 a)
-
-        pub body-put : {out₂ : List ℕ} → out₂ ≡ placed out₁ at b → (Length n ≡ writtenAs [] bytes out) × (out₂ ≡ outputAfter [] bytes out)
-        body-put r =
-            let second : Run out 0 (a ++ b) _ (past out₁ at b) = run-on first b fits refl r in
-            rw (← all) (room-fitted (a ++ b) out both p, put-after (a ++ b) out (second .bytes))

@@ -5,7 +5,8 @@ use mathlib.Core.List.{List, _++_}
 use Rattle.saving.specs.Documents.{listsOf, bodyAs}
 use Rattle.saved.specs.Format.{siteLine, bytesAs}
 use Rattle.saving.specs.Documents.{stateOf}
-use Rattle.saving.proofs.Documents.{whole-bytes, front-short, front-fits, body-short, body-room, body-put}
+use Rattle.codec.proofs.Answers.{front-short, front-fits, body-short, body-room, body-put}
+use Rattle.saving.proofs.Documents.{whole-bytes}
 use borrow.Author.Needs.{needs}
 use Rattle.saving.proofs.columns.put_columns.Statement.{statement}
 use Rattle.saving.proofs.columns.put_columns.Tie as tie
