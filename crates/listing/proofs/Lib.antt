@@ -1,3 +1,4 @@
 pub mod Chunks
 pub mod Steps
 pub mod Summaries
+pub mod Columns
