@@ -1,7 +1,7 @@
 -- Reading a list: its conditions in checking order, and what is read where none holds.
 use Prim.Native.Nat.{ℕ}
 use mathlib.Core.List.{List, [], _∷_}
-use mathlib.Core.Bool.{Bool, not}
+use mathlib.Core.Bool.{not}
 use lib.ListN.{length}
 use Rattle.answers.specs.declared.Refusal.{Refusal}
 use Rattle.answers.specs.declared.Refusal.the-variants.{Layout, Range, Mislisted}
@@ -21,3 +21,8 @@ listReadChecks s =
 -- how many chunks there are, or the refusal
 unfoldable pub listRead : List ℕ → ListRead
 listRead s = decided Refused (first (listReadChecks s)) (Done (length (listSaid s .chunks)))
+
+-- the refusal's number, or 0
+unfoldable pub listNumber : ListRead → ℕ
+listNumber (Done n) = 0
+listNumber (Refused r) = number r

@@ -1,3 +1,4 @@
 pub mod Format
 pub mod Calls
 pub mod Reading
+pub mod Theorems
