@@ -17,7 +17,7 @@ use Rattle.woot.specs.Ranges.{within, siteNumber}
 use Rattle.woot.specs.Catching.{Chunk, lastIndex, lastWord, onesIn, precedes, inSequence, chunkInRange}
 use Rattle.convergence.proofs.Ranges.{within-low, within-high, to-within}
 use Rattle.chunks.specs.Columns.{chunkAs}
-use Rattle.listing.specs.Reading.{headOf, lastHead}
+use Rattle.listing.specs.Reading.{headFor, lastHead}
 
 -- ---- tests
 
@@ -64,8 +64,8 @@ module _ (k : Chunk) where
       (to-within 1 lastWord (k .word) (b .word-low) (b .word-high))
 
   -- the head and the word are the chunk
-  pub head-back : k .index ≤ 1023 → chunkAs (headOf k) (k .word) ≡ k
-  unfolding chunkAs headOf
+  pub head-back : k .index ≤ 1023 → chunkAs (headFor k) (k .word) ≡ k
+  unfolding chunkAs headFor
   head-back h =
       let s : (k .site * 1024 + k .index) / 1024 ≡ k .site = omega arith in
       let i : (k .site * 1024 + k .index) % 1024 ≡ k .index = omega arith in
@@ -73,8 +73,8 @@ module _ (k : Chunk) where
 
 -- ---- the sequence
 
-pub precedes-head : (k l : Chunk) → k .index ≤ 1023 → l .index ≤ 1023 → precedes k l ≡ ltb (headOf k) (headOf l)
-unfolding precedes headOf
+pub precedes-head : (k l : Chunk) → k .index ≤ 1023 → l .index ≤ 1023 → precedes k l ≡ ltb (headFor k) (headFor l)
+unfolding precedes headFor
 precedes-head k l p q = go (side (l .site) (k .site)) (side (k .site) (l .site)) (side (l .index) (k .index))
   where
     rises : k .site * 1024 + k .index < l .site * 1024 + l .index
@@ -109,25 +109,25 @@ precedes-head k l p q = go (side (l .site) (k .site)) (side (k .site) (l .site))
 
 -- one chunk more, behind a chunk
 behind : (j : Chunk) (ks : List Chunk) (k : Chunk) → every chunkInRange (j ∷ ks) ≡ true → chunkInRange k ≡ true
-    → inSequence (j ∷ ks ++ k ∷ []) ≡ inSequence (j ∷ ks) && ltb (lastHead (headOf j) ks) (headOf k)
+    → inSequence (j ∷ ks ++ k ∷ []) ≡ inSequence (j ∷ ks) && ltb (lastHead (headFor j) ks) (headFor k)
 unfolding inSequence
 behind j [] k r h =
     let p = bounds j (and-left (chunkInRange j) true r) .index-high in
     and-true (precedes j k) ∙ precedes-head j k p (bounds k h .index-high)
 behind j (l ∷ ks) k r h =
     ap (λ (b : Bool). precedes j l && b) (behind l ks k (and-right (chunkInRange j) (every chunkInRange (l ∷ ks)) r) h)
-    ∙ sym (and-assoc (precedes j l) (inSequence (l ∷ ks)) (ltb (lastHead (headOf l) ks) (headOf k)))
+    ∙ sym (and-assoc (precedes j l) (inSequence (l ∷ ks)) (ltb (lastHead (headFor l) ks) (headFor k)))
 
 -- behind any, or the first
 pub sequence-more : (ks : List Chunk) (k : Chunk) → every chunkInRange ks ≡ true → chunkInRange k ≡ true
-    → inSequence (ks ++ k ∷ []) ≡ inSequence ks && ltb (lastHead 0 ks) (headOf k)
-unfolding inSequence headOf
+    → inSequence (ks ++ k ∷ []) ≡ inSequence ks && ltb (lastHead 0 ks) (headFor k)
+unfolding inSequence headFor
 sequence-more [] k r h = let low = bounds k h .site-low in sym (lt-ltb 0 (k .site * 1024 + k .index) (omega arith))
 sequence-more (j ∷ ks) k r h = behind j ks k r h
 
-pub last-more : (n : ℕ) (ks : List Chunk) (k : Chunk) → lastHead n (ks ++ k ∷ []) ≡ headOf k
+pub last-more : (n : ℕ) (ks : List Chunk) (k : Chunk) → lastHead n (ks ++ k ∷ []) ≡ headFor k
 last-more n [] k = refl
-last-more n (j ∷ ks) k = last-more (headOf j) ks k
+last-more n (j ∷ ks) k = last-more (headFor j) ks k
 
 -- ---- the ones
 

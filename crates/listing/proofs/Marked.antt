@@ -1,5 +1,5 @@
--- The listing of a state in form is in range, and has no more chunks than there are characters: one identifier more adds
--- one bit to a word, or a chunk of one bit.
+-- The listing of a state in form is in range, and has no more chunks than there are characters: one identifier more
+-- adds one bit to a word, or a chunk of one bit.
 use Prim.Native.Nat.{ℕ, suc, _+_, _-_, _*_, _/_, _%_, _^_, _≤_, _<_}
 use native.Mathlib.Nat.{pow-suc, add-mul, mod-lt, div-add-mod', mul-le-mul-right}
 use native.Mathlib.Omega.{arith}

@@ -16,8 +16,8 @@ use Rattle.decimal.specs.Numeral.{isDigit, leadingZero, isNumeral, valueOf, dig
 use Rattle.lines.specs.Lines.{closed}
 use Rattle.lines.specs.Fields.{hasLayout, numerals, valuesOf, lineOf}
 use Rattle.listing.specs.declared.ListRead.the-variants.{Done}
-use Rattle.listing.specs.Format.{listNumbers, chunkNumbers, chunkLine, listBytes, isChunk, areListLines, listLaidOut}
-use Rattle.listing.specs.Format.{chunkSaid, saidByLines, listSaid}
+use Rattle.listing.specs.Format.{listNumbers, chunkNumbers, chunkLine, listBytes, isChunk, areListLines}
+use Rattle.listing.specs.Format.{listLaidOut, chunkSaid, saidByLines, listSaid}
 use Rattle.listing.specs.Calls.{listReadChecks, listRead, listNumber}
 use Rattle.listing.specs.Theorems.{ListNumbers, ListExample, LayoutExamples, RangeExamples, WholeWord}
 use Rattle.listing.specs.Theorems.{MislistedExamples}

@@ -15,8 +15,8 @@ use Rattle.lines.specs.Lines.{concatenated}
 use Rattle.lines.specs.Fields.{lineOf}
 use Rattle.lines.proofs.Sizes.{line-le}
 use Rattle.lines.proofs.Values.{at-most-from}
-use Rattle.listing.specs.Format.{listHead, listNumbers, listLimits, chunkHead, chunkNumbers, chunkLimits, chunkLine}
-use Rattle.listing.specs.Format.{listBytes, listSaid}
+use Rattle.listing.specs.Format.{listHead, listNumbers, listLimits, chunkHead, chunkNumbers, chunkLimits}
+use Rattle.listing.specs.Format.{chunkLine, listBytes, listSaid}
 use Rattle.listing.specs.Theorems.{ListLineLengths, LongestListLines, ListFits, ListLengths}
 use Rattle.listing.proofs.Chunks.{bounds}
 use Rattle.listing.proofs.Steps.{header-bounds, chunks-range}

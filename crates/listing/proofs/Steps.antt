@@ -24,7 +24,8 @@ use Rattle.listing.specs.declared.reading.Summary.{Summary}
 use Rattle.listing.specs.declared.reading.ChunkRead.{ChunkRead}
 use Rattle.listing.specs.declared.reading.ChunkRead.the-variants.{Malformed, OutOfRange, Read}
 use Rattle.listing.specs.Format.{listHead, listLimits, chunkHead, chunkLimits, isChunk, chunkSaid, saidByLines}
-use Rattle.listing.specs.Reading.{headerFrom, chunkFrom, headOf, readAs, chunkRead, withoutLayout, outOfRange}
+use Rattle.listing.specs.Reading.{headerFrom, chunkFrom, headFor, chunkReadAs, chunkRead}
+use Rattle.listing.specs.Reading.{withoutLayout, outOfRange}
 use Rattle.listing.specs.Reading.{totalAlone, headerAs, headerRead, withChunk, andChunk, andLine, ChunksKept}
 use Rattle.listing.proofs.Chunks.{and-none, bounds, to-range, head-back}
 
@@ -112,12 +113,12 @@ module _ (line : List ℕ) (r : Numbers) (e : r ≡ numbersOf listHead listLimit
 -- ---- a chunk's line
 
 module _ (k : Chunk) where
-  read-outside : chunkInRange k ≡ false → readAs k ≡ OutOfRange
-  unfolding readAs
+  read-outside : chunkInRange k ≡ false → chunkReadAs k ≡ OutOfRange
+  unfolding chunkReadAs
   read-outside e = rw e
 
-  read-within : chunkInRange k ≡ true → readAs k ≡ Read (headOf k) (k .word)
-  unfolding readAs
+  read-within : chunkInRange k ≡ true → chunkReadAs k ≡ Read (headFor k) (k .word)
+  unfolding chunkReadAs
   read-within e = rw e
 
 module _ (ns : List ℕ) where
@@ -128,21 +129,21 @@ module _ (ns : List ℕ) where
       at-most-from 0 chunkLimits ns (b .site-high)
       (at-most-from 1 chunkLimits ns (b .index-high) (at-most-from 2 chunkLimits ns (b .word-high) refl))
 
-  pub chunk-no-site : getD ns 0 0 ≡ 0 → OutOfRange ≡ readAs (chunkFrom ns)
+  pub chunk-no-site : getD ns 0 0 ≡ 0 → OutOfRange ≡ chunkReadAs (chunkFrom ns)
   unfolding chunkFrom
   chunk-no-site z =
       sym (read-outside (chunkFrom ns)
       (fails (chunkInRange (chunkFrom ns)) (λ e. omega (arith, z, bounds (chunkFrom ns) e .site-low))))
 
-  pub chunk-no-word : getD ns 2 0 ≡ 0 → OutOfRange ≡ readAs (chunkFrom ns)
+  pub chunk-no-word : getD ns 2 0 ≡ 0 → OutOfRange ≡ chunkReadAs (chunkFrom ns)
   unfolding chunkFrom
   chunk-no-word z =
       sym (read-outside (chunkFrom ns)
       (fails (chunkInRange (chunkFrom ns)) (λ e. omega (arith, z, bounds (chunkFrom ns) e .word-low))))
 
   pub chunk-some : atMost chunkLimits ns ≡ true → (getD ns 0 0 ≡ 0 → ⊥) → (getD ns 2 0 ≡ 0 → ⊥)
-      → Read (getD ns 0 0 * 1024 + getD ns 1 0) (getD ns 2 0) ≡ readAs (chunkFrom ns)
-  unfolding chunkFrom headOf
+      → Read (getD ns 0 0 * 1024 + getD ns 1 0) (getD ns 2 0) ≡ chunkReadAs (chunkFrom ns)
+  unfolding chunkFrom headFor
   chunk-some fits site word =
       let b = at-most-at chunkLimits ns fits in
       let s : getD ns 0 0 ≤ 16 = b 0 (omega arith) in
@@ -164,23 +165,23 @@ module _ (line : List ℕ) (r : Numbers) (e : r ≡ numbersOf chunkHead chunkLim
   chunk-fits = values-at-most _ chunkLimits _ r e
 
   pub chunk-judged : {x : ChunkRead}
-      → x ≡ byVerdict (r .verdict) Malformed OutOfRange (readAs (chunkFrom (r .values))) → x ≡ chunkRead line
+      → x ≡ byVerdict (r .verdict) Malformed OutOfRange (chunkReadAs (chunkFrom (r .values))) → x ≡ chunkRead line
   unfolding numbersOf chunkRead isChunk chunkSaid chunkFrom
   chunk-judged w =
       let ns = valuesOf (fields line) in
       let padded : (m : ℕ) (ns : List ℕ) → chunkFrom (ns ++ replicate m 0) ≡ chunkFrom ns =
       λ m ns j. record { site = at-padded m ns 0 j; index = at-padded m ns 1 j; word = at-padded m ns 2 j } in
-      let large : atMost chunkLimits ns ≡ false → OutOfRange ≡ readAs (chunkFrom ns) =
+      let large : atMost chunkLimits ns ≡ false → OutOfRange ≡ chunkReadAs (chunkFrom ns) =
       λ h. sym (read-outside (chunkFrom ns)
       (fails (chunkInRange (chunkFrom ns)) (λ p. clash (chunk-limits ns p) h))) in
-      w ∙ verdict-says _ chunkLimits ns r e chunkFrom readAs Malformed OutOfRange padded large
+      w ∙ verdict-says _ chunkLimits ns r e chunkFrom chunkReadAs Malformed OutOfRange padded large
 
 -- ---- what it was read as
 
 module _ (line : List ℕ) where
   read-told : {x : ChunkRead} (a b : Bool) → isChunk line ≡ a → chunkInRange (chunkSaid line) ≡ b → x ≡ chunkRead line
-      → x ≡ cond a (cond b (Read (headOf (chunkSaid line)) (chunkSaid line .word)) OutOfRange) Malformed
-  unfolding chunkRead readAs
+      → x ≡ cond a (cond b (Read (headFor (chunkSaid line)) (chunkSaid line .word)) OutOfRange) Malformed
+  unfolding chunkRead chunkReadAs
   read-told a b p q e = e ∙ rw (p, q)
 
   module _ {x : ChunkRead} (e : x ≡ chunkRead line) where
@@ -191,7 +192,7 @@ module _ (line : List ℕ) where
         go false b p q = p
         go true false p q = let z : x ≡ OutOfRange = read-told true false p q e in cc
         go true true p q =
-            let z : x ≡ Read (headOf (chunkSaid line)) (chunkSaid line .word) = read-told true true p q e in
+            let z : x ≡ Read (headFor (chunkSaid line)) (chunkSaid line .word) = read-told true true p q e in
             cc
 
     pub told-outside : x ≡ OutOfRange → (isChunk line ≡ true) × (chunkInRange (chunkSaid line) ≡ false)
@@ -202,23 +203,23 @@ module _ (line : List ℕ) where
         go false b p q = let z : x ≡ Malformed = read-told false b p q e in (cc, cc)
         go true false p q = (p, q)
         go true true p q =
-            let z : x ≡ Read (headOf (chunkSaid line)) (chunkSaid line .word) = read-told true true p q e in
+            let z : x ≡ Read (headFor (chunkSaid line)) (chunkSaid line .word) = read-told true true p q e in
             (cc, cc)
 
     pub told-read : {h w : ℕ} → x ≡ Read h w
         → (isChunk line ≡ true) × (chunkInRange (chunkSaid line) ≡ true)
-        × (h ≡ headOf (chunkSaid line))
+        × (h ≡ headFor (chunkSaid line))
         × (w ≡ chunkSaid line .word)
     told-read {h} {w} m = go (isChunk line) (chunkInRange (chunkSaid line)) refl refl
       where
         go : (a b : Bool) → isChunk line ≡ a → chunkInRange (chunkSaid line) ≡ b
             → (isChunk line ≡ true) × (chunkInRange (chunkSaid line) ≡ true)
-            × (h ≡ headOf (chunkSaid line))
+            × (h ≡ headFor (chunkSaid line))
             × (w ≡ chunkSaid line .word)
         go false b p q = let z : x ≡ Malformed = read-told false b p q e in (cc, cc, cc, cc)
         go true false p q = let z : x ≡ OutOfRange = read-told true false p q e in (cc, cc, cc, cc)
         go true true p q =
-            let z : x ≡ Read (headOf (chunkSaid line)) (chunkSaid line .word) = read-told true true p q e in
+            let z : x ≡ Read (headFor (chunkSaid line)) (chunkSaid line .word) = read-told true true p q e in
             (p, q, cc, cc)
 
   -- and what it adds
@@ -237,12 +238,12 @@ module _ (line : List ℕ) where
     adds-none p h q = q ∙ rw (p, h)
 
     pub adds-chunk : {r : Summary} {h w : ℕ} → isChunk line ≡ true → chunkInRange (chunkSaid line) ≡ true
-        → h ≡ headOf (chunkSaid line) → w ≡ chunkSaid line .word → t .«in_range» ≡ true → r ≡ withChunk t h w
+        → h ≡ headFor (chunkSaid line) → w ≡ chunkSaid line .word → t .«in_range» ≡ true → r ≡ withChunk t h w
         → r ≡ andLine t line
     unfolding andLine andChunk
     adds-chunk p h a b i q = q ∙ rw (p, h, i, a, b)
 
-  pub told-chunk : {h w : ℕ} → chunkInRange (chunkSaid line) ≡ true → h ≡ headOf (chunkSaid line)
+  pub told-chunk : {h w : ℕ} → chunkInRange (chunkSaid line) ≡ true → h ≡ headFor (chunkSaid line)
       → w ≡ chunkSaid line .word → chunkAs h w ≡ chunkSaid line
   told-chunk r a b = ap₂ chunkAs a b ∙ head-back (chunkSaid line) (bounds (chunkSaid line) r .index-high)
 
@@ -269,7 +270,9 @@ module _ (hs ws : List ℕ) (n head word : ℕ) (ks : List Chunk) (e : n ≡ min
       let before : chunksIn (set hs n head) (set ws n word) n ≡ ks =
       each-cong (λ i. chunkAs (getD (set hs n head) i 0) (getD (set ws n word) i 0))
       (λ i. chunkAs (getD hs i 0) (getD ws i 0)) n
-      (λ i q. ap₂ chunkAs (getD-set-other hs n i head 0 (λ z. omega arith)) (getD-set-other ws n i word 0 (λ z. omega arith)))
+      (λ i q.
+      ap₂ chunkAs (getD-set-other hs n i head 0 (λ z. omega arith))
+      (getD-set-other ws n i word 0 (λ z. omega arith)))
       ∙ ap (chunksIn hs ws) all ∙ k (omega arith) in
       let last : chunkAs (getD (set hs n head) n 0) (getD (set ws n word) n 0) ≡ chunkAs head word =
       ap₂ chunkAs (getD-set-same hs n head 0 (omega arith)) (getD-set-same ws n word 0 (omega arith)) in

@@ -28,10 +28,11 @@ use Rattle.listing.specs.declared.ListRead.the-variants.{Done, Refused}
 use Rattle.listing.specs.declared.reading.Summary.{Summary}
 use Rattle.listing.specs.Format.{listHead, isChunk, chunkSaid, saidByLines, areListLines, listLaidOut, listSaid}
 use Rattle.listing.specs.Calls.{listReadChecks, listRead}
-use Rattle.listing.specs.Reading.{headOf, withoutLayout, outOfRange, totalAlone, headerAs, headerRead, onesAnd}
-use Rattle.listing.specs.Reading.{withChunk, andChunk, andLine, andChunks, readOn, ChunksKept, conclusion, lastHead}
-use Rattle.listing.specs.Reading.{summaryOf, summarized}
-use Rattle.listing.proofs.Chunks.{and-true, and-none, and-assoc, bounds, head-back, sequence-more, last-more, ones-more, few-chunks}
+use Rattle.listing.specs.Reading.{headFor, withoutLayout, outOfRange, totalAlone, headerAs, headerRead, onesAnd}
+use Rattle.listing.specs.Reading.{withChunk, andChunk, andLine, andChunks, summaryOn, ChunksKept}
+use Rattle.listing.specs.Reading.{conclusion, lastHead, summaryOf, summarized}
+use Rattle.listing.proofs.Chunks.{and-true, and-none, and-assoc, bounds, head-back, sequence-more, last-more}
+use Rattle.listing.proofs.Chunks.{ones-more, few-chunks}
 use Rattle.listing.proofs.Steps.{header-bounds, chunks-range}
 
 -- ---- one chunk more
@@ -45,11 +46,14 @@ module _ (l : Listing) (k : Chunk) where
   unfolding listingInRange
   range-more =
       rw (every-append chunkInRange (l .chunks) (k ∷ []), and-true (chunkInRange k))
-      (sym (and-assoc (siteNumber (l .site) && within 0 capacity (l .total)) (every chunkInRange (l .chunks)) (chunkInRange k)))
+      (sym
+      (and-assoc (siteNumber (l .site) && within 0 capacity (l .total)) (every chunkInRange (l .chunks))
+      (chunkInRange k)))
 
   module _ (good : listingInRange l ≡ true) (h : chunkInRange k ≡ true) where
-    sound-more : ((not (any marksZero (l .chunks)) && inSequence (l .chunks)) && ltb (lastHead 0 (l .chunks)) (headOf k))
-        && not (marksZero (chunkAs (headOf k) (k .word)))
+    sound-more : ((not (any marksZero (l .chunks)) && inSequence (l .chunks))
+        && ltb (lastHead 0 (l .chunks)) (headFor k))
+        && not (marksZero (chunkAs (headFor k) (k .word)))
         ≡ not (any marksZero (l .chunks ++ k ∷ [])) && inSequence (l .chunks ++ k ∷ [])
     sound-more =
         rw (
@@ -58,14 +62,14 @@ module _ (l : Listing) (k : Chunk) where
           head-back k (bounds k h .index-high),
         )
         (regroup (any marksZero (l .chunks)) (marksZero k) (inSequence (l .chunks))
-        (ltb (lastHead 0 (l .chunks)) (headOf k)))
+        (ltb (lastHead 0 (l .chunks)) (headFor k)))
       where
         regroup : (a m q r : Bool) → ((not a && q) && r) && not m ≡ not (a || (m || false)) && (q && r)
         regroup true m q r = refl
         regroup false true q r = and-none (q && r)
         regroup false false q r = and-true (q && r)
 
-    counted-more : withChunk (summaryOf l) (headOf k) (k .word) ≡ summaryOf (withMore l (k ∷ []))
+    counted-more : withChunk (summaryOf l) (headFor k) (k .word) ≡ summaryOf (withMore l (k ∷ []))
     unfolding withChunk summaryOf onesAnd
     counted-more =
         let all : onesIn (l .chunks ++ k ∷ []) ≡ onesIn (l .chunks) + ones (k .word) = ones-more (l .chunks) k in
@@ -91,7 +95,7 @@ module _ (l : Listing) (k : Chunk) where
     where
       go : (a b : Bool) → listingInRange l ≡ a → chunkInRange k ≡ b
           → cond (cond a (summaryOf l) outOfRange .«in_range» && b)
-          (withChunk (cond a (summaryOf l) outOfRange) (headOf k) (k .word)) outOfRange
+          (withChunk (cond a (summaryOf l) outOfRange) (headFor k) (k .word)) outOfRange
           ≡ cond (a && b) (summaryOf (withMore l (k ∷ []))) outOfRange
       go false b p q = refl
       go true false p q = refl
@@ -99,7 +103,8 @@ module _ (l : Listing) (k : Chunk) where
 
 -- all of them
 all-more : (l : Listing) (ks : List Chunk) → andChunks (summarized l) ks ≡ summarized (withMore l ks)
-all-more l [] = ap summarized (λ j. record { site = l .site; total = l .total; chunks = sym (append-nil (l .chunks)) j })
+all-more l [] =
+    ap summarized (λ j. record { site = l .site; total = l .total; chunks = sym (append-nil (l .chunks)) j })
 all-more l (k ∷ ks) =
     ap (λ (t : Summary). andChunks t ks) (more-one l k) ∙ all-more (withMore l (k ∷ [])) ks
     ∙ ap summarized (λ j. record { site = l .site; total = l .total; chunks = append-snoc (l .chunks) k ks j })
@@ -162,7 +167,7 @@ chunk-told : (t : Summary) (k : Chunk) → andChunk t k .«laid_out» ≡ true
 unfolding andChunk withChunk outOfRange
 chunk-told t k = go (t .«in_range» && chunkInRange k)
   where
-    go : (b : Bool) → cond b (withChunk t (headOf k) (k .word)) outOfRange .«laid_out» ≡ true
+    go : (b : Bool) → cond b (withChunk t (headFor k) (k .word)) outOfRange .«laid_out» ≡ true
     go true = refl
     go false = refl
 
@@ -181,9 +186,9 @@ unfolding andChunk withChunk outOfRange
 chunk-counts t k e = go (t .«in_range») (chunkInRange k) refl e
   where
     go : (a b : Bool) → t .«in_range» ≡ a
-        → cond (a && b) (withChunk t (headOf k) (k .word)) outOfRange .«in_range» ≡ true
+        → cond (a && b) (withChunk t (headFor k) (k .word)) outOfRange .«in_range» ≡ true
         → (t .«in_range» ≡ true)
-        × (cond (a && b) (withChunk t (headOf k) (k .word)) outOfRange .count ≡ min 1024 (t .count + 1))
+        × (cond (a && b) (withChunk t (headFor k) (k .word)) outOfRange .count ≡ min 1024 (t .count + 1))
     go true true p q = (p, refl)
     go true false p q = clash q refl
     go false b p q = clash q refl
@@ -224,11 +229,12 @@ module _
     none [] p = refl
     none (b ∷ x) p = absurd (omega arith)
 
-    pub read-end : t ≡ readOn first s
-    unfolding readOn closed
+    pub read-end : t ≡ summaryOn first s
+    unfolding summaryOn closed
     read-end =
         let shut : closed s ≡ true = sym (l .ends) ∙ ap closed (none left h) in
-        let laid : every isChunk (lines s) ≡ true = l .laid ∙ ap (λ (x : List ℕ). every isChunk (lines x)) (none left h) in
+        let laid : every isChunk (lines s) ≡ true =
+        l .laid ∙ ap (λ (x : List ℕ). every isChunk (lines x)) (none left h) in
         let told = l .told ∙ ap (λ (x : List ℕ). andChunks t (map chunkSaid (lines x))) (none left h) in
         rw (shut, laid) (sym told)
 
@@ -245,8 +251,8 @@ module _
     told-laid = ap (λ (x : Summary). x .«laid_out») q ∙ line-told t line
 
     -- the next line lacks the layout, or no line feed ends it
-    pub read-none : r .«laid_out» ≡ false → {u : Summary} → u ≡ withoutLayout → u ≡ readOn first s
-    unfolding readOn
+    pub read-none : r .«laid_out» ≡ false → {u : Summary} → u ≡ withoutLayout → u ≡ summaryOn first s
+    unfolding summaryOn
     read-none e z = z ∙ rw (lacks (ended left) refl)
       where
         lacks : (b : Bool) → ended left ≡ b → closed s && every isChunk (lines s) ≡ false
@@ -364,7 +370,9 @@ done-told s n d = go (listLaidOut s) (listingInRange (listSaid s)) (mislisted (l
         let z : Done (length (listSaid s .chunks)) ≡ Done n = sym (listed-done s p q r) ∙ d in
         (p, q, r, cc)
 
-module _ (s : List ℕ) {line : List ℕ} (f : line ≡ cond (ended s) (firstLine s) []) {h : Summary} (e : h ≡ headerRead line) where
+module _
+    (s : List ℕ) {line : List ℕ} (f : line ≡ cond (ended s) (firstLine s) []) {h : Summary}
+    (e : h ≡ headerRead line) where
   isHeader : Bool
   isHeader = hasLayout listHead 2 (fields line)
 
@@ -372,7 +380,8 @@ module _ (s : List ℕ) {line : List ℕ} (f : line ≡ cond (ended s) (firstLin
   unfolding isHeader headerRead headerAs totalAlone outOfRange withoutLayout
   header-told = ap (λ (x : Summary). x .«laid_out») e ∙ go isHeader (listingInRange (saidByLines (line ∷ [])))
     where
-      go : (a b : Bool) → cond a (cond b (totalAlone (saidByLines (line ∷ []) .total)) outOfRange) withoutLayout .«laid_out» ≡ a
+      go : (a b : Bool)
+          → cond a (cond b (totalAlone (saidByLines (line ∷ []) .total)) outOfRange) withoutLayout .«laid_out» ≡ a
       go false b = refl
       go true true = refl
       go true false = refl
@@ -433,16 +442,16 @@ module _ (s : List ℕ) {line : List ℕ} (f : line ≡ cond (ended s) (firstLin
     said-by =
         rw (told-header, all-lines) (all-more (saidByLines (line ∷ [])) (map chunkSaid (lines (rest s))))
 
-    module _ {left : List ℕ} (g : left ≡ rest s) {t : Summary} (p : t ≡ readOn h left) where
-      q : t ≡ readOn h (rest s)
-      q = p ∙ ap (readOn h) g
+    module _ {left : List ℕ} (g : left ≡ rest s) {t : Summary} (p : t ≡ summaryOn h left) where
+      q : t ≡ summaryOn h (rest s)
+      q = p ∙ ap (summaryOn h) g
 
       laid-told : listLaidOut s ≡ true → t ≡ summarized (listSaid s)
-      unfolding readOn
+      unfolding summaryOn
       laid-told laid = q ∙ rw (sym laid-by ∙ laid) said-by
 
       pub read-answer : {u : ListRead} → u ≡ conclusion t → u ≡ listRead s
-      unfolding readOn conclusion withoutLayout
+      unfolding summaryOn conclusion withoutLayout
       read-answer {u} c = ⊎-elim with-layout without (either (listLaidOut s))
         where
           with-layout : listLaidOut s ≡ true → u ≡ listRead s

@@ -1,5 +1,5 @@
--- The round trips: the lines of what is written are the first line and those of the chunks, and bytes with the layout are
--- the lines of what they say.
+-- The round trips: the lines of what is written are the first line and those of the chunks, and bytes with the layout
+-- are the lines of what they say.
 use Prim.Native.Nat.{ℕ}
 use native.Mathlib.Omega.{arith}
 use mathlib.Core.Path.{_≡_, refl, sym, ap, ap₂, _∙_}
@@ -90,7 +90,8 @@ chunk-again line h = respelled chunkHead 3 line _ h (again (valuesOf (fields lin
         (from-place ns 1 (omega arith)
         (from-place ns 2 (omega arith) (drop-of-length-le ns {i = 3} (omega arith)))))
 
-chunks-again : (ls : List (List ℕ)) → every isChunk ls ≡ true → concatenated chunkLine (map chunkSaid ls) ≡ concatenated whole ls
+chunks-again : (ls : List (List ℕ)) → every isChunk ls ≡ true
+    → concatenated chunkLine (map chunkSaid ls) ≡ concatenated whole ls
 chunks-again [] e = refl
 chunks-again (line ∷ ls) e =
     ap₂ (λ (a b : List ℕ). a ++ b) (chunk-again line (and-left (isChunk line) (every isChunk ls) e))

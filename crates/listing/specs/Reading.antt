@@ -29,15 +29,15 @@ unfoldable pub chunkFrom : List ℕ → Chunk
 chunkFrom ns = record { site = getD ns 0 0; index = getD ns 1 0; word = getD ns 2 0 }
 
 -- the number that stands for the site and the index of a chunk in memory
-unfoldable pub headOf : Chunk → ℕ
-headOf k = k .site * 1024 + k .index
+unfoldable pub headFor : Chunk → ℕ
+headFor k = k .site * 1024 + k .index
 
 -- what a line with the layout of a chunk's is read as
-unfoldable pub readAs : Chunk → ChunkRead
-readAs k = cond (chunkInRange k) (Read (headOf k) (k .word)) OutOfRange
+unfoldable pub chunkReadAs : Chunk → ChunkRead
+chunkReadAs k = cond (chunkInRange k) (Read (headFor k) (k .word)) OutOfRange
 
 unfoldable pub chunkRead : List ℕ → ChunkRead
-chunkRead line = cond (isChunk line) (readAs (chunkSaid line)) Malformed
+chunkRead line = cond (isChunk line) (chunkReadAs (chunkSaid line)) Malformed
 
 -- ---- what lines come to
 
@@ -102,7 +102,7 @@ withChunk t head word =
     }
 
 unfoldable pub andChunk : Summary → Chunk → Summary
-andChunk t k = cond (t .«in_range» && chunkInRange k) (withChunk t (headOf k) (k .word)) outOfRange
+andChunk t k = cond (t .«in_range» && chunkInRange k) (withChunk t (headFor k) (k .word)) outOfRange
 
 -- one line more
 unfoldable pub andLine : Summary → List ℕ → Summary
@@ -114,8 +114,8 @@ andChunks t [] = t
 andChunks t (k ∷ ks) = andChunks (andChunk t k) ks
 
 -- all bytes that are left
-unfoldable pub readOn : Summary → List ℕ → Summary
-readOn t s = cond (closed s && every isChunk (lines s)) (andChunks t (map chunkSaid (lines s))) withoutLayout
+unfoldable pub summaryOn : Summary → List ℕ → Summary
+summaryOn t s = cond (closed s && every isChunk (lines s)) (andChunks t (map chunkSaid (lines s))) withoutLayout
 
 -- the arrays hold all chunks, as long as there are slots for them
 abbrev pub ChunksKept : List ℕ → List ℕ → List Chunk → Type 0
@@ -135,7 +135,7 @@ conclusion t =
 -- the head of the last chunk, or n where there is none
 abbrev pub lastHead : ℕ → List Chunk → ℕ
 lastHead n [] = n
-lastHead n (k ∷ ks) = lastHead (headOf k) ks
+lastHead n (k ∷ ks) = lastHead (headFor k) ks
 
 -- what a list says that is in range
 unfoldable pub summaryOf : Listing → Summary

@@ -18,8 +18,8 @@ ghost use Rattle.woot.specs.Catching.{Chunk, marksZero};
 ghost use Rattle.chunks.specs.Columns.{chunkSlots, chunkAs};
 ghost use Rattle.listing.specs.Format.{listLimits, chunkLimits, chunkSaid};
 ghost use Rattle.listing.specs.Reading.{withoutLayout, outOfRange, totalAlone, headerAs, headerRead, chunkFrom};
-ghost use Rattle.listing.specs.Reading.{readAs, chunkRead, onesAnd, withChunk, andLine, ChunksKept, readOn};
-ghost use Rattle.listing.specs.Reading.{conclusion, headerFrom};
+ghost use Rattle.listing.specs.Reading.{chunkReadAs, chunkRead, onesAnd, withChunk, andLine, ChunksKept};
+ghost use Rattle.listing.specs.Reading.{summaryOn, conclusion, headerFrom};
 
 // One more than the most ones that a list may have: no total is that high.
 const TOO_MANY: usize = 1025;
@@ -128,7 +128,7 @@ fn chunk_of(numbers: Numbers) -> ChunkRead
     requires { ⌜ atMost chunkLimits (numbers .values) ≡ true ⌝ }
     ensures { λ r. ⌜ r
         ≡ byVerdict (numbers .verdict) ChunkRead.Malformed ChunkRead.OutOfRange
-        (readAs (chunkFrom (numbers .values))) ⌝ }
+        (chunkReadAs (chunkFrom (numbers .values))) ⌝ }
 {
     let verdict = numbers.verdict;
     let values = numbers.values;
@@ -246,7 +246,7 @@ pub(crate) fn read_chunks(
     requires { ⌜ length (now heads) ≡ chunkSlots ⌝ }
     requires { ⌜ length (now words) ≡ chunkSlots ⌝ }
     requires { ⌜ first .count ≡ 0 ⌝ }
-    ensures { λ r. ⌜ r ≡ readOn first (now (bytes .entry)) ⌝ }
+    ensures { λ r. ⌜ r ≡ summaryOn first (now (bytes .entry)) ⌝ }
     ensures { λ r. ⌜ (r .«in_range» ≡ true
         → ChunksKept (now (heads .exit)) (now (words .exit)) (map chunkSaid (lines (now (bytes .entry))))) ⌝ }
 {

@@ -1,4 +1,5 @@
--- `listing::reading::chunk_of` meets its contract: within the limits a site or a word of 0 is out of range, and a head has few bits.
+-- `listing::reading::chunk_of` meets its contract: within the limits a site or a word of 0
+-- is out of range, and a head has few bits.
 use Prim.Native.Nat.{_≤_}
 use native.Mathlib.Omega.{arith}
 use lib.ListN.{getD}

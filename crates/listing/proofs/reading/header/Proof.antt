@@ -8,7 +8,9 @@ header-of-requires : tie.Need-header-of-requires
 header-of-requires c κs = header-fits (c .before .before .before .before .args .line .now) _ (c .read .ensures)
 
 returns : tie.Need-returns
-returns c = header-judged (c .before .before .before .before .before .args .line .now) _ (c .before .read .ensures) (c .header-of .ensures)
+returns c =
+    let line = c .before .before .before .before .before .args .line .now in
+    header-judged line _ (c .before .read .ensures) (c .header-of .ensures)
 
 pub header-spec : {M : Type 1} → statement M
 header-spec =

@@ -8,7 +8,8 @@ use Rattle.listing.proofs.reading.header_of.Tie as tie
 returns : tie.Need-returns
 returns c =
     let s = c .before .before .before .before .before in
-    rw (c .before .before .enum-told3 .given .1) (c .out-of-range2 .ensures ∙ header-none (s .args .numbers .values) (c .before .if1 .taken))
+    rw (c .before .before .enum-told3 .given .1)
+    (c .out-of-range2 .ensures ∙ header-none (s .args .numbers .values) (c .before .if1 .taken))
 
 returns-4 : tie.Need-returns-4
 returns-4 c =

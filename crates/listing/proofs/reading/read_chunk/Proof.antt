@@ -8,7 +8,9 @@ chunk-of-requires : tie.Need-chunk-of-requires
 chunk-of-requires c κs = chunk-fits (c .before .before .before .before .args .line .now) _ (c .read .ensures)
 
 returns : tie.Need-returns
-returns c = chunk-judged (c .before .before .before .before .before .args .line .now) _ (c .before .read .ensures) (c .chunk-of .ensures)
+returns c =
+    let line = c .before .before .before .before .before .args .line .now in
+    chunk-judged line _ (c .before .read .ensures) (c .chunk-of .ensures)
 
 pub read-chunk-spec : {M : Type 1} → statement M
 read-chunk-spec =

@@ -44,7 +44,8 @@ returns-4 c =
     let r = k .before .before in
     let a = r .before .before .before .before .args in
     let t = told-read (a .line .now) (r .read-chunk .ensures) (k .read .given .1) in (
-      adds-chunk (a .line .now) (a .at) (t .0) (t .1) (t .2) (t .3) (not-false _ (i .if1 .left)) (c .with-chunk .ensures),
+      adds-chunk (a .line .now) (a .at) (t .0) (t .1) (t .2) (t .3) (not-false _ (i .if1 .left))
+          (c .with-chunk .ensures),
       λ e ks n h. rw (← told-chunk (a .line .now) (t .1) (t .2) (t .3)) (p .keep .ensures ks n h),
     )
 

@@ -47,7 +47,8 @@ returns c =
     let s = i .before .before .before .before in
     let a = s .args in
     let h = i .loop-test .taken in
-    let e = m .measure .ensures ∙ ap (roomFor _ _) (line-at (a .heads .now) (a .words .now) (a .n) _ h (k .chunk-numbers .ensures)) in
+    let line = line-at (a .heads .now) (a .words .now) (a .n) _ h (k .chunk-numbers .ensures) in
+    let e = m .measure .ensures ∙ ap (roomFor _ _) line in
     measuring-short chunkLine (chunks s) _ _ _ (i .before .loop .inv) noChunk h e (c .enum-told .given .1)
     ∙ ap (roomFor _ _) (all-chunks (a .heads .now) (a .words .now) (a .n))
 
@@ -64,7 +65,8 @@ loop-again c =
     let s = i .before .before .before .before in
     let a = s .args in
     let h = i .loop-test .taken in
-    let e = m .measure .ensures ∙ ap (roomFor _ _) (line-at (a .heads .now) (a .words .now) (a .n) _ h (k .chunk-numbers .ensures)) in
+    let line = line-at (a .heads .now) (a .words .now) (a .n) _ h (k .chunk-numbers .ensures) in
+    let e = m .measure .ensures ∙ ap (roomFor _ _) line in
     measuring-more chunkLine (chunks s) _ _ _ (i .before .loop .inv) noChunk h e (c .before .room .given .1)
 
 returns-2 : tie.Need-returns-2 Inv-loop μ-loop

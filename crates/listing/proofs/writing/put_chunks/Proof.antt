@@ -30,7 +30,8 @@ loop-holds c =
     let s = c .before .before .before in
     let many = many-chunks (s .args .heads .now) (s .args .words .now) (s .args .n) in
     let all = all-chunks (s .args .heads .now) (s .args .words .now) (s .args .n) in
-    putting-begun chunkLine (chunks s) (s .args .n) _ _ (omega (arith, many)) (omega (arith, s .pre .1 .1, ap length all))
+    putting-begun chunkLine (chunks s) (s .args .n) _ _ (omega (arith, many))
+    (omega (arith, s .pre .1 .1, ap length all))
 
 shared-slice-read-chunk-numbers : tie.Need-shared-slice-read-chunk-numbers Inv-loop μ-loop
 shared-slice-read-chunk-numbers c =
@@ -63,7 +64,8 @@ returns : tie.Need-returns Inv-loop μ-loop
 returns c =
     let s = c .before .before .before .before .before in
     putting-end chunkLine (chunks s) _ (s .args .out .now) (s .args .at) (c .before .loop .inv) (c .loop-test .left) .1
-    ∙ ap (placed (s .args .out .now) (s .args .at)) (all-chunks (s .args .heads .now) (s .args .words .now) (s .args .n))
+    ∙ ap (placed (s .args .out .now) (s .args .at))
+    (all-chunks (s .args .heads .now) (s .args .words .now) (s .args .n))
 
 same-length : tie.Need-same-length Inv-loop μ-loop
 same-length c = ap length (returns c) ∙ length-placed _ _ _
