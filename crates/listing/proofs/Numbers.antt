@@ -97,7 +97,7 @@ range-examples = (refl, refl, refl, refl, refl, refl, refl)
 
 pub mislisted-examples : MislistedExamples
 unfolding listNumber listRead listReadChecks decided listLaidOut areListLines closed isChunk hasLayout numerals isNumeral isDigit leadingZero listSaid saidByLines chunkSaid valuesOf valueOf listingInRange chunkInRange siteNumber within mislisted onesIn ones marksZero bitOf inSequence precedes
-mislisted-examples = (refl, refl, refl, refl)
+mislisted-examples = (refl, refl, refl, refl, refl)
 
 -- a word of 64 ones
 abbrev wide : Listing

@@ -145,10 +145,13 @@ WholeWord =
     })) ≡ Done 1)
     × (chunkInRange (record { site = 1; index = 1; word = 18446744073709551616 }) ≡ false)
 
--- a total that differs, clock 0 marked by `K 1 0 3`, the two out of sequence, and one repeated are refused with 18
+-- a total that differs, clock 0 marked by `K 1 0 3`, the two out of sequence, `K 2 0 2` before `K 1 1 1`, whose index
+-- alone rises, and one repeated are refused with 18
 abbrev pub MislistedExamples : Type 0
 MislistedExamples =
     (listNumber (listRead (exampleHeader ++ exampleFirst)) ≡ 18)
     × (listNumber (listRead (exampleHeader ++ (75 ∷ 9 ∷ 49 ∷ 9 ∷ 48 ∷ 9 ∷ 51 ∷ 10 ∷ []))) ≡ 18)
     × (listNumber (listRead (exampleHeader ++ (exampleSecond ++ exampleFirst))) ≡ 18)
+    × (listNumber (listRead (exampleHeader
+    ++ (75 ∷ 9 ∷ 50 ∷ 9 ∷ 48 ∷ 9 ∷ 50 ∷ 10 ∷ 75 ∷ 9 ∷ 49 ∷ 9 ∷ 49 ∷ 9 ∷ 49 ∷ 10 ∷ []))) ≡ 18)
     × (listNumber (listRead (exampleHeader ++ (exampleFirst ++ exampleFirst))) ≡ 18)
