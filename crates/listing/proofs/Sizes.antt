@@ -22,7 +22,8 @@ use Rattle.listing.proofs.Chunks.{bounds}
 use Rattle.listing.proofs.Steps.{header-bounds, chunks-range}
 use Rattle.listing.proofs.Summaries.{few-listed, done-told}
 use Rattle.listing.proofs.Trips.{list-same-bytes}
-use Rattle.listing.proofs.Marked.{few-chunks-listed, listing-ranged}
+use Rattle.convergence.proofs.Marking.{listing-accepted}
+use Rattle.listing.proofs.Marked.{few-chunks-listed}
 
 -- ---- a line
 
@@ -88,7 +89,7 @@ list-length l e few =
 pub list-fits : ListFits
 list-fits t h =
     let few = few-chunks-listed t h in
-    (few, list-length (listing t) (listing-ranged t h) few)
+    (few, list-length (listing t) (listing-accepted t h .0) few)
 
 pub list-lengths : ListLengths
 list-lengths s n d =
