@@ -223,7 +223,7 @@ fn save_lines<'a>(
         (now (out .entry)) (now (lines .entry)))
         r (now (out .exit)) (now (lines .exit)) ⌝ }
 {
-    let space = saving::operations::measure(typed, count, lines.len());
+    let space = saving::operations::measure(typed, count, lines.len(), 0);
     match space {
         Room::Short => results::number_of_refusal(Refusal::Output),
         Room::Until(length) => {
@@ -240,7 +240,7 @@ fn save_lines<'a>(
             match written {
                 Written::Refused(refusal) => results::number_of_refusal(refusal),
                 Written::Length(saved) => {
-                    saving::operations::put_lines(typed, count, lines);
+                    saving::operations::put_lines(typed, count, lines, 0);
                     results::number_of(answer, saved, length)
                 }
             }

@@ -102,6 +102,7 @@ pub lines-alone : (is ps ns cs ts os fs ss vs : List ℕ) (w : ℕ) →
 unfolding bodyAs linesAs charactersOf savedLine
 lines-alone is ps ns cs ts os fs ss vs w = concatenated-lines operationLine (operationsOf os fs ss vs w)
 
-pub alone-fits : (is ps ns cs ts os fs ss vs : List ℕ) (w m : ℕ) → length (concatenated operationLine (operationsOf os fs ss vs w)) ≤ m →
-    0 + length (bodyAs Second (listsOf is ps ns cs ts 0 os fs ss vs w)) ≤ m
-alone-fits is ps ns cs ts os fs ss vs w m h = omega (arith, ap length (lines-alone is ps ns cs ts os fs ss vs w))
+pub alone-fits : (is ps ns cs ts os fs ss vs : List ℕ) (w at m : ℕ)
+    → at + length (concatenated operationLine (operationsOf os fs ss vs w)) ≤ m
+    → at + length (bodyAs Second (listsOf is ps ns cs ts 0 os fs ss vs w)) ≤ m
+alone-fits is ps ns cs ts os fs ss vs w at m h = omega (arith, ap length (lines-alone is ps ns cs ts os fs ss vs w))

@@ -1,5 +1,5 @@
-// Writing the lines of operations one after another, and nothing else: what a pasted block sends. They are the lines of
-// a document that has no characters, so its loops measure and put them.
+// Writing the lines of operations one after another, and nothing else: what a pasted block sends, and what a list is
+// answered with. They are the lines of a document that has no characters, so its loops measure and put them.
 use crate::columns;
 use lines::writing::Room;
 use saved::Version;
@@ -9,19 +9,20 @@ use woot::CODE_POINTS;
 use woot::NEXT_KEYS;
 use woot::PREVIOUS_KEYS;
 ghost use mathlib.Core.Path.{_≡_};
-ghost use Prim.Native.Nat.{_≤_};
+ghost use Prim.Native.Nat.{_+_, _≤_};
 ghost use lib.ListN.{length};
 ghost use Rattle.output.specs.Output.{placed};
 ghost use Rattle.lines.specs.Room.{roomFor};
 ghost use Rattle.woot.specs.Memory.{characterNumbers, characterSlots};
 ghost use Rattle.saving.specs.Documents.{linesIn};
 
-// Where the lines of the first operations end at the front of a slice of the given size. Their numbers lie in columns
-// as those of characters do. A step of the calls and not a call: they lend columns of this length.
-pub fn measure(numbers: &[u32], count: usize, size: usize) -> Room
+// Where the lines of the first operations end that begin at the offset in a slice of the given size. Their numbers lie
+// in columns as those of characters do. A step of the calls and not a call: they lend columns of this length.
+pub fn measure(numbers: &[u32], count: usize, size: usize, at: usize) -> Room
     requires { ⌜ length (now numbers) ≡ characterNumbers ⌝ }
     requires { ⌜ count ≤ characterSlots ⌝ }
-    ensures { λ r. ⌜ r ≡ roomFor size 0 (linesIn (now (numbers .entry)) count) ⌝ }
+    requires { ⌜ at ≤ size ⌝ }
+    ensures { λ r. ⌜ r ≡ roomFor size at (linesIn (now (numbers .entry)) count) ⌝ }
 {
     let none = [0u8];
     columns::measure(
@@ -38,16 +39,16 @@ pub fn measure(numbers: &[u32], count: usize, size: usize) -> Room
         &numbers[CODE_POINTS..CHARACTER_NUMBERS],
         count,
         size,
-        0,
+        at,
     )
 }
 
-// Puts the lines at the front of the slice, where there is room: a step of the calls too, which have measured them.
-pub fn put_lines(numbers: &[u32], count: usize, out: &mut [u8])
+// Puts the lines at the offset, where there is room: a step of the calls too, which have measured them.
+pub fn put_lines(numbers: &[u32], count: usize, out: &mut [u8], at: usize)
     requires { ⌜ length (now numbers) ≡ characterNumbers ⌝ }
     requires { ⌜ count ≤ characterSlots ⌝ }
-    requires { ⌜ length (linesIn (now numbers) count) ≤ length (now out) ⌝ }
-    ensures { λ _. ⌜ now (out .exit) ≡ placed (now (out .entry)) 0 (linesIn (now (numbers .entry)) count) ⌝ }
+    requires { ⌜ at + length (linesIn (now numbers) count) ≤ length (now out) ⌝ }
+    ensures { λ _. ⌜ now (out .exit) ≡ placed (now (out .entry)) at (linesIn (now (numbers .entry)) count) ⌝ }
 {
     let none = [0u8];
     columns::put_lines(
@@ -64,6 +65,6 @@ pub fn put_lines(numbers: &[u32], count: usize, out: &mut [u8])
         &numbers[CODE_POINTS..CHARACTER_NUMBERS],
         count,
         out,
-        0,
+        at,
     )
 }

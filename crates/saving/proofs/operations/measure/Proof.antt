@@ -23,12 +23,12 @@ measure-requires c κs =
         next-hold = omega arith;
         points-hold = omega arith;
         toggles-hold = omega arith;
-        own-hold = omega (arith, s .pre .1, column-length 1024 0 xs (omega (arith, s .pre .0)));
-        first-hold = omega (arith, s .pre .1, column-length 1024 1 xs (omega (arith, s .pre .0)));
-        second-hold = omega (arith, s .pre .1, column-length 1024 2 xs (omega (arith, s .pre .0)));
-        values-hold = omega (arith, s .pre .1, column-length 1024 3 xs (omega (arith, s .pre .0)));
+        own-hold = omega (arith, s .pre .1 .0, column-length 1024 0 xs (omega (arith, s .pre .0)));
+        first-hold = omega (arith, s .pre .1 .0, column-length 1024 1 xs (omega (arith, s .pre .0)));
+        second-hold = omega (arith, s .pre .1 .0, column-length 1024 2 xs (omega (arith, s .pre .0)));
+        values-hold = omega (arith, s .pre .1 .0, column-length 1024 3 xs (omega (arith, s .pre .0)));
       },
-      omega arith,
+      s .pre .1 .1,
     )
 
 returns : tie.Need-returns
@@ -37,7 +37,7 @@ returns c =
     let a = c .before .before .before .before .before .before .before .args in
     let xs = a .numbers .now in
     c .measure .ensures
-    ∙ ap (roomFor (a .size) 0) (lines-alone xs xs xs xs _ (keyColumn xs) (previousColumn xs) (nextColumn xs) (codePointColumn xs) (a .count))
+    ∙ ap (roomFor (a .size) (a .at)) (lines-alone xs xs xs xs _ (keyColumn xs) (previousColumn xs) (nextColumn xs) (codePointColumn xs) (a .count))
 
 pub measure-spec : {M : Type 1} → statement M
 measure-spec =

@@ -29,7 +29,8 @@ put-lines-requires c κs =
         second-hold = omega (arith, s .pre .1 .0, column-length 1024 2 xs (omega (arith, s .pre .0)));
         values-hold = omega (arith, s .pre .1 .0, column-length 1024 3 xs (omega (arith, s .pre .0)));
       },
-      alone-fits xs xs xs xs _ (keyColumn xs) (previousColumn xs) (nextColumn xs) (codePointColumn xs) (s .args .count) _ (s .pre .1 .1),
+      alone-fits xs xs xs xs _ (keyColumn xs) (previousColumn xs) (nextColumn xs) (codePointColumn xs) (s .args .count) (s .args .at) _
+          (s .pre .1 .1),
     )
 
 returns : tie.Need-returns
@@ -38,7 +39,7 @@ returns c =
     let a = c .before .before .before .before .before .before .before .before .before .before .before .args in
     let xs = a .numbers .now in
     c .before .before .put-lines .ensures
-    ∙ ap (placed (a .out .now) 0) (lines-alone xs xs xs xs _ (keyColumn xs) (previousColumn xs) (nextColumn xs) (codePointColumn xs) (a .count))
+    ∙ ap (placed (a .out .now) (a .at)) (lines-alone xs xs xs xs _ (keyColumn xs) (previousColumn xs) (nextColumn xs) (codePointColumn xs) (a .count))
 
 pub put-lines-spec : {M : Type 1} → statement M
 put-lines-spec =
