@@ -45,10 +45,10 @@ module _ (cs : List Character) (s : Standing cs) (small : AllSmall cs) (ids : Li
 
   module _ (ps ns ups downs : List ℕ) (f : ps ≡ previousKeys cs) (g : ns ≡ nextKeys cs) (p : Placed ids ps ups)
       (q : Placed ids ns downs) where
-    previous-at : (i : ℕ) → i < length cs → getD ups i 0 ≡ placeOf cs (getD cs i blankCharacter .previous)
+    pub previous-at : (i : ℕ) → i < length cs → getD ups i 0 ≡ placeOf cs (getD cs i blankCharacter .previous)
     previous-at = placed-at (λ c. c .previous) (λ c m. small c m .previous) ps ups f p
 
-    next-at : (i : ℕ) → i < length cs → getD downs i 0 ≡ placeOf cs (getD cs i blankCharacter .next)
+    pub next-at : (i : ℕ) → i < length cs → getD downs i 0 ≡ placeOf cs (getD cs i blankCharacter .next)
     next-at = placed-at (λ c. c .next) (λ c m. small c m .next) ns downs g q
 
     pairs-are : pairsIn ids ups downs ≡ orderedPairs cs

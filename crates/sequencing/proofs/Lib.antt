@@ -1,0 +1,5 @@
+pub mod Scanning
+pub mod Flags
+pub mod Theory
+pub mod Leaving
+pub mod Taking
