@@ -47,8 +47,8 @@ pub struct Kept {
     pub count: usize,
 }
 
-// Puts four numbers into slot i, one into each column.
-fn put_at(inserts: &mut [u32], i: usize, w: u32, x: u32, y: u32, z: u32)
+// Puts four numbers into slot i, one into each column. A step of the calls and not a call: they have such slots.
+pub fn put_at(inserts: &mut [u32], i: usize, w: u32, x: u32, y: u32, z: u32)
     requires { ⌜ length (now inserts) ≡ characterNumbers ⌝ }
     requires { ⌜ i < characterSlots ⌝ }
     ensures { λ _. ⌜ PutAt (now (inserts .entry)) i w x y z (now (inserts .exit)) ⌝ }
