@@ -19,7 +19,8 @@ use Rattle.woot.specs.Placing.{placeOf}
 use Rattle.woot.specs.State.{blankCharacter}
 use Rattle.woot.specs.Table.{key}
 use Rattle.woot.specs.Loading.{among, free}
-use Rattle.woot.specs.Catching.{nextSent, without}
+use Rattle.woot.specs.Catching.{nextSent, without, unlisted}
+use Rattle.convergence.specs.Agreement.{Standing}
 use Rattle.convergence.proofs.Identifiers.{same-eq, same-ne}
 use Rattle.convergence.proofs.Places.{held-id, place-held, place-injective}
 use Rattle.convergence.proofs.Characters.{at-index, own-index, member-place, between-marks}
@@ -41,6 +42,13 @@ keep-both p q r (x ∷ xs) f =
     go false b e h = h
     go true true e h = rw (e, h)
     go true false e h = rw (e, h)
+
+-- what is kept by two tests that agree on the elements
+keep-alike : {A : Type 0} (p q : A → Bool) (xs : List A) → ((x : A) → List·Memᴰ x xs → p x ≡ q x)
+    → keep p xs ≡ keep q xs
+keep-alike p q [] f = refl
+keep-alike p q (x ∷ xs) f =
+    rw (f x (List·Memᴰ·head refl), keep-alike p q xs (λ y m. f y (List·Memᴰ·tail m)))
 
 -- no member at all
 pub none-there : {A : Type 0} (xs : List A) → ((x : A) → List·Memᴰ x xs → ⊥) → xs ≡ []
@@ -236,3 +244,19 @@ module _ (cs : List Character) (ids ups downs flags : List ℕ) (w : RowsOf cs i
               ∙ sym (left-other flags (r + 1) 0 q
               (λ f. same-ne (at r .id) (d .id) e
               (place-injective cs (at r .id) (d .id) (omega (arith, p .1, f)) (held-id cs (p .0)) (held-id cs m))))
+
+-- where a row is left exactly if its character is not listed, those that are left are the ones to be sent
+pub left-unlisted : (cs : List Character) → Standing cs → (flags : List ℕ) (listed : Identifier → Bool)
+    → ((i : ℕ) → i < length cs → rowLeft flags i ≡ not (listed (getD cs i blankCharacter .id)))
+    → leftRows flags cs ≡ unlisted listed cs
+unfolding leftRows unlisted
+left-unlisted cs s flags listed f =
+    keep-alike (λ (c : Character). leftAt flags (placeOf cs (c .id))) (λ (c : Character). not (listed (c .id))) cs one
+  where
+    one : (c : Character) → List·Memᴰ c cs → leftAt flags (placeOf cs (c .id)) ≡ not (listed (c .id))
+    one c m =
+        let i = own-index cs s blankCharacter m in
+        let b = member-place cs s m in
+        let e : placeOf cs (c .id) ≡ i .0 + 1 = omega (arith, i .1) in
+        ap (leftAt flags) e ∙ f (i .0) (omega (arith, i .1, b .1))
+        ∙ ap (λ (d : Character). not (listed (d .id))) (i .2)

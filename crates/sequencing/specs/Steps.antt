@@ -92,6 +92,7 @@ pub record RowsOf (cs : List Character) (ids above below : List ℕ) : Type 0 wh
 -- sent
 pub record TakenRows (ids above below flags order : List ℕ) (r : ℕ) : Type 0 where
   pub few : r ≤ length ids
+  pub held : r ≤ length order
   pub rows : (i : ℕ) → i < r → getD order i 0 < length ids
   pub sequence : (cs : List Character) → RowsOf cs ids above below
       → atRows cs order r ≡ sequenced (length (leftRows flags cs)) (leftRows flags cs)
@@ -99,6 +100,7 @@ pub record TakenRows (ids above below flags order : List ℕ) (r : ℕ) : Type 0
 -- the same by the keys of their neighbours
 pub record SentRows (ids previous next flags order : List ℕ) (r : ℕ) : Type 0 where
   pub few : r ≤ length ids
+  pub held : r ≤ length order
   pub rows : (i : ℕ) → i < r → getD order i 0 < length ids
   pub sequence : (cs : List Character) → Standing cs → AllSmall cs → ids ≡ keys cs → previous ≡ previousKeys cs
       → next ≡ nextKeys cs → atRows cs order r ≡ sequenced (length (leftRows flags cs)) (leftRows flags cs)

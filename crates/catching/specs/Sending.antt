@@ -1,0 +1,33 @@
+-- For the proofs of the code alone: the rows that are not listed, and the inserts that are sent.
+use Prim.Native.Nat.{ℕ, _≤_, _<_}
+use mathlib.Core.Path.{_≡_}
+use mathlib.Core.Bool.{not}
+use mathlib.Core.List.{List}
+use lib.ListN.{length, getD}
+use Rattle.woot.specs.declared.Character.{Character}
+use Rattle.woot.specs.Loading.{arrivals}
+use Rattle.woot.specs.Memory.{characterNumbers, identifier, charactersOf, keyColumn, previousColumn, nextColumn}
+use Rattle.woot.specs.Memory.{codePointColumn}
+use Rattle.woot.specs.Catching.{Chunk, listedIn, sent}
+use Rattle.convergence.specs.Agreement.{Standing}
+use Rattle.sequencing.specs.Steps.{rowLeft, RowsAlone}
+use Rattle.saving.specs.Documents.{operationsAmong}
+
+-- so many flags, of which the first n rows have those that say whether they are not listed, and no other place has one
+pub record FlagsUnlisted (ids : List ℕ) (ks : List Chunk) (size n : ℕ) (flags : List ℕ) : Type 0 where
+  pub size-kept : length flags ≡ size
+  pub alone : RowsAlone flags n
+  pub unlisted : (k : ℕ) → k < n → rowLeft flags k ≡ not (listedIn ks (identifier (getD ids k 0)))
+
+-- the characters in the first n slots of four columns, with these counts of toggles
+abbrev pub rowsIn : List ℕ → List ℕ → ℕ → List Character
+rowsIn characters toggles n =
+    charactersOf (keyColumn characters) (previousColumn characters) (nextColumn characters)
+    (codePointColumn characters) toggles n
+
+-- the columns hold the inserts that are sent of them to who has listed the others
+pub record SentIn (characters : List ℕ) (n : ℕ) (ks : List Chunk) (numbers : List ℕ) (r : ℕ) : Type 0 where
+  pub size : length numbers ≡ characterNumbers
+  pub few : r ≤ n
+  pub inserts : (toggles : List ℕ) → Standing (rowsIn characters toggles n)
+      → operationsAmong numbers r ≡ arrivals (sent (listedIn ks) (rowsIn characters toggles n))
