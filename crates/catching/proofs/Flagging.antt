@@ -1,7 +1,7 @@
 -- One row more is flagged where it is not listed, and no other flag changes.
-use Prim.Native.Nat.{ℕ, _+_, _≤_, _<_}
+use Prim.Native.Nat.{ℕ, _+_, _<_}
 use native.Mathlib.Omega.{arith}
-use mathlib.Core.Path.{_≡_, refl, sym, ap, _∙_, subst}
+use mathlib.Core.Path.{_≡_, sym, ap, _∙_, subst}
 use mathlib.Core.Bool.{Bool, true, false, not}
 use mathlib.Core.List.{List}
 use mathlib.Core.Logic.{⊎-elim}
@@ -9,7 +9,7 @@ use lib.ListN.{length, getD, set, length-set}
 use Rattle.lists.proofs.Tests.{side}
 use Rattle.woot.specs.Memory.{identifier}
 use Rattle.woot.specs.Catching.{Chunk, listedIn}
-use Rattle.sequencing.specs.Steps.{leftAt, rowLeft, RowsAlone}
+use Rattle.sequencing.specs.Steps.{leftAt, rowLeft}
 use Rattle.sequencing.proofs.Flags.{left-other, left-set}
 use Rattle.catching.specs.Sending.{FlagsUnlisted}
 

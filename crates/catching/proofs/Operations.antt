@@ -1,5 +1,5 @@
 -- Four numbers put behind the operations of some columns are one operation more.
-use Prim.Native.Nat.{ℕ, suc, _+_, _*_, _/_, _%_, _≤_, _<_}
+use Prim.Native.Nat.{ℕ, _+_, _*_, _/_, _%_, _<_}
 use native.Mathlib.Omega.{arith}
 use native.Mathlib.Numerals.{add-one}
 use mathlib.Core.Path.{_≡_, refl, sym, ap, ap₂, _∙_}
@@ -13,7 +13,8 @@ use Rattle.woot.specs.declared.Operation.{Operation}
 use Rattle.woot.specs.declared.Operation.the-variants.{Toggle as toggle}
 use Rattle.woot.specs.declared.Character.{Character}
 use Rattle.woot.specs.Loading.{turnings}
-use Rattle.woot.specs.Memory.{identifier, each, characterOf, characterAt, charactersOf, operationOf, operationAt, operationsOf}
+use Rattle.woot.specs.Memory.{identifier, each, characterOf, characterAt, charactersOf, operationOf, operationAt}
+use Rattle.woot.specs.Memory.{operationsOf}
 use Rattle.woot.specs.Memory.{keyColumn, previousColumn, nextColumn, codePointColumn}
 use Rattle.convergence.proofs.Arrivals.{turn}
 use Rattle.memory.proofs.Characters.{each-cong}
@@ -46,9 +47,15 @@ module _ (xs : List ℕ) (i w x y z : ℕ) {ys : List ℕ} (size : length xs ≡
   here : operationAt (keyColumn ys) (previousColumn ys) (nextColumn ys) (codePointColumn ys) i ≡ operationOf w x y z
   here =
       let a = own (keyColumn xs) (keyColumn ys) w (p .ids) (column-length 1024 0 xs (omega (arith, size))) in
-      let b = own (previousColumn xs) (previousColumn ys) x (p .previous) (column-length 1024 1 xs (omega (arith, size))) in
+      let b = own (previousColumn xs) (previousColumn ys) x (p .previous) (column-length 1024 1 xs (omega (
+        arith,
+        size,
+      ))) in
       let c = own (nextColumn xs) (nextColumn ys) y (p .next) (column-length 1024 2 xs (omega (arith, size))) in
-      let d = own (codePointColumn xs) (codePointColumn ys) z (p .points) (column-length 1024 3 xs (omega (arith, size))) in
+      let d = own (codePointColumn xs) (codePointColumn ys) z (p .points) (column-length 1024 3 xs (omega (
+        arith,
+        size,
+      ))) in
       λ k. operationOf (a k) (b k) (c k) (d k)
 
   operation-put : operationsAmong ys (i + 1) ≡ operationsAmong xs i ++ operationOf w x y z ∷ []
@@ -122,7 +129,8 @@ module _ (ids toggles : List ℕ) (sender : ℕ) where
               t .toggled ps ns vs
               ∙ sym (more ps ns vs
               ∙ ap (λ (b : Bool). turnings sender (charactersOf ids ps ns vs toggles i)
-              ++ cond b [] (toggle (turn sender (characterAt ids ps ns vs toggles i)) ∷ [])) (eq-eqb (getD toggles i 0) 0 z)
+              ++ cond b [] (toggle (turn sender (characterAt ids ps ns vs toggles i)) ∷ [])) (eq-eqb (getD toggles i
+              0) 0 z)
               ∙ append-nil (turnings sender (charactersOf ids ps ns vs toggles i)));
         })
 
@@ -146,7 +154,8 @@ module _ (ids toggles : List ℕ) (sender : ℕ) where
           toggled =
               λ ps ns vs.
               operation-put xs count 0 (getD ids i 0) 0 v (t .size) h p
-              ∙ ap₂ (λ (os : List Operation) (o : Operation). os ++ o ∷ []) (t .toggled ps ns vs) (said e small ps ns vs)
+              ∙ ap₂ (λ (os : List Operation) (o : Operation). os ++ o ∷ []) (t .toggled ps ns vs) (said e small ps ns
+              vs)
               ∙ sym (more ps ns vs
               ∙ ap (λ (b : Bool). turnings sender (charactersOf ids ps ns vs toggles i)
               ++ cond b [] (toggle (turn sender (characterAt ids ps ns vs toggles i)) ∷ []))

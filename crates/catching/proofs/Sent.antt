@@ -1,27 +1,26 @@
 -- The inserts of the rows in their sequence are those that the rule sends.
 use Prim.Native.Nat.{ℕ, _≤_, _<_}
 use native.Mathlib.Omega.{arith}
-use mathlib.Core.Path.{_≡_, refl, sym, ap, _∙_}
+use mathlib.Core.Path.{_≡_, sym, ap, _∙_}
 use mathlib.Core.Bool.{Bool, not, cond}
-use mathlib.Core.List.{List, map}
+use mathlib.Core.List.{List}
 use borrow.Author.Tests.{ne-eqb}
 use lib.ListN.{length, take, getD}
 use lib.Seq.{getD-take, length-take-le}
-use Rattle.woot.specs.declared.Identifier.{Identifier}
-use Rattle.woot.specs.declared.Operation.{Operation}
 use Rattle.woot.specs.declared.Operation.the-variants.{Insert as insert}
 use Rattle.woot.specs.declared.Character.{Character}
 use Rattle.woot.specs.Operations.{origin}
 use Rattle.woot.specs.State.{blankCharacter}
 use Rattle.woot.specs.Loading.{arrivals}
-use Rattle.woot.specs.Memory.{each, identifier, characterOf, characterAt, charactersOf, operationOf, operationAt}
+use Rattle.woot.specs.Memory.{identifier, characterOf, characterAt, charactersOf, operationOf, operationAt}
 use Rattle.woot.specs.Memory.{keyColumn, previousColumn, nextColumn, codePointColumn}
 use Rattle.woot.specs.Table.{key}
 use Rattle.woot.specs.Catching.{Chunk, listedIn, sequenced, sent}
 use Rattle.convergence.specs.Agreement.{Standing}
 use Rattle.convergence.proofs.Characters.{at-index, id-in-range}
-use Rattle.memory.proofs.Fullness.{Ends, ends, in-columns}
-use Rattle.memory.proofs.Characters.{key-identifier, each-cong, each-map, rows-length, rows-small, rows-keys, rows-previous}
+use Rattle.memory.proofs.Fullness.{ends, in-columns}
+use Rattle.memory.proofs.Characters.{key-identifier, each-cong, each-map, rows-length, rows-small, rows-keys}
+use Rattle.memory.proofs.Characters.{rows-previous}
 use Rattle.memory.proofs.Characters.{rows-next, rows-at}
 use Rattle.memory.proofs.Operations.{positive-key}
 use Rattle.saving.specs.Documents.{operationsAmong}

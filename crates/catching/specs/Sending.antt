@@ -2,14 +2,16 @@
 use Prim.Native.Nat.{ℕ, _≤_, _<_}
 use mathlib.Core.Path.{_≡_}
 use mathlib.Core.Bool.{not}
-use mathlib.Core.List.{List}
-use lib.ListN.{length, getD}
+use mathlib.Core.List.{List, _++_, map}
+use lib.ListN.{length, take, getD}
+use Rattle.lines.specs.Lines.{concatenated}
 use Rattle.woot.specs.declared.Character.{Character}
-use Rattle.woot.specs.Loading.{arrivals}
+use Rattle.woot.specs.Loading.{arrivals, turnings}
 use Rattle.woot.specs.Memory.{characterNumbers, identifier, charactersOf, keyColumn, previousColumn, nextColumn}
 use Rattle.woot.specs.Memory.{codePointColumn}
-use Rattle.woot.specs.Catching.{Chunk, listedIn, sent}
+use Rattle.woot.specs.Catching.{Chunk, Listing, listedIn, chunksOf, sent}
 use Rattle.convergence.specs.Agreement.{Standing}
+use Rattle.codec.specs.Operations.{operationLine}
 use Rattle.sequencing.specs.Steps.{rowLeft, RowsAlone}
 use Rattle.saving.specs.Documents.{operationsAmong}
 
@@ -31,3 +33,14 @@ pub record SentIn (characters : List ℕ) (n : ℕ) (ks : List Chunk) (numbers :
   pub few : r ≤ n
   pub inserts : (toggles : List ℕ) → Standing (rowsIn characters toggles n)
       → operationsAmong numbers r ≡ arrivals (sent (listedIn ks) (rowsIn characters toggles n))
+
+-- the lines of the answer of a site with these characters to who has listed the chunks
+unfoldable pub answerLines : ℕ → List Character → List Chunk → List ℕ
+answerLines sender cs ks = concatenated operationLine (arrivals (sent (listedIn ks) cs) ++ turnings sender cs)
+
+-- ---- listing
+
+-- the list of a site's first n rows
+abbrev pub listOf : ℕ → ℕ → List ℕ → Listing
+listOf number n characters =
+    record { site = number; total = n; chunks = chunksOf (map identifier (take n (keyColumn characters))) }

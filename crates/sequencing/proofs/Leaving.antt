@@ -4,7 +4,7 @@ use native.Mathlib.Omega.{arith}
 use mathlib.Core.Path.{_≡_, refl, sym, ap, ap₂, _∙_, subst}
 use mathlib.Core.Bool.{Bool, true, false, _&&_, not, cond, and-true, and-false as and-no}
 use mathlib.Core.List.{List, [], _∷_, List·Memᴰ, List·Memᴰ·head, List·Memᴰ·tail}
-use mathlib.Core.Logic.{_⊎_, inl, inr, ⊎-elim}
+use mathlib.Core.Logic.{inl, inr, ⊎-elim}
 use mathlib.Core.Option.{some}
 use borrow.Author.Tests.{le-ltb}
 use lib.ListN.{length, getD, set, length-map}
@@ -21,21 +21,23 @@ use Rattle.woot.specs.Table.{key}
 use Rattle.woot.specs.Loading.{among, free}
 use Rattle.woot.specs.Catching.{nextSent, without, unlisted}
 use Rattle.convergence.specs.Agreement.{Standing}
+use Rattle.convergence.specs.Catching.{Chosen}
 use Rattle.convergence.proofs.Identifiers.{same-eq, same-ne}
 use Rattle.convergence.proofs.Places.{held-id, place-held, place-injective}
 use Rattle.convergence.proofs.Characters.{at-index, own-index, member-place, between-marks}
 use Rattle.convergence.proofs.Peeling.{member-among, among-member}
+use Rattle.convergence.proofs.Sequencing.{keep-apart, chosen-next}
 use Rattle.index.proofs.Keys.{key-below}
-use Rattle.sequencing.specs.Steps.{leftAt, rowLeft, freeBeside, rowFree, RowsAlone, Lowest, NextRow, leftRows, RowsOf}
+use Rattle.sequencing.specs.Steps.{leftAt, rowLeft, freeBeside, rowFree, RowsAlone, Lowest, NextRow, leftRows}
+use Rattle.sequencing.specs.Steps.{RowsOf}
 use Rattle.sequencing.proofs.Flags.{left-other, left-set}
-use Rattle.sequencing.proofs.Theory.{Chosen, keep-apart, chosen-next}
 
 -- what is kept of what was kept, by one test on the elements
-pub keep-both : {A : Type 0} (p q r : A → Bool) (xs : List A) → ((x : A) → List·Memᴰ x xs → q x && p x ≡ r x)
+pub keep-twice : {A : Type 0} (p q r : A → Bool) (xs : List A) → ((x : A) → List·Memᴰ x xs → q x && p x ≡ r x)
     → keep p (keep q xs) ≡ keep r xs
-keep-both p q r [] f = refl
-keep-both p q r (x ∷ xs) f =
-    rw (← f x (List·Memᴰ·head refl)) (go (q x) (p x) refl (keep-both p q r xs (λ y m. f y (List·Memᴰ·tail m))))
+keep-twice p q r [] f = refl
+keep-twice p q r (x ∷ xs) f =
+    rw (← f x (List·Memᴰ·head refl)) (go (q x) (p x) refl (keep-twice p q r xs (λ y m. f y (List·Memᴰ·tail m))))
   where
     go : (a b : Bool) → p x ≡ b → keep p (keep q xs) ≡ keep r xs
         → keep p (cond a (x ∷ keep q xs) (keep q xs)) ≡ cond (a && b) (x ∷ keep r xs) (keep r xs)
@@ -168,7 +170,11 @@ module _ (cs : List Character) (ids ups downs flags : List ℕ) (w : RowsOf cs i
         let own = row-free r h (low .passed (omega (arith, h, counted))) in (
           by-row (λ d. free (leftRows flags cs) d ≡ true
               → (free (leftRows flags cs) (at r) ≡ true) × (below (d .id) (at r .id) ≡ false))
-              (λ i l e f. (own .1, not-below r i h l (low .least i (omega (arith, l, counted)) (free-there i l e f) .1))),
+              (λ i l e f. (
+                own .1,
+                not-below r i h l (low .least i (omega (arith, l, counted)) (free-there i l e f)
+                    .1),
+              )),
           λ bound d m. clash (own .1) (bound (at r) (own .0)),
         )
 
@@ -213,7 +219,7 @@ module _ (cs : List Character) (ids ups downs flags : List ℕ) (w : RowsOf cs i
       → without (at r) (leftRows flags cs) ≡ leftRows (set flags (r + 1) 0) cs
   unfolding without leftRows
   next-gone r h g n =
-      keep-both (λ (d : Character). not (same (at r .id) (d .id)))
+      keep-twice (λ (d : Character). not (same (at r .id) (d .id)))
       (λ (c : Character). leftAt flags (placeOf cs (c .id)))
       (λ (c : Character). leftAt (set flags (r + 1) 0) (placeOf cs (c .id))) cs one
     where

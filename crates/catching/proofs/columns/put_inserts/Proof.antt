@@ -2,7 +2,6 @@
 use Prim.Native.Nat.{ℕ, _-_, _≤_, _<_}
 use native.Mathlib.Omega.{arith}
 use mathlib.Core.Path.{_≡_, refl, sym, _∙_, subst}
-use borrow.Author.Needs.{needs}
 use lib.ListN.{length, getD}
 use Rattle.catching.specs.Columns.{InsertsOf}
 use Rattle.catching.proofs.Operations.{no-inserts, one-insert}
@@ -17,7 +16,8 @@ abbrev μ-loop : tie.MeasureT-loop
 μ-loop ids previous next code-points order count numbers₀ i₀ numbers i = count - i
 
 -- the row at an index
-row : (s : tie.Start Inv-loop μ-loop) (i : ℕ) → i < s .args .count → getD (s .args .order .now) i 0 < length (s .args .ids .now)
+row : (s : tie.Start Inv-loop μ-loop) (i : ℕ) → i < s .args .count → getD (s .args .order .now) i 0 < length (s .args
+    .ids .now)
 row s i h = s .pre .0 .rows i h
 
 loop-holds : tie.Need-loop-holds Inv-loop μ-loop
@@ -59,7 +59,12 @@ mul-put-at-3 c =
 shared-slice-read-put-at-3 : tie.Need-shared-slice-read-put-at-3 Inv-loop μ-loop
 shared-slice-read-put-at-3 c =
     let s = c .before .before .before .before .before .before .before .before .before .before .before .before .before in
-    omega (arith, row s (c .before .before .before .before .before .before .loop .i) (omega arith), s .pre .0 .next-hold)
+    omega (
+      arith,
+      row s (c .before .before .before .before .before .before .loop .i) (omega arith),
+      s .pre .0
+          .next-hold,
+    )
 
 mul-put-at-4 : tie.Need-mul-put-at-4 Inv-loop μ-loop
 mul-put-at-4 c =
@@ -68,23 +73,35 @@ mul-put-at-4 c =
 
 shared-slice-read-put-at-4 : tie.Need-shared-slice-read-put-at-4 Inv-loop μ-loop
 shared-slice-read-put-at-4 c =
-    let s = c .before .before .before .before .before .before .before .before .before .before .before .before .before .before in
-    omega (arith, row s (c .before .before .before .before .before .before .before .loop .i) (omega arith), s .pre .0 .points-hold)
+    let s = c .before .before .before .before .before .before .before .before .before .before .before .before .before
+    .before in
+    omega (
+      arith,
+      row s (c .before .before .before .before .before .before .before .loop .i) (omega arith),
+      s .pre .0
+          .points-hold,
+    )
 
 put-at-requires : tie.Need-put-at-requires Inv-loop μ-loop
 put-at-requires c κs =
-    let s = c .before .before .before .before .before .before .before .before .before .before .before .before .before .before in
+    let s = c .before .before .before .before .before .before .before .before .before .before .before .before .before
+    .before in
     let l = c .before .before .before .before .before .before .before .loop in
     (l .inv .1 .size, omega (arith, s .pre .1 .0))
 
 loop-again : tie.Need-loop-again Inv-loop μ-loop
 loop-again c =
     let l = c .before .before .before .before .before .before .before .before .before .before .loop in
-    let s = c .before .before .before .before .before .before .before .before .before .before .before .before .before .before .before .before .before in
-    (omega arith, one-insert _ _ _ _ _ (l .inv .1) (omega (arith, s .pre .1 .0)) refl (c .before .before .put-at .ensures))
+    let s = c .before .before .before .before .before .before .before .before .before .before .before .before .before
+    .before .before .before .before in (
+      omega arith,
+      one-insert _ _ _ _ _ (l .inv .1) (omega (arith, s .pre .1 .0)) refl (c .before .before .put-at
+          .ensures),
+    )
 
 same-length : tie.Need-same-length Inv-loop μ-loop
-same-length c = c .before .loop .inv .1 .size ∙ sym (c .before .before .before .before .before .before .before .before .pre .1 .1)
+same-length c = c .before .loop .inv .1 .size ∙ sym (c .before .before .before .before .before .before .before .before
+    .pre .1 .1)
 
 returns : tie.Need-returns Inv-loop μ-loop
 returns c =

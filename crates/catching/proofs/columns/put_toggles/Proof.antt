@@ -1,10 +1,8 @@
 -- `columns::put_toggles` meets its contract. The loop's invariant: the toggles of the first i rows are put.
-use Prim.Native.Nat.{ℕ, _-_, _≤_, _<_}
+use Prim.Native.Nat.{ℕ, _-_, _≤_}
 use native.Mathlib.Omega.{arith}
 use mathlib.Core.Path.{_≡_, refl, sym, _∙_, subst}
 use mathlib.Core.Logic.{⊎-elim}
-use borrow.Author.Needs.{needs}
-use lib.ListN.{length, getD}
 use Rattle.catching.specs.Columns.{TogglesOf}
 use Rattle.catching.proofs.Operations.{no-toggles, not-toggled, one-toggle}
 use Rattle.catching.proofs.columns.put_toggles.Statement.{statement}
@@ -51,9 +49,9 @@ loop-again c =
     let s = c .before .before .before .before .before .before .before in (
       omega arith,
       ⊎-elim
-          (λ v. one-toggle _ _ _ (l .inv .1) (v .0 .taken) (omega (arith, c .before .shared-slice-known3 .given (l .i)))
+          (λ v. one-toggle _ _ _ (l .inv .1) (λ z. omega (arith, z, v .0 .taken)) (omega (arith, c .before .shared-slice-known3 .given (l .i)))
           (omega (arith, l .inv .1 .few, s .pre .0)) refl (v .3 .ensures) (v .7) (v .6))
-          (λ v. not-toggled _ _ _ (l .inv .1) (v .0 .left) (v .2) (v .1)) (c .if1 .came),
+          (λ v. not-toggled _ _ _ (l .inv .1) (omega (arith, v .0 .left)) (v .2) (v .1)) (c .if1 .came),
     )
 
 same-length : tie.Need-same-length Inv-loop μ-loop

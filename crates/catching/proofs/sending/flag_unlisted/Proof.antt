@@ -1,9 +1,8 @@
 -- `sending::flag_unlisted` meets its contract. The loop's invariant: the first i rows have their flags.
 use Prim.Native.Nat.{ℕ, _-_, _≤_}
 use native.Mathlib.Omega.{arith}
-use mathlib.Core.Path.{_≡_, refl, sym, _∙_, subst}
+use mathlib.Core.Path.{_≡_, refl, subst}
 use mathlib.Core.Logic.{⊎-elim}
-use borrow.Author.Needs.{needs}
 use lib.ListN.{length}
 use Rattle.lists.proofs.Tests.{failed, passed}
 use Rattle.chunks.specs.Columns.{chunksIn}

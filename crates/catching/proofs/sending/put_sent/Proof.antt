@@ -47,7 +47,8 @@ slice-aggregate-ids : tie.Need-slice-aggregate-ids
 slice-aggregate-ids c = sym (wide (c .before .before .before .before .before .before .before) 0 (omega arith))
 
 slice-aggregate-flag-unlisted : tie.Need-slice-aggregate-flag-unlisted
-slice-aggregate-flag-unlisted c = sym (first-part (c .before .before .before .before .before .before .before .before .before .before .before))
+slice-aggregate-flag-unlisted c = sym (first-part (c .before .before .before .before .before .before .before .before
+    .before .before .before))
 
 flag-unlisted-requires : tie.Need-flag-unlisted-requires
 flag-unlisted-requires c κs =
@@ -58,17 +59,21 @@ flag-unlisted-requires c κs =
     )
 
 slice-aggregate-sequence : tie.Need-slice-aggregate-sequence
-slice-aggregate-sequence c = sym (first-part (c .before .before .before .before .before .before .before .before .before .before .before .before .before .before .before))
+slice-aggregate-sequence c = sym (first-part (c .before .before .before .before .before .before .before .before
+    .before .before .before .before .before .before .before))
 
 slice-aggregate-sequence-2 : tie.Need-slice-aggregate-sequence-2
-slice-aggregate-sequence-2 c = sym (second-part (c .before .before .before .before .before .before .before .before .before .before .before .before .before .before .before .before))
+slice-aggregate-sequence-2 c = sym (second-part (c .before .before .before .before .before .before .before .before
+    .before .before .before .before .before .before .before .before))
 
 slice-aggregate-sequence-3 : tie.Need-slice-aggregate-sequence-3
-slice-aggregate-sequence-3 c = sym (third-part (c .before .before .before .before .before .before .before .before .before .before .before .before .before .before .before .before .before))
+slice-aggregate-sequence-3 c = sym (third-part (c .before .before .before .before .before .before .before .before
+    .before .before .before .before .before .before .before .before .before))
 
 sequence-requires : tie.Need-sequence-requires
 sequence-requires c κs =
-    let s = c .before .before .before .before .before .before .before .before .before .before .before .before .before .before .before .before .before .before .before in
+    let s = c .before .before .before .before .before .before .before .before .before .before .before .before .before
+    .before .before .before .before .before .before in
     let f = c .before .before .before .before .before .before .flag-unlisted .ensures in (
       s .pre .1 .1 .0,
       (
@@ -77,7 +82,18 @@ sequence-requires c κs =
           omega (arith, first-part s, second-part s),
           (
             omega (arith, first-part s, third-part s),
-            (omega (arith, first-part s, s .pre .1 .0, f .size-kept), (f .alone, omega (arith, first-part s, s .pre .1 .0))),
+            (
+              omega (arith, first-part s, s .pre .1 .0, f .size-kept),
+              (
+                f .alone,
+                omega (
+                  arith,
+                  first-part s,
+                  s .pre .1
+                      .0,
+                ),
+              ),
+            ),
           ),
         ),
       ),
@@ -85,7 +101,8 @@ sequence-requires c κs =
 
 put-inserts-requires : tie.Need-put-inserts-requires
 put-inserts-requires c κs =
-    let s = c .before .before .before .before .before .before .before .before .before .before .before .before .before .before .before .before .before .before .before .before .before .before .before .before in
+    let s = c .before .before .before .before .before .before .before .before .before .before .before .before .before
+    .before .before .before .before .before .before .before .before .before .before .before in
     let q = c .before .before .before .before .sequence .ensures in (
       record {
         previous-hold = omega (arith, wide s 0 (omega arith), wide s 1 (omega arith));
@@ -99,7 +116,8 @@ put-inserts-requires c κs =
 
 returns : tie.Need-returns
 returns c =
-    let s = c .before .before .before .before .before .before .before .before .before .before .before .before .before .before .before .before .before .before .before .before .before .before .before .before .before .before .before in
+    let s = c .before .before .before .before .before .before .before .before .before .before .before .before .before
+    .before .before .before .before .before .before .before .before .before .before .before .before .before .before in
     let q = c .before .before .before .before .before .before .before in
     let f = q .before .before .before .before .before .before .before in
     sent-in (s .args .characters .now) (s .args .n) _ (s .pre .0) (s .pre .1 .0) (f .flag-unlisted .ensures)
