@@ -44,15 +44,17 @@ use Rattle.saved.specs.Conversion.{conversion}
 use Rattle.effects.specs.Results.{Result, result, silent}
 use Rattle.effects.specs.Effects.{Effect, quiet, turned, writingNoted, writing, writingBoth, afterReceiving, afterReceivingAt, sending, afterSending, sendingAll, afterPasting}
 use Rattle.c_calls.specs.Calls.{CCall, «wimtaze_empty», «wimtaze_receive», «wimtaze_receive_at», «wimtaze_type», «wimtaze_erase», «wimtaze_restore», «wimtaze_paste», «wimtaze_text», «wimtaze_counts», «wimtaze_upgrade», «wimtaze_downgrade», inputChecks, oneLine, named, answering, handedChecks, ruleChecks, callChecks, Product, bytesAlone, replicaAfter, replicaAndLine, replicaAndLines, productOf, short, delivered, effectOf}
-use Rattle.c_calls.specs.Calls.{«wimtaze_build», «wimtaze_load»}
+use Rattle.c_calls.specs.Calls.{«wimtaze_build», «wimtaze_load», «wimtaze_list», «wimtaze_answer»}
 use Rattle.woot.specs.Building.{leftOut, built, heapFull, disagreeing, buildChecks, unbuilt, build}
 use Rattle.woot.specs.Loading.{loadable, useChecks}
+use Rattle.woot.specs.Catching.{listing, answerFor}
+use Rattle.listing.specs.Format.{listBytes, listSaid}
 use Rattle.woot.specs.Operations.{inserts}
 use Rattle.woot.specs.Ranges.{siteNumber}
 use Rattle.lists.specs.Lists.{every}
 use Rattle.heap.specs.Format.{heapLaidOut, heapSaid}
 use Rattle.building.specs.Calls.{builtOutcome}
-use Rattle.c_calls.specs.Steps.{buildingHere, usedHere, loadingHere}
+use Rattle.c_calls.specs.Steps.{buildingHere, usedHere, loadingHere, listingHere, answeringHere}
 use Rattle.effects.specs.Counts.{countsOf}
 use Rattle.c_calls.specs.Steps.{beginning, receivingLine, receivingLineAt, insertingHere, deletingHere, restoringHere, pastingHere, showingText, counting, converting, upgrading, downgrading}
 use Rattle.c_calls.proofs.Listing.{first-behind}
@@ -140,6 +142,17 @@ module _ (bytes out : List ℕ) where
   pub text-body : effectOf «wimtaze_text» bytes out [] ≡ showingText bytes out
   unfolding showingText handedChecks ruleChecks productOf writing
   text-body = by-body «wimtaze_text» bytes out [] _ (λ h. noted (Done 0 0) 0 (text (loadedState bytes .characters)) out)
+
+  pub list-body : effectOf «wimtaze_list» bytes out [] ≡ listingHere bytes out
+  unfolding listingHere handedChecks ruleChecks productOf writing
+  list-body =
+      by-body «wimtaze_list» bytes out [] _ (λ h. noted (Done 0 0) 0 (listBytes (listing (loadedState bytes))) out)
+
+  pub answer-body : (list : List ℕ) → effectOf («wimtaze_answer» list) bytes out [] ≡ answeringHere bytes list out
+  unfolding answeringHere ruleChecks productOf writing
+  answer-body list =
+      by-body («wimtaze_answer» list) bytes out [] _
+      (λ h. noted (Done 0 0) 0 (concatenated operationLine (answerFor (loadedState bytes) (listSaid list))) out)
 
   pub upgrade-body : effectOf «wimtaze_upgrade» bytes out [] ≡ upgrading bytes out
   unfolding converting handedChecks ruleChecks productOf writing

@@ -24,7 +24,7 @@ use Rattle.saved.proofs.Trips.{saved-reads-back}
 use Rattle.effects.specs.Results.{Result, result, silent, wordNumber, inBits, numberOf}
 use Rattle.effects.specs.Effects.{Effect, quiet}
 use Rattle.c_calls.specs.Calls.{CCall, «wimtaze_empty», «wimtaze_receive», «wimtaze_receive_at», «wimtaze_type», «wimtaze_erase», «wimtaze_restore», «wimtaze_paste», «wimtaze_text», «wimtaze_counts», «wimtaze_upgrade», «wimtaze_downgrade», productOf, short, delivered, effectOf}
-use Rattle.c_calls.specs.Calls.{«wimtaze_build», «wimtaze_load»}
+use Rattle.c_calls.specs.Calls.{«wimtaze_build», «wimtaze_load», «wimtaze_list», «wimtaze_answer»}
 use Rattle.c_calls.specs.Theorems.{Bounds, boundsOf, roomOf, saves, Fits, ResultsFit, PartsReadBack, ReadsBack, ReturnedReadsBack, CountsWithin, CountsFit, BuffersSuffice, bytesWritten, Formed, Loads, WrittenLoads}
 use Rattle.c_calls.proofs.Listing.{Earlier, Went, away, lacking, through, went, product-made}
 use Rattle.c_calls.proofs.Products.{Saved, Sound, counts-within, counts-formed, product-sound}
@@ -95,6 +95,8 @@ all-narrow («wimtaze_restore» n t) = refl
 all-narrow («wimtaze_paste» g block) = refl
 all-narrow «wimtaze_text» = refl
 all-narrow «wimtaze_counts» = refl
+all-narrow «wimtaze_list» = refl
+all-narrow («wimtaze_answer» list) = refl
 all-narrow «wimtaze_upgrade» = refl
 all-narrow «wimtaze_downgrade» = refl
 

@@ -12,7 +12,7 @@ use borrow.Author.Tests.{not-false}
 use Rattle.woot.specs.declared.Operation.{Operation}
 use Rattle.woot.specs.declared.Operation.the-variants.{Insert as insert, Toggle as toggle}
 use Rattle.answers.specs.declared.Refusal.{Refusal}
-use Rattle.answers.specs.declared.Refusal.the-variants.{HeapFull, Unreachable}
+use Rattle.answers.specs.declared.Refusal.the-variants.{HeapFull, Mislisted, Unreachable}
 use Rattle.answers.specs.declared.Refusal.the-variants.{Layout, Range, NotUtf8, Form, Unrepresentable, Position, NotHidden, LastToggle, Clock, Taken, Conflict, Crossed, Unplaceable, SenderFull, DocumentFull, Output}
 use Rattle.answers.specs.declared.Answer.{Answer}
 use Rattle.answers.specs.declared.Answer.the-variants.{Done, Deferred, Duplicate, Refused}
@@ -42,7 +42,7 @@ use Rattle.effects.specs.Results.{Result, result, silent}
 use Rattle.effects.specs.Effects.{Effect, quiet}
 use Rattle.effects.specs.Counts.{countsOf}
 use Rattle.c_calls.specs.Calls.{CCall, «wimtaze_empty», «wimtaze_receive», «wimtaze_receive_at», «wimtaze_type», «wimtaze_erase», «wimtaze_restore», «wimtaze_paste», «wimtaze_text», «wimtaze_counts», «wimtaze_upgrade», «wimtaze_downgrade», inputChecks, named, answering, handedChecks, ruleChecks, earlierChecks, callChecks, Product, productOf, short, delivered, effectOf}
-use Rattle.c_calls.specs.Calls.{«wimtaze_build», «wimtaze_load»}
+use Rattle.c_calls.specs.Calls.{«wimtaze_build», «wimtaze_load», «wimtaze_list», «wimtaze_answer»}
 use Rattle.c_calls.specs.Theorems.{CallsMeet, CallsRise, CallsRefuse, CallsKnow, Untouched, TurnedUntouched}
 
 -- ---- the lists
@@ -60,6 +60,8 @@ calls-meet («wimtaze_restore» site clock) bytes out line = refl
 calls-meet («wimtaze_paste» gap block) bytes out line = refl
 calls-meet «wimtaze_text» bytes out line = refl
 calls-meet «wimtaze_counts» bytes out line = refl
+calls-meet «wimtaze_list» bytes out line = refl
+calls-meet («wimtaze_answer» list) bytes out line = refl
 calls-meet «wimtaze_upgrade» bytes out line = refl
 calls-meet «wimtaze_downgrade» bytes out line = refl
 
@@ -76,6 +78,8 @@ calls-rise («wimtaze_restore» site clock) bytes out line = refl
 calls-rise («wimtaze_paste» gap block) bytes out line = refl
 calls-rise «wimtaze_text» bytes out line = refl
 calls-rise «wimtaze_counts» bytes out line = refl
+calls-rise «wimtaze_list» bytes out line = refl
+calls-rise («wimtaze_answer» list) bytes out line = refl
 calls-rise «wimtaze_upgrade» bytes out line = refl
 calls-rise «wimtaze_downgrade» bytes out line = refl
 
@@ -186,6 +190,9 @@ all-earlier («wimtaze_paste» gap block) bytes = (
 )
 all-earlier «wimtaze_text» bytes = (earlier Layout refl, (earlier Range refl, (earlier Form refl, tt)))
 all-earlier «wimtaze_counts» bytes = (earlier Layout refl, (earlier Range refl, (earlier Form refl, tt)))
+all-earlier «wimtaze_list» bytes = (earlier Layout refl, (earlier Range refl, (earlier Form refl, tt)))
+all-earlier («wimtaze_answer» list) bytes =
+    (earlier Layout refl, (earlier Range refl, (earlier Mislisted refl, (earlier Form refl, tt))))
 all-earlier «wimtaze_upgrade» bytes = (earlier Layout refl, (earlier Range refl, (earlier Form refl, (earlier Unrepresentable refl, tt))))
 all-earlier «wimtaze_downgrade» bytes = (earlier Layout refl, (earlier Range refl, (earlier Form refl, (earlier Unrepresentable refl, tt))))
 
@@ -318,6 +325,8 @@ product-made («wimtaze_paste» g []) bytes w = done-made 0 0
 product-made («wimtaze_paste» g (b ∷ block)) bytes w = rw (paste-taken bytes g (b ∷ block) w .1) (done-made _ _)
 product-made «wimtaze_text» bytes w = done-made 0 0
 product-made «wimtaze_counts» bytes w = done-made _ _
+product-made «wimtaze_list» bytes w = done-made 0 0
+product-made («wimtaze_answer» list) bytes w = done-made 0 0
 product-made «wimtaze_upgrade» bytes w = done-made 0 0
 product-made «wimtaze_downgrade» bytes w = done-made 0 0
 

@@ -37,7 +37,7 @@ use Rattle.saved.specs.Calls.{loadedState}
 use Rattle.effects.specs.Results.{result, silent}
 use Rattle.effects.specs.Effects.{Effect, quiet, turned, writingNoted, afterReceivingAt}
 use Rattle.c_calls.specs.Calls.{CCall, «wimtaze_empty», «wimtaze_receive», «wimtaze_receive_at», «wimtaze_type», «wimtaze_erase», «wimtaze_restore», «wimtaze_paste», «wimtaze_text», «wimtaze_counts», «wimtaze_upgrade», «wimtaze_downgrade», inputChecks, oneLine, named, handedChecks, earlierChecks, replicaAndLine, productOf, short, delivered, effectOf}
-use Rattle.c_calls.specs.Calls.{«wimtaze_build», «wimtaze_load»}
+use Rattle.c_calls.specs.Calls.{«wimtaze_build», «wimtaze_load», «wimtaze_list», «wimtaze_answer»}
 use Rattle.c_calls.specs.Steps.{receivingLineAt}
 use Rattle.c_calls.specs.Theorems.{bytesWritten, lineWritten, sends, receivedAtBy, SavesAs, OwnLineReceived}
 use Rattle.c_calls.proofs.Listing.{Went, away, lacking, through, went, type-taken, erase-taken, restore-taken}
@@ -194,6 +194,8 @@ module _ (bytes : List ℕ) (gap : ℕ) where
     product-own («wimtaze_paste» g block) k = absurd (false≢true k)
     product-own «wimtaze_text» k = absurd (false≢true k)
     product-own «wimtaze_counts» k = absurd (false≢true k)
+    product-own «wimtaze_list» k = absurd (false≢true k)
+    product-own («wimtaze_answer» list) k = absurd (false≢true k)
     product-own «wimtaze_upgrade» k = absurd (false≢true k)
     product-own «wimtaze_downgrade» k = absurd (false≢true k)
 

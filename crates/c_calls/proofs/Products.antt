@@ -34,6 +34,8 @@ use Rattle.convergence.proofs.Pasting.{paste-form-kept, paste-counts-bounded}
 use Rattle.woot.specs.Building.{build}
 use Rattle.convergence.proofs.Building.{built-formed, build-bounded}
 use Rattle.heap.specs.Format.{heapSaid}
+use Rattle.listing.specs.Format.{listSaid}
+use Rattle.listing.proofs.Sizes.{list-fits}
 use Rattle.cursor.specs.Bits.{shiftBits}
 use Rattle.codec.specs.Operations.{operationLine}
 use Rattle.codec.specs.Calls.{saidBy}
@@ -47,13 +49,15 @@ use Rattle.effects.specs.Results.{Result, result}
 use Rattle.effects.specs.Counts.{countsOf}
 use Rattle.effects.proofs.Totals.{known-few}
 use Rattle.c_calls.specs.Calls.{CCall, «wimtaze_empty», «wimtaze_receive», «wimtaze_receive_at», «wimtaze_type», «wimtaze_erase», «wimtaze_restore», «wimtaze_text», «wimtaze_counts», «wimtaze_upgrade», «wimtaze_downgrade», inputChecks, named, handedChecks, earlierChecks, Product, bytesAlone, replicaAndLine, productOf}
-use Rattle.c_calls.specs.Calls.{«wimtaze_paste», «wimtaze_build», «wimtaze_load»}
+use Rattle.c_calls.specs.Calls.{«wimtaze_paste», «wimtaze_build», «wimtaze_load», «wimtaze_list»}
+use Rattle.c_calls.specs.Calls.{«wimtaze_answer»}
 use Rattle.c_calls.specs.Theorems.{boundsOf, roomOf, saves, Fits, CountsWithin}
 use Rattle.c_calls.proofs.Sizes.{text-length}
 use Rattle.c_calls.proofs.Counts.{Fine, Sends, receive-fine, receive-at-fine, insert-sends, delete-sends, restore-sends}
 use Rattle.c_calls.proofs.Listing.{receive-taken, receive-at-taken, type-taken, erase-taken, restore-taken, paste-passed, paste-taken}
 use Rattle.c_calls.proofs.Listing.{build-passed, build-taken}
 use Rattle.c_calls.proofs.Blocks.{lines-short}
+use Rattle.c_calls.proofs.Answers.{answer-short}
 
 -- the first output is the bytes of a state in form, all of them
 pub record Saved (p : Product) : Type 0 where
@@ -301,6 +305,28 @@ module _ (bytes : List ℕ) where
         saved = λ h. absurd (false≢true h);
       }
 
+  pub list-formed : NoneHolds (earlierChecks «wimtaze_list» bytes) → wellFormed said ≡ true
+  unfolding handedChecks inputChecks
+  list-formed w = not-false (wellFormed said) (w .1 .1 .0)
+
+  list-sound : NoneHolds (earlierChecks «wimtaze_list» bytes) → Sound «wimtaze_list» (productOf «wimtaze_list» bytes)
+  unfolding productOf
+  list-sound w =
+      let long = list-fits said (list-formed w) .1 in
+      plain-sound «wimtaze_list» _ long long (λ h. absurd (false≢true h))
+
+  pub answer-formed : (list : List ℕ) → NoneHolds (earlierChecks («wimtaze_answer» list) bytes) →
+      wellFormed said ≡ true
+  unfolding handedChecks
+  answer-formed list w = not-false (wellFormed said) (w .1 .1 .1 .0)
+
+  answer-sound : (list : List ℕ) → NoneHolds (earlierChecks («wimtaze_answer» list) bytes) →
+      Sound («wimtaze_answer» list) (productOf («wimtaze_answer» list) bytes)
+  unfolding productOf
+  answer-sound list w =
+      let long = answer-short said (answer-formed list w) (listSaid list) in
+      plain-sound («wimtaze_answer» list) _ long long (λ h. absurd (false≢true h))
+
   upgrade-sound : NoneHolds (earlierChecks «wimtaze_upgrade» bytes) → Sound «wimtaze_upgrade» (productOf «wimtaze_upgrade» bytes)
   unfolding productOf handedChecks conversionRefusals conversion
   upgrade-sound w =
@@ -329,5 +355,7 @@ product-sound («wimtaze_paste» g []) bytes w = nothing-sound bytes g w
 product-sound («wimtaze_paste» g (b ∷ block)) bytes w = paste-sound bytes g b block w
 product-sound «wimtaze_text» bytes w = text-sound bytes w
 product-sound «wimtaze_counts» bytes w = counts-sound bytes w
+product-sound «wimtaze_list» bytes w = list-sound bytes w
+product-sound («wimtaze_answer» list) bytes w = answer-sound bytes list w
 product-sound «wimtaze_upgrade» bytes w = upgrade-sound bytes w
 product-sound «wimtaze_downgrade» bytes w = downgrade-sound bytes w

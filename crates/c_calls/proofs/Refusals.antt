@@ -32,7 +32,7 @@ use Rattle.c_calls.specs.Inputs.{firstOf}
 -- ---- over the tests alone
 
 -- what reading a saved replica answers, and the three refusals over all that was handed
-abbrev answering : Bool → Bool → State → Loaded
+abbrev pub answering : Bool → Bool → State → Loaded
 answering a b s =
     decided unread (first ((not a ⇒ Refused Layout) ∷ (not b ⇒ Refused Range) ∷ [])) (record { answer = Done; replica = raisedInArrays s })
 

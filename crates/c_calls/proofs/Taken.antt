@@ -30,7 +30,7 @@ use Rattle.effects.specs.Effects.{Effect, quiet}
 use Rattle.saved.specs.Format.{savedInRange}
 use Rattle.saved.specs.Calls.{loadedState}
 use Rattle.c_calls.specs.Calls.{CCall, «wimtaze_empty», «wimtaze_receive», «wimtaze_receive_at», «wimtaze_type», «wimtaze_erase», «wimtaze_restore», «wimtaze_paste», «wimtaze_text», «wimtaze_counts», «wimtaze_upgrade», «wimtaze_downgrade», inputChecks, answering, handedChecks, ruleChecks, callChecks, effectOf}
-use Rattle.c_calls.specs.Calls.{«wimtaze_build», «wimtaze_load»}
+use Rattle.c_calls.specs.Calls.{«wimtaze_build», «wimtaze_load», «wimtaze_list», «wimtaze_answer»}
 use Rattle.c_calls.specs.Theorems.{meets, RefusalsMet, CallsNeverTaken}
 use Rattle.c_calls.proofs.Listing.{Went, away, lacking, through, went, earlier-reported, output-reported, product-made, calls-meet, calls-refuse}
 
@@ -97,5 +97,7 @@ calls-never-taken c bytes out line h = go c (calls-refuse c bytes out line Taken
     go («wimtaze_paste» g block) r = unmet Taken («wimtaze_paste» g block) bytes out line refl r
     go «wimtaze_text» r = unmet Taken «wimtaze_text» bytes out line refl r
     go «wimtaze_counts» r = unmet Taken «wimtaze_counts» bytes out line refl r
+    go «wimtaze_list» r = unmet Taken «wimtaze_list» bytes out line refl r
+    go («wimtaze_answer» l) r = unmet Taken («wimtaze_answer» l) bytes out line refl r
     go «wimtaze_upgrade» r = unmet Taken «wimtaze_upgrade» bytes out line refl r
     go «wimtaze_downgrade» r = unmet Taken «wimtaze_downgrade» bytes out line refl r

@@ -12,7 +12,7 @@ use Rattle.woot.specs.declared.Identifier.{Identifier}
 use Rattle.woot.specs.declared.Operation.{Operation}
 use Rattle.woot.specs.declared.Operation.the-variants.{Insert as insert, Toggle as toggle}
 use Rattle.answers.specs.declared.Refusal.{Refusal}
-use Rattle.answers.specs.declared.Refusal.the-variants.{Layout, Range, NotUtf8, Form, Output}
+use Rattle.answers.specs.declared.Refusal.the-variants.{Layout, Range, NotUtf8, Mislisted, Form, Output}
 use Rattle.answers.specs.declared.Answer.{Answer}
 use Rattle.answers.specs.declared.Answer.the-variants.{Done, Refused}
 use Rattle.woot.specs.declared.Sent.{Sent}
@@ -27,12 +27,14 @@ use Rattle.woot.specs.Cursor.{receiveAtChecks, receiveAt, shiftAt}
 use Rattle.woot.specs.Pasting.{PasteOutcome, pasteChecks, paste}
 use Rattle.woot.specs.Building.{BuildOutcome, buildChecks, build}
 use Rattle.woot.specs.Loading.{useChecks}
+use Rattle.woot.specs.Catching.{listing, answerFor, listingInRange, mislisted}
 use Rattle.woot.specs.Text.{text}
 use Rattle.lines.specs.Lines.{rest, concatenated}
 use Rattle.cursor.specs.Bits.{shiftBits}
 use Rattle.codec.specs.Operations.{operationLine}
 use Rattle.codec.specs.Calls.{laidOut, saidBy}
 use Rattle.heap.specs.Format.{heapLaidOut, heapSaid}
+use Rattle.listing.specs.Format.{listBytes, listLaidOut, listSaid}
 use Rattle.saved.specs.declared.Version.the-variants.{First, Second}
 use Rattle.saved.specs.Format.{savedLaidOut, savedInRange, savedBytes}
 use Rattle.saved.specs.Calls.{loadedState}
@@ -63,6 +65,10 @@ pub data CCall : Type 0 where
   «wimtaze_paste» : ℕ → List ℕ → CCall
   «wimtaze_text» : CCall
   «wimtaze_counts» : CCall
+  -- the saved replica alone, whose characters are listed
+  «wimtaze_list» : CCall
+  -- a list, which is answered
+  «wimtaze_answer» : List ℕ → CCall
   -- what is saved in the first form
   «wimtaze_upgrade» : CCall
   «wimtaze_downgrade» : CCall
@@ -104,6 +110,10 @@ handedChecks («wimtaze_paste» gap block) bytes =
     inputChecksWith bytes true true ((missing (decoded block) ⇒ NotUtf8) ∷ [])
 handedChecks «wimtaze_text» bytes = inputChecks bytes true true
 handedChecks «wimtaze_counts» bytes = inputChecks bytes true true
+handedChecks «wimtaze_list» bytes = inputChecks bytes true true
+handedChecks («wimtaze_answer» list) bytes =
+    inputChecksWith bytes (listLaidOut list) (listingInRange (listSaid list))
+    ((mislisted (listSaid list) ⇒ Mislisted) ∷ [])
 handedChecks «wimtaze_upgrade» bytes = conversionRefusals First Second bytes
 handedChecks «wimtaze_downgrade» bytes = conversionRefusals Second First bytes
 
@@ -113,8 +123,8 @@ handedChecks «wimtaze_downgrade» bytes = conversionRefusals Second First bytes
 abbrev pub answering : List (Check Sent) → List (Check Answer)
 answering cs = map (λ c. c .holds ⇒ answerOf (c .answer)) cs
 
--- what the rule turns away, or knows, on the state that loading makes of the saved bytes: all its conditions but 2, 20
--- and 3, which begin its list and were looked at over all that was handed
+-- what the rule turns away, or knows, on the state that loading makes of the saved bytes: all its conditions but 2, 18,
+-- 20 and 3, which begin its list and were looked at over all that was handed
 unfoldable pub ruleChecks : CCall → State → List (Check Answer)
 ruleChecks («wimtaze_empty» n) s = []
 ruleChecks («wimtaze_build» n heap) s = drop 1 (buildChecks n (heapSaid heap))
@@ -127,6 +137,8 @@ ruleChecks («wimtaze_restore» site clock) s = answering (drop 2 (restoreChecks
 ruleChecks («wimtaze_paste» gap block) s = drop 2 (pasteChecks true s gap block)
 ruleChecks «wimtaze_text» s = []
 ruleChecks «wimtaze_counts» s = []
+ruleChecks «wimtaze_list» s = []
+ruleChecks («wimtaze_answer» list) s = []
 ruleChecks «wimtaze_upgrade» s = []
 ruleChecks «wimtaze_downgrade» s = []
 
@@ -194,6 +206,9 @@ productOf («wimtaze_restore» site clock) bytes =
 productOf («wimtaze_paste» gap block) bytes = replicaAndLines (paste (loadedState bytes) gap block) block
 productOf «wimtaze_text» bytes = bytesAlone (text (loadedState bytes .characters))
 productOf «wimtaze_counts» bytes = record { result = countsOf (loadedState bytes); output = []; line = [] }
+productOf «wimtaze_list» bytes = bytesAlone (listBytes (listing (loadedState bytes)))
+productOf («wimtaze_answer» list) bytes =
+    bytesAlone (concatenated operationLine (answerFor (loadedState bytes) (listSaid list)))
 productOf «wimtaze_upgrade» bytes = bytesAlone (conversion First Second bytes)
 productOf «wimtaze_downgrade» bytes = bytesAlone (conversion Second First bytes)
 

@@ -13,10 +13,14 @@ use Rattle.woot.specs.Calls.{receive, localInsert, localDelete, localRestore}
 use Rattle.woot.specs.Cursor.{receiveAt, shiftAt}
 use Rattle.woot.specs.Pasting.{paste}
 use Rattle.woot.specs.Loading.{loadable}
+use Rattle.woot.specs.Catching.{listing, answerFor}
 use Rattle.woot.specs.Text.{text}
 use Rattle.admission.specs.Calls.{admittedBy}
+use Rattle.lines.specs.Lines.{concatenated}
+use Rattle.codec.specs.Operations.{operationLine}
 use Rattle.codec.specs.Calls.{saidBy}
 use Rattle.building.specs.Calls.{builtOutcome}
+use Rattle.listing.specs.Format.{listBytes, listSaid}
 use Rattle.saved.specs.declared.Version.{Version}
 use Rattle.saved.specs.declared.Version.the-variants.{First, Second}
 use Rattle.saved.specs.Format.{savedLaidOut, savedInRange, savedBytes}
@@ -26,7 +30,7 @@ use Rattle.effects.specs.Results.{Result, silent}
 use Rattle.effects.specs.Effects.{Effect, quiet, turned, writing, afterReceiving, afterReceivingAt}
 use Rattle.effects.specs.Effects.{afterSending, afterPasting}
 use Rattle.effects.specs.Counts.{countsOf}
-use Rattle.c_calls.specs.Calls.{inputChecks, oneLine, named}
+use Rattle.c_calls.specs.Calls.{«wimtaze_answer», inputChecks, oneLine, named, handedChecks}
 
 -- `wimtaze_empty`
 unfoldable pub beginning : ℕ → List ℕ → Effect
@@ -101,6 +105,18 @@ unfoldable pub showingText : List ℕ → List ℕ → Effect
 showingText bytes out =
     decided (turned out []) (first (inputChecks bytes true true))
     (writing (Done 0 0) (text (loadedState bytes .characters)) out)
+
+-- `wimtaze_list`: document 02, Req 09
+unfoldable pub listingHere : List ℕ → List ℕ → Effect
+listingHere bytes out =
+    decided (turned out []) (first (inputChecks bytes true true))
+    (writing (Done 0 0) (listBytes (listing (loadedState bytes))) out)
+
+-- `wimtaze_answer`: document 02, Req 09
+unfoldable pub answeringHere : List ℕ → List ℕ → List ℕ → Effect
+answeringHere bytes list out =
+    decided (turned out []) (first (handedChecks («wimtaze_answer» list) bytes))
+    (writing (Done 0 0) (concatenated operationLine (answerFor (loadedState bytes) (listSaid list))) out)
 
 -- between the two forms
 unfoldable pub converting : Version → Version → List ℕ → List ℕ → Effect

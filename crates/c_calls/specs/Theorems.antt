@@ -24,6 +24,7 @@ use Rattle.woot.specs.Cursor.{cursorAfter, shiftAt, lastNumber, movedBy}
 use Rattle.woot.specs.Pasting.{gapBelow}
 use Rattle.woot.specs.Building.{leftOut, build}
 use Rattle.woot.specs.Loading.{loadable}
+use Rattle.woot.specs.Catching.{listing, answerFor, listingInRange, mislisted}
 use Rattle.convergence.specs.Loading.{Made}
 use Rattle.woot.specs.Text.{text}
 use Rattle.woot.specs.Memory.{pendingSlots}
@@ -33,9 +34,12 @@ use Rattle.lists.specs.Lists.{any}
 use Rattle.utf8.specs.Theorems.{Encodes}
 use Rattle.lines.specs.Lines.{rest, concatenated}
 use Rattle.cursor.specs.Bits.{shiftRead}
+use Rattle.codec.specs.Operations.{operationLine}
 use Rattle.codec.specs.Calls.{saidBy}
 use Rattle.codec.specs.Theorems.{insertMost, toggleMost}
-use Rattle.heap.specs.Format.{heapSaid}
+use Rattle.heap.specs.Format.{heapLaidOut, heapSaid}
+use Rattle.listing.specs.Format.{listBytes, listLaidOut, listSaid}
+use Rattle.listing.specs.Theorems.{listMost}
 use Rattle.building.specs.Calls.{builtBy}
 use Rattle.saved.specs.declared.LoadAnswer.the-variants.{Done as loadDone}
 use Rattle.saved.specs.declared.Version.{Version}
@@ -49,7 +53,8 @@ use Rattle.effects.specs.Effects.{Effect}
 use Rattle.c_calls.specs.Calls.{CCall, «wimtaze_empty», «wimtaze_receive», «wimtaze_receive_at», «wimtaze_type»}
 use Rattle.c_calls.specs.Calls.{«wimtaze_erase», «wimtaze_restore», «wimtaze_text», «wimtaze_counts»}
 use Rattle.c_calls.specs.Calls.{«wimtaze_upgrade», «wimtaze_downgrade», callChecks, effectOf}
-use Rattle.c_calls.specs.Calls.{«wimtaze_paste», «wimtaze_build», «wimtaze_load»}
+use Rattle.c_calls.specs.Calls.{«wimtaze_paste», «wimtaze_build», «wimtaze_load», «wimtaze_list»}
+use Rattle.c_calls.specs.Calls.{«wimtaze_answer»}
 use Rattle.effects.specs.Effects.{quiet}
 
 -- ---- refusals: any call, any bytes, numbers and slices
@@ -68,6 +73,8 @@ meets («wimtaze_restore» site clock) = 1 ∷ 2 ∷ 3 ∷ 13 ∷ 14 ∷ 12 ∷ 
 meets («wimtaze_paste» gap block) = 1 ∷ 2 ∷ 20 ∷ 3 ∷ 4 ∷ 5 ∷ 11 ∷ 9 ∷ 12 ∷ []
 meets «wimtaze_text» = 1 ∷ 2 ∷ 3 ∷ 12 ∷ []
 meets «wimtaze_counts» = 1 ∷ 2 ∷ 3 ∷ 12 ∷ []
+meets «wimtaze_list» = 1 ∷ 2 ∷ 3 ∷ 12 ∷ []
+meets («wimtaze_answer» list) = 1 ∷ 2 ∷ 18 ∷ 3 ∷ 12 ∷ []
 meets «wimtaze_upgrade» = 1 ∷ 2 ∷ 3 ∷ 15 ∷ 12 ∷ []
 meets «wimtaze_downgrade» = 1 ∷ 2 ∷ 3 ∷ 15 ∷ 12 ∷ []
 
@@ -94,6 +101,8 @@ rankedAs («wimtaze_restore» site clock) a = a
 rankedAs («wimtaze_paste» gap block) a = exchanged a
 rankedAs «wimtaze_text» a = a
 rankedAs «wimtaze_counts» a = a
+rankedAs «wimtaze_list» a = a
+rankedAs («wimtaze_answer» list) a = a
 rankedAs «wimtaze_upgrade» a = a
 rankedAs «wimtaze_downgrade» a = a
 
@@ -159,6 +168,10 @@ linesMost = 37888
 abbrev pub heapLines : ℕ
 heapLines = 2048
 
+-- the lines of an answer: 1,024 inserts of 37 bytes each, and 1,024 `E` lines of 18
+abbrev pub answerMost : ℕ
+answerMost = 56320
+
 -- what a call that writes these many bytes at most, and nothing else, returns at most
 abbrev pub boundsOfBytes : ℕ → Bounds
 boundsOfBytes most = record { integrated = 0; discarded = 0; written = most; line = 0 }
@@ -184,6 +197,8 @@ boundsOf («wimtaze_paste» gap block) =
 boundsOf «wimtaze_text» = boundsOfBytes textMost
 boundsOf «wimtaze_counts» =
     record { integrated = capacity; discarded = pendingSlots; written = capacity; line = capacity }
+boundsOf «wimtaze_list» = boundsOfBytes listMost
+boundsOf («wimtaze_answer» list) = boundsOfBytes answerMost
 boundsOf «wimtaze_upgrade» = boundsOfBytes savedMost
 boundsOf «wimtaze_downgrade» = boundsOfBytes firstMost
 
@@ -232,7 +247,7 @@ abbrev pub CountsFit : Type 0
 CountsFit = (bytes : List ℕ) → CountsWithin (effectOf «wimtaze_counts» bytes [] [] .result)
 
 -- ---- sizes: the header's WIMTAZE_SHEET_MAX, WIMTAZE_OLD_SHEET_MAX, WIMTAZE_INSERT_MAX, WIMTAZE_LINES_MAX,
--- WIMTAZE_ERASE_MAX and WIMTAZE_TEXT_MAX
+-- WIMTAZE_ERASE_MAX, WIMTAZE_TEXT_MAX, WIMTAZE_LIST_MAX and WIMTAZE_ANSWER_MAX
 
 -- the visible text of a state in form is no longer than a text
 abbrev pub TextLength : Type 0
@@ -255,6 +270,8 @@ roomOf («wimtaze_restore» site clock) = record { output = savedMost; line = to
 roomOf («wimtaze_paste» gap block) = record { output = savedMost; line = linesMost }
 roomOf «wimtaze_text» = record { output = textMost; line = 0 }
 roomOf «wimtaze_counts» = record { output = 0; line = 0 }
+roomOf «wimtaze_list» = record { output = listMost; line = 0 }
+roomOf («wimtaze_answer» list) = record { output = answerMost; line = 0 }
 roomOf «wimtaze_upgrade» = record { output = savedMost; line = 0 }
 roomOf «wimtaze_downgrade» = record { output = firstMost; line = 0 }
 
@@ -289,6 +306,8 @@ saves («wimtaze_paste» gap []) = false
 saves («wimtaze_paste» gap (b ∷ block)) = true
 saves «wimtaze_text» = false
 saves «wimtaze_counts» = false
+saves «wimtaze_list» = false
+saves («wimtaze_answer» list) = false
 saves «wimtaze_upgrade» = true
 saves «wimtaze_downgrade» = false
 
@@ -360,6 +379,8 @@ sends («wimtaze_restore» site clock) = true
 sends («wimtaze_paste» gap block) = false
 sends «wimtaze_text» = false
 sends «wimtaze_counts» = false
+sends «wimtaze_list» = false
+sends («wimtaze_answer» list) = false
 sends «wimtaze_upgrade» = false
 sends «wimtaze_downgrade» = false
 
@@ -538,3 +559,61 @@ abbrev pub LoadSame : Type 0
 LoadSame =
     (bytes out : List ℕ) → loadedInC bytes out .result .reply .word ≡ done →
     LoadWritten bytes (loadedInC bytes out)
+
+-- ---- document 02, Req 09
+
+-- what `wimtaze_list` and `wimtaze_answer` return and leave
+abbrev pub listedInC : List ℕ → List ℕ → Effect
+listedInC bytes out = effectOf «wimtaze_list» bytes out []
+
+abbrev pub answeredInC : List ℕ → List ℕ → List ℕ → Effect
+answeredInC bytes list out = effectOf («wimtaze_answer» list) bytes out []
+
+-- the effect of a listing that is done: what was written is a list, and says what the rule lists
+pub record ListGiven (bytes : List ℕ) (e : Effect) : Type 0 where
+  pub list-written : bytesWritten e ≡ listBytes (listing (loadedState bytes))
+  pub list-laid-out : listLaidOut (bytesWritten e) ≡ true
+  pub list-says : listSaid (bytesWritten e) ≡ listing (loadedState bytes)
+
+abbrev pub ListWrites : Type 0
+ListWrites =
+    (bytes out : List ℕ) → listedInC bytes out .result .reply .word ≡ done → ListGiven bytes (listedInC bytes out)
+
+-- into an output of the header's size every saved replica in form is listed, and no other
+abbrev pub ListDone : Type 0
+ListDone =
+    (bytes out : List ℕ) → listMost ≤ length out →
+    (listedInC bytes out .result .reply .word ≡ done) ↔ InForm bytes
+
+-- the effect of an answer that is given: what was written is a heap, whose lines say the operations of the rule in
+-- their sequence
+pub record AnswerGiven (bytes list : List ℕ) (e : Effect) : Type 0 where
+  pub lines-written : bytesWritten e ≡ concatenated operationLine (answerFor (loadedState bytes) (listSaid list))
+  pub lines-laid-out : heapLaidOut (bytesWritten e) ≡ true
+  pub lines-say : heapSaid (bytesWritten e) ≡ answerFor (loadedState bytes) (listSaid list)
+
+abbrev pub AnswerWrites : Type 0
+AnswerWrites =
+    (bytes list out : List ℕ) → answeredInC bytes list out .result .reply .word ≡ done →
+    AnswerGiven bytes list (answeredInC bytes list out)
+
+-- the list of any state in form is answered by every saved replica in form, into an output of the header's size
+abbrev pub ListAnswered : Type 0
+ListAnswered =
+    (s : State) (bytes out : List ℕ) → wellFormed s ≡ true → InForm bytes → answerMost ≤ length out →
+    answeredInC bytes (listBytes (listing s)) out .result .reply .word ≡ done
+
+-- a list and a saved replica, both with their layout and in range
+pub record BothInRange (bytes list : List ℕ) : Type 0 where
+  pub laid-out : savedLaidOut bytes ≡ true
+  pub list-laid-out : listLaidOut list ≡ true
+  pub in-range : savedInRange bytes ≡ true
+  pub list-in-range : listingInRange (listSaid list) ≡ true
+
+-- "is refused with 18, after 2": where neither 1 nor 2 holds of either and the list is wrong, in form or not and
+-- however short the output is
+abbrev pub MislistedExactly : Type 0
+MislistedExactly =
+    (bytes list out : List ℕ) →
+    (answeredInC bytes list out .result .reply .refusal ≡ 18)
+    ↔ (BothInRange bytes list × (mislisted (listSaid list) ≡ true))

@@ -30,7 +30,7 @@ use Rattle.saved.proofs.Trips.{saved-loads, saved-reads-back}
 use Rattle.effects.specs.Results.{result, silent}
 use Rattle.effects.specs.Effects.{Effect, quiet}
 use Rattle.c_calls.specs.Calls.{CCall, «wimtaze_empty», «wimtaze_receive», «wimtaze_receive_at», «wimtaze_type», «wimtaze_erase», «wimtaze_restore», «wimtaze_paste», «wimtaze_text», «wimtaze_counts», «wimtaze_upgrade», «wimtaze_downgrade», inputChecks, named, ruleChecks, handedChecks, earlierChecks, callChecks, productOf, effectOf}
-use Rattle.c_calls.specs.Calls.{«wimtaze_build», «wimtaze_load»}
+use Rattle.c_calls.specs.Calls.{«wimtaze_build», «wimtaze_load», «wimtaze_list», «wimtaze_answer»}
 use Rattle.c_calls.proofs.Fitting.{front}
 use Rattle.c_calls.proofs.Listing.{Earlier, Made, Went, away, lacking, through, went, product-made, paste-taken}
 use Rattle.consistency.specs.Copies.{BytesCall, load, forC, bytesCall, asBytes, bytesAfter, wordOf, keptBytes, afterLoading, whenMade, rulesOf, renews, onBytes, stepOn}
@@ -71,6 +71,8 @@ ruled s h («wimtaze_paste» g (b ∷ block)) w k =
     }
 ruled s h «wimtaze_text» w k = absurd (false≢true k)
 ruled s h «wimtaze_counts» w k = absurd (false≢true k)
+ruled s h «wimtaze_list» w k = absurd (false≢true k)
+ruled s h («wimtaze_answer» l) w k = absurd (false≢true k)
 ruled s h «wimtaze_upgrade» w k = absurd (false≢true k)
 ruled s h «wimtaze_downgrade» w k = absurd (false≢true k)
 
@@ -108,6 +110,8 @@ no-rules s («wimtaze_paste» g []) k = refl
 no-rules s («wimtaze_paste» g (b ∷ block)) k = absurd (false≢true (sym k))
 no-rules s «wimtaze_text» k = refl
 no-rules s «wimtaze_counts» k = refl
+no-rules s «wimtaze_list» k = refl
+no-rules s («wimtaze_answer» l) k = refl
 no-rules s «wimtaze_upgrade» k = refl
 no-rules s «wimtaze_downgrade» k = refl
 
@@ -176,6 +180,8 @@ no-bytes-refused («wimtaze_paste» g []) k out line = absurd (false≢true k)
 no-bytes-refused («wimtaze_paste» g (b ∷ block)) k out line = rw no-bytes
 no-bytes-refused «wimtaze_text» k out line = absurd (false≢true k)
 no-bytes-refused «wimtaze_counts» k out line = absurd (false≢true k)
+no-bytes-refused «wimtaze_list» k out line = absurd (false≢true k)
+no-bytes-refused («wimtaze_answer» l) k out line = absurd (false≢true k)
 no-bytes-refused «wimtaze_upgrade» k out line = absurd (false≢true k)
 no-bytes-refused «wimtaze_downgrade» k out line = absurd (false≢true k)
 

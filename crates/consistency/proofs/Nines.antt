@@ -43,7 +43,8 @@ use Rattle.saved.proofs.Refusals.{save-numbers}
 use Rattle.saved.proofs.Trips.{saved-loads, saved-reads-back}
 use Rattle.c_calls.specs.Calls.{CCall, «wimtaze_empty», «wimtaze_build», «wimtaze_load», «wimtaze_receive»}
 use Rattle.c_calls.specs.Calls.{«wimtaze_receive_at», «wimtaze_type», «wimtaze_erase», «wimtaze_restore»}
-use Rattle.c_calls.specs.Calls.{«wimtaze_paste», «wimtaze_text», «wimtaze_counts», «wimtaze_upgrade»}
+use Rattle.c_calls.specs.Calls.{«wimtaze_paste», «wimtaze_text», «wimtaze_counts», «wimtaze_list», «wimtaze_answer»}
+use Rattle.c_calls.specs.Calls.{«wimtaze_upgrade»}
 use Rattle.c_calls.specs.Calls.{«wimtaze_downgrade», inputChecks, oneLine, handedChecks, ruleChecks, callChecks}
 use Rattle.c_calls.proofs.Fitting.{returned-reads-back}
 use Rattle.c_calls.proofs.Listing.{calls-refuse}
@@ -215,6 +216,8 @@ module _ (b : List ℕ) (free : Bare b) (out line : List ℕ) where
   c-nine («wimtaze_paste» g block) = paste-nine g block
   c-nine «wimtaze_text» = unmet Unplaceable «wimtaze_text» b out line refl
   c-nine «wimtaze_counts» = unmet Unplaceable «wimtaze_counts» b out line refl
+  c-nine «wimtaze_list» = unmet Unplaceable «wimtaze_list» b out line refl
+  c-nine («wimtaze_answer» l) = unmet Unplaceable («wimtaze_answer» l) b out line refl
   c-nine «wimtaze_upgrade» = unmet Unplaceable «wimtaze_upgrade» b out line refl
   c-nine «wimtaze_downgrade» = unmet Unplaceable «wimtaze_downgrade» b out line refl
 

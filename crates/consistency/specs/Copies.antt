@@ -40,7 +40,7 @@ use Rattle.effects.specs.Effects.{Effect}
 use Rattle.c_calls.specs.Calls.{CCall, «wimtaze_empty», «wimtaze_receive», «wimtaze_receive_at», «wimtaze_type»}
 use Rattle.c_calls.specs.Calls.{«wimtaze_erase», «wimtaze_restore», «wimtaze_text», «wimtaze_counts», «wimtaze_upgrade»}
 use Rattle.c_calls.specs.Calls.{«wimtaze_downgrade», named, effectOf}
-use Rattle.c_calls.specs.Calls.{«wimtaze_paste», «wimtaze_build», «wimtaze_load»}
+use Rattle.c_calls.specs.Calls.{«wimtaze_paste», «wimtaze_build», «wimtaze_load», «wimtaze_list», «wimtaze_answer»}
 
 -- a replica in memory, or the bytes of a saved one
 pub data Copy : Type 0 where
@@ -156,6 +156,8 @@ rulesOf s («wimtaze_restore» site clock) = restoring (named site clock) ∷ []
 rulesOf s («wimtaze_paste» gap block) = typings s gap (codePointsOf block)
 rulesOf s «wimtaze_text» = []
 rulesOf s «wimtaze_counts» = []
+rulesOf s «wimtaze_list» = []
+rulesOf s («wimtaze_answer» list) = []
 rulesOf s «wimtaze_upgrade» = []
 rulesOf s «wimtaze_downgrade» = []
 
@@ -173,6 +175,8 @@ renews («wimtaze_paste» gap []) = false
 renews («wimtaze_paste» gap (b ∷ block)) = true
 renews «wimtaze_text» = false
 renews «wimtaze_counts» = false
+renews «wimtaze_list» = false
+renews («wimtaze_answer» list) = false
 renews «wimtaze_upgrade» = false
 renews «wimtaze_downgrade» = false
 
