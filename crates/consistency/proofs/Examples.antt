@@ -1,5 +1,6 @@
 -- The lists of calls are computed: every definition on their way is opened.
 use mathlib.Core.Path.{refl}
+use lib.Count.{ones}
 use Rattle.codec.specs.Calls.{asWritten, lineLaidOut, laidOut, saidBy}
 use Rattle.codec.specs.Operations.{insertNumbers, toggleNumbers, identifierAt, insertOf, toggleOf, deleteOf, isInsert, isToggle, isDelete, operationOf, operationLine}
 use Rattle.consistency.specs.Copies.{bytesAfter, wordRead, writtenRead, wordOf, keptBytes, whenMade, rulesOf, renews, onBytes, stepOn, begun}
@@ -36,7 +37,12 @@ use Rattle.heap.specs.Format.{heapLaidOut, lineSaid, heapSaid}
 use Rattle.consistency.specs.Copies.{beginningOf, carriedBefore}
 use Rattle.woot.specs.Loading.{among, free, bound, peeled, acyclic, orderedPair, orderedPairs, loadable, turnings}
 use Rattle.woot.specs.Loading.{useChecks}
-use Rattle.consistency.specs.Examples.{CallsExample, BuiltExample, LoadedExample}
+use Rattle.woot.specs.Catching.{bitOf, speaksOf, marks, listedIn, onesIn, precedes, inSequence, chunkOf, alsoMarking}
+use Rattle.woot.specs.Catching.{withMarked, chunksOf, listing, lowest, lowestOf, nextSent, without, sequenced, unlisted}
+use Rattle.woot.specs.Catching.{sent, operationsFor, answerFor, chunkInRange, listingInRange, marksZero, mislisted}
+use Rattle.listing.specs.Format.{listNumbers, chunkNumbers, chunkLine, listBytes, isChunk, areListLines, listLaidOut}
+use Rattle.listing.specs.Format.{chunkSaid, saidByLines, listSaid}
+use Rattle.consistency.specs.Examples.{CallsExample, BuiltExample, LoadedExample, CaughtExample}
 
 pub calls-example : CallsExample
 unfolding asWritten lineLaidOut laidOut saidBy insertNumbers toggleNumbers identifierAt insertOf toggleOf deleteOf isInsert isToggle isDelete
@@ -120,4 +126,36 @@ loaded-example =
       none-loaded = refl;
       begins-empty = refl;
       none-carried = refl;
+    }
+
+pub caught-example : CaughtExample
+unfolding asWritten lineLaidOut laidOut saidBy insertNumbers toggleNumbers identifierAt insertOf toggleOf deleteOf
+    isInsert isToggle isDelete operationOf operationLine bytesAfter wordRead writtenRead wordOf keptBytes renews
+    onBytes stepOn isDigit leadingZero isNumeral valueOf digitsIn digits quiet holding verdictOn numbersOf goesOn
+    numbersAfter numerals hasLayout valuesOf lineOf ended firstLine rest closed hasRoom placed result silent inBits
+    numberOf loadedAs siteNumbers siteOf isSite siteSaid siteLine toggleField characterNumbers characterOf isCharacter
+    characterSaid characterLine isOperation operationSaid savedLine headLine characterLines operationLines laidOutAs
+    stateAs characterWithin operationWithin inRangeAs bytesAs inputChecks oneLine handedChecks ruleChecks productOf
+    callChecks effectOf reply changes unchanged withCharacters withPending afterDrain insertCarried duplicate
+    conflicting senderFull documentFull receiveChecks carryOut defer accept receiveWhen receive ownInsert heard
+    presentInserts allInRange sharesKept capacityKept identifiersDistinct togglesDistinct ordered neighboursOrdered
+    noneExecutable clockReaches clockKept wellFormed raised same below sender character origin isVisible withToggles
+    toggledBy sameInsert sameToggle sameOperation executable crossed unplaceable integrate pendingFrom earliest
+    andIntegrated andDiscarded drained drainSteps drain sequence indexOf placeOf held above adjacent candidate
+    candidates narrowed search position between insertAt integrateInsert integrateToggle within siteNumber codePoint
+    characterId previousId nextId siteInRange insertInRange toggleInRange inRange characterInRange initial
+    blankCharacter blankOperation decided among free turnings bitOf speaksOf marks listedIn onesIn precedes inSequence
+    chunkOf alsoMarking withMarked chunksOf listing lowest lowestOf nextSent without sequenced unlisted sent
+    operationsFor answerFor chunkInRange listingInRange marksZero mislisted listNumbers chunkNumbers chunkLine
+    listBytes isChunk areListLines listLaidOut chunkSaid saidByLines listSaid ones
+caught-example =
+    record {
+      listed = refl;
+      answered = refl;
+      lines-cut = refl;
+      words = refl;
+      caught = refl;
+      eighteen = refl;
+      two = refl;
+      three = refl;
     }

@@ -7,3 +7,5 @@ pub mod Bytes
 pub mod Claims
 pub mod Receiving
 pub mod Nines
+pub mod Lists
+pub mod Catching

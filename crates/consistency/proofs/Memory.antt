@@ -106,7 +106,7 @@ module _ (r : Replica) (s : State) (m : Means r s) where
       (ap (λ x. x .replica) e, ap (λ x. x .answer) e)
 
   -- what comes back means what the rule leaves
-  called-means : (c : RuleCall) → Means (called r c) (outcome s c .state)
+  pub called-means : (c : RuleCall) → Means (called r c) (outcome s c .state)
   unfolding afterAnswer changes unchanged
   called-means c = rw (called-meant c .0) (go (outcome s c .answer) refl)
     where

@@ -61,12 +61,12 @@ unchanged-kept s (adds i a) h = absurd (false≢true (sym h))
 unchanged-kept s (raises d a) h = absurd (false≢true (sym h))
 unchanged-kept s (defers o a) h = absurd (false≢true (sym h))
 
-form-after : (s : State) → wellFormed s ≡ true → (o : Operation) → wellFormed (receive s o .state) ≡ true
+pub form-after : (s : State) → wellFormed s ≡ true → (o : Operation) → wellFormed (receive s o .state) ≡ true
 unfolding outcome
 form-after s h o = form-kept s (receiving o) h
 
 -- operations are what their lines say
-said-lines : (os : List Operation) → every inRange os ≡ true → map saidBy (map operationLine os) ≡ os
+pub said-lines : (os : List Operation) → every inRange os ≡ true → map saidBy (map operationLine os) ≡ os
 said-lines [] r = refl
 said-lines (o ∷ os) r =
     ap₂ _∷_ (line-back o (and-left (inRange o) (every inRange os) r) .1)
@@ -100,7 +100,7 @@ module _ (room : List ℕ) (long : savedMost ≤ length room) where
     unfolding outcome
     next-kept = unchanged-kept s (step s (receiving (saidBy l)))
 
-    line-effect : effectOf («wimtaze_receive» l) (savedBytes s) room [] ≡ afterReceiving (receive s (saidBy l)) room
+    pub line-effect : effectOf («wimtaze_receive» l) (savedBytes s) room [] ≡ afterReceiving (receive s (saidBy l)) room
     unfolding lineReceived inputChecks decided
     line-effect =
         receive-body (savedBytes s) room l

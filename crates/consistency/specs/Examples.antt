@@ -1,10 +1,11 @@
 -- Lists of calls for C, computed to the bytes that they leave: a step that does nothing, or does something else, is
--- told by them. One begins empty, one with what is built of a heap, and one with what is loaded for use. Proved in
--- proofs/ under their names in small letters.
+-- told by them. One begins empty, one with what is built of a heap, and one with what is loaded for use; in the last a
+-- copy lists, and is handed what another answers. Proved in proofs/ under their names in small letters.
 use Prim.Native.Nat.{ℕ, _/_, _%_}
 use mathlib.Core.Path.{_≡_}
 use mathlib.Core.Bool.{cond}
 use mathlib.Core.List.{List, [], _∷_, _++_, map}
+use mathlib.Core.Option.{some}
 use lib.ListN.{replicate}
 use Rattle.answers.specs.Answers.{Word, done, waits, known, refused}
 use Rattle.woot.specs.Histories.{inserting, deleting, restoring, receiving, receivingAt, empty}
@@ -18,6 +19,9 @@ use Rattle.consistency.specs.Copies.{wordOf}
 use Rattle.c_calls.specs.Calls.{«wimtaze_paste», «wimtaze_load»}
 use Rattle.consistency.specs.Copies.{refusalRead, renews, builtBytes, builtInto, beginningOf, carriedBefore}
 use Rattle.consistency.specs.Copies.{loadedBytes, loadedInto}
+use Rattle.consistency.specs.Copies.{Copy, stepOn}
+use Rattle.c_calls.specs.Theorems.{answeredInC}
+use Rattle.consistency.specs.Catching.{listFrom, answerFrom, linesOf, handing, wordHanding, handed}
 
 -- outputs that are long enough, with nothing in them
 abbrev pub room : List ℕ
@@ -210,3 +214,78 @@ pub record LoadedExample : Type 0 where
   pub none-loaded : begun (loadedBytes unreachableExample room) ≡ asBytes []
   pub begins-empty : beginningOf (loadedBytes unreachableExample room) ≡ empty 0
   pub none-carried : carriedBefore (loadedBytes unreachableExample room) ≡ []
+
+-- ---- document 02, Req 09
+
+-- `H 2 3`, `K 1 0 6`, `K 2 0 2`: laptop 2 lists 1/1, 1/2, which is hidden, and 2/1
+abbrev pub exampleList : List ℕ
+exampleList =
+    (72 ∷ 9 ∷ 50 ∷ 9 ∷ 51 ∷ 10 ∷ [])
+    ++ (75 ∷ 9 ∷ 49 ∷ 9 ∷ 48 ∷ 9 ∷ 54 ∷ 10 ∷ [])
+    ++ (75 ∷ 9 ∷ 50 ∷ 9 ∷ 48 ∷ 9 ∷ 50 ∷ 10 ∷ [])
+
+-- `I 1 3 233 1 1 2 1`: é, which laptop 2 lacks
+abbrev pub firstSent : List ℕ
+firstSent =
+    73 ∷ 9 ∷ 49 ∷ 9 ∷ 51 ∷ 9 ∷ 50 ∷ 51 ∷ 51 ∷ 9 ∷ 49 ∷ 9 ∷ 49 ∷ 9 ∷ 50 ∷ 9 ∷ 49 ∷ 10 ∷ []
+
+-- `I 1 4 33 1 3 2 1`: and !, which needs it
+abbrev pub secondSent : List ℕ
+secondSent =
+    73 ∷ 9 ∷ 49 ∷ 9 ∷ 52 ∷ 9 ∷ 51 ∷ 51 ∷ 9 ∷ 49 ∷ 9 ∷ 51 ∷ 9 ∷ 50 ∷ 9 ∷ 49 ∷ 10 ∷ []
+
+-- `E 1 1 1 2`: N was erased and brought back
+abbrev pub turnedTwice : List ℕ
+turnedTwice =
+    69 ∷ 9 ∷ 49 ∷ 9 ∷ 49 ∷ 9 ∷ 49 ∷ 9 ∷ 50 ∷ 10 ∷ []
+
+-- what laptop 1 answers, from the rows that are left once all the calls of the first example were made
+abbrev pub exampleAnswer : List ℕ
+exampleAnswer = firstSent ++ secondSent ++ turnedTwice ++ turnedLine
+
+-- S2 2 1, and the rows of laptop 1
+abbrev pub caughtBytes : List ℕ
+caughtBytes =
+    (83 ∷ 50 ∷ 9 ∷ 50 ∷ 9 ∷ 49 ∷ 10 ∷ [])
+    ++ (67 ∷ 9 ∷ 49 ∷ 9 ∷ 49 ∷ 9 ∷ 55 ∷ 56 ∷ 9 ∷ 50 ∷ 9 ∷ 48 ∷ 9 ∷ 48 ∷ 9 ∷ 48 ∷ 9 ∷ 49 ∷ 10 ∷ [])
+    ++ (67 ∷ 9 ∷ 49 ∷ 9 ∷ 50 ∷ 9 ∷ 49 ∷ 49 ∷ 49 ∷ 9 ∷ 49 ∷ 9 ∷ 49 ∷ 9 ∷ 49 ∷ 9 ∷ 48 ∷ 9 ∷ 49 ∷ 10 ∷ [])
+    ++ (67 ∷ 9 ∷ 49 ∷ 9 ∷ 51 ∷ 9 ∷ 50 ∷ 51 ∷ 51 ∷ 9 ∷ 48 ∷ 9 ∷ 49 ∷ 9 ∷ 49 ∷ 9 ∷ 50 ∷ 9 ∷ 49 ∷ 10 ∷ [])
+    ++ (67 ∷ 9 ∷ 49 ∷ 9 ∷ 52 ∷ 9 ∷ 51 ∷ 51 ∷ 9 ∷ 48 ∷ 9 ∷ 49 ∷ 9 ∷ 51 ∷ 9 ∷ 50 ∷ 9 ∷ 49 ∷ 10 ∷ [])
+    ++ (67 ∷ 9 ∷ 50 ∷ 9 ∷ 49 ∷ 9 ∷ 54 ∷ 54 ∷ 9 ∷ 48 ∷ 9 ∷ 49 ∷ 9 ∷ 49 ∷ 9 ∷ 48 ∷ 9 ∷ 49 ∷ 10 ∷ [])
+
+-- `H 2 4` over the same words: the total differs from the ones counted
+abbrev pub wrongList : List ℕ
+wrongList =
+    (72 ∷ 9 ∷ 50 ∷ 9 ∷ 52 ∷ 10 ∷ [])
+    ++ (75 ∷ 9 ∷ 49 ∷ 9 ∷ 48 ∷ 9 ∷ 54 ∷ 10 ∷ [])
+    ++ (75 ∷ 9 ∷ 50 ∷ 9 ∷ 48 ∷ 9 ∷ 50 ∷ 10 ∷ [])
+
+-- the same with index 1,024, which is out of range
+abbrev pub outsideList : List ℕ
+outsideList =
+    (72 ∷ 9 ∷ 50 ∷ 9 ∷ 52 ∷ 10 ∷ [])
+    ++ (75 ∷ 9 ∷ 49 ∷ 9 ∷ 49 ∷ 48 ∷ 50 ∷ 52 ∷ 9 ∷ 54 ∷ 10 ∷ [])
+    ++ (75 ∷ 9 ∷ 50 ∷ 9 ∷ 48 ∷ 9 ∷ 50 ∷ 10 ∷ [])
+
+-- S2 1 0; C 2 1 66 0 7 7 0 1: 7/7 is not there, so it is not in form
+abbrev pub unformedExample : List ℕ
+unformedExample =
+    (83 ∷ 50 ∷ 9 ∷ 49 ∷ 9 ∷ 48 ∷ 10 ∷ [])
+    ++ (67 ∷ 9 ∷ 50 ∷ 9 ∷ 49 ∷ 9 ∷ 54 ∷ 54 ∷ 9 ∷ 48 ∷ 9 ∷ 55 ∷ 9 ∷ 55 ∷ 9 ∷ 48 ∷ 9 ∷ 49 ∷ 10 ∷ [])
+
+-- the words as lines are handed to a copy one by one
+abbrev pub wordsHanding : Copy → List (List ℕ) → List Word
+wordsHanding p [] = []
+wordsHanding p (l ∷ ls) = wordHanding p room l ∷ wordsHanding (stepOn p (handing p room l) .copy) ls
+
+-- laptop 2 lists, laptop 1 answers with what is not listed and the `E` lines, and of these lines the erasing of o is
+-- known; of a wrong list 18 is answered before 3, and 2 before both
+pub record CaughtExample : Type 0 where
+  pub listed : listFrom (asBytes raisedExample) room ≡ some exampleList
+  pub answered : answerFrom (asBytes exampleBytes) exampleList room ≡ some exampleAnswer
+  pub lines-cut : linesOf exampleAnswer ≡ firstSent ∷ secondSent ∷ turnedTwice ∷ turnedLine ∷ []
+  pub words : wordsHanding (asBytes raisedExample) (linesOf exampleAnswer) ≡ done ∷ done ∷ done ∷ known ∷ []
+  pub caught : handed (asBytes raisedExample) (λ n. room) (linesOf exampleAnswer) ≡ asBytes caughtBytes
+  pub eighteen : refusalRead (numberOf (answeredInC unformedExample wrongList room .result)) ≡ 18
+  pub two : refusalRead (numberOf (answeredInC unformedExample outsideList room .result)) ≡ 2
+  pub three : refusalRead (numberOf (answeredInC unformedExample exampleList room .result)) ≡ 3

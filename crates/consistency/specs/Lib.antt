@@ -1,3 +1,4 @@
 pub mod Copies
 pub mod Theorems
+pub mod Catching
 pub mod Examples
