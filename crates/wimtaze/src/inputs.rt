@@ -1,12 +1,14 @@
 // What a call was handed beside a saved replica, and which refusal over all of it comes first.
 use answers::Refusal;
 use codec::Read;
+use listing::ListRead;
 use saved::LoadAnswer;
 ghost use mathlib.Core.Path.{_≡_};
 ghost use Rattle.codec.specs.Calls.{readAs, saidBy};
 ghost use Rattle.woot.specs.Ranges.{characterId};
 ghost use Rattle.c_calls.specs.Calls.{oneLine, named};
-ghost use Rattle.c_calls.specs.Inputs.{firstOf};
+ghost use Rattle.listing.specs.Calls.{listRead};
+ghost use Rattle.c_calls.specs.Inputs.{firstOf, firstBeside};
 
 // Reads one line, after which no byte may follow.
 pub(crate) fn read_one(line: &[u8]) -> Read
@@ -42,5 +44,16 @@ pub(crate) fn first_of(answer: LoadAnswer, other: Refusal) -> Refusal
     match answer {
         LoadAnswer::Done => other,
         LoadAnswer::Refused(one) => one.earlier(other),
+    }
+}
+
+// The refusal of a saved replica, or that of the list handed with it where it comes earlier.
+pub(crate) fn first_beside(refusal: Refusal, list: &[u8]) -> Refusal
+    ensures { λ r. ⌜ r ≡ firstBeside refusal (listRead (now (list .entry))) ⌝ }
+{
+    let judged = listing::judge(list);
+    match judged {
+        ListRead::Done(chunks) => refusal,
+        ListRead::Refused(other) => refusal.earlier(other),
     }
 }

@@ -1,6 +1,7 @@
 // The calls for programs in C: numbers and byte runs alone, and a saved replica in place of one in memory. Each returns
 // one number, and the header says how to take it apart. What a call returns and leaves is said in specs/Calls, one case
 // for each; the bodies stand by families.
+mod exchange;
 mod inputs;
 mod receiving;
 mod sending;
@@ -14,7 +15,7 @@ ghost use Rattle.woot.specs.Cursor.{movedBy};
 ghost use Rattle.c_calls.specs.Calls.{effectOf, «wimtaze_empty», «wimtaze_receive», «wimtaze_receive_at»};
 ghost use Rattle.c_calls.specs.Calls.{«wimtaze_type», «wimtaze_erase», «wimtaze_restore», «wimtaze_text»};
 ghost use Rattle.c_calls.specs.Calls.{«wimtaze_paste», «wimtaze_counts», «wimtaze_upgrade», «wimtaze_downgrade»};
-ghost use Rattle.c_calls.specs.Calls.{«wimtaze_build», «wimtaze_load»};
+ghost use Rattle.c_calls.specs.Calls.{«wimtaze_build», «wimtaze_load», «wimtaze_list», «wimtaze_answer»};
 
 // Writes the empty replica of a site.
 #[no_mangle]
@@ -60,6 +61,25 @@ pub extern "C" fn wimtaze_counts(bytes: &[u8]) -> u64
     ensures { λ r. ⌜ r ≡ numberOf (effectOf «wimtaze_counts» (now (bytes .entry)) [] [] .result) ⌝ }
 {
     sheets::count(bytes)
+}
+
+// Writes the list of the characters that a saved replica holds. (Document 02, Req 09.)
+#[no_mangle]
+pub extern "C" fn wimtaze_list(bytes: &[u8], list_out: &mut [u8]) -> u64
+    ensures { λ r. ⌜ Leaves (effectOf «wimtaze_list» (now (bytes .entry)) (now («list_out» .entry)) [])
+        r (now («list_out» .exit)) [] ⌝ }
+{
+    exchange::list(bytes, list_out)
+}
+
+// Answers a list: writes the lines of the inserts that it lacks, each after what it needs, and then those of the
+// toggles. (Document 02, Req 09.)
+#[no_mangle]
+pub extern "C" fn wimtaze_answer(bytes: &[u8], list: &[u8], lines_out: &mut [u8]) -> u64
+    ensures { λ r. ⌜ Leaves (effectOf («wimtaze_answer» (now (list .entry))) (now (bytes .entry))
+        (now («lines_out» .entry)) []) r (now («lines_out» .exit)) [] ⌝ }
+{
+    exchange::answer(bytes, list, lines_out)
 }
 
 // Receives the operation of a line with a cursor at an insertion point, and writes the new saved replica. The shift
