@@ -37,6 +37,9 @@
  * A laptop that joins late gets everything at once and in no useful order, and builds its sheet of it with one call of
  * wimtaze_build: see joining late.
  *
+ * A laptop that was cut off lists what it holds, with wimtaze_list, and any other answers with what that lacks, with
+ * wimtaze_answer: see catching up.
+ *
  * A sheet that another program may have written goes through wimtaze_load before it is used: see sheets of other
  * programs.
  *
@@ -79,7 +82,8 @@
  *         Restoring, and 2: what was given is no identifier. Upgrading: the file is damaged, or it is, with 1, not in
  *         the first form. Loading: the file is damaged, or another program wrote it, and wrongly; or it is, with 1, in
  *         the first form. Building: some line of the heap was damaged, and is refused as a heap by itself too: drop it,
- *         and get it again; or, with 2, the number is not 1 to 16.
+ *         and get it again; or, with 2, the number is not 1 to 16. Answering: the list was damaged on the way, or is
+ *         none: drop it, and whoever asked lists anew. If wimtaze_counts refuses the sheet too, as for receiving.
  *   3     The file is damaged: rule 1; or another program wrote it, and wrongly.
  *   4     Typing, pasting, erasing: the text is shorter than you thought. It may change with every line that comes.
  *         Receiving with a cursor: the cursor is beyond the text, and the line was not taken in. Set the cursor right,
@@ -109,12 +113,15 @@
  *   17    Building: the heap has more than 1,024 I lines, or more than 1,024 E and D lines, repeats counted. Leave out
  *         the repeats, and of the lines that erase or restore one character all but one with the highest turn. If it
  *         has more than 1,024 I lines still, rule 6 was broken.
+ *   18    Answering: the list contradicts itself. It was damaged on the way, or another program wrote it, and wrongly:
+ *         drop it, and whoever asked lists anew.
  *   20    Pasting: the text is not UTF-8, or is cut in the middle of a character. Nothing is wrong with the sheet:
  *         bring the text to UTF-8, or give all of it.
  *
  * If wimtaze_thrown is not 0, an edit that waited has met 8 or 9. The file laptop.h, which is installed with the
  * examples, keeps all these rules and can be copied, with anew.h for a laptop that lost its sheet; playing_hall.c there
- * runs sixteen such laptops over a bad network, and joining.c is for a laptop that joins late.
+ * runs sixteen such laptops over a bad network, joining.c is for a laptop that joins late, and catching_up.c for one
+ * that was cut off.
  *
  *
  * The cursor
@@ -217,6 +224,66 @@
  * A full heap takes some milliseconds. One that somebody chose to be slow can take more than a second: rule 7.
  *
  *
+ * Catching up
+ *
+ * A laptop that was off the network for a while has missed lines, and does not know which. It lists the characters that
+ * it holds, and sends the list to any other:
+ *
+ *     static uint8_t list[WIMTAZE_LIST_MAX];
+ *     uint64_t reply = wimtaze_list(sheet, length, list, sizeof list);
+ *     send(other, list, wimtaze_written(reply));
+ *
+ * The other answers with the lines that are missing, one behind the other as in a heap:
+ *
+ *     static uint8_t lines[WIMTAZE_ANSWER_MAX];
+ *     uint64_t reply = wimtaze_answer(sheet, length, list, list_length, lines, sizeof lines);
+ *     if (wimtaze_word(reply) == WIMTAZE_DONE)
+ *         send(asker, lines, wimtaze_written(reply));
+ *
+ * And the laptop that asked hands them over one by one, in the sequence in which they stand, and keeps and saves the
+ * sheet as with any line:
+ *
+ *     for (size_t k = 0, end; k < lines_length; k = end) {
+ *         for (end = k; lines[end++] != '\n';)
+ *             ;
+ *         reply = wimtaze_receive(sheet, length, lines + k, end - k, after, sizeof after);
+ *         if (wimtaze_written(reply) > 0) {
+ *             length = wimtaze_written(reply);
+ *             memcpy(sheet, after, length);
+ *         }
+ *     }
+ *
+ * The list has every character on the sheet, erased ones too, and none that waits. The answer has the I line of every
+ * character that the other's sheet holds and the list does not: the next is always the one with the lowest identifier
+ * among those whose two neighbours are not still to be sent, or, if there is none such, among all that are left. Then
+ * come the E lines, from the top, of every character whose turn is above 0, listed or not, with the answering laptop as
+ * the sender. What waits there is not sent. Where nothing is to be sent the answer is done, with length 0.
+ *
+ * What is promised of these lines: handed over in this sequence, into outputs of WIMTAZE_SHEET_MAX bytes, with no other
+ * call that changes the asker's sheet since it listed, each is done or known. None waits, and none is refused. The
+ * asker then holds every character that the other held when it answered, each with at least its turn then. This needs
+ * that
+ *
+ *   - both sheets began empty, or were built of a heap, or were loaded with wimtaze_load, and since then every call on
+ *     them got the sheet as the call before left it;
+ *   - there is room: the asker's characters, those that wait on its sheet and the I lines of the answer are together at
+ *     most 1,024, where one that waits there and is sent counts twice;
+ *   - no identifier stands for different characters on the two, those that wait on the asker's sheet counted.
+ *
+ * Rules 1, 2 and 7 see to the first and the last. Where, besides, nothing waits on either sheet, and each answers the
+ * other, with no other call that changes either in between, both end with the same characters, in the same order and
+ * with the same turns, and show the same text. It makes no difference whether the second answers before it has taken in
+ * the first's answer, or afterwards.
+ *
+ * If something else came in between, or one of these points does not hold, hand the lines over all the same: each is a
+ * line like any other, and what to do after each answer is said above. And the rules stay as they are: a line that you
+ * made is kept until it is acknowledged, since a list has no turns and nothing that waits.
+ *
+ * The list of an empty sheet is its H line alone, and is answered with everything. A list may come from any laptop,
+ * also from one with your own number, and its laptop is asked for its range alone. What is listed and is not on your
+ * sheet is passed over.
+ *
+ *
  * Sheets of other programs
  *
  * Every call reads a sheet for its layout, its ranges and its form: refusals 1, 2 and 3. A sheet in form may still be
@@ -263,6 +330,17 @@
  * code points 0 to 1,114,111 without 55,296 to 57,343. A clock after S2 that is below that of one of the laptop's own
  * characters on the sheet, waiting ones among them, is taken as that one's.
  *
+ * A list of the characters on a sheet has, in this order:
+ *
+ *     H laptop total                                                             whose it is, how many are listed
+ *     K laptop index word                                                        which of 64 clocks of a laptop are
+ *
+ * The bit of weight 2 to the power j of a word, j from 0 to 63, stands for the identifier with this laptop and the
+ * clock 64 times index plus j. There is a K line for each word that is not 0, by rising laptop and then rising index.
+ * Total is 0 to 1,024, index 0 to 1,023, word 1 to 18,446,744,073,709,551,615. Total is the number of ones in the
+ * words, and the bit for clock 0 is never set: a list with another total, with that bit, or with its K lines in another
+ * sequence, one of them twice for instance, is refused with 18.
+ *
  * A character takes the highest turn that comes for it, in whatever order the lines come; a line whose turn is not
  * higher than the character's is known. Two laptops that erase one character at once both make its turn 1, and it is
  * erased once. Where one erases it while another erases it and brings it back, it is shown.
@@ -286,14 +364,14 @@
  *
  * The calls
  *
- * Inputs. A length is in bytes. Any bytes and any numbers may be passed: what is not a sheet, a line, a heap or
- * UTF-8 is refused. Inputs are only read, and are not needed after the call.
+ * Inputs. A length is in bytes. Any bytes and any numbers may be passed: what is not a sheet, a line, a heap, a list
+ * or UTF-8 is refused. Inputs are only read, and are not needed after the call.
  *
  * Outputs. They are yours; the library writes only between the pointer and its length. When the word is done or
- * waits, the new sheet (or the text) stands from the first byte of the first output, wimtaze_written bytes of it, and
- * the line from the first byte of line_out, or the lines from that of lines_out, wimtaze_line_written bytes of it; no
- * zero byte is added, and the bytes after them are as they were. When the word is known or refused, no byte of any
- * output is changed. Buffers of the sizes below are always long enough.
+ * waits, the new sheet (or the text, the list, the answer) stands from the first byte of the first output,
+ * wimtaze_written bytes of it, and the line from the first byte of line_out, or the lines from that of lines_out,
+ * wimtaze_line_written bytes of it; no zero byte is added, and the bytes after them are as they were. When the word is
+ * known or refused, no byte of any output is changed. Buffers of the sizes below are always long enough.
  *
  * Pointers. Every pointer must be non-null, also with length 0: the compiled library relies on that. No output may
  * overlap an input or another output, so the new sheet cannot be written over the old one in the same call.
@@ -312,9 +390,9 @@ extern "C" {
 #endif
 
 /* The version of this header and of the library that it came with. */
-#define WIMTAZE_VERSION "0.10.0"
+#define WIMTAZE_VERSION "0.11.0"
 #define WIMTAZE_VERSION_MAJOR 0
-#define WIMTAZE_VERSION_MINOR 10
+#define WIMTAZE_VERSION_MINOR 11
 #define WIMTAZE_VERSION_PATCH 0
 
 /* The limits of a sheet. */
@@ -329,6 +407,8 @@ extern "C" {
 #define WIMTAZE_LINE_MAX 37         /* either line */
 #define WIMTAZE_LINES_MAX 37888     /* the lines of a pasted block */
 #define WIMTAZE_TEXT_MAX 4096       /* the text */
+#define WIMTAZE_LIST_MAX 31754      /* the list of the characters on a sheet */
+#define WIMTAZE_ANSWER_MAX 56320    /* the lines that answer a list */
 
 /* The bytes of the longest heap that is not refused: 1,024 lines of typed characters and 1,024 of erased ones. */
 #define WIMTAZE_HEAP_MAX 56320
@@ -349,13 +429,13 @@ enum wimtaze_words {
 };
 
 /*
- * Why a call is turned away. Where several hold, the first is told, in this order: 1, 2, 17, 20, 3, 15, 16, 4, 13, 14,
- * 5 to 12; but in pasting 11 comes before 9.
+ * Why a call is turned away. Where several hold, the first is told, in this order: 1, 2, 17, 18, 20, 3, 15, 16, 4, 13,
+ * 14, 5 to 12; but in pasting 11 comes before 9.
  */
 enum wimtaze_refusals {
     WIMTAZE_REFUSAL_NONE = 0,           /* not refused */
-    WIMTAZE_REFUSAL_LAYOUT = 1,         /* the line, the heap or the saved sheet lacks its layout */
-    WIMTAZE_REFUSAL_RANGE = 2,          /* a number, in a line or a sheet or handed to the call, is out of its range */
+    WIMTAZE_REFUSAL_LAYOUT = 1,         /* the line, the heap, the list or the saved sheet lacks its layout */
+    WIMTAZE_REFUSAL_RANGE = 2,          /* a number, in one of these or handed to the call, is out of its range */
     WIMTAZE_REFUSAL_FORM = 3,           /* the saved sheet contradicts itself: the library never writes such a one */
     WIMTAZE_REFUSAL_POSITION = 4,       /* no such gap or place: above the count of shown characters, or place 0 */
     WIMTAZE_REFUSAL_CLOCK = 5,          /* the laptop's clock is 65,535, or too near to it for the block to be pasted */
@@ -371,6 +451,7 @@ enum wimtaze_refusals {
     WIMTAZE_REFUSAL_HIGH_TURN = 15,     /* a turn on the sheet is above 1: the first form has no place for it */
     WIMTAZE_REFUSAL_UNREACHABLE = 16,   /* the saved sheet is one that no typing could make */
     WIMTAZE_REFUSAL_HEAP_FULL = 17,     /* the heap has more than 1,024 lines of a kind, repeats counted */
+    WIMTAZE_REFUSAL_MISLISTED = 18,     /* the list's total, a clock 0 or the sequence of its lines is wrong */
     WIMTAZE_REFUSAL_NOT_UTF8 = 20       /* the text to be pasted is not UTF-8 */
 };
 
@@ -457,6 +538,22 @@ uint64_t wimtaze_build(uint64_t number, const uint8_t *heap, size_t heap_length,
 uint64_t wimtaze_load(const uint8_t *sheet, size_t sheet_length, uint8_t *sheet_out, size_t sheet_out_length);
 
 /*
+ * Lists the characters on the sheet, erased ones too and none that waits, for a laptop that has what is missing: see
+ * catching up.
+ * Refusals: 1, 2, 3, 12.
+ */
+uint64_t wimtaze_list(const uint8_t *sheet, size_t sheet_length, uint8_t *list_out, size_t list_out_length);
+
+/*
+ * Answers the list of another laptop: writes the lines of the characters on the sheet that are not listed, in a
+ * sequence in which the other can take in each, and then those of every character that was erased or restored: see
+ * catching up. They are wimtaze_written bytes, which may be 0.
+ * Refusals: 1, 2, 18, 3, 12. 1, 2 and 18 are of the whole list, however long it is.
+ */
+uint64_t wimtaze_answer(const uint8_t *sheet, size_t sheet_length, const uint8_t *list, size_t list_length,
+                        uint8_t *answer_out, size_t answer_out_length);
+
+/*
  * Writes the text that the sheet shows, in UTF-8. It is for showing and printing, and not the characters themselves:
  * code points 0 to 8, 11 to 31 and 127 stand in it as U+FFFD, bytes EF BF BD. The sheet and the lines keep the real
  * ones.
@@ -508,7 +605,7 @@ static inline enum wimtaze_refusals wimtaze_refusal(uint64_t reply)
 
 /*
  * How many edits the call carried out, its own and those that waited for it: at most 513, by pasting at most 1,536, and
- * 1 by erasing and by restoring; 0 by building and by loading, and unless the word is done.
+ * 1 by erasing and by restoring; 0 by building, loading, listing and answering, and unless the word is done.
  */
 static inline unsigned wimtaze_carried(uint64_t reply)
 {
@@ -527,7 +624,7 @@ static inline unsigned wimtaze_left_out(uint64_t reply)
     return (unsigned)(reply >> 20 & 4095);
 }
 
-/* How many bytes were written to the first output: the saved sheet, in either form, or the text. */
+/* How many bytes were written to the first output: the saved sheet, in either form, the text, the list, the answer. */
 static inline size_t wimtaze_written(uint64_t reply)
 {
     return (size_t)(reply >> 32 & 65535);
