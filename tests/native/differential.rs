@@ -1,6 +1,6 @@
 //! The C calls of the static library against the plain reference, call by call: random histories of up to sixteen
 //! laptops with lines lost, repeated and reordered, made-up sheets and such as other programs write, heaps of lines,
-//! damaged lines, sheets, heaps and blocks of text, outputs of every length.
+//! lists and answers, damaged lines, sheets, heaps, lists and blocks of text, outputs of every length.
 //! A call passes if the returned number and every byte of its inputs and outputs, and of the guards around them, are
 //! what the reference says.
 //!
@@ -12,8 +12,9 @@ mod library;
 mod reference;
 
 use library::{
-    wimtaze_build, wimtaze_counts, wimtaze_downgrade, wimtaze_empty, wimtaze_erase, wimtaze_load, wimtaze_moved,
-    wimtaze_paste, wimtaze_receive, wimtaze_receive_at, wimtaze_restore, wimtaze_text, wimtaze_type, wimtaze_upgrade,
+    wimtaze_answer, wimtaze_build, wimtaze_counts, wimtaze_downgrade, wimtaze_empty, wimtaze_erase, wimtaze_list,
+    wimtaze_load, wimtaze_moved, wimtaze_paste, wimtaze_receive, wimtaze_receive_at, wimtaze_restore, wimtaze_text,
+    wimtaze_type, wimtaze_upgrade,
 };
 use reference::{Operation, Outcome, Reply};
 use std::collections::BTreeMap;
@@ -68,6 +69,8 @@ enum Call<'a> {
     Paste(&'a [u8], u64, &'a [u8]),
     Build(u64, &'a [u8]),
     Load(&'a [u8]),
+    List(&'a [u8]),
+    Answer(&'a [u8], &'a [u8]),
     Text(&'a [u8]),
     Counts(&'a [u8]),
     Upgrade(&'a [u8]),
@@ -86,6 +89,8 @@ impl Call<'_> {
             Call::Paste(..) => "paste",
             Call::Build(..) => "build",
             Call::Load(..) => "load",
+            Call::List(..) => "list",
+            Call::Answer(..) => "answer",
             Call::Text(..) => "text",
             Call::Counts(..) => "counts",
             Call::Upgrade(..) => "upgrade",
@@ -93,14 +98,15 @@ impl Call<'_> {
         }
     }
 
-    /// The sheet or the heap, and the line or the block, that are handed over.
+    /// The sheet or the heap, and the line, the block or the list, that are handed over.
     fn inputs(&self) -> (&[u8], &[u8]) {
         match self {
             Call::Empty(_) => (&[], &[]),
             Call::Receive(sheet, line) | Call::ReceiveAt(sheet, line, _) => (sheet, line),
             Call::Paste(sheet, _, block) => (sheet, block),
+            Call::Answer(sheet, list) => (sheet, list),
             Call::Type(sheet, ..) | Call::Erase(sheet, _) | Call::Restore(sheet, ..) => (sheet, &[]),
-            Call::Load(sheet) | Call::Text(sheet) | Call::Counts(sheet) => (sheet, &[]),
+            Call::Load(sheet) | Call::List(sheet) | Call::Text(sheet) | Call::Counts(sheet) => (sheet, &[]),
             Call::Upgrade(sheet) | Call::Downgrade(sheet) => (sheet, &[]),
             Call::Build(_, heap) => (heap, &[]),
         }
@@ -117,6 +123,8 @@ impl Call<'_> {
             Call::Paste(sheet, gap, block) => reference::paste_call(sheet, gap, block),
             Call::Build(number, heap) => reference::build_call(number, heap),
             Call::Load(sheet) => reference::load_call(sheet),
+            Call::List(sheet) => reference::list_call(sheet),
+            Call::Answer(sheet, list) => reference::answer_call(sheet, list),
             Call::Text(sheet) => reference::text_call(sheet),
             Call::Counts(sheet) => reference::counts_call(sheet),
             Call::Upgrade(old) => reference::upgrade_call(old),
@@ -139,6 +147,8 @@ impl Call<'_> {
                 Call::Paste(_, gap, _) => wimtaze_paste(s, s_len, gap, l, l_len, f, f_len, o, o_len),
                 Call::Build(number, _) => wimtaze_build(number, s, s_len, f, f_len),
                 Call::Load(_) => wimtaze_load(s, s_len, f, f_len),
+                Call::List(_) => wimtaze_list(s, s_len, f, f_len),
+                Call::Answer(..) => wimtaze_answer(s, s_len, l, l_len, f, f_len),
                 Call::Text(_) => wimtaze_text(s, s_len, f, f_len),
                 Call::Counts(_) => wimtaze_counts(s, s_len),
                 Call::Upgrade(_) => wimtaze_upgrade(s, s_len, f, f_len),
@@ -183,7 +193,7 @@ const NUMBERS: [&str; 36] = [
     "340282366920938463463374607431768211457", "9999999999999999999999999999999999999999",
 ];
 const MALFORMED: [&str; 8] = ["", "00", "01", "-1", "+1", " 1", "1\t", "a"];
-const LETTERS: &[u8] = b"IDECSidecs0123456789\t\t\n\n\r .-";
+const LETTERS: &[u8] = b"IDECSHKidecshk0123456789\t\t\n\n\r .-";
 const CODE_POINTS: [u32; 23] = [
     0, 8, 9, 10, 11, 13, 31, 32, 126, 127, 128, 159, 2047, 2048, 55_295, 57_344, 65_533, 65_535, 65_536, 1_114_111, 97,
     0x265e, 0xfeff,
@@ -509,6 +519,66 @@ impl Random {
         if self.one_in(10) { self.damaged(&heap) } else { heap }
     }
 
+    /// A list of some of a sheet's rows and of a few others, or what is nearly one.
+    fn list(&mut self, sheet: &[u8], of: Universe) -> Vec<u8> {
+        let (missing, others) = (self.pick(&[1, 2, 3, 8, 10_000]), self.pick(&[0, 0, 1, 6]));
+        let mut ids: Vec<(u64, u64)> = rows(sheet).iter().map(|row| (row[0], row[1])).collect();
+        ids.retain(|_| !self.one_in(missing));
+        ids.extend((0..others).map(|_| self.id(of)).map(|(laptop, clock)| (laptop as u64, clock as u64)));
+        if self.one_in(24) {
+            ids.push((1 + self.below(of.laptops) as u64, 0));
+        }
+        ids.sort();
+        ids.dedup();
+        let own = numbers(sheet, "S2").pop().filter(|_| self.one_in(4));
+        let laptop = own.map_or(1 + self.below(16) as u64, |head| head[0]);
+        let mut words = if self.one_in(60) { self.full_words() } else { words_of(&ids) };
+        let mut total = ones(&words).min(1024);
+        match self.below(24) {
+            0 => {
+                let (above, below) = (total + 1, total.saturating_sub(1));
+                total = self.pick(&[above, below, 0, 1024, 1025, total + 65_536, total + (1 << 32)]);
+            }
+            1..=4 => self.spoil(&mut words, &mut total),
+            5 => {
+                let list = list_of(laptop, total, &words);
+                return self.damaged(&list);
+            }
+            _ => {}
+        }
+        list_of(laptop, total, &words)
+    }
+
+    /// Words at the limit of what can be listed and above it, all of them whole or with one clock each.
+    fn full_words(&mut self) -> Vec<[u64; 3]> {
+        let (count, whole) = self.pick(&[(15, true), (16, true), (17, true), (40, true), (1024, false), (1030, false)]);
+        let place = |k: u64| (1 + k / 1023, 1 + k % 1023);
+        let word = if whole { u64::MAX } else { 1 << self.below(64) };
+        (0..count).map(place).map(|(laptop, index)| [laptop, index, word]).collect()
+    }
+
+    /// Words are repeated, parted in two or put in another order, with the total that they then have; or one of their
+    /// numbers is out of its range, or just within it.
+    fn spoil(&mut self, words: &mut Vec<[u64; 3]>, total: &mut u64) {
+        if words.is_empty() {
+            words.push([1, 1, 3]);
+        }
+        let (j, k) = (self.below(words.len()), self.below(words.len()));
+        match self.below(7) {
+            0 | 1 => words.insert(k, words[j]),
+            2 => {
+                let [laptop, index, word] = words[k];
+                let low = word & word.wrapping_neg();
+                words[k][2] = if word == low { word } else { word - low };
+                words.insert(k, [laptop, index, low]);
+            }
+            3 | 4 => words.swap(j, k),
+            5 => words[k][2] = self.pick(&[0, u64::MAX, 1 << 63]),
+            _ => words[k][self.pick(&[0, 1])] = self.pick(&[0, 1, 16, 17, 256, 1023, 1024, 65_536, u64::MAX]),
+        }
+        *total = ones(words).min(1024);
+    }
+
     fn damaged(&mut self, bytes: &[u8]) -> Vec<u8> {
         let mut b = bytes.to_vec();
         let at = self.below(b.len().max(1)).min(b.len());
@@ -656,6 +726,51 @@ fn numbers(bytes: &[u8], letter: &str) -> Vec<Vec<u64>> {
     lines.map(|fields| fields.split('\t').map(|f| f.parse().unwrap_or(0)).collect()).collect()
 }
 
+/// The words of a list that mark these identifiers: laptop, index and word.
+fn words_of(ids: &[(u64, u64)]) -> Vec<[u64; 3]> {
+    let mut words: BTreeMap<(u64, u64), u64> = BTreeMap::new();
+    for (laptop, clock) in ids {
+        *words.entry((*laptop, clock / 64)).or_default() |= 1 << (clock % 64);
+    }
+    words.into_iter().map(|((laptop, index), word)| [laptop, index, word]).collect()
+}
+
+fn ones(words: &[[u64; 3]]) -> u64 {
+    words.iter().map(|word| u64::from(word[2].count_ones())).sum()
+}
+
+/// A list with these numbers, whatever they are.
+fn list_of(laptop: u64, total: u64, words: &[[u64; 3]]) -> Vec<u8> {
+    let words: String = words.iter().map(|[laptop, index, word]| format!("K\t{laptop}\t{index}\t{word}\n")).collect();
+    format!("H\t{laptop}\t{total}\n{words}").into_bytes()
+}
+
+/// The inserts of a sheet's rows, without their turns; and those that wait.
+fn inserts(sheet: &[u8]) -> (Vec<Vec<u64>>, Vec<Vec<u64>>) {
+    let held = rows(sheet).into_iter().map(|row| [&row[..3], &row[4..]].concat()).collect();
+    (held, numbers(sheet, "I"))
+}
+
+/// Whether the request's premises hold of a sheet that was listed, another, and its answer: there is space, and no
+/// identifier stands for different inserts on the two. Both were begun from empty sheets, or built.
+fn can_catch_up(asker: &[u8], other: &[u8], answer: &[u8]) -> bool {
+    let ((rows, waiting), (others, _)) = (inserts(asker), inserts(other));
+    let space = rows.len() + waiting.len() + numbers(answer, "I").len() <= 1024;
+    let agree = |i: &Vec<u64>| others.iter().all(|o| o[..2] != i[..2] || o == i);
+    space && rows.iter().chain(&waiting).all(agree)
+}
+
+/// Whether a sheet holds every row of another, all of its fields, with at least its turn.
+fn holds_all(sheet: &[u8], other: &[u8]) -> bool {
+    let held = rows(sheet);
+    let same = |r: &[u64], o: &[u64]| r[..3] == o[..3] && r[4..] == o[4..] && r[3] >= o[3];
+    rows(other).iter().all(|o| held.iter().any(|r| same(r, o)))
+}
+
+fn waits(sheet: &[u8]) -> bool {
+    !numbers(sheet, "I").is_empty() || !numbers(sheet, "E").is_empty()
+}
+
 /// The lines that stand one behind the other.
 fn lines_of(bytes: &[u8]) -> impl Iterator<Item = &[u8]> {
     bytes.split_inclusive(|b| *b == b'\n')
@@ -732,7 +847,7 @@ fn raises(call: &Call, outcome: &Outcome) -> bool {
     let (sheet, _) = call.inputs();
     let begins_or_types = matches!(call, Call::Empty(..) | Call::Build(..) | Call::Type(..) | Call::Paste(..));
     !begins_or_types
-        && !matches!(call, Call::Text(..) | Call::Counts(..))
+        && !matches!(call, Call::List(..) | Call::Answer(..) | Call::Text(..) | Call::Counts(..))
         && !outcome.first.is_empty()
         && clock(&outcome.first) != clock(sheet)
 }
@@ -922,6 +1037,96 @@ fn loads(call: &Call, outcome: &Outcome) -> Vec<&'static str> {
     what.into_iter().filter(|(met, _)| *met).map(|(_, what)| what).collect()
 }
 
+/// What is listed: hidden rows, and none that waits; several rows in one word, the first clock and the last of a word.
+fn lists(call: &Call, outcome: &Outcome) -> Vec<&'static str> {
+    let (Call::List(sheet), Reply::Done { .. }) = (call, outcome.reply) else { return Vec::new() };
+    let (rows, words) = (rows(sheet), numbers(&outcome.first, "K"));
+    let what = [
+        (rows.is_empty(), "nothing"),
+        (rows.iter().any(|row| row[3] % 2 == 1), "hidden"),
+        (!numbers(sheet, "I").is_empty(), "waiting"),
+        (words.len() < rows.len(), "several"),
+        (words.len() > 16, "many"),
+        (rows.iter().any(|row| row[1] % 64 == 0), "first-bit"),
+        (rows.iter().any(|row| row[1] % 64 == 63), "last-bit"),
+        (words.iter().any(|word| word[1] == 1023), "last-index"),
+        (rows.len() == 1024, "1024"),
+    ];
+    what.into_iter().filter(|(met, _)| *met).map(|(_, what)| what).collect()
+}
+
+/// What becomes of a list: what is answered and in which sequence; what is listed and makes no difference; why it is
+/// refused, and that one ground is told where a later one holds too.
+fn answers(call: &Call, outcome: &Outcome) -> Vec<&'static str> {
+    let Call::Answer(sheet, list) = call else { return Vec::new() };
+    let what = match outcome.reply {
+        Reply::Done { .. } => answered(sheet, list, &outcome.first),
+        Reply::Refused(n) => refused_list(n, sheet, list),
+        _ => Vec::new(),
+    };
+    what.into_iter().filter(|(met, _)| *met).map(|(_, what)| what).collect()
+}
+
+fn answered(sheet: &[u8], list: &[u8], answer: &[u8]) -> Vec<(bool, &'static str)> {
+    let (rows, sent) = (rows(sheet), numbers(answer, "I"));
+    let id = |ns: &[u64]| (ns[0], ns[1]);
+    let listed = |row: &Vec<u64>| !sent.iter().any(|i| id(i) == id(row));
+    let place = |of: (u64, u64)| sent.iter().position(|i| id(i) == of);
+    let later = |k: usize, of: &[u64]| place(id(of)).is_some_and(|p| p > k);
+    let head = |bytes, letter| numbers(bytes, letter).first().map(|head| head[0]);
+    let total = numbers(list, "H").first().map_or(0, |head| head[1]) as usize;
+    vec![
+        (answer.is_empty(), "nothing"),
+        (!sent.is_empty() && sent.len() == rows.len(), "everything"),
+        (!sent.is_empty() && sent.len() < rows.len(), "some"),
+        (sent.windows(2).any(|pair| id(&pair[0]) > id(&pair[1])), "not-rising"),
+        ((0..sent.len()).any(|k| later(k, &sent[k][3..]) || later(k, &sent[k][5..])), "none-free"),
+        (rows.iter().any(|row| row[3] > 0 && listed(row)), "turn-listed"),
+        (rows.iter().any(|row| row[3] > 0 && row[3] % 2 == 0), "even-turn"),
+        (rows.iter().any(|row| row[3] % 2 == 1 && !listed(row)), "hidden"),
+        (!numbers(sheet, "I").is_empty(), "waiting"),
+        (total + sent.len() > rows.len(), "not-held"),
+        (head(list, "H") == head(sheet, "S2"), "own-number"),
+        (total == 1024, "1024-listed"),
+        (sent.len() == 1024, "1024"),
+    ]
+}
+
+/// Of a list whose words are read as far as they can be: those above the largest number of 64 bits are not.
+fn refused_list(refusal: u8, sheet: &[u8], list: &[u8]) -> Vec<(bool, &'static str)> {
+    let (of_list, of_sheet) = (reference::read_list(list), reference::read_numbers(sheet, reference::Form::Second));
+    let (words, head) = (numbers(list, "K"), numbers(list, "H").pop().unwrap_or_default());
+    match refusal {
+        1 => vec![(of_list.is_ok() || of_list == Err(18), "1-sheet"), (of_sheet.is_ok(), "1-list")],
+        2 => vec![
+            (of_sheet == Err(2) && of_list == Err(18), "2-or-18"),
+            (of_list == Err(2) && head[1] > 1024, "2-total"),
+            (of_list == Err(2) && !(1..=16).contains(&head[0]), "2-laptop"),
+            (of_list == Err(2) && words.iter().any(|word| word[1] > 1023), "2-index"),
+            (of_list == Err(2) && words.iter().any(|word| word[2] == 0), "2-word"),
+        ],
+        18 => {
+            let place = |word: &[u64]| (word[0], word[1]);
+            let ones: u32 = words.iter().map(|word| word[2].count_ones()).sum();
+            let (total, zero) = (u64::from(ones) == head[1], words.iter().any(|w| w[1] == 0 && w[2] % 2 == 1));
+            let sequence = words.windows(2).any(|pair| place(&pair[0]) >= place(&pair[1]));
+            let repeated = words.windows(2).any(|pair| pair[0] == pair[1]);
+            let two_words = words.windows(2).any(|pair| place(&pair[0]) == place(&pair[1]) && pair[0] != pair[1]);
+            vec![
+                (!total && !zero && !sequence, "18-total"),
+                (total && zero && !sequence, "18-zero"),
+                (total && !zero && sequence, "18-sequence"),
+                (total && !zero && repeated, "18-repeated"),
+                (total && !zero && two_words, "18-two-words"),
+                (ones > 1024 && head[1] == 1024, "18-overfull"),
+                (words.len() > 1024, "18-1025-lines"),
+                (of_sheet.is_ok_and(|s| !s.in_form()), "18-or-3"),
+            ]
+        }
+        _ => Vec::new(),
+    }
+}
+
 /// Whether the block is read as Rust's own library reads it.
 fn block_is_sound(call: &Call) -> bool {
     let Call::Paste(_, _, block) = call else { return true };
@@ -977,7 +1182,8 @@ impl Tester {
             *self.met.entry((call.name(), "raising".into())).or_default() += 1;
         }
         let happenings = [turns(call, outcome), crosses(call, outcome), moves(call, outcome), pastes(call, outcome)];
-        for what in happenings.into_iter().flatten().chain(builds(call, outcome)).chain(loads(call, outcome)) {
+        let others = [builds(call, outcome), loads(call, outcome), lists(call, outcome), answers(call, outcome)];
+        for what in happenings.into_iter().flatten().chain(others.concat()) {
             *self.met.entry((call.name(), what.into())).or_default() += 1;
         }
         let word = match outcome.reply {
@@ -1052,7 +1258,9 @@ impl Tester {
             Call::Build(number, _) => println!("  number {number}, and the heap"),
             Call::Receive(..) => println!("  line {:?}", String::from_utf8_lossy(line)),
             Call::ReceiveAt(_, _, gap) => println!("  line {:?}, gap {gap}", String::from_utf8_lossy(line)),
-            Call::Load(_) | Call::Text(_) | Call::Counts(_) | Call::Upgrade(_) | Call::Downgrade(_) => {}
+            Call::Answer(..) => println!("  list {:?}", String::from_utf8_lossy(line)),
+            Call::Load(_) | Call::List(_) | Call::Text(_) | Call::Counts(_) => {}
+            Call::Upgrade(_) | Call::Downgrade(_) => {}
         }
         let shortened: String = String::from_utf8_lossy(sheet).chars().take(2000).collect();
         println!("  sheet {shortened:?}");
@@ -1192,9 +1400,20 @@ impl Tester {
         self.made_here(sheet, written)
     }
 
+    /// Lists the rows, or answers a list of some of them.
+    fn list_or_answer(&mut self, sheet: &[u8]) -> Written {
+        if self.random.one_in(4) {
+            self.call(&Call::List(sheet));
+        } else {
+            let list = self.random.list(sheet, Universe { laptops: 16, clocks: 70 });
+            self.call(&Call::Answer(sheet, &list));
+        }
+        None
+    }
+
     /// Any call on the sheet.
     fn anything(&mut self, sheet: &[u8], line: &[u8]) -> Written {
-        match self.random.below(18) {
+        match self.random.below(21) {
             0..=4 => self.receive(sheet, line),
             5..=7 => self.type_somewhere(sheet),
             8 => self.erase_somewhere(sheet),
@@ -1202,6 +1421,7 @@ impl Tester {
             11 => self.change_form(sheet),
             12..=14 => self.paste_somewhere(sheet),
             15 => self.call(&Call::Load(sheet)),
+            16..=18 => self.list_or_answer(sheet),
             _ => self.look(sheet),
         }
     }
@@ -1325,6 +1545,64 @@ impl Tester {
         self.expect(self.last != Reply::Refused(16), "a sheet that calls made is not loaded");
         let foreign = self.random.foreign(sheet);
         self.load(&foreign);
+        let other = &laptops[self.random.below(count)].sheet;
+        self.exchange(sheet, other);
+    }
+
+    /// What a call writes that is refused only where its output is short.
+    fn written(&mut self, call: &Call) -> Vec<u8> {
+        loop {
+            if let Some((written, _)) = self.call(call) {
+                return written;
+            }
+        }
+    }
+
+    /// The lines that another laptop answers to the list of a sheet. The list is of its rows and of nothing else.
+    fn answer_to(&mut self, asker: &[u8], other: &[u8]) -> Vec<u8> {
+        let list = self.written(&Call::List(asker));
+        let listed = reference::read_list(&list).unwrap_or_default();
+        let held = rows(asker);
+        let is_held = |id: &reference::Id| held.iter().any(|r| (r[0], r[1]) == (id.laptop.into(), id.clock.into()));
+        self.expect(listed.len() == held.len() && listed.iter().all(is_held), "a list is not of the rows");
+        self.written(&Call::Answer(other, &list))
+    }
+
+    /// The lines of an answer come in their sequence. Where the premises hold none waits and none is refused, and then
+    /// every row of the other is there.
+    fn caught_up(&mut self, asker: &[u8], other: &[u8], answer: &[u8]) -> Vec<u8> {
+        let (mut sheet, hold) = (asker.to_vec(), can_catch_up(asker, other, answer));
+        self.meet("answer", if hold { "caught-up" } else { "no-premise" });
+        for line in lines_of(answer) {
+            let mut written = self.receive(&sheet, line);
+            while matches!(self.last, Reply::Refused(4 | 12)) {
+                written = self.receive(&sheet, line);
+            }
+            let taken = matches!(self.last, Reply::Done { .. } | Reply::Known);
+            self.expect(taken || !hold, "a line of an answer waits or is refused");
+            if !taken {
+                self.meet("answer", "not-taken");
+            }
+            sheet = written.map_or(sheet, |(new, _)| new);
+        }
+        self.expect(!hold || holds_all(&sheet, other), "a laptop that caught up lacks something");
+        sheet
+    }
+
+    /// Two laptops answer each other; the second before it has taken in the first's answer, or afterwards. Where
+    /// nothing waited their rows are equal then.
+    fn exchange(&mut self, one: &[u8], two: &[u8]) {
+        let to_one = self.answer_to(one, two);
+        let hold = can_catch_up(one, two, &to_one) && !waits(one) && !waits(two);
+        let after_one = self.caught_up(one, two, &to_one);
+        let answering = if self.random.one_in(2) { one } else { &after_one };
+        let to_two = self.answer_to(two, answering);
+        let hold = hold && can_catch_up(two, answering, &to_two);
+        let after_two = self.caught_up(two, answering, &to_two);
+        if hold {
+            self.meet("answer", if answering == one { "both-before" } else { "both-after" });
+            self.expect(rows(&after_one) == rows(&after_two), "two laptops that answered each other hold other rows");
+        }
     }
 
     /// A sheet is loaded for use. If it is taken, the lines of its rows, received one by one, make these rows, and what
@@ -1605,6 +1883,9 @@ impl Tester {
         self.anything(&damaged, &line);
         self.anything(&old, &line);
         self.change_form(&sheet);
+        for _ in 0..3 {
+            self.list_or_answer(&sheet);
+        }
         let foreign = if self.random.one_in(2) { self.random.foreign(&sheet) } else { sheet };
         let low = if self.random.one_in(3) { with_clock(&foreign, 0) } else { foreign };
         self.load(&low);
@@ -1729,6 +2010,9 @@ impl Tester {
                 sheet = new;
             }
         }
+        for _ in 0..3 {
+            self.list_or_answer(&sheet);
+        }
     }
 }
 
@@ -1749,7 +2033,7 @@ impl Tester {
 }
 
 /// Every reply that each call can give, and waiting operations carried and thrown out.
-const TO_MEET: [(&str, &str); 14] = [
+const TO_MEET: [(&str, &str); 16] = [
     ("empty", "done 2 12"),
     ("receive", "done waits known releasing throwing raising anew hiding showing behind equal 1 2 3 7 8 9 10 11 12"),
     (
@@ -1775,6 +2059,14 @@ const TO_MEET: [(&str, &str); 14] = [
     (
         "load",
         "done same raising waiting turned 1024 received used 16-order 16-never-all 16-waiting 16-1024 1 2 3 16 12",
+    ),
+    ("list", "done nothing hidden waiting several many first-bit last-bit last-index 1024 1 2 3 12"),
+    (
+        "answer",
+        "done nothing everything some not-rising none-free turn-listed even-turn hidden waiting not-held own-number \
+         1024-listed 1024 caught-up no-premise not-taken both-before both-after 1-sheet 1-list 2-or-18 2-total \
+         2-laptop 2-index 2-word 18-total 18-zero 18-sequence 18-repeated 18-two-words 18-overfull 18-1025-lines \
+         18-or-3 1 2 18 3 12",
     ),
     ("text", "done 1 2 3 12"),
     ("counts", "done 1 2 3"),

@@ -68,6 +68,15 @@ extern "C" {
         sheet_out_length: usize,
     ) -> u64;
     pub fn wimtaze_load(sheet: *const u8, sheet_length: usize, sheet_out: *mut u8, sheet_out_length: usize) -> u64;
+    pub fn wimtaze_list(sheet: *const u8, sheet_length: usize, list_out: *mut u8, list_out_length: usize) -> u64;
+    pub fn wimtaze_answer(
+        sheet: *const u8,
+        sheet_length: usize,
+        list: *const u8,
+        list_length: usize,
+        answer_out: *mut u8,
+        answer_out_length: usize,
+    ) -> u64;
     pub fn wimtaze_text(sheet: *const u8, sheet_length: usize, text_out: *mut u8, text_out_length: usize) -> u64;
     pub fn wimtaze_counts(sheet: *const u8, sheet_length: usize) -> u64;
     pub fn wimtaze_upgrade(old: *const u8, old_length: usize, sheet_out: *mut u8, sheet_out_length: usize) -> u64;

@@ -68,6 +68,8 @@ const MOST_ROWS: usize = 1024;
 const MOST_WAITING: usize = 32;
 /// Of a heap's inserts, and of its erase or restore lines.
 const MOST_IN_HEAP: usize = 1024;
+/// Of a laptop, each with 64 clocks (Req 09).
+const WORDS: usize = 1024;
 
 fn is_laptop(n: u8) -> bool {
     (1..=16).contains(&n)
@@ -484,6 +486,37 @@ impl Sheet {
         made.rows
     }
 
+    /// The words of the list of its rows (Req 09), waiting inserts left out: those that are not 0, by rising laptop and
+    /// then rising index.
+    fn words(&self) -> Vec<Word> {
+        let mut table = vec![[0u64; WORDS]; 17];
+        for Id { laptop, clock } in self.rows.iter().map(|r| r.insert.id) {
+            table[usize::from(laptop)][usize::from(clock / 64)] |= 1 << (clock % 64);
+        }
+        let of = |(laptop, words): (usize, &[u64; WORDS])| -> Vec<Word> {
+            let nonzero = words.iter().enumerate().filter(|(_, word)| **word > 0);
+            nonzero.map(|(index, word)| Word { laptop: laptop as u8, index: index as u16, word: *word }).collect()
+        };
+        table.iter().enumerate().flat_map(of).collect()
+    }
+
+    /// The answer to a list of these identifiers: the inserts of the rows that are not listed, the next always the
+    /// lowest whose needs are not still to be sent, or the lowest of all that are left; then the turns from the top.
+    pub fn answer(&self, listed: &[Id]) -> Vec<Operation> {
+        let unlisted = self.rows.iter().map(|r| r.insert).filter(|i| !listed.contains(&i.id));
+        let (mut left, mut sent) = (unlisted.collect::<Vec<Insert>>(), Vec::new());
+        left.sort_by_key(|i| i.id);
+        while !left.is_empty() {
+            let still = |id: Id| left.binary_search_by_key(&id, |i| i.id).is_ok();
+            let next = left.iter().position(|i| !still(i.previous) && !still(i.next)).unwrap_or(0);
+            sent.push(Operation::Insert(left.remove(next)));
+        }
+        for r in self.rows.iter().filter(|r| r.turn > 0) {
+            sent.push(Operation::Turn(Turn { sender: self.laptop, id: r.insert.id, turn: r.turn }));
+        }
+        sent
+    }
+
     /// Erasing at a place, counted from 1.
     pub fn erase_at(&mut self, place: u64) -> (Reply, Option<Operation>) {
         if !self.in_form() {
@@ -704,6 +737,63 @@ pub fn read_heap(bytes: &[u8]) -> Option<(Vec<Operation>, bool)> {
     let read: Option<Vec<Option<Operation>>> = lines.split(|b| *b == b'\n').map(operation_of).collect();
     let read = read?;
     Some((read.iter().flatten().copied().collect(), read.iter().all(Option::is_some)))
+}
+
+/// A `K` line (Req 09).
+#[derive(Clone, Copy, PartialEq, Eq, Debug)]
+pub struct Word {
+    pub laptop: u8,
+    pub index: u16,
+    pub word: u64,
+}
+
+impl Word {
+    /// The identifiers that it stands for: bit j is clock 64 times index plus j.
+    fn identifiers(&self) -> impl Iterator<Item = Id> + '_ {
+        let bits = (0..64).filter(|j| self.word >> j & 1 == 1);
+        bits.map(|j| Id { laptop: self.laptop, clock: 64 * self.index + j })
+    }
+}
+
+/// A `K` line without its line feed: no layout, or the word if its numbers pass. The last may have more digits than any
+/// other number.
+fn word_of(line: &[u8]) -> Option<Option<Word>> {
+    let ns = numbers(line, "K", 3)?;
+    let digits = String::from_utf8_lossy(line.rsplit(|b| *b == b'\t').next()?);
+    let word = digits.parse().ok().filter(|word| *word >= 1);
+    let passes = (1..=16).contains(&ns[0]) && ns[1] < WORDS as u64;
+    let word = word.filter(|_| passes).map(|word| Word { laptop: ns[0] as u8, index: ns[1] as u16, word });
+    Some(word)
+}
+
+/// The identifiers of a list: refusals 1, 2 and 18 over the whole of it, in this order. Its laptop is judged for its
+/// range alone.
+pub fn read_list(bytes: &[u8]) -> Result<Vec<Id>, u8> {
+    let Some((b'\n', lines)) = bytes.split_last() else { return Err(1) };
+    let mut lines = lines.split(|b| *b == b'\n');
+    let head = numbers(lines.next().unwrap(), "H", 2).ok_or(1)?;
+    let words: Vec<Option<Word>> = lines.map(word_of).collect::<Option<_>>().ok_or(1)?;
+    if !(1..=16).contains(&head[0]) || head[1] > MOST_ROWS as u64 || words.contains(&None) {
+        return Err(2);
+    }
+    let words: Vec<Word> = words.into_iter().flatten().collect();
+    let ones: u64 = words.iter().map(|w| u64::from(w.word.count_ones())).sum();
+    let out_of_sequence = |pair: &[Word]| (pair[0].laptop, pair[0].index) >= (pair[1].laptop, pair[1].index);
+    if head[1] != ones || words.windows(2).any(out_of_sequence) {
+        return Err(18);
+    }
+    let listed: Vec<Id> = words.iter().flat_map(Word::identifiers).collect();
+    if listed.iter().any(|id| id.clock == 0) { Err(18) } else { Ok(listed) }
+}
+
+pub fn list_bytes(s: &Sheet) -> Vec<u8> {
+    let words = s.words();
+    let total: u32 = words.iter().map(|w| w.word.count_ones()).sum();
+    let mut list = format!("H\t{}\t{total}\n", s.laptop);
+    for w in words {
+        list += &format!("K\t{}\t{}\t{}\n", w.laptop, w.index, w.word);
+    }
+    list.into_bytes()
 }
 
 /// A saved sheet whose form is not looked at: refusals 1 and 2 over the whole of it, in this order. Loading raises a
@@ -991,6 +1081,23 @@ pub fn load_call(sheet: &[u8]) -> Outcome {
         Ok(s) if s.made_anew() == s.rows => Outcome::done(sheet_bytes(&s)),
         Ok(_) => Outcome::refused(16),
         Err(n) => Outcome::refused(n),
+    }
+}
+
+/// Listing the rows (Req 09).
+pub fn list_call(sheet: &[u8]) -> Outcome {
+    match read_sheet(sheet) {
+        Ok(s) => Outcome::done(list_bytes(&s)),
+        Err(n) => Outcome::refused(n),
+    }
+}
+
+/// Answering a list: 18 comes after 2 and before 3.
+pub fn answer_call(sheet: &[u8], list: &[u8]) -> Outcome {
+    match (read_sheet(sheet), read_list(list)) {
+        (Err(m @ (1 | 2)), Err(n)) => Outcome::refused(m.min(n)),
+        (Err(n @ (1 | 2)), Ok(_)) | (_, Err(n)) | (Err(n), Ok(_)) => Outcome::refused(n),
+        (Ok(s), Ok(listed)) => Outcome::done(s.answer(&listed).iter().flat_map(operation_line).collect()),
     }
 }
 
