@@ -10,10 +10,11 @@
 
 enum {
     GUARD = 64,
-    ROOM = WIMTAZE_SHEET_MAX + 64,
+    ROOM = WIMTAZE_ANSWER_MAX + 64,
     LINE_ROOM = WIMTAZE_LINE_MAX + 27,
     LINES_ROOM = WIMTAZE_LINES_MAX + 64,
-    HEAP_ROOM = 2 * WIMTAZE_HEAP_MAX
+    HEAP_ROOM = 2 * WIMTAZE_HEAP_MAX,
+    LIST_ROOM = 2 * WIMTAZE_LIST_MAX
 };
 
 static unsigned passed, failed, group_failed;
@@ -26,6 +27,10 @@ static size_t sheet_length;
 /* The heap that a sheet is built of. */
 static uint8_t heap[HEAP_ROOM];
 static size_t heap_length;
+
+/* The list that is answered. */
+static uint8_t list[LIST_ROOM];
+static size_t list_length;
 
 #define CHECK(held) check((held), __LINE__, #held)
 
@@ -421,6 +426,64 @@ static uint64_t build(uint64_t number, const char *lines)
 {
     heap_load(lines);
     return build_in(number, ROOM);
+}
+
+static void list_load(const char *text)
+{
+    list_length = tabbed(text, list);
+}
+
+static void list_append(const char *text)
+{
+    list_length += tabbed(text, list + list_length);
+}
+
+/* A call that takes the sheet at hand and leaves it, and writes to one output. */
+static uint64_t looked(uint64_t reply, size_t room, const uint8_t *was)
+{
+    after(reply, room, 0);
+    CHECK(memcmp(was, sheet, sheet_length) == 0);
+    CHECK(wimtaze_word(reply) == WIMTAZE_DONE || wimtaze_word(reply) == WIMTAZE_REFUSED);
+    CHECK(wimtaze_carried(reply) == 0 && wimtaze_thrown(reply) == 0 && wimtaze_line_written(reply) == 0);
+    return reply;
+}
+
+/* Lists the sheet at hand. What is listed is not answered: on the same sheet the answer has no insert. */
+static uint64_t write_list_in(size_t room)
+{
+    static uint8_t was[ROOM], lines[WIMTAZE_ANSWER_MAX];
+    memcpy(was, sheet, sheet_length);
+    before();
+    uint64_t reply = looked(wimtaze_list(sheet, sheet_length, first + GUARD, room), room, was);
+    if (wimtaze_word(reply) == WIMTAZE_DONE) {
+        uint64_t own =
+            wimtaze_answer(sheet, sheet_length, first + GUARD, wimtaze_written(reply), lines, sizeof lines);
+        CHECK(wimtaze_word(own) == WIMTAZE_DONE && memchr(lines, 'I', wimtaze_written(own)) == NULL);
+    }
+    return reply;
+}
+
+static uint64_t write_list(void)
+{
+    return write_list_in(ROOM);
+}
+
+/* Answers the list at hand. */
+static uint64_t answer_in(size_t room)
+{
+    static uint8_t was[ROOM], list_was[LIST_ROOM];
+    memcpy(was, sheet, sheet_length);
+    memcpy(list_was, list, list_length);
+    before();
+    uint64_t reply = wimtaze_answer(sheet, sheet_length, list, list_length, first + GUARD, room);
+    CHECK(memcmp(list_was, list, list_length) == 0);
+    return looked(reply, room, was);
+}
+
+static uint64_t answer(const char *lines)
+{
+    list_load(lines);
+    return answer_in(ROOM);
 }
 
 static uint64_t text_in(size_t room)
@@ -2540,6 +2603,389 @@ static void largest_loaded(void)
     }
 }
 
+/* ---- Req 09: catching up */
+
+/* Whether a call wrote just this to its one output, and told its length and nothing else. */
+static int wrote(uint64_t reply, const char *text)
+{
+    return reply == (uint64_t)strlen(text) << 32 && first_is(reply, text);
+}
+
+/* Rows are listed, hidden ones too, and what waits is not; by rising laptop and then rising index. */
+static void listed(void)
+{
+    static const struct {
+        const char *sheet, *list;
+    } cases[] = {{"S2 7 0\n", "H 7 0\n"}, {"S2 16 65535\n", "H 16 0\n"},
+        {"S2 3 0\nC 1 1 65 0 0 0 0 1\n", "H 3 1\nK 1 0 2\n"},
+        {"S2 9 0\nC 1 1 65 0 0 0 0 1\nC 1 63 65 0 0 0 0 1\nC 1 64 65 0 0 0 0 1\nC 2 65535 65 0 0 0 0 1\n",
+            "H 9 4\nK 1 0 9223372036854775810\nK 1 1 1\nK 2 1023 9223372036854775808\n"},
+        {"S2 9 0\nC 16 1 65 0 0 0 0 1\nC 2 130 65 0 16 1 0 1\nC 2 5 65 0 2 130 0 1\nC 2 3 65 0 2 5 0 1\n",
+            "H 9 4\nK 2 0 40\nK 2 2 4\nK 16 0 2\n"},
+        {"S2 3 0\nC 1 1 65 1 0 0 0 1\nC 2 1 65 255 0 0 0 1\nC 3 1 65 254 0 0 0 1\nI 4 1 66 5 1 0 1\n"
+         "I 3 2 66 5 1 0 1\nE 2 5 1 1\n",
+            "H 3 3\nK 1 0 2\nK 2 0 2\nK 3 0 2\n"},
+        {"S2 3 0\nI 4 1 66 5 1 0 1\n", "H 3 0\n"}};
+    char row[64];
+    for (size_t k = 0; k < sizeof cases / sizeof *cases; k++) {
+        load(cases[k].sheet);
+        CHECK(wrote(write_list(), cases[k].list) && wrote(write_list_in(strlen(cases[k].list)), cases[k].list));
+        CHECK(refused(write_list_in(strlen(cases[k].list) - 1), WIMTAZE_REFUSAL_OUTPUT));
+        CHECK(refused(write_list_in(0), WIMTAZE_REFUSAL_OUTPUT));
+    }
+    /* A whole word, and all but its ends. */
+    load("S2 9 0\n");
+    for (int clock = 63; clock <= 190; clock++) {
+        sprintf(row, "C 4 %d 65 0 0 0 0 1\n", clock);
+        append(row);
+    }
+    CHECK(wrote(write_list(), "H 9 128\nK 4 0 9223372036854775808\nK 4 1 18446744073709551615\n"
+                              "K 4 2 9223372036854775807\n"));
+}
+
+/* The inserts that are not listed, the lowest first of those whose needs are not still to be sent; then the turns. */
+static void answered(void)
+{
+    static const struct {
+        const char *sheet, *list, *lines;
+    } cases[] = {
+        /* Asked anew each time: 1/2 comes before 2/1, since 1/1 was sent. */
+        {"S2 9 0\nC 1 1 65 0 0 0 0 1\nC 1 2 66 0 1 1 0 1\nC 2 1 67 0 0 0 0 1\n", "H 1 0\n",
+            "I 1 1 65 0 0 0 1\nI 1 2 66 1 1 0 1\nI 2 1 67 0 0 0 1\n"},
+        {"S2 9 0\nC 1 1 65 0 0 0 0 1\nC 1 2 66 0 1 1 0 1\nC 2 1 67 0 0 0 0 1\n", "H 1 1\nK 1 0 2\n",
+            "I 1 2 66 1 1 0 1\nI 2 1 67 0 0 0 1\n"},
+        {"S2 9 0\nC 1 1 65 0 0 0 0 1\nC 1 2 66 0 1 1 0 1\nC 2 1 67 0 0 0 0 1\n", "H 1 1\nK 1 0 4\n",
+            "I 1 1 65 0 0 0 1\nI 2 1 67 0 0 0 1\n"},
+        /* A need still to be sent, above and below. */
+        {"S2 9 0\nC 2 1 65 0 0 0 0 1\nC 1 1 66 0 2 1 0 1\n", "H 1 0\n", "I 2 1 65 0 0 0 1\nI 1 1 66 2 1 0 1\n"},
+        {"S2 9 0\nC 1 1 66 0 0 0 2 1\nC 2 1 65 0 0 0 0 1\n", "H 1 0\n", "I 2 1 65 0 0 0 1\nI 1 1 66 0 0 2 1\n"},
+        {"S2 9 0\nC 1 1 66 0 0 0 2 1\nC 2 1 65 0 0 0 0 1\n", "H 1 1\nK 2 0 2\n", "I 1 1 66 0 0 2 1\n"},
+        /* P7's sheet, where none is free; and one where the lowest is the third in need. */
+        {"S2 16 0\nC 1 1 65 0 0 0 2 1\nC 2 1 66 0 1 1 0 1\n", "H 1 0\n", "I 1 1 65 0 0 2 1\nI 2 1 66 1 1 0 1\n"},
+        {"S2 16 0\nC 5 1 65 0 0 0 6 1\nC 6 1 66 0 5 1 0 1\nC 2 1 67 0 6 1 0 1\n", "H 1 0\n",
+            "I 2 1 67 6 1 0 1\nI 5 1 65 0 0 6 1\nI 6 1 66 5 1 0 1\n"},
+        {"S2 16 0\nC 5 1 65 0 0 0 6 1\nC 6 1 66 0 5 1 0 1\nC 9 1 67 0 0 0 0 1\n", "H 1 0\n",
+            "I 9 1 67 0 0 0 1\nI 5 1 65 0 0 6 1\nI 6 1 66 5 1 0 1\n"},
+        {"S2 16 0\nC 5 1 65 0 0 0 6 1\nC 6 1 66 0 5 1 0 1\n", "H 1 1\nK 6 0 2\n", "I 5 1 65 0 0 6 1\n"},
+        /* An E line for each turn above 0, listed or not, from the top, and from the laptop that answers. */
+        {"S2 7 0\nC 3 1 65 1 0 0 0 1\nC 1 1 66 2 3 1 0 1\nC 2 1 67 0 1 1 0 1\nC 4 1 68 255 2 1 0 1\n",
+            "H 2 2\nK 1 0 2\nK 3 0 2\n",
+            "I 2 1 67 1 1 0 1\nI 4 1 68 2 1 0 1\nE 7 3 1 1\nE 7 1 1 2\nE 7 4 1 255\n"},
+        /* What waits is not sent. */
+        {"S2 7 0\nC 3 1 65 0 0 0 0 1\nI 4 1 66 5 1 0 1\nE 3 5 1 9\n", "H 2 0\n", "I 3 1 65 0 0 0 1\n"},
+        /* What is listed and is not there; the laptop's own number; nothing to send. */
+        {"S2 7 0\nC 3 1 65 0 0 0 0 1\n", "H 7 3\nK 1 1023 9223372036854775808\nK 3 0 4\nK 3 1 1\n",
+            "I 3 1 65 0 0 0 1\n"},
+        {"S2 7 0\nC 3 1 65 0 0 0 0 1\n", "H 7 1\nK 3 0 2\n", ""}, {"S2 7 0\n", "H 16 0\n", ""},
+        {"S2 7 0\n", "H 16 1\nK 1 1 1\n", ""}};
+    for (size_t k = 0; k < sizeof cases / sizeof *cases; k++) {
+        load(cases[k].sheet);
+        CHECK(wrote(answer(cases[k].list), cases[k].lines) && wrote(answer_in(strlen(cases[k].lines)), cases[k].lines));
+        if (*cases[k].lines == '\0')
+            CHECK(wrote(answer_in(0), ""));
+        else
+            CHECK(refused(answer_in(strlen(cases[k].lines) - 1), WIMTAZE_REFUSAL_OUTPUT) &&
+                  refused(answer_in(0), WIMTAZE_REFUSAL_OUTPUT));
+    }
+}
+
+/* A sheet that is put aside, and taken up again. */
+struct kept {
+    uint8_t sheet[WIMTAZE_SHEET_MAX];
+    size_t length;
+};
+
+static void put_aside(struct kept *kept)
+{
+    kept->length = sheet_length;
+    memcpy(kept->sheet, sheet, sheet_length);
+}
+
+static void take_up(const struct kept *kept)
+{
+    sheet_length = kept->length;
+    memcpy(sheet, kept->sheet, sheet_length);
+}
+
+/* Lists the sheet at hand, and has it answered from another; the lines are left in the output. */
+static uint64_t ask(const struct kept *other)
+{
+    struct kept own;
+    uint64_t reply = write_list();
+    list_length = wimtaze_written(reply);
+    memcpy(list, first + GUARD, list_length);
+    put_aside(&own);
+    take_up(other);
+    reply = answer_in(WIMTAZE_ANSWER_MAX);
+    take_up(&own);
+    return reply;
+}
+
+/* Takes in the lines that the last call wrote; answers how many were done, and -1 if one waits or is refused. */
+static int take_in(uint64_t reply)
+{
+    static uint8_t lines[WIMTAZE_ANSWER_MAX];
+    size_t length = wimtaze_written(reply);
+    int count = 0, taken = 1;
+    memcpy(lines, first + GUARD, length);
+    for (size_t k = 0, end; k < length; k = end) {
+        for (end = k; lines[end++] != '\n';)
+            ;
+        enum wimtaze_words word = wimtaze_word(receive_bytes(lines + k, end - k, WIMTAZE_SHEET_MAX));
+        count += word == WIMTAZE_DONE;
+        taken = taken && (word == WIMTAZE_DONE || word == WIMTAZE_KNOWN);
+    }
+    return taken ? count : -1;
+}
+
+/* The rows of the sheet at hand, without its first line. */
+static int rows_are(const char *text)
+{
+    size_t head = (size_t)((const uint8_t *)memchr(sheet, '\n', sheet_length) + 1 - sheet);
+    static uint8_t want[ROOM];
+    size_t n = tabbed(text, want);
+    return sheet_length - head == n && memcmp(sheet + head, want, n) == 0;
+}
+
+/*
+ * The network drops for a quarter of an hour: laptop 1 goes on with the results, laptop 2 types a bye request and
+ * erases a character. Then each lists and the other answers, the second before it has taken in the first's answer, or
+ * after.
+ */
+static void quarter_of_an_hour(void)
+{
+    static struct kept one, two, after_one, after_two;
+    static const char *const want = "C 1 1 82 0 0 0 0 1\nC 1 2 53 1 1 1 0 1\nC 1 3 46 0 1 2 0 1\nC 1 4 49 0 1 3 0 1\n"
+                                    "C 2 1 66 0 1 3 0 1\n";
+    for (int behind = 0; behind < 2; behind++) {
+        empty(1, ROOM);
+        CHECK(done(paste(0, "R5"), 2, 0));
+        put_aside(&one);
+        CHECK(done(build(2, "I 1 2 53 1 1 0 1\nI 1 1 82 0 0 0 1\n"), 0, 0));
+        CHECK(done(receive("I 1 3 46 1 2 0 1\n"), 1, 0));
+        CHECK(done(type(3, 'B'), 1, 0) && done(erase(2), 1, 0));
+        put_aside(&two);
+        take_up(&one);
+        CHECK(done(paste(2, ".1"), 2, 0));
+        put_aside(&one);
+        take_up(&two);
+        uint64_t reply = ask(&one);
+        CHECK(wrote(reply, "I 1 4 49 1 3 0 1\n") && take_in(reply) == 1 && rows_are(want));
+        put_aside(&after_two);
+        take_up(&one);
+        reply = ask(behind ? &after_two : &two);
+        CHECK(wrote(reply, "I 2 1 66 1 3 0 1\nE 2 1 2 1\n") && take_in(reply) == 2 && rows_are(want));
+        put_aside(&after_one);
+        /* Asked once more, there is nothing but what is known. */
+        reply = ask(&after_two);
+        CHECK(wrote(reply, "E 2 1 2 1\n") && take_in(reply) == 0);
+        take_up(&after_two);
+        reply = ask(&after_one);
+        CHECK(wrote(reply, "E 1 1 2 1\n") && take_in(reply) == 0);
+        CHECK(counted(4, 0, 5, 1019) && first_is(text(), "R.1B"));
+    }
+}
+
+/* What waits on the sheet of who asks is not listed. It comes with what it needs, and is known when its line comes. */
+static void waiting_asked(void)
+{
+    static struct kept other;
+    load("S2 9 0\nC 1 1 65 3 0 0 0 1\nC 1 2 66 0 1 1 0 1\nC 2 1 67 0 1 2 0 1\nC 5 1 68 0 0 0 0 1\n");
+    put_aside(&other);
+    load("S2 2 1\nI 2 1 67 1 2 0 1\nI 1 2 66 1 1 0 1\nE 4 1 1 1\nE 4 8 1 1\n");
+    uint64_t reply = ask(&other);
+    CHECK(wrote(reply, "I 1 1 65 0 0 0 1\nI 1 2 66 1 1 0 1\nI 2 1 67 1 2 0 1\nI 5 1 68 0 0 0 1\nE 9 1 1 3\n"));
+    CHECK(take_in(reply) == 3);
+    CHECK(sheet_is("S2 2 1\nC 1 1 65 3 0 0 0 1\nC 1 2 66 0 1 1 0 1\nC 2 1 67 0 1 2 0 1\nC 5 1 68 0 0 0 0 1\n"
+                   "E 4 8 1 1\n"));
+    /* A turn that is higher here stays. */
+    load("S2 2 1\nC 1 1 65 5 0 0 0 1\n");
+    CHECK(take_in(ask(&other)) == 3);
+    CHECK(rows_are("C 1 1 65 5 0 0 0 1\nC 1 2 66 0 1 1 0 1\nC 2 1 67 0 1 2 0 1\nC 5 1 68 0 0 0 0 1\n"));
+}
+
+/* Where a premise does not hold a line is refused: 7 against what waits, 11 where there is no space. */
+static void no_premise(void)
+{
+    static struct kept other;
+    load("S2 9 0\nC 5 1 65 0 0 0 0 1\n");
+    put_aside(&other);
+    load("S2 2 0\nI 5 1 65 7 7 0 1\n");
+    CHECK(wrote(ask(&other), "I 5 1 65 0 0 0 1\n"));
+    CHECK(refused(receive("I 5 1 65 0 0 0 1\n"), WIMTAZE_REFUSAL_CONFLICT));
+    load("S2 2 0\nC 5 1 66 0 0 0 0 1\n");
+    CHECK(wrote(ask(&other), ""));
+    load_rows(1023);
+    CHECK(take_in(ask(&other)) == 1);
+    load_rows(1023);
+    append("I 2 1 98 3 1 0 1\n");
+    CHECK(take_in(ask(&other)) == -1);
+    CHECK(refused(receive("I 5 1 65 0 0 0 1\n"), WIMTAZE_REFUSAL_DOCUMENT_FULL));
+    load_rows(1024);
+    CHECK(take_in(ask(&other)) == -1);
+    /* What waits here and is sent counts twice in the premise, and once in what there is room for. */
+    load("S2 9 0\nC 2 1 65 0 0 0 0 1\n");
+    put_aside(&other);
+    load_rows(1022);
+    append("E 4 2 1 1\nI 3 1 98 2 1 0 1\n");
+    CHECK(take_in(ask(&other)) == 1 && counted(1023, 0, 1024, 0));
+}
+
+/* Refusals 1, 2 and 18 of a list, alone and with many lines before. */
+static void not_answered(void)
+{
+    static const char *const layouts[] = {"", "\n", "H\n", "H 1\n", "H 1 0", "H 1 0 0\n", "h 1 0\n", "H 01 0\n",
+        "H 1 00\n", "H 1 0\n\n", "\nH 1 0\n", "H 1 0\r\n", "H 1 0 \n", " H 1 0\n", "H2 1 0\n", "H 1 +0\n",
+        "H 1 0\nH 1 0\n", "H 1 1\nK 1 1 1\nH 1 1\n", "K 1 1 1\n", "K 1 1 1\nH 1 1\n", "H 1 1\nK 1 1 1",
+        "H 1 1\nK 1 1\n", "H 1 1\nK 1 1 1 1\n", "H 1 1\nK 1 1 01\n", "H 1 1\nK 1 1 +1\n", "H 1 1\nK 1 1 -1\n",
+        "H 1 1\nK 1 1 0x1\n", "H 1 1\nk 1 1 1\n", "H 1 1\nK 1 1 1\n ", "H 1 1\nK 1 1 1\n\n", "H 1 1\nK 1 1 \n",
+        "H 1 0\nI 1 1 65 0 0 0 1\n", "H 1 0\nE 1 1 1 1\n", "H 1 0\nC 1 1 65 0 0 0 0 1\n", "S2 1 0\n",
+        "H 1 0\nS2 1 0\n"};
+    static const char *const ranges[] = {"H 0 0\n", "H 17 0\n", "H 257 0\n", "H 18446744073709551617 0\n", "H 1 1025\n",
+        "H 1 65536\n", "H 1 4294967296\n", "H 1 18446744073709551616\n", "H 1 1\nK 0 1 1\n", "H 1 1\nK 17 1 1\n",
+        "H 1 1\nK 257 1 1\n", "H 1 1\nK 1 1024 1\n", "H 1 1\nK 1 65536 1\n", "H 1 1\nK 1 4294967297 1\n",
+        "H 1 1\nK 1 18446744073709551617 1\n", "H 1 0\nK 1 1 0\n", "H 1 1\nK 1 1 18446744073709551616\n",
+        "H 1 1\nK 1 1 18446744073709551617\n", "H 1 1\nK 1 1 340282366920938463463374607431768211457\n",
+        "H 1 1\nK 1 1 9999999999999999999999999999999999999999\n"};
+    static const char *const mislisted[] = {
+        /* another total */
+        "H 1 1\n", "H 1 1024\n", "H 1 0\nK 1 1 1\n", "H 1 2\nK 1 1 1\n", "H 1 63\nK 1 1 18446744073709551615\n",
+        /* clock 0 */
+        "H 1 1\nK 1 0 1\n", "H 1 2\nK 1 0 3\n", "H 1 64\nK 16 0 18446744073709551615\n", "H 1 2\nK 1 0 2\nK 2 0 1\n",
+        /* out of sequence, by laptop and by index; repeated; two words of one place */
+        "H 1 2\nK 2 0 2\nK 1 0 2\n", "H 1 2\nK 1 1 1\nK 1 0 2\n", "H 1 2\nK 1 1 1\nK 1 1 1\n",
+        "H 1 1\nK 1 1 1\nK 1 1 1\n", "H 1 2\nK 1 1 1\nK 1 1 2\n", "H 1 3\nK 1 1 1\nK 1 2 1\nK 1 1 2\n",
+        "H 1 3\nK 1 5 1\nK 2 1 1\nK 1 9 1\n"};
+    load("S2 4 0\nC 2 1 65 1 0 0 0 1\n");
+    for (size_t k = 0; k < sizeof layouts / sizeof *layouts; k++)
+        CHECK(refused(answer(layouts[k]), WIMTAZE_REFUSAL_LAYOUT));
+    for (size_t k = 0; k < sizeof ranges / sizeof *ranges; k++)
+        CHECK(refused(answer(ranges[k]), WIMTAZE_REFUSAL_RANGE));
+    for (size_t k = 0; k < sizeof mislisted / sizeof *mislisted; k++)
+        CHECK(refused(answer(mislisted[k]), WIMTAZE_REFUSAL_MISLISTED));
+    /* What is just within its range, and not mislisted. */
+    CHECK(wrote(answer("H 16 66\nK 1 0 2\nK 1 1 1\nK 16 1023 18446744073709551615\n"),
+                "I 2 1 65 0 0 0 1\nE 4 2 1 1\n"));
+    /* Every shorter part of a list is cut in a line, or its total is wrong. */
+    list_load("H 1 3\nK 1 0 2\nK 2 0 2\nK 3 0 2\n");
+    for (list_length--; list_length > 0; list_length--) {
+        int whole = list[list_length - 1] == '\n';
+        CHECK(refused(answer_in(ROOM), whole ? WIMTAZE_REFUSAL_MISLISTED : WIMTAZE_REFUSAL_LAYOUT));
+    }
+}
+
+/* A list of so many words, each with its index, and of laptop 1 or 2. */
+static void list_words(int total, int count, const char *word)
+{
+    char line[64];
+    sprintf(line, "H 5 %d\n", total);
+    list_load(line);
+    for (int k = 1; k <= count; k++) {
+        sprintf(line, "K %d %d %s\n", k < 1024 ? 1 : 2, k < 1024 ? k : k - 1023, word);
+        list_append(line);
+    }
+}
+
+/* At most 1,024 are listed, in as many words at most; of a longer list all is looked at. */
+static void list_limits(void)
+{
+    static const char *const whole = "18446744073709551615", *const one = "9223372036854775808";
+    load("S2 4 0\nC 1 127 65 0 0 0 0 1\nC 2 127 66 0 0 0 0 1\n");
+    list_words(1024, 16, whole);
+    CHECK(wrote(answer_in(ROOM), "I 2 127 66 0 0 0 1\n"));
+    list_words(1024, 1024, one);
+    CHECK(wrote(answer_in(ROOM), ""));
+    list_words(1024, 1023, one);
+    CHECK(refused(answer_in(ROOM), WIMTAZE_REFUSAL_MISLISTED));
+    list_words(1023, 1023, one);
+    CHECK(wrote(answer_in(ROOM), "I 2 127 66 0 0 0 1\n"));
+    static const struct {
+        int total, count;
+        const char *word;
+    } overfull[] = {{1024, 17, whole}, {0, 17, whole}, {64, 17, whole}, {1024, 1025, one}, {1, 1025, one},
+        {1024, 2000, one}, {1024, 1024, whole}, {0, 2000, whole}};
+    for (size_t k = 0; k < sizeof overfull / sizeof *overfull; k++) {
+        list_words(overfull[k].total, overfull[k].count, overfull[k].word);
+        CHECK(refused(answer_in(ROOM), WIMTAZE_REFUSAL_MISLISTED));
+        list_append("K 16 1023 0\n");
+        CHECK(refused(answer_in(ROOM), WIMTAZE_REFUSAL_RANGE));
+        list_append("K 16 1023\n");
+        CHECK(refused(answer_in(ROOM), WIMTAZE_REFUSAL_LAYOUT));
+    }
+    list_words(1025, 1025, one);
+    CHECK(refused(answer_in(ROOM), WIMTAZE_REFUSAL_RANGE));
+}
+
+/* Grounds that hold at once, of the sheet and of the list, every pair: the first in the order 1 2 18 3 12 is told. */
+static void first_of_two_answering(void)
+{
+    static const char *const sheets[] = {"S2 4 0\nC 2 1 65 1 0 0 0 1\n", "S2 4 0\nC 2 1 65 1 0 0 0\n",
+        "S2 4 0\nC 2 1 65 256 0 0 0 1\n", "S2 4 0\nC 2 1 65 1 0 0 0 1\nE 1 2 1 1\n"};
+    static const struct {
+        const char *list;
+        int told[4];
+    } lists[] = {{"H 1 0\n", {12, 1, 2, 3}}, {"H 1\n", {1, 1, 1, 1}}, {"H 17 0\n", {2, 1, 2, 2}},
+        {"H 1 1\n", {18, 1, 2, 18}}, {"H 17 0\nK 1 1\n", {1, 1, 1, 1}}, {"H 1 0\nK 1 0 1\nK 1 1 1 1\n", {1, 1, 1, 1}},
+        {"H 1 1\nK 1 1024 1\n", {2, 1, 2, 2}}, {"H 1 0\nK 2 0 3\nK 1 0 0\n", {2, 1, 2, 2}},
+        {"H 1 2\nK 2 0 3\n", {18, 1, 2, 18}}, {"H 1 2\nK 2 0 2\nK 1 0 2\n", {18, 1, 2, 18}}};
+    static const int listing[] = {12, 1, 2, 3};
+    for (size_t k = 0; k < 4; k++) {
+        load(sheets[k]);
+        CHECK(refused(write_list_in(0), listing[k]));
+        for (size_t j = 0; j < sizeof lists / sizeof *lists; j++) {
+            list_load(lists[j].list);
+            CHECK(refused(answer_in(0), lists[j].told[k]));
+        }
+    }
+}
+
+/* The longest list: 1,024 words of one clock each, the last of 64. */
+static void longest_list(void)
+{
+    static char want[WIMTAZE_LIST_MAX];
+    char row[64];
+    char *at = want + sprintf(want, "H 16 1024\n");
+    load("S2 16 65535\n");
+    for (int k = 0; k < 1024; k++) {
+        sprintf(row, "C 16 %d 97 %d 0 0 0 1\n", 64 * k + 63, k % 256);
+        append(row);
+        at += sprintf(at, "K 16 %d 9223372036854775808\n", k);
+    }
+    CHECK(wrote(write_list_in(WIMTAZE_LIST_MAX), want) && wrote(write_list_in(strlen(want)), want));
+    CHECK(refused(write_list_in(strlen(want) - 1), WIMTAZE_REFUSAL_OUTPUT));
+    CHECK(strlen(want) == WIMTAZE_LIST_MAX - 1024 - 3 * 10 - 2 * 90 - 900);
+}
+
+/* The longest answer: only the marks keep it below what the header names. And one that goes from the top. */
+static void longest_answer(void)
+{
+    static char want[WIMTAZE_ANSWER_MAX + 1];
+    char row[128], ends[64], *at = want;
+    load("S2 16 65535\n");
+    for (int k = 0; k < 1024; k++) {
+        int n = sprintf(ends, k == 0 ? "0 0 " : "16 %d ", 64000 + k - 1);
+        sprintf(ends + n, k == 1023 ? "0 1\n" : "16 %d\n", 64000 + k + 1);
+        sprintf(row, "C 16 %d 1114111 255 %s", 64000 + k, ends);
+        append(row);
+        at += sprintf(at, "I 16 %d 1114111 %s", 64000 + k, ends);
+    }
+    for (int k = 0; k < 1024; k++)
+        at += sprintf(at, "E 16 16 %d 255\n", 64000 + k);
+    list_load("H 1 0\n");
+    CHECK(strlen(want) == WIMTAZE_ANSWER_MAX - 10);
+    CHECK(wrote(answer_in(WIMTAZE_ANSWER_MAX), want) && wrote(answer_in(strlen(want)), want));
+    CHECK(refused(answer_in(strlen(want) - 1), WIMTAZE_REFUSAL_OUTPUT));
+    load("S2 4 0\n");
+    at = want;
+    for (int k = 1024; k > 0; k--) {
+        sprintf(ends, k == 1024 ? "0 0 0 1\n" : "1 %d 0 1\n", k + 1);
+        sprintf(row, "C 1 %d 97 0 %s", k, ends);
+        append(row);
+        at += sprintf(at, "I 1 %d 97 %s", k, ends);
+    }
+    CHECK(wrote(answer_in(WIMTAZE_ANSWER_MAX), want));
+}
+
 /* ---- waiting, throwing out, and what releases it */
 
 static void released(void)
@@ -2618,6 +3064,8 @@ static void layout(void)
         CHECK(refused(erase(1), WIMTAZE_REFUSAL_LAYOUT));
         CHECK(refused(restore(1, 1), WIMTAZE_REFUSAL_LAYOUT));
         CHECK(refused(paste(0, "x"), WIMTAZE_REFUSAL_LAYOUT));
+        CHECK(refused(write_list(), WIMTAZE_REFUSAL_LAYOUT));
+        CHECK(refused(answer("H 1 0\n"), WIMTAZE_REFUSAL_LAYOUT));
         CHECK(refused(text(), WIMTAZE_REFUSAL_LAYOUT));
         CHECK(refused(counts(), WIMTAZE_REFUSAL_LAYOUT));
     }
@@ -2653,6 +3101,8 @@ static void ranges(void)
         CHECK(refused(erase(1), WIMTAZE_REFUSAL_RANGE));
         CHECK(refused(restore(1, 1), WIMTAZE_REFUSAL_RANGE));
         CHECK(refused(paste(0, "x"), WIMTAZE_REFUSAL_RANGE));
+        CHECK(refused(write_list(), WIMTAZE_REFUSAL_RANGE));
+        CHECK(refused(answer("H 1 0\n"), WIMTAZE_REFUSAL_RANGE));
         CHECK(refused(text(), WIMTAZE_REFUSAL_RANGE));
         CHECK(refused(counts(), WIMTAZE_REFUSAL_RANGE));
     }
@@ -2679,6 +3129,8 @@ static void form(void)
         CHECK(refused(erase(1), WIMTAZE_REFUSAL_FORM));
         CHECK(refused(restore(1, 1), WIMTAZE_REFUSAL_FORM));
         CHECK(refused(paste(0, "x"), WIMTAZE_REFUSAL_FORM));
+        CHECK(refused(write_list(), WIMTAZE_REFUSAL_FORM));
+        CHECK(refused(answer("H 1 0\n"), WIMTAZE_REFUSAL_FORM));
         CHECK(refused(text(), WIMTAZE_REFUSAL_FORM));
         CHECK(refused(counts(), WIMTAZE_REFUSAL_FORM));
     }
@@ -2941,7 +3393,7 @@ static void version(void)
 static void every_refusal(void)
 {
     for (unsigned n = 1; n <= 20; n++)
-        CHECK((refusals_seen >> n & 1) == (n != WIMTAZE_REFUSAL_TAKEN && (n <= 17 || n == 20)));
+        CHECK((refusals_seen >> n & 1) == (n != WIMTAZE_REFUSAL_TAKEN && n != 19));
     CHECK(refusals_seen >> 21 == 0);
 }
 
@@ -3022,6 +3474,16 @@ static const struct {
     {"Req 07: refusals 1, 2, 3 and 12", not_read_for_use},
     {"Req 07: the first of two refusals", first_of_two_loading},
     {"Req 07: the largest sheets", largest_loaded},
+    {"Req 09: what is listed", listed},
+    {"Req 09: what is answered", answered},
+    {"Req 09: a quarter of an hour", quarter_of_an_hour},
+    {"Req 09: what waits where the list was made", waiting_asked},
+    {"Req 09: where a premise does not hold", no_premise},
+    {"Req 09: refusals of a list", not_answered},
+    {"Req 09: the limits of a list", list_limits},
+    {"Req 09: the first of two refusals", first_of_two_answering},
+    {"Req 09: the longest list", longest_list},
+    {"Req 09: the longest answer", longest_answer},
     {"what an insert releases", released},
     {"placing", placing},
     {"layout of lines and sheets", layout},
