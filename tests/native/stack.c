@@ -1,8 +1,8 @@
 /*
  * How much stack the calls take: every call of the library in a thread whose stack was painted before, on an empty
- * sheet, on a full one and on one where a line or a block releases the edits that wait for it, on heaps of every kind
- * and on sheets that other programs write. It must not be more than the header says, below the frame that the calls are
- * made from.
+ * sheet, on a full one and on one where a line or a block releases the edits that wait for it, on heaps and lists of
+ * every kind and on sheets that other programs write. It must not be more than the header says, below the frame that
+ * the calls are made from.
  */
 #include "wimtaze.h"
 
@@ -14,6 +14,7 @@ enum { PAINT = 0xa5, PAGE = 4096, PAINTED = 4 * WIMTAZE_STACK };
 
 static uint8_t sheet[WIMTAZE_SHEET_MAX], after[WIMTAZE_SHEET_MAX], line[WIMTAZE_LINE_MAX], text[WIMTAZE_TEXT_MAX];
 static uint8_t lines[WIMTAZE_LINES_MAX], heap[2 * WIMTAZE_HEAP_MAX];
+static uint8_t list[2 * WIMTAZE_LIST_MAX], answer[WIMTAZE_ANSWER_MAX];
 static size_t length, heap_length;
 static int failures;
 
@@ -152,6 +153,49 @@ static void foreign(void)
     }
 }
 
+static void answered(size_t list_length, unsigned word)
+{
+    if (wimtaze_word(wimtaze_answer(sheet, length, list, list_length, answer, sizeof answer)) != word)
+        failures++;
+}
+
+/* Lists of nothing, with another total, and of far too many words. */
+static void other_lists(void)
+{
+    char *at = (char *)list + sprintf((char *)list, "H\t1\t0\n");
+    answered((size_t)(at - (char *)list), WIMTAZE_DONE);
+    list[4]++;
+    answered((size_t)(at - (char *)list), WIMTAZE_REFUSED);
+    for (unsigned k = 0; k < 2000; k++)
+        at += sprintf(at, "K\t%u\t%u\t18446744073709551615\n", 1 + k / 1000, 1 + k % 1000);
+    answered((size_t)(at - (char *)list), WIMTAZE_REFUSED);
+}
+
+/*
+ * 1,024 rows, each in a word of its own: between the marks, in a chain, and such that each needs the next and the one
+ * before; what they list themselves is answered, and other lists are.
+ */
+static void lists(void)
+{
+    for (unsigned kind = 0; kind < 3; kind++) {
+        char *at = (char *)sheet + sprintf((char *)sheet, "S2\t2\t65535\n");
+        for (unsigned k = 0; k < 1024; k++) {
+            unsigned clock = 64 * k + 63, above = kind > 0 && k > 0, below = kind > 1 && k < 1023;
+            at += sprintf(at, "C\t2\t%u\t66\t255\t%u\t%u\t%u\t%u\n", clock, 2 * above, above * (clock - 64), 2 * below,
+                          below ? clock + 64 : 1);
+        }
+        length = (size_t)(at - (char *)sheet);
+        uint64_t reply = wimtaze_list(sheet, length, list, sizeof list);
+        if (wimtaze_word(reply) != WIMTAZE_DONE)
+            failures++;
+        answered(wimtaze_written(reply), WIMTAZE_DONE);
+        answered(wimtaze_written(reply) - 1, WIMTAZE_REFUSED);
+        other_lists();
+    }
+    length--;
+    answered(0, WIMTAZE_REFUSED);
+}
+
 static void *calls(void *unused)
 {
     uint8_t here;
@@ -182,6 +226,7 @@ static void *calls(void *unused)
     blocks();
     heaps();
     foreign();
+    lists();
     return unused;
 }
 
