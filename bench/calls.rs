@@ -1,7 +1,7 @@
 //! Times the C calls of the static library, saved sheets in and out, against the same calls of the plain Rust in
 //! tests/native/reference.rs; and pasting against typing through the library, building against receiving, and these
-//! two and loading against the Rust with a table in tabled.rs. Both sides leave the same bytes, which is checked on the
-//! way.
+//! two, loading, listing and answering against the Rust with a table in tabled.rs. Both sides leave the same bytes,
+//! which is checked on the way.
 
 #[path = "../tests/native/library.rs"]
 #[allow(dead_code)]
@@ -14,7 +14,10 @@ mod table;
 #[allow(dead_code)]
 mod tabled;
 
-use library::{wimtaze_build, wimtaze_erase, wimtaze_load, wimtaze_paste, wimtaze_receive, wimtaze_text, wimtaze_type};
+use library::{
+    wimtaze_answer, wimtaze_build, wimtaze_erase, wimtaze_list, wimtaze_load, wimtaze_paste, wimtaze_receive,
+    wimtaze_text, wimtaze_type,
+};
 use reference::{
     erase_call, operation_line, read_heap, read_numbers, read_sheet, receive_call, sheet_bytes, text_call, type_call,
     Form, Outcome, Reply,
@@ -25,6 +28,8 @@ const COUNT: u64 = 1024;
 const TEXTS: usize = 100;
 const SHEET: usize = 51_212;
 const LINES: usize = 37_888;
+const LIST: usize = 31_754;
+const ANSWER: usize = 56_320;
 
 /// What the calls leave: the saved sheet, and the lines that were sent.
 #[derive(Clone, PartialEq)]
@@ -217,6 +222,48 @@ fn loaded_tabled(from: &[u8], times: usize) -> Left {
     left
 }
 
+/// The list of a sheet, written so many times.
+fn listed(from: &[u8], times: usize) -> Left {
+    let (mut left, mut list) = (empty(2), [0u8; LIST]);
+    for _ in 0..times {
+        let r = unsafe { wimtaze_list(from.as_ptr(), from.len(), list.as_mut_ptr(), LIST) };
+        left.keep_written(r, &list, &[]);
+    }
+    left
+}
+
+fn listed_tabled(from: &[u8], times: usize) -> Left {
+    let mut left = empty(2);
+    for _ in 0..times {
+        let sheet = Tabled::of(read_numbers(from, Form::Second).unwrap());
+        left.sheet = sheet.list().unwrap_or_else(|n| panic!("refused with {n}"));
+    }
+    left
+}
+
+/// What a sheet answers to a list, written so many times.
+fn answered(from: &[u8], list: &[u8], times: usize) -> Left {
+    let (mut left, mut answer) = (empty(2), [0u8; ANSWER]);
+    for _ in 0..times {
+        let (s, a) = (from.as_ptr(), answer.as_mut_ptr());
+        let r = unsafe { wimtaze_answer(s, from.len(), list.as_ptr(), list.len(), a, ANSWER) };
+        left.keep_written(r, &answer, &[]);
+    }
+    left
+}
+
+fn answered_tabled(from: &[u8], list: &[u8], times: usize) -> Left {
+    let mut left = empty(2);
+    for _ in 0..times {
+        let sheet = Tabled::of(read_numbers(from, Form::Second).unwrap());
+        left.sheet = sheet.answer(list).unwrap_or_else(|n| panic!("refused with {n}"));
+    }
+    left
+}
+
+/// The list that marks nothing, to which everything is answered.
+const NOTHING: &[u8] = b"H\t2\t0\n";
+
 type Row = ((u64, u64), (u64, u64), (u64, u64));
 
 /// The sheet of laptop 2 with these rows.
@@ -243,6 +290,19 @@ fn crosswise(mut ids: Vec<(u64, u64)>) -> Vec<u8> {
         _ => (ids[k], ids[last - k + 1], (0, 1)),
     };
     sheet_of((0..ids.len()).map(row))
+}
+
+/// Rows each of which needs the one above it and the one below, so that none is ever free until the one before is sent:
+/// no history makes them.
+fn going_round(ids: &[(u64, u64)]) -> Vec<u8> {
+    let before = std::iter::once(&(0, 0)).chain(ids);
+    let behind = ids[1..].iter().chain(std::iter::once(&(0, 1)));
+    sheet_of(ids.iter().zip(before).zip(behind).map(|((id, previous), next)| (*id, *previous, *next)))
+}
+
+/// Identifiers of which each is in a word of its own.
+fn apart() -> Vec<(u64, u64)> {
+    (0..COUNT).map(|k| (k / 64 + 1, k % 64 * 64 + 63)).collect()
 }
 
 /// 1,024 inserts of sixteen laptops in turn, each after the one before, and an `E` line for each.
@@ -338,14 +398,43 @@ fn main() {
     }
     let enemy = enemys_heap(colliding(COUNT as usize));
     table::alone("the same, its identifiers all of one chain", &|| built(&enemy, 1).sum());
+    let of_heap = built(&lines.concat(), 1).sheet;
     let sheets = [
-        ("10 times wimtaze_load, of 1,024 rows typed", full.sheet),
-        ("the same of those that were built", built(&lines.concat(), 1).sheet),
-        ("the same with all rows between the marks", between_the_marks(&rising())),
-        ("the same of the slowest sheet that we found", crosswise(rising())),
-        ("the same, its identifiers all of one chain", crosswise(colliding(COUNT as usize))),
+        ("10 times wimtaze_load, of 1,024 rows typed", &full.sheet),
+        ("the same of those that were built", &of_heap),
+        ("the same with all rows between the marks", &between_the_marks(&rising())),
+        ("the same of the slowest sheet that we found", &crosswise(rising())),
+        ("the same, its identifiers all of one chain", &crosswise(colliding(COUNT as usize))),
     ];
     for (name, sheet) in &sheets {
         table::row(name, &|| loaded_tabled(sheet, 10).sum(), &|| loaded(sheet, 10).sum());
     }
+    lists(&full.sheet, &of_heap);
+}
+
+/// Listing, and answering everything, on a sheet that was typed, one that was built, and such as are chosen for it.
+fn lists(typed: &[u8], built: &[u8]) {
+    let sheets = [
+        ("10 times wimtaze_list, of 1,024 rows typed", typed),
+        ("the same of those that were built", built),
+        ("the same with a word for each row", &between_the_marks(&apart())),
+        ("the same, its identifiers all of one chain", &between_the_marks(&colliding(COUNT as usize))),
+    ];
+    for (name, sheet) in sheets {
+        table::row(name, &|| listed_tabled(sheet, 10).sum(), &|| listed(sheet, 10).sum());
+    }
+    let sheets = [
+        ("10 times wimtaze_answer, of 1,024 rows typed", typed),
+        ("the same of those that were built, with turns", built),
+        ("the same with all rows between the marks", &between_the_marks(&rising())),
+        ("the same of rows that go round", &going_round(&rising())),
+        ("the same, its identifiers all of one chain", &crosswise(colliding(COUNT as usize))),
+    ];
+    for (name, sheet) in sheets {
+        table::row(name, &|| answered_tabled(sheet, NOTHING, 10).sum(), &|| answered(sheet, NOTHING, 10).sum());
+    }
+    let own = listed(typed, 1).sheet;
+    table::row("the same to a list of all that is typed", &|| answered_tabled(typed, &own, 10).sum(), &|| {
+        answered(typed, &own, 10).sum()
+    });
 }

@@ -1,12 +1,15 @@
-//! Receiving, pasting, building and loading with a table, as a Rust programmer would write them for speed: the checks
-//! of documents 01 and 02 at each call, the form and the table among them, rows found through the chains of a table that is
-//! kept beside them and made anew after an insert, the sheet changed in place.
+//! Receiving, pasting, building, loading, listing and answering with a table, as a Rust programmer would write them for
+//! speed: the checks of documents 01 and 02 at each call, the form and the table among them, rows found through the
+//! chains of a table that is kept beside them and made anew after an insert, the sheet changed in place.
 
 use crate::reference::{is_code_point, read_block, Id, Insert, Operation, Reply, Row, Sheet, Turn, BEGIN, END};
+use std::io::Write;
 
 const ROWS: usize = 1024;
 const CHAINS: usize = 2048;
 const SHARE: usize = 32;
+/// Of a laptop in a list, each with 64 clocks.
+const WORDS: usize = 1024;
 
 pub struct Tabled {
     laptop: u8,
@@ -65,6 +68,63 @@ fn turn_of(o: &Operation) -> Option<&Turn> {
         Operation::Turn(t) => Some(t),
         Operation::Insert(_) => None,
     }
+}
+
+/// A field of digits; none if it is above 64 bits.
+fn number(field: &str) -> Result<Option<u64>, u8> {
+    let digits = !field.is_empty() && field.bytes().all(|b| b.is_ascii_digit());
+    if digits && (field == "0" || !field.starts_with('0')) { Ok(field.parse().ok()) } else { Err(1) }
+}
+
+/// The numbers of a line with this word; those above 64 bits are out of every range.
+fn numbers<const N: usize>(line: &str, word: &str) -> Result<Option<[u64; N]>, u8> {
+    let mut fields = line.split('\t');
+    if fields.next() != Some(word) {
+        return Err(1);
+    }
+    let (mut all, mut within) = ([0; N], true);
+    for n in &mut all {
+        match number(fields.next().ok_or(1)?)? {
+            Some(value) => *n = value,
+            None => within = false,
+        }
+    }
+    if fields.next().is_some() { Err(1) } else { Ok(Some(all).filter(|_| within)) }
+}
+
+/// Where the word of a laptop with this index stands in the table.
+fn at(laptop: usize, index: usize) -> usize {
+    laptop * WORDS + index
+}
+
+/// The table of a list's words, 0 where it has none: refusals 1, 2 and 18.
+fn words_of(list: &[u8]) -> Result<Vec<u64>, u8> {
+    let mut lines = std::str::from_utf8(list).ok().and_then(|text| text.strip_suffix('\n')).ok_or(1)?.split('\n');
+    let head = numbers::<2>(lines.next().ok_or(1)?, "H")?.filter(|[l, t]| (1..=16).contains(l) && *t <= ROWS as u64);
+    let (mut table, mut ones, mut last) = (vec![0; 17 * WORDS], 0, None);
+    let (mut passes, mut sound) = (head.is_some(), true);
+    for line in lines {
+        match numbers::<3>(line, "K")? {
+            Some([l, i, word]) if (1..=16).contains(&l) && i < WORDS as u64 && word > 0 => {
+                sound &= last < Some((l, i)) && (i > 0 || word % 2 == 0);
+                last = Some((l, i));
+                ones += u64::from(word.count_ones());
+                table[at(l as usize, i as usize)] = word;
+            }
+            _ => passes = false,
+        }
+    }
+    match head {
+        Some([_, total]) if passes && sound && total == ones => Ok(table),
+        Some(_) if passes => Err(18),
+        _ => Err(2),
+    }
+}
+
+fn write_insert(out: &mut Vec<u8>, i: &Insert) {
+    let (p, n) = (i.previous, i.next);
+    write!(out, "I\t{}\t{}\t{}", i.id.laptop, i.id.clock, i.code).unwrap();
+    writeln!(out, "\t{}\t{}\t{}\t{}", p.laptop, p.clock, n.laptop, n.clock).unwrap();
 }
 
 /// Whether every row can be taken away, each after both of its neighbours, whose places these are: in passes down and
@@ -379,13 +439,62 @@ impl Tabled {
         above.iter().enumerate().all(|(k, from)| (*from..k).all(|j| ordered(j, k)))
     }
 
+    /// The place of a neighbour of each row.
+    fn places(&self, of: fn(&Insert) -> Id) -> Vec<usize> {
+        self.rows.iter().map(|r| self.place(of(&r.insert)).unwrap()).collect()
+    }
+
+    /// Listing a sheet that was read: a table of all words, of which those that are not 0 are written.
+    pub fn list(&self) -> Result<Vec<u8>, u8> {
+        if !self.in_form() {
+            return Err(3);
+        }
+        let mut table = vec![0u64; 17 * WORDS];
+        for id in self.rows.iter().map(|r| r.insert.id) {
+            table[at(id.laptop.into(), usize::from(id.clock / 64))] |= 1 << (id.clock % 64);
+        }
+        let (total, mut out) = (table.iter().map(|word| word.count_ones()).sum::<u32>(), Vec::new());
+        writeln!(out, "H\t{}\t{total}", self.laptop).unwrap();
+        for (k, word) in table.iter().enumerate().filter(|(_, word)| **word > 0) {
+            writeln!(out, "K\t{}\t{}\t{word}", k / WORDS, k % WORDS).unwrap();
+        }
+        Ok(out)
+    }
+
+    /// Answering a list from a sheet that was read: a plain scan over what is left for the lowest that is free, each
+    /// time, and over all of it where none is.
+    pub fn answer(&self, list: &[u8]) -> Result<Vec<u8>, u8> {
+        let table = words_of(list)?;
+        if !self.in_form() {
+            return Err(3);
+        }
+        let id = |k: usize| self.rows[k].insert.id;
+        let listed = |id: Id| table[at(id.laptop.into(), usize::from(id.clock / 64))] >> (id.clock % 64) & 1 == 1;
+        let (above, below) = (self.places(|i| i.previous), self.places(|i| i.next));
+        let mut left: Vec<usize> = (0..self.rows.len()).filter(|k| !listed(id(*k))).collect();
+        let (mut still, mut out) = (vec![false; self.rows.len() + 2], Vec::new());
+        left.iter().for_each(|k| still[k + 1] = true);
+        while !left.is_empty() {
+            let all = left.iter().enumerate();
+            let free = all.clone().filter(|(_, k)| !still[above[**k]] && !still[below[**k]]);
+            let next = free.min_by_key(|(_, k)| id(**k)).or_else(|| all.min_by_key(|(_, k)| id(**k))).unwrap().0;
+            let k = left.swap_remove(next);
+            still[k + 1] = false;
+            write_insert(&mut out, &self.rows[k].insert);
+        }
+        for r in self.rows.iter().filter(|r| r.turn > 0) {
+            let id = r.insert.id;
+            writeln!(out, "E\t{}\t{}\t{}\t{}", self.laptop, id.laptop, id.clock, r.turn).unwrap();
+        }
+        Ok(out)
+    }
+
     /// Loading for use, of a sheet that was read: refusal 3 or 16, or none.
     pub fn load(&self) -> Result<(), u8> {
         if !self.in_form() {
             return Err(3);
         }
-        let places = |of: fn(&Insert) -> Id| self.rows.iter().map(|r| self.place(of(&r.insert)).unwrap()).collect();
-        let (above, below): (Vec<usize>, Vec<usize>) = (places(|i| i.previous), places(|i| i.next));
+        let (above, below) = (self.places(|i| i.previous), self.places(|i| i.next));
         if self.pairs_ordered(&above, &below) && acyclic(&above, &below) { Ok(()) } else { Err(16) }
     }
 
