@@ -2,14 +2,14 @@
 -- what is promised of states that catch up is promised of copies.
 use Prim.Native.Nat.{ℕ, _+_, _≤_}
 use native.Mathlib.Omega.{arith}
-use mathlib.Core.Path.{_≡_, refl, sym, ap, _∙_, subst}
+use mathlib.Core.Path.{_≡_, refl, sym, ap, ap₂, _∙_, subst}
 use mathlib.Core.Bool.{true, false, false≢true, cond}
-use mathlib.Core.Logic.{⊎-elim}
 use mathlib.Core.List.{List, [], _∷_, _++_, map, append-assoc, append-nil, Memᴰ·append-left, Memᴰ·map}
+use mathlib.Core.List.{nil≢cons, head-eq-of-cons-eq, tail-eq-of-cons-eq}
 use lib.ListN.{length}
 use borrow.Author.Tests.{le-ltb}
 use Rattle.lists.specs.Lists.{every}
-use Rattle.lists.proofs.Tests.{and-left, and-right}
+use Rattle.lists.proofs.Tests.{and-left, and-right, and-intro}
 use Rattle.answers.specs.declared.Answer.{Answer}
 use Rattle.answers.specs.declared.Answer.the-variants.{Done, Deferred, Duplicate, Refused}
 use Rattle.answers.specs.Answers.{reply, changes, decided}
@@ -32,7 +32,7 @@ use Rattle.convergence.specs.Catching.{Grew, OneMeaningAsked, Space, DoneOrKnow
 use Rattle.convergence.proofs.Forms.{empty-formed}
 use Rattle.convergence.proofs.Grown.{grown-throughout}
 use Rattle.convergence.proofs.Catching.{space-counts, catching-up}
-use Rattle.convergence.proofs.Meeting.{both-catch-up}
+use Rattle.convergence.proofs.Meeting.{meet-midway}
 use Rattle.lines.specs.Lines.{lineFeed, has, concatenated}
 use Rattle.lines.specs.Fields.{columns, lineOf}
 use Rattle.lines.proofs.Lines.{lines-line, whole}
@@ -53,7 +53,7 @@ use Rattle.c_calls.proofs.Answers.{answer-ranged}
 use Rattle.c_calls.proofs.Own.{line-back}
 use Rattle.consistency.specs.Copies.{Copy, inMemory, asBytes, Call, stateOf, onMemory}
 use Rattle.consistency.specs.Copies.{stepOn, ran, rulesBy, Start, begun, beginningOf, charactersOf, textOf}
-use Rattle.consistency.specs.Catching.{linesOf, handing, wordHanding, handed, Takes, AllLong}
+use Rattle.consistency.specs.Catching.{linesOf, handing, wordHanding, Handed, handed, Takes, AllLong, HandedAll}
 use Rattle.consistency.specs.Catching.{AllTaken, Exchange, SpaceOn, Caught, AnswerCut, AnswerTaken, AnswerHolds}
 use Rattle.consistency.specs.Catching.{Meet, BothAnswersMeet, ListsAnswered}
 use Rattle.consistency.proofs.Holding.{Means, Holds, memory, bytes, nothing, says}
@@ -89,6 +89,12 @@ joined (o ∷ os) = ap (_++_ (operationLine o)) (joined os)
 
 -- ---- handed
 
+-- the copy and the word are those of the rule
+abbrev AsRuled : List ℕ → List ℕ → Operation → State → Copy → Type 0
+AsRuled room l o s p =
+    Holds (receive s o .state) (stepOn p (handing p room l) .copy)
+    × (wordHanding p room l ≡ reply (receive s o .answer) .word)
+
 -- done or known
 takes : (a : Answer) → DoneOrKnown a → Takes (reply a .word)
 unfolding reply
@@ -111,17 +117,11 @@ module _ (room : List ℕ) (long : savedMost ≤ length room) where
     abbrev line : List ℕ
     line = operationLine o
 
-    -- the copy and the word are those of the rule
-    abbrev Handed : State → Copy → Type 0
-    Handed s p =
-        Holds (receive s o .state) (stepOn p (handing p room line) .copy)
-        × (wordHanding p room line ≡ reply (receive s o .answer) .word)
-
     line-read : (q : Replica) → receivedLine q line ≡ receivedBy q o
     unfolding receivedLine receivedAs
     line-read q = let back = rw append-nil at (written-reads-back o r []) in ap (receivedAs q) (back .0)
 
-    memory-handed : (q : Replica) (s : State) → Means q s → Handed s (inMemory q)
+    memory-handed : (q : Replica) (s : State) → Means q s → AsRuled room line o s (inMemory q)
     unfolding stepOn onMemory called outcome receipt
     memory-handed q s m = (
       subst (λ (x : Receipt). Holds (receive s o .state) (inMemory (x .replica))) (sym (line-read q))
@@ -129,7 +129,7 @@ module _ (room : List ℕ) (long : savedMost ≤ length room) where
       ap (λ (x : Receipt). reply (x .answer) .word) (line-read q ∙ received-meant q s m o),
     )
 
-    bytes-handed : (s : State) → wellFormed s ≡ true → Handed s (asBytes (savedBytes s))
+    bytes-handed : (s : State) → wellFormed s ≡ true → AsRuled room line o s (asBytes (savedBytes s))
     unfolding afterReceiving
     bytes-handed s h =
         let back = line-back o r in
@@ -147,23 +147,67 @@ module _ (room : List ℕ) (long : savedMost ≤ length room) where
               ∙ word-left next (form-after s h o) (receive s o .answer),
         )
 
-    one-handed : {s : State} {p : Copy} → Holds s p → wellFormed s ≡ true → Handed s p
+    one-handed : {s : State} {p : Copy} → Holds s p → wellFormed s ≡ true → AsRuled room line o s p
     unfolding siteNumber within
     one-handed (memory q s m) f = memory-handed q s m
     one-handed (bytes s h) f = bytes-handed s h
     one-handed nothing f = absurd (false≢true (sym (empty-formed 0) ∙ f))
 
+-- the lines of these operations, each with an output that is long enough
+record Carries (hs : List Handed) (os : List Operation) : Type 0 where
+  same-lines : map (λ h. h .line) hs ≡ map operationLine os
+  long : AllLong hs
+  in-range : every inRange os ≡ true
+
+behind : (h : Handed) (hs : List Handed) (o : Operation) (os : List Operation) → Carries (h ∷ hs) (o ∷ os) →
+    Carries hs os
+behind h hs o os k =
+    record {
+      same-lines = tail-eq-of-cons-eq (k .same-lines);
+      long = k .long .1;
+      in-range = and-right (inRange o) (every inRange os) (k .in-range);
+    }
+
 -- one after another
-all-handed : (rooms : ℕ → List ℕ) → AllLong rooms → {s : State} {p : Copy} → Holds s p → wellFormed s ≡ true →
-    (os : List Operation) → every inRange os ≡ true →
-    Holds (received s os) (handed p rooms (map operationLine os))
-    × (NoneWaits s os → AllTaken p rooms (map operationLine os))
-all-handed rooms long h f [] r = (h, λ w. tt)
-all-handed rooms long {s} h f (o ∷ os) r =
-    let left : ℕ = length (map operationLine os) in
-    let here = one-handed (rooms left) (long left) o (and-left (inRange o) (every inRange os) r) h f in
-    let others = all-handed rooms long (here .0) (form-after s f o) os (and-right (inRange o) (every inRange os) r) in
+all-handed : {s : State} {p : Copy} → Holds s p → wellFormed s ≡ true →
+    (hs : List Handed) (os : List Operation) → Carries hs os →
+    Holds (received s os) (handed p hs) × (NoneWaits s os → AllTaken p hs)
+all-handed h f [] [] k = (h, λ w. tt)
+all-handed h f [] (o ∷ os) k = absurd (nil≢cons (k .same-lines))
+all-handed h f (l ∷ hs) [] k = absurd (nil≢cons (sym (k .same-lines)))
+all-handed {s} {p} h f (l ∷ hs) (o ∷ os) k =
+    let ranged = and-left (inRange o) (every inRange os) (k .in-range) in
+    let here : AsRuled (l .room) (l .line) o s p =
+    subst (λ (m : List ℕ). AsRuled (l .room) m o s p) (sym (head-eq-of-cons-eq (k .same-lines)))
+    (one-handed (l .room) (k .long .0) o ranged h f) in
+    let others = all-handed (here .0) (form-after s f o) hs os (behind l hs o os k) in
     (others .0, λ w. (subst Takes (sym (here .1)) (takes (receive s o .answer) (w .0)), others .1 (w .1)))
+
+-- the first of them are the lines of the first operations
+record Split (early : List Handed) (os : List Operation) : Type 0 where
+  earlier : List Operation
+  later : List Operation
+  parts : os ≡ earlier ++ later
+  carried : Carries early earlier
+
+split : (early late : List Handed) (os : List Operation) → Carries (early ++ late) os → Split early os
+split [] late os k =
+    let none-yet : Carries [] [] = record { same-lines = refl; long = tt; in-range = refl } in
+    record { earlier = []; later = os; parts = refl; carried = none-yet }
+split (h ∷ early) late [] k = absurd (nil≢cons (sym (k .same-lines)))
+split (h ∷ early) late (o ∷ os) k =
+    let w = split early late os (behind h (early ++ late) o os k) in
+    record {
+      earlier = o ∷ w .earlier;
+      later = w .later;
+      parts = ap (λ (qs : List Operation). o ∷ qs) (w .parts);
+      carried =
+          record {
+            same-lines = ap₂ _∷_ (head-eq-of-cons-eq (k .same-lines)) (w .carried .same-lines);
+            long = (k .long .0, w .carried .long);
+            in-range = and-intro (and-left (inRange o) (every inRange os) (k .in-range)) (w .carried .in-range);
+          };
+    }
 
 -- ---- one exchange
 
@@ -211,16 +255,15 @@ module _
         space-counts s t asker-formed,
       )
 
-  module _ (rooms : ℕ → List ℕ) (long : AllLong rooms) where
-    handed-all : Holds (caughtUp s t) (handed p rooms (map operationLine given))
-        × (NoneWaits s given → AllTaken p rooms (map operationLine given))
-    handed-all = all-handed rooms long hs asker-formed given ranged
+  carries-given : (ls : List Handed) → HandedAll answer ls → Carries ls given
+  carries-given ls k =
+      record { same-lines = k .in-sequence ∙ lines-given; long = k .all-long; in-range = ranged }
 
-    pub handed-holds : Holds (caughtUp s t) (handed p rooms (linesOf answer))
-    handed-holds = rw lines-given (handed-all .0)
+  pub handed-holds : (ls : List Handed) → HandedAll answer ls → Holds (caughtUp s t) (handed p ls)
+  handed-holds ls k = all-handed hs asker-formed ls given (carries-given ls k) .0
 
-    pub handed-taken : NoneWaits s given → AllTaken p rooms (linesOf answer)
-    handed-taken w = rw lines-given (handed-all .1 w)
+  pub handed-taken : (ls : List Handed) → HandedAll answer ls → NoneWaits s given → AllTaken p ls
+  handed-taken ls k = all-handed hs asker-formed ls given (carries-given ls k) .1
 
 -- ---- the promises
 
@@ -270,64 +313,62 @@ module _ (a b : Start) (cs ds : List Call) (answer : List ℕ) (c : Caught a b c
   unfolding origin presentInserts
   meaning-both x y m n e = meaning-one (origin x) y (Memᴰ·append-left (inserts (s .pending)) (Memᴰ·map origin m)) n e
 
-  both : stateOf one .pending ≡ [] → stateOf two .pending ≡ [] →
-      (Space t s → caughtUp s t .characters ≡ caughtUp t s .characters)
-      × (Space t (caughtUp s t) → caughtUp s t .characters ≡ caughtUp t (caughtUp s t) .characters)
-  both none-one none-two =
-      both-catch-up s t s-grew t-grew (rw (says (holds a cs)) at none-one) (rw (says (holds b ds)) at none-two)
-      meaning-both spacious
+  module _ (hs : List Handed) (k : HandedAll answer hs) where
+    then-holds : Holds (caughtUp s t) (handed one hs)
+    then-holds = handed-holds (holds a cs) (holds b ds) (c .out) (c .lent) answer (c .exchange) hs k
 
-  module _ (rooms : ℕ → List ℕ) (long : AllLong rooms) where
-    then-holds : Holds (caughtUp s t) (handed one rooms (linesOf answer))
-    then-holds = handed-holds (holds a cs) (holds b ds) (c .out) (c .lent) answer (c .exchange) rooms long
+    taken : AllTaken one hs
+    taken = handed-taken (holds a cs) (holds b ds) (c .out) (c .lent) answer (c .exchange) hs k (caught .0)
 
-    taken : AllTaken one rooms (linesOf answer)
-    taken = handed-taken (holds a cs) (holds b ds) (c .out) (c .lent) answer (c .exchange) rooms long (caught .0)
-
-    all-held : HoldsAll (charactersOf (handed one rooms (linesOf answer))) (charactersOf two)
+    all-held : HoldsAll (charactersOf (handed one hs)) (charactersOf two)
     unfolding charactersOf
     all-held =
         subst (λ (u : State). HoldsAll (u .characters) (stateOf two .characters)) (sym (says then-holds))
         (subst (λ (u : State). HoldsAll (caughtUp s t .characters) (u .characters)) (sym (says (holds b ds)))
         (caught .1))
 
-    -- the first, in the state u, answers the second
-    module _
-        (u : State)
-        (p : Copy)
-        (hu : Holds u p)
-        (out lent back : List ℕ)
-        (x : Exchange two p out lent back)
-        (others : ℕ → List ℕ)
-        (longer : AllLong others) where
-      meets : (Space t u → caughtUp s t .characters ≡ caughtUp t u .characters) → SpaceOn two back →
-          Meet (handed one rooms (linesOf answer)) (handed two others (linesOf back))
-      unfolding charactersOf textOf
-      meets same space =
-          let there = handed-holds (holds b ds) hu out lent back x others longer in
-          let e =
-          ap (λ (v : State). v .characters) (says then-holds)
-          ∙ same (space-given (holds b ds) hu out lent back x space)
-          ∙ sym (ap (λ (v : State). v .characters) (says there)) in
-          record { same-characters = e; same-text = ap text e }
+  module _
+      (none-one : stateOf one .pending ≡ [])
+      (none-two : stateOf two .pending ≡ [])
+      (early late : List Handed)
+      (k : HandedAll answer (early ++ late)) where
+    parted : Split early (answerFor t (listing s))
+    parted =
+        split early late (answerFor t (listing s))
+        (carries-given (holds a cs) (holds b ds) (c .out) (c .lent) answer (c .exchange) (early ++ late) k)
+
+    -- what the first holds when it answers
+    abbrev midway : State
+    midway = received s (parted .earlier)
+
+    midway-holds : Holds midway (handed one early)
+    midway-holds = all-handed (holds a cs) (s-grew .form) early (parted .earlier) (parted .carried) .0
+
+    alike : caughtUp s t .characters ≡ caughtUp t midway .characters
+    alike =
+        meet-midway s t s-grew t-grew (rw (says (holds a cs)) at none-one) (rw (says (holds b ds)) at none-two)
+        meaning-both spacious (parted .earlier) (parted .later) (parted .parts) .1
+
+    meets : (out lent back : List ℕ) → Exchange two (handed one early) out lent back →
+        (others : List Handed) → HandedAll back others → Meet (handed one (early ++ late)) (handed two others)
+    unfolding charactersOf textOf
+    meets out lent back x others l =
+        let there = handed-holds (holds b ds) midway-holds out lent back x others l in
+        let e =
+        ap (λ (v : State). v .characters) (says (then-holds (early ++ late) k))
+        ∙ alike
+        ∙ sym (ap (λ (v : State). v .characters) (says there)) in
+        record { same-characters = e; same-text = ap text e }
 
 pub answer-taken : AnswerTaken
-answer-taken a b cs ds answer c rooms long = taken a b cs ds answer c rooms long
+answer-taken a b cs ds answer c hs k = taken a b cs ds answer c hs k
 
 pub answer-holds : AnswerHolds
-answer-holds a b cs ds answer c rooms long = all-held a b cs ds answer c rooms long
+answer-holds a b cs ds answer c hs k = all-held a b cs ds answer c hs k
 
 pub both-answers-meet : BothAnswersMeet
-both-answers-meet a b cs ds answer c rooms others long longer none-one none-two p which out lent back x space =
-    let k = both a b cs ds answer c none-one none-two in
-    let s : State = held a cs in
-    let t : State = held b ds in
-    ⊎-elim (λ e.
-    meets a b cs ds answer c rooms long s p (subst (Holds s) (sym e) (holds a cs)) out lent back x others longer (k .0)
-    space) (λ e.
-    meets a b cs ds answer c rooms long (caughtUp s t) p
-    (subst (Holds (caughtUp s t)) (sym e) (then-holds a b cs ds answer c rooms long)) out lent back x others longer
-    (k .1) space) which
+both-answers-meet a b cs ds answer c none-one none-two early late k out lent back x others l =
+    meets a b cs ds answer c none-one none-two early late k out lent back x others l
 
 pub answer-cut : AnswerCut
 answer-cut a b cs ds out lent answer x = answer-whole (holds a cs) (holds b ds) out lent answer x

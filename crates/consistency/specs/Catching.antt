@@ -4,7 +4,6 @@
 use Prim.Native.Nat.{ℕ, _+_, _≤_}
 use mathlib.Core.Path.{_≡_}
 use mathlib.Core.Bool.{true}
-use mathlib.Core.Logic.{_⊎_}
 use mathlib.Core.Option.{Option, none, some}
 use mathlib.Core.List.{List, [], _∷_, _++_, map}
 use lib.ListN.{length, take}
@@ -72,11 +71,15 @@ abbrev pub wordHanding : Copy → List ℕ → List ℕ → Word
 wordHanding (inMemory r) room l = reply (receivedLine r l .answer) .word
 wordHanding (asBytes b) room l = wordOf (effectOf («wimtaze_receive» l) b room [])
 
--- the copy that is left once they are handed one by one, each with an output of its own: `rooms n` goes with the line
--- that n others follow
-abbrev pub handed : Copy → (ℕ → List ℕ) → List (List ℕ) → Copy
-handed p rooms [] = p
-handed p rooms (l ∷ ls) = handed (stepOn p (handing p (rooms (length ls)) l) .copy) rooms ls
+-- a line, with the output that it is handed with
+pub record Handed : Type 0 where
+  pub line : List ℕ
+  pub room : List ℕ
+
+-- the copy that is left once they are handed one by one
+abbrev pub handed : Copy → List Handed → Copy
+handed p [] = p
+handed p (h ∷ hs) = handed (stepOn p (handing p (h .room) (h .line)) .copy) hs
 
 -- done or known: it does not wait, and is not refused
 abbrev pub Takes : Word → Type 0
@@ -86,15 +89,20 @@ Takes known = Unit
 Takes refused = ⊥
 
 -- so it is with each of them
-abbrev pub AllTaken : Copy → (ℕ → List ℕ) → List (List ℕ) → Type 0
-AllTaken p rooms [] = Unit
-AllTaken p rooms (l ∷ ls) =
-    let room = rooms (length ls) in
-    Takes (wordHanding p room l) × AllTaken (stepOn p (handing p room l) .copy) rooms ls
+abbrev pub AllTaken : Copy → List Handed → Type 0
+AllTaken p [] = Unit
+AllTaken p (h ∷ hs) =
+    Takes (wordHanding p (h .room) (h .line)) × AllTaken (stepOn p (handing p (h .room) (h .line)) .copy) hs
 
--- "into outputs long enough": of the header's size, whatever they hold
-abbrev pub AllLong : (ℕ → List ℕ) → Type 0
-AllLong rooms = (n : ℕ) → savedMost ≤ length (rooms n)
+-- "into outputs long enough": each of the header's size, whatever it holds
+abbrev pub AllLong : List Handed → Type 0
+AllLong [] = Unit
+AllLong (h ∷ hs) = (savedMost ≤ length (h .room)) × AllLong hs
+
+-- "Received in that sequence, into outputs long enough": the lines of an answer, each with an output of its own
+pub record HandedAll (answer : List ℕ) (hs : List Handed) : Type 0 where
+  pub in-sequence : map (λ h. h .line) hs ≡ linesOf answer
+  pub all-long : AllLong hs
 
 -- ---- asking and answering
 
@@ -132,16 +140,16 @@ pub record Caught (a b : Start) (cs ds : List Call) (answer : List ℕ) : Type 0
 -- listed, none of them waits", nor is any refused
 abbrev pub AnswerTaken : Type 0
 AnswerTaken =
-    (a b : Start) (cs ds : List Call) (answer : List ℕ) → Caught a b cs ds answer → (rooms : ℕ → List ℕ) →
-    AllLong rooms → AllTaken (ran (begun a) cs) rooms (linesOf answer)
+    (a b : Start) (cs ds : List Call) (answer : List ℕ) → Caught a b cs ds answer →
+    (hs : List Handed) → HandedAll answer hs → AllTaken (ran (begun a) cs) hs
 
 -- "and the asker then holds every row the other had when it answered", every field of its insert, "with at least its
 -- turn then"
 abbrev pub AnswerHolds : Type 0
 AnswerHolds =
-    (a b : Start) (cs ds : List Call) (answer : List ℕ) → Caught a b cs ds answer → (rooms : ℕ → List ℕ) →
-    AllLong rooms →
-    HoldsAll (charactersOf (handed (ran (begun a) cs) rooms (linesOf answer))) (charactersOf (ran (begun b) ds))
+    (a b : Start) (cs ds : List Call) (answer : List ℕ) → Caught a b cs ds answer →
+    (hs : List Handed) → HandedAll answer hs →
+    HoldsAll (charactersOf (handed (ran (begun a) cs) hs)) (charactersOf (ran (begun b) ds))
 
 -- two copies with equal rows and equal visible texts
 pub record Meet (p q : Copy) : Type 0 where
@@ -149,18 +157,18 @@ pub record Meet (p q : Copy) : Type 0 where
   pub same-text : textOf p ≡ textOf q
 
 -- "Where, besides, neither laptop had anything waiting and each answers the other, with no other call that changes
--- either sheet in between, both end with equal rows": the first, p, answers the second as it was, or once it has taken
--- in the answer of the second
+-- either sheet in between, both end with equal rows": the first answers the second once it has taken in some of the
+-- lines, none or all. Space on the first is space on the second too.
 abbrev pub BothAnswersMeet : Type 0
 BothAnswersMeet =
     (a b : Start) (cs ds : List Call) (answer : List ℕ) → Caught a b cs ds answer →
-    (rooms others : ℕ → List ℕ) → AllLong rooms → AllLong others →
     let one = ran (begun a) cs in
     let two = ran (begun b) ds in
-    let then = handed one rooms (linesOf answer) in
-    stateOf one .pending ≡ [] → stateOf two .pending ≡ [] → (p : Copy) → (p ≡ one) ⊎ (p ≡ then) →
-    (out lent back : List ℕ) → Exchange two p out lent back → SpaceOn two back →
-    Meet then (handed two others (linesOf back))
+    stateOf one .pending ≡ [] → stateOf two .pending ≡ [] →
+    (early late : List Handed) → HandedAll answer (early ++ late) →
+    (out lent back : List ℕ) → Exchange two (handed one early) out lent back →
+    (others : List Handed) → HandedAll back others →
+    Meet (handed one (early ++ late)) (handed two others)
 
 -- ---- outputs of the header's sizes
 

@@ -21,7 +21,7 @@ use Rattle.consistency.specs.Copies.{refusalRead, renews, builtBytes, bu
 use Rattle.consistency.specs.Copies.{loadedBytes, loadedInto}
 use Rattle.consistency.specs.Copies.{Copy, stepOn}
 use Rattle.c_calls.specs.Theorems.{answeredInC}
-use Rattle.consistency.specs.Catching.{listFrom, answerFrom, linesOf, handing, wordHanding, handed}
+use Rattle.consistency.specs.Catching.{listFrom, answerFrom, linesOf, handing, wordHanding, Handed, handed}
 
 -- outputs that are long enough, with nothing in them
 abbrev pub room : List ℕ
@@ -274,9 +274,14 @@ unformedExample =
     ++ (67 ∷ 9 ∷ 50 ∷ 9 ∷ 49 ∷ 9 ∷ 54 ∷ 54 ∷ 9 ∷ 48 ∷ 9 ∷ 55 ∷ 9 ∷ 55 ∷ 9 ∷ 48 ∷ 9 ∷ 49 ∷ 10 ∷ [])
 
 -- the words as lines are handed to a copy one by one
-abbrev pub wordsHanding : Copy → List (List ℕ) → List Word
+abbrev pub wordsHanding : Copy → List Handed → List Word
 wordsHanding p [] = []
-wordsHanding p (l ∷ ls) = wordHanding p room l ∷ wordsHanding (stepOn p (handing p room l) .copy) ls
+wordsHanding p (h ∷ hs) =
+    wordHanding p (h .room) (h .line) ∷ wordsHanding (stepOn p (handing p (h .room) (h .line)) .copy) hs
+
+-- the lines of the answer, each with such an output
+abbrev pub exampleHanded : List Handed
+exampleHanded = map (λ l. record { line = l; room = room }) (linesOf exampleAnswer)
 
 -- laptop 2 lists, laptop 1 answers with what is not listed and the `E` lines, and of these lines the erasing of o is
 -- known; of a wrong list 18 is answered before 3, and 2 before both
@@ -284,8 +289,8 @@ pub record CaughtExample : Type 0 where
   pub listed : listFrom (asBytes raisedExample) room ≡ some exampleList
   pub answered : answerFrom (asBytes exampleBytes) exampleList room ≡ some exampleAnswer
   pub lines-cut : linesOf exampleAnswer ≡ firstSent ∷ secondSent ∷ turnedTwice ∷ turnedLine ∷ []
-  pub words : wordsHanding (asBytes raisedExample) (linesOf exampleAnswer) ≡ done ∷ done ∷ done ∷ known ∷ []
-  pub caught : handed (asBytes raisedExample) (λ n. room) (linesOf exampleAnswer) ≡ asBytes caughtBytes
+  pub words : wordsHanding (asBytes raisedExample) exampleHanded ≡ done ∷ done ∷ done ∷ known ∷ []
+  pub caught : handed (asBytes raisedExample) exampleHanded ≡ asBytes caughtBytes
   pub eighteen : refusalRead (numberOf (answeredInC unformedExample wrongList room .result)) ≡ 18
   pub two : refusalRead (numberOf (answeredInC unformedExample outsideList room .result)) ≡ 2
   pub three : refusalRead (numberOf (answeredInC unformedExample exampleList room .result)) ≡ 3
