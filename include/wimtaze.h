@@ -272,8 +272,8 @@
  *
  * Rules 1, 2 and 7 see to the first and the last. Where, besides, nothing waits on either sheet, and each answers the
  * other, with room on both and no other call that changes either in between, both end with the same characters, in the
- * same order and with the same turns, and show the same text. It makes no difference whether the second answers before
- * it has taken in the first's answer, or afterwards.
+ * same order and with the same turns, and show the same text. It makes no difference whether the second answers before,
+ * after or while it takes in the first's answer.
  *
  * If something else came in between, or one of these points does not hold, hand the lines over all the same: each is a
  * line like any other, and what to do after each answer is said above. And the rules stay as they are: a line that you
