@@ -11,7 +11,7 @@ use Rattle.woot.specs.Catching.{alsoMarking, withMarked, chunksOf, listi
 use Rattle.woot.specs.Catching.{lowest, lowestOf, nextSent, without, sequenced, unlisted, sent, operationsFor}
 use Rattle.woot.specs.Catching.{answerFor}
 use Rattle.woot.specs.Catching.{chunkInRange, listingInRange, marksZero, mislisted, listChecks, answerChecks}
-use Rattle.woot.specs.CatchCases.{listCases, answerCases, judgeCases, WordsTell, MarksTell, ListTells}
+use Rattle.woot.specs.CatchCases.{listCases, answeringCases, judgeCases, WordsTell, MarksTell, ListTells}
 use Rattle.woot.specs.CatchCases.{AnswerTells, JudgeTells, WordRangeTells, AnswerOrder}
 
 pub words-tell : WordsTell
@@ -27,7 +27,7 @@ unfolding listCases ones character withToggles bitOf speaksOf marks onesIn prece
 list-tells = refl
 
 pub answer-tells : AnswerTells
-unfolding answerCases same below character origin withToggles among free turnings bitOf speaksOf marks listedIn precedes chunkOf alsoMarking withMarked chunksOf lowest lowestOf nextSent without sequenced unlisted sent operationsFor answerFor
+unfolding answeringCases same below character origin withToggles among free turnings bitOf speaksOf marks listedIn precedes chunkOf alsoMarking withMarked chunksOf lowest lowestOf nextSent without sequenced unlisted sent operationsFor answerFor
 answer-tells = refl
 
 pub judge-tells : JudgeTells

@@ -114,8 +114,8 @@ i21 = letter (2 at 1) begin end
 abbrev pub i13 : Insert
 i13 = letter (1 at 3) begin (2 at 1)
 
-unfoldable pub answerCases : List AnswerCase
-answerCases =
+unfoldable pub answeringCases : List AnswerCase
+answeringCases =
     -- what is free asked once, and not anew each time
     answerCase (holding (i11 ∷ i12 ∷ i21 ∷ [])) [] (insert i11 ∷ insert i12 ∷ insert i21 ∷ [])
     -- from the top, or the lowest before what it needs
@@ -148,7 +148,7 @@ answerCases =
 
 -- each state answers as is expected
 abbrev pub AnswerTells : Type 0
-AnswerTells = map answerTried answerCases ≡ answerCases
+AnswerTells = map answerTried answeringCases ≡ answeringCases
 
 -- ---- what is refused
 
