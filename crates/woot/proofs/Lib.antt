@@ -4,3 +4,4 @@ pub mod PasteCases
 pub mod BuildCases
 pub mod LoadCases
 pub mod CatchCases
+pub mod CommonCases

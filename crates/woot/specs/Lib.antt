@@ -19,6 +19,8 @@ pub mod Building
 pub mod Loading
 pub mod Catching
 pub mod Histories
+pub mod Common
+pub mod CommonCases
 pub mod Situations
 pub mod Pasting
 pub mod PasteCases
