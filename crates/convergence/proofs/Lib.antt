@@ -72,3 +72,5 @@ pub mod Marking
 pub mod Sequencing
 pub mod Catching
 pub mod Meeting
+pub mod Rising
+pub mod Common

@@ -8,3 +8,4 @@ pub mod Pasting
 pub mod Building
 pub mod Loading
 pub mod Catching
+pub mod Common
