@@ -7,5 +7,6 @@ pub mod Bytes
 pub mod Claims
 pub mod Receiving
 pub mod Nines
+pub mod Common
 pub mod Lists
 pub mod Catching

@@ -2,3 +2,4 @@ pub mod Copies
 pub mod Theorems
 pub mod Catching
 pub mod Examples
+pub mod Common
