@@ -284,6 +284,17 @@
  * sheet is passed over.
  *
  *
+ * In the middle of a round
+ *
+ * Laptops that have not yet carried out the same edits show different texts. But what two of them have in common stands
+ * in the same order on both, whatever else each holds or lacks: of two characters that both hold, erased or not, the
+ * same one stands above the other on both sheets, and those that both show stand in the same sequence in both texts. So
+ * two arbiters who read their sheets in the middle of a round see the notes that both have in the same order. It is so
+ * from the first call on, whatever the calls, for sheets that began empty, were built of a heap or that wimtaze_load
+ * took. It needs that no identifier stands for different characters on the two sheets, among those that they hold:
+ * rules 1, 2 and 7 see to that.
+ *
+ *
  * Sheets of other programs
  *
  * Every call reads a sheet for its layout, its ranges and its form: refusals 1, 2 and 3. A sheet in form may still be
