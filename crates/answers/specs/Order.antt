@@ -6,9 +6,9 @@ use mathlib.Core.List.{List, [], _∷_, map}
 use lib.Dec.{ltb}
 use Rattle.answers.specs.declared.Refusal.{Refusal}
 use Rattle.answers.specs.declared.Refusal.the-variants.{Layout, Range, HeapFull, Mislisted, NotUtf8, Form}
-use Rattle.answers.specs.declared.Refusal.the-variants.{Unrepresentable, Unreachable, Position, NotHidden, LastToggle}
-use Rattle.answers.specs.declared.Refusal.the-variants.{Clock, Taken, Conflict, Crossed, Unplaceable, SenderFull}
-use Rattle.answers.specs.declared.Refusal.the-variants.{DocumentFull, Output}
+use Rattle.answers.specs.declared.Refusal.the-variants.{Unrepresentable, Unreachable, Position, NotHidden}
+use Rattle.answers.specs.declared.Refusal.the-variants.{LastToggle, Clock, Taken, Conflict, Crossed, Unplaceable}
+use Rattle.answers.specs.declared.Refusal.the-variants.{SenderFull, DocumentFull, Output}
 use Rattle.answers.specs.declared.Answer.{Answer}
 use Rattle.answers.specs.declared.Answer.the-variants.{Done, Deferred, Duplicate, Refused}
 use Rattle.answers.specs.Answers.{number, rank, reply, Check}

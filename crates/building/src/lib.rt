@@ -1,5 +1,5 @@
-// Building the document of a heap of operations: its inserts are placed in passes, then its toggles are carried out, and
-// what is left out is counted. (Document 02, Req 08.)
+// Building the document of a heap of operations: its inserts are placed in passes, then its toggles are carried out,
+// and what is left out is counted. (Document 02, Req 08.)
 use answers::Answer;
 use answers::Refusal;
 use heap::Gathered;

@@ -9,7 +9,8 @@ use Rattle.woot.specs.Common.{commonVisible}
 use Rattle.convergence.specs.Agreement.{OneMeaning}
 use Rattle.consistency.specs.Copies.{Copy, Call, ran, Start, begun, charactersOf}
 
--- "The premise is that no identifier stands for different inserts on the two laptops, among rows held", and nothing else
+-- "The premise is that no identifier stands for different inserts on the two laptops, among rows held", and nothing
+-- else
 abbrev pub OneMeaningHeld : Copy → Copy → Type 0
 OneMeaningHeld p q = OneMeaning (charactersOf p) (charactersOf q)
 
@@ -18,8 +19,8 @@ pub record BothHold (p q : Copy) (x : Identifier) : Type 0 where
   pub on-first : List·Memᴰ x (identifiers (charactersOf p))
   pub on-second : List·Memᴰ x (identifiers (charactersOf q))
 
--- "Where two laptops, begun from empty sheets and with calls given the sheet as in Req 09, both hold two characters, the
--- same one must stand above the other on both, whatever else each holds or lacks"
+-- "Where two laptops, begun from empty sheets and with calls given the sheet as in Req 09, both hold two characters,
+-- the same one must stand above the other on both, whatever else each holds or lacks"
 abbrev pub CopiesAgree : Type 0
 CopiesAgree =
     (a b : Start) (cs ds : List Call) →

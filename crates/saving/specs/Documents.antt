@@ -8,7 +8,8 @@ use Rattle.woot.specs.declared.Site.{Site}
 use Rattle.woot.specs.declared.Character.{Character}
 use Rattle.woot.specs.declared.Operation.{Operation}
 use Rattle.woot.specs.State.{State}
-use Rattle.woot.specs.Memory.{characterSlots, pendingSlots, column, keyColumn, previousColumn, nextColumn, codePointColumn, charactersOf, operationsOf}
+use Rattle.woot.specs.Memory.{characterSlots, pendingSlots, column, keyColumn, previousColumn, nextColumn}
+use Rattle.woot.specs.Memory.{codePointColumn, charactersOf, operationsOf}
 use Rattle.codec.specs.Operations.{operationLine}
 use Rattle.saved.specs.declared.Version.{Version}
 use Rattle.saved.specs.Format.{characterLine, savedLine}

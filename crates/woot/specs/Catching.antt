@@ -97,7 +97,8 @@ alsoMarking x k =
 unfoldable pub withMarked : Identifier → List Chunk → List Chunk
 withMarked x [] = chunkOf x ∷ []
 withMarked x (k ∷ ks) =
-    cond (speaksOf k x) (alsoMarking x k ∷ ks) (cond (precedes (chunkOf x) k) (chunkOf x ∷ k ∷ ks) (k ∷ withMarked x ks))
+    cond (speaksOf k x) (alsoMarking x k ∷ ks)
+    (cond (precedes (chunkOf x) k) (chunkOf x ∷ k ∷ ks) (k ∷ withMarked x ks))
 
 -- those of the identifiers; that these are all nonzero words, in sequence, and mark nothing else, and that no other
 -- chunks do, is proved in `convergence`
@@ -146,8 +147,8 @@ unlisted listed cs = keep (λ c. not (listed (c .id))) cs
 unfoldable pub sent : (Identifier → Bool) → List Character → List Character
 sent listed cs = sequenced (length (unlisted listed cs)) (unlisted listed cs)
 
--- "The other laptop answers with the inserts of its rows that aren't listed"; "Then, from the top, comes an `E` line for
--- every row with turn above 0, with the answering laptop as sender", listed or not
+-- "The other laptop answers with the inserts of its rows that aren't listed"; "Then, from the top, comes an `E` line
+-- for every row with turn above 0, with the answering laptop as sender", listed or not
 unfoldable pub operationsFor : (Identifier → Bool) → State → List Operation
 operationsFor listed s = arrivals (sent listed (s .characters)) ++ turnings (s .site .number) (s .characters)
 

@@ -1,4 +1,5 @@
--- Document 02, Req 13: two sheets in the middle of a round, computed. Proved in proofs/ under its name in small letters.
+-- Document 02, Req 13: two sheets in the middle of a round, computed. Proved in proofs/ under their names in small
+-- letters.
 use Prim.Native.Nat.{ℕ}
 use mathlib.Core.Path.{_≡_}
 use mathlib.Core.Bool.{true, false}
