@@ -271,9 +271,9 @@
  *   - no identifier stands for different characters on the two, those that wait on the asker's sheet counted.
  *
  * Rules 1, 2 and 7 see to the first and the last. Where, besides, nothing waits on either sheet, and each answers the
- * other, with room on both and no other call that changes either in between, both end with the same characters, in the
- * same order and with the same turns, and show the same text. It makes no difference whether the second answers before,
- * after or while it takes in the first's answer.
+ * other, with no other call that changes either in between, both end with the same characters, in the same order and
+ * with the same turns, and show the same text. It makes no difference whether the second answers before, after or while
+ * it takes in the first's answer. Where there was room for the first's answer there is room for the second's.
  *
  * If something else came in between, or one of these points does not hold, hand the lines over all the same: each is a
  * line like any other, and what to do after each answer is said above. And the rules stay as they are: a line that you
