@@ -16,7 +16,7 @@ use Rattle.well_formed.proofs.Examining.{few, form, examined-tabled}
 use Rattle.delivery.specs.Work.{Lent}
 use Rattle.typing.specs.Steps.{Typeable}
 use Rattle.typing.proofs.Going.{meant-stored, ready-stored}
-use Rattle.pasting.specs.Steps.{Spacious}
+use Rattle.block_judging.specs.Steps.{Spacious}
 
 module _ (r : Replica) {g count : ℕ} (x : Spacious r g count) where
   pub some-few : count ≤ 1024

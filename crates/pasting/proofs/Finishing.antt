@@ -40,7 +40,7 @@ use Rattle.typing.specs.Steps.{Unwritten, pointsIn, Written, AllTyped}
 use Rattle.pasting.specs.declared.Pasted.{Pasted}
 use Rattle.pasting.specs.Replicas.{afterTyping, pastedWith, pastedBy}
 use Rattle.pasting.specs.Steps.{Pasteable}
-use Rattle.pasting.proofs.Judging.{nowhere, everything}
+use Rattle.block_judging.proofs.Judging.{nowhere, everything}
 
 -- ---- an answer alone
 

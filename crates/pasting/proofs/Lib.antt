@@ -1,4 +1,3 @@
-pub mod Judging
 pub mod Reading
 pub mod Clearing
 pub mod Finishing

@@ -2,36 +2,33 @@
 // characters are typed one after another. (Document 02, Req 11.)
 use answers::Answer;
 use answers::Refusal;
-use pending::counts;
+use block_judging::Judged;
 use typing::Ended;
 use utf8::Counted;
 use utf8::Decoded;
 use woot::CHARACTER_NUMBERS;
-use woot::CHARACTERS;
 use woot::CODE_POINTS;
 use woot::Document;
-use woot::PENDING;
 use woot::Replica;
 use woot::Site;
 use woot::Table;
 ghost use mathlib.Core.Path.{_≡_};
-ghost use mathlib.Core.Bool.{true, not};
+ghost use mathlib.Core.Bool.{true};
 ghost use mathlib.Core.List.{List, []};
 ghost use mathlib.Core.Option.{some};
-ghost use Prim.Native.Nat.{ℕ, _+_, _≤_};
-ghost use lib.Dec.{eqb, ltb};
-ghost use lib.ListN.{length, take};
-ghost use Rattle.lists.specs.Lists.{every, keep};
+ghost use Prim.Native.Nat.{ℕ};
+ghost use lib.ListN.{length};
+ghost use Rattle.lists.specs.Lists.{every};
 ghost use Rattle.utf8.specs.Decoding.{decoded};
-ghost use Rattle.woot.specs.Limits.{lastClock, capacity};
-ghost use Rattle.woot.specs.Memory.{characterNumbers, characterSlots, pendingSlots};
+ghost use Rattle.woot.specs.Memory.{characterNumbers};
 ghost use Rattle.woot.specs.Ranges.{codePoint};
 ghost use Rattle.memory.specs.Columns.{meaning};
 ghost use Rattle.memory.specs.Lent.{replicaAs, viewed, Sized};
 ghost use Rattle.typing.specs.Columns.{typedColumns};
 ghost use Rattle.typing.specs.Steps.{Unwritten, pointsIn, AllTyped};
+ghost use Rattle.block_judging.specs.Steps.{Spacious};
 ghost use Rattle.pasting.specs.Replicas.{pastedBy, pastedAs};
-ghost use Rattle.pasting.specs.Steps.{Spacious, BlockJudged, Readable, Pasteable};
+ghost use Rattle.pasting.specs.Steps.{Readable, Pasteable};
 
 // What pasting returns: the answer, the replica as it is then, and the characters that it typed, in sequence, from
 // which a caller writes their insert lines. They lie as a document's do, each in the same slot of four columns, with
@@ -48,74 +45,6 @@ pub struct PastedInto {
     pub answer: Answer,
     pub replica: Replica,
     pub count: usize,
-}
-
-// What is known of a block before a character of it is typed.
-pub enum Judged {
-    // It is refused, or empty.
-    Answered(Answer),
-    // The clock and the room are enough for it.
-    Enough,
-}
-
-// Whether the clock cannot reach so many characters more.
-fn clock_short(site: Site, count: usize) -> bool
-    ensures { λ r. ⌜ r ≡ ltb lastClock (site .clock + count) ⌝ }
-{
-    let left = (65535 - site.clock) as usize;
-    left < count
-}
-
-// Whether n characters, the inserts among the first w pending operations and so many characters more exceed a document.
-fn overfull(n: usize, own: &[u32], w: usize, count: usize) -> bool
-    requires { ⌜ n ≤ characterSlots ⌝ }
-    requires { ⌜ w ≤ pendingSlots ⌝ }
-    requires { ⌜ w ≤ length (now own) ⌝ }
-    ensures { λ r. ⌜ r
-        ≡ ltb capacity (n + length (keep (λ k. not (eqb k 0)) (take w (now (own .entry)))) + count) ⌝ }
-{
-    if CHARACTERS < count {
-        return true;
-    }
-    CHARACTERS < n + counts::count_inserts(&own[..w]) + count
-}
-
-// What is known of a block of so many characters, by the replica on lent arrays.
-fn judge<'a>(
-    site: Site,
-    characters: &'a [u32],
-    toggles: &'a [u8],
-    n: usize,
-    pending: &'a [u32],
-    w: usize,
-    heads: &'a [u16],
-    links: &'a [u16],
-    point: usize,
-    count: usize,
-) -> Judged
-    requires { ⌜ Sized (now characters) (now toggles) (now pending) (now heads) (now links) ⌝ }
-    ensures { λ r. ⌜ BlockJudged (replicaAs site (now (characters .entry)) (now (toggles .entry)) n
-        (now (pending .entry)) w (now (heads .entry)) (now (links .entry))) point count r ⌝ }
-{
-    if !well_formed::check(site, characters, toggles, n, pending, w, heads, links) {
-        return Judged::Answered(Answer::Refused(Refusal::Form));
-    }
-    if visible::count(toggles, n) < point {
-        return Judged::Answered(Answer::Refused(Refusal::Position));
-    }
-    if clock_short(site, count) {
-        return Judged::Answered(Answer::Refused(Refusal::Clock));
-    }
-    if overfull(n, &pending[0..PENDING], w, count) {
-        return Judged::Answered(Answer::Refused(Refusal::DocumentFull));
-    }
-    if count == 0 {
-        return Judged::Answered(Answer::Done {
-            integrated: 0,
-            discarded: 0,
-        });
-    }
-    Judged::Enough
 }
 
 // Reads the code points of a block into the fourth column.
@@ -264,7 +193,7 @@ pub fn paste_into(replica: Replica, point: usize, block: &[u8], typed: &mut [u32
     match utf8::count(block) {
         Counted::Malformed => untyped(replica, Answer::Refused(Refusal::NotUtf8)),
         Counted::Characters(count) => {
-            let judged = judge(
+            let judged = block_judging::judge(
                 replica.site,
                 &replica.document.characters,
                 &replica.document.toggles,

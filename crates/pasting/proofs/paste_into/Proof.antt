@@ -4,7 +4,7 @@ use Rattle.utf8.proofs.Offsets.{counted-some, counted-none}
 use Rattle.answers.specs.declared.Refusal.the-variants.{NotUtf8}
 use Rattle.answers.specs.declared.Answer.the-variants.{Refused}
 use Rattle.pasting.specs.Replicas.{pastedAs}
-use Rattle.pasting.proofs.Judging.{not-utf8, told-answer, told-enough}
+use Rattle.block_judging.proofs.Judging.{not-utf8, told-answer, told-enough}
 use Rattle.pasting.proofs.Finishing.{answered-so}
 use borrow.Author.Needs.{needs}
 use Rattle.pasting.proofs.paste_into.Statement.{statement}

@@ -1,4 +1,4 @@
--- `pasting::overfull` compares the sum, which fits once there are not more characters to come than slots.
+-- `block_judging::overfull` compares the sum, which fits once there are not more characters to come than slots.
 use Prim.Native.Nat.{ℕ, _+_, _≤_, _<_}
 use native.Mathlib.Omega.{arith}
 use mathlib.Core.Path.{_≡_, sym}
@@ -8,8 +8,8 @@ use lib.Dec.{eqb, ltb}
 use lib.ListN.{take, length-take}
 use Rattle.lists.proofs.Members.{keep-length}
 use borrow.Author.Needs.{needs}
-use Rattle.pasting.proofs.overfull.Statement.{statement}
-use Rattle.pasting.proofs.overfull.Tie as tie
+use Rattle.block_judging.proofs.overfull.Statement.{statement}
+use Rattle.block_judging.proofs.overfull.Tie as tie
 
 -- the inserts are among the pending operations
 few : (c : tie.After-count-inserts) → c .count-inserts .result ≤ 512

@@ -1,4 +1,4 @@
--- `pasting::judge` makes its tests in the order in which the rule makes its own.
+-- `block_judging::judge` makes its tests in the order in which the rule makes its own.
 use mathlib.Core.Path.{_≡_, sym, _∙_}
 use mathlib.Core.Bool.{false}
 use Rattle.lists.proofs.Tests.{failed, passed}
@@ -8,10 +8,10 @@ use Rattle.memory.specs.Lent.{replicaAs}
 use Rattle.memory.proofs.Fullness.{begins, Ends, ends}
 use Rattle.well_formed.specs.Examined.{Examined}
 use Rattle.well_formed.proofs.Examining.{lent-examined, few, fits}
-use Rattle.pasting.proofs.Judging.{judged-unformed, judged-beyond, seen, judged-late, judged-full, judged-empty, judged-enough}
+use Rattle.block_judging.proofs.Judging.{judged-unformed, judged-beyond, seen, judged-late, judged-full, judged-empty, judged-enough}
 use borrow.Author.Needs.{needs}
-use Rattle.pasting.proofs.judge.Statement.{statement}
-use Rattle.pasting.proofs.judge.Tie as tie
+use Rattle.block_judging.proofs.judge.Statement.{statement}
+use Rattle.block_judging.proofs.judge.Tie as tie
 
 -- the replica with the arrays
 abbrev given : tie.Start → Replica

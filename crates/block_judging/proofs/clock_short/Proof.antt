@@ -1,4 +1,4 @@
--- `pasting::clock_short` compares what is left of the clock, which is the sum compared with its end.
+-- `block_judging::clock_short` compares what is left of the clock, which is the sum compared with its end.
 use Prim.Native.Nat.{ℕ, _+_, _-_, _≤_}
 use native.Mathlib.Omega.{arith}
 use mathlib.Core.Path.{_≡_, sym, _∙_}
@@ -7,8 +7,8 @@ use borrow.Author.Tests.{ltb-true, ltb-false, lt-ltb, le-ltb}
 use lib.Dec.{ltb}
 use Rattle.lists.proofs.Tests.{either}
 use borrow.Author.Needs.{needs}
-use Rattle.pasting.proofs.clock_short.Statement.{statement}
-use Rattle.pasting.proofs.clock_short.Tie as tie
+use Rattle.block_judging.proofs.clock_short.Statement.{statement}
+use Rattle.block_judging.proofs.clock_short.Tie as tie
 
 left-or-sum : (m n k : ℕ) → n ≤ m → ltb (m - n) k ≡ ltb m (n + k)
 left-or-sum m n k h =

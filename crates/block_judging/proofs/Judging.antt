@@ -27,9 +27,9 @@ use Rattle.convergence.proofs.Forms.{known-length}
 use Rattle.pending.proofs.Pending.{count-own}
 use Rattle.well_formed.specs.Examined.{Examined}
 use Rattle.well_formed.proofs.Examining.{keyed, characters-counted, toggles-used, own-used}
-use Rattle.pasting.specs.declared.Judged.{Judged}
-use Rattle.pasting.specs.declared.Judged.the-variants.{Answered, Enough}
-use Rattle.pasting.specs.Steps.{Spacious, BlockJudged}
+use Rattle.block_judging.specs.declared.Judged.{Judged}
+use Rattle.block_judging.specs.declared.Judged.the-variants.{Answered, Enough}
+use Rattle.block_judging.specs.Steps.{Spacious, BlockJudged}
 
 -- ---- the rule, by the conditions of its list
 
