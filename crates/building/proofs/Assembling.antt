@@ -39,8 +39,8 @@ use Rattle.memory.proofs.Characters.{identifier-key}
 use Rattle.memory.proofs.Operations.{range-keyed}
 use Rattle.clock.specs.Hearing.{heardId, heardKeys}
 use Rattle.clock.proofs.Hearing.{heard-id}
-use Rattle.heap.specs.declared.Kept.{Kept}
-use Rattle.heap.specs.Keeping.{KeptOnce}
+use Rattle.sifting.specs.declared.Kept.{Kept}
+use Rattle.sifting.specs.Keeping.{KeptOnce}
 use Rattle.passes.specs.Steps.{laidAs, Laid, Offers}
 use Rattle.passes.proofs.Repeating.{pass-balanced}
 use Rattle.building.specs.declared.Built.{Built}

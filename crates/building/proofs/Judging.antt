@@ -19,8 +19,8 @@ use Rattle.woot.specs.Building.{unbuilt, heapFull, buildChecks, build}
 use Rattle.convergence.proofs.Ranges.{within-high}
 use Rattle.heap.specs.Format.{heapLaidOut, heapSaid}
 use Rattle.heap.specs.Columns.{InsertsIn, TogglesIn}
-use Rattle.heap.specs.declared.Gathered.{Gathered}
-use Rattle.heap.specs.Gathering.{ungathered, gatheredOf, gathered, Held}
+use Rattle.gathering.specs.declared.Gathered.{Gathered}
+use Rattle.gathering.specs.Gathering.{ungathered, gatheredOf, gathered, Held}
 use Rattle.building.specs.declared.Judged.{Judged}
 use Rattle.building.specs.declared.Judged.the-variants.{Refused as refused, Fits}
 use Rattle.building.specs.Calls.{builtOutcome, builtBy}

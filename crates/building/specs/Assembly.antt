@@ -19,7 +19,7 @@ use Rattle.answers.specs.Answers.{_⇒_, first, decided}
 use Rattle.woot.specs.Memory.{stored}
 use Rattle.woot.specs.Building.{BuildOutcome, unbuilt, building, leftOut, built, disagreeing}
 use Rattle.convergence.specs.Passes.{placed, toggledAll, absentees}
-use Rattle.heap.specs.declared.Gathered.{Gathered}
+use Rattle.gathering.specs.declared.Gathered.{Gathered}
 use Rattle.heap.specs.Columns.{InsertsIn}
 use Rattle.passes.specs.Steps.{Offered}
 use Rattle.building.specs.declared.Built.{Built}

@@ -2,7 +2,7 @@
 // and what is left out is counted. (Document 02, Req 08.)
 use answers::Answer;
 use answers::Refusal;
-use heap::Gathered;
+use gathering::Gathered;
 use heap::STAMPS;
 use heap::TOGGLE_NUMBERS;
 use pending::ready;
@@ -228,7 +228,7 @@ fn build_gathered(number: u8, inserts: &mut [u32], m: usize, changes: &[u32], l:
     let site = clock::heard_keys(Site { number, clock: 0 }, inserts, m);
     let mut heads = [0u16; CHAINS];
     let mut links = [0u16; LINKS];
-    let kept = heap::keep_once(inserts, m, &mut heads, &mut links);
+    let kept = sifting::keep_once(inserts, m, &mut heads, &mut links);
     if !kept.agreeing {
         return refused(Refusal::Conflict);
     }
@@ -268,7 +268,7 @@ pub fn build(number: u64, heap: &[u8]) -> Built
 {
     let mut inserts = [0u32; CHARACTER_NUMBERS];
     let mut changes = [0u32; TOGGLE_NUMBERS];
-    let gathered = heap::gather(heap, &mut inserts, &mut changes);
+    let gathered = gathering::gather(heap, &mut inserts, &mut changes);
     match judge(number, gathered) {
         Judged::Refused(refusal) => refused(refusal),
         Judged::Fits => build_gathered(

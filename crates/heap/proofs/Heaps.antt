@@ -2,14 +2,14 @@
 -- longer than its kind allows.
 use mathlib.Core.Path.{_≡_, refl, sym, ap, ap₂, _∙_}
 use mathlib.Core.List.{List, [], _∷_, _++_, map}
-use mathlib.Core.Bool.{Bool, true, false, _||_}
+use mathlib.Core.Bool.{Bool, true, false, _&&_, _||_, not}
 use mathlib.Core.Logic.{_⊎_, inl, inr, ⊎-elim}
 use Prim.Native.Nat.{ℕ, zero, suc, _+_, _*_, _≤_}
 use native.Mathlib.Nat.{zero-mul, suc-mul}
 use native.Mathlib.Omega.{arith}
 use lib.Dec.{ltb}
 use lib.ListN.{length, replicate, length-append, length-replicate}
-use borrow.Author.Tests.{eqb-false, ltb-false, le-ltb}
+use borrow.Author.Tests.{eqb-false, eq-eqb, ltb-false, le-ltb}
 use Rattle.lists.specs.Lists.{any, every}
 use Rattle.lists.proofs.Tests.{either, clash, and-left, and-right, and-intro}
 use Rattle.lists.proofs.Tests.{or-cases, or-false, or-false-left, or-false-right}
@@ -19,8 +19,9 @@ use Rattle.woot.specs.declared.Toggle.{Toggle}
 use Rattle.woot.specs.declared.Operation.{Operation}
 use Rattle.woot.specs.declared.Operation.the-variants.{Insert as insert, Toggle as toggle}
 use Rattle.woot.specs.Building.{heapFull, disagree, disagreeing}
+use Rattle.woot.specs.Identifiers.{same}
 use Rattle.woot.specs.Limits.{capacity}
-use Rattle.woot.specs.Operations.{inserts, togglesAmong}
+use Rattle.woot.specs.Operations.{inserts, togglesAmong, sameInsert}
 use Rattle.woot.specs.Ranges.{inRange}
 use Rattle.lines.specs.Lines.{lines, closed, lineFeed, concatenated}
 use Rattle.lines.specs.Fields.{fields, hasLayout, numerals, valuesOf, columns, lineOf}
@@ -34,9 +35,9 @@ use Rattle.codec.specs.Operations.{operationOf, operationLine}
 use Rattle.codec.specs.Calls.{asWritten, lineLaidOut}
 use Rattle.codec.proofs.Letters.{delete-alone}
 use Rattle.codec.proofs.Sizes.{line-lengths, delete-length, longest-lines}
+use Rattle.convergence.proofs.Identifiers.{same-refl}
 use Rattle.codec.proofs.Trips.{insert-numbers-back, toggle-numbers-back, delete-numbers-back}
 use Rattle.heap.specs.Format.{heapLaidOut, lineSaid, heapSaid}
-use Rattle.heap.proofs.Keeping.{no-disagreement}
 use Rattle.heap.specs.Theorems.{HeapReadsBack, HeapLengths, LongestHeap, HeapExamples}
 
 -- ---- read back
@@ -209,6 +210,20 @@ copied-length (suc n) o =
       length-append (operationLine o) (concatenated operationLine (replicate n o)),
       suc-mul n (length (operationLine o)),
     )
+
+same-itself : (x : Insert) → sameInsert x x ≡ true
+unfolding sameInsert
+same-itself x =
+    let point = eq-eqb (x .«code_point») (x .«code_point») refl in
+    and-intro (and-intro (and-intro (same-refl (x .id)) point) (same-refl (x .previous))) (same-refl (x .next))
+
+pub no-disagreement : {x y : Insert} → (same (x .id) (y .id) ≡ true → x ≡ y) → disagree x y ≡ false
+unfolding disagree
+no-disagreement {x} {y} h = go (same (x .id) (y .id)) refl
+  where
+    go : (b : Bool) → same (x .id) (y .id) ≡ b → (same (x .id) (y .id) && not (sameInsert x y)) ≡ false
+    go false e = rw e
+    go true e = rw (e, ← h e, same-itself x)
 
 -- n copies of an insert and m of a toggle, over any n and m
 abbrev copies : ℕ → ℕ → Insert → Toggle → List Operation

@@ -1,5 +1,3 @@
 pub mod Columns
 pub mod Inserts
-pub mod Gathering
-pub mod Keeping
 pub mod Heaps

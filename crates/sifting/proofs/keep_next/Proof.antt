@@ -1,11 +1,11 @@
--- `heap::keep_next` meets its contract, by where the key is found.
+-- `sifting::keep_next` meets its contract, by where the key is found.
 use mathlib.Core.Path.{refl, sym, _∙_}
 use native.Mathlib.Omega.{arith}
 use lib.ListN.{take, getD, length-take}
-use Rattle.heap.proofs.Keeping.{found-low, sifted-at, sifted-nothing}
+use Rattle.sifting.proofs.Keeping.{found-low, sifted-at, sifted-nothing}
 use borrow.Author.Needs.{needs}
-use Rattle.heap.proofs.keep_next.Statement.{statement}
-use Rattle.heap.proofs.keep_next.Tie as tie
+use Rattle.sifting.proofs.keep_next.Statement.{statement}
+use Rattle.sifting.proofs.keep_next.Tie as tie
 
 same-fields-requires : tie.Need-same-fields-requires
 same-fields-requires c κs =

@@ -1,9 +1,9 @@
--- `heap::keep_insert` meets its contract: where there is a slot, the insert is behind the others.
+-- `gathering::keep_insert` meets its contract: where there is a slot, the insert is behind the others.
 use mathlib.Core.Path.{refl}
 use Rattle.heap.proofs.Columns.{insert-full, insert-kept}
 use borrow.Author.Needs.{needs}
-use Rattle.heap.proofs.keep_insert.Statement.{statement}
-use Rattle.heap.proofs.keep_insert.Tie as tie
+use Rattle.gathering.proofs.keep_insert.Statement.{statement}
+use Rattle.gathering.proofs.keep_insert.Tie as tie
 
 returns : tie.Need-returns
 returns c = λ is a e. insert-full is _ _ a e (c .if1 .taken)

@@ -1,8 +1,8 @@
--- `heap::count` meets its contract, an insert counted or a toggle.
-use Rattle.heap.specs.Gathering.{countedOne}
+-- `gathering::count` meets its contract, an insert counted or a toggle.
+use Rattle.gathering.specs.Gathering.{countedOne}
 use borrow.Author.Needs.{needs}
-use Rattle.heap.proofs.count.Statement.{statement}
-use Rattle.heap.proofs.count.Tie as tie
+use Rattle.gathering.proofs.count.Statement.{statement}
+use Rattle.gathering.proofs.count.Tie as tie
 
 returns : tie.Need-returns
 unfolding countedOne

@@ -1,10 +1,10 @@
--- `heap::keep_toggle` meets its contract: where there is a slot, the toggle is behind the others.
+-- `gathering::keep_toggle` meets its contract: where there is a slot, the toggle is behind the others.
 use native.Mathlib.Omega.{arith}
 use lib.ListN.{length-set}
 use Rattle.heap.proofs.Columns.{toggle-full, toggle-kept}
 use borrow.Author.Needs.{needs}
-use Rattle.heap.proofs.keep_toggle.Statement.{statement}
-use Rattle.heap.proofs.keep_toggle.Tie as tie
+use Rattle.gathering.proofs.keep_toggle.Statement.{statement}
+use Rattle.gathering.proofs.keep_toggle.Tie as tie
 
 returns : tie.Need-returns
 returns c = λ ts a e. toggle-full ts _ _ a e (c .if1 .taken)

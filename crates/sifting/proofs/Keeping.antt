@@ -4,7 +4,7 @@ use Prim.Native.Nat.{ℕ, suc, _+_, _≤_, _<_}
 use native.Mathlib.Omega.{arith}
 use native.Mathlib.Numerals.{add-one}
 use mathlib.Core.Path.{_≡_, refl, sym, ap, _∙_, subst}
-use mathlib.Core.Bool.{Bool, true, false, _&&_, not, cond}
+use mathlib.Core.Bool.{Bool, true, false, not, cond}
 use mathlib.Core.List.{List, [], _∷_, _++_, map, List·Memᴰ, List·Memᴰ·head, List·Memᴰ·tail}
 use mathlib.Core.Logic.{_⊎_, inl, inr, ⊎-elim}
 use lib.Dec.{eqb}
@@ -26,7 +26,7 @@ use Rattle.woot.specs.Ranges.{insertInRange}
 use Rattle.woot.specs.Table.{key, entered, tableOf}
 use Rattle.woot.specs.Memory.{column}
 use Rattle.convergence.specs.Passes.{keptOnce, firsts}
-use Rattle.convergence.proofs.Identifiers.{same-eq, eq-same, same-refl}
+use Rattle.convergence.proofs.Identifiers.{same-eq, eq-same}
 use Rattle.convergence.proofs.Steps.{any-map}
 use Rattle.index.specs.declared.Found.{Found}
 use Rattle.index.specs.declared.Found.the-variants.{At, Nothing}
@@ -38,11 +38,13 @@ use Rattle.index.proofs.Searches.{FoundAt, first-says}
 use Rattle.index.proofs.Tables.{enter}
 use Rattle.memory.proofs.Fullness.{column-length}
 use Rattle.memory.proofs.Operations.{KeyedInsert}
-use Rattle.heap.specs.declared.Kept.{Kept}
+use Rattle.sifting.specs.declared.Kept.{Kept}
 use Rattle.heap.specs.Columns.{InsertsIn}
-use Rattle.heap.specs.Keeping.{Moved, sameFields, Sifted, KeptOnce}
+use Rattle.heap.specs.Keeping.{Moved}
 use Rattle.heap.proofs.Columns.{NumbersAt, insert-pushed}
 use Rattle.heap.proofs.Inserts.{keyed, numbers-at}
+use Rattle.heap.proofs.Heaps.{no-disagreement}
+use Rattle.sifting.specs.Keeping.{sameFields, Sifted, KeptOnce}
 
 -- ---- one insert
 
@@ -156,20 +158,6 @@ firsts-member : (is : List Insert) {x : Insert} → List·Memᴰ x (firsts is) �
 firsts-member is m = ⊎-elim no-member (λ n. n) (kept-member [] is m)
 
 -- ---- inserts and their numbers
-
-same-itself : (x : Insert) → sameInsert x x ≡ true
-unfolding sameInsert
-same-itself x =
-    let point = eq-eqb (x .«code_point») (x .«code_point») refl in
-    and-intro (and-intro (and-intro (same-refl (x .id)) point) (same-refl (x .previous))) (same-refl (x .next))
-
-pub no-disagreement : {x y : Insert} → (same (x .id) (y .id) ≡ true → x ≡ y) → disagree x y ≡ false
-unfolding disagree
-no-disagreement {x} {y} h = go (same (x .id) (y .id)) refl
-  where
-    go : (b : Bool) → same (x .id) (y .id) ≡ b → (same (x .id) (y .id) && not (sameInsert x y)) ≡ false
-    go false e = rw e
-    go true e = rw (e, ← h e, same-itself x)
 
 agreed : (is : List Insert) → ((x y : Insert) → List·Memᴰ x is → List·Memᴰ y is → same (x .id) (y .id) ≡ true → x ≡ y)
     → disagreeing is ≡ false

@@ -1,4 +1,4 @@
--- `heap::gather_line` meets its contract: what `codec` answers is the operation, refusal 2 or refusal 1.
+-- `gathering::gather_line` meets its contract: what `codec` answers is the operation, refusal 2 or refusal 1.
 use mathlib.Core.Path.{_≡_, sym, ap, _∙_, subst}
 use mathlib.Core.List.{List, [], _∷_}
 use Prim.Native.Nat.{ℕ}
@@ -9,12 +9,12 @@ use Rattle.answers.specs.declared.Refusal.{Refusal}
 use Rattle.answers.specs.declared.Refusal.the-variants.{Range}
 use Rattle.answers.proofs.Refusal.{the-type}
 use Rattle.lists.proofs.Tests.{clash}
-use Rattle.heap.specs.declared.Gathered.{Gathered}
-use Rattle.heap.proofs.Gathering.{was-read, out-of-range, lacks-layout, counted-letter, kept-line, no-line}
-use Rattle.heap.proofs.Gathering.{range-told, no-range-told}
+use Rattle.gathering.specs.declared.Gathered.{Gathered}
+use Rattle.gathering.proofs.Gathering.{was-read, out-of-range, lacks-layout, counted-letter, kept-line, no-line}
+use Rattle.gathering.proofs.Gathering.{range-told, no-range-told}
 use borrow.Author.Needs.{needs}
-use Rattle.heap.proofs.gather_line.Statement.{statement}
-use Rattle.heap.proofs.gather_line.Tie as tie
+use Rattle.gathering.proofs.gather_line.Statement.{statement}
+use Rattle.gathering.proofs.gather_line.Tie as tie
 
 -- every refusal but 2, by its tag
 abbrev others : List ℕ

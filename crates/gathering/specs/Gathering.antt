@@ -10,9 +10,9 @@ use Rattle.woot.specs.Operations.{inserts, togglesAmong}
 use Rattle.woot.specs.Ranges.{inRange}
 use Rattle.woot.specs.Memory.{characterSlots}
 use Rattle.codec.specs.Calls.{lineLaidOut}
-use Rattle.heap.specs.declared.Gathered.{Gathered}
+use Rattle.gathering.specs.declared.Gathered.{Gathered}
 use Rattle.heap.specs.Format.{heapLaidOut, lineSaid, heapSaid}
 use Rattle.heap.specs.Columns.{InsertsIn, TogglesIn}
 
 -- ---- the answer
 

@@ -1,14 +1,14 @@
--- `heap::same_fields` meets its contract: what it reads of the array are the slots of the columns.
+-- `sifting::same_fields` meets its contract: what it reads of the array are the slots of the columns.
 use mathlib.Core.Path.{ap, _∙_}
 use mathlib.Core.Bool.{Bool, _&&_}
 use Prim.Native.Nat.{_+_}
 use lib.Dec.{eqb}
 use lib.ListN.{getD}
 use Rattle.memory.proofs.Views.{column-at}
-use Rattle.heap.specs.Keeping.{sameFields}
+use Rattle.sifting.specs.Keeping.{sameFields}
 use borrow.Author.Needs.{needs}
-use Rattle.heap.proofs.same_fields.Statement.{statement}
-use Rattle.heap.proofs.same_fields.Tie as tie
+use Rattle.sifting.proofs.same_fields.Statement.{statement}
+use Rattle.sifting.proofs.same_fields.Tie as tie
 
 returns : tie.Need-returns
 unfolding sameFields

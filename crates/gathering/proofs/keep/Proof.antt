@@ -1,8 +1,8 @@
--- `heap::keep` meets its contract: an insert goes into one array, a toggle into the other, and each is counted.
-use Rattle.heap.proofs.Gathering.{kept-insert, held-insert, kept-toggle, held-toggle}
+-- `gathering::keep` meets its contract: an insert goes into one array, a toggle into the other, and each is counted.
+use Rattle.gathering.proofs.Gathering.{kept-insert, held-insert, kept-toggle, held-toggle}
 use borrow.Author.Needs.{needs}
-use Rattle.heap.proofs.keep.Statement.{statement}
-use Rattle.heap.proofs.keep.Tie as tie
+use Rattle.gathering.proofs.keep.Statement.{statement}
+use Rattle.gathering.proofs.keep.Tie as tie
 
 returns : tie.Need-returns
 returns c =

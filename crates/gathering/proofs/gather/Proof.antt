@@ -1,4 +1,4 @@
--- `heap::gather` meets its contract, by the invariant of `proofs/Gathering.antt`.
+-- `gathering::gather` meets its contract, by the invariant of `proofs/Gathering.antt`.
 use mathlib.Core.Path.{ap, _∙_}
 use native.Mathlib.Omega.{arith}
 use lib.ListN.{length}
@@ -6,10 +6,10 @@ use borrow.Author.Needs.{needs}
 use borrow.Author.Tests.{not-true, not-false}
 use Rattle.lists.proofs.Tests.{clash}
 use Rattle.lines.proofs.Lines.{rest-shorter}
-use Rattle.heap.proofs.Gathering.{GatherLoop, gather-begun, gather-few, gather-end, gather-held}
-use Rattle.heap.proofs.Gathering.{gather-none, gather-more, no-range-told}
-use Rattle.heap.proofs.gather.Statement.{statement}
-use Rattle.heap.proofs.gather.Tie as tie
+use Rattle.gathering.proofs.Gathering.{GatherLoop, gather-begun, gather-few, gather-end, gather-held}
+use Rattle.gathering.proofs.Gathering.{gather-none, gather-more, no-range-told}
+use Rattle.gathering.proofs.gather.Statement.{statement}
+use Rattle.gathering.proofs.gather.Tie as tie
 
 abbrev Inv-loop : tie.InvT-loop
 Inv-loop bytes inserts₀ toggles₀ at₀ left₀ inserts toggles at left = GatherLoop bytes inserts toggles at left

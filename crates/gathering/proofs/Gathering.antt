@@ -30,10 +30,10 @@ use Rattle.codec.specs.declared.Read.the-variants.{Operation as readsAs, Refuse
 use Rattle.codec.specs.Operations.{isInsert, isToggle, isDelete, operationOf}
 use Rattle.codec.specs.Calls.{asWritten, lineLaidOut, readAs, readLine}
 use Rattle.codec.proofs.Judging.{read-layout, read-range, read-operation}
-use Rattle.heap.specs.declared.Gathered.{Gathered}
+use Rattle.gathering.specs.declared.Gathered.{Gathered}
 use Rattle.heap.specs.Format.{heapLaidOut, lineSaid, heapSaid}
 use Rattle.heap.specs.Columns.{InsertsIn, TogglesIn}
-use Rattle.heap.specs.Gathering.{ungathered, gatheredOf, gathered, Held, countedOne, andOne, andLine}
+use Rattle.gathering.specs.Gathering.{ungathered, gatheredOf, gathered, Held, countedOne, andOne, andLine}
 
 -- ---- one operation more
 

@@ -1,12 +1,12 @@
--- `heap::keep_once` meets its contract, by the invariant of `proofs/Keeping.antt`.
+-- `sifting::keep_once` meets its contract, by the invariant of `proofs/Keeping.antt`.
 use Prim.Native.Nat.{_-_}
 use native.Mathlib.Omega.{arith}
 use mathlib.Core.Path.{sym, _∙_}
 use borrow.Author.Needs.{needs}
 use borrow.Author.Tests.{not-true, not-false}
-use Rattle.heap.proofs.Keeping.{KeepLoop, keep-begun, keep-tabled, keep-end, keep-more, keep-conflict}
-use Rattle.heap.proofs.keep_once.Statement.{statement}
-use Rattle.heap.proofs.keep_once.Tie as tie
+use Rattle.sifting.proofs.Keeping.{KeepLoop, keep-begun, keep-tabled, keep-end, keep-more, keep-conflict}
+use Rattle.sifting.proofs.keep_once.Statement.{statement}
+use Rattle.sifting.proofs.keep_once.Tie as tie
 
 abbrev Inv-loop : tie.InvT-loop
 Inv-loop inserts₀ n heads₀ links₀ count₀ i₀ inserts heads links count i =
