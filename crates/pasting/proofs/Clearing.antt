@@ -14,7 +14,7 @@ use Rattle.convergence.proofs.Typings.{Ready}
 use Rattle.well_formed.specs.Examined.{Examined}
 use Rattle.well_formed.proofs.Examining.{few, form, examined-tabled}
 use Rattle.delivery.specs.Work.{Lent}
-use Rattle.typing.specs.Steps.{Typeable}
+use Rattle.keystroke.specs.Steps.{Typeable}
 use Rattle.typing.proofs.Going.{meant-stored, ready-stored}
 use Rattle.block_judging.specs.Steps.{Spacious}
 

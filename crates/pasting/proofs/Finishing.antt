@@ -32,7 +32,7 @@ use Rattle.memory.proofs.Views.{meaning-view, form-view}
 use Rattle.convergence.proofs.Forms.{known-length}
 use Rattle.convergence.proofs.Pasting.{paste-sends}
 use Rattle.replica.proofs.Returning.{whole}
-use Rattle.typing.specs.declared.Typing.{Typing}
+use Rattle.keystroke.specs.declared.Typing.{Typing}
 use Rattle.typing.specs.declared.Ended.{Ended}
 use Rattle.typing.specs.declared.Ended.the-variants.{Finished, Unplaceable as placeless}
 use Rattle.typing.specs.Columns.{typedColumns}

@@ -41,11 +41,12 @@ use Rattle.memory.proofs.Views.{columns-whole, column-at, view-stored, form-vie
 use Rattle.convergence.proofs.Kept.{form-kept}
 use Rattle.convergence.proofs.Typings.{Ready, stateAfter, gapThen, typed-plain, typed-done, typed-stopped, typed-ready}
 use Rattle.replica.proofs.Runs.{formed-within, form-stored}
-use Rattle.typing.specs.declared.Typing.{Typing}
-use Rattle.typing.specs.declared.Typed.{Typed}
-use Rattle.typing.specs.declared.Typed.the-variants.{Inserted, Unplaceable}
+use Rattle.keystroke.specs.declared.Typing.{Typing}
+use Rattle.keystroke.specs.declared.Typed.{Typed}
+use Rattle.keystroke.specs.declared.Typed.the-variants.{Inserted, Unplaceable}
+use Rattle.keystroke.specs.Steps.{Typeable, Taken, OneTyped}
 use Rattle.typing.specs.Columns.{charactersBy, typedColumns}
-use Rattle.typing.specs.Steps.{Typeable, Unwritten, Inscribed, Taken, OneTyped, Written}
+use Rattle.typing.specs.Steps.{Unwritten, Inscribed, Written}
 
 -- ---- what typing comes to
 

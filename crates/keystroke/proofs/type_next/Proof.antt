@@ -1,4 +1,4 @@
--- `typing::type_next` makes the insert, looks for its place, puts it in with what it releases, and counts the visible
+-- `keystroke::type_next` makes the insert, looks for its place, puts it in with what it releases, and counts the visible
 -- characters through it.
 use Prim.Native.Nat.{ℕ, _+_}
 use native.Mathlib.Omega.{arith}
@@ -17,13 +17,13 @@ use Rattle.integration.specs.Placements.{placementOf}
 use Rattle.well_formed.specs.Examined.{Examined}
 use Rattle.well_formed.proofs.Examining.{few, fits, examined-tabled, ids-used, toggles-used}
 use Rattle.delivery.specs.Work.{workAs, finished, PlacedAs}
-use Rattle.typing.specs.declared.Typing.{Typing}
-use Rattle.typing.specs.Steps.{OneTyped}
-use Rattle.typing.proofs.Taking.{front-keys, examined, low, made, same-site, neighboured, found-below, found-nowhere, placeable, placed-there}
-use Rattle.typing.proofs.Taking.{integrated-next, discarded-next, balance-next, stored-next, few-next, below-next}
+use Rattle.keystroke.specs.declared.Typing.{Typing}
+use Rattle.keystroke.specs.Steps.{OneTyped}
+use Rattle.keystroke.proofs.Taking.{front-keys, examined, low, made, same-site, neighboured, found-below, found-nowhere, placeable, placed-there}
+use Rattle.keystroke.proofs.Taking.{integrated-next, discarded-next, balance-next, stored-next, few-next, below-next}
 use borrow.Author.Needs.{needs}
-use Rattle.typing.proofs.type_next.Statement.{statement}
-use Rattle.typing.proofs.type_next.Tie as tie
+use Rattle.keystroke.proofs.type_next.Statement.{statement}
+use Rattle.keystroke.proofs.type_next.Tie as tie
 
 -- ---- what is given
 

@@ -58,7 +58,7 @@ use Rattle.delivery.specs.Steps.{placeOf}
 use Rattle.delivery.specs.Work.{Work, workOf, finished, PlacedAs}
 use Rattle.delivery.proofs.Works.{used}
 use Rattle.delivery.proofs.Stepping.{at-below}
-use Rattle.typing.specs.Steps.{Typeable, Neighboured}
+use Rattle.keystroke.specs.Steps.{Typeable, Neighboured}
 
 -- the keys in use at the front of the array are those in use of its first column
 pub front-keys : (xs : List ℕ) (n : ℕ) → n ≤ 1024 → take n xs ≡ take n (keyColumn xs)

@@ -1,8 +1,8 @@
--- `typing::make` reads the keys on both sides of the insertion point, and makes the insert between them.
+-- `keystroke::make` reads the keys on both sides of the insertion point, and makes the insert between them.
 use borrow.Author.Needs.{needs}
 use Rattle.generation.proofs.Neighbours.{left-bits, right-bits, insert-made}
-use Rattle.typing.proofs.make.Statement.{statement}
-use Rattle.typing.proofs.make.Tie as tie
+use Rattle.keystroke.proofs.make.Statement.{statement}
+use Rattle.keystroke.proofs.make.Tie as tie
 
 next-insert-requires : tie.Need-next-insert-requires
 next-insert-requires c κs =
