@@ -27,7 +27,7 @@ use Rattle.convergence.proofs.Characters.{at-index, own-index, member-place}
 use Rattle.convergence.proofs.Sorting.{next-held}
 use Rattle.index.specs.Keys.{AllSmall}
 use Rattle.index.proofs.Keys.{key-injective, key-below}
-use Rattle.admission.specs.Steps.{pairAt, rowAt}
+use Rattle.neighbours.specs.Steps.{pairAt, rowAt}
 
 module _ (cs : List Character) (s : Standing cs) (small : AllSmall cs) (ids ups downs : List ℕ)
     (own : (i : ℕ) → i < length cs → getD ids i 0 ≡ key (getD cs i blankCharacter .id))

@@ -20,7 +20,7 @@ use Rattle.woot.specs.Table.{key, keys}
 use Rattle.convergence.specs.Agreement.{Standing}
 use Rattle.index.specs.Keys.{Small, AllSmall, placeIn}
 use Rattle.index.proofs.Indices.{place-keys}
-use Rattle.admission.specs.Steps.{Placed, rowAt, pairsIn, Unknotted, Knot}
+use Rattle.neighbours.specs.Steps.{Placed, rowAt, pairsIn, Unknotted, Knot}
 use Rattle.admission.proofs.Knots.{unknotted-acyclic, knot-cyclic}
 use Rattle.admission.proofs.Concurrent.{pairs-same}
 

@@ -24,8 +24,8 @@ use Rattle.convergence.specs.Agreement.{Standing}
 use Rattle.convergence.proofs.Identifiers.{same-refl, same-eq}
 use Rattle.convergence.proofs.Places.{held-id, place-held, place-injective}
 use Rattle.convergence.proofs.Characters.{at-index, own-index, member-place, same-character}
-use Rattle.admission.specs.Steps.{settled, freeAt, Knotted, Unknotted, Knot}
-use Rattle.admission.proofs.Passing.{positive}
+use Rattle.neighbours.specs.Steps.{settled, freeAt, Knotted, Unknotted, Knot}
+use Rattle.neighbours.proofs.Passing.{positive}
 
 -- ---- members
 

@@ -1,4 +1,3 @@
-pub mod Passing
 pub mod Knots
 pub mod Concurrent
 pub mod Finding

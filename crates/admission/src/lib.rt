@@ -1,11 +1,10 @@
 // Loading for use: whether some sequence of received operations, begun from an empty replica, leaves the rows of one.
 // (Document 02, Req 07.) Two tests say it, both on the places of the rows' neighbours: those of pairs and of cycles.
-pub mod cycles;
-pub mod pairs;
-pub mod places;
-
 use answers::Answer;
 use answers::Refusal;
+use neighbours::cycles;
+use neighbours::pairs;
+use neighbours::places;
 use woot::CHARACTERS;
 use woot::CODE_POINTS;
 use woot::NEXT_KEYS;
@@ -30,13 +29,6 @@ ghost use Rattle.admission.specs.Calls.{admittedBy};
 pub struct Admitted {
     pub answer: Answer,
     pub replica: Replica,
-}
-
-// A place as it lies in an array.
-fn place(at: u16) -> usize
-    ensures { λ r. ⌜ r ≡ at ⌝ }
-{
-    at as usize
 }
 
 // Whether the rows with these keys and neighbours can be made. A step of the call: it has checked the form.

@@ -9,9 +9,9 @@ use borrow.Author.Tests.{eq-eqb, ne-eqb, lt-ltb, le-ltb}
 use lib.Dec.{eqb, ltb}
 use lib.ListN.{getD}
 use Rattle.lists.proofs.Tests.{or-left, or-right}
-use Rattle.admission.specs.Steps.{settled, unflagged}
-use Rattle.admission.proofs.cycles.settled.Statement.{statement}
-use Rattle.admission.proofs.cycles.settled.Tie as tie
+use Rattle.neighbours.specs.Steps.{settled, unflagged}
+use Rattle.neighbours.proofs.cycles.settled.Statement.{statement}
+use Rattle.neighbours.proofs.cycles.settled.Tie as tie
 
 module _ (flags : List ℕ) (n p : ℕ) where
   mark : p ≡ 0 → true ≡ settled (unflagged flags) n p

@@ -9,9 +9,9 @@ use lib.ListN.{length, getD}
 use Rattle.lists.specs.Lists.{throughout}
 use Rattle.lists.proofs.Tests.{failed, passed}
 use Rattle.lists.proofs.Throughout.{throughout-more, throughout-fails}
-use Rattle.admission.specs.Steps.{pairAt, rowAt}
-use Rattle.admission.proofs.pairs.ordered.Statement.{statement}
-use Rattle.admission.proofs.pairs.ordered.Tie as tie
+use Rattle.neighbours.specs.Steps.{pairAt, rowAt}
+use Rattle.neighbours.proofs.pairs.ordered.Statement.{statement}
+use Rattle.neighbours.proofs.pairs.ordered.Tie as tie
 
 -- the test of a row, at the place that was read
 read : (ids above below : List ℕ) (k : ℕ) {p : ℕ} {b : Bool} → p ≡ getD above k 0

@@ -5,7 +5,7 @@ ghost use mathlib.Core.Path.{_≡_};
 ghost use Prim.Native.Nat.{_≤_, _<_};
 ghost use lib.ListN.{length};
 ghost use Rattle.lists.specs.Lists.{throughout};
-ghost use Rattle.admission.specs.Steps.{pairAt, pairsIn};
+ghost use Rattle.neighbours.specs.Steps.{pairAt, pairsIn};
 
 // Whether it is so of row k, whose previous is at the place, and of each row between.
 fn row_ordered<'a>(ids: &'a [u32], below: &'a [u16], above: usize, k: usize) -> bool

@@ -12,8 +12,8 @@ use lib.ListN.{length, getD, set, length-set, replicate, getD-replicate}
 use lib.Seq.{getD-set-same, getD-set-other}
 use Rattle.lists.proofs.Tests.{side, either, clash, fails, and-intro, and-left, and-right, or-cases, or-left, or-right}
 use Rattle.lists.proofs.Tests.{not-intro}
-use Rattle.admission.specs.Steps.{settled, freeAt, unflagged, remaining, Knotted, Spared, Passed}
-use Rattle.admission.specs.Steps.{Unknotted, Knot}
+use Rattle.neighbours.specs.Steps.{settled, freeAt, unflagged, remaining, Knotted, Spared, Passed}
+use Rattle.neighbours.specs.Steps.{Unknotted, Knot}
 
 pub or-rest : (a b : Bool) → a || b ≡ true → a ≡ false → b ≡ true
 or-rest a b h e = ⊎-elim (λ f. clash f e) (λ f. f) (or-cases a b h)

@@ -12,9 +12,9 @@ use lib.ListN.{getD}
 use Rattle.lists.specs.Lists.{throughout}
 use Rattle.lists.proofs.Tests.{and-intro, or-left, or-right, or-false, not-intro}
 use Rattle.lists.proofs.Throughout.{throughout-more, throughout-fails, throughout-at, throughout-all}
-use Rattle.admission.specs.Steps.{pairAt}
-use Rattle.admission.proofs.pairs.row_ordered.Statement.{statement}
-use Rattle.admission.proofs.pairs.row_ordered.Tie as tie
+use Rattle.neighbours.specs.Steps.{pairAt}
+use Rattle.neighbours.proofs.pairs.row_ordered.Statement.{statement}
+use Rattle.neighbours.proofs.pairs.row_ordered.Tie as tie
 
 module _ (ids below : List ℕ) (p k : ℕ) where
   -- rows above the place

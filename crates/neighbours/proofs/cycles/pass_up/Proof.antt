@@ -5,10 +5,10 @@ use mathlib.Core.Path.{_≡_}
 use mathlib.Core.Logic.{_⊎_, inl, inr, ⊎-elim}
 use borrow.Author.Needs.{needs}
 use Rattle.lists.proofs.Tests.{side}
-use Rattle.admission.specs.Steps.{Passed}
-use Rattle.admission.proofs.Passing.{begun, joined, seen, remaining-few}
-use Rattle.admission.proofs.cycles.pass_up.Statement.{statement}
-use Rattle.admission.proofs.cycles.pass_up.Tie as tie
+use Rattle.neighbours.specs.Steps.{Passed}
+use Rattle.neighbours.proofs.Passing.{begun, joined, seen, remaining-few}
+use Rattle.neighbours.proofs.cycles.pass_up.Statement.{statement}
+use Rattle.neighbours.proofs.cycles.pass_up.Tie as tie
 
 one-more : (n k j : ℕ) → (k - 1 ≤ j) × (j < n) → ((k ≤ j) × (j < n)) ⊎ (j ≡ k - 1)
 one-more n k j h =

@@ -5,10 +5,10 @@ use mathlib.Core.Path.{_≡_, refl, _∙_}
 use borrow.Author.Needs.{needs}
 use lib.ListN.{length, length-replicate}
 use Rattle.lists.proofs.Tests.{clash}
-use Rattle.admission.specs.Steps.{remaining}
-use Rattle.admission.proofs.Passing.{remaining-first, AllSpared, spared-first, none-left, some-stuck, taken-few}
-use Rattle.admission.proofs.cycles.acyclic.Statement.{statement}
-use Rattle.admission.proofs.cycles.acyclic.Tie as tie
+use Rattle.neighbours.specs.Steps.{remaining}
+use Rattle.neighbours.proofs.Passing.{remaining-first, AllSpared, spared-first, none-left, some-stuck, taken-few}
+use Rattle.neighbours.proofs.cycles.acyclic.Statement.{statement}
+use Rattle.neighbours.proofs.cycles.acyclic.Tie as tie
 
 abbrev Inv-loop : tie.InvT-loop
 Inv-loop above below n flags₀ left₀ flags left =

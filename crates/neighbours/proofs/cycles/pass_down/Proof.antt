@@ -5,10 +5,10 @@ use mathlib.Core.Path.{_≡_}
 use mathlib.Core.Logic.{_⊎_, inl, inr, ⊎-elim}
 use borrow.Author.Needs.{needs}
 use Rattle.lists.proofs.Tests.{side}
-use Rattle.admission.specs.Steps.{Passed}
-use Rattle.admission.proofs.Passing.{begun, joined, seen, remaining-few}
-use Rattle.admission.proofs.cycles.pass_down.Statement.{statement}
-use Rattle.admission.proofs.cycles.pass_down.Tie as tie
+use Rattle.neighbours.specs.Steps.{Passed}
+use Rattle.neighbours.proofs.Passing.{begun, joined, seen, remaining-few}
+use Rattle.neighbours.proofs.cycles.pass_down.Statement.{statement}
+use Rattle.neighbours.proofs.cycles.pass_down.Tie as tie
 
 one-more : (k j : ℕ) → j < k + 1 → (j < k) ⊎ (j ≡ k)
 one-more k j h = ⊎-elim (λ l. inr (omega (arith, l, h))) (λ l. inl l) (side k j)

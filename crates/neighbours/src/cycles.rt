@@ -7,7 +7,7 @@ ghost use mathlib.Core.Bool.{true, false};
 ghost use Prim.Native.Nat.{_≤_, _<_};
 ghost use lib.ListN.{length};
 ghost use Rattle.woot.specs.Memory.{characterSlots};
-ghost use Rattle.admission.specs.Steps.{settled, unflagged, Passed, Unknotted, Knot};
+ghost use Rattle.neighbours.specs.Steps.{settled, unflagged, Passed, Unknotted, Knot};
 
 // Whether a place is a mark's, or that of a row with a flag.
 fn settled(flags: &[u8], n: usize, place: usize) -> bool

@@ -10,8 +10,8 @@ use lib.Seq.{getD-set-same, getD-set-other}
 use Rattle.lists.proofs.Tests.{side}
 use Rattle.index.specs.Keys.{placeIn}
 use Rattle.index.proofs.Indices.{place-bounded}
-use Rattle.admission.proofs.places.find_places.Statement.{statement}
-use Rattle.admission.proofs.places.find_places.Tie as tie
+use Rattle.neighbours.proofs.places.find_places.Statement.{statement}
+use Rattle.neighbours.proofs.places.find_places.Tie as tie
 
 abbrev Found : List ℕ → List ℕ → List ℕ → ℕ → Type 0
 Found ids keys places i = (j : ℕ) → j < i → getD places j 0 ≡ placeIn ids (getD keys j 0)

@@ -4,7 +4,7 @@ ghost use Prim.Native.Nat.{_≤_};
 ghost use lib.ListN.{length};
 ghost use Rattle.index.specs.Keys.{placeIn};
 ghost use Rattle.index.specs.Tabled.{Tabled};
-ghost use Rattle.admission.specs.Steps.{Placed};
+ghost use Rattle.neighbours.specs.Steps.{Placed};
 
 // The place of one neighbour of each row, its previous or its next. Most rows stand beside their neighbours, so that
 // the place that many past the index is looked at first. A step of the calls and not a call: they have checked the

@@ -8,10 +8,10 @@ use borrow.Author.Needs.{needs}
 use borrow.Author.Tests.{eq-eqb, ne-eqb}
 use lib.ListN.{getD}
 use Rattle.lists.proofs.Tests.{clash, and-intro, failed, passed}
-use Rattle.admission.specs.Steps.{settled, freeAt, unflagged}
-use Rattle.admission.proofs.Passing.{stays, goes}
-use Rattle.admission.proofs.cycles.take_free.Statement.{statement}
-use Rattle.admission.proofs.cycles.take_free.Tie as tie
+use Rattle.neighbours.specs.Steps.{settled, freeAt, unflagged}
+use Rattle.neighbours.proofs.Passing.{stays, goes}
+use Rattle.neighbours.proofs.cycles.take_free.Statement.{statement}
+use Rattle.neighbours.proofs.cycles.take_free.Tie as tie
 
 module _ (above below : List ℕ) (n : ℕ) (flags : List ℕ) (k : ℕ) where
   flagged : (getD flags k 0 ≡ 0 → ⊥) → unflagged flags k ≡ false
