@@ -5,7 +5,6 @@ use index::Found;
 use index::chains;
 use index::table;
 use integration::Placement;
-use pending::edits;
 use pending::ready;
 use woot::CHARACTERS;
 use woot::CODE_POINTS;
@@ -63,7 +62,7 @@ pub fn sweep(characters: &mut [u32], toggles: &mut [u8], pending: &mut [u32], n:
         ls))) ⌝ }
 {
     characters::clear(characters, toggles, n);
-    edits::clear(pending, w);
+    pending_slots::clear(pending, w);
 }
 
 // Clears what is not in use and makes the table the one of the keys, so that the arrays are those that the rules' lists
@@ -217,8 +216,8 @@ fn step(
 {
     let n = progress.length;
     let w = progress.waiting;
-    let operation = edits::operation_at(pending, j);
-    edits::remove(pending, w, j);
+    let operation = pending_slots::operation_at(pending, j);
+    pending_slots::remove(pending, w, j);
     match operation {
         Operation::Insert(i) => {
             let placement = find_place(heads, links, characters, n, i);
@@ -397,5 +396,5 @@ pub fn defer(
         (now (heads .entry)) (now (links .entry))) ++ operation ∷ []) ⌝ }
 {
     clear(characters, toggles, pending, heads, links, n, w);
-    edits::push(pending, w, operation);
+    pending_slots::push(pending, w, operation);
 }

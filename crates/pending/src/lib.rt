@@ -1,4 +1,3 @@
 // The pending operations of a document, on the arrays that hold them.
 pub mod counts;
-pub mod edits;
 pub mod ready;

@@ -1,4 +1,4 @@
--- `edits::push` stores the four numbers of the operation, one in each column.
+-- `pending_slots::push` stores the four numbers of the operation, one in each column.
 use Prim.Native.Nat.{ℕ}
 use native.Mathlib.Omega.{arith}
 use mathlib.Core.Path.{_≡_, ap, ap₂, _∙_}
@@ -8,8 +8,8 @@ use Rattle.memory.proofs.Fullness.{column-length}
 use Rattle.memory.proofs.Replacing.{second-before, third-before, fourth-before, columns-are}
 use Rattle.woot.specs.Memory.{column}
 use borrow.Author.Needs.{needs}
-use Rattle.pending.proofs.edits.push.Statement.{statement}
-use Rattle.pending.proofs.edits.push.Tie as tie
+use Rattle.pending_slots.proofs.push.Statement.{statement}
+use Rattle.pending_slots.proofs.push.Tie as tie
 
 slice-aggregate-set-number : tie.Need-slice-aggregate-set-number
 slice-aggregate-set-number c =

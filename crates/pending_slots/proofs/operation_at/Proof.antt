@@ -1,4 +1,4 @@
--- `edits::operation_at` reads the slot of each column.
+-- `pending_slots::operation_at` reads the slot of each column.
 use Prim.Native.Nat.{ℕ, _+_, _<_}
 use mathlib.Core.Path.{_≡_, _∙_}
 use mathlib.Core.List.{List}
@@ -7,8 +7,8 @@ use lib.Seq.{getD-take}
 use Rattle.woot.specs.Memory.{column, operationOf, operationAt}
 use Rattle.memory.proofs.Views.{column-at}
 use borrow.Author.Needs.{needs}
-use Rattle.pending.proofs.edits.operation_at.Statement.{statement}
-use Rattle.pending.proofs.edits.operation_at.Tie as tie
+use Rattle.pending_slots.proofs.operation_at.Statement.{statement}
+use Rattle.pending_slots.proofs.operation_at.Tie as tie
 
 slotted : (xs : List ℕ) (j : ℕ) → j < 512
     → operationOf (getD xs j 0) (getD xs (512 + j) 0) (getD xs (1024 + j) 0) (getD xs (1536 + j) 0)

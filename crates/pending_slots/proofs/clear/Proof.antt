@@ -1,4 +1,4 @@
--- `edits::clear` clears each column.
+-- `pending_slots::clear` clears each column.
 use Prim.Native.Nat.{ℕ}
 use native.Mathlib.Omega.{arith}
 use mathlib.Core.Path.{_≡_, ap, ap₂, _∙_}
@@ -9,8 +9,8 @@ use Rattle.memory.proofs.Replacing.{second-before, third-before, fourth-before,
 use Rattle.lists.specs.Padding.{pad}
 use Rattle.woot.specs.Memory.{column}
 use borrow.Author.Needs.{needs}
-use Rattle.pending.proofs.edits.clear.Statement.{statement}
-use Rattle.pending.proofs.edits.clear.Tie as tie
+use Rattle.pending_slots.proofs.clear.Statement.{statement}
+use Rattle.pending_slots.proofs.clear.Tie as tie
 
 slice-aggregate-clear-numbers : tie.Need-slice-aggregate-clear-numbers
 slice-aggregate-clear-numbers c =

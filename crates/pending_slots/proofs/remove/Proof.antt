@@ -1,4 +1,4 @@
--- `edits::remove` takes a number out of each column.
+-- `pending_slots::remove` takes a number out of each column.
 use Prim.Native.Nat.{ℕ}
 use native.Mathlib.Omega.{arith}
 use mathlib.Core.Path.{_≡_, ap, _∙_}
@@ -8,8 +8,8 @@ use Rattle.memory.proofs.Fullness.{column-length}
 use Rattle.memory.proofs.Replacing.{second-before, third-before, fourth-before, columns-are}
 use Rattle.slots.specs.Slots.{takenAt}
 use borrow.Author.Needs.{needs}
-use Rattle.pending.proofs.edits.remove.Statement.{statement}
-use Rattle.pending.proofs.edits.remove.Tie as tie
+use Rattle.pending_slots.proofs.remove.Statement.{statement}
+use Rattle.pending_slots.proofs.remove.Tie as tie
 
 slice-aggregate-remove-number : tie.Need-slice-aggregate-remove-number
 slice-aggregate-remove-number c =
