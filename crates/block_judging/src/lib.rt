@@ -1,5 +1,5 @@
-// What is known of a block of text before a character of it is typed: what a replica's form, its clock and its room say of
-// so many characters more, in the rule's order. (Document 02, Req 11.)
+// What is known of a block of text before a character of it is typed: what a replica's form, its clock and its room say
+// of so many characters more, in the rule's order. (Document 02, Req 11.)
 use answers::Answer;
 use answers::Refusal;
 use pending::counts;

@@ -1,5 +1,5 @@
-// A heap of operations as lines, in no useful order: read into lent arrays, inserts apart from toggles. The public function
-// is a step of `building` and not a call. (Document 02, Req 08.)
+// A heap of operations as lines, in no useful order: read into lent arrays, inserts apart from toggles. The public
+// function is a step of `building` and not a call. (Document 02, Req 08.)
 use answers::Refusal;
 use codec::INSERT;
 use codec::Read;

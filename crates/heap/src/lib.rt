@@ -1,5 +1,5 @@
-// Inserts and toggles of a heap in lent arrays: the four numbers of an insert, put into a slot of their columns, moved and
-// read. The public functions are steps of `building` and not calls. (Document 02, Req 08.)
+// Inserts and toggles of a heap in lent arrays: the four numbers of an insert, put into a slot of their columns, moved
+// and read. The public functions are steps of `building` and not calls. (Document 02, Req 08.)
 use woot::CODE_POINTS;
 use woot::Insert;
 use woot::NEXT_KEYS;

@@ -1,6 +1,6 @@
-// One character typed on the arrays of a replica that was checked: it is put in with what it releases, and the next goes
-// just below it. The public function is a step of the calls and not a call: they have checked the replica, and that the
-// clock and the room are enough. (Document 02, Req 11.)
+// One character typed on the arrays of a replica that was checked: it is put in with what it releases, and the next
+// goes just below it. The public function is a step of the calls and not a call: they have checked the replica, and
+// that the clock and the room are enough. (Document 02, Req 11.)
 use delivery::Progress;
 use index::Found;
 use woot::CHARACTERS;

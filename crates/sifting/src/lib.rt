@@ -1,5 +1,5 @@
-// Inserts in lent arrays of which those that are repeated are dropped, and two that disagree found. The public function is a
-// step of `building` and not a call. (Document 02, Req 08.)
+// Inserts in lent arrays of which those that are repeated are dropped, and two that disagree found. The public function
+// is a step of `building` and not a call. (Document 02, Req 08.)
 use index::Found;
 use woot::CODE_POINTS;
 use woot::NEXT_KEYS;

@@ -1,4 +1,5 @@
--- For the proofs of the code alone: the code points that are to be typed one after another, and what typing them leaves.
+-- For the proofs of the code alone: the code points that are to be typed one after another, and what typing them
+-- leaves.
 use Prim.Native.Nat.{ℕ}
 use mathlib.Core.Path.{_≡_}
 use mathlib.Core.Bool.{true, false}
