@@ -1,12 +1,13 @@
-// Numbers as text, for lines of fields: a field of digits read as its number, and a number's digits put into a lent
-// slice.
+// Numbers as text, for lines of fields: digits read as their number, each looked at once, and a number's digits put
+// into a lent slice.
 ghost use mathlib.Core.Path.{_≡_};
 ghost use Prim.Native.Nat.{_+_, _-_, _*_, _<_, _≤_};
-ghost use lib.Dec.{ltb};
-ghost use lib.ListN.{length};
+ghost use mathlib.Core.Bool.{_&&_};
+ghost use lib.Dec.{eqb, ltb};
+ghost use lib.ListN.{length, drop};
 ghost use Rattle.output.specs.Output.{placed, past};
-ghost use Rattle.decimal.specs.Numeral.{isDigit, leadingZero, isNumeral, digits};
-ghost use Rattle.decimal.specs.Answers.{fieldOf, aligned};
+ghost use Rattle.decimal.specs.Numeral.{isDigit, digits};
+ghost use Rattle.decimal.specs.Answers.{digitsFront, fieldBy, scanOf, aligned};
 
 // What a field of bytes says.
 pub enum Field {
@@ -16,6 +17,12 @@ pub enum Field {
     Above,
     // Not a number's digits, or not laid out as they should be.
     Malformed,
+}
+
+// What the digits at an offset say, and the offset just past them.
+pub struct Scanned {
+    pub field: Field,
+    pub next: usize,
 }
 
 // The digits of a number, which end where the array does.
@@ -32,36 +39,6 @@ fn is_digit(byte: u8) -> bool
         return false;
     }
     byte <= 57
-}
-
-// Whether the bytes begin with a `0` that does not stand alone.
-fn has_leading_zero(s: &[u8]) -> bool
-    ensures { λ r. ⌜ r ≡ leadingZero (now (s .entry)) ⌝ }
-{
-    if s.len() <= 1 {
-        return false;
-    }
-    s[0] == 48
-}
-
-// Whether the bytes are laid out as a number.
-fn is_numeral(s: &[u8]) -> bool
-    ensures { λ r. ⌜ r ≡ isNumeral (now (s .entry)) ⌝ }
-{
-    if s.len() == 0 {
-        return false;
-    }
-    if has_leading_zero(s) {
-        return false;
-    }
-    let mut i = 0;
-    while i < s.len() {
-        if !is_digit(s[i]) {
-            return false;
-        }
-        i += 1;
-    }
-    true
 }
 
 // Whether the value with one more digit after it is above the limit. No step of it can wrap.
@@ -82,24 +59,69 @@ fn digit_value(byte: u8) -> u64
     byte as u64 - 48
 }
 
-// Reads a field of any length. A number above the limit is told apart from bytes that are none, and no digits wrap.
-pub fn read(s: &[u8], limit: u64) -> Field
-    ensures { λ r. ⌜ r ≡ fieldOf (now (s .entry)) limit ⌝ }
+// Whether a digit stands at the offset.
+fn digit_at(s: &[u8], at: usize) -> bool
+    ensures { λ r. ⌜ r ≡ ltb 0 (length (digitsFront (drop at (now (s .entry))))) ⌝ }
 {
-    if !is_numeral(s) {
+    if at < s.len() {
+        return is_digit(s[at]);
+    }
+    false
+}
+
+// Whether the first of so many digits is a `0` that does not stand alone.
+fn zero_in_front(first: u8, count: usize) -> bool
+    ensures { λ r. ⌜ r ≡ eqb first 48 && ltb 1 count ⌝ }
+{
+    if first == 48 {
+        return 1 < count;
+    }
+    false
+}
+
+// What digits say, of which the first and their number are known: a value, if they are not told to be above the limit.
+fn field_of(first: u8, count: usize, value: u64, above: bool, limit: u64) -> Field
+    ensures { λ r. ⌜ r ≡ fieldBy first count value above limit ⌝ }
+{
+    if count == 0 {
         return Field::Malformed;
     }
-    let mut value = 0;
-    let mut i = 0;
-    while i < s.len() {
-        let digit = digit_value(s[i]);
-        if exceeds(value, digit, limit) {
-            return Field::Above;
-        }
-        value = value * 10 + digit;
-        i += 1;
+    if zero_in_front(first, count) {
+        return Field::Malformed;
+    }
+    if above {
+        return Field::Above;
+    }
+    if limit < value {
+        return Field::Above;
     }
     Field::Number(value)
+}
+
+// A value to which any digit may be added with no wrap.
+const ROOMY: u64 = 1000000000000000000;
+
+// Reads the digits at an offset, however many they are: each is looked at once.
+pub fn scan(s: &[u8], from: usize, limit: u64) -> Scanned
+    requires { ⌜ from < length (now s) ⌝ }
+    ensures { λ r. ⌜ r ≡ scanOf (now (s .entry)) from limit ⌝ }
+{
+    let mut value = 0;
+    let mut above = false;
+    let mut i = from;
+    while digit_at(s, i) {
+        let digit = digit_value(s[i]);
+        if value < ROOMY {
+            value = value * 10 + digit;
+        } else if exceeds(value, digit, limit) {
+            above = true;
+        } else {
+            value = value * 10 + digit;
+        }
+        i += 1;
+    }
+    let field = field_of(s[from], i - from, value, above, limit);
+    Scanned { field, next: i }
 }
 
 // The byte of one digit.

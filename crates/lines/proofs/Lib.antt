@@ -1,6 +1,7 @@
 pub mod Bytes
 pub mod Fields
 pub mod Values
+pub mod Runs
 pub mod Reading
 pub mod Heads
 pub mod Verdicts

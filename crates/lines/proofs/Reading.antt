@@ -110,16 +110,23 @@ module _ {line limits : List ℕ} {from : ℕ} {values : List ℕ} {above : Bool
         stored = store;
       }
 
+      -- it is no numeral
+      pub not-numeral : isNumeral (before tab (drop (at + 1) line)) ≡ false → holding Malformed [] ≡ numbersAfter limits (fields (drop from line))
+      unfolding bytes
+      not-numeral q = malformed (rw here (goes-wrong (length (drop i limits)) (before tab bytes) others q))
+
+      -- the line ends at the tab
+      pub nothing-left : length line ≤ at + 1 → holding Malformed [] ≡ numbersAfter limits (fields (drop from line))
+      unfolding isNumeral
+      nothing-left n = not-numeral (rw (drop-of-length-le line n) refl)
+
       -- the next field is found at the tab or the end after it
       module _ {part : List ℕ} (cut : part ≡ before tab (drop (at + 1) line)) where
         field-is : {a : Field} → fieldOf part (getD limits i 0) ≡ a → fieldOf (before tab (drop (at + 1) line)) (getD limits i 0) ≡ a
         field-is q = ap (λ (l : List ℕ). fieldOf l (getD limits i 0)) (sym cut) ∙ q
 
-        -- it is no numeral
         pub no-numeral : fieldOf part (getD limits i 0) ≡ Unread → holding Malformed [] ≡ numbersAfter limits (fields (drop from line))
-        unfolding bytes
-        no-numeral q =
-            malformed (rw here (goes-wrong (length (drop i limits)) (before tab bytes) others (field-malformed (before tab bytes) (getD limits i 0) (field-is q))))
+        no-numeral q = not-numeral (field-malformed (before tab (drop (at + 1) line)) (getD limits i 0) (field-is q))
 
         module _ {at′ : ℕ} (found : at′ ≡ at + 1 + length (before tab (drop (at + 1) line))) where
           -- its number is above the limit

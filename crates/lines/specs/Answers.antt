@@ -1,14 +1,14 @@
 -- What reading a line answers, as values of its types.
 use Prim.Native.Nat.{ℕ}
 use mathlib.Core.List.{List, [], _∷_}
-use mathlib.Core.Bool.{Bool, false, _&&_, cond}
-use lib.Dec.{eqb}
-use lib.ListN.{length}
+use mathlib.Core.Bool.{Bool, false, not, _&&_, cond}
+use lib.Dec.{eqb, ltb}
+use lib.ListN.{length, getD}
 use Rattle.lists.specs.Padding.{pad}
 use Rattle.lines.specs.declared.Verdict.{Verdict}
 use Rattle.lines.specs.declared.Verdict.the-variants.{Malformed, Above, Within}
 use Rattle.lines.specs.declared.Numbers.{Numbers}
-use Rattle.lines.specs.Fields.{numerals, hasLayout, valuesOf, atMost}
+use Rattle.lines.specs.Fields.{tab, numerals, hasLayout, valuesOf, atMost}
 
 -- how many numbers a line that is read can have
 abbrev pub slots : ℕ
@@ -36,6 +36,10 @@ numbersOf head limits fs = verdictOn (hasLayout head (length limits) fs) limits 
 unfoldable pub goesOn : ℕ → List (List ℕ) → Bool
 goesOn count [] = false
 goesOn count (f ∷ fs) = eqb (length f) 0 && numerals count fs
+
+-- a byte at an offset that ends no field
+unfoldable pub goesOnAt : List ℕ → ℕ → Bool
+goesOnAt line at = ltb at (length line) && not (eqb (getD line at 0) tab)
 
 unfoldable pub numbersAfter : List ℕ → List (List ℕ) → Numbers
 numbersAfter limits fs = verdictOn (goesOn (length limits) fs) limits (valuesOf fs)

@@ -10,7 +10,7 @@ ghost use Prim.Native.Nat.{_+_, _≤_};
 ghost use lib.ListN.{length, take, drop};
 ghost use Rattle.lines.specs.Lines.{before, ended, firstLine, rest};
 ghost use Rattle.lines.specs.Fields.{fields, equal};
-ghost use Rattle.lines.specs.Answers.{slots, holding, numbersOf, numbersAfter};
+ghost use Rattle.lines.specs.Answers.{slots, holding, numbersOf, goesOnAt, numbersAfter};
 
 pub const TAB: u8 = 9;
 
@@ -95,6 +95,16 @@ fn without(verdict: Verdict) -> Numbers
     }
 }
 
+// Whether a byte stands at the offset that ends no field.
+fn goes_on(line: &[u8], at: usize) -> bool
+    ensures { λ r. ⌜ r ≡ goesOnAt (now (line .entry)) at ⌝ }
+{
+    if at < line.len() {
+        return line[at] != TAB;
+    }
+    false
+}
+
 // Reads numbers from the end of a field on, one for each limit, to the end of the line. A number above its limit does
 // not end the reading: a fault of the layout after it comes first.
 fn read_numbers(line: &[u8], from: usize, limits: &[u64]) -> Numbers
@@ -112,9 +122,15 @@ fn read_numbers(line: &[u8], from: usize, limits: &[u64]) -> Numbers
         if line[at] != TAB {
             return without(Verdict::Malformed);
         }
-        let start = at + 1;
-        at = find(line, start, TAB);
-        let field = decimal::read(&line[start..at], limits[i]);
+        if line.len() <= at + 1 {
+            return without(Verdict::Malformed);
+        }
+        let number = decimal::scan(line, at + 1, limits[i]);
+        let field = number.field;
+        at = number.next;
+        if goes_on(line, at) {
+            return without(Verdict::Malformed);
+        }
         match field {
             Field::Malformed => return without(Verdict::Malformed),
             Field::Above => above = true,
