@@ -7,10 +7,11 @@ use mathlib.Core.List.{List, [], _∷_}
 use mathlib.Core.Option.{Option, none, some}
 use lib.Dec.{leb}
 use Rattle.answers.specs.declared.Refusal.{Refusal}
-use Rattle.answers.specs.declared.Refusal.the-variants.{Layout, Range, HeapFull, Mislisted, NotUtf8, Form}
-use Rattle.answers.specs.declared.Refusal.the-variants.{Unrepresentable, Unreachable, Position, NotHidden}
-use Rattle.answers.specs.declared.Refusal.the-variants.{LastToggle, Clock, Taken, Conflict, Crossed, Unplaceable}
-use Rattle.answers.specs.declared.Refusal.the-variants.{SenderFull, DocumentFull, Output}
+use Rattle.answers.specs.declared.Refusal.the-variants.{Layout, Range, HeapFull, Mislisted, Misarranged}
+use Rattle.answers.specs.declared.Refusal.the-variants.{NotUtf8, Form, Unrepresentable, Unreachable}
+use Rattle.answers.specs.declared.Refusal.the-variants.{Position, NotHidden, LastToggle, Clock, Taken}
+use Rattle.answers.specs.declared.Refusal.the-variants.{Conflict, Crossed, Unplaceable, SenderFull}
+use Rattle.answers.specs.declared.Refusal.the-variants.{DocumentFull, Output}
 use Rattle.answers.specs.declared.Answer.{Answer}
 use Rattle.answers.specs.declared.Answer.the-variants.{Done, Deferred, Duplicate, Refused}
 
@@ -20,6 +21,7 @@ number Layout = 1
 number Range = 2
 number HeapFull = 17
 number Mislisted = 18
+number Misarranged = 19
 number NotUtf8 = 20
 number Form = 3
 number Unrepresentable = 15
@@ -41,28 +43,29 @@ abbrev pub highestRefusal : ℕ
 highestRefusal = 20
 
 -- the place of a refusal in the checking order: what compares two refusals compares these, since a later number may be
--- checked earlier; 13 and 14 "come after 4, in that order", 15 and 16 "after 3", and 17, 18 and 20 "after 2". No call
--- has both 15 and 16, or two of 17, 18 and 20
+-- checked earlier; 13 and 14 "come after 4, in that order", 15 and 16 "after 3", and 17 to 20 "after 2". No call has
+-- both 15 and 16, or two of 17 to 20
 abbrev pub rank : Refusal → ℕ
 rank Layout = 1
 rank Range = 2
 rank HeapFull = 3
 rank Mislisted = 4
-rank NotUtf8 = 5
-rank Form = 6
-rank Unrepresentable = 7
-rank Unreachable = 8
-rank Position = 9
-rank NotHidden = 10
-rank LastToggle = 11
-rank Clock = 12
-rank Taken = 13
-rank Conflict = 14
-rank Crossed = 15
-rank Unplaceable = 16
-rank SenderFull = 17
-rank DocumentFull = 18
-rank Output = 19
+rank Misarranged = 5
+rank NotUtf8 = 6
+rank Form = 7
+rank Unrepresentable = 8
+rank Unreachable = 9
+rank Position = 10
+rank NotHidden = 11
+rank LastToggle = 12
+rank Clock = 13
+rank Taken = 14
+rank Conflict = 15
+rank Crossed = 16
+rank Unplaceable = 17
+rank SenderFull = 18
+rank DocumentFull = 19
+rank Output = 20
 
 -- of two refusals the one that comes first in the checking order
 unfoldable pub earlier : Refusal → Refusal → Refusal

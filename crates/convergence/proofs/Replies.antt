@@ -11,7 +11,7 @@ use lib.ListN.{getD}
 use Rattle.woot.specs.declared.Operation.{Operation}
 use Rattle.woot.specs.declared.Operation.the-variants.{Insert as insert, Toggle as toggle}
 use Rattle.answers.specs.declared.Refusal.{Refusal}
-use Rattle.answers.specs.declared.Refusal.the-variants.{Layout, Range, HeapFull, Mislisted, NotUtf8, Form, Unrepresentable, Unreachable, Position, NotHidden, LastToggle, Clock, Taken, Conflict, Crossed, Unplaceable, SenderFull, DocumentFull, Output}
+use Rattle.answers.specs.declared.Refusal.the-variants.{Layout, Range, HeapFull, Mislisted, Misarranged, NotUtf8, Form, Unrepresentable, Unreachable, Position, NotHidden, LastToggle, Clock, Taken, Conflict, Crossed, Unplaceable, SenderFull, DocumentFull, Output}
 use Rattle.answers.specs.declared.Answer.{Answer}
 use Rattle.answers.specs.declared.Answer.the-variants.{Done, Deferred, Duplicate, Refused}
 use Rattle.woot.specs.declared.Sent.{Sent}
@@ -35,7 +35,7 @@ refusalOf : ℕ → Refusal
 refusalOf n =
     getD
     (Layout ∷ Layout ∷ Range ∷ Form ∷ Position ∷ Clock ∷ Taken ∷ Conflict ∷ Crossed ∷ Unplaceable ∷ SenderFull ∷ DocumentFull ∷ Output
-    ∷ NotHidden ∷ LastToggle ∷ Unrepresentable ∷ Unreachable ∷ HeapFull ∷ Mislisted ∷ Layout ∷ NotUtf8 ∷ []) n Layout
+    ∷ NotHidden ∷ LastToggle ∷ Unrepresentable ∷ Unreachable ∷ HeapFull ∷ Mislisted ∷ Misarranged ∷ NotUtf8 ∷ []) n Layout
 
 refusal-of : (r : Refusal) → refusalOf (number r) ≡ r
 unfolding refusalOf
@@ -43,6 +43,7 @@ refusal-of Layout = refl
 refusal-of Range = refl
 refusal-of HeapFull = refl
 refusal-of Mislisted = refl
+refusal-of Misarranged = refl
 refusal-of NotUtf8 = refl
 refusal-of Form = refl
 refusal-of Unrepresentable = refl
@@ -67,6 +68,7 @@ positive Layout e = omega arith
 positive Range e = omega arith
 positive HeapFull e = omega arith
 positive Mislisted e = omega arith
+positive Misarranged e = omega arith
 positive NotUtf8 e = omega arith
 positive Form e = omega arith
 positive Unrepresentable e = omega arith
@@ -89,6 +91,7 @@ number-few Layout = omega arith
 number-few Range = omega arith
 number-few HeapFull = omega arith
 number-few Mislisted = omega arith
+number-few Misarranged = omega arith
 number-few NotUtf8 = omega arith
 number-few Form = omega arith
 number-few Unrepresentable = omega arith
