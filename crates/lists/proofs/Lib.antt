@@ -3,3 +3,4 @@ pub mod Members
 pub mod Padding
 pub mod Throughout
 pub mod Indices
+pub mod Sorting
