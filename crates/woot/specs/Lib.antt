@@ -18,6 +18,7 @@ pub mod Text
 pub mod Building
 pub mod Loading
 pub mod Catching
+pub mod Archiving
 pub mod Histories
 pub mod Common
 pub mod CommonCases
@@ -27,3 +28,4 @@ pub mod PasteCases
 pub mod BuildCases
 pub mod LoadCases
 pub mod CatchCases
+pub mod ArchiveCases
