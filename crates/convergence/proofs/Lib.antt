@@ -74,3 +74,4 @@ pub mod Catching
 pub mod Meeting
 pub mod Rising
 pub mod Common
+pub mod Archiving

@@ -9,3 +9,4 @@ pub mod Building
 pub mod Loading
 pub mod Catching
 pub mod Common
+pub mod Archiving
