@@ -14,14 +14,14 @@ use Rattle.woot.specs.declared.Operation.{Operation}
 use Rattle.woot.specs.declared.Operation.the-variants.{Insert as insert, Toggle as toggle}
 use Rattle.woot.specs.Operations.{togglesAmong}
 use Rattle.answers.specs.declared.Refusal.{Refusal}
-use Rattle.answers.specs.declared.Refusal.the-variants.{Layout, Range, Form, Unrepresentable, Output}
-use Rattle.woot.specs.declared.Written.the-variants.{Length, Refused}
+use Rattle.answers.specs.declared.Refusal.the-variants.{Layout, Range, Form, Unrepresentable}
+use Rattle.woot.specs.declared.Written.the-variants.{Refused}
 use Rattle.woot.specs.Form.{allInRange, wellFormed, raised}
 use Rattle.answers.specs.Answers.{number, first}
-use Rattle.woot.specs.Writing.{writtenAs, outputAfter, writtenNumber, writtenLength}
+use Rattle.woot.specs.Writing.{writtenAs, outputAfter}
 use Rattle.lists.specs.Lists.{any, every}
 use Rattle.lists.proofs.Tests.{and-left, and-right, and-intro, clash, side}
-use Rattle.convergence.proofs.Writing.{own-first, own-none, too-short, has-room, writing-refuses}
+use Rattle.convergence.proofs.Writing.{own-first, own-none, writing-refuses}
 use Rattle.lines.specs.Fields.{tab, fields, valuesOf, columns}
 use Rattle.lines.proofs.Spelling.{spelled}
 use Rattle.codec.specs.Operations.{isInsert, deleteOf, operationOf}
@@ -29,10 +29,11 @@ use Rattle.codec.specs.Calls.{asWrittenFirst}
 use Rattle.codec.proofs.Letters.{delete-alone}
 use Rattle.saved.specs.declared.Version.{Version}
 use Rattle.saved.specs.declared.Version.the-variants.{First, Second}
-use Rattle.saved.specs.Format.{siteHead, isSite, headLine, isOperation, operationSaid, operationLines, laidOutAs, stateAs, characterWithin, operationWithin, representable, inRangeAs, bytesAs}
+use Rattle.saved.specs.Format.{isCharacter, siteHead, isSite, headLine, isOperation, operationSaid, operationLines, laidOutAs, stateAs, characterWithin, operationWithin, representable, inRangeAs, bytesAs}
 use Rattle.saved.specs.Calls.{loadedAs}
-use Rattle.saved.specs.Conversion.{conversion, conversionRefusals, conversionChecks, converted, convertedOut, Converts, Returns, DownAfterUp, UpAfterDown, FormsApart, HighTurns, ConversionOrder, ConversionRefuses, ByNumber, ConversionNumbers, UpgradeNeverUnrepresentable}
+use Rattle.saved.specs.Conversion.{conversion, conversionRefusals, conversionChecks, converted, convertedOut, Returns, DownAfterUp, UpAfterDown, FormsApart, HighTurns, ConversionOrder, ConversionRefuses, ConversionNumbers, UpgradeNeverUnrepresentable}
 use Rattle.saved.proofs.Refusals.{bytes-some}
+use Rattle.saved.proofs.Numbers.{by-four}
 use Rattle.saved.proofs.Trips.{parts, saved-laid, in-range-back, loads-back, unraised, loaded-again, unraised-again, second-says}
 
 -- ---- what is laid out in a form can be said in it
@@ -57,7 +58,7 @@ said-representable : (v : Version) (s : List ℕ) → laidOutAs v s ≡ true →
 unfolding representable loadedAs raised inRangeAs stateAs
 said-representable v s l i =
     and-intro (and-left (every (characterWithin v) (stateAs v s .characters)) (allInRange (stateAs v s)) i)
-    (all-within v (operationLines s) (parts v s l .2))
+    (all-within v (operationLines isCharacter s) (parts v isCharacter s l .2))
 
 -- ---- the trips
 
@@ -103,8 +104,10 @@ forms-apart s l = go (laidOutAs Second s) refl
     go : (b : Bool) → laidOutAs Second s ≡ b → b ≡ false
     go false e = refl
     go true e =
-        let two : getD (headLine s) 1 0 ≡ 50 = ap (λ (x : List ℕ). getD x 1 0) (spelled (siteHead Second) 2 (headLine s) (parts Second s e .1) .0) in
-        absurd (omega (arith, tabbed (headLine s) (parts First s l .1), two))
+        let two : getD (headLine s) 1 0 ≡ 50 =
+        ap (λ (x : List ℕ). getD x 1 0) (spelled (siteHead Second) 2 (headLine s) (parts Second isCharacter s e .1) .0)
+        in
+        absurd (omega (arith, tabbed (headLine s) (parts First isCharacter s l .1), two))
 
 -- ---- turns above 1
 
@@ -178,117 +181,12 @@ module _ (v w : Version) (s out : List ℕ) where
 
 -- ---- by number
 
-module _ (v w : Version) (s out : List ℕ) where
-  none-of-own : Converts v w s → first (conversionChecks v w s) ≡ none
-  unfolding conversionChecks conversionRefusals
-  none-of-own c = rw (c .0, c .1, c .2, c .3)
-
-  some-byte : 1 ≤ length (conversion v w s)
-  unfolding conversion
-  some-byte = bytes-some w (loadedAs v s)
-
-  -- where one of its own conditions holds there is its number, and no bytes
-  module _ (q : Refusal) (e : Refused q ≡ converted v w s out) where
-    own-number : writtenNumber (converted v w s out) ≡ number q
-    unfolding writtenNumber
-    own-number = ap writtenNumber (sym e)
-
-    no-length : writtenLength (converted v w s out) ≡ 0
-    unfolding writtenLength
-    no-length = ap writtenLength (sym e)
-
-  module _ (c : Converts v w s) where
-    too-few : length out < length (conversion v w s) → Refused Output ≡ converted v w s out
-    unfolding converted
-    too-few h = sym (too-short (conversionChecks v w s) (conversion v w s) out (none-of-own c) h .0)
-
-    enough : length (conversion v w s) ≤ length out → Length (length (conversion v w s)) ≡ converted v w s out
-    unfolding converted
-    enough h = sym (has-room (conversionChecks v w s) (conversion v w s) out (none-of-own c) h .0)
-
-  by-room : Converts v w s → (length (conversion v w s) ≤ length out) ⊎ (length out < length (conversion v w s)) → ByNumber v w s out
-  unfolding writtenNumber writtenLength
-  by-room c (inr h) =
-      let n = own-number Output (too-few c h) in
-      let l = no-length Output (too-few c h) in
-      let b = some-byte in (
-        (λ k. absurd (omega arith), λ p. clash (c .0) p),
-        (λ k. absurd (omega arith), λ p. clash (c .1) (p .1)),
-        (λ k. absurd (omega arith), λ p. clash (c .2) (p .2)),
-        (λ k. absurd (omega arith), λ p. clash (c .3) (p .3)),
-        (λ k. (c, h), λ p. n),
-        (λ k. absurd (omega arith), λ p. absurd (omega (arith, p .1))),
-        (λ k. absurd (omega arith), λ p. absurd (omega (arith, p .1))),
-      )
-  by-room c (inl h) =
-      let n : writtenNumber (converted v w s out) ≡ 0 = ap writtenNumber (sym (enough c h)) in (
-        (λ k. absurd (omega arith), λ p. clash (c .0) p),
-        (λ k. absurd (omega arith), λ p. clash (c .1) (p .1)),
-        (λ k. absurd (omega arith), λ p. clash (c .2) (p .2)),
-        (λ k. absurd (omega arith), λ p. clash (c .3) (p .3)),
-        (λ k. absurd (omega arith), λ p. absurd (omega (arith, p .1))),
-        (λ k. (c, h), λ p. n),
-        (λ k. (c, h), λ p. ap writtenLength (sym (enough c h))),
-      )
-
-  -- and where one of them holds, its place says what the others are
-  by-tests : (a b d r : Bool) → laidOutAs v s ≡ a → inRangeAs v s ≡ b → wellFormed (loadedAs v s) ≡ d → representable w (loadedAs v s) ≡ r → ByNumber v w s out
-  by-tests false b d r e₀ e₁ e₂ e₃ =
-      let x = lacks-layout v w s out e₀ .0 in
-      let n = own-number Layout x in
-      let l = no-length Layout x in
-      let y = some-byte in (
-        (λ k. e₀, λ p. n),
-        (λ k. absurd (omega arith), λ p. clash (p .0) e₀),
-        (λ k. absurd (omega arith), λ p. clash (p .0) e₀),
-        (λ k. absurd (omega arith), λ p. clash (p .0) e₀),
-        (λ k. absurd (omega arith), λ p. clash (p .0 .0) e₀),
-        (λ k. absurd (omega arith), λ p. clash (p .0 .0) e₀),
-        (λ k. absurd (omega arith), λ p. clash (p .0 .0) e₀),
-      )
-  by-tests true false d r e₀ e₁ e₂ e₃ =
-      let x = out-of-range v w s out e₀ e₁ .0 in
-      let n = own-number Range x in
-      let l = no-length Range x in
-      let y = some-byte in (
-        (λ k. absurd (omega arith), λ p. clash e₀ p),
-        (λ k. (e₀, e₁), λ p. n),
-        (λ k. absurd (omega arith), λ p. clash (p .1) e₁),
-        (λ k. absurd (omega arith), λ p. clash (p .1) e₁),
-        (λ k. absurd (omega arith), λ p. clash (p .0 .1) e₁),
-        (λ k. absurd (omega arith), λ p. clash (p .0 .1) e₁),
-        (λ k. absurd (omega arith), λ p. clash (p .0 .1) e₁),
-      )
-  by-tests true true false r e₀ e₁ e₂ e₃ =
-      let x = out-of-form v w s out e₀ e₁ e₂ .0 in
-      let n = own-number Form x in
-      let l = no-length Form x in
-      let y = some-byte in (
-        (λ k. absurd (omega arith), λ p. clash e₀ p),
-        (λ k. absurd (omega arith), λ p. clash e₁ (p .1)),
-        (λ k. (e₀, e₁, e₂), λ p. n),
-        (λ k. absurd (omega arith), λ p. clash (p .2) e₂),
-        (λ k. absurd (omega arith), λ p. clash (p .0 .2) e₂),
-        (λ k. absurd (omega arith), λ p. clash (p .0 .2) e₂),
-        (λ k. absurd (omega arith), λ p. clash (p .0 .2) e₂),
-      )
-  by-tests true true true false e₀ e₁ e₂ e₃ =
-      let x = not-said v w s out e₀ e₁ e₂ e₃ .0 in
-      let n = own-number Unrepresentable x in
-      let l = no-length Unrepresentable x in
-      let y = some-byte in (
-        (λ k. absurd (omega arith), λ p. clash e₀ p),
-        (λ k. absurd (omega arith), λ p. clash e₁ (p .1)),
-        (λ k. absurd (omega arith), λ p. clash e₂ (p .2)),
-        (λ k. (e₀, e₁, e₂, e₃), λ p. n),
-        (λ k. absurd (omega arith), λ p. clash (p .0 .3) e₃),
-        (λ k. absurd (omega arith), λ p. clash (p .0 .3) e₃),
-        (λ k. absurd (omega arith), λ p. clash (p .0 .3) e₃),
-      )
-  by-tests true true true true e₀ e₁ e₂ e₃ = by-room (e₀, e₁, e₂, e₃) (side (length (conversion v w s)) (length out))
-
 pub conversion-numbers : ConversionNumbers
-conversion-numbers v w s out = by-tests v w s out (laidOutAs v s) (inRangeAs v s) (wellFormed (loadedAs v s)) (representable w (loadedAs v s)) refl refl refl refl
+unfolding converted conversionChecks conversionRefusals conversion
+conversion-numbers v w s out =
+    let t = loadedAs v s in
+    by-four (bytesAs w t) out (bytes-some w t) Layout Range Form Unrepresentable (omega arith) (omega arith) (omega arith) (omega arith)
+    (laidOutAs v s) (inRangeAs v s) (wellFormed t) (representable w t)
 
 pub upgrade-never-unrepresentable : UpgradeNeverUnrepresentable
 upgrade-never-unrepresentable s out e = clash (second-says (loadedAs First s)) (conversion-numbers First Second s out .3 .0 e .3)

@@ -1,4 +1,5 @@
 pub mod Cases
+pub mod ArchiveCases
 pub mod Spelling
 pub mod Bounds
 pub mod Trips
@@ -6,3 +7,6 @@ pub mod Refusals
 pub mod Sizes
 pub mod Arrays
 pub mod Conversions
+pub mod EitherRows
+pub mod Numbers
+pub mod Archives

@@ -7,6 +7,8 @@ use mathlib.Core.Option.{Option, none, some}
 use Prim.Native.Nat.{ℕ, _≤_}
 use native.Mathlib.Omega.{arith}
 use lib.ListN.{length, length-append}
+use Rattle.woot.specs.declared.Site.{Site}
+use Rattle.woot.specs.declared.Operation.{Operation}
 use Rattle.woot.specs.declared.Replica.{Replica}
 use Rattle.answers.specs.declared.Refusal.{Refusal}
 use Rattle.answers.specs.declared.Refusal.the-variants.{Layout, Range, Form}
@@ -27,7 +29,7 @@ use Rattle.saved.specs.declared.LoadAnswer.the-variants.{Done, Refused}
 use Rattle.saved.specs.declared.Loaded.{Loaded}
 use Rattle.saved.specs.declared.Version.{Version}
 use Rattle.saved.specs.declared.Version.the-variants.{Second}
-use Rattle.saved.specs.Format.{siteHead, siteNumbers, siteLine, characterLine, savedLine, bytesAs, savedLaidOut, savedInRange, laidOutAs, stateAs, inRangeAs}
+use Rattle.saved.specs.Format.{siteHead, siteNumbers, siteLine, characterLine, savedLine, bytesAs, savedLaidOut, savedInRange, laidOutAs, stateAs, inRangeAs, bytesWith}
 use Rattle.saved.specs.Calls.{loadedState, loadChecks, noReplica, unread, loaded, loadNumber, handedOver, loadValue, bytesOf, saveChecks, saved, savedOut, savedRead, readingChecks, raisedInArrays}
 use Rattle.saved.specs.Theorems.{LoadRefuses, LoadNumbers, SaveRefuses, SaveNumbers}
 
@@ -161,14 +163,17 @@ pub save-refuses : SaveRefuses
 unfolding saved savedOut
 save-refuses r out q = let w = writing-refuses (saveChecks r) (bytesOf r) out q in (w .0, w .2)
 
--- there is a byte at least
+-- there is a byte at least, whatever the rows
+pub file-some : {A : Type 0} (v : Version) (line : A → List ℕ) (site : Site) (rows : List A) (pending : List Operation)
+    → 1 ≤ length (bytesWith v line site rows pending)
+unfolding bytesWith siteLine
+file-some v line site rows pending =
+    let first = siteLine v site in
+    let middle = concatenated line rows in
+    omega (arith, length-append (first ++ middle) (concatenated (savedLine v) pending), length-append first middle, line-some (siteHead v) (siteNumbers site))
+
 pub bytes-some : (v : Version) (s : State) → 1 ≤ length (bytesAs v s)
-unfolding bytesAs siteLine
-bytes-some v s =
-    let first = siteLine v (s .site) in
-    let rows = concatenated (characterLine v) (s .characters) in
-    let waiting = concatenated (savedLine v) (s .pending) in
-    omega (arith, length-append (first ++ rows) waiting, length-append first rows, line-some (siteHead v) (siteNumbers (s .site)))
+bytes-some v s = file-some v (characterLine v) (s .site) (s .characters) (s .pending)
 
 saved-some : (r : Replica) → 1 ≤ length (bytesOf r)
 saved-some r = bytes-some Second (meaning r)

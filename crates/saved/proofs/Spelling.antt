@@ -1,22 +1,20 @@
--- A line of a saved replica is spelled in one way only: what is written is read as it was, and what is read is written as it
--- was.
-use mathlib.Core.Path.{_≡_, refl, sym}
-use mathlib.Core.List.{List, _∷_, _++_}
+-- A line of a saved replica or an archive is spelled in one way only: what is written is read as it was, and what is read is
+-- written as it was.
+use mathlib.Core.Path.{_≡_, refl, sym, ap, _∙_, subst}
+use mathlib.Core.List.{List, [], _∷_, _++_}
 use mathlib.Core.Bool.{Bool, true, false}
 use Prim.Native.Nat.{ℕ, zero, suc}
 use native.Mathlib.Omega.{arith}
 use lib.Dec.{eqb}
-use lib.ListN.{length, getD, drop-of-length-le}
+use lib.ListN.{length, getD, drop, length-drop, drop-of-length-le}
 use borrow.Author.Tests.{eqb-true, eqb-false}
-use Rattle.woot.specs.declared.Site.{Site}
 use Rattle.woot.specs.declared.Insert.{Insert}
 use Rattle.woot.specs.declared.Toggle.{Toggle}
 use Rattle.woot.specs.declared.Operation.{Operation}
 use Rattle.woot.specs.declared.Operation.the-variants.{Insert as insert, Toggle as toggle}
-use Rattle.woot.specs.declared.Character.{Character}
-use Rattle.lists.proofs.Tests.{or-right}
+use Rattle.lists.proofs.Tests.{or-right, clash}
 use Rattle.lines.specs.Lines.{lineFeed, has, lines, rest, closed}
-use Rattle.lines.specs.Fields.{tab, fields, valuesOf, columns}
+use Rattle.lines.specs.Fields.{tab, fields, hasLayout, valuesOf, columns, lineOf}
 use Rattle.codec.specs.Operations.{insertHead, toggleHead, deleteHead, insertNumbers, toggleNumbers, deleteNumbers, identifierAt, insertOf, toggleOf, deleteOf, isInsert, isToggle, isDelete, operationOf, operationLine}
 use Rattle.codec.specs.Calls.{asWritten, asWrittenFirst}
 use Rattle.lines.proofs.Spelling.{layout-line, values-line, spelled, other-letter}
@@ -24,16 +22,111 @@ use Rattle.codec.proofs.Trips.{from-place, insert-numbers-back, toggle-numbers-
 use Rattle.codec.proofs.Letters.{delete-alone}
 use Rattle.saved.specs.declared.Version.{Version}
 use Rattle.saved.specs.declared.Version.the-variants.{First, Second}
-use Rattle.saved.specs.Format.{siteHead, siteNumbers, siteOf, isSite, siteSaid, siteLine, characterHead, toggleField, characterNumbers, characterOf, isCharacter, characterSaid, characterLine, isOperation, operationSaid, savedLine}
+use Rattle.saved.specs.Format.{siteHead, siteNumbers, siteOf, characterHead, toggleField, characterNumbers, characterOf, isOperation, operationSaid, savedLine}
+use Rattle.saved.specs.Archive.{placedHead, placedNumbers, placedOf}
 use Rattle.lines.proofs.Lines.{whole, lines-line, closed-line, line-rest, respelled}
 
--- ---- lines without their line feeds
+-- ---- a line of a head word and numbers, whatever it says
 
-abbrev pub bareSite : Version → Site → List ℕ
-bareSite v s = siteHead v ++ columns (siteNumbers s)
+-- each value has as many numbers, which say it, and as many numbers are those of what they say
+pub record Numbered {A : Type 0} (head : List ℕ) (count : ℕ) (numbers : A → List ℕ) (of : List ℕ → A) : Type 0 where
+  pub no-feed : has lineFeed head ≡ false
+  pub no-tab : has tab head ≡ false
+  pub counted : (x : A) → length (numbers x) ≡ count
+  pub said : (x : A) → of (numbers x) ≡ x
+  pub numbered : (ns : List ℕ) → length ns ≡ count → numbers (of ns) ≡ ns
 
-abbrev pub bareCharacter : Version → Character → List ℕ
-bareCharacter v c = characterHead ++ columns (characterNumbers v c)
+module _ {A : Type 0} {head : List ℕ} {count : ℕ} {numbers : A → List ℕ} {of : List ℕ → A} (w : Numbered head count numbers of) where
+  -- the line without its line feed
+  abbrev pub bare : A → List ℕ
+  bare x = head ++ columns (numbers x)
+
+  -- it is the first line, whatever bytes follow, and those decide whether the last line is ended
+  pub first-line : (x : A) (bytes : List ℕ) → lines (lineOf head (numbers x) ++ bytes) ≡ bare x ∷ lines bytes
+  first-line x bytes = lines-line head (numbers x) bytes (w .no-feed)
+
+  pub ends-same : (x : A) (bytes : List ℕ) → closed (lineOf head (numbers x) ++ bytes) ≡ closed bytes
+  ends-same x bytes = closed-line head (numbers x) bytes
+
+  pub leaves-rest : (x : A) (bytes : List ℕ) → rest (lineOf head (numbers x) ++ bytes) ≡ bytes
+  leaves-rest x bytes = line-rest head (numbers x) bytes (w .no-feed)
+
+  -- what is written, read
+  pub is-laid : (x : A) → hasLayout head count (fields (bare x)) ≡ true
+  is-laid x = layout-line head (numbers x) (w .no-tab) count (w .counted x)
+
+  pub says-it : (x : A) → of (valuesOf (fields (bare x))) ≡ x
+  says-it x = ap of (values-line head (numbers x) (w .no-tab)) ∙ w .said x
+
+  -- what is read, written
+  pub written-again : (line : List ℕ) → hasLayout head count (fields line) ≡ true → lineOf head (numbers (of (valuesOf (fields line)))) ≡ whole line
+  written-again line h = respelled head count line _ h (w .numbered (valuesOf (fields line)) (spelled head count line h .1))
+
+-- ---- a site, and a row of either kind
+
+pub site-numbered : (v : Version) → Numbered (siteHead v) 2 siteNumbers siteOf
+unfolding siteNumbers siteOf
+site-numbered v =
+    record {
+      no-feed = feed v;
+      no-tab = tabs v;
+      counted = λ s. refl;
+      said = λ s. refl;
+      numbered = λ ns e. sym (from-place ns 0 (omega arith) (from-place ns 1 (omega arith) (drop-of-length-le ns {i = 2} (omega arith))));
+    }
+  where
+    feed : (v : Version) → has lineFeed (siteHead v) ≡ false
+    feed First = refl
+    feed Second = refl
+
+    tabs : (v : Version) → has tab (siteHead v) ≡ false
+    tabs First = refl
+    tabs Second = refl
+
+-- the number is told from the toggles and they from it
+pub toggle-field-back : (v : Version) (n : ℕ) → toggleField v (toggleField v n) ≡ n
+unfolding toggleField
+toggle-field-back First zero = refl
+toggle-field-back First (suc zero) = refl
+toggle-field-back First (suc (suc n)) = refl
+toggle-field-back Second n = refl
+
+pub character-numbered : (v : Version) → Numbered characterHead 8 (characterNumbers v) (characterOf v)
+unfolding characterNumbers characterOf identifierAt
+character-numbered v =
+    record {
+      no-feed = refl;
+      no-tab = refl;
+      counted = λ c. refl;
+      said = λ c. rw (toggle-field-back v (c .toggles));
+      numbered = λ ns e.
+          rw (toggle-field-back v (getD ns 3 0))
+          (sym
+          (from-place ns 0 (omega arith)
+          (from-place ns 1 (omega arith)
+          (from-place ns 2 (omega arith)
+          (from-place ns 3 (omega arith)
+          (from-place ns 4 (omega arith)
+          (from-place ns 5 (omega arith)
+          (from-place ns 6 (omega arith) (from-place ns 7 (omega arith) (drop-of-length-le ns {i = 8} (omega arith)))))))))));
+    }
+
+-- a place before what the second form has
+pub placed-numbered : Numbered placedHead 9 placedNumbers placedOf
+unfolding placedNumbers placedOf
+placed-numbered =
+    let w = character-numbered Second in
+    record {
+      no-feed = refl;
+      no-tab = refl;
+      counted = λ p. ap suc (w .counted (p .character));
+      said = λ p i. record { place = p .place; character = w .said (p .character) i };
+      numbered = λ ns e.
+          ap (λ (ms : List ℕ). getD ns 0 0 ∷ ms) (w .numbered (drop 1 ns) (omega (arith, length-drop 1 ns)))
+          ∙ sym (from-place ns 0 (omega arith) refl);
+    }
+
+-- ---- a pending operation
 
 -- the head word and the numbers of a toggle
 abbrev pub bareToggle : Version → Toggle → List ℕ
@@ -43,38 +136,6 @@ bareToggle Second t = toggleHead ++ columns (toggleNumbers t)
 abbrev pub bareOperation : Version → Operation → List ℕ
 bareOperation v (insert i) = insertHead ++ columns (insertNumbers i)
 bareOperation v (toggle t) = bareToggle v t
-
--- no head word has a line feed or a tab
-head-feed : (v : Version) → has lineFeed (siteHead v) ≡ false
-head-feed First = refl
-head-feed Second = refl
-
-head-tab : (v : Version) → has tab (siteHead v) ≡ false
-head-tab First = refl
-head-tab Second = refl
-
--- each is the first line, whatever bytes follow, and those decide whether the last line is ended
-module _ (v : Version) (bytes : List ℕ) where
-  pub site-lines : (s : Site) → lines (siteLine v s ++ bytes) ≡ bareSite v s ∷ lines bytes
-  unfolding siteLine
-  site-lines s = lines-line (siteHead v) (siteNumbers s) bytes (head-feed v)
-
-  pub site-closed : (s : Site) → closed (siteLine v s ++ bytes) ≡ closed bytes
-  unfolding siteLine
-  site-closed s = closed-line (siteHead v) (siteNumbers s) bytes
-
-  -- and those that follow the site's are the rest
-  pub site-rest : (s : Site) → rest (siteLine v s ++ bytes) ≡ bytes
-  unfolding siteLine
-  site-rest s = line-rest (siteHead v) (siteNumbers s) bytes (head-feed v)
-
-  pub character-lines : (c : Character) → lines (characterLine v c ++ bytes) ≡ bareCharacter v c ∷ lines bytes
-  unfolding characterLine
-  character-lines c = lines-line characterHead (characterNumbers v c) bytes refl
-
-  pub character-closed : (c : Character) → closed (characterLine v c ++ bytes) ≡ closed bytes
-  unfolding characterLine
-  character-closed c = closed-line characterHead (characterNumbers v c) bytes
 
 pub operation-lines : (v : Version) (bytes : List ℕ) (o : Operation) → lines (savedLine v o ++ bytes) ≡ bareOperation v o ∷ lines bytes
 unfolding savedLine operationLine
@@ -89,33 +150,6 @@ operation-closed First bytes (insert i) = closed-line insertHead (insertNumbers 
 operation-closed First bytes (toggle t) = closed-line deleteHead (deleteNumbers t) bytes
 operation-closed Second bytes (insert i) = closed-line insertHead (insertNumbers i) bytes
 operation-closed Second bytes (toggle t) = closed-line toggleHead (toggleNumbers t) bytes
-
--- ---- what is written, read
-
-module _ (v : Version) where
-  pub site-laid : (s : Site) → isSite v (bareSite v s) ≡ true
-  unfolding isSite siteNumbers
-  site-laid s = layout-line (siteHead v) (siteNumbers s) (head-tab v) 2 refl
-
-  pub site-back : (s : Site) → siteSaid (bareSite v s) ≡ s
-  unfolding siteSaid siteOf siteNumbers
-  site-back s = rw (values-line (siteHead v) (siteNumbers s) (head-tab v))
-
-  pub character-laid : (c : Character) → isCharacter (bareCharacter v c) ≡ true
-  unfolding isCharacter characterNumbers
-  character-laid c = layout-line characterHead (characterNumbers v c) refl 8 refl
-
--- the number is told from the toggles and they from it
-pub toggle-field-back : (v : Version) (n : ℕ) → toggleField v (toggleField v n) ≡ n
-unfolding toggleField
-toggle-field-back First zero = refl
-toggle-field-back First (suc zero) = refl
-toggle-field-back First (suc (suc n)) = refl
-toggle-field-back Second n = refl
-
-pub character-back : (v : Version) (c : Character) → characterSaid v (bareCharacter v c) ≡ c
-unfolding characterSaid characterOf characterNumbers identifierAt
-character-back v c = rw (values-line characterHead (characterNumbers v c) refl, toggle-field-back v (c .toggles))
 
 pub operation-laid : (v : Version) (o : Operation) → isOperation v (bareOperation v o) ≡ true
 unfolding isOperation asWritten asWrittenFirst isInsert isToggle isDelete insertNumbers toggleNumbers deleteNumbers
@@ -152,40 +186,18 @@ operation-back Second (toggle t) e =
       values-line toggleHead (toggleNumbers t) refl,
     )
 
--- no operation is written as a character
-pub operation-other : (v : Version) (o : Operation) → isCharacter (bareOperation v o) ≡ false
-unfolding isCharacter
-operation-other First (insert i) = other-letter 67 8 (insertHead ++ columns (insertNumbers i)) (eqb-false 73 67 refl)
-operation-other First (toggle t) = other-letter 67 8 (bareToggle First t) (eqb-false 68 67 refl)
-operation-other Second (insert i) = other-letter 67 8 (insertHead ++ columns (insertNumbers i)) (eqb-false 73 67 refl)
-operation-other Second (toggle t) = other-letter 67 8 (bareToggle Second t) (eqb-false 69 67 refl)
-
--- ---- what is read, written
-
-pub site-again : (v : Version) (line : List ℕ) → isSite v line ≡ true → siteLine v (siteSaid line) ≡ whole line
-unfolding isSite siteLine siteSaid siteNumbers siteOf
-site-again v line h = respelled (siteHead v) 2 line _ h (again (valuesOf (fields line)) (spelled (siteHead v) 2 line h .1))
+-- no operation is written with another letter than these
+pub operation-other : (v : Version) (letter count : ℕ) → has letter (insertHead ++ deleteHead ++ toggleHead) ≡ false → (o : Operation)
+    → hasLayout (letter ∷ []) count (fields (bareOperation v o)) ≡ false
+operation-other v letter count foreign o =
+    other-letter letter count (bareOperation v o)
+    (λ e. clash (own v o) (subst (λ (b : ℕ). has b (insertHead ++ deleteHead ++ toggleHead) ≡ false) (sym e) foreign))
   where
-    again : (ns : List ℕ) → length ns ≡ 2 → siteNumbers (siteOf ns) ≡ ns
-    again ns e = sym (from-place ns 0 (omega arith) (from-place ns 1 (omega arith) (drop-of-length-le ns {i = 2} (omega arith))))
-
-character-numbers-again : (v : Version) (ns : List ℕ) → length ns ≡ 8 → characterNumbers v (characterOf v ns) ≡ ns
-unfolding characterNumbers characterOf identifierAt
-character-numbers-again v ns e =
-    rw (toggle-field-back v (getD ns 3 0))
-    (sym
-    (from-place ns 0 (omega arith)
-    (from-place ns 1 (omega arith)
-    (from-place ns 2 (omega arith)
-    (from-place ns 3 (omega arith)
-    (from-place ns 4 (omega arith)
-    (from-place ns 5 (omega arith)
-    (from-place ns 6 (omega arith) (from-place ns 7 (omega arith) (drop-of-length-le ns {i = 8} (omega arith)))))))))))
-
-pub character-again : (v : Version) (line : List ℕ) → isCharacter line ≡ true → characterLine v (characterSaid v line) ≡ whole line
-unfolding isCharacter characterLine characterSaid
-character-again v line h =
-    respelled characterHead 8 line _ h (character-numbers-again v (valuesOf (fields line)) (spelled characterHead 8 line h .1))
+    own : (v : Version) (o : Operation) → has (getD (bareOperation v o) 0 0) (insertHead ++ deleteHead ++ toggleHead) ≡ true
+    own First (insert i) = refl
+    own First (toggle t) = refl
+    own Second (insert i) = refl
+    own Second (toggle t) = refl
 
 -- an insert's line is one in both forms
 insert-again : (line : List ℕ) → isInsert (fields line) ≡ true → operationLine (operationSaid line) ≡ whole line

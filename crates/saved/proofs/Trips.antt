@@ -7,6 +7,7 @@ use Prim.Native.Nat.{ℕ}
 use native.Mathlib.Omega.{arith}
 use lib.ListN.{drop}
 use Rattle.lists.specs.Lists.{every}
+use Rattle.woot.specs.declared.Site.{Site}
 use Rattle.woot.specs.declared.Operation.{Operation}
 use Rattle.woot.specs.declared.Operation.the-variants.{Insert as insert, Toggle as toggle}
 use Rattle.woot.specs.Ranges.{siteInRange, characterInRange, inRange}
@@ -17,12 +18,13 @@ use Rattle.convergence.proofs.Hearing.{raising}
 use Rattle.convergence.proofs.Ranges.{toggle-in-range}
 use borrow.Author.Tests.{eq-eqb, leb-true, not-false}
 use Rattle.lists.proofs.Tests.{and-left, and-right, and-intro, three, seven}
-use Rattle.lines.specs.Lines.{lines, rest, closed, leading, trailing, concatenated}
-use Rattle.lines.specs.Fields.{hasLayout}
+use Rattle.lines.specs.Lines.{has, lines, rest, closed, leading, trailing, concatenated}
+use Rattle.lines.specs.Fields.{fields, hasLayout, valuesOf, lineOf}
+use Rattle.codec.specs.Operations.{insertHead, deleteHead, toggleHead}
 use Rattle.saved.specs.declared.LoadAnswer.the-variants.{Done}
 use Rattle.saved.specs.declared.Version.{Version}
 use Rattle.saved.specs.declared.Version.the-variants.{First, Second}
-use Rattle.saved.specs.Format.{siteLine, isSite, characterLine, isCharacter, characterSaid, isOperation, operationSaid, savedLine, headLine, characterLines, operationLines, laidOutAs, stateAs, characterWithin, operationWithin, representable, inRangeAs, bytesAs, savedLaidOut, savedInRange, savedBytes}
+use Rattle.saved.specs.Format.{siteLine, isSite, siteSaid, characterLine, isCharacter, characterSaid, isOperation, operationSaid, savedLine, headLine, rowLines, operationLines, laidOutAs, stateAs, characterWithin, operationWithin, representable, inRangeAs, bytesAs, savedLaidOut, savedInRange, savedBytes, laidOutWith, bytesWith}
 use Rattle.saved.specs.Calls.{loadedAs, raisingAs, loadedState, loaded, loadNumber}
 use Rattle.replica.specs.Tables.{Searches}
 use Rattle.replica.proofs.Tables.{stored-searches}
@@ -31,7 +33,7 @@ use Rattle.saved.specs.declared.Loaded.{Loaded}
 use Rattle.saved.specs.Conversion.{ReadsBackAs}
 use Rattle.saved.specs.Theorems.{SavedReadsBack, LoadedWritesBack, RaisedWritesBack, LoadedFormed, LoadedSearches, TableAloneDiffers}
 use Rattle.lines.proofs.Lines.{whole, rejoined, apart, concatenated-append, head-first}
-use Rattle.saved.proofs.Spelling.{bareSite, bareCharacter, bareOperation, told, site-lines, site-closed, site-rest, character-lines, character-closed, operation-lines, operation-closed, site-laid, site-back, character-laid, character-back, operation-laid, operation-back, operation-other, site-again, character-again, operation-again}
+use Rattle.saved.proofs.Spelling.{Numbered, bare, first-line, ends-same, leaves-rest, is-laid, says-it, written-again, site-numbered, character-numbered, bareOperation, told, operation-lines, operation-closed, operation-laid, operation-back, operation-other, operation-again}
 use Rattle.saved.proofs.Refusals.{load-done, load-numbers}
 
 -- ---- lists of lines
@@ -51,7 +53,7 @@ module _ {A : Type 0} (line bare : A → List ℕ) where
   closed-joined each (x ∷ xs) bytes =
       ap closed (append-assoc (line x) (concatenated line xs) bytes) ∙ each x (concatenated line xs ++ bytes) ∙ closed-joined each xs bytes
 
-every-always : {A : Type 0} (xs : List A) → every (λ x. true) xs ≡ true
+pub every-always : {A : Type 0} (xs : List A) → every (λ x. true) xs ≡ true
 every-always [] = refl
 every-always (x ∷ xs) = every-always xs
 
@@ -98,87 +100,163 @@ module _ {A : Type 0} (p : A → Bool) where
       go true e others = rw (e, e) others
       go false e others = rw e
 
--- ---- what is written, read: any state, in form or not
+-- lines that each are written again as they were
+joined-again : {A : Type 0} (line : A → List ℕ) (say : List ℕ → A) (p : List ℕ → Bool) → ((l : List ℕ) → p l ≡ true → line (say l) ≡ whole l)
+    → (ls : List (List ℕ)) → every p ls ≡ true → concatenated line (map say ls) ≡ concatenated whole ls
+joined-again line say p each [] e = refl
+joined-again line say p each (l ∷ ls) e =
+    ap₂ (λ (a b : List ℕ). a ++ b) (each l (and-left (p l) (every p ls) e)) (joined-again line say p each ls (and-right (p l) (every p ls) e))
+
+-- ---- a file whose rows are one letter and numbers, which no operation begins with
 
 closed-none : closed [] ≡ true
 unfolding closed
 closed-none = refl
 
+pub no-site : (v : Version) → isSite v [] ≡ false
+unfolding isSite hasLayout
+no-site First = refl
+no-site Second = refl
+
+-- what the layout asks
+pub parts : (v : Version) (isRow : List ℕ → Bool) (s : List ℕ) → laidOutWith v isRow s ≡ true
+    → (closed s ≡ true) × (isSite v (headLine s) ≡ true) × (every (isOperation v) (operationLines isRow s) ≡ true)
+unfolding laidOutWith
+parts v isRow s l = three (closed s) (isSite v (headLine s)) (every (isOperation v) (operationLines isRow s)) l
+
+module _ {A : Type 0} (v : Version) {letter count : ℕ} {numbers : A → List ℕ} {of : List ℕ → A} (w : Numbered (letter ∷ []) count numbers of)
+    (foreign : has letter (insertHead ++ deleteHead ++ toggleHead) ≡ false) where
+  abbrev is : List ℕ → Bool
+  is line = hasLayout (letter ∷ []) count (fields line)
+
+  abbrev says : List ℕ → A
+  says line = of (valuesOf (fields line))
+
+  abbrev written : A → List ℕ
+  written x = lineOf (letter ∷ []) (numbers x)
+
+  -- what is written, read: any site, rows and operations
+  module _ (site : Site) (rows : List A) (pending : List Operation) where
+    later : List ℕ
+    later = concatenated written rows ++ concatenated (savedLine v) pending
+
+    later-lines : lines later ≡ map (bare w) rows ++ map (bareOperation v) pending
+    unfolding later
+    later-lines =
+        lines-joined written (bare w) (first-line w) rows (concatenated (savedLine v) pending)
+        ∙ ap (λ (ls : List (List ℕ)). map (bare w) rows ++ ls)
+        (ap lines (sym (append-nil (concatenated (savedLine v) pending)))
+        ∙ lines-joined (savedLine v) (bareOperation v) (λ o bytes. operation-lines v bytes o) pending []
+        ∙ append-nil (map (bareOperation v) pending))
+
+    -- the bytes after the first line
+    site-first : bytesWith v written site rows pending ≡ siteLine v site ++ later
+    unfolding bytesWith later
+    site-first = append-assoc (siteLine v site) (concatenated written rows) (concatenated (savedLine v) pending)
+
+    pub rest-after : rest (bytesWith v written site rows pending) ≡ concatenated written rows ++ concatenated (savedLine v) pending
+    unfolding siteLine later
+    rest-after = ap rest site-first ∙ leaves-rest (site-numbered v) site later
+
+    written-lines : lines (bytesWith v written site rows pending) ≡ bare (site-numbered v) site ∷ map (bare w) rows ++ map (bareOperation v) pending
+    unfolding siteLine
+    written-lines =
+        ap lines site-first ∙ first-line (site-numbered v) site later ∙ ap (λ (ls : List (List ℕ)). bare (site-numbered v) site ∷ ls) later-lines
+
+    written-closed : closed (bytesWith v written site rows pending) ≡ true
+    unfolding siteLine later
+    written-closed =
+        ap closed site-first
+        ∙ ends-same (site-numbered v) site later
+        ∙ closed-joined written (bare w) (ends-same w) rows (concatenated (savedLine v) pending)
+        ∙ ap closed (sym (append-nil (concatenated (savedLine v) pending)))
+        ∙ closed-joined (savedLine v) (bareOperation v) (λ o bytes. operation-closed v bytes o) pending []
+        ∙ closed-none
+
+    written-head : headLine (bytesWith v written site rows pending) ≡ bare (site-numbered v) site
+    unfolding headLine
+    written-head = rw written-lines
+
+    passed : every is (map (bare w) rows) ≡ true
+    passed = every-map is (bare w) (is-laid w) rows
+
+    row-lines : rowLines is (bytesWith v written site rows pending) ≡ map (bare w) rows
+    unfolding rowLines
+    row-lines =
+        rw written-lines
+        (leading-append is (map (bare w) rows) (map (bareOperation v) pending) passed
+        ∙ rw (leading-none is (bareOperation v) (operation-other v letter count foreign) pending) (append-nil (map (bare w) rows)))
+
+    pending-lines : operationLines is (bytesWith v written site rows pending) ≡ map (bareOperation v) pending
+    unfolding operationLines
+    pending-lines =
+        rw written-lines
+        (trailing-append is (map (bare w) rows) (map (bareOperation v) pending) passed
+        ∙ trailing-all is (bareOperation v) (operation-other v letter count foreign) pending)
+
+    pub written-laid : laidOutWith v is (bytesWith v written site rows pending) ≡ true
+    unfolding laidOutWith isSite
+    written-laid =
+        rw (written-closed, written-head, is-laid (site-numbered v) site, pending-lines)
+        (every-map (isOperation v) (bareOperation v) (operation-laid v) pending)
+
+    pub site-back : siteSaid (headLine (bytesWith v written site rows pending)) ≡ site
+    unfolding siteSaid
+    site-back = rw written-head (says-it (site-numbered v) site)
+
+    pub rows-back : map says (rowLines is (bytesWith v written site rows pending)) ≡ rows
+    rows-back = rw row-lines (map-back says (bare w) (says-it w) rows)
+
+    -- where the form tells every pending operation wholly
+    pub pending-back : every (told v) pending ≡ true → map operationSaid (operationLines is (bytesWith v written site rows pending)) ≡ pending
+    pending-back wholly = rw pending-lines (map-told operationSaid (bareOperation v) (told v) (operation-back v) pending wholly)
+
+  -- what is read, written
+  module _ (s : List ℕ) (l : laidOutWith v is s ≡ true) where
+    rows-laid : every is (rowLines is s) ≡ true
+    unfolding rowLines
+    rows-laid = every-leading is (drop 1 (lines s))
+
+    all-lines : lines s ≡ headLine s ∷ rowLines is s ++ operationLines is s
+    unfolding headLine rowLines operationLines
+    all-lines =
+        head-first (isSite v) (no-site v) (lines s) (parts v is s l .1) ∙ ap (λ (ls : List (List ℕ)). headLine s ∷ ls) (apart is (drop 1 (lines s)))
+
+    pub again : bytesWith v written (siteSaid (headLine s)) (map says (rowLines is s)) (map operationSaid (operationLines is s)) ≡ s
+    unfolding bytesWith siteLine siteSaid isSite
+    again =
+        let cs : concatenated written (map says (rowLines is s)) ≡ concatenated whole (rowLines is s) =
+        joined-again written says is (written-again w) (rowLines is s) rows-laid
+        in
+        let os : concatenated (savedLine v) (map operationSaid (operationLines is s)) ≡ concatenated whole (operationLines is s) =
+        joined-again (savedLine v) operationSaid (isOperation v) (operation-again v) (operationLines is s) (parts v is s l .2)
+        in
+        rw (written-again (site-numbered v) (headLine s) (parts v is s l .1), cs, os)
+        (append-assoc (whole (headLine s)) (concatenated whole (rowLines is s)) (concatenated whole (operationLines is s))
+        ∙ ap (λ (b : List ℕ). whole (headLine s) ++ b) (sym (concatenated-append whole (rowLines is s) (operationLines is s)))
+        ∙ sym (rejoined s (parts v is s l .0) ∙ ap (concatenated whole) all-lines))
+
+-- ---- a saved replica: what is written, read, any state, in form or not
+
 module _ (v : Version) (s : State) where
-  later : List ℕ
-  later = concatenated (characterLine v) (s .characters) ++ concatenated (savedLine v) (s .pending)
-
-  later-lines : lines later ≡ map (bareCharacter v) (s .characters) ++ map (bareOperation v) (s .pending)
-  unfolding later
-  later-lines =
-      lines-joined (characterLine v) (bareCharacter v) (λ c bytes. character-lines v bytes c) (s .characters) (concatenated (savedLine v) (s .pending))
-      ∙ ap (λ (ls : List (List ℕ)). map (bareCharacter v) (s .characters) ++ ls)
-      (ap lines (sym (append-nil (concatenated (savedLine v) (s .pending))))
-      ∙ lines-joined (savedLine v) (bareOperation v) (λ o bytes. operation-lines v bytes o) (s .pending) []
-      ∙ append-nil (map (bareOperation v) (s .pending)))
-
-  -- a state's bytes after its first line
-  site-first : bytesAs v s ≡ siteLine v (s .site) ++ later
-  unfolding bytesAs later
-  site-first = append-assoc (siteLine v (s .site)) (concatenated (characterLine v) (s .characters)) (concatenated (savedLine v) (s .pending))
-
-  saved-lines : lines (bytesAs v s) ≡ bareSite v (s .site) ∷ map (bareCharacter v) (s .characters) ++ map (bareOperation v) (s .pending)
-  saved-lines = ap lines site-first ∙ site-lines v later (s .site) ∙ ap (λ (ls : List (List ℕ)). bareSite v (s .site) ∷ ls) later-lines
-
-  saved-closed : closed (bytesAs v s) ≡ true
-  unfolding later
-  saved-closed =
-      ap closed site-first
-      ∙ site-closed v later (s .site)
-      ∙ closed-joined (characterLine v) (bareCharacter v) (λ c bytes. character-closed v bytes c) (s .characters) (concatenated (savedLine v) (s .pending))
-      ∙ ap closed (sym (append-nil (concatenated (savedLine v) (s .pending))))
-      ∙ closed-joined (savedLine v) (bareOperation v) (λ o bytes. operation-closed v bytes o) (s .pending) []
-      ∙ closed-none
-
-  saved-head : headLine (bytesAs v s) ≡ bareSite v (s .site)
-  unfolding headLine
-  saved-head = rw saved-lines
-
-  passed : every isCharacter (map (bareCharacter v) (s .characters)) ≡ true
-  passed = every-map isCharacter (bareCharacter v) (character-laid v) (s .characters)
-
-  saved-characters : characterLines (bytesAs v s) ≡ map (bareCharacter v) (s .characters)
-  unfolding characterLines
-  saved-characters =
-      rw saved-lines
-      (leading-append isCharacter (map (bareCharacter v) (s .characters)) (map (bareOperation v) (s .pending)) passed
-      ∙ rw (leading-none isCharacter (bareOperation v) (operation-other v) (s .pending)) (append-nil (map (bareCharacter v) (s .characters))))
-
-  saved-operations : operationLines (bytesAs v s) ≡ map (bareOperation v) (s .pending)
-  unfolding operationLines
-  saved-operations =
-      rw saved-lines
-      (trailing-append isCharacter (map (bareCharacter v) (s .characters)) (map (bareOperation v) (s .pending)) passed
-      ∙ trailing-all isCharacter (bareOperation v) (operation-other v) (s .pending))
-
   pub saved-laid : laidOutAs v (bytesAs v s) ≡ true
-  unfolding laidOutAs
-  saved-laid =
-      rw (saved-closed, saved-head, site-laid v (s .site), saved-operations)
-      (every-map (isOperation v) (bareOperation v) (operation-laid v) (s .pending))
+  unfolding isCharacter characterLine
+  saved-laid = written-laid v (character-numbered v) refl (s .site) (s .characters) (s .pending)
 
-  -- where the form tells every pending operation wholly
-  module _ (wholly : every (told v) (s .pending) ≡ true) where
-    pub saved-says : stateAs v (bytesAs v s) ≡ s
-    unfolding stateAs
-    saved-says =
-        rw (saved-head, saved-characters, saved-operations)
-        (λ j. record {
-          site = site-back v (s .site) j;
-          characters = map-back (characterSaid v) (bareCharacter v) (character-back v) (s .characters) j;
-          pending = map-told operationSaid (bareOperation v) (told v) (operation-back v) (s .pending) wholly j;
-        })
+  pub saved-says : every (told v) (s .pending) ≡ true → stateAs v (bytesAs v s) ≡ s
+  unfolding stateAs isCharacter characterSaid characterLine
+  saved-says wholly =
+      λ j. record {
+        site = site-back v (character-numbered v) refl (s .site) (s .characters) (s .pending) j;
+        characters = rows-back v (character-numbered v) refl (s .site) (s .characters) (s .pending) j;
+        pending = pending-back v (character-numbered v) refl (s .site) (s .characters) (s .pending) wholly j;
+      }
 
 formed-ranges : (s : State) → wellFormed s ≡ true → allInRange s ≡ true
 unfolding wellFormed
 formed-ranges s h = seven (allInRange s) _ _ _ _ _ _ (and-left _ (clockKept s) h) .0
 
-formed-clock : (s : State) → wellFormed s ≡ true → clockKept s ≡ true
+pub formed-clock : (s : State) → wellFormed s ≡ true → clockKept s ≡ true
 unfolding wellFormed
 formed-clock s h =
     let lists = allInRange s && sharesKept s && capacityKept s && identifiersDistinct s && togglesDistinct s && neighboursOrdered s && noneExecutable s in
@@ -241,51 +319,19 @@ saved-reads-back s h =
 
 -- ---- what is read, written
 
--- lines that each are written again as they were
-joined-again : {A : Type 0} (line : A → List ℕ) (say : List ℕ → A) (p : List ℕ → Bool) → ((l : List ℕ) → p l ≡ true → line (say l) ≡ whole l)
-    → (ls : List (List ℕ)) → every p ls ≡ true → concatenated line (map say ls) ≡ concatenated whole ls
-joined-again line say p each [] e = refl
-joined-again line say p each (l ∷ ls) e =
-    ap₂ (λ (a b : List ℕ). a ++ b) (each l (and-left (p l) (every p ls) e)) (joined-again line say p each ls (and-right (p l) (every p ls) e))
-
-pub no-site : (v : Version) → isSite v [] ≡ false
-unfolding isSite hasLayout
-no-site First = refl
-no-site Second = refl
-
 module _ (v : Version) (s : List ℕ) (l : laidOutAs v s ≡ true) where
-  pub parts : (closed s ≡ true) × (isSite v (headLine s) ≡ true) × (every (isOperation v) (operationLines s) ≡ true)
-  unfolding laidOutAs
-  parts = three (closed s) (isSite v (headLine s)) (every (isOperation v) (operationLines s)) l
-
-  all-lines : lines s ≡ headLine s ∷ characterLines s ++ operationLines s
-  unfolding headLine characterLines operationLines
-  all-lines = head-first (isSite v) (no-site v) (lines s) (parts .1) ∙ ap (λ (ls : List (List ℕ)). headLine s ∷ ls) (apart isCharacter (drop 1 (lines s)))
-
   pub says-saved : bytesAs v (stateAs v s) ≡ s
-  unfolding bytesAs stateAs characterLines
-  says-saved =
-      let cs : concatenated (characterLine v) (map (characterSaid v) (characterLines s)) ≡ concatenated whole (characterLines s) =
-      joined-again (characterLine v) (characterSaid v) isCharacter (character-again v) (characterLines s) characters-laid
-      in
-      let os : concatenated (savedLine v) (map operationSaid (operationLines s)) ≡ concatenated whole (operationLines s) =
-      joined-again (savedLine v) operationSaid (isOperation v) (operation-again v) (operationLines s) (parts .2)
-      in
-      rw (site-again v (headLine s) (parts .1), cs, os)
-      (append-assoc (whole (headLine s)) (concatenated whole (characterLines s)) (concatenated whole (operationLines s))
-      ∙ ap (λ (b : List ℕ). whole (headLine s) ++ b) (sym (concatenated-append whole (characterLines s) (operationLines s)))
-      ∙ sym (rejoined s (parts .0) ∙ ap (concatenated whole) all-lines))
-    where
-      characters-laid : every isCharacter (characterLines s) ≡ true
-      characters-laid = every-leading isCharacter (drop 1 (lines s))
+  unfolding stateAs isCharacter characterSaid characterLine
+  says-saved = again v (character-numbered v) refl s l
 
   -- of what loading makes, the first line alone may differ
   pub loaded-again : bytesAs v (loadedAs v s) ≡ siteLine v (loadedAs v s .site) ++ rest s
-  unfolding loadedAs raised later
+  unfolding loadedAs raised characterLine later
   loaded-again =
       let t = stateAs v s in
-      site-first v (loadedAs v s)
-      ∙ ap (λ (b : List ℕ). siteLine v (loadedAs v s .site) ++ b) (sym (ap rest (sym says-saved ∙ site-first v t) ∙ site-rest v (later v t) (t .site)))
+      site-first v (character-numbered v) refl (loadedAs v s .site) (t .characters) (t .pending)
+      ∙ ap (λ (b : List ℕ). siteLine v (loadedAs v s .site) ++ b)
+      (sym (ap rest (sym says-saved) ∙ rest-after v (character-numbered v) refl (t .site) (t .characters) (t .pending)))
 
   pub unraised-again : raisingAs v s ≡ false → bytesAs v (loadedAs v s) ≡ s
   unfolding raisingAs loadedAs
@@ -299,7 +345,8 @@ module _ (s : List ℕ) (e : loaded s .answer ≡ Done) where
 
   read-means : meaning (loaded s .replica) ≡ loadedState s
   read-means =
-      ap (λ w. meaning (w .replica)) (load-done s (was-read .0) (was-read .1) (was-read .2)) ∙ meaning-stored (loadedState s) (formed-within (loadedState s) (was-read .2))
+      ap (λ w. meaning (w .replica)) (load-done s (was-read .0) (was-read .1) (was-read .2))
+      ∙ meaning-stored (loadedState s) (formed-within (loadedState s) (was-read .2))
 
 pub loaded-writes-back : LoadedWritesBack
 loaded-writes-back s e n = ap savedBytes (read-means s e) ∙ unraised-again Second s (was-read s e .0) n

@@ -119,29 +119,39 @@ savedLine First (insert i) = operationLine (insert i)
 savedLine First (toggle t) = lineOf deleteHead (deleteNumbers t)
 savedLine Second o = operationLine o
 
--- ---- the whole
+-- ---- the whole, whatever its rows: those of a saved replica, or those of an archive
 
--- the first line, the lines of characters after it, and the lines after those
+-- the first line, the lines after it that are rows, and the lines after those
 unfoldable pub headLine : List ℕ → List ℕ
 headLine s = getD (lines s) 0 []
 
-unfoldable pub characterLines : List ℕ → List (List ℕ)
-characterLines s = leading isCharacter (drop 1 (lines s))
+unfoldable pub rowLines : (List ℕ → Bool) → List ℕ → List (List ℕ)
+rowLines isRow s = leading isRow (drop 1 (lines s))
 
-unfoldable pub operationLines : List ℕ → List (List ℕ)
-operationLines s = trailing isCharacter (drop 1 (lines s))
+unfoldable pub operationLines : (List ℕ → Bool) → List ℕ → List (List ℕ)
+operationLines isRow s = trailing isRow (drop 1 (lines s))
 
 -- the layout of each line, and their order
-unfoldable pub laidOutAs : Version → List ℕ → Bool
-laidOutAs v s = closed s && isSite v (headLine s) && every (isOperation v) (operationLines s)
+unfoldable pub laidOutWith : Version → (List ℕ → Bool) → List ℕ → Bool
+laidOutWith v isRow s = closed s && isSite v (headLine s) && every (isOperation v) (operationLines isRow s)
+
+-- the bytes of a site, rows and pending operations
+unfoldable pub bytesWith : {A : Type 0} → Version → (A → List ℕ) → Site → List A → List Operation → List ℕ
+bytesWith v rowLine site rows pending =
+    siteLine v site ++ concatenated rowLine rows ++ concatenated (savedLine v) pending
+
+-- ---- a saved replica
+
+abbrev pub laidOutAs : Version → List ℕ → Bool
+laidOutAs v s = laidOutWith v isCharacter s
 
 -- what bytes with the layout say, however large the numbers
 unfoldable pub stateAs : Version → List ℕ → State
 stateAs v s =
     record {
       site = siteSaid (headLine s);
-      characters = map (characterSaid v) (characterLines s);
-      pending = map operationSaid (operationLines s);
+      characters = map (characterSaid v) (rowLines isCharacter s);
+      pending = map operationSaid (operationLines isCharacter s);
     }
 
 -- what the first form can say of a row and of a waiting line: no "turn above 1"; the second says every turn
@@ -163,9 +173,8 @@ unfoldable pub inRangeAs : Version → List ℕ → Bool
 inRangeAs v s = every (characterWithin v) (stateAs v s .characters) && allInRange (stateAs v s)
 
 -- the bytes of a state
-unfoldable pub bytesAs : Version → State → List ℕ
-bytesAs v s =
-    siteLine v (s .site) ++ concatenated (characterLine v) (s .characters) ++ concatenated (savedLine v) (s .pending)
+abbrev pub bytesAs : Version → State → List ℕ
+bytesAs v s = bytesWith v (characterLine v) (s .site) (s .characters) (s .pending)
 
 -- ---- document 02, Req 05: "from now on saved sheets are read and written in a second form only"
 

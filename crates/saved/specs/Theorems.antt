@@ -21,7 +21,8 @@ use Rattle.replica.specs.Tables.{Searches}
 use Rattle.saved.specs.declared.LoadAnswer.the-variants.{Done, Refused}
 use Rattle.saved.specs.declared.Version.the-variants.{Second}
 use Rattle.saved.specs.Format.{siteLine, savedLaidOut, savedInRange, savedBytes}
-use Rattle.saved.specs.Calls.{loadedState, needsRaising, loadChecks, noReplica, raisedInArrays, loaded}
+use Rattle.saved.specs.Calls.{loadedState, needsRaising, loadChecks, noReplica, inArrays, raisedInArrays}
+use Rattle.saved.specs.Calls.{loaded}
 use Rattle.saved.specs.Calls.{loadNumber, loadValue, bytesOf, saveChecks, saved, savedOut, savedRead, loadedAs}
 use Rattle.saved.specs.declared.Version.{Version}
 
@@ -60,6 +61,13 @@ RaisedForm =
     (allInRange s ≡ true → replicaWellFormed (raisedInArrays s) ≡ wellFormed (raised s))
     × (wellFormed (raised s) ≡ true →
     (raisedInArrays s ≡ stored (raised s)) × (meaning (raisedInArrays s) ≡ raised s))
+
+-- the same of a state as it stands, its clock not raised
+abbrev pub ArraysForm : Type 0
+ArraysForm =
+    (s : State) →
+    (allInRange s ≡ true → replicaWellFormed (inArrays s) ≡ wellFormed s)
+    × (wellFormed s ≡ true → (inArrays s ≡ stored s) × (meaning (inArrays s) ≡ s))
 
 -- so it is with all that is read, in either form
 abbrev pub ReadForm : Type 0
