@@ -6,7 +6,7 @@ use mathlib.Core.Bool.{Bool, true, false, _&&_}
 use Prim.Native.Nat.{ℕ, _+_, _≤_, _<_}
 use native.Mathlib.Omega.{arith}
 use lib.ListN.{length, take, getD, length-append, length-map, length-take}
-use lib.Seq.{append-snoc}
+use lib.Seq.{append-snoc, take-nil}
 use Rattle.lists.specs.Lists.{every}
 use Rattle.lists.specs.Padding.{pad}
 use Rattle.lists.proofs.Members.{every-append}
@@ -18,16 +18,18 @@ use Rattle.woot.specs.Table.{key}
 use Rattle.lines.specs.Lines.{ended, firstLine, rest, lines, closed, leading}
 use Rattle.lines.proofs.Lines.{lines-ended, closed-rest, closed-unended, rest-shorter}
 use Rattle.saved.specs.declared.Version.{Version}
-use Rattle.saved.specs.Format.{isCharacter, isOperation}
-use Rattle.saved_lines.specs.declared.CharacterLine.{CharacterLine}
+use Rattle.saved.specs.declared.Rows.{Rows}
+use Rattle.saved.specs.Format.{isOperation}
+use Rattle.saved.specs.Rows.{isRow, charactersHeld, pendingHeld}
+use Rattle.saved_lines.specs.declared.RowLine.{RowLine}
 use Rattle.saved_lines.specs.declared.OperationLine.{OperationLine}
-use Rattle.saved_lines.specs.Judging.{characterRead, operationRead}
-use Rattle.saved_lines.proofs.Judging.{character-laid, operation-laid}
+use Rattle.saved_lines.specs.Judging.{rowRead, operationRead}
+use Rattle.saved_lines.proofs.Judging.{row-laid, operation-laid}
 use Rattle.loading.specs.declared.filling.Front.{Front}
 use Rattle.loading.specs.declared.filling.Back.{Back}
-use Rattle.loading.specs.Reading.{lineCharacter, characterPasses, operationPasses}
-use Rattle.loading.specs.Filling.{keptIn, keptAt, charactersHeld, pendingHeld, frontRead, lineOperation, operationsLaid, backRead}
-use Rattle.loading.proofs.Gathering.{and-none, every-more, no-character, no-operation, there, some-left, is-ended}
+use Rattle.loading.specs.Reading.{linePlace, lineCharacter, rowPasses, operationPasses}
+use Rattle.loading.specs.Filling.{keptIn, keptAt, rowsAhead, frontRead, lineOperation, operationsLaid, backRead}
+use Rattle.loading.proofs.Gathering.{and-none, every-more, no-row, no-operation, there, some-left, is-ended}
 use Rattle.loading.proofs.Storing.{kept-at, kept-in, in-slots-length}
 
 -- ---- what is held
@@ -41,6 +43,9 @@ characters-length cs =
 pub toggles-length : (cs : List Character) → length (pad characterSlots 0 (toggleCounts (take characterSlots cs))) ≡ 1024
 toggles-length cs =
     pad-length 1024 0 (toggleCounts (take 1024 cs)) (omega (arith, length-map (take 1024 cs) (λ (c : Character). c .toggles), length-take 1024 cs))
+
+pub places-length : (k : Rows) (m : ℕ) (ls : List (List ℕ)) → length (pad m 0 (map (linePlace k) (take m ls))) ≡ m
+places-length k m ls = pad-length m 0 (map (linePlace k) (take m ls)) (omega (arith, length-map (take m ls) (linePlace k), length-take m ls))
 
 pub pending-length : (ps : List Operation) → length (pendingHeld (take pendingSlots ps)) ≡ 2048
 unfolding pendingHeld
@@ -64,90 +69,102 @@ module _ {passes : List ℕ → Bool} {done : List (List ℕ)} {count : ℕ} {go
   size : {A : Type 0} (item : List ℕ → A) → count ≡ length (map item done)
   size item = g .counted ∙ sym (length-map done item)
 
--- ---- the loop of `read_characters`
+-- ---- the loop of `read_rows`
 
-pub record FrontLoop (v : Version) (s characters toggles : List ℕ) (count : ℕ) (good : Bool) (left : List ℕ) : Type 0 where
+pub record FrontLoop (k : Rows) (s : List ℕ) (m : ℕ) (places characters toggles : List ℕ) (count : ℕ) (good : Bool) (left : List ℕ) : Type 0 where
   pub done : List (List ℕ)
-  pub whole : leading isCharacter (lines s) ≡ done ++ leading isCharacter (lines left)
-  pub filled : characters ≡ charactersHeld (take characterSlots (map (lineCharacter v) done))
-  pub toggled : toggles ≡ pad characterSlots 0 (toggleCounts (take characterSlots (map (lineCharacter v) done)))
-  pub gathered : Counted (characterPasses v) done count good
+  pub whole : rowsAhead k s ≡ done ++ rowsAhead k left
+  pub placed : places ≡ pad m 0 (map (linePlace k) (take m done))
+  pub filled : characters ≡ charactersHeld (take characterSlots (map (lineCharacter k) done))
+  pub toggled : toggles ≡ pad characterSlots 0 (toggleCounts (take characterSlots (map (lineCharacter k) done)))
+  pub gathered : Counted (rowPasses k) done count good
   pub small : count + length left ≤ length s
 
-pub front-begun : (v : Version) (s : List ℕ) {characters toggles : List ℕ} → characters ≡ charactersHeld [] → toggles ≡ pad characterSlots 0 []
-    → FrontLoop v s characters toggles 0 true s
-front-begun v s e t = record {
+pub front-begun : (k : Rows) (s : List ℕ) (m : ℕ) {places characters toggles : List ℕ}
+    → places ≡ pad m 0 [] → characters ≡ charactersHeld [] → toggles ≡ pad characterSlots 0 []
+    → FrontLoop k s m places characters toggles 0 true s
+front-begun k s m p e t = record {
   done = [];
   whole = refl;
+  placed = p ∙ ap (λ (ls : List (List ℕ)). pad m 0 (map (linePlace k) ls)) (sym (take-nil m));
   filled = e;
   toggled = t;
   gathered = record { counted = refl; judged = refl };
   small = omega arith;
 }
 
-module _ {v : Version} {s characters toggles : List ℕ} {count : ℕ} {good : Bool} {left : List ℕ} (l : FrontLoop v s characters toggles count good left) where
+module _ {k : Rows} {s : List ℕ} {m : ℕ} {places characters toggles : List ℕ} {count : ℕ} {good : Bool} {left : List ℕ}
+    (l : FrontLoop k s m places characters toggles count good left) where
+  pub front-places : length places ≡ m
+  front-places = ap length (l .placed) ∙ places-length k m (l .done)
+
   pub front-characters : length characters ≡ 4096
-  front-characters = ap length (l .filled) ∙ characters-length (map (lineCharacter v) (l .done))
+  front-characters = ap length (l .filled) ∙ characters-length (map (lineCharacter k) (l .done))
 
   pub front-toggles : length toggles ≡ 1024
-  front-toggles = ap length (l .toggled) ∙ toggles-length (map (lineCharacter v) (l .done))
+  front-toggles = ap length (l .toggled) ∙ toggles-length (map (lineCharacter k) (l .done))
 
-  module _ (w : CharacterLine) (r : w ≡ characterRead v (getD (lines left) 0 [])) where
-    read-character : w .judged .«laid_out» ≡ isCharacter (getD (lines left) 0 [])
-    read-character = ap (λ x. x .judged .«laid_out») r ∙ character-laid v (getD (lines left) 0 [])
+  module _ (w : RowLine) (r : w ≡ rowRead k (getD (lines left) 0 [])) where
+    read-row : w .judged .«laid_out» ≡ isRow k (getD (lines left) 0 [])
+    read-row = ap (λ x. x .judged .«laid_out») r ∙ row-laid k (getD (lines left) 0 [])
 
-    -- the next line is no character's
+    -- the next line is no row
     module _ (e : w .judged .«laid_out» ≡ false) where
-      all-done : leading isCharacter (lines s) ≡ l .done
+      all-done : rowsAhead k s ≡ l .done
       all-done =
-          l .whole ∙ ap (λ (ls : List (List ℕ)). l .done ++ ls) (ends (lines left) (sym read-character ∙ e)) ∙ append-nil (l .done)
+          l .whole ∙ ap (λ (ls : List (List ℕ)). l .done ++ ls) (ends (lines left) (sym read-row ∙ e)) ∙ append-nil (l .done)
         where
-          ends : (ls : List (List ℕ)) → isCharacter (getD ls 0 []) ≡ false → leading isCharacter ls ≡ []
+          ends : (ls : List (List ℕ)) → isRow k (getD ls 0 []) ≡ false → leading (isRow k) ls ≡ []
           ends [] p = refl
           ends (x ∷ ls) p = rw p
 
-      pub front-end : _≡_ {A = Front} (record { count = count; «in_range» = good }) (frontRead v (leading isCharacter (lines s)))
+      pub front-end : _≡_ {A = Front} (record { count = count; «in_range» = good }) (frontRead k (rowsAhead k s))
       unfolding frontRead
       front-end = rw all-done (λ j. record { count = l .gathered .counted j; «in_range» = l .gathered .judged j })
 
-      pub front-filled : characters ≡ charactersHeld (take characterSlots (map (lineCharacter v) (leading isCharacter (lines s))))
+      pub front-placed : places ≡ pad m 0 (map (linePlace k) (take m (rowsAhead k s)))
+      front-placed = rw all-done (l .placed)
+
+      pub front-filled : characters ≡ charactersHeld (take characterSlots (map (lineCharacter k) (rowsAhead k s)))
       front-filled = rw all-done (l .filled)
 
-      pub front-toggled : toggles ≡ pad characterSlots 0 (toggleCounts (take characterSlots (map (lineCharacter v) (leading isCharacter (lines s)))))
+      pub front-toggled : toggles ≡ pad characterSlots 0 (toggleCounts (take characterSlots (map (lineCharacter k) (rowsAhead k s))))
       front-toggled = rw all-done (l .toggled)
 
     -- it is one
     module _ (e : w .judged .«laid_out» ≡ true) where
-      is-character : isCharacter (getD (lines left) 0 []) ≡ true
-      is-character = sym read-character ∙ e
+      is-row : isRow k (getD (lines left) 0 []) ≡ true
+      is-row = sym read-row ∙ e
 
       pub front-left : 0 < length left
-      front-left = some-left isCharacter no-character left is-character
+      front-left = some-left (isRow k) (no-row k) left is-row
 
-      pub front-more : {characters′ toggles′ : List ℕ} {good′ : Bool} {left′ : List ℕ}
+      pub front-more : {places′ characters′ toggles′ : List ℕ} {good′ : Bool} {left′ : List ℕ}
+          → places′ ≡ keptAt (length places) count (w .place) places
           → characters′ ≡ keptIn characterSlots count (key (w .character .id)) (key (w .character .previous)) (key (w .character .next))
           (w .character .«code_point») characters
           → toggles′ ≡ keptAt characterSlots count (w .character .toggles) toggles
-          → good′ ≡ good && w .judged .«in_range» → left′ ≡ rest left → FrontLoop v s characters′ toggles′ (count + 1) good′ left′
+          → good′ ≡ good && w .judged .«in_range» → left′ ≡ rest left → FrontLoop k s m places′ characters′ toggles′ (count + 1) good′ left′
       unfolding charactersHeld
-      front-more k u q t =
+      front-more f g u q t =
           let line = getD (lines left) 0 [] in
-          let cs = map (lineCharacter v) (l .done) in
+          let cs = map (lineCharacter k) (l .done) in
           record {
             done = l .done ++ line ∷ [];
             whole =
                 l .whole
-                ∙ rw (there isCharacter no-character left is-character, is-character, t)
-                (sym (append-snoc (l .done) line (leading isCharacter (lines (rest left)))));
+                ∙ rw (there (isRow k) (no-row k) left is-row, is-row, t)
+                (sym (append-snoc (l .done) line (rowsAhead k (rest left))));
+            placed = f ∙ rw (front-places, r, l .placed) (kept-at m (linePlace k) (l .done) line count (l .gathered .counted));
             filled =
-                k
-                ∙ rw (r, l .filled, items (l .gathered) line (lineCharacter v))
+                g
+                ∙ rw (r, l .filled, items (l .gathered) line (lineCharacter k))
                 (kept-in 1024 (λ (c : Character). key (c .id)) (λ c. key (c .previous)) (λ c. key (c .next)) (λ c. c .«code_point») cs
-                (lineCharacter v line) count (size (l .gathered) line (lineCharacter v)));
+                (lineCharacter k line) count (size (l .gathered) line (lineCharacter k)));
             toggled =
                 u
-                ∙ rw (r, l .toggled, items (l .gathered) line (lineCharacter v))
-                (kept-at 1024 (λ (c : Character). c .toggles) cs (lineCharacter v line) count (size (l .gathered) line (lineCharacter v)));
+                ∙ rw (r, l .toggled, items (l .gathered) line (lineCharacter k))
+                (kept-at 1024 (λ (c : Character). c .toggles) cs (lineCharacter k line) count (size (l .gathered) line (lineCharacter k)));
             gathered = one-more (l .gathered) line (rw r at q);
             small = omega (arith, l .small, rest-shorter left front-left, ap length t);
           }

@@ -22,7 +22,8 @@ use Rattle.saved.specs.Calls.{loadedAs, readingChecks, raisedInArrays, inArrays
 use Rattle.saved.specs.Calls.{unread, raisedInArrays, savedRead, loaded}
 use Rattle.saved.proofs.Arrays.{read-form}
 use Rattle.saved.proofs.Refusals.{load-layout, load-range, load-form, load-done, never-done, read-lacks, read-out, read-done, read-well}
-use Rattle.loading.specs.Filling.{readAnswer, charactersHeld, pendingHeld}
+use Rattle.saved.specs.Rows.{charactersHeld, pendingHeld}
+use Rattle.loading.specs.Filling.{readAnswer}
 use Rattle.memory.proofs.Fullness.{FullArrays}
 use Rattle.index.proofs.Tables.{table-sized}
 use Rattle.woot.specs.State.{State}

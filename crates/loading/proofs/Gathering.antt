@@ -15,7 +15,11 @@ use Rattle.codec.specs.Operations.{isInsert, isToggle, isDelete}
 use Rattle.codec.specs.Calls.{asWritten, asWrittenFirst}
 use Rattle.saved.specs.declared.Version.{Version}
 use Rattle.saved.specs.declared.Version.the-variants.{First, Second}
+use Rattle.saved.specs.declared.Rows.{Rows}
+use Rattle.saved.specs.declared.Rows.the-variants.{Saved, Archived}
 use Rattle.saved.specs.Format.{isCharacter, isOperation}
+use Rattle.saved.specs.Archive.{isPlaced}
+use Rattle.saved.specs.Rows.{isRow}
 use Rattle.lines.proofs.Lines.{lines-unended, lines-rest, head-first}
 
 pub and-none : (b : Bool) → b && false ≡ false
@@ -31,9 +35,10 @@ every-more p xs x = every-append p xs (x ∷ []) ∙ ap (λ (b : Bool). every p 
 
 -- ---- the layout that a line is read with
 
-pub no-character : isCharacter [] ≡ false
-unfolding isCharacter hasLayout
-no-character = refl
+pub no-row : (k : Rows) → isRow k [] ≡ false
+unfolding isRow isCharacter isPlaced hasLayout
+no-row (Saved v) = refl
+no-row Archived = refl
 
 pub no-operation : (v : Version) → isOperation v [] ≡ false
 unfolding isOperation asWritten asWrittenFirst isInsert isToggle isDelete hasLayout

@@ -3,4 +3,5 @@ pub mod Collecting
 pub mod Forming
 pub mod Gathering
 pub mod Loading
+pub mod Settling
 pub mod Storing

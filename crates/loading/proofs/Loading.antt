@@ -7,12 +7,15 @@ use native.Mathlib.Omega.{arith}
 use lib.ListN.{length, length-append}
 use Rattle.lists.specs.Lists.{every}
 use Rattle.woot.specs.Ranges.{characterInRange, inRange}
+use Rattle.woot.specs.Archiving.{charactersOf}
 use Rattle.lists.proofs.Tests.{and-left, and-right}
 use Rattle.lines.specs.Lines.{lines, leading, trailing}
 use Rattle.saved.specs.declared.Version.{Version}
-use Rattle.saved.specs.Format.{isCharacter, characterSaid, isOperation, operationSaid, characterWithin}
-use Rattle.loading.specs.Reading.{characterPasses, operationPasses}
-use Rattle.saved_lines.proofs.Judging.{character-passes, operation-passes}
+use Rattle.saved.specs.declared.Rows.{Rows}
+use Rattle.saved.specs.Format.{isOperation, operationSaid}
+use Rattle.saved.specs.Rows.{isRow, rowSaid, rowWithin}
+use Rattle.loading.specs.Reading.{rowPasses, operationPasses}
+use Rattle.saved_lines.proofs.Judging.{row-passes, operation-passes}
 use Rattle.lines.proofs.Lines.{apart}
 
 -- ---- lines that have the layout
@@ -24,14 +27,15 @@ four true false true d = refl
 four true false false d = refl
 four false b c d = refl
 
-pub characters-pass : (v : Version) (ls : List (List ℕ)) → every isCharacter ls ≡ true
-    → every (characterPasses v) ls ≡ every (characterWithin v) (map (characterSaid v) ls) && every characterInRange (map (characterSaid v) ls)
-characters-pass v [] e = refl
-characters-pass v (l ∷ ls) e =
-    let c = characterSaid v l in
-    let cs = map (characterSaid v) ls in
-    ap₂ (λ (a b : Bool). a && b) (character-passes v l (and-left (isCharacter l) (every isCharacter ls) e)) (characters-pass v ls (and-right (isCharacter l) (every isCharacter ls) e))
-    ∙ four (characterWithin v c) (characterInRange c) (every (characterWithin v) cs) (every characterInRange cs)
+pub rows-pass : (k : Rows) (ls : List (List ℕ)) → every (isRow k) ls ≡ true
+    → every (rowPasses k) ls ≡ every (rowWithin k) (map (rowSaid k) ls) && every characterInRange (charactersOf (map (rowSaid k) ls))
+rows-pass k [] e = refl
+rows-pass k (l ∷ ls) e =
+    let p = rowSaid k l in
+    let ps = map (rowSaid k) ls in
+    ap₂ (λ (a b : Bool). a && b) (row-passes k l (and-left (isRow k l) (every (isRow k) ls) e))
+    (rows-pass k ls (and-right (isRow k l) (every (isRow k) ls) e))
+    ∙ four (rowWithin k p) (characterInRange (p .character)) (every (rowWithin k) ps) (every characterInRange (charactersOf ps))
 
 pub operations-pass : (v : Version) (ls : List (List ℕ)) → every (isOperation v) ls ≡ true → every (operationPasses v) ls ≡ every inRange (map operationSaid ls)
 operations-pass v [] e = refl

@@ -3,12 +3,12 @@
 use mathlib.Core.Path.{_≡_, refl, sym, ap, _∙_}
 use mathlib.Core.List.{List, [], _∷_, _++_, map, map-append}
 use mathlib.Core.Bool.{Bool, true, false, cond}
-use Prim.Native.Nat.{ℕ, zero, suc, _+_, _*_, _<_}
+use Prim.Native.Nat.{ℕ, zero, suc, _+_, _*_, _<_, _≤_}
 use native.Mathlib.Omega.{arith}
 use lib.Dec.{leb}
 use lib.ListN.{length, take, set, replicate, length-append, length-map, length-take, replicate-append-replicate}
 use lib.Seq.{take-all, take-append-le, set-append-left}
-use borrow.Author.Tests.{leb-true, leb-false}
+use borrow.Author.Tests.{leb-true, leb-false, le-leb, lt-leb}
 use Rattle.lists.specs.Padding.{pad}
 use Rattle.lists.proofs.Padding.{pad-none, pad-push, pad-length}
 use Rattle.woot.specs.Memory.{inColumns}
@@ -120,3 +120,12 @@ no-columns m =
       replicate-append-replicate {A = ℕ} m (m + m) 0,
       replicate-append-replicate {A = ℕ} m (m + (m + m)) 0,
     )
+
+-- where there is no slot, and where there is one
+pub left-as-it-was : (m i x : ℕ) (a : List ℕ) → m ≤ i → a ≡ keptAt m i x a
+unfolding keptAt
+left-as-it-was m i x a h = rw (le-leb m i h) refl
+
+pub put-into-slot : (m i x : ℕ) (a : List ℕ) → i < m → set a i x ≡ keptAt m i x a
+unfolding keptAt
+put-into-slot m i x a h = rw (lt-leb m i h) refl

@@ -1,29 +1,27 @@
 -- For the proofs of the code alone: what is read of lines that follow each other into lent arrays, as far as these have
 -- slots, and how many there are.
 use Prim.Native.Nat.{ℕ, _+_, _*_}
-use mathlib.Core.List.{List, map}
+use mathlib.Core.List.{List}
 use mathlib.Core.Bool.{Bool, true, false, _&&_, cond}
 use lib.Dec.{leb}
 use lib.ListN.{length, set}
 use Rattle.lists.specs.Lists.{every}
 use Rattle.woot.specs.declared.Site.{Site}
-use Rattle.woot.specs.declared.Character.{Character}
 use Rattle.woot.specs.declared.Operation.{Operation}
 use Rattle.woot.specs.declared.Replica.{Replica}
 use Rattle.answers.specs.Answers.{first, decided}
-use Rattle.woot.specs.Memory.{characterSlots, pendingSlots, inColumns, previousKeys, nextKeys, codePoints}
-use Rattle.woot.specs.Table.{keys}
-use Rattle.woot.specs.Memory.{ownKey, firstKey, secondKey, valueOf}
-use Rattle.lines.specs.Lines.{lines, closed}
+use Rattle.lines.specs.Lines.{lines, closed, leading}
 use Rattle.saved.specs.declared.Version.{Version}
+use Rattle.saved.specs.declared.Rows.{Rows}
 use Rattle.saved.specs.declared.LoadAnswer.{LoadAnswer}
 use Rattle.saved.specs.declared.LoadAnswer.the-variants.{Done}
 use Rattle.saved.specs.Format.{isOperation}
 use Rattle.saved.specs.Calls.{readingChecks}
+use Rattle.saved.specs.Rows.{isRow}
 use Rattle.saved_lines.specs.Judging.{operationRead}
 use Rattle.loading.specs.declared.filling.Front.{Front}
 use Rattle.loading.specs.declared.filling.Back.{Back}
-use Rattle.loading.specs.Reading.{characterPasses, operationPasses}
+use Rattle.loading.specs.Reading.{rowPasses, operationPasses}
 
 -- ---- a slot
 
@@ -39,18 +37,14 @@ keptIn m i w x y z a = cond (leb m i) a (setIn m i w x y z a)
 unfoldable pub keptAt : ℕ → ℕ → ℕ → List ℕ → List ℕ
 keptAt m i x a = cond (leb m i) a (set a i x)
 
--- ---- characters and operations in their columns
-
-unfoldable pub charactersHeld : List Character → List ℕ
-charactersHeld cs = inColumns characterSlots (keys cs) (previousKeys cs) (nextKeys cs) (codePoints cs)
-
-unfoldable pub pendingHeld : List Operation → List ℕ
-pendingHeld ps = inColumns pendingSlots (map ownKey ps) (map firstKey ps) (map secondKey ps) (map valueOf ps)
-
 -- ---- lines
 
-unfoldable pub frontRead : Version → List (List ℕ) → Front
-frontRead v ls = record { count = length ls; «in_range» = every (characterPasses v) ls }
+-- the rows at the front
+abbrev pub rowsAhead : Rows → List ℕ → List (List ℕ)
+rowsAhead k s = leading (isRow k) (lines s)
+
+unfoldable pub frontRead : Rows → List (List ℕ) → Front
+frontRead k ls = record { count = length ls; «in_range» = every (rowPasses k) ls }
 
 abbrev pub lineOperation : Version → List ℕ → Operation
 lineOperation v line = operationRead v line .operation

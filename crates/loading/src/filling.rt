@@ -1,8 +1,9 @@
-// Reading the lines of a saved replica into lent arrays, in which columns lie one behind another. A line that is out of
-// range, or has no slot left, does not end the reading: a fault of the layout after it comes first. The functions take
-// arrays of zeros: whoever lends them has just made them.
+// Reading the lines of a saved replica or of an archive into lent arrays, in which columns lie one behind another. A
+// line that is out of range, or has no slot left, does not end the reading: a fault of the layout after it comes first.
+// The functions take arrays of zeros: whoever lends them has just made them.
 use crate::reading::both;
 use crate::reading::head;
+use saved::Rows;
 use saved::Version;
 use woot::CHARACTERS;
 use woot::Character;
@@ -14,25 +15,16 @@ ghost use mathlib.Core.List.{[], map};
 ghost use Prim.Native.Nat.{_*_, _<_};
 ghost use lib.ListN.{length, take};
 ghost use Rattle.lists.specs.Padding.{pad};
-ghost use Rattle.lines.specs.Lines.{lines, leading};
+ghost use Rattle.lines.specs.Lines.{lines};
 ghost use Rattle.woot.specs.Memory.{toggleCounts, ownKey, firstKey, secondKey, valueOf, characterSlots, pendingSlots};
 ghost use Rattle.woot.specs.Memory.{characterNumbers, pendingNumbers};
 ghost use Rattle.woot.specs.Table.{key};
-ghost use Rattle.saved.specs.Format.{isCharacter};
-ghost use Rattle.loading.specs.Reading.{lineCharacter};
-ghost use Rattle.loading.specs.Filling.{
-  setIn,
-  keptIn,
-  keptAt,
-  charactersHeld,
-  pendingHeld,
-  lineOperation,
-  frontRead,
-  backRead,
-  operationsLaid,
-};
+ghost use Rattle.saved.specs.Rows.{charactersHeld, pendingHeld};
+ghost use Rattle.loading.specs.Reading.{linePlace, lineCharacter};
+ghost use Rattle.loading.specs.Filling.{setIn, keptIn, keptAt, rowsAhead, frontRead, lineOperation};
+ghost use Rattle.loading.specs.Filling.{backRead, operationsLaid};
 
-// How many lines of characters there are, and whether each is in range.
+// How many rows there are, and whether each is in range.
 pub(crate) struct Front {
     pub(crate) count: usize,
     pub(crate) in_range: bool,
@@ -82,6 +74,16 @@ fn store_character(characters: &mut [u32], i: usize, character: Character)
     );
 }
 
+// Stores a place in slot i, if there is one.
+fn store_place(places: &mut [u32], i: usize, place: u32)
+    ensures { λ _. ⌜ now (places .exit) ≡ keptAt (length (now (places .entry))) i place (now (places .entry)) ⌝ }
+{
+    if places.len() <= i {
+        return;
+    }
+    places[i] = place;
+}
+
 // Stores a count of toggles in slot i, if there is one.
 fn store_toggles(toggles: &mut [u8], i: usize, count: u8)
     requires { ⌜ length (now toggles) ≡ characterSlots ⌝ }
@@ -117,32 +119,37 @@ fn store_operation(pending: &mut [u32], i: usize, operation: Operation)
     );
 }
 
-// Reads the lines of characters at the front of the bytes.
-pub(crate) fn read_characters(
-    version: Version,
+// Reads the rows at the front of the bytes.
+pub(crate) fn read_rows(
+    rows: Rows,
     bytes: &[u8],
+    places: &mut [u32],
     characters: &mut [u32],
     toggles: &mut [u8],
 ) -> Front
+    requires { ⌜ now places ≡ pad (length (now places)) 0 [] ⌝ }
     requires { ⌜ now characters ≡ charactersHeld [] ⌝ }
     requires { ⌜ now toggles ≡ pad characterSlots 0 [] ⌝ }
-    ensures { λ r. ⌜ r ≡ frontRead version (leading isCharacter (lines (now (bytes .entry)))) ⌝ }
+    ensures { λ r. ⌜ r ≡ frontRead rows (rowsAhead rows (now (bytes .entry))) ⌝ }
+    ensures { λ _. ⌜ now (places .exit)
+        ≡ pad (length (now (places .entry))) 0
+        (map (linePlace rows) (take (length (now (places .entry))) (rowsAhead rows (now (bytes .entry))))) ⌝ }
     ensures { λ _. ⌜ now (characters .exit)
-        ≡ charactersHeld (take characterSlots
-        (map (lineCharacter version) (leading isCharacter (lines (now (bytes .entry)))))) ⌝ }
+        ≡ charactersHeld (take characterSlots (map (lineCharacter rows) (rowsAhead rows (now (bytes .entry))))) ⌝ }
     ensures { λ _. ⌜ now (toggles .exit)
-        ≡ pad characterSlots 0 (toggleCounts (take characterSlots
-        (map (lineCharacter version) (leading isCharacter (lines (now (bytes .entry))))))) ⌝ }
+        ≡ pad characterSlots 0
+        (toggleCounts (take characterSlots (map (lineCharacter rows) (rowsAhead rows (now (bytes .entry)))))) ⌝ }
 {
     let mut count = 0;
     let mut in_range = true;
     let mut left = bytes;
     loop {
-        let line = saved_lines::read_character(version, head(left));
+        let line = saved_lines::read_row(rows, head(left));
         if !line.judged.laid_out {
             return Front { count, in_range };
         }
         let character = line.character;
+        store_place(places, count, line.place);
         store_character(characters, count, character);
         store_toggles(toggles, count, character.toggles);
         in_range = both(in_range, line.judged.in_range);

@@ -1,4 +1,4 @@
-// Reading saved replicas from bytes: into arrays that the call lends, and as replicas.
+// Reading saved replicas and archives from bytes: into arrays that the call lends, and as replicas.
 mod filling;
 mod reading;
 
@@ -6,6 +6,7 @@ use answers::Refusal;
 use reading::both;
 use saved::LoadAnswer;
 use saved::Loaded;
+use saved::Rows;
 use saved::Version;
 use woot::CHAINS;
 use woot::CHARACTER_NUMBERS;
@@ -27,10 +28,11 @@ ghost use Rattle.woot.specs.Table.{tableOf, chains, tableLinks};
 ghost use Rattle.clock.specs.Hearing.{heardKeys};
 ghost use Rattle.saved.specs.Format.{stateAs};
 ghost use Rattle.saved.specs.Calls.{raisedInArrays, unread, savedRead, loaded};
-ghost use Rattle.loading.specs.Filling.{charactersHeld, pendingHeld, readAnswer, replicaIn};
+ghost use Rattle.saved.specs.Rows.{rowsSaid, rowsAnswer, charactersHeld, pendingHeld, Held};
+ghost use Rattle.loading.specs.Filling.{readAnswer, replicaIn};
 
-// What reading answers, and where that is `Done` what stands beside the arrays: the site, how many lines of characters
-// there are and how many of operations. The counts may be above the arrays.
+// What reading answers, and where that is `Done` what stands beside the arrays: the site, how many rows there are
+// and how many lines of operations. The counts may be above the arrays.
 pub struct ReadInto {
     pub answer: LoadAnswer,
     pub site: Site,
@@ -50,6 +52,53 @@ fn refuse_into(reason: Refusal) -> ReadInto
         },
         length: 0,
         waiting: 0,
+    }
+}
+
+// Reads the lines of a saved replica or of an archive, and checks no more than their layout and their ranges; the clock
+// is as it was read. A fault of the layout comes first, wherever it is, and then a number out of range. The arrays have
+// just been made, zeros throughout; where rows have no places, one slot is enough for them.
+pub fn read_lines(
+    rows: Rows,
+    bytes: &[u8],
+    places: &mut [u32],
+    characters: &mut [u32],
+    toggles: &mut [u8],
+    pending: &mut [u32],
+) -> ReadInto
+    requires { ⌜ now places ≡ pad (length (now places)) 0 [] ⌝ }
+    requires { ⌜ now characters ≡ charactersHeld [] ⌝ }
+    requires { ⌜ now toggles ≡ pad characterSlots 0 [] ⌝ }
+    requires { ⌜ now pending ≡ pendingHeld [] ⌝ }
+    ensures { λ r. ⌜ r .answer ≡ rowsAnswer rows (now (bytes .entry)) ⌝ }
+    ensures { λ _. ⌜ length (now (places .exit)) ≡ length (now (places .entry)) ⌝ }
+    ensures { λ _. ⌜ length (now (characters .exit)) ≡ characterNumbers ⌝ }
+    ensures { λ _. ⌜ length (now (toggles .exit)) ≡ characterSlots ⌝ }
+    ensures { λ _. ⌜ length (now (pending .exit)) ≡ pendingNumbers ⌝ }
+    ensures { λ r. ⌜ (r .answer ≡ LoadAnswer.Done
+        → Held (rowsSaid rows (now (bytes .entry))) (r .site) (now (places .exit)) (now (characters .exit))
+        (now (toggles .exit)) (r .length) (now (pending .exit)) (r .waiting)) ⌝ }
+{
+    let version = rows.version();
+    let first = saved_lines::read_site(version, reading::head(bytes));
+    if !first.judged.laid_out {
+        return refuse_into(Refusal::Layout);
+    }
+    let body = lines::rest(bytes);
+    let front = filling::read_rows(rows, body, places, characters, toggles);
+    let back = filling::read_operations(version, reading::skip(body, front.count), pending);
+    if !back.laid_out {
+        return refuse_into(Refusal::Layout);
+    }
+    if !both(both(first.judged.in_range, front.in_range), back.in_range) {
+        return refuse_into(Refusal::Range);
+    }
+    let site = first.site;
+    ReadInto {
+        answer: LoadAnswer::Done,
+        site,
+        length: front.count,
+        waiting: back.count,
     }
 }
 
@@ -80,8 +129,7 @@ fn settle<'a>(
 }
 
 // Reads a saved replica that is not checked to be well formed. A clock below that of a character or a pending insert of
-// its own is raised. A fault of the layout comes first, wherever it is, and then a number out of range. The arrays have
-// just been made, zeros throughout.
+// its own is raised.
 fn read_into(
     version: Version,
     bytes: &[u8],
@@ -107,34 +155,31 @@ fn read_into(
         (r .waiting) (now (heads .exit)) (now (links .exit))
         ≡ raisedInArrays (stateAs version (now (bytes .entry)))) ⌝ }
 {
-    let first = saved_lines::read_site(version, reading::head(bytes));
-    if !first.judged.laid_out {
-        return refuse_into(Refusal::Layout);
+    let mut places = [0u32; 1];
+    let mut lines = read_lines(
+        Rows::Saved(version),
+        bytes,
+        &mut places,
+        characters,
+        toggles,
+        pending,
+    );
+    let answer = lines.answer;
+    if let LoadAnswer::Refused(_) = answer {
+        return lines;
     }
-    let body = lines::rest(bytes);
-    let front = filling::read_characters(version, body, characters, toggles);
-    let back = filling::read_operations(version, reading::skip(body, front.count), pending);
-    if !back.laid_out {
-        return refuse_into(Refusal::Layout);
-    }
-    if !both(both(first.judged.in_range, front.in_range), back.in_range) {
-        return refuse_into(Refusal::Range);
-    }
-    let site = first.site;
-    ReadInto {
-        answer: LoadAnswer::Done,
-        site: settle(
-            site,
-            characters,
-            front.count,
-            pending,
-            back.count,
-            heads,
-            links,
-        ),
-        length: front.count,
-        waiting: back.count,
-    }
+    let site = lines.site;
+    let raised = settle(
+        site,
+        characters,
+        lines.length,
+        pending,
+        lines.waiting,
+        heads,
+        links,
+    );
+    lines.site = raised;
+    lines
 }
 
 // A refusal, and the empty replica beside it.

@@ -2,32 +2,42 @@
 use mathlib.Core.Path.{_≡_, refl, sym, ap, _∙_}
 use mathlib.Core.List.{List, [], _∷_, _++_}
 use mathlib.Core.Bool.{Bool, true, false, _&&_, cond}
-use Prim.Native.Nat.{ℕ, _-_}
-use lib.ListN.{length, replicate}
+use Prim.Native.Nat.{ℕ, zero, suc, _-_}
+use lib.Dec.{leb}
+use lib.ListN.{length, drop, getD, replicate}
+use borrow.Author.Tests.{leb-true}
 use Rattle.woot.specs.declared.Site.{Site}
 use Rattle.woot.specs.declared.Character.{Character}
 use Rattle.woot.specs.declared.Operation.{Operation}
 use Rattle.answers.specs.declared.Refusal.{Refusal}
 use Rattle.answers.specs.declared.Refusal.the-variants.{Layout, Range}
-use Rattle.woot.specs.Limits.{lastSite, lastClock, lastCodePoint}
-use Rattle.woot.specs.Ranges.{siteInRange, characterInRange, inRange}
+use Rattle.woot.specs.Limits.{lastSite, lastClock, lastCodePoint, capacity}
+use Rattle.woot.specs.Ranges.{within, siteInRange, characterInRange, inRange}
+use Rattle.woot.specs.Archiving.{Placed, placeInRange}
 use Rattle.lists.specs.Padding.{pad}
 use Rattle.lists.proofs.Tests.{agree, clash, and-left, and-right, and-intro}
 use Rattle.lines.specs.declared.Verdict.the-variants.{Malformed, Above, Within}
 use Rattle.lines.specs.declared.Numbers.{Numbers}
-use Rattle.lines.specs.Fields.{fields, valuesOf, atMost}
+use Rattle.lines.specs.Fields.{fields, hasLayout, valuesOf, atMost}
 use Rattle.lines.specs.Answers.{slots, holding, verdictOn, numbersOf}
-use Rattle.lines.proofs.Values.{at-padded}
+use Rattle.lines.proofs.Values.{at-most-none, at-most-from, at-padded}
 use Rattle.codec.specs.declared.Read.the-variants.{Operation as readsAs, Refused as readRefused}
 use Rattle.codec.specs.Calls.{readAs}
 use Rattle.codec.proofs.Judging.{identifier-padded, read-layout, read-range, read-operation}
 use Rattle.saved_lines.specs.declared.Judged.{Judged}
 use Rattle.saved_lines.specs.declared.SiteLine.{SiteLine}
-use Rattle.saved_lines.specs.declared.CharacterLine.{CharacterLine}
+use Rattle.saved_lines.specs.declared.RowLine.{RowLine}
 use Rattle.saved_lines.specs.declared.OperationLine.{OperationLine}
 use Rattle.saved.specs.declared.Version.{Version}
-use Rattle.saved.specs.Format.{siteHead, siteLimits, siteOf, isSite, siteSaid, characterHead, toggleField, lastToggleField, characterLimits, characterOf, isCharacter, characterSaid, isOperation, operationSaid, characterWithin}
-use Rattle.saved_lines.specs.Judging.{judgement, judgedAs, siteRead, characterRead, noOperation, operationJudged, operationRead, pendingRead}
+use Rattle.saved.specs.declared.Version.the-variants.{Second}
+use Rattle.saved.specs.declared.Rows.{Rows}
+use Rattle.saved.specs.declared.Rows.the-variants.{Saved, Archived}
+use Rattle.saved.specs.Format.{siteHead, siteLimits, siteOf, isSite, siteSaid, characterHead, toggleField, lastToggleField, characterLimits, characterOf}
+use Rattle.saved.specs.Format.{isCharacter, characterSaid, isOperation, operationSaid, characterWithin}
+use Rattle.saved.specs.Archive.{placedLimits, placedOf, isPlaced, placedSaid}
+use Rattle.saved.specs.Rows.{isRow, rowSaid, rowWithin}
+use Rattle.saved_lines.specs.Judging.{judgement, judgedAs, siteRead, rowHead, rowLimits, rowOf, rowInRange, rowRead}
+use Rattle.saved_lines.specs.Judging.{noOperation, operationJudged, operationRead, pendingRead}
 use Rattle.saved.proofs.Bounds.{site-at-most, character-at-most, at-most-within}
 
 module _ {A : Type 0} (say : List ℕ → A) (passes : A → Bool) (laid : Bool) (limits ns : List ℕ) where
@@ -109,7 +119,7 @@ module _ (v : Version) (line : List ℕ) where
   unfolding siteRead numbersOf isSite siteSaid
   site-says e = says-so siteOf siteInRange (isSite v line) siteLimits (ns line) site-padded e
 
--- ---- a character's line
+-- ---- a row's line
 
 character-padded : (v : Version) (m : ℕ) (ns : List ℕ) → characterOf v (ns ++ replicate m 0) ≡ characterOf v ns
 unfolding characterOf
@@ -121,6 +131,16 @@ character-padded v m ns = λ j. record {
   next = identifier-padded 6 m ns j;
 }
 
+row-padded : (k : Rows) (m : ℕ) (ns : List ℕ) → rowOf k (ns ++ replicate m 0) ≡ rowOf k ns
+unfolding rowOf placedOf
+row-padded (Saved v) m ns = λ j. record { place = 0; character = character-padded v m ns j }
+row-padded Archived m ns = λ j. record { place = at-padded m ns 0 j; character = later m ns j }
+  where
+    later : (m : ℕ) (ns : List ℕ) → characterOf Second (drop 1 (ns ++ replicate m 0)) ≡ characterOf Second (drop 1 ns)
+    later zero [] = refl
+    later (suc m) [] = character-padded Second m []
+    later m (n ∷ ns) = character-padded Second m ns
+
 -- the limits as the code has them
 pub as-limits : (v : Version) (line : List ℕ) {n : ℕ} → n ≡ lastToggleField v → {r : Numbers}
     → r ≡ numbersOf characterHead (lastSite ∷ lastClock ∷ lastCodePoint ∷ n ∷ lastSite ∷ lastClock ∷ lastSite ∷ lastClock ∷ []) (fields line)
@@ -128,41 +148,84 @@ pub as-limits : (v : Version) (line : List ℕ) {n : ℕ} → n ≡ lastToggleFi
 as-limits v line e {r} h =
     h ∙ ap (λ (m : ℕ). numbersOf characterHead (lastSite ∷ lastClock ∷ lastCodePoint ∷ m ∷ lastSite ∷ lastClock ∷ lastSite ∷ lastClock ∷ []) (fields line)) e
 
+-- limits from a place on are those of the numbers from there on
+pub limits-later : (l : ℕ) (ls ns : List ℕ) → atMost (l ∷ ls) ns ≡ true → atMost ls (drop 1 ns) ≡ true
+limits-later l ls [] e = at-most-none ls
+limits-later l ls (n ∷ ns) e = and-right (leb n l) (atMost ls ns) e
+
+placed-at-most : (ns : List ℕ) → rowInRange Archived (placedOf ns) ≡ true → atMost placedLimits ns ≡ true
+unfolding rowInRange placedOf placeInRange within characterWithin
+placed-at-most ns e =
+    let n = getD ns 0 0 in
+    let c = characterOf Second (drop 1 ns) in
+    let p = within 1 capacity n in
+    at-most-from 0 placedLimits ns (leb-true n capacity (and-right (leb 1 n) (leb n capacity) (and-left p (characterInRange c) e)))
+    (character-at-most Second (drop 1 ns) refl (and-right p (characterInRange c) e))
+
 -- numbers within their limits are those that say what is in range, where the form can say it
-row-limits : (v : Version) (ms : List ℕ)
-    → (atMost (characterLimits v) ms && characterInRange (characterOf v ms)) ≡ (characterWithin v (characterOf v ms) && characterInRange (characterOf v ms))
-row-limits v ms =
+row-limits : (k : Rows) (ms : List ℕ)
+    → (atMost (rowLimits k) ms && rowInRange k (rowOf k ms)) ≡ (rowWithin k (rowOf k ms) && characterInRange (rowOf k ms .character))
+unfolding rowOf rowInRange rowWithin
+row-limits (Saved v) ms =
     let c = characterOf v ms in
     let limits = atMost (characterLimits v) ms in
-    agree (limits && characterInRange c) (characterWithin v c && characterInRange c)
-    (λ p. and-intro (at-most-within v ms (and-left limits (characterInRange c) p)) (and-right limits (characterInRange c) p))
-    (λ p. and-intro (character-at-most v ms (and-left (characterWithin v c) (characterInRange c) p) (and-right (characterWithin v c) (characterInRange c) p)) (and-right (characterWithin v c) (characterInRange c) p))
+    let within = characterWithin v c in
+    let ranged = characterInRange c in
+    agree (limits && ranged) (within && ranged)
+    (λ p. and-intro (at-most-within v ms (and-left limits ranged p)) (and-right limits ranged p))
+    (λ p. and-intro (character-at-most v ms (and-left within ranged p) (and-right within ranged p)) (and-right within ranged p))
+row-limits Archived ms = within-limits placedOf (rowInRange Archived) placedLimits placed-at-most ms
 
-module _ (v : Version) (line : List ℕ) where
+module _ (k : Rows) (line : List ℕ) where
   -- as the code makes it of the numbers
-  pub character-made : {r : Numbers} → r ≡ numbersOf characterHead (characterLimits v) (fields line) → {x : Character} → x ≡ characterOf v (r .values) → {b : Bool} → b ≡ characterInRange x
-      → {j : Judged} → j ≡ judgedAs (r .verdict) b → _≡_ {A = CharacterLine} (record { judged = j; character = x }) (characterRead v line)
-  unfolding characterRead
-  character-made {r} e {x} s p {j} q =
-      (λ i. record { judged = now i; character = s i })
-      ∙ ap (λ (n : Numbers). record { judged = judgedAs (n .verdict) (characterInRange (characterOf v (n .values))); character = characterOf v (n .values) }) e
+  pub row-made : {r : Numbers} → r ≡ numbersOf (rowHead k) (rowLimits k) (fields line) → {n : ℕ} {x : Character}
+      → _≡_ {A = Placed} (record { place = n; character = x }) (rowOf k (r .values)) → {b : Bool} → b ≡ rowInRange k (record { place = n; character = x })
+      → {j : Judged} → j ≡ judgedAs (r .verdict) b → _≡_ {A = RowLine} (record { judged = j; place = n; character = x }) (rowRead k line)
+  unfolding rowRead
+  row-made {r} e s p {j} q =
+      (λ i. record { judged = now i; place = s i .place; character = s i .character })
+      ∙ ap (λ (n : Numbers). record {
+        judged = judgedAs (n .verdict) (rowInRange k (rowOf k (n .values)));
+        place = rowOf k (n .values) .place;
+        character = rowOf k (n .values) .character;
+      }) e
     where
-      now : j ≡ judgedAs (r .verdict) (characterInRange (characterOf v (r .values)))
-      now = q ∙ ap (judgedAs (r .verdict)) (p ∙ ap characterInRange s)
+      now : j ≡ judgedAs (r .verdict) (rowInRange k (rowOf k (r .values)))
+      now = q ∙ ap (judgedAs (r .verdict)) (p ∙ ap (rowInRange k) s)
 
-  pub character-laid : characterRead v line .judged .«laid_out» ≡ isCharacter line
-  unfolding characterRead numbersOf isCharacter
-  character-laid = laid-so (characterOf v) characterInRange (isCharacter line) (characterLimits v) (ns line)
+  has-layout : hasLayout (rowHead k) (length (rowLimits k)) (fields line) ≡ isRow k line
+  unfolding isRow isCharacter isPlaced
+  has-layout = go k
+    where
+      go : (k : Rows) → hasLayout (rowHead k) (length (rowLimits k)) (fields line) ≡ isRow k line
+      go (Saved v) = refl
+      go Archived = refl
 
-  pub character-passes : isCharacter line ≡ true → characterRead v line .judged .«in_range» ≡ characterWithin v (characterSaid v line) && characterInRange (characterSaid v line)
-  unfolding characterRead numbersOf isCharacter characterSaid
-  character-passes l =
-      passes-so (characterOf v) characterInRange (isCharacter line) (characterLimits v) (ns line) (character-padded v) l
-      ∙ row-limits v (ns line)
+  row-of : rowOf k (ns line) ≡ rowSaid k line
+  unfolding rowOf rowSaid characterSaid placedSaid
+  row-of = go k
+    where
+      go : (k : Rows) → rowOf k (ns line) ≡ rowSaid k line
+      go (Saved v) = refl
+      go Archived = refl
 
-  pub character-says : characterRead v line .judged .«in_range» ≡ true → characterRead v line .character ≡ characterSaid v line
-  unfolding characterRead numbersOf isCharacter characterSaid
-  character-says e = says-so (characterOf v) characterInRange (isCharacter line) (characterLimits v) (ns line) (character-padded v) e
+  pub row-laid : rowRead k line .judged .«laid_out» ≡ isRow k line
+  unfolding rowRead numbersOf
+  row-laid = laid-so (rowOf k) (rowInRange k) (hasLayout (rowHead k) (length (rowLimits k)) (fields line)) (rowLimits k) (ns line) ∙ has-layout
+
+  pub row-passes : isRow k line ≡ true → rowRead k line .judged .«in_range» ≡ rowWithin k (rowSaid k line) && characterInRange (rowSaid k line .character)
+  unfolding rowRead numbersOf
+  row-passes l =
+      passes-so (rowOf k) (rowInRange k) (hasLayout (rowHead k) (length (rowLimits k)) (fields line)) (rowLimits k) (ns line) (row-padded k) (has-layout ∙ l)
+      ∙ row-limits k (ns line)
+      ∙ ap (λ (p : Placed). rowWithin k p && characterInRange (p .character)) row-of
+
+  pub row-says : rowRead k line .judged .«in_range» ≡ true
+      → _≡_ {A = Placed} (record { place = rowRead k line .place; character = rowRead k line .character }) (rowSaid k line)
+  unfolding rowRead numbersOf
+  row-says e =
+      says-so (rowOf k) (rowInRange k) (hasLayout (rowHead k) (length (rowLimits k)) (fields line)) (rowLimits k) (ns line) (row-padded k) e
+      ∙ row-of
 
 -- ---- an operation's line, by what `codec` answers
 

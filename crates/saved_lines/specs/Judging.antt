@@ -2,13 +2,14 @@
 -- its range, then what it says.
 use Prim.Native.Nat.{ℕ}
 use mathlib.Core.List.{List}
-use mathlib.Core.Bool.{Bool, true, false, cond}
+use mathlib.Core.Bool.{Bool, true, false, _&&_, cond}
 use Rattle.woot.specs.declared.Operation.{Operation}
 use Rattle.woot.specs.Ranges.{siteInRange, characterInRange, inRange}
 use Rattle.woot.specs.State.{blankOperation}
+use Rattle.woot.specs.Archiving.{Placed, placeInRange}
 use Rattle.saved_lines.specs.declared.Judged.{Judged}
 use Rattle.saved_lines.specs.declared.SiteLine.{SiteLine}
-use Rattle.saved_lines.specs.declared.CharacterLine.{CharacterLine}
+use Rattle.saved_lines.specs.declared.RowLine.{RowLine}
 use Rattle.saved_lines.specs.declared.OperationLine.{OperationLine}
 use Rattle.lines.specs.declared.Verdict.{Verdict}
 use Rattle.lines.specs.declared.Numbers.{Numbers}
@@ -17,8 +18,11 @@ use Rattle.lines.specs.Answers.{byVerdict, numbersOf}
 use Rattle.codec.specs.declared.Read.{Read}
 use Rattle.codec.specs.Calls.{readAs}
 use Rattle.saved.specs.declared.Version.{Version}
+use Rattle.saved.specs.declared.Rows.{Rows}
+use Rattle.saved.specs.declared.Rows.the-variants.{Saved, Archived}
 use Rattle.saved.specs.Format.{siteHead, siteLimits, siteOf, characterHead, characterLimits, characterOf, isOperation}
 use Rattle.saved.specs.Format.{operationSaid}
+use Rattle.saved.specs.Archive.{placedHead, placedLimits, placedOf}
 
 unfoldable pub judgement : Bool → Bool → Judged
 judgement laid passes = record { «laid_out» = laid; «in_range» = passes }
@@ -31,14 +35,33 @@ siteRead v line =
     let r : Numbers = numbersOf (siteHead v) siteLimits (fields line) in
     record { judged = judgedAs (r .verdict) (siteInRange (siteOf (r .values))); site = siteOf (r .values) }
 
+-- ---- a row of either kind
+
+-- its head word, the limits of its numbers, and what these say
+abbrev pub rowHead : Rows → List ℕ
+rowHead (Saved v) = characterHead
+rowHead Archived = placedHead
+
+abbrev pub rowLimits : Rows → List ℕ
+rowLimits (Saved v) = characterLimits v
+rowLimits Archived = placedLimits
+
+unfoldable pub rowOf : Rows → List ℕ → Placed
+rowOf (Saved v) ns = record { place = 0; character = characterOf v ns }
+rowOf Archived ns = placedOf ns
+
 -- numbers within their limits say toggles that the form can say
-unfoldable pub characterRead : Version → List ℕ → CharacterLine
-characterRead v line =
-    let r : Numbers = numbersOf characterHead (characterLimits v) (fields line) in
-    record {
-      judged = judgedAs (r .verdict) (characterInRange (characterOf v (r .values)));
-      character = characterOf v (r .values);
-    }
+unfoldable pub rowInRange : Rows → Placed → Bool
+rowInRange (Saved v) p = characterInRange (p .character)
+rowInRange Archived p = placeInRange p && characterInRange (p .character)
+
+unfoldable pub rowRead : Rows → List ℕ → RowLine
+rowRead k line =
+    let r : Numbers = numbersOf (rowHead k) (rowLimits k) (fields line) in
+    let p : Placed = rowOf k (r .values) in
+    record { judged = judgedAs (r .verdict) (rowInRange k p); place = p .place; character = p .character }
+
+-- ---- a pending operation
 
 -- filler where the layout or the range lacks
 unfoldable pub noOperation : Bool → OperationLine

@@ -1,11 +1,13 @@
-// Reading one line of a saved replica: whether it has the layout of its kind, whether it is in range, and what it says.
-// These are steps of `loading`, and not calls.
+// Reading one line of a saved replica or of an archive: whether it has the layout of its kind, whether it is in range,
+// and what it says. These are steps of `loading`, and not calls.
 use answers::Refusal;
 use codec::Read;
 use lines::Numbers;
 use lines::Verdict;
 use saved::CHARACTER;
 use saved::FIRST_SITE;
+use saved::PLACED;
+use saved::Rows;
 use saved::SITE;
 use saved::Version;
 use woot::Character;
@@ -14,11 +16,16 @@ use woot::Insert;
 use woot::Operation;
 use woot::Site;
 ghost use mathlib.Core.Path.{_≡_};
-ghost use mathlib.Core.Bool.{true};
+ghost use mathlib.Core.Bool.{true, _&&_};
+ghost use Prim.Native.Nat.{_≤_};
+ghost use lib.ListN.{drop};
 ghost use Rattle.lines.specs.Fields.{fields, atMost};
 ghost use Rattle.lines.specs.Answers.{numbersOf};
+ghost use Rattle.woot.specs.Limits.{capacity};
+ghost use Rattle.woot.specs.Ranges.{characterInRange};
+ghost use Rattle.woot.specs.Archiving.{placeInRange};
 ghost use Rattle.saved.specs.Format.{siteHead, siteLimits, siteOf, characterLimits, characterOf};
-ghost use Rattle.saved_lines.specs.Judging.{judgedAs, siteRead, characterRead, noOperation};
+ghost use Rattle.saved_lines.specs.Judging.{judgedAs, siteRead, rowRead, noOperation};
 ghost use Rattle.saved_lines.specs.Judging.{pendingRead, operationRead};
 
 // Whether a line has the layout of its kind, and whether what it says is in range too.
@@ -33,9 +40,10 @@ pub struct SiteLine {
     pub site: Site,
 }
 
-// The same as a character's.
-pub struct CharacterLine {
+// The same as a row's: a character with its place. The place is 0 where the rows have none.
+pub struct RowLine {
     pub judged: Judged,
+    pub place: u32,
     pub character: Character,
 }
 
@@ -105,23 +113,24 @@ pub fn read_site(version: Version, line: &[u8]) -> SiteLine
     SiteLine { judged, site }
 }
 
-// The character that numbers within their limits say.
-fn character_of(version: Version, values: [u64; 9]) -> Character
-    requires { ⌜ atMost (characterLimits version) values ≡ true ⌝ }
-    ensures { λ r. ⌜ r ≡ characterOf version values ⌝ }
+// The character that numbers within their limits say, from the given one on.
+fn character_of(version: Version, values: [u64; 9], from: usize) -> Character
+    requires { ⌜ from ≤ 1 ⌝ }
+    requires { ⌜ atMost (characterLimits version) (drop from values) ≡ true ⌝ }
+    ensures { λ r. ⌜ r ≡ characterOf version (drop from values) ⌝ }
 {
     Character {
-        id: codec::identifier(values[0], values[1]),
-        code_point: values[2] as u32,
-        toggles: version.toggle_field(values[3]) as u8,
-        previous: codec::identifier(values[4], values[5]),
-        next: codec::identifier(values[6], values[7]),
+        id: codec::identifier(values[from], values[from + 1]),
+        code_point: values[from + 2] as u32,
+        toggles: version.toggle_field(values[from + 3]) as u8,
+        previous: codec::identifier(values[from + 4], values[from + 5]),
+        next: codec::identifier(values[from + 6], values[from + 7]),
     }
 }
 
 // Reads a line as a character's.
-pub fn read_character(version: Version, line: &[u8]) -> CharacterLine
-    ensures { λ r. ⌜ r ≡ characterRead version (now (line .entry)) ⌝ }
+fn read_character(version: Version, line: &[u8]) -> RowLine
+    ensures { λ r. ⌜ r ≡ rowRead (Rows.Saved version) (now (line .entry)) ⌝ }
 {
     let head = [CHARACTER];
     let last = version.last_toggle_field();
@@ -129,9 +138,54 @@ pub fn read_character(version: Version, line: &[u8]) -> CharacterLine
     let numbers = lines::read(line, &head, &limits);
     let verdict = numbers.verdict;
     let values = numbers.values;
-    let character = character_of(version, values);
+    let character = character_of(version, values, 0);
     let judged = judge(verdict, ranges::character_in_range(character));
-    CharacterLine { judged, character }
+    RowLine {
+        judged,
+        place: 0,
+        character,
+    }
+}
+
+// Whether a place within its limit is in range, and its character too.
+fn placed_in_range(place: u32, character: Character) -> bool
+    requires { ⌜ place ≤ capacity ⌝ }
+    ensures { λ r. ⌜ r
+        ≡ placeInRange (record { place = place; character = character }) && characterInRange character ⌝ }
+{
+    if place < 1 {
+        return false;
+    }
+    ranges::character_in_range(character)
+}
+
+// Reads a line as a character's with its place.
+fn read_placed(line: &[u8]) -> RowLine
+    ensures { λ r. ⌜ r ≡ rowRead Rows.Archived (now (line .entry)) ⌝ }
+{
+    let head = [PLACED];
+    let limits = [1024u64, 16, 65535, 1114111, 255, 16, 65535, 16, 65535];
+    let numbers = lines::read(line, &head, &limits);
+    let verdict = numbers.verdict;
+    let values = numbers.values;
+    let place = values[0] as u32;
+    let character = character_of(Version::Second, values, 1);
+    let judged = judge(verdict, placed_in_range(place, character));
+    RowLine {
+        judged,
+        place,
+        character,
+    }
+}
+
+// Reads a line as a row of the given kind.
+pub fn read_row(rows: Rows, line: &[u8]) -> RowLine
+    ensures { λ r. ⌜ r ≡ rowRead rows (now (line .entry)) ⌝ }
+{
+    match rows {
+        Rows::Saved(version) => read_character(version, line),
+        Rows::Archived => read_placed(line),
+    }
 }
 
 // A line that is no operation's, or that is out of range.

@@ -1,7 +1,7 @@
 -- `loading::read_as` meets its contract: arrays of zeros hold nothing, and what was read into them is what the bytes say.
 use mathlib.Core.Path.{refl, sym, _∙_}
 use Rattle.lists.proofs.Padding.{pad-none}
-use Rattle.loading.proofs.Assembling.{no-characters, no-pending}
+use Rattle.loading.proofs.Settling.{no-characters, no-pending}
 use Rattle.loading.proofs.Forming.{answer-read, read-refused, read-whole}
 use borrow.Author.Needs.{needs}
 use Rattle.loading.proofs.read_as.Statement.{statement}

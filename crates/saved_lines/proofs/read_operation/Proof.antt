@@ -15,7 +15,7 @@ use Rattle.saved_lines.proofs.read_operation.Tie as tie
 
 -- every refusal but 2, by its tag
 abbrev others : List ℕ
-others = 0 ∷ 2 ∷ 3 ∷ 4 ∷ 5 ∷ 6 ∷ 7 ∷ 8 ∷ 9 ∷ 10 ∷ 11 ∷ 12 ∷ 13 ∷ 14 ∷ 15 ∷ 16 ∷ 17 ∷ 18 ∷ []
+others = 0 ∷ 2 ∷ 3 ∷ 4 ∷ 5 ∷ 6 ∷ 7 ∷ 8 ∷ 9 ∷ 10 ∷ 11 ∷ 12 ∷ 13 ∷ 14 ∷ 15 ∷ 16 ∷ 17 ∷ 18 ∷ 19 ∷ []
 
 no-range : (r : Refusal) → OneOf others (tagOf the-type r) → r ≡ Range → ⊥
 no-range r k e = miss others 1 tt (subst (λ (q : Refusal). OneOf others (tagOf the-type q)) e k)
