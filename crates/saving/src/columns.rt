@@ -1,11 +1,15 @@
-// Writing a saved document from its lent arrays. The lines of the characters and those of the pending operations are
-// one list after the site's line: measured in one loop, and put in another.
+// Writing a file from its lent arrays. The lines of the rows and those of the pending operations are one list after the
+// site's line: measured in one loop, and put in another.
 use crate::numbered;
 use crate::numbered::Line;
 use crate::site_line;
 use answers::Refusal;
 use lines::writing::Room;
-use saved::Version;
+use saved::Rows;
+use woot::CODE_POINTS;
+use woot::NEXT_KEYS;
+use woot::PENDING;
+use woot::PREVIOUS_KEYS;
 use woot::Site;
 use woot::Written;
 ghost use mathlib.Core.Path.{_≡_};
@@ -14,93 +18,75 @@ ghost use Prim.Native.Nat.{_+_, _≤_, _<_};
 ghost use lib.ListN.{length, getD};
 ghost use Rattle.output.specs.Output.{placed};
 ghost use Rattle.lines.specs.Room.{roomFor};
+ghost use Rattle.woot.specs.Memory.{pendingSlots};
 ghost use Rattle.woot.specs.Writing.{writtenAs, outputAfter};
-ghost use Rattle.saved.specs.Format.{bytesAs};
-ghost use Rattle.saving.specs.Documents.{lineBytes, HasSlots, listsOf, stateOf, linesAs, bodyAs};
+ghost use Rattle.saving.specs.Documents.{lineBytes, HasSlots, listsOf, linesAs, bodyAs, fileBytes};
 
-// The line at an index: of the n characters first, and then of the w pending operations.
+// The line at an index: of the n rows first, and then of the w pending operations, whose numbers lie in columns of the
+// given slots.
 fn line<'a>(
-    version: Version,
-    ids: &'a [u32],
-    previous: &'a [u32],
-    next: &'a [u32],
-    code_points: &'a [u32],
+    rows: Rows,
+    places: &'a [u32],
+    characters: &'a [u32],
     toggles: &'a [u8],
     n: usize,
-    own: &'a [u32],
-    first: &'a [u32],
-    second: &'a [u32],
-    values: &'a [u32],
+    pending: &'a [u32],
+    slots: usize,
     w: usize,
     at: usize,
 ) -> Line
-    requires { ⌜ HasSlots (now ids) (now previous) (now next) (now «code_points») (now toggles) n (now own) (now first)
-        (now second) (now values) w ⌝ }
+    requires { ⌜ HasSlots (now places) (now characters) (now toggles) n (now pending) slots w ⌝ }
     requires { ⌜ at < n + w ⌝ }
     ensures { λ r. ⌜ lineBytes r
-        ≡ getD (linesAs version (listsOf (now (ids .entry)) (now (previous .entry)) (now (next .entry))
-        (now («code_points» .entry)) (now (toggles .entry)) n (now (own .entry)) (now (first .entry))
-        (now (second .entry)) (now (values .entry)) w)) at [] ⌝ }
-    ensures { λ r. ⌜ r .count ≤ 8 ⌝ }
+        ≡ getD (linesAs rows (listsOf (now (places .entry)) (now (characters .entry)) (now (toggles .entry)) n
+        (now (pending .entry)) slots w)) at [] ⌝ }
+    ensures { λ r. ⌜ r .count ≤ 9 ⌝ }
 {
     if at < n {
-        return numbered::character(
-            version,
-            ids[at],
-            previous[at],
-            next[at],
-            code_points[at],
+        return numbered::row(
+            rows,
+            places[at],
+            characters[at],
+            characters[PREVIOUS_KEYS + at],
+            characters[NEXT_KEYS + at],
+            characters[CODE_POINTS + at],
             toggles[at],
         );
     }
     let j = at - n;
-    numbered::operation(version, own[j], first[j], second[j], values[j])
+    numbered::operation(
+        rows.version(),
+        pending[j],
+        pending[slots + j],
+        pending[2 * slots + j],
+        pending[3 * slots + j],
+    )
 }
 
 // Where the lines end that begin at the offset in a slice of the given size.
 pub(crate) fn measure<'a>(
-    version: Version,
-    ids: &'a [u32],
-    previous: &'a [u32],
-    next: &'a [u32],
-    code_points: &'a [u32],
+    rows: Rows,
+    places: &'a [u32],
+    characters: &'a [u32],
     toggles: &'a [u8],
     n: usize,
-    own: &'a [u32],
-    first: &'a [u32],
-    second: &'a [u32],
-    values: &'a [u32],
+    pending: &'a [u32],
+    slots: usize,
     w: usize,
     size: usize,
     at: usize,
 ) -> Room
-    requires { ⌜ HasSlots (now ids) (now previous) (now next) (now «code_points») (now toggles) n (now own) (now first)
-        (now second) (now values) w ⌝ }
+    requires { ⌜ HasSlots (now places) (now characters) (now toggles) n (now pending) slots w ⌝ }
     requires { ⌜ at ≤ size ⌝ }
     ensures { λ r. ⌜ r
-        ≡ roomFor size at (bodyAs version (listsOf (now (ids .entry)) (now (previous .entry)) (now (next .entry))
-        (now («code_points» .entry)) (now (toggles .entry)) n (now (own .entry)) (now (first .entry))
-        (now (second .entry)) (now (values .entry)) w)) ⌝ }
+        ≡ roomFor size at (bodyAs rows (listsOf (now (places .entry)) (now (characters .entry))
+        (now (toggles .entry)) n (now (pending .entry)) slots w)) ⌝ }
 {
     let all = n + w;
     let mut end = at;
     let mut i = 0;
     while i < all {
-        let line = line(
-            version,
-            ids,
-            previous,
-            next,
-            code_points,
-            toggles,
-            n,
-            own,
-            first,
-            second,
-            values,
-            w,
-            i,
-        );
+        let line = line(rows, places, characters, toggles, n, pending, slots, w, i);
         let room = numbered::measure(line, size, end);
         let Room::Until(past) = room else {
             return Room::Short;
@@ -113,101 +99,69 @@ pub(crate) fn measure<'a>(
 
 // Puts the lines at the offset, where there is room.
 pub(crate) fn put_lines<'a>(
-    version: Version,
-    ids: &'a [u32],
-    previous: &'a [u32],
-    next: &'a [u32],
-    code_points: &'a [u32],
+    rows: Rows,
+    places: &'a [u32],
+    characters: &'a [u32],
     toggles: &'a [u8],
     n: usize,
-    own: &'a [u32],
-    first: &'a [u32],
-    second: &'a [u32],
-    values: &'a [u32],
+    pending: &'a [u32],
+    slots: usize,
     w: usize,
     out: &mut [u8],
     at: usize,
 )
-    requires { ⌜ HasSlots (now ids) (now previous) (now next) (now «code_points») (now toggles) n (now own) (now first)
-        (now second) (now values) w ⌝ }
-    requires { ⌜ at + length (bodyAs version (listsOf (now ids) (now previous) (now next) (now «code_points»)
-        (now toggles) n (now own) (now first) (now second) (now values) w)) ≤ length (now out) ⌝ }
+    requires { ⌜ HasSlots (now places) (now characters) (now toggles) n (now pending) slots w ⌝ }
+    requires { ⌜ at + length (bodyAs rows (listsOf (now places) (now characters) (now toggles) n (now pending) slots w))
+        ≤ length (now out) ⌝ }
     ensures { λ _. ⌜ now (out .exit)
-        ≡ placed (now (out .entry)) at (bodyAs version (listsOf (now (ids .entry)) (now (previous .entry))
-        (now (next .entry)) (now («code_points» .entry)) (now (toggles .entry)) n (now (own .entry))
-        (now (first .entry)) (now (second .entry)) (now (values .entry)) w)) ⌝ }
+        ≡ placed (now (out .entry)) at (bodyAs rows (listsOf (now (places .entry)) (now (characters .entry))
+        (now (toggles .entry)) n (now (pending .entry)) slots w)) ⌝ }
 {
     let all = n + w;
     let mut end = at;
     let mut i = 0;
     while i < all {
-        let line = line(
-            version,
-            ids,
-            previous,
-            next,
-            code_points,
-            toggles,
-            n,
-            own,
-            first,
-            second,
-            values,
-            w,
-            i,
-        );
+        let line = line(rows, places, characters, toggles, n, pending, slots, w, i);
         end = numbered::put_numbered(line, out, end);
         i += 1;
     }
 }
 
-// Writes a document, well formed or not, with its site's line at the front of the slice. A refused call leaves every
-// byte as it was. A step of the calls and not a call: they lend arrays that have a slot for each of the n characters
-// and each of the w pending operations, and `conversion` alone asks for the first form, of what that form can say.
-pub fn put_columns<'a>(
-    version: Version,
+// Writes a file, well formed or not, with its site's line at the front of the slice. A refused call leaves every byte
+// as it was.
+pub(crate) fn put_columns<'a>(
+    rows: Rows,
     site: Site,
-    ids: &'a [u32],
-    previous: &'a [u32],
-    next: &'a [u32],
-    code_points: &'a [u32],
+    places: &'a [u32],
+    characters: &'a [u32],
     toggles: &'a [u8],
     n: usize,
-    own: &'a [u32],
-    first: &'a [u32],
-    second: &'a [u32],
-    values: &'a [u32],
+    pending: &'a [u32],
     w: usize,
     out: &mut [u8],
 ) -> Written
-    requires { ⌜ HasSlots (now ids) (now previous) (now next) (now «code_points») (now toggles) n (now own) (now first)
-        (now second) (now values) w ⌝ }
+    requires { ⌜ HasSlots (now places) (now characters) (now toggles) n (now pending) pendingSlots w ⌝ }
     ensures { λ r. ⌜ r
-        ≡ writtenAs [] (bytesAs version (stateOf site (listsOf (now (ids .entry)) (now (previous .entry))
-        (now (next .entry)) (now («code_points» .entry)) (now (toggles .entry)) n (now (own .entry))
-        (now (first .entry)) (now (second .entry)) (now (values .entry)) w))) (now (out .entry)) ⌝ }
+        ≡ writtenAs [] (fileBytes rows site (listsOf (now (places .entry)) (now (characters .entry))
+        (now (toggles .entry)) n (now (pending .entry)) pendingSlots w)) (now (out .entry)) ⌝ }
     ensures { λ _. ⌜ now (out .exit)
-        ≡ outputAfter [] (bytesAs version (stateOf site (listsOf (now (ids .entry)) (now (previous .entry))
-        (now (next .entry)) (now («code_points» .entry)) (now (toggles .entry)) n (now (own .entry))
-        (now (first .entry)) (now (second .entry)) (now (values .entry)) w))) (now (out .entry)) ⌝ }
+        ≡ outputAfter [] (fileBytes rows site (listsOf (now (places .entry)) (now (characters .entry))
+        (now (toggles .entry)) n (now (pending .entry)) pendingSlots w)) (now (out .entry)) ⌝ }
 {
     let size = out.len();
+    let version = rows.version();
     let front = site_line::measure_site(version, site, size);
     let Room::Until(start) = front else {
         return Written::Refused(Refusal::Output);
     };
     let room = measure(
-        version,
-        ids,
-        previous,
-        next,
-        code_points,
+        rows,
+        places,
+        characters,
         toggles,
         n,
-        own,
-        first,
-        second,
-        values,
+        pending,
+        PENDING,
         w,
         size,
         start,
@@ -217,17 +171,13 @@ pub fn put_columns<'a>(
     };
     let at = site_line::put_site(version, site, out);
     put_lines(
-        version,
-        ids,
-        previous,
-        next,
-        code_points,
+        rows,
+        places,
+        characters,
         toggles,
         n,
-        own,
-        first,
-        second,
-        values,
+        pending,
+        PENDING,
         w,
         out,
         at,

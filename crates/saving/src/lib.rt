@@ -1,23 +1,14 @@
-// Writing saved replicas into a lent slice.
+// Writing saved replicas and archives into a lent slice.
 mod columns;
 mod numbered;
 pub mod operations;
 mod site_line;
 
 use answers::Refusal;
+use saved::Rows;
 use saved::Version;
-use woot::CHARACTER_NUMBERS;
-use woot::CHARACTERS;
-use woot::CODE_POINTS;
-use woot::FIRST_KEYS;
-use woot::NEXT_KEYS;
-use woot::PENDING;
-use woot::PENDING_NUMBERS;
-use woot::PREVIOUS_KEYS;
 use woot::Replica;
-use woot::SECOND_KEYS;
 use woot::Site;
-use woot::VALUES;
 use woot::Written;
 ghost use mathlib.Core.Path.{_≡_};
 ghost use mathlib.Core.Bool.{true};
@@ -27,8 +18,9 @@ ghost use lib.ListN.{length};
 ghost use Rattle.woot.specs.Writing.{writtenAs, outputAfter};
 ghost use Rattle.woot.specs.Memory.{characterNumbers, characterSlots, pendingNumbers, pendingSlots};
 ghost use Rattle.saved.specs.Format.{representable, bytesAs};
+ghost use Rattle.saved.specs.Archive.{archiveBytes};
 ghost use Rattle.saved.specs.Calls.{saved, savedOut};
-ghost use Rattle.saving.specs.Documents.{stateIn};
+ghost use Rattle.saving.specs.Documents.{stateIn, archiveIn};
 
 // Writes the replica with these arrays, well formed or not, at the front of the slice. A refused call leaves every
 // byte as it was. A step of the calls and not a call: they lend arrays of these sizes, with a slot for each of the n
@@ -58,18 +50,52 @@ pub fn put_replica<'a>(
         (now (pending .entry)) w)) (now (out .entry)) ⌝ }
 {
     columns::put_columns(
-        version,
+        Rows::Saved(version),
         site,
-        &characters[..CHARACTERS],
-        &characters[PREVIOUS_KEYS..NEXT_KEYS],
-        &characters[NEXT_KEYS..CODE_POINTS],
-        &characters[CODE_POINTS..CHARACTER_NUMBERS],
+        characters,
+        characters,
         toggles,
         n,
-        &pending[..PENDING],
-        &pending[FIRST_KEYS..SECOND_KEYS],
-        &pending[SECOND_KEYS..VALUES],
-        &pending[VALUES..PENDING_NUMBERS],
+        pending,
+        w,
+        out,
+    )
+}
+
+// Writes the archive with these arrays, arranged or not, at the front of the slice. A refused call leaves every byte as
+// it was. A step of the calls and not a call, as `put_replica` is: beside its arrays one is lent with the places of the
+// characters.
+pub fn put_archive<'a>(
+    site: Site,
+    places: &'a [u32],
+    characters: &'a [u32],
+    toggles: &'a [u8],
+    n: usize,
+    pending: &'a [u32],
+    w: usize,
+    out: &mut [u8],
+) -> Written
+    requires { ⌜ n ≤ length (now places) ⌝ }
+    requires { ⌜ length (now characters) ≡ characterNumbers ⌝ }
+    requires { ⌜ n ≤ characterSlots ⌝ }
+    requires { ⌜ n ≤ length (now toggles) ⌝ }
+    requires { ⌜ length (now pending) ≡ pendingNumbers ⌝ }
+    requires { ⌜ w ≤ pendingSlots ⌝ }
+    ensures { λ r. ⌜ r
+        ≡ writtenAs [] (archiveBytes (archiveIn site (now (places .entry)) (now (characters .entry))
+        (now (toggles .entry)) n (now (pending .entry)) w)) (now (out .entry)) ⌝ }
+    ensures { λ _. ⌜ now (out .exit)
+        ≡ outputAfter [] (archiveBytes (archiveIn site (now (places .entry)) (now (characters .entry))
+        (now (toggles .entry)) n (now (pending .entry)) w)) (now (out .entry)) ⌝ }
+{
+    columns::put_columns(
+        Rows::Archived,
+        site,
+        places,
+        characters,
+        toggles,
+        n,
+        pending,
         w,
         out,
     )

@@ -2,12 +2,9 @@
 // answered with. They are the lines of a document that has no characters, so its loops measure and put them.
 use crate::columns;
 use lines::writing::Room;
+use saved::Rows;
 use saved::Version;
-use woot::CHARACTER_NUMBERS;
 use woot::CHARACTERS;
-use woot::CODE_POINTS;
-use woot::NEXT_KEYS;
-use woot::PREVIOUS_KEYS;
 ghost use mathlib.Core.Path.{_≡_};
 ghost use Prim.Native.Nat.{_+_, _≤_};
 ghost use lib.ListN.{length};
@@ -26,17 +23,13 @@ pub fn measure(numbers: &[u32], count: usize, size: usize, at: usize) -> Room
 {
     let none = [0u8];
     columns::measure(
-        Version::Second,
-        numbers,
-        numbers,
+        Rows::Saved(Version::Second),
         numbers,
         numbers,
         &none,
         0,
-        &numbers[..CHARACTERS],
-        &numbers[PREVIOUS_KEYS..NEXT_KEYS],
-        &numbers[NEXT_KEYS..CODE_POINTS],
-        &numbers[CODE_POINTS..CHARACTER_NUMBERS],
+        numbers,
+        CHARACTERS,
         count,
         size,
         at,
@@ -52,17 +45,13 @@ pub fn put_lines(numbers: &[u32], count: usize, out: &mut [u8], at: usize)
 {
     let none = [0u8];
     columns::put_lines(
-        Version::Second,
-        numbers,
-        numbers,
+        Rows::Saved(Version::Second),
         numbers,
         numbers,
         &none,
         0,
-        &numbers[..CHARACTERS],
-        &numbers[PREVIOUS_KEYS..NEXT_KEYS],
-        &numbers[NEXT_KEYS..CODE_POINTS],
-        &numbers[CODE_POINTS..CHARACTER_NUMBERS],
+        numbers,
+        CHARACTERS,
         count,
         out,
         at,

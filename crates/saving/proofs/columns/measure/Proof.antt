@@ -14,48 +14,43 @@ use Rattle.saving.proofs.columns.measure.Statement.{statement}
 use Rattle.saving.proofs.columns.measure.Tie as tie
 
 abbrev Inv-loop : tie.InvT-loop
-Inv-loop version ids previous next code-points toggles n own first second values w size at all end₀ i₀ end i =
-    (all ≤ 18446744073709551615) × Measuring (λ l. l) (linesAs version
-    (listsOf ids previous next code-points toggles n own first second values w)) all size at end i
+Inv-loop rows places characters toggles n pending slots w size at all end₀ i₀ end i =
+    (all ≤ 18446744073709551615) × Measuring (λ l. l) (linesAs rows (listsOf places characters toggles n pending slots w)) all size at end i
 
 abbrev μ-loop : tie.MeasureT-loop
-μ-loop version ids previous next code-points toggles n own first second values w size at all end₀ i₀ end i = all - i
+μ-loop rows places characters toggles n pending slots w size at all end₀ i₀ end i = all - i
 
 -- the lines that are lent
 abbrev lines : tie.Start Inv-loop μ-loop → List (List ℕ)
 lines s =
     let a = s .args in
-    linesAs (a .version) (listsOf (a .ids .now) (a .previous .now) (a .next .now) (a .code-points .now) (a .toggles .now) (a .n) (a .own .now)
-    (a .first .now) (a .second .now) (a .values .now) (a .w))
+    linesAs (a .rows) (listsOf (a .places .now) (a .characters .now) (a .toggles .now) (a .n) (a .pending .now) (a .slots) (a .w))
 
 many : (s : tie.Start Inv-loop μ-loop) → length (lines s) ≡ s .args .n + s .args .w
 many s =
     let a = s .args in
-    lines-many (a .version) (a .ids .now) (a .previous .now) (a .next .now) (a .code-points .now) (a .toggles .now) (a .n) (a .own .now)
-    (a .first .now) (a .second .now) (a .values .now) (a .w)
+    lines-many (a .rows) (a .places .now) (a .characters .now) (a .toggles .now) (a .n) (a .pending .now) (a .slots) (a .w)
 
-whole : (s : tie.Start Inv-loop μ-loop) → let a = s .args in concatenated (λ l. l) (take (a .n + a .w) (lines s)) ≡ bodyAs (a .version) (listsOf
-    (a .ids .now) (a .previous .now) (a .next .now) (a .code-points .now) (a .toggles .now) (a .n) (a .own .now) (a .first .now) (a .second .now)
-    (a .values .now) (a .w))
+whole : (s : tie.Start Inv-loop μ-loop) → let a = s .args in concatenated (λ l. l) (take (a .n + a .w) (lines s)) ≡ bodyAs (a .rows) (listsOf
+    (a .places .now) (a .characters .now) (a .toggles .now) (a .n) (a .pending .now) (a .slots) (a .w))
 whole s =
     let a = s .args in
-    all-lines (a .version) (a .ids .now) (a .previous .now) (a .next .now) (a .code-points .now) (a .toggles .now) (a .n) (a .own .now)
-    (a .first .now) (a .second .now) (a .values .now) (a .w)
+    all-lines (a .rows) (a .places .now) (a .characters .now) (a .toggles .now) (a .n) (a .pending .now) (a .slots) (a .w)
 
 loop-holds : tie.Need-loop-holds Inv-loop μ-loop
 loop-holds c =
-    let s = c .before .before .before .before .before .before .before .before .before in
+    let s = c .before .before .before .before in
     (omega arith, measuring-begun (λ l. l) (lines s) _ _ _ (omega (arith, many s)) (s .pre .1))
 
 line-requires : tie.Need-line-requires Inv-loop μ-loop
-line-requires c κs = (c .before .before .before .before .before .before .before .before .before .before .before .pre .0, c .loop-test .taken)
+line-requires c κs = (c .before .before .before .before .before .before .pre .0, c .loop-test .taken)
 
 measure-requires : tie.Need-measure-requires Inv-loop μ-loop
 measure-requires c κs = c .line .ensures .1
 
 returns : tie.Need-returns Inv-loop μ-loop
 returns c =
-    let s = c .before .before .before .before .before .before .before .before .before .before .before .before .before .before .before in
+    let s = c .before .before .before .before .before .before .before .before .before .before in
     let l = c .before .before .before .before .before .loop in
     let e = c .before .before .measure .ensures ∙ ap (roomFor (s .args .size) (l .end)) (c .before .before .before .line .ensures .0) in
     measuring-short (λ l. l) (lines s) _ (s .args .size) (s .args .at) (l .inv .1) [] (c .before .before .before .before .loop-test .taken) e
@@ -72,7 +67,7 @@ loop-less c = omega (arith, c .before .before .before .before .before .loop-test
 
 loop-again : tie.Need-loop-again Inv-loop μ-loop
 loop-again c =
-    let s = c .before .before .before .before .before .before .before .before .before .before .before .before .before .before .before .before in
+    let s = c .before .before .before .before .before .before .before .before .before .before .before in
     let l = c .before .before .before .before .before .before .loop in
     let e = c .before .before .before .measure .ensures ∙ ap (roomFor (s .args .size) (l .end)) (c .before .before .before .before .line .ensures .0) in (
       l .inv .0,
@@ -82,7 +77,7 @@ loop-again c =
 
 returns-2 : tie.Need-returns-2 Inv-loop μ-loop
 returns-2 c =
-    let s = c .before .before .before .before .before .before .before .before .before .before .before in
+    let s = c .before .before .before .before .before .before in
     measuring-end (λ l. l) (lines s) _ (s .args .size) (s .args .at) (c .before .loop .inv .1) (c .loop-test .left)
     ∙ ap (roomFor (s .args .size) (s .args .at)) (whole s)
 

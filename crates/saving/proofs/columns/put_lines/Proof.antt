@@ -14,42 +14,37 @@ use Rattle.saving.proofs.columns.put_lines.Statement.{statement}
 use Rattle.saving.proofs.columns.put_lines.Tie as tie
 
 abbrev Inv-loop : tie.InvT-loop
-Inv-loop version ids previous next code-points toggles n own first second values w out₀ at all end₀ i₀ out end i =
-    (all ≤ 18446744073709551615) × Putting (λ l. l) (linesAs version
-    (listsOf ids previous next code-points toggles n own first second values w)) all out₀ at out end i
+Inv-loop rows places characters toggles n pending slots w out₀ at all end₀ i₀ out end i =
+    (all ≤ 18446744073709551615) × Putting (λ l. l) (linesAs rows (listsOf places characters toggles n pending slots w)) all out₀ at out end i
 
 abbrev μ-loop : tie.MeasureT-loop
-μ-loop version ids previous next code-points toggles n own first second values w out₀ at all end₀ i₀ out end i = all - i
+μ-loop rows places characters toggles n pending slots w out₀ at all end₀ i₀ out end i = all - i
 
 -- the lines that are lent
 abbrev lines : tie.Start Inv-loop μ-loop → List (List ℕ)
 lines s =
     let a = s .args in
-    linesAs (a .version) (listsOf (a .ids .now) (a .previous .now) (a .next .now) (a .code-points .now) (a .toggles .now) (a .n) (a .own .now)
-    (a .first .now) (a .second .now) (a .values .now) (a .w))
+    linesAs (a .rows) (listsOf (a .places .now) (a .characters .now) (a .toggles .now) (a .n) (a .pending .now) (a .slots) (a .w))
 
 many : (s : tie.Start Inv-loop μ-loop) → length (lines s) ≡ s .args .n + s .args .w
 many s =
     let a = s .args in
-    lines-many (a .version) (a .ids .now) (a .previous .now) (a .next .now) (a .code-points .now) (a .toggles .now) (a .n) (a .own .now)
-    (a .first .now) (a .second .now) (a .values .now) (a .w)
+    lines-many (a .rows) (a .places .now) (a .characters .now) (a .toggles .now) (a .n) (a .pending .now) (a .slots) (a .w)
 
-whole : (s : tie.Start Inv-loop μ-loop) → let a = s .args in concatenated (λ l. l) (take (a .n + a .w) (lines s)) ≡ bodyAs (a .version) (listsOf
-    (a .ids .now) (a .previous .now) (a .next .now) (a .code-points .now) (a .toggles .now) (a .n) (a .own .now) (a .first .now) (a .second .now)
-    (a .values .now) (a .w))
+whole : (s : tie.Start Inv-loop μ-loop) → let a = s .args in concatenated (λ l. l) (take (a .n + a .w) (lines s)) ≡ bodyAs (a .rows) (listsOf
+    (a .places .now) (a .characters .now) (a .toggles .now) (a .n) (a .pending .now) (a .slots) (a .w))
 whole s =
     let a = s .args in
-    all-lines (a .version) (a .ids .now) (a .previous .now) (a .next .now) (a .code-points .now) (a .toggles .now) (a .n) (a .own .now)
-    (a .first .now) (a .second .now) (a .values .now) (a .w)
+    all-lines (a .rows) (a .places .now) (a .characters .now) (a .toggles .now) (a .n) (a .pending .now) (a .slots) (a .w)
 
 loop-holds : tie.Need-loop-holds Inv-loop μ-loop
 loop-holds c =
-    let s = c .before .before .before .before .before .before .before .before .before .before in
+    let s = c .before .before .before .before .before in
     let room = s .pre .1 in
     (omega arith, putting-begun (λ l. l) (lines s) _ _ _ (omega (arith, many s)) (omega (arith, room, ap length (whole s))))
 
 line-requires : tie.Need-line-requires Inv-loop μ-loop
-line-requires c κs = (c .before .before .before .before .before .before .before .before .before .before .before .before .pre .0, c .loop-test .taken)
+line-requires c κs = (c .before .before .before .before .before .before .before .pre .0, c .loop-test .taken)
 
 put-numbered-requires : tie.Need-put-numbered-requires Inv-loop μ-loop
 put-numbered-requires c κs = c .before .line .ensures .1
@@ -64,7 +59,7 @@ loop-less c = omega (arith, c .before .before .before .before .before .loop-test
 
 loop-again : tie.Need-loop-again Inv-loop μ-loop
 loop-again c =
-    let s = c .before .before .before .before .before .before .before .before .before .before .before .before .before .before .before .before .before in
+    let s = c .before .before .before .before .before .before .before .before .before .before .before .before in
     let l = c .before .before .before .before .before .before .loop in
     let p = c .before .before .put-numbered .ensures in
     let e = c .before .before .before .before .line .ensures .0 in (
@@ -75,7 +70,7 @@ loop-again c =
 
 returns : tie.Need-returns Inv-loop μ-loop
 returns c =
-    let s = c .before .before .before .before .before .before .before .before .before .before .before .before in
+    let s = c .before .before .before .before .before .before .before in
     putting-end (λ l. l) (lines s) _ (s .args .out .now) (s .args .at) (c .before .loop .inv .1) (c .loop-test .left) .1
     ∙ ap (placed (s .args .out .now) (s .args .at)) (whole s)
 
