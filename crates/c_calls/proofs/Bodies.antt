@@ -41,10 +41,12 @@ use Rattle.saved.specs.Format.{savedLaidOut, savedInRange, savedBytes}
 use Rattle.saved.specs.Calls.{loadedState}
 use Rattle.saved.specs.declared.Version.the-variants.{First, Second}
 use Rattle.saved.specs.Conversion.{conversion}
+use Rattle.saved.specs.Archive.{archiving, unarchiving}
 use Rattle.effects.specs.Results.{Result, result, silent}
 use Rattle.effects.specs.Effects.{Effect, quiet, turned, writingNoted, writing, writingBoth, afterReceiving, afterReceivingAt, sending, afterSending, sendingAll, afterPasting}
 use Rattle.c_calls.specs.Calls.{CCall, «wimtaze_empty», «wimtaze_receive», «wimtaze_receive_at», «wimtaze_type», «wimtaze_erase», «wimtaze_restore», «wimtaze_paste», «wimtaze_text», «wimtaze_counts», «wimtaze_upgrade», «wimtaze_downgrade», inputChecks, oneLine, named, answering, handedChecks, ruleChecks, callChecks, Product, bytesAlone, replicaAfter, replicaAndLine, replicaAndLines, productOf, short, delivered, effectOf}
 use Rattle.c_calls.specs.Calls.{«wimtaze_build», «wimtaze_load», «wimtaze_list», «wimtaze_answer»}
+use Rattle.c_calls.specs.Calls.{«wimtaze_archive», «wimtaze_unarchive»}
 use Rattle.woot.specs.Building.{leftOut, built, heapFull, disagreeing, buildChecks, unbuilt, build}
 use Rattle.woot.specs.Loading.{loadable, useChecks}
 use Rattle.woot.specs.Catching.{listing, answerFor}
@@ -55,6 +57,7 @@ use Rattle.lists.specs.Lists.{every}
 use Rattle.heap.specs.Format.{heapLaidOut, heapSaid}
 use Rattle.building.specs.Calls.{builtOutcome}
 use Rattle.c_calls.specs.Steps.{buildingHere, usedHere, loadingHere, listingHere, answeringHere}
+use Rattle.c_calls.specs.Steps.{archivingHere, unarchivingHere}
 use Rattle.effects.specs.Counts.{countsOf}
 use Rattle.c_calls.specs.Steps.{beginning, receivingLine, receivingLineAt, insertingHere, deletingHere, restoringHere, pastingHere, showingText, counting, converting, upgrading, downgrading}
 use Rattle.c_calls.proofs.Listing.{first-behind}
@@ -161,6 +164,14 @@ module _ (bytes out : List ℕ) where
   pub downgrade-body : effectOf «wimtaze_downgrade» bytes out [] ≡ downgrading bytes out
   unfolding converting handedChecks ruleChecks productOf writing
   downgrade-body = by-body «wimtaze_downgrade» bytes out [] _ (λ h. noted (Done 0 0) 0 (conversion Second First bytes) out)
+
+  pub archive-body : effectOf «wimtaze_archive» bytes out [] ≡ archivingHere bytes out
+  unfolding archivingHere handedChecks ruleChecks productOf writing
+  archive-body = by-body «wimtaze_archive» bytes out [] _ (λ h. noted (Done 0 0) 0 (archiving bytes) out)
+
+  pub unarchive-body : effectOf «wimtaze_unarchive» bytes out [] ≡ unarchivingHere bytes out
+  unfolding unarchivingHere handedChecks ruleChecks productOf writing
+  unarchive-body = by-body «wimtaze_unarchive» bytes out [] _ (λ h. noted (Done 0 0) 0 (unarchiving bytes) out)
 
   pub counts-body : effectOf «wimtaze_counts» bytes [] [] .result ≡ counting bytes
   unfolding counting handedChecks ruleChecks productOf decided turned quiet

@@ -50,13 +50,15 @@ use Rattle.saved.specs.declared.Version.{Version}
 use Rattle.saved.specs.Format.{savedBytes}
 use Rattle.saved.specs.Calls.{loadedState, bytesOf}
 use Rattle.saved.specs.Conversion.{conversion, conversionRefusals, conversionChecks, converted, convertedOut}
+use Rattle.saved.specs.Archive.{archiving, archivingRefusals, archivingChecks, archiveWritten, archiveOut, unarchiving}
+use Rattle.saved.specs.Archive.{unarchivingRefusals, unarchivingChecks, unarchiveWritten, unarchiveOut}
 use Rattle.convergence.proofs.Kept.{form-kept}
 use Rattle.convergence.proofs.Steps.{first-none}
 use Rattle.convergence.proofs.Pasting.{paste-form-kept}
 use Rattle.effects.specs.Effects.{Effect, quiet, turned, writing, writingBoth, sending, afterSending, writingNoted, afterReceivingAt, sendingAll, afterPasting}
 use Rattle.effects.specs.Results.{silent, result}
 use Rattle.c_calls.specs.Calls.{inputChecks}
-use Rattle.c_calls.specs.Steps.{counting, converting}
+use Rattle.c_calls.specs.Steps.{counting, converting, archivingHere, unarchivingHere}
 use Rattle.c_calls.proofs.Refusals.{Reads, formLeft}
 use Rattle.c_calls.proofs.Blocks.{own-few, own-inserts}
 use Rattle.effects.proofs.Outputs.{checked-written}
@@ -332,17 +334,41 @@ pub conversion-bridge : (v w : Version) (bytes out : List ℕ)
 unfolding converting converted convertedOut conversionChecks
 conversion-bridge v w bytes out = checked-written (conversionRefusals v w bytes) (conversion v w bytes) out
 
+-- a writer's answer is told by its number and its length
+pub answer-told : (w : Written) →
+    (afterWriting (Done 0 0) w .reply .refusal ≡ writtenNumber w) × (afterWriting (Done 0 0) w .written ≡ writtenLength w)
+unfolding afterWriting afterNoting silent result reply writtenNumber writtenLength
+answer-told (Length n) = (refl, refl)
+answer-told (writtenRefused q) = (refl, refl)
+
 pub converting-tells : (v w : Version) (bytes out : List ℕ) →
     (converting v w bytes out .result .reply .refusal ≡ writtenNumber (converted v w bytes out))
     × (converting v w bytes out .result .written ≡ writtenLength (converted v w bytes out))
     × (converting v w bytes out .output ≡ convertedOut v w bytes out)
-unfolding afterWriting afterNoting silent result reply writtenNumber writtenLength
-converting-tells v w bytes out = rw (conversion-bridge v w bytes out) (go (converted v w bytes out))
-  where
-    go : (x : Written)
-        → (afterWriting (Done 0 0) x .reply .refusal ≡ writtenNumber x) × (afterWriting (Done 0 0) x .written ≡ writtenLength x) × (convertedOut v w bytes out ≡ convertedOut v w bytes out)
-    go (Length n) = (refl, refl, refl)
-    go (writtenRefused q) = (refl, refl, refl)
+converting-tells v w bytes out =
+    let t = answer-told (converted v w bytes out) in
+    rw (conversion-bridge v w bytes out) (t .0, t .1, refl)
+
+-- ---- archives
+
+module _ (bytes out : List ℕ) where
+  pub archive-bridge : archivingHere bytes out
+      ≡ record {
+        result = afterWriting (Done 0 0) (archiveWritten bytes out);
+        output = archiveOut bytes out;
+        line = [];
+      }
+  unfolding archivingHere archiveWritten archiveOut archivingChecks
+  archive-bridge = checked-written (archivingRefusals bytes) (archiving bytes) out
+
+  pub unarchive-bridge : unarchivingHere bytes out
+      ≡ record {
+        result = afterWriting (Done 0 0) (unarchiveWritten bytes out);
+        output = unarchiveOut bytes out;
+        line = [];
+      }
+  unfolding unarchivingHere unarchiveWritten unarchiveOut unarchivingChecks
+  unarchive-bridge = checked-written (unarchivingRefusals bytes) (unarchiving bytes) out
 
 -- ---- the counts, which write nothing
 

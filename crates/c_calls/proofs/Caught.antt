@@ -7,18 +7,18 @@ use mathlib.Core.Bool.{Bool, true, false, _&&_, not}
 use mathlib.Core.List.{List, [], _∷_}
 use mathlib.Core.Option.{Option, some}
 use lib.ListN.{length}
-use borrow.Author.Tests.{ltb-false, le-ltb, not-false}
-use Rattle.lists.proofs.Tests.{and-intro, and-left, and-right, or-false-left}
+use borrow.Author.Tests.{le-ltb, not-false}
+use Rattle.lists.proofs.Tests.{and-intro, and-left, and-right}
 use Rattle.answers.specs.declared.Refusal.{Refusal}
 use Rattle.answers.specs.declared.Refusal.the-variants.{Layout, Range, Mislisted, Form, Output}
-use Rattle.answers.specs.declared.Answer.the-variants.{Done, Deferred, Duplicate, Refused}
+use Rattle.answers.specs.declared.Answer.the-variants.{Done, Refused}
 use Rattle.answers.specs.Answers.{done, reply, earlier, _⇒_, first, decided, NoneHolds, Reported, here, later}
 use Rattle.woot.specs.declared.Operation.{Operation}
 use Rattle.woot.specs.declared.Replica.{Replica}
 use Rattle.woot.specs.Form.{wellFormed}
 use Rattle.woot.specs.State.{State}
 use Rattle.woot.specs.Memory.{meaning, replicaWellFormed}
-use Rattle.woot.specs.Catching.{Listing, listing, answerFor, listingInRange, mislisted, listChecks, answerChecks}
+use Rattle.woot.specs.Catching.{listing, answerFor, listingInRange, mislisted, listChecks, answerChecks}
 use Rattle.convergence.proofs.Marking.{listing-accepted}
 use Rattle.convergence.proofs.Refusals.{skipped, other}
 use Rattle.lines.specs.Lines.{concatenated}
@@ -39,8 +39,8 @@ use Rattle.saved.specs.Calls.{loadedState, unread, readingChecks, savedRead}
 use Rattle.loading.proofs.Forming.{both}
 use Rattle.catching.specs.Calls.{listBytesOf, listWritten, listOut, answeringChecks, answerBytesOf, answerWritten}
 use Rattle.catching.specs.Calls.{answerOut}
-use Rattle.effects.specs.Results.{result, silent}
-use Rattle.effects.specs.Effects.{Effect, quiet, turned, writing}
+use Rattle.effects.specs.Results.{result}
+use Rattle.effects.specs.Effects.{Effect, turned, writing}
 use Rattle.effects.specs.Steps.{afterWriting}
 use Rattle.effects.proofs.Outputs.{checked-written}
 use Rattle.c_calls.specs.Calls.{«wimtaze_list», «wimtaze_answer», inputChecks, handedChecks, ruleChecks}
@@ -52,8 +52,8 @@ use Rattle.c_calls.specs.Theorems.{ListWrites, ListDone, AnswerWrites, L
 use Rattle.c_calls.specs.Theorems.{BothInRange, MislistedExactly}
 use Rattle.c_calls.proofs.Answers.{answer-short}
 use Rattle.c_calls.proofs.Products.{list-formed, answer-formed}
-use Rattle.c_calls.proofs.Listing.{Went, away, lacking, through, went, calls-refuse}
-use Rattle.c_calls.proofs.Fitting.{front}
+use Rattle.c_calls.proofs.Listing.{calls-refuse}
+use Rattle.c_calls.proofs.Fitting.{alone-done}
 use Rattle.c_calls.proofs.Refusals.{answering, Reads}
 use Rattle.c_calls.proofs.Bridging.{formed-first}
 use Rattle.c_calls.proofs.Bodies.{list-body, answer-body}
@@ -145,18 +145,10 @@ module _ (bytes out : List ℕ) where
   abbrev said : State
   said = loadedState bytes
 
-  -- done, no condition holds, and what was made is at the front of the output
-  went-listed : {e : Effect} → Went «wimtaze_list» bytes out [] e → e .result .reply .word ≡ done →
-      NoneHolds (earlierChecks «wimtaze_list» bytes) × (bytesWritten e ≡ listBytes (listing said))
-  unfolding quiet silent result reply productOf
-  went-listed (away (Done i j) t r) d = absurd (t .turned)
-  went-listed (away Deferred t r) d = absurd (t .turned)
-  went-listed (away Duplicate t r) d = absurd (let z : _≡_ {A = ℕ} 0 1 = cc in omega arith)
-  went-listed (away (Refused q) t r) d = absurd (let z : _≡_ {A = ℕ} 0 1 = cc in omega arith)
-  went-listed (lacking w f) d = absurd (let z : _≡_ {A = ℕ} 0 1 = cc in omega arith)
-  went-listed (through w f) d =
-      let b : List ℕ = listBytes (listing said) in
-      (w, front out b (ltb-false (length out) (length b) (or-false-left _ _ f)))
+  listed-done : listedInC bytes out .result .reply .word ≡ done →
+      NoneHolds (earlierChecks «wimtaze_list» bytes) × (bytesWritten (listedInC bytes out) ≡ listBytes (listing said))
+  unfolding productOf
+  listed-done d = let w = alone-done «wimtaze_list» bytes out (listBytes (listing said)) refl d in (w .0, w .2)
 
   listed-so : NoneHolds (earlierChecks «wimtaze_list» bytes) → InForm bytes
   unfolding handedChecks inputChecks
@@ -168,7 +160,7 @@ module _ (bytes out : List ℕ) where
       }
 
   pub list-in-form : listedInC bytes out .result .reply .word ≡ done → InForm bytes
-  list-in-form d = listed-so (went-listed (went «wimtaze_list» bytes out []) d .0)
+  list-in-form d = listed-so (listed-done d .0)
 
   so-listed : InForm bytes → listMost ≤ length out → listedInC bytes out .result .reply .word ≡ done
   unfolding listingHere inputChecks decided writing result reply
@@ -180,7 +172,7 @@ module _ (bytes out : List ℕ) where
 pub list-writes : ListWrites
 list-writes bytes out d =
     let s : State = loadedState bytes in
-    let w = went-listed bytes out (went «wimtaze_list» bytes out []) d in
+    let w = listed-done bytes out d in
     let back = list-reads-back (listing s) in
     record {
       list-written = w .1;
@@ -197,17 +189,13 @@ module _ (bytes list out : List ℕ) where
   abbrev given : List Operation
   given = answerFor (loadedState bytes) (listSaid list)
 
-  went-answered : {e : Effect} → Went («wimtaze_answer» list) bytes out [] e → e .result .reply .word ≡ done →
-      NoneHolds (earlierChecks («wimtaze_answer» list) bytes) × (bytesWritten e ≡ concatenated operationLine given)
-  unfolding quiet silent result reply productOf
-  went-answered (away (Done i j) t r) d = absurd (t .turned)
-  went-answered (away Deferred t r) d = absurd (t .turned)
-  went-answered (away Duplicate t r) d = absurd (let z : _≡_ {A = ℕ} 0 1 = cc in omega arith)
-  went-answered (away (Refused q) t r) d = absurd (let z : _≡_ {A = ℕ} 0 1 = cc in omega arith)
-  went-answered (lacking w f) d = absurd (let z : _≡_ {A = ℕ} 0 1 = cc in omega arith)
-  went-answered (through w f) d =
-      let b : List ℕ = concatenated operationLine given in
-      (w, front out b (ltb-false (length out) (length b) (or-false-left _ _ f)))
+  answered-done : answeredInC bytes list out .result .reply .word ≡ done →
+      NoneHolds (earlierChecks («wimtaze_answer» list) bytes)
+      × (bytesWritten (answeredInC bytes list out) ≡ concatenated operationLine given)
+  unfolding productOf
+  answered-done d =
+      let w = alone-done («wimtaze_answer» list) bytes out (concatenated operationLine given) refl d in
+      (w .0, w .2)
 
   answered-so : NoneHolds (earlierChecks («wimtaze_answer» list) bytes) → InForm bytes
   unfolding handedChecks
@@ -219,7 +207,7 @@ module _ (bytes list out : List ℕ) where
       }
 
   pub answer-in-form : answeredInC bytes list out .result .reply .word ≡ done → InForm bytes
-  answer-in-form d = answered-so (went-answered (went («wimtaze_answer» list) bytes out []) d .0)
+  answer-in-form d = answered-so (answered-done d .0)
 
   -- ---- 18
 
@@ -257,7 +245,7 @@ module _ (bytes list out : List ℕ) where
 
 pub answer-writes : AnswerWrites
 answer-writes bytes list out d =
-    let there = went-answered bytes list out (went («wimtaze_answer» list) bytes out []) d .1 in
+    let there = answered-done bytes list out d .1 in
     let back = heap-reads-back (answerFor (loadedState bytes) (listSaid list)) in
     record {
       lines-written = there;

@@ -5,10 +5,11 @@ use native.Mathlib.Omega.{arith}
 use mathlib.Core.Path.{_≡_, refl, ap, _∙_}
 use mathlib.Core.Bool.{Bool, true, false, _&&_, _||_}
 use mathlib.Core.List.{List, []}
+use mathlib.Core.Option.{none}
 use lib.Dec.{eqb, ltb}
 use lib.ListN.{length, take}
 use lib.Seq.{take-append-seam}
-use borrow.Author.Tests.{eqb-false, ltb-true, ltb-false}
+use borrow.Author.Tests.{eqb-false, ltb-true, ltb-false, le-ltb}
 use Rattle.lists.proofs.Tests.{four, or-cases, or-false-left}
 use mathlib.Core.Logic.{⊎-elim}
 use Rattle.output.specs.Output.{placed}
@@ -16,17 +17,18 @@ use Rattle.output.proofs.Laws.{placed-room}
 use Rattle.answers.specs.declared.Answer.{Answer}
 use Rattle.answers.specs.declared.Answer.the-variants.{Done, Deferred, Duplicate, Refused}
 use Rattle.answers.specs.declared.Refusal.the-variants.{Taken, Output}
-use Rattle.answers.specs.Answers.{number, Word, done, waits, known, refused, reply}
-use Rattle.convergence.proofs.Replies.{number-few}
+use Rattle.answers.specs.Answers.{number, Word, done, waits, known, refused, reply, NoneHolds, decided}
+use Rattle.convergence.proofs.Replies.{number-few, none-first}
 use Rattle.convergence.proofs.Steps.{Turned}
 use Rattle.saved.specs.Format.{savedBytes}
 use Rattle.saved.proofs.Trips.{saved-reads-back}
 use Rattle.effects.specs.Results.{Result, result, silent, wordNumber, inBits, numberOf}
 use Rattle.effects.specs.Effects.{Effect, quiet}
-use Rattle.c_calls.specs.Calls.{CCall, «wimtaze_empty», «wimtaze_receive», «wimtaze_receive_at», «wimtaze_type», «wimtaze_erase», «wimtaze_restore», «wimtaze_paste», «wimtaze_text», «wimtaze_counts», «wimtaze_upgrade», «wimtaze_downgrade», productOf, short, delivered, effectOf}
+use Rattle.c_calls.specs.Calls.{CCall, «wimtaze_empty», «wimtaze_receive», «wimtaze_receive_at», «wimtaze_type», «wimtaze_erase», «wimtaze_restore», «wimtaze_paste», «wimtaze_text», «wimtaze_counts», «wimtaze_upgrade», «wimtaze_downgrade», earlierChecks, callChecks, bytesAlone, productOf, short, delivered, effectOf}
 use Rattle.c_calls.specs.Calls.{«wimtaze_build», «wimtaze_load», «wimtaze_list», «wimtaze_answer»}
+use Rattle.c_calls.specs.Calls.{«wimtaze_archive», «wimtaze_unarchive»}
 use Rattle.c_calls.specs.Theorems.{Bounds, boundsOf, roomOf, saves, Fits, ResultsFit, PartsReadBack, ReadsBack, ReturnedReadsBack, CountsWithin, CountsFit, BuffersSuffice, bytesWritten, Formed, Loads, WrittenLoads}
-use Rattle.c_calls.proofs.Listing.{Earlier, Went, away, lacking, through, went, product-made}
+use Rattle.c_calls.proofs.Listing.{Earlier, Went, away, lacking, through, first-behind, went, product-made}
 use Rattle.c_calls.proofs.Products.{Saved, Sound, counts-within, counts-formed, product-sound}
 
 -- ---- bounds
@@ -99,6 +101,8 @@ all-narrow «wimtaze_list» = refl
 all-narrow («wimtaze_answer» list) = refl
 all-narrow «wimtaze_upgrade» = refl
 all-narrow «wimtaze_downgrade» = refl
+all-narrow «wimtaze_archive» = refl
+all-narrow «wimtaze_unarchive» = refl
 
 fits-read-back : (b : Bounds) (x : Result) → narrow b ≡ true → Fits b x → ReadsBack x
 unfolding numberOf
@@ -156,6 +160,35 @@ buffers-suffice c bytes out line = went-room (went c bytes out line)
 -- the front of a slice is what was put there
 pub front : (out bytes : List ℕ) → length bytes ≤ length out → take (length bytes) (placed out 0 bytes) ≡ bytes
 front out bytes h = ap (take (length bytes)) (placed-room out 0 bytes (omega arith)) ∙ take-append-seam bytes _
+
+-- a call that makes bytes and nothing else
+module _ (c : CCall) (bytes out made : List ℕ) (e : productOf c bytes ≡ bytesAlone made) where
+  -- done, no condition holds, and they are at the front of the output
+  went-alone : {x : Effect} → Went c bytes out [] x → x .result .reply .word ≡ done →
+      NoneHolds (earlierChecks c bytes) × (length made ≤ length out) × (bytesWritten x ≡ made)
+  unfolding quiet silent result reply
+  went-alone (away (Done i j) t r) d = absurd (t .turned)
+  went-alone (away Deferred t r) d = absurd (t .turned)
+  went-alone (away Duplicate t r) d = absurd (let z : _≡_ {A = ℕ} 0 1 = cc in omega arith)
+  went-alone (away (Refused q) t r) d = absurd (let z : _≡_ {A = ℕ} 0 1 = cc in omega arith)
+  went-alone (lacking w f) d = absurd (let z : _≡_ {A = ℕ} 0 1 = cc in omega arith)
+  went-alone (through w f) d =
+      let room = ltb-false (length out) (length made) (or-false-left _ _ (rw e at f)) in
+      (w, room, rw e (front out made room))
+
+  pub alone-done : effectOf c bytes out [] .result .reply .word ≡ done →
+      NoneHolds (earlierChecks c bytes) × (length made ≤ length out) × (bytesWritten (effectOf c bytes out []) ≡ made)
+  alone-done d = went-alone (went c bytes out []) d
+
+  -- and where none holds and there is room, it is done
+  pub done-alone : NoneHolds (earlierChecks c bytes) → length made ≤ length out →
+      (effectOf c bytes out [] .result .reply .word ≡ done) × (bytesWritten (effectOf c bytes out []) ≡ made)
+  unfolding effectOf callChecks decided result reply
+  done-alone w room =
+      let cs = earlierChecks c bytes in
+      let lacks = short (bytesAlone made) out [] in
+      rw (e, first-behind cs lacks (Refused Output) none (none-first cs w), le-ltb (length out) (length made) room)
+      (refl, front out made room)
 
 went-loads : {c : CCall} {bytes out line : List ℕ} {e : Effect} → Went c bytes out line e → saves c ≡ true → Loads e
 unfolding quiet silent result reply

@@ -12,7 +12,7 @@ use borrow.Author.Tests.{not-false}
 use Rattle.woot.specs.declared.Operation.{Operation}
 use Rattle.woot.specs.declared.Operation.the-variants.{Insert as insert, Toggle as toggle}
 use Rattle.answers.specs.declared.Refusal.{Refusal}
-use Rattle.answers.specs.declared.Refusal.the-variants.{HeapFull, Mislisted, Unreachable}
+use Rattle.answers.specs.declared.Refusal.the-variants.{HeapFull, Mislisted, Misarranged, Unreachable}
 use Rattle.answers.specs.declared.Refusal.the-variants.{Layout, Range, NotUtf8, Form, Unrepresentable, Position, NotHidden, LastToggle, Clock, Taken, Conflict, Crossed, Unplaceable, SenderFull, DocumentFull, Output}
 use Rattle.answers.specs.declared.Answer.{Answer}
 use Rattle.answers.specs.declared.Answer.the-variants.{Done, Deferred, Duplicate, Refused}
@@ -28,6 +28,7 @@ use Rattle.woot.specs.Cursor.{receiveAtChecks, receiveAtWhen, receiveAt}
 use Rattle.woot.specs.Pasting.{codePointsOf, typings, pasted, pasteChecks, pasteWhen, paste}
 use Rattle.woot.specs.Building.{leftOut, buildChecks, build}
 use Rattle.woot.specs.Loading.{useChecks}
+use Rattle.woot.specs.Archiving.{archiveChecks, unarchiveChecks}
 use Rattle.convergence.proofs.Building.{build-does, left-out-count}
 use Rattle.convergence.proofs.Refusals.{first-reported, reported-first}
 use Rattle.convergence.proofs.Replies.{none-first, positive, answer-number}
@@ -38,17 +39,21 @@ use Rattle.heap.specs.Format.{heapSaid}
 use Rattle.saved.specs.Format.{savedInRange}
 use Rattle.saved.specs.Calls.{loadedState}
 use Rattle.saved.specs.Conversion.{conversionRefusals}
+use Rattle.saved.specs.Archive.{archivingRefusals, unarchivingRefusals}
 use Rattle.effects.specs.Results.{Result, result, silent}
 use Rattle.effects.specs.Effects.{Effect, quiet}
 use Rattle.effects.specs.Counts.{countsOf}
 use Rattle.c_calls.specs.Calls.{CCall, «wimtaze_empty», «wimtaze_receive», «wimtaze_receive_at», «wimtaze_type», «wimtaze_erase», «wimtaze_restore», «wimtaze_paste», «wimtaze_text», «wimtaze_counts», «wimtaze_upgrade», «wimtaze_downgrade», inputChecks, named, answering, handedChecks, ruleChecks, earlierChecks, callChecks, Product, productOf, short, delivered, effectOf}
 use Rattle.c_calls.specs.Calls.{«wimtaze_build», «wimtaze_load», «wimtaze_list», «wimtaze_answer»}
+use Rattle.c_calls.specs.Calls.{«wimtaze_archive», «wimtaze_unarchive»}
 use Rattle.c_calls.specs.Theorems.{CallsMeet, CallsRise, CallsRefuse, CallsKnow, Untouched, TurnedUntouched}
 
 -- ---- the lists
 
 pub calls-meet : CallsMeet
-unfolding callChecks handedChecks ruleChecks inputChecks conversionRefusals receiveChecks receiveAtChecks insertChecks deleteChecks restoreChecks pasteChecks buildChecks useChecks reply answerOf
+unfolding callChecks handedChecks ruleChecks inputChecks conversionRefusals receiveChecks receiveAtChecks insertChecks
+    deleteChecks restoreChecks pasteChecks buildChecks useChecks archivingRefusals archiveChecks unarchivingRefusals
+    unarchiveChecks reply answerOf
 calls-meet («wimtaze_empty» n) bytes out line = refl
 calls-meet («wimtaze_build» n heap) bytes out line = refl
 calls-meet «wimtaze_load» bytes out line = refl
@@ -64,9 +69,13 @@ calls-meet «wimtaze_list» bytes out line = refl
 calls-meet («wimtaze_answer» list) bytes out line = refl
 calls-meet «wimtaze_upgrade» bytes out line = refl
 calls-meet «wimtaze_downgrade» bytes out line = refl
+calls-meet «wimtaze_archive» bytes out line = refl
+calls-meet «wimtaze_unarchive» bytes out line = refl
 
 pub calls-rise : CallsRise
-unfolding callChecks handedChecks ruleChecks inputChecks conversionRefusals receiveChecks receiveAtChecks insertChecks deleteChecks restoreChecks pasteChecks buildChecks useChecks answerOf
+unfolding callChecks handedChecks ruleChecks inputChecks conversionRefusals receiveChecks receiveAtChecks insertChecks
+    deleteChecks restoreChecks pasteChecks buildChecks useChecks archivingRefusals archiveChecks unarchivingRefusals
+    unarchiveChecks answerOf
 calls-rise («wimtaze_empty» n) bytes out line = refl
 calls-rise («wimtaze_build» n heap) bytes out line = refl
 calls-rise «wimtaze_load» bytes out line = refl
@@ -82,6 +91,8 @@ calls-rise «wimtaze_list» bytes out line = refl
 calls-rise («wimtaze_answer» list) bytes out line = refl
 calls-rise «wimtaze_upgrade» bytes out line = refl
 calls-rise «wimtaze_downgrade» bytes out line = refl
+calls-rise «wimtaze_archive» bytes out line = refl
+calls-rise «wimtaze_unarchive» bytes out line = refl
 
 -- every condition before 12 answers known or another refusal
 pub record Earlier (a : Answer) : Type 0 where
@@ -97,7 +108,9 @@ unfolding reply
 earlier-known = record { turned = tt; other = refl }
 
 all-earlier : (c : CCall) (bytes : List ℕ) → All Earlier (earlierChecks c bytes)
-unfolding handedChecks ruleChecks inputChecks conversionRefusals receiveChecks receiveAtChecks insertChecks deleteChecks restoreChecks pasteChecks buildChecks useChecks answerOf
+unfolding handedChecks ruleChecks inputChecks conversionRefusals receiveChecks receiveAtChecks insertChecks
+    deleteChecks restoreChecks pasteChecks buildChecks useChecks archivingRefusals archiveChecks unarchivingRefusals
+    unarchiveChecks answerOf
 all-earlier («wimtaze_empty» n) bytes = (earlier Range refl, tt)
 all-earlier («wimtaze_build» n heap) bytes =
     (earlier Layout refl, (earlier Range refl, (earlier HeapFull refl, (earlier Conflict refl, tt))))
@@ -195,6 +208,9 @@ all-earlier («wimtaze_answer» list) bytes =
     (earlier Layout refl, (earlier Range refl, (earlier Mislisted refl, (earlier Form refl, tt))))
 all-earlier «wimtaze_upgrade» bytes = (earlier Layout refl, (earlier Range refl, (earlier Form refl, (earlier Unrepresentable refl, tt))))
 all-earlier «wimtaze_downgrade» bytes = (earlier Layout refl, (earlier Range refl, (earlier Form refl, (earlier Unrepresentable refl, tt))))
+all-earlier «wimtaze_archive» bytes = (earlier Layout refl, (earlier Range refl, (earlier Form refl, tt)))
+all-earlier «wimtaze_unarchive» bytes =
+    (earlier Layout refl, (earlier Range refl, (earlier Misarranged refl, (earlier Form refl, tt))))
 
 -- ---- where no condition holds
 
@@ -329,6 +345,8 @@ product-made «wimtaze_list» bytes w = done-made 0 0
 product-made («wimtaze_answer» list) bytes w = done-made 0 0
 product-made «wimtaze_upgrade» bytes w = done-made 0 0
 product-made «wimtaze_downgrade» bytes w = done-made 0 0
+product-made «wimtaze_archive» bytes w = done-made 0 0
+product-made «wimtaze_unarchive» bytes w = done-made 0 0
 
 -- ---- the answer
 

@@ -38,6 +38,7 @@ use Rattle.effects.specs.Results.{result, silent}
 use Rattle.effects.specs.Effects.{Effect, quiet, turned, writingNoted, afterReceivingAt}
 use Rattle.c_calls.specs.Calls.{CCall, «wimtaze_empty», «wimtaze_receive», «wimtaze_receive_at», «wimtaze_type», «wimtaze_erase», «wimtaze_restore», «wimtaze_paste», «wimtaze_text», «wimtaze_counts», «wimtaze_upgrade», «wimtaze_downgrade», inputChecks, oneLine, named, handedChecks, earlierChecks, replicaAndLine, productOf, short, delivered, effectOf}
 use Rattle.c_calls.specs.Calls.{«wimtaze_build», «wimtaze_load», «wimtaze_list», «wimtaze_answer»}
+use Rattle.c_calls.specs.Calls.{«wimtaze_archive», «wimtaze_unarchive»}
 use Rattle.c_calls.specs.Steps.{receivingLineAt}
 use Rattle.c_calls.specs.Theorems.{bytesWritten, lineWritten, sends, receivedAtBy, SavesAs, OwnLineReceived}
 use Rattle.c_calls.proofs.Listing.{Went, away, lacking, through, went, type-taken, erase-taken, restore-taken}
@@ -198,6 +199,8 @@ module _ (bytes : List ℕ) (gap : ℕ) where
     product-own («wimtaze_answer» list) k = absurd (false≢true k)
     product-own «wimtaze_upgrade» k = absurd (false≢true k)
     product-own «wimtaze_downgrade» k = absurd (false≢true k)
+    product-own «wimtaze_archive» k = absurd (false≢true k)
+    product-own «wimtaze_unarchive» k = absurd (false≢true k)
 
     went-own : (c : CCall) → sends c ≡ true → {e : Effect} → Went c bytes out line e → e .result .reply .word ≡ done → beyondVisible said gap ≡ false →
         e .result .written ≤ length again → SavesAs e (receivedAtBy bytes (lineWritten e) gap again)

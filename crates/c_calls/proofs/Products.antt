@@ -32,6 +32,7 @@ use Rattle.convergence.proofs.Shares.{pending-fit}
 use Rattle.convergence.proofs.Kept.{form-kept}
 use Rattle.convergence.proofs.Pasting.{paste-form-kept, paste-counts-bounded}
 use Rattle.woot.specs.Building.{build}
+use Rattle.woot.specs.Archiving.{stateFrom, archiveChecks, unarchiveChecks}
 use Rattle.convergence.proofs.Building.{built-formed, build-bounded}
 use Rattle.heap.specs.Format.{heapSaid}
 use Rattle.listing.specs.Format.{listSaid}
@@ -40,17 +41,18 @@ use Rattle.cursor.specs.Bits.{shiftBits}
 use Rattle.codec.specs.Operations.{operationLine}
 use Rattle.codec.specs.Calls.{saidBy}
 use Rattle.saved.specs.declared.Version.the-variants.{First, Second}
-use Rattle.saved.specs.Format.{representable, savedBytes}
+use Rattle.saved.specs.Format.{representable, savedState, savedBytes}
 use Rattle.saved.specs.Calls.{loadedAs, loadedState}
 use Rattle.saved.specs.Theorems.{savedMost}
 use Rattle.saved.specs.Conversion.{conversion, conversionRefusals}
-use Rattle.saved.proofs.Sizes.{saved-length, first-length}
+use Rattle.saved.specs.Archive.{archiveSaid, archiving, archivingRefusals, unarchiving, unarchivingRefusals}
+use Rattle.saved.proofs.Sizes.{saved-length, first-length, archive-length}
 use Rattle.effects.specs.Results.{Result, result}
 use Rattle.effects.specs.Counts.{countsOf}
 use Rattle.effects.proofs.Totals.{known-few}
 use Rattle.c_calls.specs.Calls.{CCall, «wimtaze_empty», «wimtaze_receive», «wimtaze_receive_at», «wimtaze_type», «wimtaze_erase», «wimtaze_restore», «wimtaze_text», «wimtaze_counts», «wimtaze_upgrade», «wimtaze_downgrade», inputChecks, named, handedChecks, earlierChecks, Product, bytesAlone, replicaAndLine, productOf}
 use Rattle.c_calls.specs.Calls.{«wimtaze_paste», «wimtaze_build», «wimtaze_load», «wimtaze_list»}
-use Rattle.c_calls.specs.Calls.{«wimtaze_answer»}
+use Rattle.c_calls.specs.Calls.{«wimtaze_answer», «wimtaze_archive», «wimtaze_unarchive»}
 use Rattle.c_calls.specs.Theorems.{boundsOf, roomOf, saves, Fits, CountsWithin}
 use Rattle.c_calls.proofs.Sizes.{text-length}
 use Rattle.c_calls.proofs.Counts.{Fine, Sends, receive-fine, receive-at-fine, insert-sends, delete-sends, restore-sends}
@@ -342,6 +344,24 @@ module _ (bytes : List ℕ) where
       let long = first-length s (not-false (wellFormed s) (w .1 .1 .0)) (not-false (representable First s) (w .1 .1 .1 .0)) in
       plain-sound «wimtaze_downgrade» _ long long (λ h. absurd (false≢true h))
 
+  -- what archiving reads is in form as it stands
+  archive-sound : NoneHolds (earlierChecks «wimtaze_archive» bytes) →
+      Sound «wimtaze_archive» (productOf «wimtaze_archive» bytes)
+  unfolding productOf handedChecks archivingRefusals archiveChecks archiving
+  archive-sound w =
+      let s = savedState bytes in
+      let long = archive-length s (not-false (wellFormed s) (w .1 .1 .0)) in
+      plain-sound «wimtaze_archive» _ long long (λ h. absurd (false≢true h))
+
+  unarchive-sound : NoneHolds (earlierChecks «wimtaze_unarchive» bytes) →
+      Sound «wimtaze_unarchive» (productOf «wimtaze_unarchive» bytes)
+  unfolding productOf handedChecks unarchivingRefusals unarchiveChecks unarchiving stateFrom
+  unarchive-sound w =
+      let s = stateFrom (archiveSaid bytes) in
+      let k = not-false (wellFormed s) (w .1 .1 .1 .0) in
+      let long = saved-length s k in
+      plain-sound «wimtaze_unarchive» _ long long (λ h. (s, k, refl))
+
 pub product-sound : (c : CCall) (bytes : List ℕ) → NoneHolds (earlierChecks c bytes) → Sound c (productOf c bytes)
 product-sound («wimtaze_empty» n) bytes w = empty-sound bytes n w
 product-sound («wimtaze_build» n heap) bytes w = build-sound bytes n heap w
@@ -359,3 +379,5 @@ product-sound «wimtaze_list» bytes w = list-sound bytes w
 product-sound («wimtaze_answer» list) bytes w = answer-sound bytes list w
 product-sound «wimtaze_upgrade» bytes w = upgrade-sound bytes w
 product-sound «wimtaze_downgrade» bytes w = downgrade-sound bytes w
+product-sound «wimtaze_archive» bytes w = archive-sound bytes w
+product-sound «wimtaze_unarchive» bytes w = unarchive-sound bytes w

@@ -31,6 +31,7 @@ use Rattle.saved.specs.Format.{savedInRange}
 use Rattle.saved.specs.Calls.{loadedState}
 use Rattle.c_calls.specs.Calls.{CCall, «wimtaze_empty», «wimtaze_receive», «wimtaze_receive_at», «wimtaze_type», «wimtaze_erase», «wimtaze_restore», «wimtaze_paste», «wimtaze_text», «wimtaze_counts», «wimtaze_upgrade», «wimtaze_downgrade», inputChecks, answering, handedChecks, ruleChecks, callChecks, effectOf}
 use Rattle.c_calls.specs.Calls.{«wimtaze_build», «wimtaze_load», «wimtaze_list», «wimtaze_answer»}
+use Rattle.c_calls.specs.Calls.{«wimtaze_archive», «wimtaze_unarchive»}
 use Rattle.c_calls.specs.Theorems.{meets, RefusalsMet, CallsNeverTaken}
 use Rattle.c_calls.proofs.Listing.{Went, away, lacking, through, went, earlier-reported, output-reported, product-made, calls-meet, calls-refuse}
 
@@ -101,3 +102,5 @@ calls-never-taken c bytes out line h = go c (calls-refuse c bytes out line Taken
     go («wimtaze_answer» l) r = unmet Taken («wimtaze_answer» l) bytes out line refl r
     go «wimtaze_upgrade» r = unmet Taken «wimtaze_upgrade» bytes out line refl r
     go «wimtaze_downgrade» r = unmet Taken «wimtaze_downgrade» bytes out line refl r
+    go «wimtaze_archive» r = unmet Taken «wimtaze_archive» bytes out line refl r
+    go «wimtaze_unarchive» r = unmet Taken «wimtaze_unarchive» bytes out line refl r

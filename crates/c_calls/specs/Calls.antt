@@ -39,6 +39,7 @@ use Rattle.saved.specs.declared.Version.the-variants.{First, Second}
 use Rattle.saved.specs.Format.{savedLaidOut, savedInRange, savedBytes}
 use Rattle.saved.specs.Calls.{loadedState}
 use Rattle.saved.specs.Conversion.{conversion, conversionRefusals}
+use Rattle.saved.specs.Archive.{archiving, archivingRefusals, unarchiving, unarchivingRefusals}
 use Rattle.effects.specs.Results.{Result, result}
 use Rattle.effects.specs.Effects.{Effect, quiet}
 use Rattle.effects.specs.Counts.{countsOf}
@@ -72,6 +73,10 @@ pub data CCall : Type 0 where
   -- what is saved in the first form
   «wimtaze_upgrade» : CCall
   «wimtaze_downgrade» : CCall
+  -- the saved replica alone, which is archived
+  «wimtaze_archive» : CCall
+  -- an archive, in place of a saved replica
+  «wimtaze_unarchive» : CCall
 
 -- ---- conditions on what is handed
 
@@ -116,6 +121,8 @@ handedChecks («wimtaze_answer» list) bytes =
     ((mislisted (listSaid list) ⇒ Mislisted) ∷ [])
 handedChecks «wimtaze_upgrade» bytes = conversionRefusals First Second bytes
 handedChecks «wimtaze_downgrade» bytes = conversionRefusals Second First bytes
+handedChecks «wimtaze_archive» bytes = archivingRefusals bytes
+handedChecks «wimtaze_unarchive» bytes = unarchivingRefusals bytes
 
 -- ---- conditions of the rules
 
@@ -141,6 +148,8 @@ ruleChecks «wimtaze_list» s = []
 ruleChecks («wimtaze_answer» list) s = []
 ruleChecks «wimtaze_upgrade» s = []
 ruleChecks «wimtaze_downgrade» s = []
+ruleChecks «wimtaze_archive» s = []
+ruleChecks «wimtaze_unarchive» s = []
 
 -- ---- what is made
 
@@ -211,6 +220,8 @@ productOf («wimtaze_answer» list) bytes =
     bytesAlone (concatenated operationLine (answerFor (loadedState bytes) (listSaid list)))
 productOf «wimtaze_upgrade» bytes = bytesAlone (conversion First Second bytes)
 productOf «wimtaze_downgrade» bytes = bytesAlone (conversion Second First bytes)
+productOf «wimtaze_archive» bytes = bytesAlone (archiving bytes)
+productOf «wimtaze_unarchive» bytes = bytesAlone (unarchiving bytes)
 
 -- ---- what a call does
 

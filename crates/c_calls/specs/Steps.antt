@@ -26,6 +26,7 @@ use Rattle.saved.specs.declared.Version.the-variants.{First, Second}
 use Rattle.saved.specs.Format.{savedLaidOut, savedInRange, savedBytes}
 use Rattle.saved.specs.Calls.{loadedState, bytesOf}
 use Rattle.saved.specs.Conversion.{conversion, conversionRefusals}
+use Rattle.saved.specs.Archive.{archiving, archivingRefusals, unarchiving, unarchivingRefusals}
 use Rattle.effects.specs.Results.{Result, silent}
 use Rattle.effects.specs.Effects.{Effect, quiet, turned, writing, afterReceiving, afterReceivingAt}
 use Rattle.effects.specs.Effects.{afterSending, afterPasting}
@@ -130,6 +131,16 @@ upgrading bytes out = converting First Second bytes out
 -- `wimtaze_downgrade`
 abbrev pub downgrading : List ℕ → List ℕ → Effect
 downgrading bytes out = converting Second First bytes out
+
+-- `wimtaze_archive`: document 02, Req 10
+unfoldable pub archivingHere : List ℕ → List ℕ → Effect
+archivingHere bytes out =
+    decided (turned out []) (first (archivingRefusals bytes)) (writing (Done 0 0) (archiving bytes) out)
+
+-- `wimtaze_unarchive`: document 02, Req 10
+unfoldable pub unarchivingHere : List ℕ → List ℕ → Effect
+unarchivingHere archive out =
+    decided (turned out []) (first (unarchivingRefusals archive)) (writing (Done 0 0) (unarchiving archive) out)
 
 -- `wimtaze_counts`
 unfoldable pub counting : List ℕ → Result

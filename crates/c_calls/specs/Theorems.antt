@@ -10,6 +10,7 @@ use lib.ListN.{length, take}
 use lib.IntN.{ℤ, pos, negsuc}
 use lib.Signed.{_≤ℤ_}
 use Rattle.woot.specs.declared.Operation.{Operation}
+use Rattle.woot.specs.declared.Written.{Written}
 use Rattle.answers.specs.declared.Refusal.{Refusal}
 use Rattle.answers.specs.declared.Refusal.the-variants.{Taken, Unplaceable, DocumentFull}
 use Rattle.answers.specs.declared.Answer.{Answer}
@@ -17,7 +18,7 @@ use Rattle.answers.specs.declared.Answer.the-variants.{Done, Deferred, Duplicat
 use Rattle.woot.specs.Limits.{capacity}
 use Rattle.woot.specs.State.{State}
 use Rattle.woot.specs.Ranges.{siteNumber}
-use Rattle.woot.specs.Form.{wellFormed}
+use Rattle.woot.specs.Form.{clockKept, wellFormed}
 use Rattle.answers.specs.Answers.{number, highestRefusal, Word, done, waits, known, refused, Reported}
 use Rattle.woot.specs.Calls.{nextIdentifier, beyondVisible}
 use Rattle.woot.specs.Cursor.{cursorAfter, shiftAt, lastNumber, movedBy}
@@ -25,6 +26,7 @@ use Rattle.woot.specs.Pasting.{gapBelow}
 use Rattle.woot.specs.Building.{leftOut, build}
 use Rattle.woot.specs.Loading.{loadable}
 use Rattle.woot.specs.Catching.{listing, answerFor, listingInRange, mislisted}
+use Rattle.woot.specs.Archiving.{archiveOf, stateFrom, archiveInRange, arranged}
 use Rattle.convergence.specs.Loading.{Made}
 use Rattle.woot.specs.Text.{text}
 use Rattle.woot.specs.Memory.{pendingSlots}
@@ -44,9 +46,12 @@ use Rattle.building.specs.Calls.{builtBy}
 use Rattle.saved.specs.declared.LoadAnswer.the-variants.{Done as loadDone}
 use Rattle.saved.specs.declared.Version.{Version}
 use Rattle.saved.specs.declared.Version.the-variants.{First, Second}
-use Rattle.saved.specs.Format.{siteLine, savedLaidOut, savedInRange, savedBytes}
+use Rattle.saved.specs.Format.{siteLine, savedLaidOut, savedInRange, savedState, savedBytes}
 use Rattle.saved.specs.Calls.{loadedAs, raisingAs, needsRaising, loaded, loadedState}
 use Rattle.saved.specs.Conversion.{converted, convertedOut, firstMost}
+use Rattle.saved.specs.Archive.{archiveLaidOut, archiveSaid, archiveBytes, archiveWritten, archiveOut, unarchiveWritten}
+use Rattle.saved.specs.Archive.{unarchiveOut}
+use Rattle.saved.specs.Archives.{Archives, Unarchives, archiveMost}
 use Rattle.saved.specs.Theorems.{savedMost}
 use Rattle.effects.specs.Results.{Result, wordNumber, inBits, numberOf}
 use Rattle.effects.specs.Effects.{Effect}
@@ -54,7 +59,7 @@ use Rattle.c_calls.specs.Calls.{CCall, «wimtaze_empty», «wimtaze_rece
 use Rattle.c_calls.specs.Calls.{«wimtaze_erase», «wimtaze_restore», «wimtaze_text», «wimtaze_counts»}
 use Rattle.c_calls.specs.Calls.{«wimtaze_upgrade», «wimtaze_downgrade», callChecks, effectOf}
 use Rattle.c_calls.specs.Calls.{«wimtaze_paste», «wimtaze_build», «wimtaze_load», «wimtaze_list»}
-use Rattle.c_calls.specs.Calls.{«wimtaze_answer»}
+use Rattle.c_calls.specs.Calls.{«wimtaze_answer», «wimtaze_archive», «wimtaze_unarchive»}
 use Rattle.effects.specs.Effects.{quiet}
 
 -- ---- refusals: any call, any bytes, numbers and slices
@@ -77,6 +82,8 @@ meets «wimtaze_list» = 1 ∷ 2 ∷ 3 ∷ 12 ∷ []
 meets («wimtaze_answer» list) = 1 ∷ 2 ∷ 18 ∷ 3 ∷ 12 ∷ []
 meets «wimtaze_upgrade» = 1 ∷ 2 ∷ 3 ∷ 15 ∷ 12 ∷ []
 meets «wimtaze_downgrade» = 1 ∷ 2 ∷ 3 ∷ 15 ∷ 12 ∷ []
+meets «wimtaze_archive» = 1 ∷ 2 ∷ 3 ∷ 12 ∷ []
+meets «wimtaze_unarchive» = 1 ∷ 2 ∷ 19 ∷ 3 ∷ 12 ∷ []
 
 abbrev pub CallsMeet : Type 0
 CallsMeet = (c : CCall) (bytes out line : List ℕ) → numbersOf (callChecks c bytes out line) ≡ meets c
@@ -105,6 +112,8 @@ rankedAs «wimtaze_list» a = a
 rankedAs («wimtaze_answer» list) a = a
 rankedAs «wimtaze_upgrade» a = a
 rankedAs «wimtaze_downgrade» a = a
+rankedAs «wimtaze_archive» a = a
+rankedAs «wimtaze_unarchive» a = a
 
 -- "in checking order": the ranks rise, so that the first condition that holds is the lowest
 abbrev pub CallsRise : Type 0
@@ -201,6 +210,8 @@ boundsOf «wimtaze_list» = boundsOfBytes listMost
 boundsOf («wimtaze_answer» list) = boundsOfBytes answerMost
 boundsOf «wimtaze_upgrade» = boundsOfBytes savedMost
 boundsOf «wimtaze_downgrade» = boundsOfBytes firstMost
+boundsOf «wimtaze_archive» = boundsOfBytes archiveMost
+boundsOf «wimtaze_unarchive» = boundsOfBytes savedMost
 
 -- a result is within its bounds
 pub record Fits (b : Bounds) (x : Result) : Type 0 where
@@ -247,7 +258,7 @@ abbrev pub CountsFit : Type 0
 CountsFit = (bytes : List ℕ) → CountsWithin (effectOf «wimtaze_counts» bytes [] [] .result)
 
 -- ---- sizes: the header's WIMTAZE_SHEET_MAX, WIMTAZE_OLD_SHEET_MAX, WIMTAZE_INSERT_MAX, WIMTAZE_LINES_MAX,
--- WIMTAZE_ERASE_MAX, WIMTAZE_TEXT_MAX, WIMTAZE_LIST_MAX and WIMTAZE_ANSWER_MAX
+-- WIMTAZE_ERASE_MAX, WIMTAZE_TEXT_MAX, WIMTAZE_LIST_MAX, WIMTAZE_ANSWER_MAX and WIMTAZE_ARCHIVE_MAX
 
 -- the visible text of a state in form is no longer than a text
 abbrev pub TextLength : Type 0
@@ -274,6 +285,8 @@ roomOf «wimtaze_list» = record { output = listMost; line = 0 }
 roomOf («wimtaze_answer» list) = record { output = answerMost; line = 0 }
 roomOf «wimtaze_upgrade» = record { output = savedMost; line = 0 }
 roomOf «wimtaze_downgrade» = record { output = firstMost; line = 0 }
+roomOf «wimtaze_archive» = record { output = archiveMost; line = 0 }
+roomOf «wimtaze_unarchive» = record { output = savedMost; line = 0 }
 
 -- with outputs of these lengths no call answers 12, whatever else is handed
 abbrev pub BuffersSuffice : Type 0
@@ -310,6 +323,8 @@ saves «wimtaze_list» = false
 saves («wimtaze_answer» list) = false
 saves «wimtaze_upgrade» = true
 saves «wimtaze_downgrade» = false
+saves «wimtaze_archive» = false
+saves «wimtaze_unarchive» = true
 
 -- "every call keeps the form", of the bytes that it writes where the word is done or waits, whatever was handed
 abbrev pub Loads : Effect → Type 0
@@ -383,6 +398,8 @@ sends «wimtaze_list» = false
 sends («wimtaze_answer» list) = false
 sends «wimtaze_upgrade» = false
 sends «wimtaze_downgrade» = false
+sends «wimtaze_archive» = false
+sends «wimtaze_unarchive» = false
 
 -- an effect replies and saves as another does
 pub record SavesAs (e f : Effect) : Type 0 where
@@ -617,3 +634,104 @@ MislistedExactly =
     (bytes list out : List ℕ) →
     (answeredInC bytes list out .result .reply .refusal ≡ 18)
     ↔ (BothInRange bytes list × (mislisted (listSaid list) ≡ true))
+
+-- ---- document 02, Req 10
+
+-- what `wimtaze_archive` and `wimtaze_unarchive` return and leave
+abbrev pub archivedInC : List ℕ → List ℕ → Effect
+archivedInC bytes out = effectOf «wimtaze_archive» bytes out []
+
+abbrev pub unarchivedInC : List ℕ → List ℕ → Effect
+unarchivedInC archive out = effectOf «wimtaze_unarchive» archive out []
+
+-- an effect tells what a writer answers, and leaves what it leaves in the slice
+pub record Tells (e : Effect) (answer : Written) (after : List ℕ) : Type 0 where
+  pub refusal-told : e .result .reply .refusal ≡ writtenNumber answer
+  pub written-told : e .result .written ≡ writtenLength answer
+  pub output-told : e .output ≡ after
+
+-- what both return and write is what the trips do, whose refusals `ArchivingNumbers` and `UnarchivingNumbers` have by
+-- number
+abbrev pub ArchivesTell : Type 0
+ArchivesTell =
+    (bytes out : List ℕ) →
+    Tells (archivedInC bytes out) (archiveWritten bytes out) (archiveOut bytes out)
+    × Tells (unarchivedInC bytes out) (unarchiveWritten bytes out) (unarchiveOut bytes out)
+
+-- the effect of an archiving that is done: what was written is an archive, and says the rows of what was handed by
+-- rising identifier
+pub record ArchiveGiven (bytes : List ℕ) (e : Effect) : Type 0 where
+  pub archive-written : bytesWritten e ≡ archiveBytes (archiveOf (savedState bytes))
+  pub archive-laid-out : archiveLaidOut (bytesWritten e) ≡ true
+  pub archive-says : archiveSaid (bytesWritten e) ≡ archiveOf (savedState bytes)
+
+abbrev pub ArchiveWrites : Type 0
+ArchiveWrites =
+    (bytes out : List ℕ) → archivedInC bytes out .result .reply .word ≡ done →
+    ArchiveGiven bytes (archivedInC bytes out)
+
+-- the effect of a way back that is done: what was written is a saved replica, and says the rows of the archive at their
+-- places
+pub record SheetGiven (archive : List ℕ) (e : Effect) : Type 0 where
+  pub sheet-written : bytesWritten e ≡ savedBytes (stateFrom (archiveSaid archive))
+  pub sheet-says : loadedState (bytesWritten e) ≡ stateFrom (archiveSaid archive)
+
+abbrev pub UnarchiveWrites : Type 0
+UnarchiveWrites =
+    (archive out : List ℕ) → unarchivedInC archive out .result .reply .word ≡ done →
+    SheetGiven archive (unarchivedInC archive out)
+
+-- into an output of the header's size every saved replica in form is archived, whose clock needs no raising, and no
+-- other
+abbrev pub ArchiveDone : Type 0
+ArchiveDone =
+    (bytes out : List ℕ) → archiveMost ≤ length out →
+    (archivedInC bytes out .result .reply .word ≡ done) ↔ Archives bytes
+
+-- and every archive that is arranged, and in form at its places, is brought back, and no other
+abbrev pub UnarchiveDone : Type 0
+UnarchiveDone =
+    (archive out : List ℕ) → savedMost ≤ length out →
+    (unarchivedInC archive out .result .reply .word ≡ done) ↔ Unarchives archive
+
+-- "The way back gives exactly the saved sheet that was rearranged, whatever its rows": the one call after the other
+abbrev pub ArchiveBack : Type 0
+ArchiveBack =
+    (bytes out back : List ℕ) → archivedInC bytes out .result .reply .word ≡ done → length bytes ≤ length back →
+    let again : Effect = unarchivedInC (bytesWritten (archivedInC bytes out)) back in
+    (again .result .reply .word ≡ done) × (bytesWritten again ≡ bytes)
+
+-- of what was brought back the archive is written again, byte for byte, and every saved replica that it was ever
+-- written of is the one that was brought back
+pub record OfOneSheet (archive sheet : List ℕ) : Type 0 where
+  pub archived-again :
+      (out : List ℕ) → length archive ≤ length out →
+      (archivedInC sheet out .result .reply .word ≡ done) × (bytesWritten (archivedInC sheet out) ≡ archive)
+  pub no-other :
+      (bytes out : List ℕ) → archivedInC bytes out .result .reply .word ≡ done →
+      bytesWritten (archivedInC bytes out) ≡ archive → bytes ≡ sheet
+
+-- "an accepted archive is the rearrangement of just one saved sheet"
+abbrev pub ArchiveOfOne : Type 0
+ArchiveOfOne =
+    (archive out : List ℕ) → unarchivedInC archive out .result .reply .word ≡ done →
+    OfOneSheet archive (bytesWritten (unarchivedInC archive out))
+
+-- "A saved sheet or archive whose clock Req 04 would raise is refused with 3 on either trip", however short the output
+-- is
+abbrev pub LowClockTurned : Type 0
+LowClockTurned =
+    ((bytes out : List ℕ) → savedLaidOut bytes ≡ true → savedInRange bytes ≡ true → needsRaising bytes ≡ true →
+    archivedInC bytes out .result .reply .refusal ≡ 3)
+    × ((archive out : List ℕ) → archiveLaidOut archive ≡ true → archiveInRange (archiveSaid archive) ≡ true →
+    arranged (archiveSaid archive .rows) ≡ true → clockKept (stateFrom (archiveSaid archive)) ≡ false →
+    unarchivedInC archive out .result .reply .refusal ≡ 3)
+
+-- "are refused with 19, after 2": where neither 1 nor 2 holds and the archive is not arranged, in form or not and
+-- however short the output is
+abbrev pub MisarrangedExactly : Type 0
+MisarrangedExactly =
+    (archive out : List ℕ) →
+    (unarchivedInC archive out .result .reply .refusal ≡ 19)
+    ↔ ((archiveLaidOut archive ≡ true) × (archiveInRange (archiveSaid archive) ≡ true)
+    × (arranged (archiveSaid archive .rows) ≡ false))
