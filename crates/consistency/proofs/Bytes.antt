@@ -24,13 +24,14 @@ use Rattle.replica.proofs.Runs.{formed-within}
 use Rattle.lines.specs.Lines.{closed}
 use Rattle.lines.specs.Fields.{hasLayout}
 use Rattle.codec.specs.Calls.{saidBy}
-use Rattle.saved.specs.Format.{isSite, headLine, laidOutAs, savedLaidOut, savedBytes}
+use Rattle.saved.specs.Format.{isSite, headLine, laidOutAs, savedLaidOut, savedBytes, laidOutWith}
 use Rattle.saved.specs.Calls.{loadChecks, unread, loaded, loadedState}
 use Rattle.saved.proofs.Trips.{saved-loads, saved-reads-back}
 use Rattle.effects.specs.Results.{result, silent}
 use Rattle.effects.specs.Effects.{Effect, quiet}
 use Rattle.c_calls.specs.Calls.{CCall, «wimtaze_empty», «wimtaze_receive», «wimtaze_receive_at», «wimtaze_type», «wimtaze_erase», «wimtaze_restore», «wimtaze_paste», «wimtaze_text», «wimtaze_counts», «wimtaze_upgrade», «wimtaze_downgrade», inputChecks, named, ruleChecks, handedChecks, earlierChecks, callChecks, productOf, effectOf}
 use Rattle.c_calls.specs.Calls.{«wimtaze_build», «wimtaze_load», «wimtaze_list», «wimtaze_answer»}
+use Rattle.c_calls.specs.Calls.{«wimtaze_archive», «wimtaze_unarchive»}
 use Rattle.c_calls.proofs.Fitting.{front}
 use Rattle.c_calls.proofs.Listing.{Earlier, Made, Went, away, lacking, through, went, product-made, paste-taken}
 use Rattle.consistency.specs.Copies.{BytesCall, load, forC, bytesCall, asBytes, bytesAfter, wordOf, keptBytes, afterLoading, whenMade, rulesOf, renews, onBytes, stepOn}
@@ -75,6 +76,8 @@ ruled s h «wimtaze_list» w k = absurd (false≢true k)
 ruled s h («wimtaze_answer» l) w k = absurd (false≢true k)
 ruled s h «wimtaze_upgrade» w k = absurd (false≢true k)
 ruled s h «wimtaze_downgrade» w k = absurd (false≢true k)
+ruled s h «wimtaze_archive» w k = absurd (false≢true k)
+ruled s h «wimtaze_unarchive» w k = absurd (false≢true k)
 
 -- ---- by how the call went
 
@@ -114,6 +117,8 @@ no-rules s «wimtaze_list» k = refl
 no-rules s («wimtaze_answer» l) k = refl
 no-rules s «wimtaze_upgrade» k = refl
 no-rules s «wimtaze_downgrade» k = refl
+no-rules s «wimtaze_archive» k = refl
+no-rules s «wimtaze_unarchive» k = refl
 
 -- refused, there are no bytes still
 refused-holds : (rs : List RuleCall) (out line : List ℕ) →
@@ -163,7 +168,7 @@ module _ (s : State) (h : wellFormed s ≡ true) where
 
 -- they lack the layout, whatever else is handed
 pub no-bytes : savedLaidOut [] ≡ false
-unfolding laidOutAs closed headLine isSite hasLayout
+unfolding laidOutWith closed headLine isSite hasLayout
 no-bytes = refl
 
 no-bytes-refused : (c : CCall) → renews c ≡ true → (out line : List ℕ) → effectOf c [] out line ≡ quiet out line (Refused Layout)
@@ -184,6 +189,8 @@ no-bytes-refused «wimtaze_list» k out line = absurd (false≢true k)
 no-bytes-refused («wimtaze_answer» l) k out line = absurd (false≢true k)
 no-bytes-refused «wimtaze_upgrade» k out line = absurd (false≢true k)
 no-bytes-refused «wimtaze_downgrade» k out line = absurd (false≢true k)
+no-bytes-refused «wimtaze_archive» k out line = absurd (false≢true k)
+no-bytes-refused «wimtaze_unarchive» k out line = absurd (false≢true k)
 
 nothing-c : (c : CCall) (out line : List ℕ) → Steps (initial 0) (asBytes []) (bytesCall (forC c out line))
 unfolding stepOn onBytes

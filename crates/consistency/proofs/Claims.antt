@@ -269,7 +269,7 @@ copies-converge a b cs ds inserted toggled =
 -- ---- both trips of a copy
 
 -- a copy that is bytes has none, or those of a state in form
-as-saved : {s : State} {p : Copy} → Holds s p → (b : List ℕ) → p ≡ asBytes b → (b ≡ []) ⊎ ((wellFormed s ≡ true) × (b ≡ savedBytes s))
+pub as-saved : {s : State} {p : Copy} → Holds s p → (b : List ℕ) → p ≡ asBytes b → (b ≡ []) ⊎ ((wellFormed s ≡ true) × (b ≡ savedBytes s))
 as-saved (memory r s m) b e = let z : _≡_ {A = ℕ} 0 1 = cc in absurd (omega arith)
 as-saved (bytes s h) b e = let same : savedBytes s ≡ b = cc in inr (h, sym same)
 as-saved nothing b e = let same : [] ≡ b = cc in inl (sym same)

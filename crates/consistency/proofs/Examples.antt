@@ -13,7 +13,7 @@ use Rattle.lines.specs.Lines.{ended, firstLine, rest, closed}
 use Rattle.output.specs.Output.{hasRoom, placed}
 use Rattle.effects.specs.Results.{result, silent, inBits, numberOf}
 use Rattle.saved.specs.Calls.{loadedAs}
-use Rattle.saved.specs.Format.{siteNumbers, siteOf, isSite, siteSaid, siteLine, toggleField, characterNumbers, characterOf, isCharacter, characterSaid, characterLine, isOperation, operationSaid, savedLine, headLine, characterLines, operationLines, laidOutAs, stateAs, characterWithin, operationWithin, inRangeAs, bytesAs}
+use Rattle.saved.specs.Format.{siteNumbers, siteOf, isSite, siteSaid, siteLine, toggleField, characterNumbers, characterOf, isCharacter, characterSaid, characterLine, isOperation, operationSaid, savedLine, headLine, rowLines, operationLines, laidOutAs, stateAs, characterWithin, operationWithin, inRangeAs, bytesAs, laidOutWith, bytesWith}
 use Rattle.c_calls.specs.Calls.{inputChecks, oneLine, handedChecks, ruleChecks, productOf, callChecks, effectOf}
 use Rattle.answers.specs.Answers.{decided, reply, changes}
 use Rattle.woot.specs.Sending.{answerOf}
@@ -42,15 +42,21 @@ use Rattle.woot.specs.Catching.{withMarked, chunksOf, listing, lowest, lowestOf
 use Rattle.woot.specs.Catching.{sent, operationsFor, answerFor, chunkInRange, listingInRange, marksZero, mislisted}
 use Rattle.listing.specs.Format.{listNumbers, chunkNumbers, chunkLine, listBytes, isChunk, areListLines, listLaidOut}
 use Rattle.listing.specs.Format.{chunkSaid, saidByLines, listSaid}
-use Rattle.consistency.specs.Examples.{CallsExample, BuiltExample, LoadedExample, CaughtExample}
+use Rattle.woot.specs.Archiving.{byIdentifier, archived, archiveOf, byPlace, unarchived, stateFrom, placeInRange}
+use Rattle.woot.specs.Archiving.{archiveInRange, eachOnce, placesKept, identifiersRise, arranged, archiveChecks}
+use Rattle.woot.specs.Archiving.{unarchiveChecks}
+use Rattle.saved.specs.Archive.{placedNumbers, placedOf, isPlaced, placedSaid, placedLine, archiveSaid, archiving}
+use Rattle.saved.specs.Archive.{archivingRefusals, unarchiving, unarchivingRefusals}
+use Rattle.consistency.specs.Archiving.{actOn}
+use Rattle.consistency.specs.Examples.{CallsExample, BuiltExample, LoadedExample, CaughtExample, ArchivedExample}
 
 pub calls-example : CallsExample
 unfolding asWritten lineLaidOut laidOut saidBy insertNumbers toggleNumbers identifierAt insertOf toggleOf deleteOf isInsert isToggle isDelete
     operationOf operationLine bytesAfter wordRead writtenRead wordOf keptBytes whenMade rulesOf renews onBytes stepOn begun shiftBits isDigit
     leadingZero isNumeral valueOf digitsIn digits quiet holding verdictOn numbersOf goesOn numbersAfter numerals hasLayout valuesOf lineOf ended
     firstLine rest closed hasRoom placed result silent inBits numberOf loadedAs siteNumbers siteOf isSite siteSaid siteLine toggleField
-    characterNumbers characterOf isCharacter characterSaid characterLine isOperation operationSaid savedLine headLine characterLines operationLines
-    laidOutAs stateAs characterWithin operationWithin inRangeAs bytesAs inputChecks oneLine handedChecks ruleChecks productOf callChecks effectOf
+    characterNumbers characterOf isCharacter characterSaid characterLine isOperation operationSaid savedLine headLine rowLines operationLines
+    laidOutWith stateAs characterWithin operationWithin inRangeAs bytesWith inputChecks oneLine handedChecks ruleChecks productOf callChecks effectOf
     reply changes answerOf unchanged withCharacters withPending afterDrain insertCarried duplicate conflicting senderFull documentFull receiveChecks
     carryOut defer accept receiveWhen receive visibles nextIdentifier generatedInsert beyondVisible identifierTaken insertChecks sendInsert
     localInsertWhen localInsert togglesOf generatedToggle sendToggle notVisible deleteChecks generatedDelete localDeleteWhen localDelete notHidden
@@ -64,69 +70,56 @@ unfolding asWritten lineLaidOut laidOut saidBy insertNumbers toggleNumbers ident
     unpasted pasted clockShort overfull pasteChecks pasteWhen paste outcome allIntegrated
 calls-example = record { bytes-left = refl; replies = refl; rules-made = refl }
 
+-- those that begin with a heap or with a sheet that was loaded, whose definitions are opened once
+starts-example : BuiltExample × LoadedExample
+unfolding asWritten lineLaidOut laidOut saidBy insertNumbers toggleNumbers identifierAt insertOf toggleOf
+    deleteOf isInsert isToggle isDelete operationOf operationLine bytesAfter wordRead writtenRead wordOf
+    keptBytes whenMade rulesOf renews onBytes stepOn begun isDigit leadingZero isNumeral valueOf digitsIn digits
+    quiet holding verdictOn numbersOf goesOn numbersAfter numerals hasLayout valuesOf lineOf ended firstLine
+    rest closed hasRoom placed result silent inBits numberOf loadedAs siteNumbers siteOf isSite siteSaid
+    siteLine toggleField characterNumbers characterOf isCharacter characterSaid characterLine isOperation
+    operationSaid savedLine headLine rowLines operationLines laidOutWith stateAs characterWithin operationWithin
+    inRangeAs bytesWith inputChecks oneLine handedChecks ruleChecks productOf callChecks effectOf reply changes
+    answerOf unchanged withCharacters withPending afterDrain insertCarried duplicate conflicting senderFull
+    documentFull receiveChecks carryOut defer accept receiveWhen receive visibles nextIdentifier togglesOf
+    generatedToggle sendToggle notHidden exhausted restoreChecks localRestoreWhen localRestore ownInsert heard
+    presentInserts allInRange sharesKept capacityKept identifiersDistinct togglesDistinct ordered
+    neighboursOrdered noneExecutable clockReaches clockKept wellFormed raised same below sender character origin
+    isVisible withToggles toggledBy sameInsert sameToggle sameOperation executable crossed unplaceable integrate
+    pendingFrom earliest andIntegrated andDiscarded drained drainSteps drain sequence indexOf placeOf held above
+    adjacent candidate candidates narrowed search position between insertAt integrateInsert integrateToggle
+    within siteNumber codePoint characterId previousId nextId siteInRange insertInRange toggleInRange inRange
+    characterInRange initial blankCharacter blankOperation decided once building leftOut built heapFull disagree
+    disagreeing buildChecks unbuilt build heapLaidOut lineSaid heapSaid beginningOf carriedBefore among free
+    bound peeled acyclic orderedPair orderedPairs loadable turnings useChecks
+starts-example = (
+  record {
+    bytes-built = refl;
+    one-left-out = refl;
+    carried-out = refl;
+    goes-on = refl;
+    rules-after = refl;
+    none-built = refl;
+    begins-empty = refl;
+    none-carried = refl;
+  },
+  record {
+    bytes-loaded = refl;
+    carried-out = refl;
+    same-again = refl;
+    rules-after = refl;
+    sixteen = refl;
+    none-loaded = refl;
+    begins-empty = refl;
+    none-carried = refl;
+  },
+)
+
 pub built-example : BuiltExample
-unfolding asWritten lineLaidOut laidOut saidBy insertNumbers toggleNumbers identifierAt insertOf toggleOf deleteOf
-    isInsert isToggle isDelete operationOf operationLine bytesAfter wordRead writtenRead wordOf keptBytes whenMade
-    rulesOf renews onBytes stepOn begun isDigit leadingZero isNumeral valueOf digitsIn digits quiet holding
-    verdictOn numbersOf goesOn numbersAfter numerals hasLayout valuesOf lineOf ended firstLine rest closed hasRoom
-    placed result silent inBits numberOf loadedAs siteNumbers siteOf isSite siteSaid siteLine toggleField
-    characterNumbers characterOf isCharacter characterSaid characterLine isOperation operationSaid savedLine
-    headLine characterLines operationLines laidOutAs stateAs characterWithin operationWithin inRangeAs bytesAs
-    inputChecks oneLine handedChecks ruleChecks productOf callChecks effectOf reply changes answerOf unchanged
-    withCharacters withPending afterDrain insertCarried duplicate conflicting senderFull documentFull receiveChecks
-    carryOut defer accept receiveWhen receive visibles nextIdentifier togglesOf generatedToggle sendToggle
-    notHidden exhausted restoreChecks localRestoreWhen localRestore ownInsert heard presentInserts allInRange
-    sharesKept capacityKept identifiersDistinct togglesDistinct ordered neighboursOrdered noneExecutable
-    clockReaches clockKept wellFormed raised same below sender character origin isVisible withToggles toggledBy
-    sameInsert sameToggle sameOperation executable crossed unplaceable integrate pendingFrom earliest andIntegrated
-    andDiscarded drained drainSteps drain sequence indexOf placeOf held above adjacent candidate candidates
-    narrowed search position between insertAt integrateInsert integrateToggle within siteNumber codePoint
-    characterId previousId nextId siteInRange insertInRange toggleInRange inRange characterInRange initial
-    blankCharacter blankOperation decided once building leftOut built heapFull disagree disagreeing buildChecks
-    unbuilt build heapLaidOut lineSaid heapSaid beginningOf carriedBefore
-built-example =
-    record {
-      bytes-built = refl;
-      one-left-out = refl;
-      carried-out = refl;
-      goes-on = refl;
-      rules-after = refl;
-      none-built = refl;
-      begins-empty = refl;
-      none-carried = refl;
-    }
+built-example = starts-example .0
 
 pub loaded-example : LoadedExample
-unfolding asWritten lineLaidOut laidOut saidBy insertNumbers toggleNumbers identifierAt insertOf toggleOf deleteOf
-    isInsert isToggle isDelete operationOf operationLine bytesAfter wordRead writtenRead wordOf keptBytes whenMade
-    rulesOf renews onBytes stepOn begun isDigit leadingZero isNumeral valueOf digitsIn digits quiet holding
-    verdictOn numbersOf goesOn numbersAfter numerals hasLayout valuesOf lineOf ended firstLine rest closed hasRoom
-    placed result silent inBits numberOf loadedAs siteNumbers siteOf isSite siteSaid siteLine toggleField
-    characterNumbers characterOf isCharacter characterSaid characterLine isOperation operationSaid savedLine
-    headLine characterLines operationLines laidOutAs stateAs characterWithin operationWithin inRangeAs bytesAs
-    inputChecks oneLine handedChecks ruleChecks productOf callChecks effectOf reply changes answerOf unchanged
-    withCharacters withPending afterDrain insertCarried duplicate conflicting senderFull documentFull receiveChecks
-    carryOut defer accept receiveWhen receive visibles nextIdentifier togglesOf generatedToggle sendToggle
-    notHidden exhausted restoreChecks localRestoreWhen localRestore ownInsert heard presentInserts allInRange
-    sharesKept capacityKept identifiersDistinct togglesDistinct ordered neighboursOrdered noneExecutable
-    clockReaches clockKept wellFormed raised same below sender character origin isVisible withToggles toggledBy
-    sameInsert sameToggle sameOperation executable crossed unplaceable integrate pendingFrom earliest andIntegrated
-    andDiscarded drained drainSteps drain sequence indexOf placeOf held above adjacent candidate candidates
-    narrowed search position between insertAt integrateInsert integrateToggle within siteNumber codePoint
-    characterId previousId nextId siteInRange insertInRange toggleInRange inRange characterInRange initial
-    blankCharacter blankOperation decided among free bound peeled acyclic orderedPair
-    orderedPairs loadable turnings useChecks beginningOf carriedBefore
-loaded-example =
-    record {
-      bytes-loaded = refl;
-      carried-out = refl;
-      same-again = refl;
-      rules-after = refl;
-      sixteen = refl;
-      none-loaded = refl;
-      begins-empty = refl;
-      none-carried = refl;
-    }
+loaded-example = starts-example .1
 
 pub caught-example : CaughtExample
 unfolding asWritten lineLaidOut laidOut saidBy insertNumbers toggleNumbers identifierAt insertOf toggleOf deleteOf
@@ -134,8 +127,8 @@ unfolding asWritten lineLaidOut laidOut saidBy insertNumbers toggleNumbers ident
     onBytes stepOn isDigit leadingZero isNumeral valueOf digitsIn digits quiet holding verdictOn numbersOf goesOn
     numbersAfter numerals hasLayout valuesOf lineOf ended firstLine rest closed hasRoom placed result silent inBits
     numberOf loadedAs siteNumbers siteOf isSite siteSaid siteLine toggleField characterNumbers characterOf isCharacter
-    characterSaid characterLine isOperation operationSaid savedLine headLine characterLines operationLines laidOutAs
-    stateAs characterWithin operationWithin inRangeAs bytesAs inputChecks oneLine handedChecks ruleChecks productOf
+    characterSaid characterLine isOperation operationSaid savedLine headLine rowLines operationLines laidOutWith
+    stateAs characterWithin operationWithin inRangeAs bytesWith inputChecks oneLine handedChecks ruleChecks productOf
     callChecks effectOf reply changes unchanged withCharacters withPending afterDrain insertCarried duplicate
     conflicting senderFull documentFull receiveChecks carryOut defer accept receiveWhen receive ownInsert heard
     presentInserts allInRange sharesKept capacityKept identifiersDistinct togglesDistinct ordered neighboursOrdered
@@ -158,4 +151,37 @@ caught-example =
       eighteen = refl;
       two = refl;
       three = refl;
+    }
+
+pub archived-example : ArchivedExample
+unfolding asWritten lineLaidOut laidOut saidBy insertNumbers toggleNumbers identifierAt insertOf toggleOf deleteOf
+    isInsert isToggle isDelete operationOf operationLine bytesAfter wordRead writtenRead wordOf keptBytes whenMade
+    rulesOf renews onBytes stepOn isDigit leadingZero isNumeral valueOf digitsIn digits quiet holding verdictOn
+    numbersOf goesOn numbersAfter numerals hasLayout valuesOf lineOf ended firstLine rest closed hasRoom placed result
+    silent inBits numberOf loadedAs siteNumbers siteOf isSite siteSaid siteLine toggleField characterNumbers
+    characterOf isCharacter characterSaid characterLine isOperation operationSaid savedLine headLine rowLines
+    operationLines laidOutWith stateAs characterWithin operationWithin inRangeAs bytesWith inputChecks oneLine
+    handedChecks ruleChecks productOf callChecks effectOf reply changes answerOf unchanged withCharacters withPending
+    afterDrain insertCarried duplicate conflicting senderFull documentFull receiveChecks carryOut defer accept
+    receiveWhen receive visibles nextIdentifier togglesOf generatedToggle sendToggle notHidden exhausted restoreChecks
+    localRestoreWhen localRestore ownInsert heard presentInserts allInRange sharesKept capacityKept
+    identifiersDistinct togglesDistinct ordered neighboursOrdered noneExecutable clockReaches clockKept wellFormed
+    raised same below sender character origin isVisible withToggles toggledBy sameInsert sameToggle sameOperation
+    executable crossed unplaceable integrate pendingFrom earliest andIntegrated andDiscarded drained drainSteps drain
+    sequence indexOf placeOf held above adjacent candidate candidates narrowed search position between insertAt
+    integrateInsert integrateToggle within siteNumber codePoint characterId previousId nextId siteInRange
+    insertInRange toggleInRange inRange characterInRange initial blankCharacter blankOperation decided byIdentifier
+    archived archiveOf byPlace unarchived stateFrom placeInRange archiveInRange eachOnce placesKept identifiersRise
+    arranged archiveChecks unarchiveChecks placedNumbers placedOf isPlaced placedSaid placedLine archiveSaid archiving
+    archivingRefusals unarchiving unarchivingRefusals actOn
+archived-example =
+    record {
+      archived = refl;
+      brought-back = refl;
+      low-three = refl;
+      low-back-three = refl;
+      three = refl;
+      nineteen = refl;
+      two = refl;
+      goes-on = refl;
     }

@@ -17,7 +17,7 @@ use Rattle.convergence.proofs.Steps.{turned, adds, raises, defers, step, Step a
 use Rattle.convergence.proofs.Kept.{form-kept}
 use Rattle.lines.specs.Fields.{valuesOf}
 use Rattle.replica.proofs.Runs.{Within, meaning-stored, form-stored}
-use Rattle.saved.specs.Format.{siteOf, siteSaid, headLine, characterLines, operationLines, stateAs, savedBytes}
+use Rattle.saved.specs.Format.{siteOf, siteSaid, headLine, rowLines, operationLines, stateAs, savedBytes}
 use Rattle.saved.specs.Calls.{loadedAs}
 use Rattle.saved.specs.declared.Version.the-variants.{Second}
 use Rattle.saved.proofs.Trips.{says-back, second-says, saved-loads}
@@ -45,14 +45,14 @@ abbrev pub Steps : State → Copy → Call → Type 0
 Steps s p c = Holds (run s (stepOn p c .rules)) (stepOn p c .copy)
 
 pub says : {s : State} {p : Copy} → Holds s p → stateOf p ≡ s
-unfolding stateOf initial stateAs siteSaid siteOf valuesOf headLine characterLines operationLines
+unfolding stateOf initial stateAs siteSaid siteOf valuesOf headLine rowLines operationLines
 says (memory r s m) = m .meant
 says (bytes s h) = says-back Second s h (second-says s)
 says nothing = refl
 
 -- a call works with the state that the copy holds
 pub works : {s : State} {p : Copy} → Holds s p → worksOn p ≡ s
-unfolding worksOn loadedAs raised initial presentInserts stateAs siteSaid siteOf valuesOf headLine characterLines operationLines
+unfolding worksOn loadedAs raised initial presentInserts stateAs siteSaid siteOf valuesOf headLine rowLines operationLines
 works (memory r s m) = m .meant
 works (bytes s h) = saved-loads s h
 works nothing = refl

@@ -10,3 +10,4 @@ pub mod Nines
 pub mod Common
 pub mod Lists
 pub mod Catching
+pub mod Archiving

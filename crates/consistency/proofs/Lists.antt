@@ -99,14 +99,14 @@ module _ (c : CCall) (b out : List ℕ) where
   abbrev effect : Effect
   effect = effectOf c b out []
 
-  told : {made : List ℕ} → frontRead effect ≡ some made →
+  pub told : {made : List ℕ} → frontRead effect ≡ some made →
       (effect .result .reply .word ≡ done) × (bytesWritten effect ≡ made)
   unfolding writtenRead
   told h =
       let w = front-done (wordOf effect) (writtenRead (numberOf (effect .result))) (effect .output) h in
       (sym (word-returned c b out []) ∙ w .0, rw (returned-reads-back c b out [] .written-read) at (w .1))
 
-  tells : effect .result .reply .word ≡ done → frontRead effect ≡ some (bytesWritten effect)
+  pub tells : effect .result .reply .word ≡ done → frontRead effect ≡ some (bytesWritten effect)
   unfolding writtenRead
   tells d = rw (word-returned c b out [], d, returned-reads-back c b out [] .written-read)
 

@@ -44,7 +44,7 @@ use Rattle.saved.proofs.Trips.{saved-loads, saved-reads-back}
 use Rattle.c_calls.specs.Calls.{CCall, «wimtaze_empty», «wimtaze_build», «wimtaze_load», «wimtaze_receive»}
 use Rattle.c_calls.specs.Calls.{«wimtaze_receive_at», «wimtaze_type», «wimtaze_erase», «wimtaze_restore»}
 use Rattle.c_calls.specs.Calls.{«wimtaze_paste», «wimtaze_text», «wimtaze_counts», «wimtaze_list», «wimtaze_answer»}
-use Rattle.c_calls.specs.Calls.{«wimtaze_upgrade»}
+use Rattle.c_calls.specs.Calls.{«wimtaze_upgrade», «wimtaze_archive», «wimtaze_unarchive»}
 use Rattle.c_calls.specs.Calls.{«wimtaze_downgrade», inputChecks, oneLine, handedChecks, ruleChecks, callChecks}
 use Rattle.c_calls.proofs.Fitting.{returned-reads-back}
 use Rattle.c_calls.proofs.Listing.{calls-refuse}
@@ -220,6 +220,8 @@ module _ (b : List ℕ) (free : Bare b) (out line : List ℕ) where
   c-nine («wimtaze_answer» l) = unmet Unplaceable («wimtaze_answer» l) b out line refl
   c-nine «wimtaze_upgrade» = unmet Unplaceable «wimtaze_upgrade» b out line refl
   c-nine «wimtaze_downgrade» = unmet Unplaceable «wimtaze_downgrade» b out line refl
+  c-nine «wimtaze_archive» = unmet Unplaceable «wimtaze_archive» b out line refl
+  c-nine «wimtaze_unarchive» = unmet Unplaceable «wimtaze_unarchive» b out line refl
 
   for-c-nine : (c : CCall) → refusalOnBytes b (forC c out line) ≡ 9 → ⊥
   unfolding refusalOnBytes

@@ -41,6 +41,7 @@ use Rattle.c_calls.specs.Calls.{CCall, «wimtaze_empty», «wimtaze_receive», 
 use Rattle.c_calls.specs.Calls.{«wimtaze_erase», «wimtaze_restore», «wimtaze_text», «wimtaze_counts», «wimtaze_upgrade»}
 use Rattle.c_calls.specs.Calls.{«wimtaze_downgrade», named, effectOf}
 use Rattle.c_calls.specs.Calls.{«wimtaze_paste», «wimtaze_build», «wimtaze_load», «wimtaze_list», «wimtaze_answer»}
+use Rattle.c_calls.specs.Calls.{«wimtaze_archive», «wimtaze_unarchive»}
 
 -- a replica in memory, or the bytes of a saved one
 pub data Copy : Type 0 where
@@ -160,6 +161,8 @@ rulesOf s «wimtaze_list» = []
 rulesOf s («wimtaze_answer» list) = []
 rulesOf s «wimtaze_upgrade» = []
 rulesOf s «wimtaze_downgrade» = []
+rulesOf s «wimtaze_archive» = []
+rulesOf s «wimtaze_unarchive» = []
 
 -- whether its first output is the copy as the call leaves it; pasting an empty block "writes nothing"
 unfoldable pub renews : CCall → Bool
@@ -179,6 +182,8 @@ renews «wimtaze_list» = false
 renews («wimtaze_answer» list) = false
 renews «wimtaze_upgrade» = false
 renews «wimtaze_downgrade» = false
+renews «wimtaze_archive» = false
+renews «wimtaze_unarchive» = false
 
 -- ---- one step
 

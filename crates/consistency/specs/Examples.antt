@@ -1,6 +1,7 @@
 -- Lists of calls for C, computed to the bytes that they leave: a step that does nothing, or does something else, is
--- told by them. One begins empty, one with what is built of a heap, and one with what is loaded for use; in the last a
--- copy lists, and is handed what another answers. Proved in proofs/ under their names in small letters.
+-- told by them. One begins empty, one with what is built of a heap, and one with what is loaded for use; in one a copy
+-- lists, and is handed what another answers, and in the last copies are archived and brought back. Proved in proofs/
+-- under their names in small letters.
 use Prim.Native.Nat.{ℕ, _/_, _%_}
 use mathlib.Core.Path.{_≡_}
 use mathlib.Core.Bool.{cond}
@@ -20,8 +21,10 @@ use Rattle.c_calls.specs.Calls.{«wimtaze_paste», «wimtaze_load»}
 use Rattle.consistency.specs.Copies.{refusalRead, renews, builtBytes, builtInto, beginningOf, carriedBefore}
 use Rattle.consistency.specs.Copies.{loadedBytes, loadedInto}
 use Rattle.consistency.specs.Copies.{Copy, stepOn}
-use Rattle.c_calls.specs.Theorems.{answeredInC}
-use Rattle.consistency.specs.Catching.{listFrom, answerFrom, linesOf, handing, wordHanding, Handed, handed}
+use Rattle.c_calls.specs.Theorems.{answeredInC, archivedInC, unarchivedInC}
+use Rattle.consistency.specs.Catching.{frontRead, listFrom, answerFrom, linesOf, handing, wordHanding, Handed}
+use Rattle.consistency.specs.Catching.{handed}
+use Rattle.consistency.specs.Archiving.{Act, oneCall, trip, acted}
 
 -- outputs that are long enough, with nothing in them
 abbrev pub room : List ℕ
@@ -294,3 +297,46 @@ pub record CaughtExample : Type 0 where
   pub eighteen : refusalRead (numberOf (answeredInC unformedExample wrongList room .result)) ≡ 18
   pub two : refusalRead (numberOf (answeredInC unformedExample outsideList room .result)) ≡ 2
   pub three : refusalRead (numberOf (answeredInC unformedExample exampleList room .result)) ≡ 3
+
+-- ---- document 02, Req 10
+
+-- S2 1 1; P 2 1 1 65 0 0 0 0 1; P 1 2 1 66 0 0 0 0 1: what no operations leave, by rising identifier
+abbrev pub archivedExample : List ℕ
+archivedExample =
+    (83 ∷ 50 ∷ 9 ∷ 49 ∷ 9 ∷ 49 ∷ 10 ∷ [])
+    ++ (80 ∷ 9 ∷ 50 ∷ 9 ∷ 49 ∷ 9 ∷ 49 ∷ 9 ∷ 54 ∷ 53 ∷ 9 ∷ 48 ∷ 9 ∷ 48 ∷ 9 ∷ 48 ∷ 9 ∷ 48 ∷ 9 ∷ 49 ∷ 10 ∷ [])
+    ++ (80 ∷ 9 ∷ 49 ∷ 9 ∷ 50 ∷ 9 ∷ 49 ∷ 9 ∷ 54 ∷ 54 ∷ 9 ∷ 48 ∷ 9 ∷ 48 ∷ 9 ∷ 48 ∷ 9 ∷ 48 ∷ 9 ∷ 49 ∷ 10 ∷ [])
+
+-- S2 2 0; P 1 1 1 78 0 0 0 0 1; P 2 1 2 111 1 1 1 0 1; P 3 2 1 66 0 1 1 0 1: the archive with the low clock
+abbrev pub lowArchive : List ℕ
+lowArchive =
+    (83 ∷ 50 ∷ 9 ∷ 50 ∷ 9 ∷ 48 ∷ 10 ∷ [])
+    ++ (80 ∷ 9 ∷ 49 ∷ 9 ∷ 49 ∷ 9 ∷ 49 ∷ 9 ∷ 55 ∷ 56 ∷ 9 ∷ 48 ∷ 9 ∷ 48 ∷ 9 ∷ 48 ∷ 9 ∷ 48 ∷ 9 ∷ 49 ∷ 10 ∷ [])
+    ++ (80 ∷ 9 ∷ 50 ∷ 9 ∷ 49 ∷ 9 ∷ 50 ∷ 9 ∷ 49 ∷ 49 ∷ 49 ∷ 9 ∷ 49 ∷ 9 ∷ 49 ∷ 9 ∷ 49 ∷ 9 ∷ 48 ∷ 9 ∷ 49 ∷ 10 ∷ [])
+    ++ (80 ∷ 9 ∷ 51 ∷ 9 ∷ 50 ∷ 9 ∷ 49 ∷ 9 ∷ 54 ∷ 54 ∷ 9 ∷ 48 ∷ 9 ∷ 49 ∷ 9 ∷ 49 ∷ 9 ∷ 48 ∷ 9 ∷ 49 ∷ 10 ∷ [])
+
+-- S2 1 0 and a row that is not in form, at this place: `P n 2 1 66 0 7 7 0 1`
+abbrev pub unformedArchive : List ℕ → List ℕ
+unformedArchive place =
+    (83 ∷ 50 ∷ 9 ∷ 49 ∷ 9 ∷ 48 ∷ 10 ∷ [])
+    ++ (80 ∷ 9 ∷ []) ++ place
+    ++ (9 ∷ 50 ∷ 9 ∷ 49 ∷ 9 ∷ 54 ∷ 54 ∷ 9 ∷ 48 ∷ 9 ∷ 55 ∷ 9 ∷ 55 ∷ 9 ∷ 48 ∷ 9 ∷ 49 ∷ 10 ∷ [])
+
+-- the copy built of the heap goes on as before, with trips in between: the second has outputs that are too short
+abbrev pub exampleActs : List Act
+exampleActs =
+    oneCall (withRoom («wimtaze_restore» 1 2)) ∷ trip room room ∷ oneCall (withRoom («wimtaze_receive» insertedLine))
+    ∷ trip [] []
+    ∷ []
+
+-- both trips, whatever the rows; a low clock is 3 on either; a place above the number of rows is 19, before 3, and one
+-- above 1,024 is 2
+pub record ArchivedExample : Type 0 where
+  pub archived : frontRead (archivedInC unreachableExample room) ≡ some archivedExample
+  pub brought-back : frontRead (unarchivedInC archivedExample room) ≡ some unreachableExample
+  pub low-three : refusalRead (numberOf (archivedInC lowExample room .result)) ≡ 3
+  pub low-back-three : refusalRead (numberOf (unarchivedInC lowArchive room .result)) ≡ 3
+  pub three : refusalRead (numberOf (unarchivedInC (unformedArchive (49 ∷ [])) room .result)) ≡ 3
+  pub nineteen : refusalRead (numberOf (unarchivedInC (unformedArchive (50 ∷ [])) room .result)) ≡ 19
+  pub two : refusalRead (numberOf (unarchivedInC (unformedArchive (49 ∷ 48 ∷ 50 ∷ 53 ∷ [])) room .result)) ≡ 2
+  pub goes-on : acted (asBytes builtExample) exampleActs ≡ asBytes laterBytes
