@@ -16,6 +16,7 @@ ghost use Rattle.c_calls.specs.Calls.{effectOf, «wimtaze_empty», «wimtaze_re
 ghost use Rattle.c_calls.specs.Calls.{«wimtaze_type», «wimtaze_erase», «wimtaze_restore», «wimtaze_text»};
 ghost use Rattle.c_calls.specs.Calls.{«wimtaze_paste», «wimtaze_counts», «wimtaze_upgrade», «wimtaze_downgrade»};
 ghost use Rattle.c_calls.specs.Calls.{«wimtaze_build», «wimtaze_load», «wimtaze_list», «wimtaze_answer»};
+ghost use Rattle.c_calls.specs.Calls.{«wimtaze_archive», «wimtaze_unarchive»};
 
 // Writes the empty replica of a site.
 #[no_mangle]
@@ -190,4 +191,23 @@ pub extern "C" fn wimtaze_downgrade(bytes: &[u8], out: &mut [u8]) -> u64
         r (now (out .exit)) [] ⌝ }
 {
     effects::written(conversion::downgrade(bytes, out))
+}
+
+// Writes the archive of a saved replica: its characters by rising identifier, each with its place. (Document 02,
+// Req 10.)
+#[no_mangle]
+pub extern "C" fn wimtaze_archive(bytes: &[u8], archive_out: &mut [u8]) -> u64
+    ensures { λ r. ⌜ Leaves (effectOf «wimtaze_archive» (now (bytes .entry)) (now («archive_out» .entry)) [])
+        r (now («archive_out» .exit)) [] ⌝ }
+{
+    effects::written(archiving::archive(bytes, archive_out))
+}
+
+// Writes the saved replica of an archive. (Document 02, Req 10.)
+#[no_mangle]
+pub extern "C" fn wimtaze_unarchive(archive: &[u8], out: &mut [u8]) -> u64
+    ensures { λ r. ⌜ Leaves (effectOf «wimtaze_unarchive» (now (archive .entry)) (now (out .entry)) [])
+        r (now (out .exit)) [] ⌝ }
+{
+    effects::written(archiving::unarchive(archive, out))
 }
