@@ -67,7 +67,7 @@ install:
 	install -m 644 man/wimtaze.3 "$(to)/share/man/man3"
 	for call in $(CALLS); do echo ".so man3/wimtaze.3" >"$(to)/share/man/man3/$$call.3" || exit 1; done
 	install -m 644 examples/laptop.h examples/anew.h examples/pairing.c examples/playing_hall.c examples/archive.c \
-		examples/joining.c examples/catching_up.c "$(to)/share/doc/wimtaze/examples"
+		examples/first_form.c examples/joining.c examples/catching_up.c "$(to)/share/doc/wimtaze/examples"
 
 native:
 	tests/native/run

@@ -43,6 +43,8 @@
  * A sheet that another program may have written goes through wimtaze_load before it is used: see sheets of other
  * programs.
  *
+ * Who wants to read who typed what takes a sheet to its archive, with wimtaze_archive: see the archive by author.
+ *
  *
  * What your program must do
  *
@@ -84,7 +86,9 @@
  *         the first form. Building: some line of the heap was damaged, and is refused as a heap by itself too: drop it,
  *         and get it again; or, with 2, the number is not 1 to 16. Answering: the list was damaged on the way, or is
  *         none: drop it, and whoever asked lists anew. If wimtaze_counts refuses the sheet too, as for receiving.
- *   3     The file is damaged: rule 1; or another program wrote it, and wrongly.
+ *         Archiving: as loading. The way back: the archive is damaged, or is none.
+ *   3     The file is damaged: rule 1; or another program wrote it, and wrongly. Archiving and the way back: or the
+ *         clock in its first line is too low, and a sheet comes right by wimtaze_load.
  *   4     Typing, pasting, erasing: the text is shorter than you thought. It may change with every line that comes.
  *         Receiving with a cursor: the cursor is beyond the text, and the line was not taken in. Set the cursor right,
  *         and hand the line over again.
@@ -115,13 +119,15 @@
  *         has more than 1,024 I lines still, rule 6 was broken.
  *   18    Answering: the list contradicts itself. It was damaged on the way, or another program wrote it, and wrongly:
  *         drop it, and whoever asked lists anew.
+ *   19    The way back: the lines of the archive do not fit together. It is damaged, or somebody changed it: take
+ *         another copy of it.
  *   20    Pasting: the text is not UTF-8, or is cut in the middle of a character. Nothing is wrong with the sheet:
  *         bring the text to UTF-8, or give all of it.
  *
  * If wimtaze_thrown is not 0, an edit that waited has met 8 or 9. The file laptop.h, which is installed with the
  * examples, keeps all these rules and can be copied, with anew.h for a laptop that lost its sheet; playing_hall.c there
- * runs sixteen such laptops over a bad network, joining.c is for a laptop that joins late, and catching_up.c for one
- * that was cut off.
+ * runs sixteen such laptops over a bad network, joining.c is for a laptop that joins late, catching_up.c for one that
+ * was cut off, and archive.c for who wants to read who typed what.
  *
  *
  * The cursor
@@ -320,6 +326,33 @@
  * It cannot tell who typed the characters, nor whether the sheet is an old one: rule 1 is for your program to keep.
  *
  *
+ * The archive by author
+ *
+ * A saved sheet has its characters from the top, whoever typed them. To read who typed what, take it to its archive,
+ * which has the same characters by author:
+ *
+ *     static uint8_t archive[WIMTAZE_ARCHIVE_MAX];
+ *     uint64_t reply = wimtaze_archive(sheet, length, archive, sizeof archive);
+ *
+ * It lists the characters by rising identifier, erased ones too: all that laptop 1 typed, in the sequence in which it
+ * typed them, then all of laptop 2, and so on. Each line tells the place of its character on the sheet, counted from 1
+ * at the top, erased ones counted. What waits follows as in a saved sheet. The layouts have the lines, and archive.c
+ * among the examples prints them for a person.
+ *
+ * Nothing is lost or added. The way back, wimtaze_unarchive, gives the sheet that was rearranged, byte for byte,
+ * whatever its characters; and an archive that it takes is that of one sheet and no other. So neither raises a clock: a
+ * sheet or an archive with a clock that is too low (see the layouts) is refused with 3.
+ *
+ * The way back takes an archive whose places are 1 to the number of its characters, each once, and whose identifiers
+ * rise. Any other is refused with 19: where a place is missing or stands twice, where two lines were exchanged, where
+ * there are more than 1,024 of them. Then the characters go to their places, and the form of that sheet is looked at,
+ * as ever. An archive that somebody changed so that it fits together is taken, as that of another sheet: it carries no
+ * signature.
+ *
+ * No other call takes an archive: it is refused with 1, unless it has no character, and is then the saved sheet too. To
+ * go on from the sheet of an archive is to go on from an old one: see rule 1.
+ *
+ *
  * The layouts
  *
  * Lines and saved sheets are text, to be sent and kept in files as they are. Fields are parted by one tab, each line
@@ -339,7 +372,17 @@
  * text and 0 1 its end. Turn is how many times the character was erased and restored, both counted: it is shown when
  * its turn is even. Laptops are 1 to 16, clocks 1 to 65,535 (after S2 from 0), turns 0 to 255 (after E from 1), and
  * code points 0 to 1,114,111 without 55,296 to 57,343. A clock after S2 that is below that of one of the laptop's own
- * characters on the sheet, waiting ones among them, is taken as that one's.
+ * characters on the sheet, waiting ones among them, is taken as that one's; archiving and the way back refuse it.
+ *
+ * An archive has, in this order:
+ *
+ *     S2 laptop clock                                                            whose it is, how many it has typed
+ *     P place laptop clock codepoint turn prevlaptop prevclock nextlaptop nextclock
+ *                                                                                each character, by rising identifier
+ *     I and E lines                                                              the edits that wait, earliest first
+ *
+ * A P line is the C line of its character with the place before the other numbers, 1 to 1,024 from the top. Identifiers
+ * rise by laptop and then by clock.
  *
  * A list of the characters on a sheet has, in this order:
  *
@@ -370,16 +413,16 @@
  *
  * Those versions sent D lines too, for erased characters. They are read still when they come, as E with turn 1. But
  * those versions refuse E lines: let all laptops of a sheet change to this version together, each with its own sheet
- * upgraded. To go on from a sheet of an archive is to go on from an old one: see rule 1.
+ * upgraded. To go on from a sheet that was put away is to go on from an old one: see rule 1.
  *
  *
  * The calls
  *
- * Inputs. A length is in bytes. Any bytes and any numbers may be passed: what is not a sheet, a line, a heap, a list
- * or UTF-8 is refused. Inputs are only read, and are not needed after the call.
+ * Inputs. A length is in bytes. Any bytes and any numbers may be passed: what is not a sheet, a line, a heap, a list,
+ * an archive or UTF-8 is refused. Inputs are only read, and are not needed after the call.
  *
  * Outputs. They are yours; the library writes only between the pointer and its length. When the word is done or
- * waits, the new sheet (or the text, the list, the answer) stands from the first byte of the first output,
+ * waits, the new sheet (or the text, the list, the answer, the archive) stands from the first byte of the first output,
  * wimtaze_written bytes of it, and the line from the first byte of line_out, or the lines from that of lines_out,
  * wimtaze_line_written bytes of it; no zero byte is added, and the bytes after them are as they were. When the word is
  * known or refused, no byte of any output is changed. Buffers of the sizes below are always long enough.
@@ -401,9 +444,9 @@ extern "C" {
 #endif
 
 /* The version of this header and of the library that it came with. */
-#define WIMTAZE_VERSION "0.11.0"
+#define WIMTAZE_VERSION "0.12.0"
 #define WIMTAZE_VERSION_MAJOR 0
-#define WIMTAZE_VERSION_MINOR 11
+#define WIMTAZE_VERSION_MINOR 12
 #define WIMTAZE_VERSION_PATCH 0
 
 /* The limits of a sheet. */
@@ -420,6 +463,7 @@ extern "C" {
 #define WIMTAZE_TEXT_MAX 4096       /* the text */
 #define WIMTAZE_LIST_MAX 31754      /* the list of the characters on a sheet */
 #define WIMTAZE_ANSWER_MAX 56320    /* the lines that answer a list */
+#define WIMTAZE_ARCHIVE_MAX 56332   /* the archive of a sheet */
 
 /* The bytes of the longest heap that is not refused: 1,024 lines of typed characters and 1,024 of erased ones. */
 #define WIMTAZE_HEAP_MAX 56320
@@ -440,12 +484,12 @@ enum wimtaze_words {
 };
 
 /*
- * Why a call is turned away. Where several hold, the first is told, in this order: 1, 2, 17, 18, 20, 3, 15, 16, 4, 13,
- * 14, 5 to 12; but in pasting 11 comes before 9.
+ * Why a call is turned away. Where several hold, the first is told, in this order: 1, 2, 17, 18, 19, 20, 3, 15, 16, 4,
+ * 13, 14, 5 to 12; but in pasting 11 comes before 9.
  */
 enum wimtaze_refusals {
     WIMTAZE_REFUSAL_NONE = 0,           /* not refused */
-    WIMTAZE_REFUSAL_LAYOUT = 1,         /* the line, the heap, the list or the saved sheet lacks its layout */
+    WIMTAZE_REFUSAL_LAYOUT = 1,         /* the line, the heap, the list, the archive or the sheet lacks its layout */
     WIMTAZE_REFUSAL_RANGE = 2,          /* a number, in one of these or handed to the call, is out of its range */
     WIMTAZE_REFUSAL_FORM = 3,           /* the saved sheet contradicts itself: the library never writes such a one */
     WIMTAZE_REFUSAL_POSITION = 4,       /* no such gap or place: above the count of shown characters, or place 0 */
@@ -463,6 +507,7 @@ enum wimtaze_refusals {
     WIMTAZE_REFUSAL_UNREACHABLE = 16,   /* the saved sheet is one that no typing could make */
     WIMTAZE_REFUSAL_HEAP_FULL = 17,     /* the heap has more than 1,024 lines of a kind, repeats counted */
     WIMTAZE_REFUSAL_MISLISTED = 18,     /* the list's total, a clock 0 or the sequence of its lines is wrong */
+    WIMTAZE_REFUSAL_MISARRANGED = 19,   /* the archive's places are not 1 to their number, or identifiers do not rise */
     WIMTAZE_REFUSAL_NOT_UTF8 = 20       /* the text to be pasted is not UTF-8 */
 };
 
@@ -594,6 +639,22 @@ uint64_t wimtaze_upgrade(const uint8_t *old, size_t old_length, uint8_t *sheet_o
 uint64_t wimtaze_downgrade(const uint8_t *sheet, size_t sheet_length, uint8_t *old_out, size_t old_out_length);
 
 /*
+ * Takes a saved sheet and writes its archive: the characters by rising identifier, each with its place on the sheet,
+ * erased ones too, and then what waits. wimtaze_unarchive undoes it to the byte. No clock is raised: one that is too
+ * low is 3.
+ * Refusals: 1, 2, 3, 12.
+ */
+uint64_t wimtaze_archive(const uint8_t *sheet, size_t sheet_length, uint8_t *archive_out, size_t archive_out_length);
+
+/*
+ * Takes an archive and writes the saved sheet that it was made of: the characters at their places. wimtaze_archive
+ * undoes it to the byte. Places that are not 1 to the number of characters, each once, and identifiers that do not rise
+ * are 19; the form, the clock in it, is looked at afterwards.
+ * Refusals: 1, 2, 19, 3, 12. 1, 2 and 19 are of the whole archive, however long it is.
+ */
+uint64_t wimtaze_unarchive(const uint8_t *archive, size_t archive_length, uint8_t *sheet_out, size_t sheet_out_length);
+
+/*
  * Every call but wimtaze_moved returns one number, from the lowest bit up: the word (2 bits), the refusal (6), the
  * counts carried and thrown (12 each), and the lengths of what was written to the first output and to the line's (16
  * each). wimtaze_receive_at has the shift in place of the last, in two's complement, and wimtaze_build what it left out
@@ -616,7 +677,7 @@ static inline enum wimtaze_refusals wimtaze_refusal(uint64_t reply)
 
 /*
  * How many edits the call carried out, its own and those that waited for it: at most 513, by pasting at most 1,536, and
- * 1 by erasing and by restoring; 0 by building, loading, listing and answering, and unless the word is done.
+ * 1 by erasing and by restoring; 0 by building, loading, listing, answering and archiving, and unless the word is done.
  */
 static inline unsigned wimtaze_carried(uint64_t reply)
 {
@@ -635,7 +696,10 @@ static inline unsigned wimtaze_left_out(uint64_t reply)
     return (unsigned)(reply >> 20 & 4095);
 }
 
-/* How many bytes were written to the first output: the saved sheet, in either form, the text, the list, the answer. */
+/*
+ * How many bytes were written to the first output: the saved sheet, in either form, the text, the list, the answer, the
+ * archive.
+ */
 static inline size_t wimtaze_written(uint64_t reply)
 {
     return (size_t)(reply >> 32 & 65535);
