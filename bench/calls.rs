@@ -1,7 +1,7 @@
 //! Times the C calls of the static library, saved sheets in and out, against the same calls of the plain Rust in
-//! tests/native/reference.rs; and pasting against typing through the library, building against receiving, and these
-//! two, loading, listing and answering against the Rust with a table in tabled.rs. Both sides leave the same bytes,
-//! which is checked on the way.
+//! tests/native/reference.rs; and pasting against typing through the library, building against receiving, archiving
+//! against showing and upgrading, and all of these, loading, listing and answering against the Rust with a table in
+//! tabled.rs. Both sides leave the same bytes, which is checked on the way.
 
 #[path = "../tests/native/library.rs"]
 #[allow(dead_code)]
@@ -15,12 +15,12 @@ mod table;
 mod tabled;
 
 use library::{
-    wimtaze_answer, wimtaze_build, wimtaze_erase, wimtaze_list, wimtaze_load, wimtaze_paste, wimtaze_receive,
-    wimtaze_text, wimtaze_type,
+    wimtaze_answer, wimtaze_archive, wimtaze_build, wimtaze_erase, wimtaze_list, wimtaze_load, wimtaze_paste,
+    wimtaze_receive, wimtaze_text, wimtaze_type, wimtaze_unarchive, wimtaze_upgrade,
 };
 use reference::{
-    erase_call, operation_line, read_heap, read_numbers, read_sheet, receive_call, sheet_bytes, text_call, type_call,
-    Form, Outcome, Reply,
+    erase_call, operation_line, placed_bytes, read_archive, read_heap, read_numbers, read_sheet, read_unraised,
+    receive_call, saved_bytes, sheet_bytes, text_call, type_call, Form, Outcome, Reply,
 };
 use tabled::Tabled;
 
@@ -30,6 +30,7 @@ const SHEET: usize = 51_212;
 const LINES: usize = 37_888;
 const LIST: usize = 31_754;
 const ANSWER: usize = 56_320;
+const ARCHIVE: usize = 56_332;
 
 /// What the calls leave: the saved sheet, and the lines that were sent.
 #[derive(Clone, PartialEq)]
@@ -261,6 +262,58 @@ fn answered_tabled(from: &[u8], list: &[u8], times: usize) -> Left {
     left
 }
 
+/// The archive of a sheet, written so many times.
+fn archived(from: &[u8], times: usize) -> Left {
+    let (mut left, mut archive) = (empty(2), [0u8; ARCHIVE]);
+    for _ in 0..times {
+        let r = unsafe { wimtaze_archive(from.as_ptr(), from.len(), archive.as_mut_ptr(), ARCHIVE) };
+        left.keep_written(r, &archive, &[]);
+    }
+    left
+}
+
+fn archived_tabled(from: &[u8], times: usize) -> Left {
+    let mut left = empty(2);
+    for _ in 0..times {
+        let read = read_unraised(from, Form::Second).and_then(Tabled::formed);
+        let sheet = read.unwrap_or_else(|n| panic!("refused with {n}"));
+        let placed = sheet.by_author();
+        left.sheet = placed_bytes(&sheet.sheet(), &placed);
+    }
+    left
+}
+
+/// The sheet of an archive, written so many times.
+fn unarchived(from: &[u8], times: usize) -> Left {
+    let (mut left, mut sheet) = (empty(2), [0u8; SHEET]);
+    for _ in 0..times {
+        let r = unsafe { wimtaze_unarchive(from.as_ptr(), from.len(), sheet.as_mut_ptr(), SHEET) };
+        left.keep_written(r, &sheet, &[]);
+    }
+    left
+}
+
+fn unarchived_tabled(from: &[u8], times: usize) -> Left {
+    let mut left = empty(2);
+    for _ in 0..times {
+        let read = read_archive(from).and_then(Tabled::formed);
+        left.sheet = sheet_bytes(&read.unwrap_or_else(|n| panic!("refused with {n}")).sheet());
+    }
+    left
+}
+
+/// The text of a sheet and the way forward of the same in the first form, so many times each: what both calls read and
+/// write, without the rearranging.
+fn shown_and_upgraded(from: &[u8], old: &[u8], times: usize) -> u64 {
+    let (mut text, mut sheet, mut last) = ([0u8; 4096], [0u8; SHEET], 0);
+    for _ in 0..times {
+        let shown = unsafe { wimtaze_text(from.as_ptr(), from.len(), text.as_mut_ptr(), text.len()) };
+        let upgraded = unsafe { wimtaze_upgrade(old.as_ptr(), old.len(), sheet.as_mut_ptr(), SHEET) };
+        last = (shown | upgraded) & 3;
+    }
+    last
+}
+
 /// The list that marks nothing, to which everything is answered.
 const NOTHING: &[u8] = b"H\t2\t0\n";
 
@@ -300,6 +353,16 @@ fn going_round(ids: &[(u64, u64)]) -> Vec<u8> {
     sheet_of(ids.iter().zip(before).zip(behind).map(|((id, previous), next)| (*id, *previous, *next)))
 }
 
+/// Identifiers from the highest to the lowest.
+fn falling() -> Vec<(u64, u64)> {
+    rising().into_iter().rev().collect()
+}
+
+/// The same in an order by chance.
+fn by_chance() -> Vec<(u64, u64)> {
+    shuffled(&rising())
+}
+
 /// Identifiers of which each is in a word of its own.
 fn apart() -> Vec<(u64, u64)> {
     (0..COUNT).map(|k| (k / 64 + 1, k % 64 * 64 + 63)).collect()
@@ -313,14 +376,14 @@ fn joined_late() -> Vec<Vec<u8>> {
     typed_as(&ids).into_iter().chain(turns).collect()
 }
 
-/// The same lines in an order by chance, the same each time.
-fn shuffled(lines: &[Vec<u8>]) -> Vec<Vec<u8>> {
-    let (mut lines, mut seed) = (lines.to_vec(), 1u64);
-    for k in (1..lines.len()).rev() {
+/// The same lines or identifiers in an order by chance, the same each time.
+fn shuffled<T: Clone>(all: &[T]) -> Vec<T> {
+    let (mut all, mut seed) = (all.to_vec(), 1u64);
+    for k in (1..all.len()).rev() {
         seed = seed.wrapping_mul(6_364_136_223_846_793_005).wrapping_add(1_442_695_040_888_963_407);
-        lines.swap(k, (seed >> 33) as usize % (k + 1));
+        all.swap(k, (seed >> 33) as usize % (k + 1));
     }
-    lines
+    all
 }
 
 fn insert_line(id: (u64, u64), previous: (u64, u64), next: (u64, u64)) -> Vec<u8> {
@@ -410,6 +473,37 @@ fn main() {
         table::row(name, &|| loaded_tabled(sheet, 10).sum(), &|| loaded(sheet, 10).sum());
     }
     lists(&full.sheet, &of_heap);
+    archives(&of_heap);
+}
+
+/// Archiving and the way back, of rows that sixteen laptops typed in turn, each after the one before, and of such as
+/// stand between the marks in an order by chance and from the highest to the lowest.
+fn archives(in_turn: &[u8]) {
+    let (chance, falling) = (between_the_marks(&by_chance()), between_the_marks(&falling()));
+    let sheets = [("typed in turn", in_turn), ("by chance", &chance), ("falling", &falling)];
+    for (name, sheet) in sheets {
+        let archive = archived(sheet, 1).sheet;
+        let old = saved_bytes(&without_turns(sheet), Form::First);
+        table::row(&format!("10 times wimtaze_archive, {name}"), &|| archived_tabled(sheet, 10).sum(), &|| {
+            archived(sheet, 10).sum()
+        });
+        table::row("the same, against text and upgrade", &|| shown_and_upgraded(sheet, &old, 10), &|| {
+            u64::from(archived(sheet, 10).sheet != archive)
+        });
+        table::row(&format!("10 times wimtaze_unarchive, {name}"), &|| unarchived_tabled(&archive, 10).sum(), &|| {
+            unarchived(&archive, 10).sum()
+        });
+        table::row("the same, against text and upgrade", &|| shown_and_upgraded(sheet, &old, 10), &|| {
+            u64::from(unarchived(&archive, 10).sheet != sheet)
+        });
+    }
+}
+
+/// The sheet with no turn above 1, so that the first form can say it.
+fn without_turns(sheet: &[u8]) -> reference::Sheet {
+    let mut sheet = read_sheet(sheet).unwrap();
+    sheet.rows.iter_mut().for_each(|row| row.turn %= 2);
+    sheet
 }
 
 /// Listing, and answering everything, on a sheet that was typed, one that was built, and such as are chosen for it.

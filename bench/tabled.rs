@@ -1,6 +1,6 @@
-//! Receiving, pasting, building, loading, listing and answering with a table, as a Rust programmer would write them for
-//! speed: the checks of documents 01 and 02 at each call, the form and the table among them, rows found through the
-//! chains of a table that is kept beside them and made anew after an insert, the sheet changed in place.
+//! Receiving, pasting, building, loading, listing, answering and archiving with a table, as a Rust programmer would
+//! write them for speed: the checks of documents 01 and 02 at each call, the form and the table among them, rows found
+//! through the chains of a table that is kept beside them and made anew after an insert, the sheet changed in place.
 
 use crate::reference::{is_code_point, read_block, Id, Insert, Operation, Reply, Row, Sheet, Turn, BEGIN, END};
 use std::io::Write;
@@ -160,6 +160,12 @@ impl Tabled {
         tabled.rows.extend(sheet.rows);
         tabled.enter_rows();
         tabled
+    }
+
+    /// The same if it is in form.
+    pub fn formed(sheet: Sheet) -> Result<Tabled, u8> {
+        let tabled = Tabled::of(sheet);
+        if tabled.in_form() { Ok(tabled) } else { Err(3) }
     }
 
     pub fn sheet(self) -> Sheet {
@@ -487,6 +493,13 @@ impl Tabled {
             writeln!(out, "E\t{}\t{}\t{}\t{}", self.laptop, id.laptop, id.clock, r.turn).unwrap();
         }
         Ok(out)
+    }
+
+    /// The rows by rising identifier, each with its place.
+    pub fn by_author(&self) -> Vec<(usize, Row)> {
+        let mut placed: Vec<(usize, Row)> = (1..).zip(self.rows.iter().copied()).collect();
+        placed.sort_unstable_by_key(|(_, r)| r.insert.id);
+        placed
     }
 
     /// Loading for use, of a sheet that was read: refusal 3 or 16, or none.

@@ -10,7 +10,7 @@
 
 enum {
     GUARD = 64,
-    ROOM = WIMTAZE_ANSWER_MAX + 64,
+    ROOM = WIMTAZE_ARCHIVE_MAX + 64,
     LINE_ROOM = WIMTAZE_LINE_MAX + 27,
     LINES_ROOM = WIMTAZE_LINES_MAX + 64,
     HEAP_ROOM = 2 * WIMTAZE_HEAP_MAX,
@@ -538,6 +538,26 @@ static uint64_t downgrade_in(size_t room)
 static uint64_t downgrade(void)
 {
     return downgrade_in(ROOM);
+}
+
+static uint64_t archive_in(size_t room)
+{
+    return change_form_in(wimtaze_archive, room);
+}
+
+static uint64_t archive(void)
+{
+    return archive_in(ROOM);
+}
+
+static uint64_t unarchive_in(size_t room)
+{
+    return change_form_in(wimtaze_unarchive, room);
+}
+
+static uint64_t unarchive(void)
+{
+    return unarchive_in(ROOM);
 }
 
 /* Loads the sheet at hand for use. What is loaded then is loaded once more, which gives the same reply and bytes. */
@@ -2986,6 +3006,325 @@ static void longest_answer(void)
     CHECK(wrote(answer_in(WIMTAZE_ANSWER_MAX), want));
 }
 
+/* ---- Req 10: the archive by author */
+
+/* A saved sheet and its archive, each taken to the other, into outputs of every length up to one too long. */
+static int rearranged(const char *saved, const char *archived)
+{
+    int all = 1;
+    for (size_t room = 0; room <= strlen(archived) + 1; room++) {
+        load(saved);
+        uint64_t reply = archive_in(room);
+        all = all && (room < strlen(archived) ? refused(reply, WIMTAZE_REFUSAL_OUTPUT) : changed(reply, archived));
+    }
+    for (size_t room = 0; room <= strlen(saved) + 1; room++) {
+        load(archived);
+        uint64_t reply = unarchive_in(room);
+        all = all && (room < strlen(saved) ? refused(reply, WIMTAZE_REFUSAL_OUTPUT) : changed(reply, saved));
+    }
+    return all;
+}
+
+/* Rows go by laptop and then by clock, each with its place, hidden ones too; what waits stays as it was. */
+static void archived(void)
+{
+    static const char *const pairs[][2] = {{"S2 7 0\n", "S2 7 0\n"}, {"S2 16 65535\n", "S2 16 65535\n"},
+        {"S2 7 0\nI 3 1 65 4 1 0 1\nE 2 5 1 9\nE 1 5 1 9\nI 2 1 66 3 1 0 1\n",
+         "S2 7 0\nI 3 1 65 4 1 0 1\nE 2 5 1 9\nE 1 5 1 9\nI 2 1 66 3 1 0 1\n"},
+        {"S2 7 0\nC 1 1 65 0 0 0 0 1\n", "S2 7 0\nP 1 1 1 65 0 0 0 0 1\n"},
+        {"S2 16 0\nC 3 1 67 0 0 0 1 1\nC 1 1 65 0 0 0 0 1\nC 2 1 66 0 0 0 0 1\nC 3 2 68 0 1 1 0 1\n",
+         "S2 16 0\nP 2 1 1 65 0 0 0 0 1\nP 3 2 1 66 0 0 0 0 1\nP 1 3 1 67 0 0 0 1 1\nP 4 3 2 68 0 1 1 0 1\n"},
+        /* a hidden row has a place, and those below it count it */
+        {"S2 3 7\nC 3 7 66 1 0 0 0 1\nC 2 1 65 255 0 0 0 1\nC 1 9 33 254 3 7 0 1\n",
+         "S2 3 7\nP 3 1 9 33 254 3 7 0 1\nP 2 2 1 65 255 0 0 0 1\nP 1 3 7 66 1 0 0 0 1\n"},
+        /* clocks by number and not by digits, laptops likewise */
+        {"S2 1 0\nC 2 10 65 0 0 0 0 1\nC 2 9 65 0 0 0 0 1\nC 16 1 65 0 0 0 0 1\nC 9 1 65 0 0 0 0 1\n",
+         "S2 1 0\nP 2 2 9 65 0 0 0 0 1\nP 1 2 10 65 0 0 0 0 1\nP 4 9 1 65 0 0 0 0 1\nP 3 16 1 65 0 0 0 0 1\n"},
+        {"S2 1 0\nC 16 65535 1114111 0 0 0 0 1\nC 2 1 0 3 16 65535 0 1\nI 3 1 65 4 1 0 1\nE 6 4 9 5\n",
+         "S2 1 0\nP 2 2 1 0 3 16 65535 0 1\nP 1 16 65535 1114111 0 0 0 0 1\nI 3 1 65 4 1 0 1\nE 6 4 9 5\n"},
+        /* a clock that is just high enough */
+        {"S2 2 5\nC 2 5 65 0 0 0 0 1\n", "S2 2 5\nP 1 2 5 65 0 0 0 0 1\n"},
+        {"S2 2 5\nI 2 5 65 9 9 0 1\n", "S2 2 5\nI 2 5 65 9 9 0 1\n"},
+        /* P7's sheet, and one that no typing makes: whatever the rows */
+        {"S2 16 0\nC 1 1 65 0 0 0 2 1\nC 2 1 66 0 1 1 0 1\n",
+         "S2 16 0\nP 1 1 1 65 0 0 0 2 1\nP 2 2 1 66 0 1 1 0 1\n"},
+        {"S2 4 0\nC 2 1 65 0 0 0 0 1\nC 1 1 66 0 0 0 0 1\n", "S2 4 0\nP 2 1 1 66 0 0 0 0 1\nP 1 2 1 65 0 0 0 0 1\n"}};
+    for (size_t k = 0; k < sizeof pairs / sizeof *pairs; k++)
+        CHECK(rearranged(pairs[k][0], pairs[k][1]));
+}
+
+/* The desk and the hall type a note between them, and an arbiter reads who typed what; then they go on. */
+static void who_typed_what(void)
+{
+    empty(1, ROOM);
+    CHECK(done(paste(0, "R5."), 3, 0));
+    CHECK(done(receive("I 2 1 54 1 1 1 2\n"), 1, 0));
+    CHECK(done(receive("E 2 1 2 1\n"), 1, 0));
+    CHECK(waits(receive("I 3 2 33 3 1 0 1\n")));
+    CHECK(first_is(text(), "R6."));
+    CHECK(changed(archive(), "S2 1 3\nP 1 1 1 82 0 0 0 0 1\nP 3 1 2 53 1 1 1 0 1\nP 4 1 3 46 0 1 2 0 1\n"
+                             "P 2 2 1 54 0 1 1 1 2\nI 3 2 33 3 1 0 1\n"));
+    CHECK(refused(text(), WIMTAZE_REFUSAL_LAYOUT) && refused(use(), WIMTAZE_REFUSAL_LAYOUT));
+    CHECK(refused(archive(), WIMTAZE_REFUSAL_LAYOUT));
+    CHECK(changed(unarchive(), "S2 1 3\nC 1 1 82 0 0 0 0 1\nC 2 1 54 0 1 1 1 2\nC 1 2 53 1 1 1 0 1\n"
+                               "C 1 3 46 0 1 2 0 1\nI 3 2 33 3 1 0 1\n"));
+    CHECK(refused(unarchive(), WIMTAZE_REFUSAL_LAYOUT));
+    CHECK(done(receive("I 3 1 45 1 3 0 1\n"), 2, 0) && first_is(text(), "R6.-!"));
+    CHECK(done(archive(), 0, 0) && done(unarchive(), 0, 0) && first_is(text(), "R6.-!"));
+}
+
+/* A clock that loading raises is 3 on either way: that of a row, of a hidden one, of what waits. */
+static void archive_clock(void)
+{
+    static const char *const low[][2] = {
+        {"S2 2 4\nC 2 5 65 0 0 0 0 1\n", "S2 2 4\nP 1 2 5 65 0 0 0 0 1\n"},
+        {"S2 2 0\nC 1 1 65 0 0 0 0 1\nC 2 1 65 1 0 0 0 1\n", "S2 2 0\nP 1 1 1 65 0 0 0 0 1\nP 2 2 1 65 1 0 0 0 1\n"},
+        {"S2 2 6\nI 2 7 65 9 9 0 1\n", "S2 2 6\nI 2 7 65 9 9 0 1\n"},
+        {"S2 16 65534\nC 16 65535 65 0 0 0 0 1\n", "S2 16 65534\nP 1 16 65535 65 0 0 0 0 1\n"}};
+    for (size_t k = 0; k < sizeof low / sizeof *low; k++) {
+        load(low[k][0]);
+        CHECK(refused(archive(), WIMTAZE_REFUSAL_FORM) && refused(archive_in(0), WIMTAZE_REFUSAL_FORM));
+        load(low[k][1]);
+        CHECK(refused(unarchive(), WIMTAZE_REFUSAL_FORM) && refused(unarchive_in(0), WIMTAZE_REFUSAL_FORM));
+        /* Loaded for use it is raised, and then it can go. */
+        load(low[k][0]);
+        CHECK(done(use(), 0, 0) && done(archive(), 0, 0));
+    }
+}
+
+/* Refusals 1, 2 and 3 of a sheet that is to be archived. */
+static void not_archived(void)
+{
+    static const char *const layouts[] = {"", "\n", "S 1 0\n", "S2 1 0", "S2 1\n", "S2 1 0\n\n", "S2 1 0\r\n",
+        "S2 01 0\n", "S2 1 0\nD 1 1 1\n", "S2 1 0\nP 1 2 1 65 0 0 0 0 1\n", "S2 1 0\nC 1 2 1 65 0 0 0 0 1\n",
+        "S2 1 0\nC 2 1 65 0 0 0 0 1\nP 2 3 1 65 0 0 0 0 1\n", "S2 1 0\nE 1 1 1 1\nC 2 1 65 0 0 0 0 1\n",
+        "S2 1 0\nC 2 1 65 0 0 0 0 1"};
+    static const char *const numbers[] = {"S2 0 0\n", "S2 17 0\n", "S2 1 65536\n", "S2 1 0\nC 2 1 65 256 0 0 0 1\n",
+        "S2 1 0\nC 17 1 65 0 0 0 0 1\n", "S2 1 0\nC 2 0 65 0 0 0 0 1\n", "S2 1 0\nC 2 1 55296 0 0 0 0 1\n",
+        "S2 1 0\nC 2 1 65 0 2 1 0 1\n", "S2 1 0\nC 2 1 65 0 0 0 0 0\n", "S2 1 0\nE 1 1 1 0\n",
+        "S2 1 0\nC 2 18446744073709551617 65 0 0 0 0 1\n"};
+    static const char *const forms[] = {"S2 1 0\nC 2 1 65 0 0 0 0 1\nC 2 1 65 0 0 0 0 1\n",
+        "S2 1 0\nC 2 1 65 0 3 1 0 1\n", "S2 1 0\nC 2 1 65 0 3 1 0 1\nC 3 1 65 0 0 0 0 1\n",
+        "S2 1 0\nI 2 1 65 0 0 0 1\n", "S2 1 0\nE 1 1 1 1\nE 1 1 1 1\n", "S2 1 0\nC 2 1 65 1 0 0 0 1\nE 3 2 1 2\n",
+        "S2 1 0\nC 2 1 65 0 0 0 0 1\nI 2 1 65 3 1 0 1\n"};
+    for (size_t k = 0; k < sizeof layouts / sizeof *layouts; k++) {
+        load(layouts[k]);
+        CHECK(refused(archive(), WIMTAZE_REFUSAL_LAYOUT));
+    }
+    for (size_t k = 0; k < sizeof numbers / sizeof *numbers; k++) {
+        load(numbers[k]);
+        CHECK(refused(archive(), WIMTAZE_REFUSAL_RANGE));
+    }
+    for (size_t k = 0; k < sizeof forms / sizeof *forms; k++) {
+        load(forms[k]);
+        CHECK(refused(archive(), WIMTAZE_REFUSAL_FORM));
+    }
+    load_rows(1025);
+    CHECK(refused(archive(), WIMTAZE_REFUSAL_FORM));
+}
+
+/* Refusals 1 and 2 of an archive. */
+static void not_read_as_archive(void)
+{
+    static const char *const layouts[] = {"", "\n", "S 1 0\n", "S2 1 0", "S2 1\n", "S2 1 0 0\n", "S2 1 0\n\n",
+        "P 1 2 1 65 0 0 0 0 1\n", "S2 1 0\nC 2 1 65 0 0 0 0 1\n", "S2 1 0\nC 1 2 1 65 0 0 0 0 1\n",
+        "S2 1 0\nP 2 1 65 0 0 0 0 1\n", "S2 1 0\nP 1 2 1 65 0 0 0 0 1 1\n", "S2 1 0\np 1 2 1 65 0 0 0 0 1\n",
+        "S2 1 0\nP 01 2 1 65 0 0 0 0 1\n", "S2 1 0\nP +1 2 1 65 0 0 0 0 1\n", "S2 1 0\nP -1 2 1 65 0 0 0 0 1\n",
+        "S2 1 0\nP  2 1 65 0 0 0 0 1\n", "S2 1 0\nP 1 2 1 65 00 0 0 0 1\n", "S2 1 0\nP 1 2 1 65 0 0 0 0 1 \n",
+        "S2 1 0\nP 1 2 1 65 0 0 0 0 1\r\n", "S2 1 0\nP 1 2 1 65 0 0 0 0 1", "S2 1 0\nP 1 2 1 65 0 0 0 0 1\n\n",
+        "S2 1 0\nP 1 2 1 65 0 0 0 0 1\nC 3 1 65 0 0 0 0 1\n", "S2 1 0\nP 1 2 1 65 0 0 0 0 1\nS2 1 0\n",
+        "S2 1 0\nE 1 1 1 1\nP 1 2 1 65 0 0 0 0 1\n", "S2 1 0\nD 1 1 1\n", "S2 1 0\nH 1 0\n",
+        "S2 1 0\nP 1 2 1 65 0 0 0 0 1\nD 1 1 1\n", "S 1 0\nP 1 2 1 65 0 0 0 0 1\n"};
+    static const char *const numbers[] = {"S2 0 0\n", "S2 17 0\n", "S2 1 65536\n", "S2 1 0\nP 0 2 1 65 0 0 0 0 1\n",
+        "S2 1 0\nP 1025 2 1 65 0 0 0 0 1\n", "S2 1 0\nP 65537 2 1 65 0 0 0 0 1\n",
+        "S2 1 0\nP 4294967297 2 1 65 0 0 0 0 1\n", "S2 1 0\nP 18446744073709551617 2 1 65 0 0 0 0 1\n",
+        "S2 1 0\nP 9999999999999999999999999999999999999999 2 1 65 0 0 0 0 1\n",
+        "S2 1 0\nP 1 17 1 65 0 0 0 0 1\n", "S2 1 0\nP 1 0 1 65 0 0 0 0 1\n", "S2 1 0\nP 1 2 0 65 0 0 0 0 1\n",
+        "S2 1 0\nP 1 2 65536 65 0 0 0 0 1\n", "S2 1 0\nP 1 2 1 55296 0 0 0 0 1\n",
+        "S2 1 0\nP 1 2 1 1114112 0 0 0 0 1\n", "S2 1 0\nP 1 2 1 65 256 0 0 0 1\n",
+        "S2 1 0\nP 1 2 1 65 0 2 1 0 1\n", "S2 1 0\nP 1 2 1 65 0 0 1 0 1\n", "S2 1 0\nP 1 2 1 65 0 0 0 0 0\n",
+        "S2 1 0\nP 1 2 1 65 0 0 0 2 1\n", "S2 1 0\nP 1 2 1 65 0 0 0 0 1\nP 0 3 1 65 0 0 0 0 1\n",
+        "S2 1 0\nP 1 2 1 65 0 0 0 0 1\nE 1 1 1 0\n", "S2 1 0\nI 1 1 65 1 1 0 1\n"};
+    for (size_t k = 0; k < sizeof layouts / sizeof *layouts; k++) {
+        load(layouts[k]);
+        CHECK(refused(unarchive(), WIMTAZE_REFUSAL_LAYOUT));
+    }
+    for (size_t k = 0; k < sizeof numbers / sizeof *numbers; k++) {
+        load(numbers[k]);
+        CHECK(refused(unarchive(), WIMTAZE_REFUSAL_RANGE));
+    }
+}
+
+/* Places that are not 1 to the number of rows, each once; identifiers that do not rise, by laptop or by clock. */
+static void misarranged(void)
+{
+    static const char *const places[] = {"S2 1 0\nP 2 2 1 65 0 0 0 0 1\n", "S2 1 0\nP 1024 2 1 65 0 0 0 0 1\n",
+        "S2 1 0\nP 1 2 1 65 0 0 0 0 1\nP 1 3 1 65 0 0 0 0 1\n",
+        "S2 1 0\nP 2 2 1 65 0 0 0 0 1\nP 2 3 1 65 0 0 0 0 1\n",
+        "S2 1 0\nP 1 2 1 65 0 0 0 0 1\nP 3 3 1 65 0 0 0 0 1\n",
+        "S2 1 0\nP 2 2 1 65 0 0 0 0 1\nP 3 3 1 65 0 0 0 0 1\n",
+        "S2 1 0\nP 3 2 1 65 0 0 0 0 1\nP 1 3 1 65 0 0 0 0 1\nP 3 4 1 65 0 0 0 0 1\n",
+        "S2 1 0\nP 1 2 1 65 0 0 0 0 1\nP 1024 3 1 65 0 0 0 0 1\nP 2 4 1 65 0 0 0 0 1\n"};
+    static const char *const identifiers[] = {
+        "S2 1 0\nP 1 3 1 65 0 0 0 0 1\nP 2 2 1 65 0 0 0 0 1\n", "S2 1 0\nP 2 3 1 65 0 0 0 0 1\nP 1 2 1 65 0 0 0 0 1\n",
+        "S2 1 0\nP 1 2 2 65 0 0 0 0 1\nP 2 2 1 65 0 0 0 0 1\n", "S2 1 0\nP 1 3 1 65 0 0 0 0 1\nP 2 2 9 65 0 0 0 0 1\n",
+        "S2 1 0\nP 1 10 1 65 0 0 0 0 1\nP 2 9 1 65 0 0 0 0 1\n",
+        "S2 1 0\nP 1 2 10 65 0 0 0 0 1\nP 2 2 9 65 0 0 0 0 1\n",
+        /* a repeated one, with the same fields and with others */
+        "S2 1 0\nP 1 2 1 65 0 0 0 0 1\nP 2 2 1 65 0 0 0 0 1\n", "S2 1 0\nP 1 2 1 65 0 0 0 0 1\nP 2 2 1 66 1 3 1 0 1\n",
+        "S2 1 0\nP 1 2 1 65 0 0 0 0 1\nP 3 4 1 65 0 0 0 0 1\nP 2 3 1 65 0 0 0 0 1\n",
+        "S2 1 0\nP 1 2 1 65 0 0 0 0 1\nP 3 4 1 65 0 0 0 0 1\nP 2 4 1 65 0 0 0 0 1\nP 4 5 1 65 0 0 0 0 1\n"};
+    for (size_t k = 0; k < sizeof places / sizeof *places; k++) {
+        load(places[k]);
+        CHECK(refused(unarchive(), WIMTAZE_REFUSAL_MISARRANGED));
+    }
+    for (size_t k = 0; k < sizeof identifiers / sizeof *identifiers; k++) {
+        load(identifiers[k]);
+        CHECK(refused(unarchive(), WIMTAZE_REFUSAL_MISARRANGED));
+    }
+}
+
+/* Where a line is lost a place is missing, unless it was the last: then the archive is that of another sheet. */
+static void line_lost(void)
+{
+    static const char *const lines[] = {"P 3 1 1 65 0 0 0 0 1\n", "P 1 1 2 66 0 0 0 0 1\n", "P 4 2 1 67 0 0 0 0 1\n",
+        "P 2 3 1 68 0 0 0 0 1\n"};
+    for (size_t lost = 0; lost <= 4; lost++) {
+        load("S2 9 0\n");
+        for (size_t k = 0; k < 4; k++)
+            if (k != lost)
+                append(lines[k]);
+        if (lost == 2)
+            CHECK(changed(unarchive(), "S2 9 0\nC 1 2 66 0 0 0 0 1\nC 3 1 68 0 0 0 0 1\nC 1 1 65 0 0 0 0 1\n"));
+        else
+            CHECK(lost == 4 ? done(unarchive(), 0, 0) : refused(unarchive(), WIMTAZE_REFUSAL_MISARRANGED));
+    }
+}
+
+/* The rows go to their places first, and then the form is looked at: the sheet of an archive may be out of it. */
+static void archive_form(void)
+{
+    static const char *const forms[] = {
+        /* 2/1 needs 3/1 above it */
+        "S2 1 0\nP 1 2 1 65 0 3 1 0 1\nP 2 3 1 65 0 0 0 0 1\n", "S2 1 0\nP 1 2 1 65 0 3 1 0 1\n",
+        "S2 1 0\nP 2 2 1 65 0 0 0 3 1\nP 1 3 1 65 0 0 0 0 1\n",
+        "S2 1 0\nP 1 2 1 65 0 0 0 0 1\nI 2 1 65 3 1 0 1\n", "S2 1 0\nP 1 2 1 65 0 0 0 0 1\nE 3 2 1 1\n",
+        "S2 1 0\nP 1 2 1 65 0 0 0 0 1\nI 3 1 65 2 1 0 1\n", "S2 1 0\nE 1 1 1 1\nE 1 1 1 1\n"};
+    for (size_t k = 0; k < sizeof forms / sizeof *forms; k++) {
+        load(forms[k]);
+        CHECK(refused(unarchive(), WIMTAZE_REFUSAL_FORM));
+    }
+    CHECK(rearranged("S2 1 0\nC 3 1 65 0 0 0 0 1\nC 2 1 65 0 3 1 0 1\n",
+                     "S2 1 0\nP 2 2 1 65 0 3 1 0 1\nP 1 3 1 65 0 0 0 0 1\n"));
+    load("S2 1 0\n");
+    for (int k = 0; k < 33; k++) {
+        char line[64];
+        sprintf(line, "E 2 9 %d 1\n", 1 + k);
+        append(line);
+    }
+    CHECK(refused(unarchive(), WIMTAZE_REFUSAL_FORM) && refused(archive(), WIMTAZE_REFUSAL_FORM));
+}
+
+/* Two grounds that hold at once, every such pair: the first in the order 1 2 19 3 12 is told, and 1 2 3 12 forward. */
+static void first_of_two_archiving(void)
+{
+    static const struct {
+        const char *file;
+        int told, other;
+    } forth[] = {{"S2 1 0\nC 2 1 65 256 0 0 0 1\nP 1 3 1 65 0 0 0 0 1\n", 1, 2},
+        {"S2 2 0\nC 2 1 65 0 0 0 0 1\nD 1 1 1\n", 1, 3}, {"S2 1 0\nD 1 1 1\n", 1, 12},
+        {"S2 2 0\nC 2 1 65 0 0 0 0 1\nE 1 1 1 0\n", 2, 3}, {"S2 17 0\n", 2, 12},
+        {"S2 2 0\nC 2 1 65 0 0 0 0 1\n", 3, 12}},
+      back[] = {{"S2 1 0\nP 0 2 1 65 0 0 0 0 1\nC 3 1 65 0 0 0 0 1\n", 1, 2},
+        {"S2 1 0\nP 2 2 1 65 0 0 0 0 1\nD 1 1 1\n", 1, 19},
+        {"S2 1 0\nP 1 3 1 65 0 0 0 0 1\nP 2 2 1 65 0 0 0 0 1\nD 1 1 1\n", 1, 19},
+        {"S2 2 0\nP 1 2 1 65 0 0 0 0 1\nD 1 1 1\n", 1, 3}, {"S2 1 0\nD 1 1 1\n", 1, 12},
+        {"S2 1 0\nP 2 2 1 65 0 0 0 0 1\nE 1 1 1 0\n", 2, 19},
+        {"S2 17 0\nP 1 3 1 65 0 0 0 0 1\nP 2 2 1 65 0 0 0 0 1\n", 2, 19},
+        {"S2 1 0\nP 1025 2 1 65 0 0 0 0 1\n", 2, 19}, {"S2 1 0\nP 0 2 1 65 0 0 0 0 1\n", 2, 19},
+        {"S2 2 0\nP 1 2 1 65 0 0 0 0 1\nE 1 1 1 256\n", 2, 3}, {"S2 1 0\nP 0 2 1 65 0 0 0 0 1\n", 2, 12},
+        {"S2 2 0\nP 2 2 1 65 0 0 0 0 1\n", 19, 3}, {"S2 1 0\nP 1 2 1 65 0 0 0 0 1\nP 2 2 1 65 0 0 0 0 1\n", 19, 3},
+        {"S2 1 0\nP 2 2 1 65 0 0 0 0 1\nE 1 1 1 1\nE 1 1 1 1\n", 19, 3},
+        {"S2 1 0\nP 1 3 1 65 0 0 0 0 1\nP 2 2 1 65 0 9 9 0 1\n", 19, 3}, {"S2 1 0\nP 2 2 1 65 0 0 0 0 1\n", 19, 12},
+        {"S2 2 0\nP 1 2 1 65 0 0 0 0 1\n", 3, 12}};
+    for (size_t k = 0; k < sizeof forth / sizeof *forth; k++) {
+        load(forth[k].file);
+        CHECK(refused(archive_in(forth[k].other == 12 ? 0 : ROOM), forth[k].told));
+    }
+    for (size_t k = 0; k < sizeof back / sizeof *back; k++) {
+        load(back[k].file);
+        CHECK(refused(unarchive_in(back[k].other == 12 ? 0 : ROOM), back[k].told));
+    }
+}
+
+/* An archive of so many rows between the marks, which stand there the other way round; the highest places are 1,024. */
+static void load_archive(int count)
+{
+    char line[64];
+    load("S2 1 0\n");
+    for (int k = 1; k <= count; k++) {
+        int place = count + 1 - k;
+        sprintf(line, "P %d 2 %d 97 0 0 0 0 1\n", place < 1024 ? place : 1024, k);
+        append(line);
+    }
+}
+
+/* 1,024 rows are brought back. One more is 19, and never 3; what is wrong with its last line is still told. */
+static void archive_limits(void)
+{
+    static const struct {
+        const char *line;
+        int told;
+    } more[] = {{"P 1 3 1 97 0 0 0 0 1\n", 19}, {"P 1024 3 1 97 0 0 0 0 1\n", 19}, {"P 1025 3 1 97 0 0 0 0 1\n", 2},
+        {"P 1 3 1 97 0 0 0 0\n", 1}, {"C 3 1 97 0 0 0 0 1\n", 1}, {"E 1 9 9 0\n", 2}, {"I 3 1 97 9 9 0 1\n", 3},
+        {"E 1 9 9 1\n", 0}};
+    load_archive(1024);
+    CHECK(done(unarchive(), 0, 0) && counted(1024, 0, 1024, 0));
+    CHECK(done(archive(), 0, 0) && done(unarchive(), 0, 0) && counted(1024, 0, 1024, 0));
+    load_archive(1025);
+    CHECK(refused(unarchive(), WIMTAZE_REFUSAL_MISARRANGED));
+    for (size_t k = 0; k < sizeof more / sizeof *more; k++) {
+        load_archive(1024);
+        append(more[k].line);
+        CHECK(more[k].told == 0 ? done(unarchive(), 0, 0) : refused(unarchive(), more[k].told));
+    }
+    /* Far too many, and what comes after them. */
+    load_archive(1600);
+    CHECK(refused(unarchive(), WIMTAZE_REFUSAL_MISARRANGED));
+    append("P 0 3 1 97 0 0 0 0 1\n");
+    CHECK(refused(unarchive(), WIMTAZE_REFUSAL_RANGE));
+    append("P 1 3 1 97 0 0 0 0 1 1\n");
+    CHECK(refused(unarchive(), WIMTAZE_REFUSAL_LAYOUT));
+}
+
+/* The longest archive: the places, the marks and senders of one digit keep it below what the header names. */
+static void longest_archive(void)
+{
+    static uint8_t saved[ROOM];
+    char line[64];
+    load("S2 16 65535\n");
+    for (int k = 0; k < 1024; k++) {
+        int n = sprintf(line, "C 16 %d 1114111 255 ", 65023 - k);
+        n += sprintf(line + n, k == 0 ? "0 0 " : "16 %d ", 65023 - k + 1);
+        sprintf(line + n, k == 1023 ? "0 1\n" : "16 %d\n", 65023 - k - 1);
+        append(line);
+    }
+    for (int k = 0; k < 512; k++) {
+        sprintf(line, "E %d 15 %d 255\n", 1 + k / 32, 10000 + k % 32);
+        append(line);
+    }
+    size_t length = sheet_length, places = 2 * 9 + 3 * 90 + 4 * 900 + 5 * 25;
+    memcpy(saved, sheet, length);
+    CHECK(length == WIMTAZE_SHEET_MAX - 10 - 9 * 32);
+    CHECK(refused(archive_in(length + places - 1), WIMTAZE_REFUSAL_OUTPUT));
+    CHECK(done(archive_in(WIMTAZE_ARCHIVE_MAX), 0, 0) && sheet_length == length + places);
+    CHECK(sheet_length == WIMTAZE_ARCHIVE_MAX - 10 - 9 * 32 - 3 * 9 - 2 * 90 - 900);
+    CHECK(refused(unarchive_in(length - 1), WIMTAZE_REFUSAL_OUTPUT));
+    CHECK(done(unarchive_in(length), 0, 0) && sheet_length == length && memcmp(sheet, saved, length) == 0);
+    CHECK(done(archive_in(length + places), 0, 0) && done(unarchive_in(WIMTAZE_SHEET_MAX), 0, 0));
+    CHECK(sheet_length == length && memcmp(sheet, saved, length) == 0);
+}
+
 /* ---- waiting, throwing out, and what releases it */
 
 static void released(void)
@@ -3393,7 +3732,7 @@ static void version(void)
 static void every_refusal(void)
 {
     for (unsigned n = 1; n <= 20; n++)
-        CHECK((refusals_seen >> n & 1) == (n != WIMTAZE_REFUSAL_TAKEN && n != 19));
+        CHECK((refusals_seen >> n & 1) == (n != WIMTAZE_REFUSAL_TAKEN));
     CHECK(refusals_seen >> 21 == 0);
 }
 
@@ -3484,6 +3823,17 @@ static const struct {
     {"Req 09: the first of two refusals", first_of_two_answering},
     {"Req 09: the longest list", longest_list},
     {"Req 09: the longest answer", longest_answer},
+    {"Req 10: sheets and their archives", archived},
+    {"Req 10: who typed what", who_typed_what},
+    {"Req 10: a clock that is too low", archive_clock},
+    {"Req 10: refusals 1, 2 and 3 of archiving", not_archived},
+    {"Req 10: refusals 1 and 2 of the way back", not_read_as_archive},
+    {"Req 10: refusal 19", misarranged},
+    {"Req 10: a line that was lost", line_lost},
+    {"Req 10: refusal 3 of the way back", archive_form},
+    {"Req 10: the first of two refusals", first_of_two_archiving},
+    {"Req 10: the limits of an archive", archive_limits},
+    {"Req 10: the longest archive", longest_archive},
     {"what an insert releases", released},
     {"placing", placing},
     {"layout of lines and sheets", layout},

@@ -1,6 +1,7 @@
 //! The C calls of the static library against the plain reference, call by call: random histories of up to sixteen
 //! laptops with lines lost, repeated and reordered, made-up sheets and such as other programs write, heaps of lines,
-//! lists and answers, damaged lines, sheets, heaps, lists and blocks of text, outputs of every length.
+//! lists and answers, archives, damaged lines, sheets, heaps, lists, archives and blocks of text, outputs of every
+//! length.
 //! A call passes if the returned number and every byte of its inputs and outputs, and of the guards around them, are
 //! what the reference says.
 //!
@@ -12,11 +13,11 @@ mod library;
 mod reference;
 
 use library::{
-    wimtaze_answer, wimtaze_build, wimtaze_counts, wimtaze_downgrade, wimtaze_empty, wimtaze_erase, wimtaze_list,
-    wimtaze_load, wimtaze_moved, wimtaze_paste, wimtaze_receive, wimtaze_receive_at, wimtaze_restore, wimtaze_text,
-    wimtaze_type, wimtaze_upgrade,
+    wimtaze_answer, wimtaze_archive, wimtaze_build, wimtaze_counts, wimtaze_downgrade, wimtaze_empty, wimtaze_erase,
+    wimtaze_list, wimtaze_load, wimtaze_moved, wimtaze_paste, wimtaze_receive, wimtaze_receive_at, wimtaze_restore,
+    wimtaze_text, wimtaze_type, wimtaze_unarchive, wimtaze_upgrade,
 };
-use reference::{Operation, Outcome, Reply};
+use reference::{Form, Operation, Outcome, Reply};
 use std::collections::BTreeMap;
 use std::time::{Duration, Instant};
 
@@ -75,6 +76,8 @@ enum Call<'a> {
     Counts(&'a [u8]),
     Upgrade(&'a [u8]),
     Downgrade(&'a [u8]),
+    Archive(&'a [u8]),
+    Unarchive(&'a [u8]),
 }
 
 impl Call<'_> {
@@ -95,10 +98,12 @@ impl Call<'_> {
             Call::Counts(..) => "counts",
             Call::Upgrade(..) => "upgrade",
             Call::Downgrade(..) => "downgrade",
+            Call::Archive(..) => "archive",
+            Call::Unarchive(..) => "unarchive",
         }
     }
 
-    /// The sheet or the heap, and the line, the block or the list, that are handed over.
+    /// The sheet, the heap or the archive, and the line, the block or the list, that are handed over.
     fn inputs(&self) -> (&[u8], &[u8]) {
         match self {
             Call::Empty(_) => (&[], &[]),
@@ -107,8 +112,9 @@ impl Call<'_> {
             Call::Answer(sheet, list) => (sheet, list),
             Call::Type(sheet, ..) | Call::Erase(sheet, _) | Call::Restore(sheet, ..) => (sheet, &[]),
             Call::Load(sheet) | Call::List(sheet) | Call::Text(sheet) | Call::Counts(sheet) => (sheet, &[]),
-            Call::Upgrade(sheet) | Call::Downgrade(sheet) => (sheet, &[]),
+            Call::Upgrade(sheet) | Call::Downgrade(sheet) | Call::Archive(sheet) => (sheet, &[]),
             Call::Build(_, heap) => (heap, &[]),
+            Call::Unarchive(archive) => (archive, &[]),
         }
     }
 
@@ -129,6 +135,8 @@ impl Call<'_> {
             Call::Counts(sheet) => reference::counts_call(sheet),
             Call::Upgrade(old) => reference::upgrade_call(old),
             Call::Downgrade(sheet) => reference::downgrade_call(sheet),
+            Call::Archive(sheet) => reference::archive_call(sheet),
+            Call::Unarchive(archive) => reference::unarchive_call(archive),
         }
     }
 
@@ -153,6 +161,8 @@ impl Call<'_> {
                 Call::Counts(_) => wimtaze_counts(s, s_len),
                 Call::Upgrade(_) => wimtaze_upgrade(s, s_len, f, f_len),
                 Call::Downgrade(_) => wimtaze_downgrade(s, s_len, f, f_len),
+                Call::Archive(_) => wimtaze_archive(s, s_len, f, f_len),
+                Call::Unarchive(_) => wimtaze_unarchive(s, s_len, f, f_len),
             }
         }
     }
@@ -193,7 +203,7 @@ const NUMBERS: [&str; 36] = [
     "340282366920938463463374607431768211457", "9999999999999999999999999999999999999999",
 ];
 const MALFORMED: [&str; 8] = ["", "00", "01", "-1", "+1", " 1", "1\t", "a"];
-const LETTERS: &[u8] = b"IDECSHKidecshk0123456789\t\t\n\n\r .-";
+const LETTERS: &[u8] = b"IDECSHKPidecshkp0123456789\t\t\n\n\r .-";
 const CODE_POINTS: [u32; 23] = [
     0, 8, 9, 10, 11, 13, 31, 32, 126, 127, 128, 159, 2047, 2048, 55_295, 57_344, 65_533, 65_535, 65_536, 1_114_111, 97,
     0x265e, 0xfeff,
@@ -579,6 +589,50 @@ impl Random {
         *total = ones(words).min(1024);
     }
 
+    /// The archive of a sheet, whatever its form, or what is nearly one: its rows are changed once or twice, there may
+    /// be more of them than there are places, one may be a saved sheet's, the clock may be too low, and bytes damaged.
+    fn archive(&mut self, sheet: &[u8]) -> Vec<u8> {
+        let Ok(read) = reference::read_numbers(sheet, Form::Second) else { return self.damaged(sheet) };
+        let whole = reference::archive_bytes(&read);
+        let mut rows = numbers(&whole, "P");
+        for _ in 0..self.pick(&[0, 0, 1, 1, 2]) {
+            self.misarrange(&mut rows);
+        }
+        if rows.len() > 1000 && self.one_in(3) {
+            for k in rows.len() as u64..1025 + self.pick(&[0, 0, 1, 500]) {
+                rows.push(vec![1 + self.below(1024) as u64, 16, 60_000 + k, 97, 0, 0, 0, 0, 1]);
+            }
+            rows.iter_mut().for_each(|row| row[0] = row[0].min(1024));
+        }
+        let saved = if self.one_in(24) { self.below(rows.len() + 1) } else { rows.len() };
+        let archive = archive_with(&whole, &rows, saved);
+        match self.below(8) {
+            0 => with_clock(&archive, self.below(usize::from(read.clock) + 1) as u64),
+            1 => self.damaged(&archive),
+            _ => archive,
+        }
+    }
+
+    /// A place is changed, doubled or exchanged with another's; a row is lost, doubled or exchanged with another, or
+    /// has another's identifier; an identifier comes again at a place of its own.
+    fn misarrange(&mut self, rows: &mut Vec<Vec<u64>>) {
+        if rows.is_empty() {
+            return rows.push(vec![self.pick(&[0, 1, 2]), 1, 1, 97, 0, 0, 0, 0, 1]);
+        }
+        let (j, k, count) = (self.below(rows.len()), self.below(rows.len()), rows.len() as u64);
+        let (one, other) = (rows[j].clone(), rows[k].clone());
+        match self.below(10) {
+            0 => rows[k][0] = self.pick(&[0, count + 1, 1024, 1025, other[0] + 65_536, other[0] + (1 << 32)]),
+            1 => rows[k][0] = one[0],
+            2..=4 => (rows[j][0], rows[k][0]) = (other[0], one[0]),
+            5 => drop(rows.remove(k)),
+            6 => rows.insert(k, one),
+            7 => rows.swap(j, k),
+            8 => rows[k][1..3].copy_from_slice(&one[1..3]),
+            _ => rows.insert(k, [&[count + 1], &other[1..]].concat()),
+        }
+    }
+
     fn damaged(&mut self, bytes: &[u8]) -> Vec<u8> {
         let mut b = bytes.to_vec();
         let at = self.below(b.len().max(1)).min(b.len());
@@ -743,6 +797,19 @@ fn ones(words: &[[u64; 3]]) -> u64 {
 fn list_of(laptop: u64, total: u64, words: &[[u64; 3]]) -> Vec<u8> {
     let words: String = words.iter().map(|[laptop, index, word]| format!("K\t{laptop}\t{index}\t{word}\n")).collect();
     format!("H\t{laptop}\t{total}\n{words}").into_bytes()
+}
+
+/// An archive with these rows in place of its own; the one at `saved`, if there is one, as a saved sheet has it.
+fn archive_with(archive: &[u8], rows: &[Vec<u64>], saved: usize) -> Vec<u8> {
+    let fields = |ns: &[u64]| ns.iter().map(|n| format!("\t{n}")).collect::<String>();
+    let line = |(k, row): (usize, &Vec<u64>)| match k == saved {
+        true => format!("C{}\n", fields(&row[1..])),
+        false => format!("P{}\n", fields(row)),
+    };
+    let rows: String = rows.iter().enumerate().map(line).collect();
+    let mut others = lines_of(archive).filter(|line| !line.starts_with(b"P"));
+    let head = others.next().unwrap_or_default();
+    [head, rows.as_bytes(), &others.collect::<Vec<_>>().concat()].concat()
 }
 
 /// The inserts of a sheet's rows, without their turns; and those that wait.
@@ -1094,7 +1161,7 @@ fn answered(sheet: &[u8], list: &[u8], answer: &[u8]) -> Vec<(bool, &'static str
 
 /// Of a list whose words are read as far as they can be: those above the largest number of 64 bits are not.
 fn refused_list(refusal: u8, sheet: &[u8], list: &[u8]) -> Vec<(bool, &'static str)> {
-    let (of_list, of_sheet) = (reference::read_list(list), reference::read_numbers(sheet, reference::Form::Second));
+    let (of_list, of_sheet) = (reference::read_list(list), reference::read_numbers(sheet, Form::Second));
     let (words, head) = (numbers(list, "K"), numbers(list, "H").pop().unwrap_or_default());
     match refusal {
         1 => vec![(of_list.is_ok() || of_list == Err(18), "1-sheet"), (of_sheet.is_ok(), "1-list")],
@@ -1125,6 +1192,80 @@ fn refused_list(refusal: u8, sheet: &[u8], list: &[u8]) -> Vec<(bool, &'static s
         }
         _ => Vec::new(),
     }
+}
+
+/// What becomes of rows that go from one sequence to another, by these numbers of theirs, in which turns stand here.
+fn rearranges(rows: &[Vec<u64>], turn: usize, rising: bool, file: &[u8]) -> Vec<(bool, &'static str)> {
+    vec![
+        (rows.is_empty(), "nothing"),
+        (rows.len() > 1 && rising, "rising"),
+        (!rising, "moved"),
+        (rows.iter().any(|row| row[turn] % 2 == 1), "hidden"),
+        (waits(file), "waiting"),
+        (rows.len() == 1024, "1024"),
+    ]
+}
+
+/// What becomes of a sheet that is archived: what it has that makes no difference, and why it is refused.
+fn archives(call: &Call, outcome: &Outcome) -> Vec<&'static str> {
+    let Call::Archive(sheet) = call else { return Vec::new() };
+    let rows = rows(sheet);
+    let what = match outcome.reply {
+        Reply::Done { .. } => rearranges(&rows, 3, rows.windows(2).all(|pair| pair[0][..2] < pair[1][..2]), sheet),
+        Reply::Refused(1) => vec![(reference::read_archive(sheet).is_ok(), "1-archive")],
+        Reply::Refused(3) => vec![
+            (reference::read_sheet(sheet).is_ok(), "3-low"),
+            (reference::read_sheet(sheet).is_err(), "3-form"),
+            (rows.len() > 1024, "3-1025"),
+        ],
+        _ => Vec::new(),
+    };
+    what.into_iter().filter(|(met, _)| *met).map(|(_, what)| what).collect()
+}
+
+/// The same of an archive that is brought back, and that one ground is told where a later one holds too.
+fn unarchives(call: &Call, outcome: &Outcome) -> Vec<&'static str> {
+    let Call::Unarchive(archive) = call else { return Vec::new() };
+    let placed = numbers(archive, "P");
+    let what = match outcome.reply {
+        Reply::Done { .. } => rearranges(&placed, 4, placed.windows(2).all(|pair| pair[0][0] < pair[1][0]), archive),
+        Reply::Refused(1) => vec![
+            (reference::read_unraised(archive, Form::Second).is_ok(), "1-sheet"),
+            (!placed.is_empty() && !rows(archive).is_empty(), "1-both"),
+        ],
+        Reply::Refused(2) => vec![
+            (placed.iter().any(|row| row[0] == 0), "2-place-0"),
+            (placed.iter().any(|row| row[0] == 1025), "2-place-1025"),
+            (placed.windows(2).any(|pair| pair[0][1..3] >= pair[1][1..3]), "2-or-19"),
+        ],
+        Reply::Refused(19) => misarranged(archive, &placed),
+        Reply::Refused(3) => {
+            let raised = reference::read_archive(archive).map(|sheet| reference::sheet_bytes(&sheet));
+            let low = raised.is_ok_and(|sheet| reference::read_sheet(&sheet).is_ok());
+            vec![(low, "3-low"), (!low, "3-form")]
+        }
+        _ => Vec::new(),
+    };
+    what.into_iter().filter(|(met, _)| *met).map(|(_, what)| what).collect()
+}
+
+fn misarranged(archive: &[u8], placed: &[Vec<u64>]) -> Vec<(bool, &'static str)> {
+    let twice = (1..placed.len()).any(|k| placed[..k].iter().any(|row| row[0] == placed[k][0]));
+    let beyond = placed.iter().any(|row| row[0] > placed.len() as u64);
+    let falls = placed.windows(2).any(|pair| pair[0][1..3] > pair[1][1..3]);
+    let repeated = placed.windows(2).any(|pair| pair[0][1..3] == pair[1][1..3]);
+    let at_places = reference::read_placed(archive).map(|(sheet, mut rows)| {
+        rows.sort_by_key(|(place, _)| *place);
+        reference::Sheet { rows: rows.into_iter().map(|(_, row)| row).collect(), ..sheet }
+    });
+    vec![
+        (beyond && !twice && !falls && !repeated, "19-beyond"),
+        (twice && !beyond && !falls && !repeated, "19-twice"),
+        (falls && !twice && !beyond && !repeated, "19-falls"),
+        (repeated && !twice && !beyond && !falls, "19-repeated"),
+        (placed.len() > 1024, "19-1025"),
+        (at_places.is_ok_and(|sheet| !sheet.in_form()), "19-or-3"),
+    ]
 }
 
 /// Whether the block is read as Rust's own library reads it.
@@ -1183,7 +1324,8 @@ impl Tester {
         }
         let happenings = [turns(call, outcome), crosses(call, outcome), moves(call, outcome), pastes(call, outcome)];
         let others = [builds(call, outcome), loads(call, outcome), lists(call, outcome), answers(call, outcome)];
-        for what in happenings.into_iter().flatten().chain(others.concat()) {
+        let archives = [archives(call, outcome), unarchives(call, outcome)];
+        for what in happenings.into_iter().flatten().chain(others.concat()).chain(archives.concat()) {
             *self.met.entry((call.name(), what.into())).or_default() += 1;
         }
         let word = match outcome.reply {
@@ -1260,7 +1402,7 @@ impl Tester {
             Call::ReceiveAt(_, _, gap) => println!("  line {:?}, gap {gap}", String::from_utf8_lossy(line)),
             Call::Answer(..) => println!("  list {:?}", String::from_utf8_lossy(line)),
             Call::Load(_) | Call::List(_) | Call::Text(_) | Call::Counts(_) => {}
-            Call::Upgrade(_) | Call::Downgrade(_) => {}
+            Call::Upgrade(_) | Call::Downgrade(_) | Call::Archive(_) | Call::Unarchive(_) => {}
         }
         let shortened: String = String::from_utf8_lossy(sheet).chars().take(2000).collect();
         println!("  sheet {shortened:?}");
@@ -1413,7 +1555,7 @@ impl Tester {
 
     /// Any call on the sheet.
     fn anything(&mut self, sheet: &[u8], line: &[u8]) -> Written {
-        match self.random.below(21) {
+        match self.random.below(23) {
             0..=4 => self.receive(sheet, line),
             5..=7 => self.type_somewhere(sheet),
             8 => self.erase_somewhere(sheet),
@@ -1422,6 +1564,7 @@ impl Tester {
             12..=14 => self.paste_somewhere(sheet),
             15 => self.call(&Call::Load(sheet)),
             16..=18 => self.list_or_answer(sheet),
+            19 | 20 => self.rearrange(sheet),
             _ => self.look(sheet),
         }
     }
@@ -1439,6 +1582,27 @@ impl Tester {
             self.failed += 1;
             println!("seed {}: a sheet came back from the other form as another one", self.seed);
         }
+        None
+    }
+
+    /// A sheet on its way to its archive and back; or an archive, or what is nearly one, the other way round. Now and
+    /// then each is handed to the call that takes the other.
+    fn rearrange(&mut self, sheet: &[u8]) -> Written {
+        let forth = self.random.one_in(2);
+        let lower = self.random.below(clock(sheet).unwrap_or(0).min(65_535) as usize + 1) as u64;
+        let given = match (forth != self.random.one_in(16), self.random.below(6)) {
+            (false, _) => self.random.archive(sheet),
+            (true, 0) => self.random.damaged(sheet),
+            (true, 1) => with_clock(sheet, lower),
+            (true, 2) => self.random.foreign(sheet),
+            (true, _) => with_raised_clock(sheet),
+        };
+        let there = |file| if forth { Call::Archive(file) } else { Call::Unarchive(file) };
+        let back = |file| if forth { Call::Unarchive(file) } else { Call::Archive(file) };
+        let (reached, _) = self.call(&there(&given))?;
+        let (again, _) = self.call(&back(&reached))?;
+        self.meet(back(&reached).name(), "returning");
+        self.expect(again == given, "a sheet or an archive came back as another one");
         None
     }
 
@@ -1516,7 +1680,8 @@ impl Tester {
                 n if n < typing + 8 => self.erase_somewhere(&sheet),
                 n if n < typing + 14 => self.restore_somewhere(&sheet),
                 n if n < 85 => self.receive_next(&mut laptops[k]),
-                85 => self.change_form(&sheet),
+                85 if self.random.one_in(2) => self.change_form(&sheet),
+                85 => self.rearrange(&sheet),
                 n if n < 91 && !sent.is_empty() => {
                     let line = &sent[self.random.below(sent.len())];
                     self.receive(&sheet, line)
@@ -1885,6 +2050,7 @@ impl Tester {
         self.change_form(&sheet);
         for _ in 0..3 {
             self.list_or_answer(&sheet);
+            self.rearrange(&sheet);
         }
         let foreign = if self.random.one_in(2) { self.random.foreign(&sheet) } else { sheet };
         let low = if self.random.one_in(3) { with_clock(&foreign, 0) } else { foreign };
@@ -2012,6 +2178,7 @@ impl Tester {
         }
         for _ in 0..3 {
             self.list_or_answer(&sheet);
+            self.rearrange(&sheet);
         }
     }
 }
@@ -2033,7 +2200,7 @@ impl Tester {
 }
 
 /// Every reply that each call can give, and waiting operations carried and thrown out.
-const TO_MEET: [(&str, &str); 16] = [
+const TO_MEET: [(&str, &str); 18] = [
     ("empty", "done 2 12"),
     ("receive", "done waits known releasing throwing raising anew hiding showing behind equal 1 2 3 7 8 9 10 11 12"),
     (
@@ -2072,6 +2239,15 @@ const TO_MEET: [(&str, &str); 16] = [
     ("counts", "done 1 2 3"),
     ("upgrade", "done raising returning E shown twice 1 2 3 12"),
     ("downgrade", "done raising returning D waiting 1 2 3 15 12"),
+    (
+        "archive",
+        "done nothing rising moved hidden waiting 1024 returning 1-archive 3-low 3-form 3-1025 1 2 3 12",
+    ),
+    (
+        "unarchive",
+        "done nothing rising moved hidden waiting 1024 returning 1-sheet 1-both 2-place-0 2-place-1025 2-or-19 \
+         19-beyond 19-twice 19-falls 19-repeated 19-1025 19-or-3 3-low 3-form 1 2 19 3 12",
+    ),
 ];
 
 impl Tester {

@@ -81,4 +81,16 @@ extern "C" {
     pub fn wimtaze_counts(sheet: *const u8, sheet_length: usize) -> u64;
     pub fn wimtaze_upgrade(old: *const u8, old_length: usize, sheet_out: *mut u8, sheet_out_length: usize) -> u64;
     pub fn wimtaze_downgrade(sheet: *const u8, sheet_length: usize, old_out: *mut u8, old_out_length: usize) -> u64;
+    pub fn wimtaze_archive(
+        sheet: *const u8,
+        sheet_length: usize,
+        archive_out: *mut u8,
+        archive_out_length: usize,
+    ) -> u64;
+    pub fn wimtaze_unarchive(
+        archive: *const u8,
+        archive_length: usize,
+        sheet_out: *mut u8,
+        sheet_out_length: usize,
+    ) -> u64;
 }

@@ -796,9 +796,26 @@ pub fn list_bytes(s: &Sheet) -> Vec<u8> {
     list.into_bytes()
 }
 
-/// A saved sheet whose form is not looked at: refusals 1 and 2 over the whole of it, in this order. Loading raises a
-/// clock that is too low.
-pub fn read_numbers(bytes: &[u8], form: Form) -> Result<Sheet, u8> {
+/// A `C` line without its line feed: no layout, or the row if its numbers pass.
+fn row_of(line: &[u8], form: Form) -> Option<Option<Row>> {
+    numbers(line, "C", 8).map(|ns| row_from(&ns, form))
+}
+
+fn row_from(ns: &[u64], form: Form) -> Option<Row> {
+    let insert = insert_of(&[ns[0], ns[1], ns[2], ns[4], ns[5], ns[6], ns[7]])?;
+    Some(Row { insert, turn: form.turn(ns[3])? })
+}
+
+/// The same of a `P` line (Req 10): the row, and its place before it.
+fn placed_of(line: &[u8]) -> Option<Option<(usize, Row)>> {
+    let ns = numbers(line, "P", 9)?;
+    let place = usize::try_from(ns[0]).ok().filter(|place| (1..=MOST_ROWS).contains(place));
+    Some(place.zip(row_from(&ns[1..], Form::Second)))
+}
+
+/// A file that begins as a saved sheet, has rows that are read so, and then what waits: a sheet without rows, and the
+/// rows. Refusals 1 and 2 are over the whole of it, in this order.
+fn read_file<R>(bytes: &[u8], form: Form, row: impl Fn(&[u8]) -> Option<Option<R>>) -> Result<(Sheet, Vec<R>), u8> {
     if bytes.last() != Some(&b'\n') {
         return Err(1);
     }
@@ -807,16 +824,15 @@ pub fn read_numbers(bytes: &[u8], form: Form) -> Result<Sheet, u8> {
     let mut passes = (1..=16).contains(&head[0]) && head[1] <= 65_535;
     let mut sheet = Sheet::empty(head[0].min(255) as u8);
     sheet.clock = head[1].min(65_535) as u16;
-    let mut rows_over = false;
+    let (mut rows, mut rows_over) = (Vec::new(), false);
     for line in lines {
-        if let Some(ns) = numbers(line, "C", 8) {
+        if let Some(read) = row(line) {
             if rows_over {
                 return Err(1);
             }
-            let fields = [ns[0], ns[1], ns[2], ns[4], ns[5], ns[6], ns[7]];
-            match (insert_of(&fields), form.turn(ns[3])) {
-                (Some(insert), Some(turn)) => sheet.rows.push(Row { insert, turn }),
-                _ => passes = false,
+            match read {
+                Some(r) => rows.push(r),
+                None => passes = false,
             }
         } else {
             rows_over = true;
@@ -826,9 +842,18 @@ pub fn read_numbers(bytes: &[u8], form: Form) -> Result<Sheet, u8> {
             }
         }
     }
-    if !passes {
-        return Err(2);
-    }
+    if passes { Ok((sheet, rows)) } else { Err(2) }
+}
+
+/// A saved sheet as it stands, its clock too; its form is not looked at.
+pub fn read_unraised(bytes: &[u8], form: Form) -> Result<Sheet, u8> {
+    let (sheet, rows) = read_file(bytes, form, |line| row_of(line, form))?;
+    Ok(Sheet { rows, ..sheet })
+}
+
+/// The same with the clock that loading gives it, raised where it is too low.
+pub fn read_numbers(bytes: &[u8], form: Form) -> Result<Sheet, u8> {
+    let mut sheet = read_unraised(bytes, form)?;
     sheet.hear_all();
     Ok(sheet)
 }
@@ -843,26 +868,47 @@ pub fn read_sheet(bytes: &[u8]) -> Result<Sheet, u8> {
     read_saved(bytes, Form::Second)
 }
 
-/// A sheet as it is saved; in the first form, one without a turn above 1.
-pub fn saved_bytes(s: &Sheet, form: Form) -> Vec<u8> {
-    let mut out = format!("{}\t{}\t{}\n", form.begins(), s.laptop, s.clock).into_bytes();
-    for r in &s.rows {
-        let i = &r.insert;
-        out.extend(
-            format!(
-                "C\t{}\t{}\t{}\t{}\t{}\t{}\t{}\t{}\n",
-                i.id.laptop,
-                i.id.clock,
-                i.code,
-                form.number(r.turn),
-                i.previous.laptop,
-                i.previous.clock,
-                i.next.laptop,
-                i.next.clock
-            )
-            .into_bytes(),
-        );
+/// The rows of an archive, each with its place, and the rest of its sheet, whose form is not looked at.
+pub fn read_placed(bytes: &[u8]) -> Result<(Sheet, Vec<(usize, Row)>), u8> {
+    read_file(bytes, Form::Second, placed_of)
+}
+
+/// The sheet of an archive, its form not looked at: refusal 19 after 1 and 2. Each row is put into the slot of its
+/// place, of as many slots as there are rows, and must find it free.
+pub fn read_archive(bytes: &[u8]) -> Result<Sheet, u8> {
+    let (sheet, placed) = read_placed(bytes)?;
+    let mut slots: Vec<Option<Row>> = vec![None; placed.len()];
+    for (place, row) in &placed {
+        match slots.get_mut(place - 1) {
+            Some(slot @ None) => *slot = Some(*row),
+            _ => return Err(19),
+        }
     }
+    if placed.windows(2).any(|pair| pair[0].1.insert.id >= pair[1].1.insert.id) {
+        return Err(19);
+    }
+    Ok(Sheet { rows: slots.into_iter().flatten().collect(), ..sheet })
+}
+
+/// The line of a row, which begins so.
+fn row_line(begins: impl std::fmt::Display, r: &Row, form: Form) -> String {
+    let Insert { id, code, previous, next } = r.insert;
+    format!(
+        "{begins}\t{}\t{}\t{code}\t{}\t{}\t{}\t{}\t{}\n",
+        id.laptop,
+        id.clock,
+        form.number(r.turn),
+        previous.laptop,
+        previous.clock,
+        next.laptop,
+        next.clock
+    )
+}
+
+/// A file with these lines of rows.
+fn file_bytes(s: &Sheet, form: Form, rows: impl Iterator<Item = String>) -> Vec<u8> {
+    let mut out = format!("{}\t{}\t{}\n", form.begins(), s.laptop, s.clock).into_bytes();
+    rows.for_each(|row| out.extend(row.into_bytes()));
     for o in &s.waiting {
         match (form, o) {
             (Form::First, Operation::Turn(t)) => {
@@ -874,8 +920,26 @@ pub fn saved_bytes(s: &Sheet, form: Form) -> Vec<u8> {
     out
 }
 
+/// A sheet as it is saved; in the first form, one without a turn above 1.
+pub fn saved_bytes(s: &Sheet, form: Form) -> Vec<u8> {
+    file_bytes(s, form, s.rows.iter().map(|r| row_line("C", r, form)))
+}
+
 pub fn sheet_bytes(s: &Sheet) -> Vec<u8> {
     saved_bytes(s, Form::Second)
+}
+
+/// An archive with these rows, each with its place, and the rest of this sheet.
+pub fn placed_bytes(s: &Sheet, placed: &[(usize, Row)]) -> Vec<u8> {
+    let line = |(place, r): &(usize, Row)| row_line(format_args!("P\t{place}"), r, Form::Second);
+    file_bytes(s, Form::Second, placed.iter().map(line))
+}
+
+/// The archive of a sheet: its rows by rising identifier, each with its place, which counts from 1 at the top.
+pub fn archive_bytes(s: &Sheet) -> Vec<u8> {
+    let mut placed: Vec<(usize, Row)> = (1..).zip(s.rows.iter().copied()).collect();
+    placed.sort_by_key(|(_, r)| r.insert.id);
+    placed_bytes(s, &placed)
 }
 
 // ---- the C calls
@@ -1134,6 +1198,24 @@ pub fn downgrade_call(sheet: &[u8]) -> Outcome {
     match read_saved(sheet, Form::Second) {
         Ok(s) if s.turned_again() => Outcome::refused(15),
         Ok(s) => Outcome::done(saved_bytes(&s, Form::First)),
+        Err(n) => Outcome::refused(n),
+    }
+}
+
+/// The archive of a saved sheet (Req 10). A clock that loading would raise is 3.
+pub fn archive_call(sheet: &[u8]) -> Outcome {
+    match read_unraised(sheet, Form::Second) {
+        Ok(s) if s.in_form() => Outcome::done(archive_bytes(&s)),
+        Ok(_) => Outcome::refused(3),
+        Err(n) => Outcome::refused(n),
+    }
+}
+
+/// The way back, to the saved sheet: 19 comes after 2 and before 3.
+pub fn unarchive_call(archive: &[u8]) -> Outcome {
+    match read_archive(archive) {
+        Ok(s) if s.in_form() => Outcome::done(sheet_bytes(&s)),
+        Ok(_) => Outcome::refused(3),
         Err(n) => Outcome::refused(n),
     }
 }

@@ -1,8 +1,8 @@
 /*
  * How much stack the calls take: every call of the library in a thread whose stack was painted before, on an empty
- * sheet, on a full one and on one where a line or a block releases the edits that wait for it, on heaps and lists of
- * every kind and on sheets that other programs write. It must not be more than the header says, below the frame that
- * the calls are made from.
+ * sheet, on a full one and on one where a line or a block releases the edits that wait for it, on heaps, lists and
+ * archives of every kind and on sheets that other programs write. It must not be more than the header says, below the
+ * frame that the calls are made from.
  */
 #include "wimtaze.h"
 
@@ -14,7 +14,7 @@ enum { PAINT = 0xa5, PAGE = 4096, PAINTED = 4 * WIMTAZE_STACK };
 
 static uint8_t sheet[WIMTAZE_SHEET_MAX], after[WIMTAZE_SHEET_MAX], line[WIMTAZE_LINE_MAX], text[WIMTAZE_TEXT_MAX];
 static uint8_t lines[WIMTAZE_LINES_MAX], heap[2 * WIMTAZE_HEAP_MAX];
-static uint8_t list[2 * WIMTAZE_LIST_MAX], answer[WIMTAZE_ANSWER_MAX];
+static uint8_t list[2 * WIMTAZE_LIST_MAX], answer[WIMTAZE_ANSWER_MAX], archive[2 * WIMTAZE_ARCHIVE_MAX];
 static size_t length, heap_length;
 static int failures;
 
@@ -196,6 +196,51 @@ static void lists(void)
     answered(0, WIMTAZE_REFUSED);
 }
 
+/* Brings so many bytes of the archive back, and keeps the sheet. */
+static void bring_back(size_t archive_length, unsigned word)
+{
+    keep(wimtaze_unarchive(archive, archive_length, after, sizeof after), word);
+}
+
+/* Takes the sheet at hand to its archive and back, and brings that back cut and with the clock lowered. */
+static void rearrange(void)
+{
+    uint64_t reply = wimtaze_archive(sheet, length, archive, sizeof archive);
+    size_t archive_length = wimtaze_written(reply);
+    if (wimtaze_word(reply) != WIMTAZE_DONE)
+        failures++;
+    bring_back(archive_length, WIMTAZE_DONE);
+    bring_back(archive_length - 1, WIMTAZE_REFUSED);
+    memcpy(archive + 6, "10000", 5);
+    bring_back(archive_length, WIMTAZE_REFUSED);
+    memcpy(sheet + 6, "10000", 5);
+    keep(wimtaze_archive(sheet, length, archive, sizeof archive), WIMTAZE_REFUSED);
+}
+
+/*
+ * 1,024 rows and 512 edits that wait: by rising identifier, by falling, and of sixteen laptops in turn. Then an archive
+ * of far too many rows.
+ */
+static void archives(void)
+{
+    char *at;
+    for (unsigned kind = 0; kind < 3; kind++) {
+        at = (char *)sheet + sprintf((char *)sheet, "S2\t16\t65535\n");
+        for (unsigned k = 0; k < 1024; k++) {
+            unsigned laptop = kind == 2 ? 1 + k % 16 : 16, clock = kind == 1 ? 65023 - k : 64000 + k;
+            at += sprintf(at, "C\t%u\t%u\t1114111\t255\t0\t0\t0\t1\n", laptop, clock);
+        }
+        for (unsigned k = 0; k < 512; k++)
+            at += sprintf(at, "E\t%u\t15\t%u\t255\n", 1 + k / 32, 10000 + k % 32);
+        length = (size_t)(at - (char *)sheet);
+        rearrange();
+    }
+    at = (char *)archive + sprintf((char *)archive, "S2\t16\t65535\n");
+    for (unsigned k = 0; k < 2000; k++)
+        at += sprintf(at, "P\t%u\t1\t%u\t1114111\t255\t0\t0\t0\t1\n", 1 + k % 1024, 1 + k);
+    bring_back((size_t)(at - (char *)archive), WIMTAZE_REFUSED);
+}
+
 static void *calls(void *unused)
 {
     uint8_t here;
@@ -227,6 +272,7 @@ static void *calls(void *unused)
     heaps();
     foreign();
     lists();
+    archives();
     return unused;
 }
 

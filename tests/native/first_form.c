@@ -1,10 +1,10 @@
 /*
- * The sheets of archive/, which version 0.4.0 saved in the first form, on the way forward and back. What the way
+ * The sheets of first_form/, which version 0.4.0 saved in the first form, on the way forward and back. What the way
  * forward writes is read by the other calls, is loaded for use as it is, and shows what 0.4.0 showed; the way back
  * gives the file again, byte for byte. A file whose clock was lowered comes back with the clock that it had, and else
  * as it was handed over.
  *
- *     archive DIRECTORY
+ *     first_form DIRECTORY
  */
 #include "wimtaze.h"
 
@@ -123,7 +123,7 @@ static void go(const char *directory, size_t k)
 int main(int argc, char **argv)
 {
     if (argc != 2) {
-        fputs("usage: archive DIRECTORY\n", stderr);
+        fputs("usage: first_form DIRECTORY\n", stderr);
         return 2;
     }
     for (size_t k = 0; k < sizeof sheets / sizeof *sheets; k++)
