@@ -24,10 +24,13 @@ use Rattle.saved.specs.Format.{savedBytes}
 use Rattle.saved.proofs.Trips.{saved-reads-back}
 use Rattle.effects.specs.Results.{Result, result, silent, wordNumber, inBits, numberOf}
 use Rattle.effects.specs.Effects.{Effect, quiet}
-use Rattle.c_calls.specs.Calls.{CCall, «wimtaze_empty», «wimtaze_receive», «wimtaze_receive_at», «wimtaze_type», «wimtaze_erase», «wimtaze_restore», «wimtaze_paste», «wimtaze_text», «wimtaze_counts», «wimtaze_upgrade», «wimtaze_downgrade», earlierChecks, callChecks, bytesAlone, productOf, short, delivered, effectOf}
+use Rattle.c_calls.specs.Calls.{CCall, «wimtaze_empty», «wimtaze_receive», «wimtaze_receive_at», «wimtaze_type», «wimtaze_erase»}
+use Rattle.c_calls.specs.Calls.{«wimtaze_restore», «wimtaze_paste», «wimtaze_text», «wimtaze_counts», «wimtaze_upgrade», «wimtaze_downgrade»}
+use Rattle.c_calls.specs.Calls.{earlierChecks, callChecks, bytesAlone, productOf, short, delivered, effectOf}
 use Rattle.c_calls.specs.Calls.{«wimtaze_build», «wimtaze_load», «wimtaze_list», «wimtaze_answer»}
 use Rattle.c_calls.specs.Calls.{«wimtaze_archive», «wimtaze_unarchive»}
-use Rattle.c_calls.specs.Theorems.{Bounds, boundsOf, roomOf, saves, Fits, ResultsFit, PartsReadBack, ReadsBack, ReturnedReadsBack, CountsWithin, CountsFit, BuffersSuffice, bytesWritten, Formed, Loads, WrittenLoads}
+use Rattle.c_calls.specs.Theorems.{Bounds, boundsOf, roomOf, saves, Fits, ResultsFit, PartsReadBack, ReadsBack, ReturnedReadsBack, CountsWithin}
+use Rattle.c_calls.specs.Theorems.{CountsFit, BuffersSuffice, bytesWritten, Formed, Loads, WrittenLoads}
 use Rattle.c_calls.proofs.Listing.{Earlier, Went, away, lacking, through, first-behind, went, product-made}
 use Rattle.c_calls.proofs.Products.{Saved, Sound, counts-within, counts-formed, product-sound}
 

@@ -2,7 +2,8 @@
 use mathlib.Core.Path.{refl}
 use lib.Count.{ones}
 use Rattle.codec.specs.Calls.{asWritten, lineLaidOut, laidOut, saidBy}
-use Rattle.codec.specs.Operations.{insertNumbers, toggleNumbers, identifierAt, insertOf, toggleOf, deleteOf, isInsert, isToggle, isDelete, operationOf, operationLine}
+use Rattle.codec.specs.Operations.{insertNumbers, toggleNumbers, identifierAt, insertOf, toggleOf, deleteOf, isInsert, isToggle, isDelete}
+use Rattle.codec.specs.Operations.{operationOf, operationLine}
 use Rattle.consistency.specs.Copies.{bytesAfter, wordRead, writtenRead, wordOf, keptBytes, whenMade, rulesOf, renews, onBytes, stepOn, begun}
 use Rattle.cursor.specs.Bits.{shiftBits}
 use Rattle.decimal.specs.Numeral.{isDigit, leadingZero, isNumeral, valueOf, digitsIn, digits}
@@ -13,23 +14,32 @@ use Rattle.lines.specs.Lines.{ended, firstLine, rest, closed}
 use Rattle.output.specs.Output.{hasRoom, placed}
 use Rattle.effects.specs.Results.{result, silent, inBits, numberOf}
 use Rattle.saved.specs.Calls.{loadedAs}
-use Rattle.saved.specs.Format.{siteNumbers, siteOf, isSite, siteSaid, siteLine, toggleField, characterNumbers, characterOf, isCharacter, characterSaid, characterLine, isOperation, operationSaid, savedLine, headLine, rowLines, operationLines, laidOutAs, stateAs, characterWithin, operationWithin, inRangeAs, bytesAs, laidOutWith, bytesWith}
+use Rattle.saved.specs.Format.{siteNumbers, siteOf, isSite, siteSaid, siteLine, toggleField, characterNumbers, characterOf, isCharacter}
+use Rattle.saved.specs.Format.{characterSaid, characterLine, isOperation, operationSaid, savedLine, headLine, rowLines, operationLines, laidOutAs}
+use Rattle.saved.specs.Format.{stateAs, characterWithin, operationWithin, inRangeAs, bytesAs, laidOutWith, bytesWith}
 use Rattle.c_calls.specs.Calls.{inputChecks, oneLine, handedChecks, ruleChecks, productOf, callChecks, effectOf}
 use Rattle.answers.specs.Answers.{decided, reply, changes}
 use Rattle.woot.specs.Sending.{answerOf}
-use Rattle.woot.specs.Calls.{unchanged, allIntegrated, withCharacters, withPending, afterDrain, insertCarried, duplicate, conflicting, senderFull, documentFull, receiveChecks, carryOut, defer, accept, receiveWhen, receive, visibles, nextIdentifier, generatedInsert, beyondVisible, identifierTaken, insertChecks, sendInsert, localInsertWhen, localInsert, togglesOf, generatedToggle, sendToggle, notVisible, deleteChecks, generatedDelete, localDeleteWhen, localDelete, notHidden, exhausted, restoreChecks, localRestoreWhen, localRestore}
+use Rattle.woot.specs.Calls.{unchanged, allIntegrated, withCharacters, withPending, afterDrain, insertCarried, duplicate, conflicting, senderFull}
+use Rattle.woot.specs.Calls.{documentFull, receiveChecks, carryOut, defer, accept, receiveWhen, receive, visibles, nextIdentifier, generatedInsert}
+use Rattle.woot.specs.Calls.{beyondVisible, identifierTaken, insertChecks, sendInsert, localInsertWhen, localInsert, togglesOf, generatedToggle}
+use Rattle.woot.specs.Calls.{sendToggle, notVisible, deleteChecks, generatedDelete, localDeleteWhen, localDelete, notHidden, exhausted, restoreChecks}
+use Rattle.woot.specs.Calls.{localRestoreWhen, localRestore}
 use Rattle.utf8.specs.Encoding.{encodedLength}
 use Rattle.utf8.specs.Decoding.{accepted, continues, continued, headOf, decodedSteps, decoded}
 use Rattle.woot.specs.Histories.{outcome}
 use Rattle.woot.specs.Pasting.{codePointsOf, gapBelow, stopped, unpasted, pasted, clockShort, overfull, pasteChecks, pasteWhen, paste}
 use Rattle.woot.specs.Clock.{ownInsert, heard}
 use Rattle.woot.specs.Cursor.{through, visibleThrough, cursorAfter, receiveAtChecks, receiveAtWhen, receiveAt, newGap, shiftOf, shiftAt}
-use Rattle.woot.specs.Form.{presentInserts, allInRange, sharesKept, capacityKept, identifiersDistinct, togglesDistinct, ordered, neighboursOrdered, noneExecutable, clockReaches, clockKept, wellFormed, raised}
+use Rattle.woot.specs.Form.{presentInserts, allInRange, sharesKept, capacityKept, identifiersDistinct, togglesDistinct, ordered, neighboursOrdered}
+use Rattle.woot.specs.Form.{noneExecutable, clockReaches, clockKept, wellFormed, raised}
 use Rattle.woot.specs.Identifiers.{same, below}
 use Rattle.woot.specs.Operations.{sender, character, origin, isVisible, withToggles, toggledBy, sameInsert, sameToggle, sameOperation}
 use Rattle.woot.specs.Pending.{executable, crossed, unplaceable, integrate, pendingFrom, earliest, andIntegrated, andDiscarded, drained, drainSteps, drain}
-use Rattle.woot.specs.Placing.{sequence, indexOf, placeOf, held, above, adjacent, candidate, candidates, narrowed, search, position, between, insertAt, integrateInsert, integrateToggle}
-use Rattle.woot.specs.Ranges.{within, siteNumber, codePoint, characterId, previousId, nextId, siteInRange, insertInRange, toggleInRange, inRange, characterInRange}
+use Rattle.woot.specs.Placing.{sequence, indexOf, placeOf, held, above, adjacent, candidate, candidates, narrowed, search, position, between}
+use Rattle.woot.specs.Placing.{insertAt, integrateInsert, integrateToggle}
+use Rattle.woot.specs.Ranges.{within, siteNumber, codePoint, characterId, previousId, nextId, siteInRange, insertInRange, toggleInRange, inRange}
+use Rattle.woot.specs.Ranges.{characterInRange}
 use Rattle.woot.specs.State.{initial, blankCharacter, blankOperation}
 use Rattle.woot.specs.Building.{once, building, leftOut, built, heapFull, disagree, disagreeing, buildChecks, unbuilt}
 use Rattle.woot.specs.Building.{build}

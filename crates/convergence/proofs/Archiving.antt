@@ -25,11 +25,15 @@ use Rattle.woot.specs.Limits.{capacity}
 use Rattle.woot.specs.Ranges.{within, characterInRange}
 use Rattle.woot.specs.State.{State}
 use Rattle.woot.specs.Form.{allInRange, wellFormed}
-use Rattle.woot.specs.Archiving.{Placed, Archive, placedFrom, byIdentifier, byPlace, placesOf, charactersOf, archived, archiveOf, unarchived, stateFrom, placeInRange, archiveInRange, eachOnce, placesKept, identifiersRise, arranged, archiveChecks, unarchiveChecks}
+use Rattle.woot.specs.Archiving.{Placed, Archive, placedFrom, byIdentifier, byPlace, placesOf, charactersOf, archived, archiveOf, unarchived}
+use Rattle.woot.specs.Archiving.{stateFrom, placeInRange, archiveInRange, eachOnce, placesKept, identifiersRise, arranged, archiveChecks}
+use Rattle.woot.specs.Archiving.{unarchiveChecks}
 use Rattle.convergence.proofs.Forms.{formed}
 use Rattle.convergence.proofs.Soundness.{standing}
-use Rattle.convergence.specs.Archiving.{Distinct, BackAfterForth, ForthArranged, ForthAfterBack, ArrangedExactly, RowsPermuted, ArchiveRises, PlacesExactly, PlacesBound, ArchiveReturns, ArchiveAccepted, UnarchivedOnce, MisarrangedWhen}
-use Rattle.lists.proofs.Sorting.{pairwise-implies, pairwise-first, pairwise-rest, sorted-member, member-sorted, sorted-keeps, sorted-length, sorted-pairwise, rises-pairwise, sorted-rises, pairwise-rises, rising-unique}
+use Rattle.convergence.specs.Archiving.{Distinct, BackAfterForth, ForthArranged, ForthAfterBack, ArrangedExactly, RowsPermuted, ArchiveRises}
+use Rattle.convergence.specs.Archiving.{PlacesExactly, PlacesBound, ArchiveReturns, ArchiveAccepted, UnarchivedOnce, MisarrangedWhen}
+use Rattle.lists.proofs.Sorting.{pairwise-implies, pairwise-first, pairwise-rest, sorted-member, member-sorted, sorted-keeps, sorted-length}
+use Rattle.lists.proofs.Sorting.{sorted-pairwise, rises-pairwise, sorted-rises, pairwise-rises, rising-unique}
 
 -- ---- lists without repeats
 
@@ -37,7 +41,8 @@ none-every : {A B : Type 0} (s : B → Bool) (f : A → B) (xs : List A) → not
 none-every s f [] = refl
 none-every s f (x ∷ xs) = go (s (f x)) (none-every s f xs)
   where
-    go : (b : Bool) → not (any s (map f xs)) ≡ every (λ y. not (s (f y))) xs → not (mathlib.Core.Bool._||_ b (any s (map f xs))) ≡ (not b && every (λ y. not (s (f y))) xs)
+    go : (b : Bool) → not (any s (map f xs)) ≡ every (λ y. not (s (f y))) xs
+        → not (mathlib.Core.Bool._||_ b (any s (map f xs))) ≡ (not b && every (λ y. not (s (f y))) xs)
     go true r = refl
     go false r = r
 
@@ -98,7 +103,9 @@ identifier-asym p q h k = below-asym (p .character .id) (q .character .id) h k
 identifier-differ : (p q : Placed) → byIdentifier p q ≡ true → differIdentifier p q ≡ true
 unfolding byIdentifier differIdentifier
 identifier-differ p q h =
-    not-intro (ne-same _ _ (λ e. below-irrefl (q .character .id) (subst (λ (x : Rattle.woot.specs.declared.Identifier.Identifier). below x (q .character .id) ≡ true) e h)))
+    not-intro
+    (ne-same _ _ (λ e. below-irrefl (q .character .id) (subst (λ (x : Rattle.woot.specs.declared.Identifier.Identifier). below x (q .character .id) ≡ true) e
+    h)))
 
 identifier-symmetric : (p q : Placed) → differIdentifier p q ≡ true → differIdentifier q p ≡ true
 unfolding differIdentifier
@@ -158,7 +165,8 @@ placed-at k i [] d h = absurd (omega arith)
 placed-at k zero (c ∷ cs) d h = let e : k + zero ≡ k = omega arith in List·Memᴰ·head (λ j. record { place = e j; character = c })
 placed-at k (suc i) (c ∷ cs) d h =
     let e : k + suc i ≡ suc k + i = omega arith in
-    List·Memᴰ·tail (subst (λ (n : ℕ). List·Memᴰ (record { place = n; character = getD cs i d }) (placedFrom (suc k) cs)) (sym e) (placed-at (suc k) i cs d (omega arith)))
+    List·Memᴰ·tail (subst (λ (n : ℕ). List·Memᴰ (record { place = n; character = getD cs i d }) (placedFrom (suc k) cs)) (sym e)
+    (placed-at (suc k) i cs d (omega arith)))
 
 -- ---- the way back after the way forth
 
@@ -203,7 +211,8 @@ archived-places cs =
     each k m =
         let w = Memᴰ·of-map (λ (p : Placed). p .place) (archived cs) m in
         let b = placed-within 1 cs (sorted-member byIdentifier (placedFrom 1 cs) (w .1)) in
-        let n : length (placesOf (archived cs)) ≡ length cs = length-map (archived cs) (λ (p : Placed). p .place) ∙ sorted-length byIdentifier (placedFrom 1 cs) ∙ length-placed 1 cs in
+        let n : length (placesOf (archived cs)) ≡ length cs =
+        length-map (archived cs) (λ (p : Placed). p .place) ∙ sorted-length byIdentifier (placedFrom 1 cs) ∙ length-placed 1 cs in
         and-intro (le-leb 1 k (omega (arith, w .2, b .0))) (le-leb k (length (placesOf (archived cs))) (omega (arith, w .2, b .1, n)))
 
 pub forth-arranged : ForthArranged
@@ -213,7 +222,8 @@ forth-arranged cs = (to, λ d. and-intro (archived-places cs) (archive-rises cs 
     to : arranged (archived cs) ≡ true → Distinct cs
     to h =
         let up = rises-pairwise byIdentifier identifier-trans (archived cs) (and-right (placesKept (archived cs)) (identifiersRise (archived cs)) h) in
-        let d = sorted-pairwise byPlace differIdentifier identifier-symmetric (archived cs) (pairwise-implies byIdentifier differIdentifier identifier-differ (archived cs) up) in
+        let d = sorted-pairwise byPlace differIdentifier identifier-symmetric (archived cs)
+        (pairwise-implies byIdentifier differIdentifier identifier-differ (archived cs) up) in
         distinct-differ cs ∙ subst (λ (ps : List Placed). pairwise differIdentifier ps ≡ true) (replaced cs) d
 
 -- ---- the way forth after the way back
@@ -223,17 +233,21 @@ room : (a b : ℕ) (ps : List Placed) → a ≤ b → pairwise byPlace ps ≡ tr
 room a b [] h r f = omega arith
 room a b (p ∷ ps) h r f =
     let w = f p (List·Memᴰ·head refl) in
-    let l = room (suc (p .place)) b ps (omega (arith, w .1)) (pairwise-rest byPlace p ps r) (λ q m. (place-lt p q (pairwise-first byPlace r m), f q (List·Memᴰ·tail m) .1)) in
+    let l = room (suc (p .place)) b ps (omega (arith, w .1)) (pairwise-rest byPlace p ps r)
+    (λ q m. (place-lt p q (pairwise-first byPlace r m), f q (List·Memᴰ·tail m) .1)) in
     omega (arith, l, w .0)
 
 -- where they have no more room than they take, they are all of the numbers there
-filled : (k : ℕ) (ps : List Placed) → pairwise byPlace ps ≡ true → ((p : Placed) → List·Memᴰ p ps → (k ≤ p .place) × (p .place < k + length ps)) → ps ≡ placedFrom k (charactersOf ps)
+filled : (k : ℕ) (ps : List Placed) → pairwise byPlace ps ≡ true
+    → ((p : Placed) → List·Memᴰ p ps → (k ≤ p .place) × (p .place < k + length ps)) → ps ≡ placedFrom k (charactersOf ps)
 filled k [] r f = refl
 filled k (p ∷ ps) r f =
     let w = f p (List·Memᴰ·head refl) in
-    let l = room (suc (p .place)) (k + suc (length ps)) ps (omega (arith, w .1)) (pairwise-rest byPlace p ps r) (λ q m. (place-lt p q (pairwise-first byPlace r m), f q (List·Memᴰ·tail m) .1)) in
+    let l = room (suc (p .place)) (k + suc (length ps)) ps (omega (arith, w .1)) (pairwise-rest byPlace p ps r)
+    (λ q m. (place-lt p q (pairwise-first byPlace r m), f q (List·Memᴰ·tail m) .1)) in
     let e : p .place ≡ k = omega (arith, l, w .0) in
-    let t = filled (suc k) ps (pairwise-rest byPlace p ps r) (λ q m. (omega (arith, e, place-lt p q (pairwise-first byPlace r m)), omega (arith, f q (List·Memᴰ·tail m) .1))) in
+    let t = filled (suc k) ps (pairwise-rest byPlace p ps r)
+    (λ q m. (omega (arith, e, place-lt p q (pairwise-first byPlace r m)), omega (arith, f q (List·Memᴰ·tail m) .1))) in
     λ i. record { place = e i; character = p .character } ∷ t i
 
 module _ (ps : List Placed) (kept : placesKept ps ≡ true) where

@@ -11,7 +11,9 @@ use lib.ListN.{getD}
 use Rattle.woot.specs.declared.Operation.{Operation}
 use Rattle.woot.specs.declared.Operation.the-variants.{Insert as insert, Toggle as toggle}
 use Rattle.answers.specs.declared.Refusal.{Refusal}
-use Rattle.answers.specs.declared.Refusal.the-variants.{Layout, Range, HeapFull, Mislisted, Misarranged, NotUtf8, Form, Unrepresentable, Unreachable, Position, NotHidden, LastToggle, Clock, Taken, Conflict, Crossed, Unplaceable, SenderFull, DocumentFull, Output}
+use Rattle.answers.specs.declared.Refusal.the-variants.{Layout, Range, HeapFull, Mislisted, Misarranged, NotUtf8, Form, Unrepresentable, Unreachable}
+use Rattle.answers.specs.declared.Refusal.the-variants.{Position, NotHidden, LastToggle, Clock, Taken, Conflict, Crossed, Unplaceable, SenderFull}
+use Rattle.answers.specs.declared.Refusal.the-variants.{DocumentFull, Output}
 use Rattle.answers.specs.declared.Answer.{Answer}
 use Rattle.answers.specs.declared.Answer.the-variants.{Done, Deferred, Duplicate, Refused}
 use Rattle.woot.specs.declared.Sent.{Sent}
@@ -20,13 +22,17 @@ use Rattle.woot.specs.State.{State}
 use Rattle.woot.specs.Pending.{executable}
 use Rattle.answers.specs.Answers.{number, highestRefusal, Word, done, waits, known, refused, reply, Check, first, NoneHolds, decided}
 use Rattle.woot.specs.Sending.{answerOf, sentOperation}
-use Rattle.woot.specs.Calls.{Outcome, unchanged, carryOut, defer, accept, receiveChecks, receiveWhen, generatedInsert, insertChecks, sendInsert, localInsertWhen, generatedDelete, deleteChecks, sendToggle, localDeleteWhen, generatedToggle, restoreChecks, localRestoreWhen}
+use Rattle.woot.specs.Calls.{Outcome, unchanged, carryOut, defer, accept, receiveChecks, receiveWhen, generatedInsert, insertChecks, sendInsert}
+use Rattle.woot.specs.Calls.{localInsertWhen, generatedDelete, deleteChecks, sendToggle, localDeleteWhen, generatedToggle, restoreChecks}
+use Rattle.woot.specs.Calls.{localRestoreWhen}
 use Rattle.woot.specs.Cursor.{receiveAtChecks, receiveAtWhen}
 use Rattle.lists.proofs.Tests.{some-eq, no-some}
-use Rattle.convergence.specs.Theorems.{NumbersDiffer, ReceiveNumbers, InsertNumbers, DeleteNumbers, RestoreNumbers, ReceiveDoes, ReceiveWaits, InsertDoes, DeleteDoes, RestoreDoes, InsertSends, DeleteSends, RestoreSends}
+use Rattle.convergence.specs.Theorems.{NumbersDiffer, ReceiveNumbers, InsertNumbers, DeleteNumbers, RestoreNumbers, ReceiveDoes, ReceiveWaits}
+use Rattle.convergence.specs.Theorems.{InsertDoes, DeleteDoes, RestoreDoes, InsertSends, DeleteSends, RestoreSends}
 use Rattle.convergence.specs.Cursors.{ReceiveAtNumbers, ReceiveAtDoes, ReceiveAtWaits}
 use Rattle.convergence.proofs.Refusals.{receive-refuses, receive-at-refuses, insert-refuses, delete-refuses, restore-refuses, answer-refused}
-use Rattle.convergence.proofs.Steps.{first-none, All, first-some, Turned, receive-turned, receive-at-turned, Refusing, insert-turned, delete-turned, restore-turned}
+use Rattle.convergence.proofs.Steps.{first-none, All, first-some, Turned, receive-turned, receive-at-turned, Refusing, insert-turned}
+use Rattle.convergence.proofs.Steps.{delete-turned, restore-turned}
 
 -- ---- by number
 

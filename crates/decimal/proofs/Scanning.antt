@@ -73,7 +73,8 @@ module _ (ds : List ℕ) (first value limit : ℕ) (above : Bool) (all : allDigi
   some-judged =
       rw (lt-ltb 0 (suc (length ds)) (omega arith), eqb·suc-zero (length ds), all) (by (eqb first 48) (ltb 1 (suc (length ds))) above refl)
     where
-      within : (b : Bool) → above ≡ b → cond (b || ltb limit value) Above (Number value) ≡ cond (leb (valueOf (first ∷ ds)) limit) (Number (valueOf (first ∷ ds))) Above
+      within : (b : Bool) → above ≡ b
+          → cond (b || ltb limit value) Above (Number value) ≡ cond (leb (valueOf (first ∷ ds)) limit) (Number (valueOf (first ∷ ds))) Above
       within true e = rw (lt-leb (valueOf (first ∷ ds)) limit (high e)) refl
       within false e = go (ltb limit value) refl
         where
@@ -94,7 +95,8 @@ unfolding fieldBy fieldOf isNumeral
 judged [] value limit above clean high = refl
 judged (b ∷ bs) value limit above clean high = go (isDigit b) refl clean high
   where
-    go : (t : Bool) → isDigit b ≡ t → (above ≡ false → value ≡ valueOf (cond t (b ∷ digitsFront bs) [])) → (above ≡ true → limit < valueOf (cond t (b ∷ digitsFront bs) []))
+    go : (t : Bool) → isDigit b ≡ t → (above ≡ false → value ≡ valueOf (cond t (b ∷ digitsFront bs) []))
+        → (above ≡ true → limit < valueOf (cond t (b ∷ digitsFront bs) []))
         → fieldBy b (length (cond t (b ∷ digitsFront bs) [])) value above limit ≡ fieldOf (cond t (b ∷ digitsFront bs) []) limit
     go true e c h = some-judged (digitsFront bs) b value limit above (rw e (front-digits bs)) c h
     go false e c h = refl
@@ -158,5 +160,7 @@ module _ {s : List ℕ} {from limit value : ℕ} {above : Bool} {i : ℕ} (r : S
         let first : getD (drop from s) 0 0 ≡ getD s from 0 = getD-drop from s 0 0 ∙ ap (λ (k : ℕ). getD s k 0) (omega arith) in
         let clean : above ≡ false → value ≡ valueOf (digitsFront (drop from s)) = λ f. r .clean f ∙ ap valueOf (sym all-read) in
         let high : above ≡ true → limit < valueOf (digitsFront (drop from s)) = λ f. omega (arith, r .high f, ap valueOf all-read) in
-        let same : _ ≡ fieldOf (digitsFront (drop from s)) limit = e ∙ rw count (ap (λ (b : ℕ). fieldBy b (length (digitsFront (drop from s))) value above limit) (sym first) ∙ judged (drop from s) value limit above clean high) in
+        let same : _ ≡ fieldOf (digitsFront (drop from s)) limit =
+        e ∙ rw count
+        (ap (λ (b : ℕ). fieldBy b (length (digitsFront (drop from s))) value above limit) (sym first) ∙ judged (drop from s) value limit above clean high) in
         λ j. record { field = same j; next = sym n j }

@@ -57,7 +57,8 @@ fn refuse_into(reason: Refusal) -> ReadInto
 
 // Reads the lines of a saved replica or of an archive, and checks no more than their layout and their ranges; the clock
 // is as it was read. A fault of the layout comes first, wherever it is, and then a number out of range. The arrays have
-// just been made, zeros throughout; where rows have no places, one slot is enough for them.
+// just been made, zeros throughout; where rows have no places, one slot is enough for them. A step of `archiving` too,
+// and not a call: it lends arrays of these sizes.
 pub fn read_lines(
     rows: Rows,
     bytes: &[u8],

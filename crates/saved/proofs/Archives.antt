@@ -17,7 +17,8 @@ use Rattle.woot.specs.declared.Written.the-variants.{Refused}
 use Rattle.woot.specs.State.{State}
 use Rattle.woot.specs.Form.{clockKept, wellFormed}
 use Rattle.woot.specs.Writing.{writtenAs, outputAfter, writingChecks, writtenNumber}
-use Rattle.woot.specs.Archiving.{Archive, archiveOf, stateFrom, placeInRange, archiveInRange, placesKept, identifiersRise, arranged, archiveChecks, unarchiveChecks}
+use Rattle.woot.specs.Archiving.{Archive, archiveOf, stateFrom, placeInRange, archiveInRange, placesKept, identifiersRise, arranged, archiveChecks}
+use Rattle.woot.specs.Archiving.{unarchiveChecks}
 use Rattle.convergence.specs.Archiving.{Distinct}
 use Rattle.convergence.proofs.Archiving.{forth-arranged, places-bound, archive-in-range, archive-returns, unarchived-once}
 use Rattle.convergence.proofs.Forms.{formed}
@@ -31,10 +32,14 @@ use Rattle.codec.specs.Calls.{asWritten}
 use Rattle.saved.specs.declared.Version.the-variants.{Second}
 use Rattle.saved.specs.Format.{isCharacter, isOperation, rowLines, operationLines, laidOutWith, savedLaidOut, savedState, savedInRange, savedBytes}
 use Rattle.saved.specs.Calls.{raisingAs}
-use Rattle.saved.specs.Archive.{isPlaced, placedSaid, placedLine, archiveLaidOut, archiveSaid, archiveBytes, archiving, archivingRefusals, archivingChecks, archiveWritten, archiveOut, unarchiving, unarchivingRefusals, unarchivingChecks, unarchiveWritten, unarchiveOut}
-use Rattle.saved.specs.Archives.{BackAfterArchive, ArchiveAfterBack, ArchiveReadsBack, ArchivesApart, ArchivingOrder, ArchivingRefuses, UnarchivingRefuses, ArchivingNumbers, UnarchivingNumbers, LowClockRefused, ManyRowsRefused}
+use Rattle.saved.specs.Archive.{isPlaced, placedSaid, placedLine, archiveLaidOut, archiveSaid, archiveBytes, archiving, archivingRefusals}
+use Rattle.saved.specs.Archive.{archivingChecks, archiveWritten, archiveOut, unarchiving, unarchivingRefusals, unarchivingChecks}
+use Rattle.saved.specs.Archive.{unarchiveWritten, unarchiveOut}
+use Rattle.saved.specs.Archives.{BackAfterArchive, ArchiveAfterBack, ArchiveReadsBack, ArchivesApart, ArchivingOrder, ArchivingRefuses}
+use Rattle.saved.specs.Archives.{UnarchivingRefuses, ArchivingNumbers, UnarchivingNumbers, LowClockRefused, ManyRowsRefused}
 use Rattle.saved.proofs.Spelling.{placed-numbered}
-use Rattle.saved.proofs.Trips.{every-always, parts, written-laid, site-back, rows-back, pending-back, again, formed-clock, saved-laid, in-range-back, says-back, says-saved, second-says}
+use Rattle.saved.proofs.Trips.{every-always, parts, written-laid, site-back, rows-back, pending-back, again, formed-clock, saved-laid}
+use Rattle.saved.proofs.Trips.{in-range-back, says-back, says-saved, second-says}
 use Rattle.saved.proofs.Refusals.{file-some, bytes-some}
 use Rattle.saved.proofs.Numbers.{by-four}
 

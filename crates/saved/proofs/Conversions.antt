@@ -29,9 +29,11 @@ use Rattle.codec.specs.Calls.{asWrittenFirst}
 use Rattle.codec.proofs.Letters.{delete-alone}
 use Rattle.saved.specs.declared.Version.{Version}
 use Rattle.saved.specs.declared.Version.the-variants.{First, Second}
-use Rattle.saved.specs.Format.{isCharacter, siteHead, isSite, headLine, isOperation, operationSaid, operationLines, laidOutAs, stateAs, characterWithin, operationWithin, representable, inRangeAs, bytesAs}
+use Rattle.saved.specs.Format.{isCharacter, siteHead, isSite, headLine, isOperation, operationSaid, operationLines, laidOutAs, stateAs}
+use Rattle.saved.specs.Format.{characterWithin, operationWithin, representable, inRangeAs, bytesAs}
 use Rattle.saved.specs.Calls.{loadedAs}
-use Rattle.saved.specs.Conversion.{conversion, conversionRefusals, conversionChecks, converted, convertedOut, Returns, DownAfterUp, UpAfterDown, FormsApart, HighTurns, ConversionOrder, ConversionRefuses, ConversionNumbers, UpgradeNeverUnrepresentable}
+use Rattle.saved.specs.Conversion.{conversion, conversionRefusals, conversionChecks, converted, convertedOut, Returns, DownAfterUp, UpAfterDown}
+use Rattle.saved.specs.Conversion.{FormsApart, HighTurns, ConversionOrder, ConversionRefuses, ConversionNumbers, UpgradeNeverUnrepresentable}
 use Rattle.saved.proofs.Refusals.{bytes-some}
 use Rattle.saved.proofs.Numbers.{by-four}
 use Rattle.saved.proofs.Trips.{parts, saved-laid, in-range-back, loads-back, unraised, loaded-again, unraised-again, second-says}

@@ -29,8 +29,10 @@ use Rattle.saved.specs.declared.LoadAnswer.the-variants.{Done, Refused}
 use Rattle.saved.specs.declared.Loaded.{Loaded}
 use Rattle.saved.specs.declared.Version.{Version}
 use Rattle.saved.specs.declared.Version.the-variants.{Second}
-use Rattle.saved.specs.Format.{siteHead, siteNumbers, siteLine, characterLine, savedLine, bytesAs, savedLaidOut, savedInRange, laidOutAs, stateAs, inRangeAs, bytesWith}
-use Rattle.saved.specs.Calls.{loadedState, loadChecks, noReplica, unread, loaded, loadNumber, handedOver, loadValue, bytesOf, saveChecks, saved, savedOut, savedRead, readingChecks, raisedInArrays}
+use Rattle.saved.specs.Format.{siteHead, siteNumbers, siteLine, characterLine, savedLine, bytesAs, savedLaidOut, savedInRange, laidOutAs}
+use Rattle.saved.specs.Format.{stateAs, inRangeAs, bytesWith}
+use Rattle.saved.specs.Calls.{loadedState, loadChecks, noReplica, unread, loaded, loadNumber, handedOver, loadValue, bytesOf, saveChecks, saved}
+use Rattle.saved.specs.Calls.{savedOut, savedRead, readingChecks, raisedInArrays}
 use Rattle.saved.specs.Theorems.{LoadRefuses, LoadNumbers, SaveRefuses, SaveNumbers}
 
 -- ---- reading

@@ -34,7 +34,8 @@ use Rattle.lines.proofs.Sizes.{line-le}
 use Rattle.codec.proofs.Sizes.{line-lengths, delete-length}
 use Rattle.saved.specs.declared.Version.{Version}
 use Rattle.saved.specs.declared.Version.the-variants.{First, Second}
-use Rattle.saved.specs.Format.{siteHead, siteNumbers, siteLimits, siteOf, siteLine, characterHead, characterNumbers, characterLimits, characterLine, savedLine, characterWithin, operationWithin, representable, bytesAs, bytesWith}
+use Rattle.saved.specs.Format.{siteHead, siteNumbers, siteLimits, siteOf, siteLine, characterHead, characterNumbers, characterLimits}
+use Rattle.saved.specs.Format.{characterLine, savedLine, characterWithin, operationWithin, representable, bytesAs, bytesWith}
 use Rattle.saved.specs.Archive.{placedHead, placedNumbers, placedLimits, placedLine}
 use Rattle.saved.specs.Archives.{ArchiveLength}
 use Rattle.saved.specs.Conversion.{FirstLength}

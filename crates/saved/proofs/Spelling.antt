@@ -15,14 +15,16 @@ use Rattle.woot.specs.declared.Operation.the-variants.{Insert as insert, Toggle
 use Rattle.lists.proofs.Tests.{or-right, clash}
 use Rattle.lines.specs.Lines.{lineFeed, has, lines, rest, closed}
 use Rattle.lines.specs.Fields.{tab, fields, hasLayout, valuesOf, columns, lineOf}
-use Rattle.codec.specs.Operations.{insertHead, toggleHead, deleteHead, insertNumbers, toggleNumbers, deleteNumbers, identifierAt, insertOf, toggleOf, deleteOf, isInsert, isToggle, isDelete, operationOf, operationLine}
+use Rattle.codec.specs.Operations.{insertHead, toggleHead, deleteHead, insertNumbers, toggleNumbers, deleteNumbers, identifierAt, insertOf, toggleOf}
+use Rattle.codec.specs.Operations.{deleteOf, isInsert, isToggle, isDelete, operationOf, operationLine}
 use Rattle.codec.specs.Calls.{asWritten, asWrittenFirst}
 use Rattle.lines.proofs.Spelling.{layout-line, values-line, spelled, other-letter}
 use Rattle.codec.proofs.Trips.{from-place, insert-numbers-back, toggle-numbers-back, delete-numbers-back}
 use Rattle.codec.proofs.Letters.{delete-alone}
 use Rattle.saved.specs.declared.Version.{Version}
 use Rattle.saved.specs.declared.Version.the-variants.{First, Second}
-use Rattle.saved.specs.Format.{siteHead, siteNumbers, siteOf, characterHead, toggleField, characterNumbers, characterOf, isOperation, operationSaid, savedLine}
+use Rattle.saved.specs.Format.{siteHead, siteNumbers, siteOf, characterHead, toggleField, characterNumbers, characterOf, isOperation}
+use Rattle.saved.specs.Format.{operationSaid, savedLine}
 use Rattle.saved.specs.Archive.{placedHead, placedNumbers, placedOf}
 use Rattle.lines.proofs.Lines.{whole, lines-line, closed-line, line-rest, respelled}
 

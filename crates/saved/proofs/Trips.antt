@@ -13,7 +13,8 @@ use Rattle.woot.specs.declared.Operation.the-variants.{Insert as insert, Toggle
 use Rattle.woot.specs.Ranges.{siteInRange, characterInRange, inRange}
 use Rattle.woot.specs.State.{State}
 use Rattle.woot.specs.Memory.{meaning, stored}
-use Rattle.woot.specs.Form.{allInRange, sharesKept, capacityKept, identifiersDistinct, togglesDistinct, neighboursOrdered, noneExecutable, clockKept, wellFormed, raised}
+use Rattle.woot.specs.Form.{allInRange, sharesKept, capacityKept, identifiersDistinct, togglesDistinct, neighboursOrdered, noneExecutable, clockKept}
+use Rattle.woot.specs.Form.{wellFormed, raised}
 use Rattle.convergence.proofs.Hearing.{raising}
 use Rattle.convergence.proofs.Ranges.{toggle-in-range}
 use borrow.Author.Tests.{eq-eqb, leb-true, not-false}
@@ -24,7 +25,9 @@ use Rattle.codec.specs.Operations.{insertHead, deleteHead, toggleHead}
 use Rattle.saved.specs.declared.LoadAnswer.the-variants.{Done}
 use Rattle.saved.specs.declared.Version.{Version}
 use Rattle.saved.specs.declared.Version.the-variants.{First, Second}
-use Rattle.saved.specs.Format.{siteLine, isSite, siteSaid, characterLine, isCharacter, characterSaid, isOperation, operationSaid, savedLine, headLine, rowLines, operationLines, laidOutAs, stateAs, characterWithin, operationWithin, representable, inRangeAs, bytesAs, savedLaidOut, savedInRange, savedBytes, laidOutWith, bytesWith}
+use Rattle.saved.specs.Format.{siteLine, isSite, siteSaid, characterLine, isCharacter, characterSaid, isOperation, operationSaid, savedLine}
+use Rattle.saved.specs.Format.{headLine, rowLines, operationLines, laidOutAs, stateAs, characterWithin, operationWithin, representable}
+use Rattle.saved.specs.Format.{inRangeAs, bytesAs, savedLaidOut, savedInRange, savedBytes, laidOutWith, bytesWith}
 use Rattle.saved.specs.Calls.{loadedAs, raisingAs, loadedState, loaded, loadNumber}
 use Rattle.replica.specs.Tables.{Searches}
 use Rattle.replica.proofs.Tables.{stored-searches}
@@ -33,7 +36,9 @@ use Rattle.saved.specs.declared.Loaded.{Loaded}
 use Rattle.saved.specs.Conversion.{ReadsBackAs}
 use Rattle.saved.specs.Theorems.{SavedReadsBack, LoadedWritesBack, RaisedWritesBack, LoadedFormed, LoadedSearches, TableAloneDiffers}
 use Rattle.lines.proofs.Lines.{whole, rejoined, apart, concatenated-append, head-first}
-use Rattle.saved.proofs.Spelling.{Numbered, bare, first-line, ends-same, leaves-rest, is-laid, says-it, written-again, site-numbered, character-numbered, bareOperation, told, operation-lines, operation-closed, operation-laid, operation-back, operation-other, operation-again}
+use Rattle.saved.proofs.Spelling.{Numbered, bare, first-line, ends-same, leaves-rest, is-laid, says-it, written-again, site-numbered}
+use Rattle.saved.proofs.Spelling.{character-numbered, bareOperation, told, operation-lines, operation-closed, operation-laid, operation-back}
+use Rattle.saved.proofs.Spelling.{operation-other, operation-again}
 use Rattle.saved.proofs.Refusals.{load-done, load-numbers}
 
 -- ---- lists of lines

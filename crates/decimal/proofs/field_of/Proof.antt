@@ -46,11 +46,13 @@ returns-3 c =
 
 returns-4 : tie.Need-returns-4
 returns-4 c =
-    is-above _ _ _ _ _ (c .before .before .before .before .if1 .left) (sym (c .before .before .before .zero-in-front .ensures) ∙ c .before .before .if2 .left) (c .before .if3 .left) (c .if4 .taken)
+    is-above _ _ _ _ _ (c .before .before .before .before .if1 .left)
+    (sym (c .before .before .before .zero-in-front .ensures) ∙ c .before .before .if2 .left) (c .before .if3 .left) (c .if4 .taken)
 
 returns-5 : tie.Need-returns-5
 returns-5 c =
-    within _ _ _ _ _ (c .before .before .before .before .if1 .left) (sym (c .before .before .before .zero-in-front .ensures) ∙ c .before .before .if2 .left) (c .before .if3 .left) (omega arith)
+    within _ _ _ _ _ (c .before .before .before .before .if1 .left)
+    (sym (c .before .before .before .zero-in-front .ensures) ∙ c .before .before .if2 .left) (c .before .if3 .left) (omega arith)
 
 pub field-of-spec : {M : Type 1} → statement M
 field-of-spec = tie.close (tie.spec returns (λ c κs. search needs) returns-2 returns-3 returns-4 returns-5)

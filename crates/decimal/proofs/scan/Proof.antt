@@ -1,7 +1,7 @@
 -- `decimal::scan` meets its contract, by the invariant of `proofs/Scanning.antt`.
 use mathlib.Core.Path.{_≡_, sym, _∙_}
 use mathlib.Core.Logic.{⊎-elim}
-use Prim.Native.Nat.{_+_, _*_, _-_, _≤_}
+use Prim.Native.Nat.{_+_, _*_, _-_, _<_, _≤_}
 use native.Mathlib.Omega.{arith}
 use lib.ListN.{length}
 use borrow.Author.Needs.{needs}
@@ -51,11 +51,18 @@ mul-value-2 c = omega (arith, kept c)
 add-value-2 : tie.Need-add-value-2 Inv-loop μ-loop
 add-value-2 c = omega (arith, kept c)
 
+-- there is a byte at i
+inside : (c : tie.Joined2 Inv-loop μ-loop)
+    → c .before .before .before .before .before .loop .i < length (c .before .before .before .before .before .before .before .args .s .now)
+inside c =
+    let d = c .before .before .before in
+    is-there _ (d .before .before .loop .i) (sym (d .before .digit-at .ensures) ∙ d .if1 .taken) .0
+
 add-i : tie.Need-add-i Inv-loop μ-loop
-add-i c = omega (arith, is-there _ (c .before .before .before .before .before .loop .i) (sym (c .before .before .before .before .digit-at .ensures) ∙ c .before .before .before .if1 .taken) .0)
+add-i c = omega (arith, inside c)
 
 loop-less : tie.Need-loop-less Inv-loop μ-loop
-loop-less c = omega (arith, is-there _ (c .before .before .before .before .before .loop .i) (sym (c .before .before .before .before .digit-at .ensures) ∙ c .before .before .before .if1 .taken) .0)
+loop-less c = omega (arith, inside c)
 
 loop-again : tie.Need-loop-again Inv-loop μ-loop
 loop-again c =
@@ -73,7 +80,9 @@ sub-field-of : tie.Need-sub-field-of Inv-loop μ-loop
 sub-field-of c = omega (arith, c .before .before .before .loop .inv .at)
 
 returns : tie.Need-returns Inv-loop μ-loop
-returns c = scan-done (c .before .before .before .before .loop .inv) (sym (c .before .before .before .digit-at .ensures) ∙ c .before .before .if1 .left) (c .field-of .ensures)
+returns c =
+    scan-done (c .before .before .before .before .loop .inv)
+    (sym (c .before .before .before .digit-at .ensures) ∙ c .before .before .if1 .left) (c .field-of .ensures)
 
 pub scan-spec : {M : Type 1} → statement M
 scan-spec =

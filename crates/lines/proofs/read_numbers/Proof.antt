@@ -10,7 +10,8 @@ use Rattle.decimal.specs.Answers.{fieldOf, digitsFront, scanOf}
 use Rattle.lines.specs.Lines.{before}
 use Rattle.lines.specs.Fields.{tab}
 use Rattle.lines.proofs.Runs.{run-ends, run-goes}
-use Rattle.lines.proofs.Reading.{Reading, begun, short, no-tab, nothing-left, not-numeral, no-numeral, next-above, next-number, too-long, above-limit, in-limits}
+use Rattle.lines.proofs.Reading.{Reading, begun, short, no-tab, nothing-left, not-numeral, no-numeral, next-above, next-number, too-long}
+use Rattle.lines.proofs.Reading.{above-limit, in-limits}
 use Rattle.lines.proofs.read_numbers.Statement.{statement}
 use Rattle.lines.proofs.read_numbers.Tie as tie
 
@@ -28,7 +29,9 @@ returns c = c .without .ensures ∙ short (c .before .before .before .loop .inv)
 
 returns-2 : tie.Need-returns-2 Inv-loop μ-loop
 returns-2 c =
-    c .without2 .ensures ∙ no-tab (c .before .before .before .before .before .loop .inv) (c .before .before .before .before .loop-test .taken) (c .before .before .before .if1 .left) (c .before .if2 .taken)
+    c .without2 .ensures
+    ∙ no-tab (c .before .before .before .before .before .loop .inv) (c .before .before .before .before .loop-test .taken)
+    (c .before .before .before .if1 .left) (c .before .if2 .taken)
 
 returns-3 : tie.Need-returns-3 Inv-loop μ-loop
 returns-3 c =
@@ -61,7 +64,8 @@ returns-4 c =
     (run-goes _ (at d + 1) (past d) (sym (c .before .before .goes-on .ensures) ∙ c .before .if4 .taken))
 
 -- the digits are all of the field
-cut : (c : tie.Else4 Inv-loop μ-loop) → digitsFront (drop (at (c .before .before) + 1) (line (c .before .before))) ≡ before tab (drop (at (c .before .before) + 1) (line (c .before .before)))
+cut : (c : tie.Else4 Inv-loop μ-loop)
+    → digitsFront (drop (at (c .before .before) + 1) (line (c .before .before))) ≡ before tab (drop (at (c .before .before) + 1) (line (c .before .before)))
 cut c = sym (run-ends _ (at (c .before .before) + 1) (past (c .before .before)) (sym (c .before .goes-on .ensures) ∙ c .if4 .left))
 
 returns-5 : tie.Need-returns-5 Inv-loop μ-loop
@@ -91,7 +95,9 @@ returns-6 c = c .without6 .ensures ∙ too-long (c .before .before .before .loop
 
 returns-7 : tie.Need-returns-7 Inv-loop μ-loop
 returns-7 c =
-    c .without7 .ensures ∙ above-limit (c .before .before .before .before .loop .inv) (c .before .before .before .loop-test .left) (c .before .before .if5 .left) (c .before .if6 .taken)
+    c .without7 .ensures
+    ∙ above-limit (c .before .before .before .before .loop .inv) (c .before .before .before .loop-test .left)
+    (c .before .before .if5 .left) (c .before .if6 .taken)
 
 returns-8 : tie.Need-returns-8 Inv-loop μ-loop
 returns-8 c = in-limits (c .before .before .before .loop .inv) (c .before .before .loop-test .left) (c .before .if5 .left) (c .if6 .left)
