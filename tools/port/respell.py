@@ -94,6 +94,14 @@ def main(argv):
         for n, kind in found.items():
             if n not in made and not keeps(p, n, kind):
                 own[p, n] = kind
+    # Names that a module passes on from another.
+    for _ in range(3):
+        for p in names:
+            for m in re.finditer(r"pub use (Rattle(?:\.[\w+'-]+)+)\.\{([^}]*)\}", texts[p]):
+                at = of_module.get(m[1])
+                for item in m[2].split(","):
+                    if at and " as " not in item and (at, item.strip()) in own:
+                        own[p, item.strip()] = own[at, item.strip()]
     fields = {n for found in names.values() for n, kind in found.items() if kind == "field"}
     words = {n for (p, n) in own if "/specs/" in p and "-" not in n}
     words |= set(json.load(open(os.path.join(os.path.dirname(os.path.abspath(__file__)), "words.json"))))

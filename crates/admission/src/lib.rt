@@ -19,7 +19,7 @@ use neighbours::{cycles, pairs, places};
 use woot::{CHARACTERS, CODE_POINTS, NEXT_KEYS, PREVIOUS_KEYS, Replica, Site};
 
 // What loading for use gives: the answer, and the very replica, or beside a refusal one that no site has.
-#[derive(Drop)]
+#[derive(Clone, Copy)]
 pub struct Admitted {
     pub answer: Answer,
     pub replica: Replica,

@@ -4,7 +4,7 @@ ghost use Rattle.std.specs.Prelude.{◌≡◌};
 ghost use Rattle.answers.specs.Answers.{number, rank, earlier, changes};
 
 // Why a call is turned away; specs/ gives each its number. (Document 01: the grounds for turning a call away.)
-#[derive(Drop)]
+#[derive(Clone, Copy)]
 pub enum Refusal {
     // 1: a line or a saved replica lacks its layout.
     Layout,
@@ -117,7 +117,7 @@ impl Refusal {
 }
 
 // What receiving answers. (Document 01: done with carried and thrown, waits, known, refused.)
-#[derive(Drop)]
+#[derive(Clone, Copy)]
 pub enum Answer {
     Done { integrated: usize, discarded: usize },
     Deferred,

@@ -12,7 +12,7 @@ use pending::counts;
 use woot::{CHARACTERS, PENDING, Site};
 
 // What is known of a block before a character of it is typed.
-#[derive(Drop)]
+#[derive(Clone, Copy)]
 pub enum Judged {
     // It is refused, or empty.
     Answered(Answer),

@@ -26,14 +26,14 @@ use woot::{CHAINS, CHARACTER_NUMBERS, CHARACTERS, Document, LINKS, Replica, Site
 
 // What building returns: the answer, and the replica. With a refusal that is an empty one of number 0, which no site
 // has. The answer counts what is left out where others count what they discarded.
-#[derive(Drop)]
+#[derive(Clone, Copy)]
 pub struct Built {
     pub answer: Answer,
     pub replica: Replica,
 }
 
 // What is known of a heap once it is read.
-#[derive(Drop)]
+#[derive(Clone, Copy)]
 pub enum Judged {
     Refused(Refusal),
     // Its operations are in range, and the arrays have slots for them.

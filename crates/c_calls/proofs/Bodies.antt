@@ -21,7 +21,7 @@ use Rattle.answers.specs.declared.Answer.{Answer}
 use Rattle.answers.specs.declared.Answer.TheVariants.{Done, Deferred, Duplicate, Refused}
 use Rattle.woot.specs.declared.Sent.{Sent}
 use Rattle.woot.specs.declared.Sent.TheVariants.{Done as sentDone, Refused as sentRefused}
-use Rattle.woot.specs.Ranges.{codePoint, character_id, in_range}
+use Rattle.woot.specs.Ranges.{is_code_point, character_id, in_range}
 use Rattle.woot.specs.State.{State, initial}
 use Rattle.woot.specs.Form.{well_formed}
 use Rattle.woot.specs.Pending.{executable}
@@ -235,7 +235,7 @@ receive-at_asked : (s : State) (o : Operation) (g : ℕ) → well_formed s ≡ t
 unfolding receive_at receive_at_when receive_at_checks
 receive-at_asked s o g f r = rw (f, r)
 
-insert_asked : (s : State) (g n : ℕ) → well_formed s ≡ true → codePoint n ≡ true →
+insert_asked : (s : State) (g n : ℕ) → well_formed s ≡ true → is_code_point n ≡ true →
     local_insert s g n ≡ decided (unchanged s) (first (drop 2 (insert_checks true s g n))) (send_insert s (generated_insert s g n))
 unfolding local_insert local_insert_when insert_checks
 insert_asked s g n f r = rw (f, r)
@@ -342,7 +342,7 @@ module _ (bytes out line : List ℕ) where
       let s : State = loaded_state bytes in
       by-body (wimtaze_type g n) bytes out line _
       (λ h.
-      let k = passed bytes out true (codePoint n) h in
+      let k = passed bytes out true (is_code_point n) h in
       sent-body s (insert (generated_insert s g n)) out line (local_insert s g n) (drop 2 (insert_checks true s g n)) (insert-turned true s g n).1.1 (insert_asked s g n k.0 k.1))
 
   pub erase-body : (p : ℕ) → effect_of (wimtaze_erase p) bytes out line ≡ deleting_here bytes p out line

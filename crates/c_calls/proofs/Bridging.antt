@@ -24,7 +24,7 @@ use Rattle.woot.specs.declared.Sent.TheVariants.{Done as sentDone, Refused as se
 use Rattle.woot.specs.declared.ReceiptAt.{ReceiptAt}
 use Rattle.woot.specs.declared.Generated.{Generated}
 use Rattle.woot.specs.Operations.{character, inserts}
-use Rattle.woot.specs.Ranges.{codePoint, character_id, in_range}
+use Rattle.woot.specs.Ranges.{is_code_point, character_id, in_range}
 use Rattle.woot.specs.Table.{key, keys}
 use Rattle.woot.specs.State.{State}
 use Rattle.woot.specs.Memory.{character_slots, character_numbers, previous_keys, next_keys, code_points_of, stored, meaning, replica_well_formed}
@@ -143,7 +143,7 @@ module _ (r : Replica) (f : replica_well_formed r ≡ false) where
   unfolding received_at receipt_at receive_at_when receive_at_checks decided unchanged receipt_at_left changes turned
   received-off o g out ranged = rw (ranged, f)
 
-  inserted-off : (g n : ℕ) → codePoint n ≡ true → inserted r g n ≡ record { answer = sentRefused Form; replica = r }
+  inserted-off : (g n : ℕ) → is_code_point n ≡ true → inserted r g n ≡ record { answer = sentRefused Form; replica = r }
   unfolding inserted generated local_insert_when insert_checks decided unchanged after_sent
   inserted-off g n ranged = rw (ranged, f)
 
@@ -194,7 +194,7 @@ module _ (r : Replica) (s : State) (read : Reads r s) (out : List ℕ) where
         go true e = formed-on s out line _ e ∙ sym (sent-saved r w out line (kept e)) ∙ ap (λ (y : Generated). generated_left y out line) (sym (on e))
         go false e = formed-off s out line _ e ∙ ap (λ (y : Generated). generated_left y out line) (sym (off e))
 
-    pub type_bridge : (g n : ℕ) → codePoint n ≡ true → formed-first s out line (after_sending (local_insert s g n) out line) ≡ generated_left (inserted r g n) out line
+    pub type_bridge : (g n : ℕ) → is_code_point n ≡ true → formed-first s out line (after_sending (local_insert s g n) out line) ≡ generated_left (inserted r g n) out line
     unfolding outcome
     type_bridge g n ranged =
         bridge (local_insert s g n) (inserted r g n) (form_kept s (inserting g n)) (λ e. inserted-read r s read e g n) (λ e. inserted-off r (read.form ∙ e) g n ranged)

@@ -18,7 +18,7 @@ use Rattle.answers.specs.declared.Answer.{Answer}
 use Rattle.answers.specs.declared.Answer.TheVariants.{Done, Deferred, Duplicate, Refused}
 use Rattle.woot.specs.declared.Sent.{Sent}
 use Rattle.woot.specs.declared.Sent.TheVariants.{Done as sentDone, Refused as sentRefused}
-use Rattle.woot.specs.Ranges.{codePoint, in_range}
+use Rattle.woot.specs.Ranges.{is_code_point, in_range}
 use Rattle.woot.specs.State.{State}
 use Rattle.woot.specs.Form.{well_formed}
 use Rattle.woot.specs.Pending.{executable}
@@ -100,7 +100,7 @@ module _ (s : State) (h : well_formed s ≡ true) where
       by_checks (Sends insert_most) s (insert_checks (well_formed s) s g n) (send_insert s i)
       (refl, (refl, (refl, (refl, (refl, (refl, (refl, tt)))))))
       (λ w.
-      let made = generated_made s g n (formed s h) (not-false (codePoint n) w.0) w.1.1.0 w.1.1.1.0 w.1.1.1.1.0 in
+      let made = generated_made s g n (formed s h) (not-false (is_code_point n) w.0) w.1.1.0 w.1.1.1.0 w.1.1.1.1.0 in
       (insert_fine s i h, line_lengths.0 i made.ranged))
 
   pub delete_sends : (p : ℕ) → Sends toggle_most (local_delete s p).answer

@@ -17,7 +17,7 @@ use Rattle.answers.specs.declared.Refusal.TheVariants.{Layout, Range, NotUtf8, F
 use Rattle.answers.specs.declared.Answer.{Answer}
 use Rattle.answers.specs.declared.Answer.TheVariants.{Done, Deferred, Duplicate, Refused}
 use Rattle.woot.specs.declared.Sent.{Sent}
-use Rattle.woot.specs.Ranges.{codePoint, character_id, in_range}
+use Rattle.woot.specs.Ranges.{is_code_point, character_id, in_range}
 use Rattle.woot.specs.State.{State}
 use Rattle.woot.specs.Form.{well_formed}
 use Rattle.woot.specs.Pending.{executable}
@@ -246,7 +246,7 @@ module _ (bytes : List ℕ) where
   unfolding handed_checks rule_checks input_checks insert_checks local_insert local_insert_when decided
   type_taken g n w =
       let f = not-false (well_formed said) w.1.1.0 in
-      let r = and_right (saved_in_range bytes) (codePoint n) (not-false _ w.1.0) in
+      let r = and_right (saved_in_range bytes) (is_code_point n) (not-false _ w.1.0) in
       let cs : List (Check Sent) = drop 2 (insert_checks true said g n) in
       let k = none-sent cs w.1.1.1 in
       (f, rw (f, none_first (insert_checks true said g n) (ap not r, (refl, k))))

@@ -16,7 +16,7 @@ use Rattle.answers.specs.declared.Answer.{Answer}
 use Rattle.answers.specs.declared.Answer.TheVariants.{Done, Deferred, Duplicate, Refused}
 use Rattle.woot.specs.declared.Sent.{Sent}
 use Rattle.woot.specs.declared.Sent.TheVariants.{Done as sentDone}
-use Rattle.woot.specs.Ranges.{codePoint, character_id, in_range}
+use Rattle.woot.specs.Ranges.{is_code_point, character_id, in_range}
 use Rattle.woot.specs.State.{State}
 use Rattle.woot.specs.Form.{well_formed}
 use Rattle.answers.specs.Answers.{done, reply, changes, NoneHolds, ◌⇒◌, first, decided}
@@ -153,7 +153,7 @@ module _ (bytes : List ℕ) (gap : ℕ) where
         let i = generated_insert said g n in
         let k = insert-sent said g n t.1 in
         let e = sent-told k.2 in
-        sent-own (passed_so true (codePoint n) w.0 w.1.0 t.0) (local_insert said g n) (insert i) (inserting g n) k.0 k.1 k.2 (insert_made said g n)
+        sent-own (passed_so true (is_code_point n) w.0 w.1.0 t.0) (local_insert said g n) (insert i) (inserting g n) k.0 k.1 k.2 (insert_made said g n)
         (own-received.0 said g n (insert i) e) (sent_in_range.0 said g n (insert i) e) within h room
 
     erase-own : (p : ℕ) → NoneHolds (earlier_checks (wimtaze_erase p) bytes) → beyond_visible said gap ≡ false →

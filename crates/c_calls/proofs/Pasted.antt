@@ -18,7 +18,7 @@ use Rattle.answers.specs.declared.Answer.{Answer}
 use Rattle.answers.specs.declared.Answer.TheVariants.{Done, Deferred, Duplicate, Refused}
 use Rattle.woot.specs.declared.Sent.{Sent}
 use Rattle.woot.specs.declared.Sent.TheVariants.{Done as sentDone}
-use Rattle.woot.specs.Ranges.{codePoint}
+use Rattle.woot.specs.Ranges.{is_code_point}
 use Rattle.woot.specs.State.{State}
 use Rattle.woot.specs.Form.{well_formed}
 use Rattle.answers.specs.Answers.{done, Reply, reply, first, decided, NoneHolds}
@@ -71,9 +71,9 @@ module _ (out line : List ℕ) (room : saved_most ≤ length out) (room-line : i
     unfolding outcome local_insert
     free = (insert_does (well_formed said) said g n).0 h
 
-    coded : codePoint n ≡ true
+    coded : is_code_point n ≡ true
     unfolding insert_checks
-    coded = not-false (codePoint n) free.0
+    coded = not-false (is_code_point n) free.0
 
     form : well_formed said ≡ true
     unfolding insert_checks

@@ -15,7 +15,7 @@ use Rattle.answers.specs.declared.Answer.{Answer}
 use Rattle.answers.specs.declared.Answer.TheVariants.{Refused}
 use Rattle.woot.specs.declared.Sent.{Sent}
 use Rattle.woot.specs.declared.Sent.TheVariants.{Refused as sentRefused}
-use Rattle.woot.specs.Ranges.{codePoint}
+use Rattle.woot.specs.Ranges.{is_code_point}
 use Rattle.woot.specs.Form.{well_formed}
 use Rattle.woot.specs.State.{State}
 use Rattle.answers.specs.Answers.{number, reply, Check, Reported, here, later}
@@ -78,7 +78,7 @@ type_untaken bytes g n out line r =
     let a = skipped (other (λ h. omega arith)) r in
     let b = skipped (other (λ h. omega arith)) a.1 in
     let d = skipped (other (λ h. omega arith)) b.1 in
-    let ranged = and_right (saved_in_range bytes) (codePoint n) (not-false _ b.0) in
+    let ranged = and_right (saved_in_range bytes) (is_code_point n) (not-false _ b.0) in
     let f = not-false (well_formed s) d.0 in
     insert_untaken true s g n (λ _. formed s f)
     (later (ap not ranged) (later refl (unanswered Taken (drop 2 (insert_checks true s g n)) _ (other (λ h. omega arith)) d.1)))

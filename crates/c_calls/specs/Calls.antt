@@ -12,7 +12,7 @@ use Rattle.answers.specs.declared.Refusal.TheVariants.{Layout, Range, NotUtf8, M
 use Rattle.answers.specs.declared.Answer.{Answer}
 use Rattle.answers.specs.declared.Answer.TheVariants.{Done, Refused}
 use Rattle.woot.specs.declared.Sent.{Sent}
-use Rattle.woot.specs.Ranges.{site_number, codePoint, character_id, in_range}
+use Rattle.woot.specs.Ranges.{site_number, is_code_point, character_id, in_range}
 use Rattle.woot.specs.State.{State, initial}
 use Rattle.woot.specs.Form.{well_formed}
 use Rattle.answers.specs.Answers.{Check, ◌⇒◌, first, decided}
@@ -104,7 +104,7 @@ handed_checks (wimtaze_build n heap) bytes =
 handed_checks wimtaze_load bytes = input_checks bytes true true
 handed_checks (wimtaze_receive line) bytes = input_checks bytes (one_line line) (in_range (said_by line))
 handed_checks (wimtaze_receive_at line gap) bytes = input_checks bytes (one_line line) (in_range (said_by line))
-handed_checks (wimtaze_type gap n) bytes = input_checks bytes true (codePoint n)
+handed_checks (wimtaze_type gap n) bytes = input_checks bytes true (is_code_point n)
 handed_checks (wimtaze_erase place) bytes = input_checks bytes true true
 handed_checks (wimtaze_restore site clock) bytes = input_checks bytes true (character_id (named site clock))
 handed_checks (wimtaze_paste gap block) bytes =

@@ -4,7 +4,7 @@ use Rattle.std.specs.Prelude.{ℕ, true, not, cond, List, [], ◌∷◌}
 use Rattle.answers.specs.declared.Refusal.TheVariants.{Layout, Range, Unreachable}
 use Rattle.answers.specs.declared.Answer.TheVariants.{Done, Refused}
 use Rattle.woot.specs.declared.Replica.{Replica}
-use Rattle.woot.specs.Ranges.{site_number, codePoint, character_id, in_range}
+use Rattle.woot.specs.Ranges.{site_number, is_code_point, character_id, in_range}
 use Rattle.woot.specs.State.{State, initial}
 use Rattle.answers.specs.Answers.{changes, ◌⇒◌, first, decided}
 use Rattle.woot.specs.Calls.{receive, local_insert, local_delete, local_restore}
@@ -77,7 +77,7 @@ receiving_line_at bytes line gap out =
 -- `wimtaze_type`
 unfoldable pub inserting_here : List ℕ → ℕ → ℕ → List ℕ → List ℕ → Effect
 inserting_here bytes point n out line =
-    decided (turned out line) (first (input_checks bytes true (codePoint n)))
+    decided (turned out line) (first (input_checks bytes true (is_code_point n)))
     (after_sending (local_insert (loaded_state bytes) point n) out line)
 
 -- `wimtaze_erase`

@@ -11,9 +11,9 @@ use Rattle.woot.specs.declared.Identifier.{Identifier}
 use Rattle.woot.specs.declared.Insert.{Insert}
 use Rattle.woot.specs.declared.Toggle.{Toggle}
 use Rattle.woot.specs.declared.Operation.TheVariants.{Insert as insert, Toggle as toggle}
-use Rattle.woot.specs.Limits.{last_site, last_clock, lastCodePoint, firstSurrogate, lastSurrogate, last_toggles}
+use Rattle.woot.specs.Limits.{last_site, last_clock, last_code_point, first_surrogate, last_surrogate, last_toggles}
 use Rattle.woot.specs.Identifiers.{begin, end, same}
-use Rattle.woot.specs.Ranges.{within, site_number, codePoint, character_id, previous_id, next_id, insert_in_range, toggle_in_range, in_range}
+use Rattle.woot.specs.Ranges.{within, site_number, is_code_point, character_id, previous_id, next_id, insert_in_range, toggle_in_range, in_range}
 use Rattle.lists.proofs.Tests.{and_left_lem, and_right, or_cases}
 use Rattle.convergence.proofs.Identifiers.{same-eq}
 use Rattle.convergence.proofs.Ranges.{toggle-in-range}
@@ -32,9 +32,9 @@ site-bound : (n : ℕ) → site_number n ≡ true → n ≤ last_site
 unfolding site_number
 site-bound n e = upper 1 last_site n e
 
-code-point-bound : (n : ℕ) → codePoint n ≡ true → n ≤ lastCodePoint
-unfolding codePoint
-code-point-bound n e = upper 0 lastCodePoint n (and_left_lem (within 0 lastCodePoint n) (not (within firstSurrogate lastSurrogate n)) e)
+code-point-bound : (n : ℕ) → is_code_point n ≡ true → n ≤ last_code_point
+unfolding is_code_point
+code-point-bound n e = upper 0 last_code_point n (and_left_lem (within 0 last_code_point n) (not (within first_surrogate last_surrogate n)) e)
 
 -- an identifier whose numbers are at most the limits
 pub record Bounded (x : Identifier) : Type 0 where
@@ -59,7 +59,7 @@ neighbour_bounds x mark b e = go (or_cases (same x mark) (character_id x) e)
 -- the numbers of an operation in range
 pub record InsertBounds (i : Insert) : Type 0 where
   pub id-bounds : Bounded i.id
-  pub code-bound : i.code_point ≤ lastCodePoint
+  pub code-bound : i.code_point ≤ last_code_point
   pub previous-bounds : Bounded i.previous
   pub next-bounds : Bounded i.next
 
@@ -72,7 +72,7 @@ pub insert-bounds : (i : Insert) → insert_in_range i ≡ true → InsertBounds
 unfolding insert_in_range previous_id next_id
 insert-bounds i e =
     let p = character_id i.id in
-    let q = codePoint i.code_point in
+    let q = is_code_point i.code_point in
     let r = previous_id i.previous in
     let s = next_id i.next in
     let four : p && q && r && s ≡ true = and_left_lem (p && q && r && s) _ (and_left_lem (p && q && r && s && not (same i.id i.previous)) _ e) in

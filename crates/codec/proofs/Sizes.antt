@@ -9,7 +9,7 @@ use Rattle.woot.specs.declared.Toggle.{Toggle}
 use Rattle.woot.specs.declared.Operation.{Operation}
 use Rattle.woot.specs.declared.Operation.TheVariants.{Insert as insert, Toggle as toggle}
 use Rattle.woot.specs.Identifiers.{same}
-use Rattle.woot.specs.Ranges.{in_range, insert_in_range, toggle_in_range, character_id, previous_id, next_id, site_number, codePoint, within}
+use Rattle.woot.specs.Ranges.{in_range, insert_in_range, toggle_in_range, character_id, previous_id, next_id, site_number, is_code_point, within}
 use Rattle.decimal.specs.Numeral.{digits_in, digits}
 use Rattle.lines.specs.Lines.{first_line}
 use Rattle.lines.specs.Fields.{fields, values_of, line_of}
@@ -63,7 +63,7 @@ delete_lengths s o e d =
     omega (arith, ap length p.0, line_length delete_head ns, ap (λ (l : List ℕ). length (line_of delete_head l)) (delete_numbers_back ns p.1))
 
 pub longest-lines : LongestLines
-unfolding in_range insert_in_range toggle_in_range character_id previous_id next_id site_number codePoint within same operation_line line_of insert_numbers toggle_numbers digits digits_in
+unfolding in_range insert_in_range toggle_in_range character_id previous_id next_id site_number is_code_point within same operation_line line_of insert_numbers toggle_numbers digits digits_in
 longest-lines = ((refl, refl), (refl, refl))
 
 pub line-bytes : LineBytes

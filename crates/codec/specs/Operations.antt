@@ -5,7 +5,7 @@ use Rattle.woot.specs.declared.Insert.{Insert}
 use Rattle.woot.specs.declared.Toggle.{Toggle}
 use Rattle.woot.specs.declared.Operation.{Operation}
 use Rattle.woot.specs.declared.Operation.TheVariants.{Insert as insert, Toggle as toggle}
-use Rattle.woot.specs.Limits.{last_site, last_clock, lastCodePoint, last_toggles}
+use Rattle.woot.specs.Limits.{last_site, last_clock, last_code_point, last_toggles}
 use Rattle.lines.specs.Fields.{has_layout, values_of, line_of}
 
 -- `I`
@@ -28,7 +28,7 @@ insert_numbers i =
 
 -- the limits of those numbers
 abbrev pub insert_limits : List ℕ
-insert_limits = last_site ∷ last_clock ∷ lastCodePoint ∷ last_site ∷ last_clock ∷ last_site ∷ last_clock ∷ []
+insert_limits = last_site ∷ last_clock ∷ last_code_point ∷ last_site ∷ last_clock ∷ last_site ∷ last_clock ∷ []
 
 -- "sender laptop clock turn"
 unfoldable pub toggle_numbers : Toggle → List ℕ

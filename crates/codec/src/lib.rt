@@ -19,7 +19,7 @@ pub const TOGGLE: u8 = 69;
 pub const DELETE: u8 = 68;
 
 // The kinds of line that are read.
-#[derive(Drop)]
+#[derive(Clone, Copy)]
 enum Kind {
     Insert,
     Toggle,
@@ -27,7 +27,7 @@ enum Kind {
 }
 
 // What the reader answers. (Document 01: the reader's reply.)
-#[derive(Drop)]
+#[derive(Clone, Copy)]
 pub enum Read {
     Operation(Operation),
     Refused(Refusal),

@@ -38,7 +38,7 @@ use Rattle.woot.specs.Operations.{sender, character, origin, is_visible, with_to
 use Rattle.woot.specs.Pending.{executable, crossed, unplaceable, integrate, pending_from, earliest, and_integrated, and_discarded, drained, drain_steps, drain}
 use Rattle.woot.specs.Placing.{sequence, index_of, place_of, held, above, adjacent, candidate, candidates, narrowed, search, position, between}
 use Rattle.woot.specs.Placing.{insert_at, integrate_insert, integrate_toggle}
-use Rattle.woot.specs.Ranges.{within, site_number, codePoint, character_id, previous_id, next_id, site_in_range, insert_in_range, toggle_in_range, in_range}
+use Rattle.woot.specs.Ranges.{within, site_number, is_code_point, character_id, previous_id, next_id, site_in_range, insert_in_range, toggle_in_range, in_range}
 use Rattle.woot.specs.Ranges.{character_in_range}
 use Rattle.woot.specs.State.{initial, blank_character, blank_operation}
 use Rattle.bulk.specs.Building.{once, building, left_out, built, heap_full, disagree, disagreeing, build_checks, unbuilt}
@@ -75,7 +75,7 @@ unfolding as_written line_laid_out laid_out said_by insert_numbers toggle_number
     none_executable clock_reaches clock_kept well_formed raised same below sender character origin is_visible with_toggles toggled_by same_insert same_toggle
     same_operation executable crossed unplaceable integrate pending_from earliest and_integrated and_discarded drained drain_steps drain sequence index_of
     place_of held above adjacent candidate candidates narrowed search position between insert_at integrate_insert integrate_toggle within
-    site_number codePoint character_id previous_id next_id site_in_range insert_in_range toggle_in_range in_range character_in_range initial blank_character
+    site_number is_code_point character_id previous_id next_id site_in_range insert_in_range toggle_in_range in_range character_in_range initial blank_character
     blank_operation decided continues continued accepted encoded_length head_of decoded_steps decoded code_points_of gap_below stopped
     unpasted pasted clock_short overfull paste_checks paste_when paste outcome all_integrated
 calls-example = record { bytes_left = refl; replies = refl; rules-made = refl }
@@ -98,7 +98,7 @@ unfolding as_written line_laid_out laid_out said_by insert_numbers toggle_number
     is_visible with_toggles toggled_by same_insert same_toggle same_operation executable crossed unplaceable integrate
     pending_from earliest and_integrated and_discarded drained drain_steps drain sequence index_of place_of held above
     adjacent candidate candidates narrowed search position between insert_at integrate_insert integrate_toggle
-    within site_number codePoint character_id previous_id next_id site_in_range insert_in_range toggle_in_range in_range
+    within site_number is_code_point character_id previous_id next_id site_in_range insert_in_range toggle_in_range in_range
     character_in_range initial blank_character blank_operation decided once building left_out built heap_full disagree
     disagreeing build_checks unbuilt build heap_laid_out line_said heap_said beginning_of carried_before among free
     bound peeled acyclic ordered_pair ordered_pairs loadable turnings use_checks
@@ -145,7 +145,7 @@ unfolding as_written line_laid_out laid_out said_by insert_numbers toggle_number
     none_executable clock_reaches clock_kept well_formed raised same below sender character origin is_visible with_toggles
     toggled_by same_insert same_toggle same_operation executable crossed unplaceable integrate pending_from earliest
     and_integrated and_discarded drained drain_steps drain sequence index_of place_of held above adjacent candidate
-    candidates narrowed search position between insert_at integrate_insert integrate_toggle within site_number codePoint
+    candidates narrowed search position between insert_at integrate_insert integrate_toggle within site_number is_code_point
     character_id previous_id next_id site_in_range insert_in_range toggle_in_range in_range character_in_range initial
     blank_character blank_operation decided among free turnings bit_of speaks_of marks listed_in ones_in precedes in_sequence
     chunk_of also_marking with_marked chunks_of listing lowest lowest_of next_sent without sequenced unlisted sent
@@ -179,7 +179,7 @@ unfolding as_written line_laid_out laid_out said_by insert_numbers toggle_number
     raised same below sender character origin is_visible with_toggles toggled_by same_insert same_toggle same_operation
     executable crossed unplaceable integrate pending_from earliest and_integrated and_discarded drained drain_steps drain
     sequence index_of place_of held above adjacent candidate candidates narrowed search position between insert_at
-    integrate_insert integrate_toggle within site_number codePoint character_id previous_id next_id site_in_range
+    integrate_insert integrate_toggle within site_number is_code_point character_id previous_id next_id site_in_range
     insert_in_range toggle_in_range in_range character_in_range initial blank_character blank_operation decided by_identifier
     archived archive_of by_place unarchived state_from place_in_range archive_in_range each_once places_kept identifiers_rise
     arranged archive_checks unarchive_checks placed_numbers placed_of is_placed placed_said placed_line archive_said archiving

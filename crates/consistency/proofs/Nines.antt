@@ -15,7 +15,7 @@ use Rattle.answers.specs.declared.Refusal.{Refusal}
 use Rattle.answers.specs.declared.Refusal.TheVariants.{Unplaceable}
 use Rattle.answers.specs.declared.Answer.{Answer}
 use Rattle.answers.specs.declared.Answer.TheVariants.{Refused}
-use Rattle.woot.specs.Ranges.{codePoint, in_range}
+use Rattle.woot.specs.Ranges.{is_code_point, in_range}
 use Rattle.woot.specs.State.{State}
 use Rattle.woot.specs.Form.{well_formed}
 use Rattle.answers.specs.Answers.{reply, Check, decided, Reported, here, later}
@@ -186,7 +186,7 @@ module _ (b : List ℕ) (free : Bare b) (out line : List ℕ) where
       let a = skipped (other (λ z. omega arith)) r in
       let d = skipped (other (λ z. omega arith)) a.1 in
       let e = skipped (other (λ z. omega arith)) d.1 in
-      let ranged = and_right (saved_in_range b) (codePoint n) (not-false _ d.0) in
+      let ranged = and_right (saved_in_range b) (is_code_point n) (not-false _ d.0) in
       let f = not-false (well_formed said) e.0 in
       let left = unanswered Unplaceable (drop 2 (insert_checks true said g n)) _ (other (λ z. omega arith)) e.1 in
       (free (and_left_lem (saved_laid_out b) true (not-false _ a.0))).calls (inserting g n)

@@ -14,7 +14,7 @@ use Rattle.woot.specs.declared.Insert.{Insert}
 use Rattle.woot.specs.declared.Character.{Character}
 use Rattle.woot.specs.Identifiers.{begin, end, same}
 use Rattle.woot.specs.Operations.{origin}
-use Rattle.woot.specs.Ranges.{character_id, codePoint, previous_id, next_id, insert_in_range, character_in_range}
+use Rattle.woot.specs.Ranges.{character_id, is_code_point, previous_id, next_id, insert_in_range, character_in_range}
 use Rattle.woot.specs.State.{blank_character}
 use Rattle.lists.specs.Lists.{any, distinct}
 use Rattle.woot.specs.Placing.{identifiers, sequence, index_of, place_of, held, Located, located}
@@ -104,7 +104,7 @@ first-of-six a b c d e f h =
 pub insert-id_in_range : (i : Insert) → insert_in_range i ≡ true → character_id i.id ≡ true
 unfolding insert_in_range
 insert-id_in_range i h =
-    first-of-six (character_id i.id) (codePoint i.code_point) (previous_id i.previous) (next_id i.next) (not (same i.id i.previous))
+    first-of-six (character_id i.id) (is_code_point i.code_point) (previous_id i.previous) (next_id i.next) (not (same i.id i.previous))
     (not (same i.id i.next))
     h
 

@@ -13,7 +13,7 @@ use Rattle.woot.specs.declared.Character.{Character}
 use Rattle.woot.specs.Limits.{capacity}
 use Rattle.woot.specs.Identifiers.{begin, end, same}
 use Rattle.woot.specs.Operations.{sender, character, origin, same_toggle}
-use Rattle.woot.specs.Ranges.{within, site_number, codePoint, character_id, previous_id, next_id, site_in_range, insert_in_range, in_range, character_in_range}
+use Rattle.woot.specs.Ranges.{within, site_number, is_code_point, character_id, previous_id, next_id, site_in_range, insert_in_range, in_range, character_in_range}
 use Rattle.woot.specs.Placing.{identifiers, sequence, index_of, place_of, held}
 use Rattle.woot.specs.Pending.{executable, pending_from}
 use Rattle.woot.specs.Form.{ordered}
@@ -99,7 +99,7 @@ rows_apart n zero = refl
 rows_apart n (suc m) = and_intro (not-intro (earlier_clock (suc n) m n (omega arith))) (rows_apart (suc n) m)
 
 pub full-formed : FullFormed
-unfolding full same sender character origin same_toggle within site_number codePoint character_id previous_id next_id site_in_range insert_in_range in_range character_in_range sequence index_of place_of held executable pending_from own_insert
+unfolding full same sender character origin same_toggle within site_number is_code_point character_id previous_id next_id site_in_range insert_in_range in_range character_in_range sequence index_of place_of held executable pending_from own_insert
 full-formed =
     reformed full
     (record {

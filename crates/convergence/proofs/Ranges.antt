@@ -13,7 +13,7 @@ use Rattle.woot.specs.declared.Character.{Character}
 use Rattle.woot.specs.Limits.{last_site, last_clock, last_toggles}
 use Rattle.woot.specs.Identifiers.{same}
 use Rattle.woot.specs.Operations.{origin}
-use Rattle.woot.specs.Ranges.{within, site_number, codePoint, character_id, previous_id, next_id, insert_in_range, toggle_in_range, character_in_range}
+use Rattle.woot.specs.Ranges.{within, site_number, is_code_point, character_id, previous_id, next_id, insert_in_range, toggle_in_range, character_in_range}
 use Rattle.lists.proofs.Tests.{and_left_lem, and_right, and_intro, three, four}
 
 pub within_low : (low high n : ℕ) → within low high n ≡ true → low ≤ n
@@ -39,7 +39,7 @@ no_mark x t h e = omega (arith, character-site x h, ap (λ (y : Identifier). y.s
 -- the parts of an insert that is in range
 pub record InRange (i : Insert) : Type 0 where
   pub id : character_id i.id ≡ true
-  pub code : codePoint i.code_point ≡ true
+  pub code : is_code_point i.code_point ≡ true
   pub previous : previous_id i.previous ≡ true
   pub next : next_id i.next ≡ true
   pub not-previous : same i.id i.previous ≡ false
@@ -48,11 +48,11 @@ pub record InRange (i : Insert) : Type 0 where
 pub in-range : (i : Insert) → insert_in_range i ≡ true → InRange i
 unfolding insert_in_range
 in-range i h =
-    let a = character_id i.id && codePoint i.code_point && previous_id i.previous && next_id i.next in
+    let a = character_id i.id && is_code_point i.code_point && previous_id i.previous && next_id i.next in
     let p = not (same i.id i.previous) in
     let q = not (same i.id i.next) in
     let k = and_left_lem (a && p) q h in
-    let w = four (character_id i.id) (codePoint i.code_point) (previous_id i.previous) (next_id i.next) (and_left_lem a p k) in
+    let w = four (character_id i.id) (is_code_point i.code_point) (previous_id i.previous) (next_id i.next) (and_left_lem a p k) in
     record {
       id = w.0;
       code = w.1;

@@ -27,7 +27,7 @@ use Rattle.woot.specs.Limits.{last_clock, capacity, share}
 use Rattle.woot.specs.Identifiers.{begin, end, same}
 use Rattle.woot.specs.Operations.{sender, origin, inserts, toggles_among, same_insert, same_toggle, same_operation}
 use Rattle.woot.specs.Ranges
-use Rattle.woot.specs.Ranges.{site_number, codePoint, character_id, previous_id, next_id, site_in_range, insert_in_range, toggle_in_range, in_range}
+use Rattle.woot.specs.Ranges.{site_number, is_code_point, character_id, previous_id, next_id, site_in_range, insert_in_range, toggle_in_range, in_range}
 use Rattle.woot.specs.State.{State}
 use Rattle.woot.specs.Placing.{identifiers, held, integrate_insert}
 use Rattle.woot.specs.Pending.{executable, crossed, unplaceable, pending_from, Drained}
@@ -291,7 +291,7 @@ next-character s form early =
     and_intro (and_left_lem (site_number s.site.number) (Ranges.within 0 last_clock s.site.clock) form.site) (to-within 1 last_clock (s.site.clock + 1) (omega arith) (omega arith))
 
 -- it is in range, and has what it needs
-pub generated_made : (s : State) (g n : ℕ) → Formed s → codePoint n ≡ true → beyond_visible s g ≡ false → leb last_clock s.site.clock ≡ false → identifier_taken s ≡ false → Made s (generated_insert s g n)
+pub generated_made : (s : State) (g n : ℕ) → Formed s → is_code_point n ≡ true → beyond_visible s g ≡ false → leb last_clock s.site.clock ≡ false → identifier_taken s ≡ false → Made s (generated_insert s g n)
 unfolding generated_insert identifier_taken beyond_visible executable crossed previous_id next_id
 generated_made s g n form coded within-visible early free =
     record {
@@ -365,7 +365,7 @@ typed-heard s g n =
 pub generated_addable : (known : Bool) (s : State) (g n : ℕ) → Formed s → NoneHolds (insert_checks known s g n) → Addable s (generated_insert s g n)
 unfolding insert_checks
 generated_addable known s g n form w =
-    let m = generated_made s g n form (not-false (codePoint n) w.0) w.1.1.0 w.1.1.1.0 w.1.1.1.1.0 in
+    let m = generated_made s g n form (not-false (is_code_point n) w.0) w.1.1.0 w.1.1.1.0 w.1.1.1.1.0 in
     record {
       formed = form;
       ranged = m.ranged;

@@ -20,7 +20,7 @@ use Rattle.answers.specs.declared.Answer.{Answer}
 use Rattle.answers.specs.declared.Answer.TheVariants.{Done, Refused}
 use Rattle.woot.specs.Limits.{last_clock, capacity}
 use Rattle.woot.specs.Operations.{inserts}
-use Rattle.woot.specs.Ranges.{codePoint}
+use Rattle.woot.specs.Ranges.{is_code_point}
 use Rattle.woot.specs.State.{State}
 use Rattle.woot.specs.Pending.{executable, crossed, unplaceable, integrate, Drained, and_integrated, and_discarded, drained}
 use Rattle.woot.specs.Form.{present_inserts, well_formed}
@@ -96,7 +96,7 @@ state_after s g n = (outcome s (inserting g n)).state
 abbrev pub gap_then : State → ℕ → ℕ → ℕ
 gap_then s g n = gap_below (state_after s g n) (next_identifier s.site)
 
-module _ (s : State) (g n count : ℕ) (r : Ready s g (suc count)) (coded : codePoint n ≡ true) where
+module _ (s : State) (g n count : ℕ) (r : Ready s g (suc count)) (coded : is_code_point n ≡ true) where
   early : leb last_clock s.site.clock ≡ false
   early = lt-leb last_clock s.site.clock (omega (arith, r.clock))
 
@@ -149,14 +149,14 @@ module _ (s : State) (g n count : ℕ) (r : Ready s g (suc count)) (coded : code
 
 -- ---- all of them
 
-pub ready_typings : (s : State) (g : ℕ) (ns : List ℕ) → every codePoint ns ≡ true → Ready s g (length ns) → DoneTillUnplaceable s (typings s g ns)
+pub ready_typings : (s : State) (g : ℕ) (ns : List ℕ) → every is_code_point ns ≡ true → Ready s g (length ns) → DoneTillUnplaceable s (typings s g ns)
 ready_typings s g [] p r = tt
 ready_typings s g (n ∷ ns) p r =
-    let coded = and_left_lem (codePoint n) (every codePoint ns) p in
+    let coded = and_left_lem (is_code_point n) (every is_code_point ns) p in
     ⊎_elim (λ u. inr (typed-stopped s g n (length ns) r coded u))
     (λ u.
     let h = typed-done s g n (length ns) r coded u in
-    inl (h, ready_typings (state_after s g n) (gap_then s g n) ns (and_right (codePoint n) (every codePoint ns) p) (typed_ready s g n (length ns) r coded h)))
+    inl (h, ready_typings (state_after s g n) (gap_then s g n) ns (and_right (is_code_point n) (every is_code_point ns) p) (typed_ready s g n (length ns) r coded h)))
     (either (unplaceable s.characters (insert (generated_insert s g n))))
 
 -- ---- calls, and more calls after them
@@ -203,9 +203,9 @@ pub integrated_append : (s : State) (cs ds : List Call) → integrated_by s (cs 
 integrated_append = gathered-append (λ s c. all_integrated (outcome s c)) integrated_by (λ s. refl) (λ s c cs. refl)
 
 -- after characters that were all done, what was asked for the whole block still holds for the rest
-pub ready_after : (s : State) (g : ℕ) (ms ns : List ℕ) → every codePoint ms ≡ true → Ready s g (length (ms ++ ns)) → EachDone s (typings s g ms)
+pub ready_after : (s : State) (g : ℕ) (ms ns : List ℕ) → every is_code_point ms ≡ true → Ready s g (length (ms ++ ns)) → EachDone s (typings s g ms)
     → Ready (run s (typings s g ms)) (gap_after s g ms) (length ns)
 ready_after s g [] ns p r w = r
 ready_after s g (m ∷ ms) ns p r w =
-    ready_after (state_after s g m) (gap_then s g m) ms ns (and_right (codePoint m) (every codePoint ms) p)
-    (typed_ready s g m (length (ms ++ ns)) r (and_left_lem (codePoint m) (every codePoint ms) p) w.0) w.1
+    ready_after (state_after s g m) (gap_then s g m) ms ns (and_right (is_code_point m) (every is_code_point ms) p)
+    (typed_ready s g m (length (ms ++ ns)) r (and_left_lem (is_code_point m) (every is_code_point ms) p) w.0) w.1

@@ -22,7 +22,7 @@ use woot::{CHARACTERS, Document, Operation, ReceiptAt, Replica, Site, Table};
 
 // What a cursor keeps to: the key of the visible character on its left, or of the begin mark. And whether there is such
 // an insertion point at all.
-#[derive(Drop)]
+#[derive(Clone, Copy)]
 pub struct Anchor {
     pub left: u32,
     pub beyond: bool,
@@ -88,7 +88,7 @@ fn overrule(decision: Decision, beyond: bool) -> Decision
 }
 
 // What is to be done with an operation that is received with a cursor, and the key of what the cursor keeps to.
-#[derive(Drop)]
+#[derive(Clone, Copy)]
 pub struct Judgement {
     pub decision: Decision,
     pub left: u32,
@@ -201,7 +201,7 @@ fn shift_with<'a>(
 
 // What stands beside the arrays once an operation was received on them: the answer, how far the cursor moves, the site,
 // and how many characters and pending operations there are.
-#[derive(Drop)]
+#[derive(Clone, Copy)]
 pub struct ReceivedAt {
     pub answer: Answer,
     pub shift: i32,

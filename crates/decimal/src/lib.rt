@@ -6,7 +6,7 @@ ghost use Rattle.decimal.specs.Numeral.{is_digit, digits};
 ghost use Rattle.decimal.specs.Answers.{digits_front, field_by, scan_of, aligned};
 
 // What a field of bytes says.
-#[derive(Drop)]
+#[derive(Clone, Copy)]
 pub enum Field {
     // A number that is at most the limit.
     Number(u64),
@@ -17,14 +17,14 @@ pub enum Field {
 }
 
 // What the digits at an offset say, and the offset just past them.
-#[derive(Drop)]
+#[derive(Clone, Copy)]
 pub struct Scanned {
     pub field: Field,
     pub next: usize,
 }
 
 // The digits of a number, which end where the array does.
-#[derive(Drop)]
+#[derive(Clone, Copy)]
 struct Aligned {
     bytes: [u8; 20],
     start: usize,

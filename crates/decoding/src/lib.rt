@@ -4,7 +4,7 @@ ghost use Rattle.decoding.specs.Decoding.{decoded, continued};
 ghost use Rattle.decoding.specs.Offsets.{answer_at, decoded_at, count_of, tail_at, accepted_at};
 
 // What a text has at an offset.
-#[derive(Drop)]
+#[derive(Clone, Copy)]
 pub enum Decoded {
     // A code point, and the offset just past its bytes.
     CodePoint { code_point: u32, next: usize },
@@ -91,7 +91,7 @@ pub fn decode(bytes: &[u8], at: usize) -> Decoded
 }
 
 // How many characters a text has.
-#[derive(Drop)]
+#[derive(Clone, Copy)]
 pub enum Counted {
     Characters(usize),
     // It is not UTF-8.

@@ -29,7 +29,7 @@ use woot::{
 
 // How many characters and pending operations the arrays hold, and how many operations have been carried out and how
 // many discarded.
-#[derive(Drop)]
+#[derive(Clone, Copy)]
 pub struct Progress {
     pub length: usize,
     pub waiting: usize,

@@ -11,7 +11,7 @@ use woot::{Operation, Site};
 
 // What a call has to put back beside the arrays: the site, how many characters and pending operations there are, and
 // how many operations were carried out and how many discarded.
-#[derive(Drop)]
+#[derive(Clone, Copy)]
 pub struct Carried {
     pub site: Site,
     pub length: usize,

@@ -14,7 +14,7 @@ use woot::{CHARACTERS, Insert, Operation, Toggle};
 
 // Whether each line of a heap has the layout of an operation; if so, whether each is in range, and how many inserts
 // there are and how many toggles, which may be more than the arrays have slots.
-#[derive(Drop)]
+#[derive(Clone, Copy)]
 pub struct Gathered {
     pub laid_out: bool,
     pub in_range: bool,

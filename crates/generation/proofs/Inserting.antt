@@ -14,7 +14,7 @@ use Rattle.answers.specs.declared.Refusal.TheVariants.{Position, Clock, Unplacea
 use Rattle.woot.specs.declared.Sent.TheVariants.{Refused as sentRefused}
 use Rattle.memory.specs.Columns.{Replica}
 use Rattle.woot.specs.Limits.{last_clock}
-use Rattle.woot.specs.Ranges.{codePoint}
+use Rattle.woot.specs.Ranges.{is_code_point}
 use Rattle.woot.specs.State.{State}
 use Rattle.woot.specs.Pending.{unplaceable}
 use Rattle.answers.specs.Answers.{decided}
@@ -42,7 +42,7 @@ use Rattle.generation.specs.Decisions.{sent_in, MadeFor, InsertMade}
 
 -- ---- what inserting is, by the conditions of its list
 
-module _ (s : State) (g n : ℕ) (coded : codePoint n ≡ true) where
+module _ (s : State) (g n : ℕ) (coded : is_code_point n ≡ true) where
   beyond : beyond_visible s g ≡ true → local_insert_when true s g n ≡ unchanged s (sentRefused Position)
   unfolding local_insert_when insert_checks decided
   beyond e = rw (coded, e)
@@ -67,7 +67,7 @@ module _ (s : State) (g n : ℕ) (coded : codePoint n ≡ true) where
         unfolding local_insert_when insert_checks decided
         carried e = rw (coded, visible, early, formed_untaken s f, placed, e)
 
-module _ (r : Replica) (x : Examined r) (g n : ℕ) (coded : codePoint n ≡ true) where
+module _ (r : Replica) (x : Examined r) (g n : ℕ) (coded : is_code_point n ≡ true) where
   -- ---- the tests
 
   module _ (count : ℕ) (e : (cs : List Character) → toggle_counts cs ≡ take r.document.length r.document.toggles → count ≡ length (visibles cs)) where

@@ -4,7 +4,7 @@ use mathlib.Core.Path.{◌≡◌}
 use mathlib.Core.Bool.{true, false}
 use Rattle.woot.specs.declared.Identifier.{Identifier}
 use Rattle.answers.specs.declared.Refusal.TheVariants.{Range, Form}
-use Rattle.woot.specs.Ranges.{codePoint, character_id}
+use Rattle.woot.specs.Ranges.{is_code_point, character_id}
 use Rattle.answers.specs.Answers.{decided}
 use Rattle.woot.specs.Calls.{insert_checks, local_insert_when, delete_checks, local_delete_when, restore_checks, local_restore_when}
 use Rattle.memory.specs.Columns.{Replica, replica_well_formed}
@@ -13,11 +13,11 @@ use Rattle.generation.specs.Decisions.{MadeFor, InsertMade, DeleteMade, RestoreM
 
 module _ (r : Replica) where
   module _ (g n : ℕ) where
-    pub unranged_insert : codePoint n ≡ false → InsertMade r g n (Refused Range)
+    pub unranged_insert : is_code_point n ≡ false → InsertMade r g n (Refused Range)
     unfolding MadeFor local_insert_when insert_checks decided
     unranged_insert e = rw e
 
-    pub unformed_insert : codePoint n ≡ true → replica_well_formed r ≡ false → InsertMade r g n (Refused Form)
+    pub unformed_insert : is_code_point n ≡ true → replica_well_formed r ≡ false → InsertMade r g n (Refused Form)
     unfolding MadeFor local_insert_when insert_checks decided
     unformed_insert ranged e = rw (ranged, e)
 

@@ -18,7 +18,7 @@ use woot::{
 };
 
 // What inserting, deleting and restoring here come to: nothing, or an operation that is carried out as was decided.
-#[derive(Drop)]
+#[derive(Clone, Copy)]
 pub enum Made {
     Refused(Refusal),
     Send(Operation, Decision),

@@ -34,7 +34,7 @@ fn prompt() {
 }
 
 // A replica after a line of the input, and whether the report on it could be printed.
-#[derive(Drop)]
+#[derive(Clone, Copy)]
 struct Printed {
     replica: Replica,
     well: bool,

@@ -18,7 +18,7 @@ use pending::counts;
 use woot::{CHARACTERS, Insert, PENDING, Site, Toggle};
 
 // Who has an identifier: the character or the pending insert in a slot, or nobody.
-#[derive(Drop)]
+#[derive(Clone, Copy)]
 pub enum Holder {
     Character(usize),
     Pending(usize),
@@ -26,7 +26,7 @@ pub enum Holder {
 }
 
 // What a received insert is beside those that the replica has: new, the same as one, or another with its identifier.
-#[derive(Drop)]
+#[derive(Clone, Copy)]
 pub enum Seen {
     New,
     Same,

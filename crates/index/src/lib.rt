@@ -10,7 +10,7 @@ ghost use Rattle.index.specs.Tabled.{Tabled};
 use woot::Identifier;
 
 // What a search answers.
-#[derive(Drop)]
+#[derive(Clone, Copy)]
 pub enum Found {
     // The place sought.
     At(usize),

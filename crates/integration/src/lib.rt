@@ -13,7 +13,7 @@ use woot::Insert;
 
 // What is found for an insert: a neighbour is not held, they stand in the wrong order, there is no candidate, or the
 // place just above it.
-#[derive(Drop)]
+#[derive(Clone, Copy)]
 pub enum Placement {
     Missing,
     Crossed,
@@ -22,7 +22,7 @@ pub enum Placement {
 }
 
 // The places strictly between which a character is to be put.
-#[derive(Drop)]
+#[derive(Clone, Copy)]
 struct Interval {
     upper: usize,
     lower: usize,

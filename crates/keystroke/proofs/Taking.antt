@@ -19,7 +19,7 @@ use Rattle.answers.specs.declared.Refusal.TheVariants.{Unplaceable as nowhere}
 use Rattle.answers.specs.declared.Answer.{Answer}
 use Rattle.answers.specs.declared.Answer.TheVariants.{Done, Refused}
 use Rattle.woot.specs.Limits.{last_clock}
-use Rattle.woot.specs.Ranges.{codePoint, in_range}
+use Rattle.woot.specs.Ranges.{is_code_point, in_range}
 use Rattle.woot.specs.State.{State}
 use Rattle.woot.specs.Placing.{integrate_insert}
 use Rattle.woot.specs.Pending.{unplaceable}
@@ -74,8 +74,8 @@ module _ (r : Replica) (slots : Slots r.document) (g n : ℕ) (x : Typeable r g 
   pub examined : Examined r
   examined = record { form = x.form; slots = slots }
 
-  coded : codePoint n ≡ true
-  coded = and_left_lem (codePoint n) true x.coded
+  coded : is_code_point n ≡ true
+  coded = and_left_lem (is_code_point n) true x.coded
 
   pub low : r.site.clock < last_clock
   low = omega (arith, x.clock)

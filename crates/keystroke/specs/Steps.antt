@@ -6,7 +6,7 @@ use Rattle.woot.specs.declared.Insert.{Insert}
 use Rattle.woot.specs.declared.Operation.TheVariants.{Insert as insert}
 use Rattle.woot.specs.Limits.{last_clock, capacity}
 use Rattle.woot.specs.Operations.{inserts}
-use Rattle.woot.specs.Ranges.{codePoint, insert_in_range}
+use Rattle.woot.specs.Ranges.{is_code_point, insert_in_range}
 use Rattle.woot.specs.State.{State}
 use Rattle.woot.specs.Pending.{unplaceable}
 use Rattle.woot.specs.Table.{keys}
@@ -30,7 +30,7 @@ pub record Typeable (r : Replica) (g : ℕ) (ns : List ℕ) : Type 0 where
   pub gap : beyond_visible (meaning r) g ≡ false
   pub clock : r.site.clock + length ns ≤ last_clock
   pub space : length (meaning r).characters + length (inserts (meaning r).pending) + length ns ≤ capacity
-  pub coded : every codePoint ns ≡ true
+  pub coded : every is_code_point ns ≡ true
 
 -- a state with these keys and counts of toggles, whose next insert has the bits of its type
 pub record Neighboured (t : Site) (ids toggles : List ℕ) (g n : ℕ) : Type 0 where

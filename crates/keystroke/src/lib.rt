@@ -19,7 +19,7 @@ use woot::{CHARACTERS, Insert, Site};
 
 // How far typing has come, beside the arrays: the site, how many characters and pending operations there are, the
 // insertion point of the next character, and how many operations were carried out and how many discarded.
-#[derive(Drop)]
+#[derive(Clone, Copy)]
 pub struct Typing {
     pub site: Site,
     pub length: usize,
@@ -30,7 +30,7 @@ pub struct Typing {
 }
 
 // What typing one character comes to: its insert, and how far typing is then.
-#[derive(Drop)]
+#[derive(Clone, Copy)]
 pub enum Typed {
     Inserted(Insert, Typing),
     // There is no place for it.

@@ -6,14 +6,14 @@ ghost use Rattle.lent.specs.Lent.{returned, site_after, with_clock};
 use woot::{Document, Replica, Sent, Site};
 
 // What comes back by value; the record is where it was lent.
-#[derive(Drop)]
+#[derive(Clone, Copy)]
 pub struct Returned {
     pub answer: Sent,
     pub document: Document,
 }
 
 // What comes back, and the clock that the record is to have.
-#[derive(Drop)]
+#[derive(Clone, Copy)]
 pub struct Outcome {
     pub returned: Returned,
     pub clock: u16,

@@ -15,7 +15,7 @@ pub const TAB: u8 = 9;
 pub const LINE_FEED: u8 = 10;
 
 // What the numbers of a line come to.
-#[derive(Drop)]
+#[derive(Clone, Copy)]
 pub enum Verdict {
     // They are not the numerals asked for, or another head word stands before them.
     Malformed,
@@ -26,21 +26,21 @@ pub enum Verdict {
 }
 
 // The numbers of a line that is within its limits, and zeros after them. Of any other line, zeros.
-#[derive(Drop)]
+#[derive(Clone, Copy)]
 pub struct Numbers {
     pub verdict: Verdict,
     pub values: [u64; 9],
 }
 
 // The numbers of the first line of bytes, and its length.
-#[derive(Drop)]
+#[derive(Clone, Copy)]
 struct Ending {
     numbers: Numbers,
     end: usize,
 }
 
 // The numbers of the first line of bytes, and the offset just past its line feed.
-#[derive(Drop)]
+#[derive(Clone, Copy)]
 pub struct Front {
     pub numbers: Numbers,
     pub next: usize,

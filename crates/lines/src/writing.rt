@@ -8,7 +8,7 @@ ghost use Rattle.lines.specs.Room.{room_for};
 use crate::{LINE_FEED, TAB};
 
 // What is left of a slice for bytes from an offset on.
-#[derive(Drop)]
+#[derive(Clone, Copy)]
 pub enum Room {
     // They end at this offset.
     Until(usize),

@@ -15,7 +15,7 @@ pub const LIST: u8 = 72;
 pub const CHUNK: u8 = 75;
 
 // What reading a list answers: how many chunks it has, or a refusal.
-#[derive(Drop)]
+#[derive(Clone, Copy)]
 pub enum ListRead {
     Done(usize),
     Refused(Refusal),

@@ -20,7 +20,7 @@ const TOO_MANY: usize = 1025;
 
 // What the lines of a list that were read come to. Of a list that lacks the layout or is out of range nothing more is
 // told.
-#[derive(Drop)]
+#[derive(Clone, Copy)]
 pub struct Summary {
     pub laid_out: bool,
     pub in_range: bool,
@@ -37,7 +37,7 @@ pub struct Summary {
 }
 
 // What a line is read as that has to be a chunk's.
-#[derive(Drop)]
+#[derive(Clone, Copy)]
 pub enum ChunkRead {
     Malformed,
     OutOfRange,

@@ -16,6 +16,8 @@ module _ {A : Type 0} where
   pub take_member : (n : ℕ) (xs : List A) {x : A} → Memᴰ x (take n xs) → Memᴰ x xs
   take_member (suc n) (y ∷ xs) (Memᴰ.head e) = Memᴰ.head e
   take_member (suc n) (y ∷ xs) (Memᴰ.tail m) = Memᴰ.tail (take_member n xs m)
+  take_member zero xs x3 = elim x3 [ ]
+  take_member (suc n) [] x6 = elim x6 [ ]
 
 module _ {A B : Type 0} (f : A → B) where
   pub take-map : (n : ℕ) (xs : List A) → take n (map f xs) ≡ map f (take n xs)

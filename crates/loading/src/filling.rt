@@ -18,21 +18,21 @@ use saved::{Rows, Version};
 use woot::{CHARACTERS, Character, Operation, PENDING};
 
 // How many rows there are, and whether each is in range.
-#[derive(Drop)]
+#[derive(Clone, Copy)]
 pub(crate) struct Front {
     pub(crate) count: usize,
     pub(crate) in_range: bool,
 }
 
 // The same, and how far the rows go in the bytes.
-#[derive(Drop)]
+#[derive(Clone, Copy)]
 pub(crate) struct Ahead {
     pub(crate) front: Front,
     pub(crate) end: usize,
 }
 
 // Whether each line after them has the layout of an operation; if so, whether each is in range, and how many they are.
-#[derive(Drop)]
+#[derive(Clone, Copy)]
 pub(crate) struct Back {
     pub(crate) laid_out: bool,
     pub(crate) in_range: bool,

@@ -23,7 +23,7 @@ use woot::{
 
 // What reading answers, and where that is `Done` what stands beside the arrays: the site, how many rows there are
 // and how many lines of operations, and the offset of the first row. The counts may be above the arrays.
-#[derive(Drop)]
+#[derive(Clone, Copy)]
 pub struct ReadInto {
     pub answer: LoadAnswer,
     pub site: Site,

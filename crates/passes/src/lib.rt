@@ -16,7 +16,7 @@ use pending::ready;
 use woot::Insert;
 
 // What becomes of an insert that is offered.
-#[derive(Drop)]
+#[derive(Clone, Copy)]
 pub enum Taken {
     // It stands among the characters.
     Placed,
@@ -27,7 +27,7 @@ pub enum Taken {
 }
 
 // How many characters there are after a pass, and how many inserts are left.
-#[derive(Drop)]
+#[derive(Clone, Copy)]
 pub struct Passed {
     pub length: usize,
     pub left: usize,

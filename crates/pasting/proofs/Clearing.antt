@@ -6,7 +6,7 @@ use mathlib.Core.Bool.{true}
 use mathlib.Core.List.{List}
 use lib.ListN.{length}
 use Rattle.lists.specs.Lists.{every}
-use Rattle.woot.specs.Ranges.{codePoint}
+use Rattle.woot.specs.Ranges.{is_code_point}
 use Rattle.memory.specs.Columns.{Document, Replica, meaning, stored, document_of, characters_in, operations_in}
 use Rattle.memory.specs.Lent.{Slots}
 use Rattle.memory.proofs.Stored.{form_meant}
@@ -53,7 +53,7 @@ module _ (r : Replica) {g count : ℕ} (x : Spacious r g count) where
           space = omega (arith, many, x.space);
         }
 
-    pub cleared_typeable : {ns : List ℕ} → length ns ≡ count → every codePoint ns ≡ true
+    pub cleared_typeable : {ns : List ℕ} → length ns ≡ count → every is_code_point ns ≡ true
         → Typeable (record { site = r.site; document = d }) g ns
     cleared_typeable {ns} many coded =
         subst (λ (q : Replica). Typeable q g ns) (sym cleared) (ready_stored (meaning r) (form_meant r x.form) (ready ns many) coded)

@@ -17,7 +17,7 @@ use Rattle.answers.specs.declared.Answer.{Answer}
 use Rattle.answers.specs.declared.Answer.TheVariants.{Done, Refused}
 use Rattle.woot.specs.declared.Replica.{Replica}
 use Rattle.woot.specs.Limits.{last_clock, capacity}
-use Rattle.woot.specs.Ranges.{codePoint}
+use Rattle.woot.specs.Ranges.{is_code_point}
 use Rattle.woot.specs.State.{State}
 use Rattle.woot.specs.Form.{present_inserts, well_formed}
 use Rattle.answers.specs.Answers.{done, reply}
@@ -110,7 +110,7 @@ module _ (r : Replica) (g : ℕ) (block : List ℕ) {count : ℕ} (p : Pasteable
   pub encoded : Encodes block ns
   encoded = (decoded_exactly block ns).0 p.read
 
-  pub coded : every codePoint ns ≡ true
+  pub coded : every is_code_point ns ≡ true
   coded = encoded.0
 
   early : clock_short s (length ns) ≡ false

@@ -5,7 +5,7 @@ ghost use Rattle.std.proofs.Math.Option.{some};
 ghost use Rattle.lists.specs.Lists.{every};
 ghost use Rattle.decoding.specs.Decoding.{decoded};
 ghost use Rattle.woot.specs.Memory.{character_numbers};
-ghost use Rattle.woot.specs.Ranges.{codePoint};
+ghost use Rattle.woot.specs.Ranges.{is_code_point};
 ghost use Rattle.memory.specs.Columns.{meaning};
 ghost use Rattle.memory.specs.Lent.{replica_as, viewed, Sized};
 ghost use Rattle.typing.specs.Columns.{typed_columns};
@@ -23,7 +23,7 @@ use woot::{CHARACTER_NUMBERS, CODE_POINTS, Document, Replica, Site, Table};
 // What pasting returns: the answer, the replica as it is then, and the characters that it typed, in sequence, from
 // which a caller writes their insert lines. They lie as a document's do, each in the same slot of four columns, with
 // zeros behind the last.
-#[derive(Drop)]
+#[derive(Clone, Copy)]
 pub struct Pasted {
     pub answer: Answer,
     pub replica: Replica,
@@ -32,7 +32,7 @@ pub struct Pasted {
 }
 
 // The same where the characters that were typed lie in an array of the caller's.
-#[derive(Drop)]
+#[derive(Clone, Copy)]
 pub struct PastedInto {
     pub answer: Answer,
     pub replica: Replica,
@@ -90,7 +90,7 @@ fn type_points(
     requires sized { Sized characters.old toggles.old pending.old heads.old links.old }
     requires typed_len { length typed.old ≡ character_numbers }
     requires unwritten { Unwritten (points_in count typed.old) typed.old }
-    requires typed_value { every codePoint (points_in count typed.old) ≡ true }
+    requires typed_value { every is_code_point (points_in count typed.old) ≡ true }
     requires spacious { Spacious (replica_as site characters.old toggles.old n pending.old w heads.old links.old)
         point count }
     ensures { AllTyped (meaning (replica_as site characters.old toggles.old n

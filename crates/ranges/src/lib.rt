@@ -3,7 +3,7 @@
 ghost use Rattle.std.specs.Prelude.{◌≡◌, ◌||◌};
 ghost use Rattle.woot.specs.Limits.{last_clock};
 ghost use Rattle.woot.specs.Identifiers.{same};
-ghost use Rattle.woot.specs.Ranges.{within, site_number, codePoint, character_id, previous_id};
+ghost use Rattle.woot.specs.Ranges.{within, site_number, is_code_point, character_id, previous_id};
 ghost use Rattle.woot.specs.Ranges.{next_id, site_in_range, insert_in_range, toggle_in_range, in_range, character_in_range};
 
 use woot::{Character, Identifier, Insert, Operation, Site, Toggle};
@@ -27,7 +27,7 @@ pub fn character_clock(n: u16) -> bool
 
 // Whether a number is a code point that may be inserted.
 pub fn code_point(n: u32) -> bool
-    ensures { result ≡ codePoint n }
+    ensures { result ≡ is_code_point n }
 {
     utf8::is_code_point(n)
 }

@@ -18,7 +18,7 @@ use woot::{
     PREVIOUS_KEYS, SECOND_KEYS, Site, Toggle, VALUES,
 };
 
-#[derive(Drop)]
+#[derive(Clone, Copy)]
 pub enum Decision {
     // The answer that changes nothing: known, or a refusal.
     Answered(Answer),

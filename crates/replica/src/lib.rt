@@ -87,7 +87,7 @@ pub fn receive(replica: Replica, operation: Operation) -> Receipt
 
 // What stands beside the arrays once an operation that was made here was carried out on them: the answer, the site, and
 // how many characters and pending operations there are.
-#[derive(Drop)]
+#[derive(Clone, Copy)]
 pub struct SentOn {
     pub answer: Sent,
     pub site: Site,

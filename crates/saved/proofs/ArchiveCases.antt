@@ -1,6 +1,6 @@
 -- The bytes by computation, straight from the definitions, all of which are opened once.
 use mathlib.Core.Path.{refl}
-use Rattle.woot.specs.Ranges.{within, site_number, codePoint, character_id, previous_id, next_id, insert_in_range, site_in_range, character_in_range}
+use Rattle.woot.specs.Ranges.{within, site_number, is_code_point, character_id, previous_id, next_id, insert_in_range, site_in_range, character_in_range}
 use Rattle.woot.specs.Ranges.{toggle_in_range, in_range}
 use Rattle.woot.specs.Identifiers.{same, below}
 use Rattle.woot.specs.Operations.{origin, same_toggle, sender}
@@ -37,7 +37,7 @@ archive-example = refl
 all : ArchiveTrips × PlacesSpelt × ArchiveLayouts × ArchivedReplies × ArchiveFirsts
 unfolding loaded_as heard own_insert is_digit leading_zero is_numeral value_of digits_in digits closed numerals has_layout values_of line_of identifier_at
     site_numbers site_of is_site site_said site_line toggle_field character_numbers character_of is_character character_said character_line saved_line head_line
-    row_lines operation_lines state_as character_within in_range_as bytes_with raised present_inserts all_in_range within site_number codePoint character_id
+    row_lines operation_lines state_as character_within in_range_as bytes_with raised present_inserts all_in_range within site_number is_code_point character_id
     previous_id next_id same insert_in_range site_in_range character_in_range origin shares_kept capacity_kept identifiers_distinct toggles_distinct
     neighbours_ordered none_executable clock_kept well_formed ordered clock_reaches decided written_as output_after writing_checks written_number same_toggle
     sender above sequence index_of place_of held has_room executable pending_from toggle_in_range in_range placed insert_of toggle_of operation_of operation_said

@@ -7,7 +7,7 @@ use Rattle.woot.specs.declared.Site.{Site}
 use Rattle.woot.specs.declared.Operation.{Operation}
 use Rattle.woot.specs.declared.Operation.TheVariants.{Insert as insert, Toggle as toggle}
 use Rattle.woot.specs.declared.Character.{Character}
-use Rattle.woot.specs.Limits.{last_site, last_clock, lastCodePoint, last_toggles}
+use Rattle.woot.specs.Limits.{last_site, last_clock, last_code_point, last_toggles}
 use Rattle.lists.specs.Lists.{every}
 use Rattle.woot.specs.State.{State}
 use Rattle.woot.specs.Form.{all_in_range}
@@ -76,7 +76,7 @@ character_numbers v c =
 -- the limits of those numbers
 abbrev pub character_limits : Version → List ℕ
 character_limits v =
-    last_site ∷ last_clock ∷ lastCodePoint ∷ last_toggle_field v ∷ last_site ∷ last_clock ∷ last_site ∷ last_clock ∷ []
+    last_site ∷ last_clock ∷ last_code_point ∷ last_toggle_field v ∷ last_site ∷ last_clock ∷ last_site ∷ last_clock ∷ []
 
 -- what those numbers say
 unfoldable pub character_of : Version → List ℕ → Character

@@ -18,7 +18,7 @@ pub const CHARACTER: u8 = 67;
 pub const PLACED: u8 = 80;
 
 // The forms of a saved replica: document 01's, and that of document 02, Req 05.
-#[derive(Drop)]
+#[derive(Clone, Copy)]
 pub enum Version {
     First,
     Second,
@@ -61,7 +61,7 @@ fn exchanged(number: u64) -> u64
 
 // The rows of a file: those of a saved replica in one of its forms, or those of an archive, each with its place.
 // (Document 02, Req 10.)
-#[derive(Drop)]
+#[derive(Clone, Copy)]
 pub enum Rows {
     Saved(Version),
     Archived,
@@ -80,14 +80,14 @@ impl Rows {
 }
 
 // What reading answers.
-#[derive(Drop)]
+#[derive(Clone, Copy)]
 pub enum LoadAnswer {
     Done,
     Refused(Refusal),
 }
 
 // What reading returns: the answer, and beside it the replica; beside a refusal an empty one of no site.
-#[derive(Drop)]
+#[derive(Clone, Copy)]
 pub struct Loaded {
     pub answer: LoadAnswer,
     pub replica: Replica,

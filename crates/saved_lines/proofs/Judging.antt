@@ -11,7 +11,7 @@ use Rattle.woot.specs.declared.Character.{Character}
 use Rattle.woot.specs.declared.Operation.{Operation}
 use Rattle.answers.specs.declared.Refusal.{Refusal}
 use Rattle.answers.specs.declared.Refusal.TheVariants.{Layout, Range}
-use Rattle.woot.specs.Limits.{last_site, last_clock, lastCodePoint, capacity}
+use Rattle.woot.specs.Limits.{last_site, last_clock, last_code_point, capacity}
 use Rattle.woot.specs.Ranges.{within, site_in_range, character_in_range, in_range}
 use Rattle.bulk.specs.Archiving.{Placed, place_in_range}
 use Rattle.lists.specs.Padding.{pad}
@@ -149,10 +149,10 @@ row-padded Archived m ns = λ j. record { place = at-padded m ns 0 j; character 
 
 -- the limits as the code has them
 pub as_limits : (v : Version) (line : List ℕ) {n : ℕ} → n ≡ last_toggle_field v → {r : Numbers}
-    → r ≡ numbers_of character_head (last_site ∷ last_clock ∷ lastCodePoint ∷ n ∷ last_site ∷ last_clock ∷ last_site ∷ last_clock ∷ []) (fields line)
+    → r ≡ numbers_of character_head (last_site ∷ last_clock ∷ last_code_point ∷ n ∷ last_site ∷ last_clock ∷ last_site ∷ last_clock ∷ []) (fields line)
     → r ≡ numbers_of character_head (character_limits v) (fields line)
 as_limits v line e {r} h =
-    h ∙ ap (λ (m : ℕ). numbers_of character_head (last_site ∷ last_clock ∷ lastCodePoint ∷ m ∷ last_site ∷ last_clock ∷ last_site ∷ last_clock ∷ []) (fields line)) e
+    h ∙ ap (λ (m : ℕ). numbers_of character_head (last_site ∷ last_clock ∷ last_code_point ∷ m ∷ last_site ∷ last_clock ∷ last_site ∷ last_clock ∷ []) (fields line)) e
 
 -- limits from a place on are those of the numbers from there on
 pub limits_later : (l : ℕ) (ls ns : List ℕ) → at_most (l ∷ ls) ns ≡ true → at_most ls (drop 1 ns) ≡ true

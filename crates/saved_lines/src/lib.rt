@@ -19,21 +19,21 @@ use saved::{CHARACTER, FIRST_SITE, PLACED, Rows, SITE, Version};
 use woot::{Character, Identifier, Insert, Operation, Site};
 
 // Whether a line has the layout of its kind, and whether what it says is in range too.
-#[derive(Drop)]
+#[derive(Clone, Copy)]
 pub struct Judged {
     pub laid_out: bool,
     pub in_range: bool,
 }
 
 // What a line says as a site's: a site in range, or what is left of it.
-#[derive(Drop)]
+#[derive(Clone, Copy)]
 pub struct SiteLine {
     pub judged: Judged,
     pub site: Site,
 }
 
 // The same as a row's: a character with its place. The place is 0 where the rows have none.
-#[derive(Drop)]
+#[derive(Clone, Copy)]
 pub struct RowLine {
     pub judged: Judged,
     pub place: u32,
@@ -41,21 +41,21 @@ pub struct RowLine {
 }
 
 // The same as a pending operation's.
-#[derive(Drop)]
+#[derive(Clone, Copy)]
 pub struct OperationLine {
     pub judged: Judged,
     pub operation: Operation,
 }
 
 // What the line at the front of bytes says as a site's, and the offset just past its line feed.
-#[derive(Drop)]
+#[derive(Clone, Copy)]
 pub struct SiteFront {
     pub line: SiteLine,
     pub next: usize,
 }
 
 // The same as a row's.
-#[derive(Drop)]
+#[derive(Clone, Copy)]
 pub struct RowFront {
     pub line: RowLine,
     pub next: usize,

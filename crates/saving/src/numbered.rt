@@ -14,7 +14,7 @@ use lines::writing::Room;
 use saved::{CHARACTER, PLACED, Rows, Version};
 
 // The head word of a line, and its numbers, of which the first few count.
-#[derive(Drop)]
+#[derive(Clone, Copy)]
 pub struct Line {
     pub head: u8,
     pub numbers: [u64; 9],

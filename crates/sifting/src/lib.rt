@@ -15,7 +15,7 @@ use index::Found;
 use woot::{CODE_POINTS, NEXT_KEYS, PREVIOUS_KEYS};
 
 // Whether no two inserts with one identifier disagree; if so, how many identifiers there are.
-#[derive(Drop)]
+#[derive(Clone, Copy)]
 pub struct Kept {
     pub agreeing: bool,
     pub count: usize,

@@ -17,7 +17,7 @@ use saving::{columns, numbered, site_line};
 use woot::{PENDING, Site, Written};
 
 // What a call changed of the rows that it read.
-#[derive(Drop)]
+#[derive(Clone, Copy)]
 pub enum Change {
     // Nothing is known of it.
     Any,

@@ -23,7 +23,7 @@ pub fn answer_line(replica: Replica, bytes: &[u8]) -> Receipt
 }
 
 // What is made of a line of the input: how much of the report was written, and the replica after the line.
-#[derive(Drop)]
+#[derive(Clone, Copy)]
 pub struct Processed {
     pub written: Written,
     pub replica: Replica,

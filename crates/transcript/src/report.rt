@@ -55,7 +55,7 @@ pub fn report_line(number: u64, answer: Answer, out: &mut [u8]) -> Written
 
 // What the text line lists: the count of the visible characters, their code points and zeros after them. The count
 // stands beside them too.
-#[derive(Drop)]
+#[derive(Clone, Copy)]
 struct Listing {
     values: [u64; 1025],
     count: usize,

@@ -23,7 +23,7 @@ use Rattle.answers.specs.declared.Refusal.TheVariants.{Unplaceable as nowhere}
 use Rattle.answers.specs.declared.Answer.{Answer}
 use Rattle.answers.specs.declared.Answer.TheVariants.{Done, Refused}
 use Rattle.woot.specs.Operations.{character, inserts}
-use Rattle.woot.specs.Ranges.{codePoint}
+use Rattle.woot.specs.Ranges.{is_code_point}
 use Rattle.woot.specs.State.{State}
 use Rattle.woot.specs.Pending.{unplaceable}
 use Rattle.woot.specs.Form.{well_formed}
@@ -84,7 +84,7 @@ refused_stops : {a : Answer} → a ≡ Refused nowhere → eqb (reply a).refusal
 unfolding reply
 refused_stops e = ap (λ (b : Answer). eqb (reply b).refusal (number nowhere)) e
 
-module _ (s : State) (g c : ℕ) (cs : List ℕ) (ready : Ready s g (suc (length cs))) (coded : codePoint c ≡ true) where
+module _ (s : State) (g c : ℕ) (cs : List ℕ) (ready : Ready s g (suc (length cs))) (coded : is_code_point c ≡ true) where
   abbrev one : Outcome Answer
   one = outcome s (inserting g c)
 
@@ -148,7 +148,7 @@ module _ (t : State) (f : well_formed t ≡ true) where
   pub meant_stored : meaning (stored t) ≡ t
   meant_stored = meaning-stored t (formed-within t f).storable
 
-  pub ready_stored : {g : ℕ} {ns : List ℕ} → Ready t g (length ns) → every codePoint ns ≡ true → Typeable (stored t) g ns
+  pub ready_stored : {g : ℕ} {ns : List ℕ} → Ready t g (length ns) → every is_code_point ns ≡ true → Typeable (stored t) g ns
   unfolding stored
   ready_stored y coded =
       record {
@@ -169,7 +169,7 @@ typeable_one {c = c} {cs = cs} x =
       gap = x.gap;
       clock = omega (arith, x.clock);
       space = omega (arith, x.space);
-      coded = rw (and_left_lem (codePoint c) (every codePoint cs) x.coded);
+      coded = rw (and_left_lem (is_code_point c) (every is_code_point cs) x.coded);
     }
 
 -- ---- the columns
@@ -282,8 +282,8 @@ module _ {s : State} {g w : ℕ} {ns : List ℕ} {r : Replica} {at : Typing} {ty
     pub going_typeable : Typeable r at.point (point ∷ [])
     going_typeable = typeable_one typeable_ahead
 
-    coded : codePoint point ≡ true
-    coded = and_left_lem (codePoint point) (every codePoint (drop (suc i) ns)) typeable_ahead.coded
+    coded : is_code_point point ≡ true
+    coded = and_left_lem (is_code_point point) (every is_code_point (drop (suc i) ns)) typeable_ahead.coded
 
     comes_ahead : comes_to v.own at.integrated at.discarded (meaning r) at.point (point ∷ drop (suc i) ns) ≡ comes_to [] 0 0 s g ns
     comes_ahead = ap (comes_to v.own at.integrated at.discarded (meaning r) at.point) (sym ahead) ∙ v.comes
@@ -310,7 +310,7 @@ module _ {s : State} {g w : ℕ} {ns : List ℕ} {r : Replica} {at : Typing} {ty
       typeable_next : Typeable q to.point (drop (suc i) ns)
       typeable_next =
           rw (t.left, t.below)
-          (ready_stored next formed-next ready_next (and_right (codePoint point) (every codePoint (drop (suc i) ns)) typeable_ahead.coded))
+          (ready_stored next formed-next ready_next (and_right (is_code_point point) (every is_code_point (drop (suc i) ns)) typeable_ahead.coded))
 
       meant_next : meaning q ≡ next
       meant_next = ap meaning t.left ∙ meant_stored next formed-next

@@ -12,7 +12,7 @@ use keystroke::{Typed, Typing};
 use woot::{CHARACTER_NUMBERS, CHARACTERS, CODE_POINTS, Insert, NEXT_KEYS, PREVIOUS_KEYS, Site};
 
 // What typing all of them comes to.
-#[derive(Drop)]
+#[derive(Clone, Copy)]
 pub enum Ended {
     Finished(Typing),
     // There is no place for one of them.

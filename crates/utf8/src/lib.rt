@@ -6,7 +6,7 @@ ghost use Rattle.utf8.specs.Encoding.{encode, encoded_length};
 ghost use Rattle.utf8.specs.Encoded.{encoding};
 
 // The bytes of one code point: the first `length` of the four, and zeros after them.
-#[derive(Drop)]
+#[derive(Clone, Copy)]
 pub struct Encoded {
     pub bytes: [u8; 4],
     pub length: usize,

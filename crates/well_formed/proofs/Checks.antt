@@ -21,7 +21,7 @@ use Rattle.woot.specs.Memory.{own_key, first_key, second_key, value_of, characte
 use Rattle.memory.specs.Columns.{characters_in, operations_in, meaning, counted, table_agrees}
 use Rattle.memory.specs.Columns.{replica_well_formed}
 use Rattle.index.specs.Tabled.{Tabled}
-use Rattle.index.proofs.Agreement.{agreeing-apart}
+use Rattle.index.proofs.Agreement.{agreeing_apart}
 use Rattle.memory.specs.Lent.{Slots}
 use Rattle.memory.proofs.Stored.{Counts, counts, ids_in, own_in, first-in, second-in, values_in}
 use Rattle.well_formed.specs.Form.{ranges_kept, clock_reached}
@@ -105,7 +105,7 @@ module _ (r : Replica) where
 
       -- no key stands twice
       apart : distinct eqb (keys (meaning r).characters) ≡ true
-      apart = ap (distinct eqb) keys_used ∙ agreeing-apart r.document.table _ e
+      apart = ap (distinct eqb) keys_used ∙ agreeing_apart r.document.table _ e
 
       -- the last test of the check
       abbrev pub queue_formed : Bool

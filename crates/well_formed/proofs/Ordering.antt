@@ -29,7 +29,7 @@ use Rattle.convergence.proofs.Characters.{located-index, located-at}
 use Rattle.index.specs.Keys.{place_in}
 use Rattle.index.specs.Tabled.{Tabled}
 use Rattle.index.proofs.Indices.{place-keys, distinct-keys}
-use Rattle.index.proofs.Agreement.{agreeing-apart}
+use Rattle.index.proofs.Agreement.{agreeing_apart}
 use Rattle.memory.proofs.Characters.{key-identifier, identifier-small, rows-length, rows-small, rows-keys, rows_at}
 use Rattle.well_formed.specs.Order.{stands_between, between_at}
 
@@ -80,7 +80,7 @@ module _ (is ps ns points ts : List ℕ) (n : ℕ) (hi : n ≤ length is) where
   rows_apart {t} h =
       sym (distinct-keys rows (rows-small is ps ns points ts n))
       ∙ ap (distinct eqb) (rows-keys is ps ns points ts n hi)
-      ∙ agreeing-apart t (take n is) h.agree
+      ∙ agreeing_apart t (take n is) h.agree
 
   rows-order : {t : Table} → Tabled t (take n is) → every character_in_range rows ≡ true
       → throughout (between_at (take n is) ps ns) (length (take n is)) ≡ every (ordered rows) rows

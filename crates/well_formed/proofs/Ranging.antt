@@ -8,7 +8,7 @@ use lib.Dec.{leb, ltb, eqb}
 use Rattle.lists.proofs.Tests.{agree, and_left_lem, and_right, and_intro, not-intro, three}
 use Rattle.woot.specs.Identifiers.{begin, end, same}
 use Rattle.woot.specs.Operations.{origin}
-use Rattle.woot.specs.Ranges.{within, site_number, codePoint, character_id, previous_id, next_id, insert_in_range, toggle_in_range, in_range, character_in_range}
+use Rattle.woot.specs.Ranges.{within, site_number, is_code_point, character_id, previous_id, next_id, insert_in_range, toggle_in_range, in_range, character_in_range}
 use Rattle.convergence.proofs.Ranges.{within_low, within-high, to-within}
 use Rattle.ranges.proofs.Laws.{within_first}
 use Rattle.index.proofs.Keys.{key-begin, key-end, key-same}
@@ -36,8 +36,8 @@ key_ranged k = agree _ _ there back
         and_intro (and_intro (le-leb 65536 k (omega (arith, low))) (le-leb k 1114111 (omega (arith, high))))
         (not-intro (ne_eqb (k % 65536) 0 (λ e. omega (arith, some, e))))
 
-pub code_ranged : (n : ℕ) → leb n 1114111 && not (leb 55296 n && leb n 57343) ≡ codePoint n
-unfolding codePoint within
+pub code_ranged : (n : ℕ) → leb n 1114111 && not (leb 55296 n && leb n 57343) ≡ is_code_point n
+unfolding is_code_point within
 code_ranged n = rw (le-leb 0 n zero-le)
 
 begin-same : (k : ℕ) → eqb k 0 ≡ same (identifier k) begin
@@ -60,7 +60,7 @@ keys-same j k =
     ap₂ eqb (sym (key-identifier j)) (sym (key-identifier k)) ∙ key-same (identifier j) (identifier k) (identifier-small j) (identifier-small k)
 
 pub row_ranged : (i p n c : ℕ)
-    → character_id (identifier i) && codePoint c && previous_id (identifier p) && next_id (identifier n) && not (eqb i p) && not (eqb i n)
+    → character_id (identifier i) && is_code_point c && previous_id (identifier p) && next_id (identifier n) && not (eqb i p) && not (eqb i n)
     ≡ insert_in_range (origin (character_of i p n c 0))
 unfolding insert_in_range origin character_of
 row_ranged i p n c = rw (keys-same i p, keys-same i n)

@@ -3,7 +3,7 @@
 ghost use Rattle.std.specs.Prelude.{◌≡◌, ◌&&◌, ◌||◌, ◌≤◌, length};
 ghost use Rattle.lists.specs.Lists.{every};
 ghost use Rattle.woot.specs.Operations.{origin};
-ghost use Rattle.woot.specs.Ranges.{codePoint, character_id, previous_id, next_id, insert_in_range, character_in_range};
+ghost use Rattle.woot.specs.Ranges.{is_code_point, character_id, previous_id, next_id, insert_in_range, character_in_range};
 ghost use Rattle.woot.specs.Ranges.{in_range};
 ghost use Rattle.woot.specs.Memory.{identifier, character_of, characters_of, operation_of, operations_of};
 
@@ -18,7 +18,7 @@ fn character_key(k: u32) -> bool
 
 // Whether a number is a code point that may be inserted.
 fn code_point(n: u32) -> bool
-    ensures { result ≡ codePoint n }
+    ensures { result ≡ is_code_point n }
 {
     both(n <= 1114111, !both(55296 <= n, n <= 57343))
 }

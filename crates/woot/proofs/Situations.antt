@@ -6,7 +6,7 @@ use mathlib.Core.List.{List, [], ◌∷◌, ◌++◌, map}
 use Rattle.utf8.specs.Encoding.{encoded_length, continuation, one_byte, two_bytes, three_bytes, four_bytes, encode}
 use Rattle.woot.specs.Identifiers.{same, below}
 use Rattle.woot.specs.Operations.{sender, character, origin, is_visible, with_toggles, toggled_by, same_insert, same_toggle, same_operation}
-use Rattle.woot.specs.Ranges.{within, site_number, codePoint, character_id, previous_id, next_id, site_in_range, insert_in_range, toggle_in_range, in_range, character_in_range}
+use Rattle.woot.specs.Ranges.{within, site_number, is_code_point, character_id, previous_id, next_id, site_in_range, insert_in_range, toggle_in_range, in_range, character_in_range}
 use Rattle.woot.specs.State.{initial}
 use Rattle.woot.specs.Placing.{sequence, index_of, place_of, held, above, adjacent, candidate, candidates, narrowed, search, position, between, insert_at, integrate_insert, integrate_toggle}
 use Rattle.woot.specs.Pending.{executable, crossed, unplaceable, integrate, pending_from, earliest, and_integrated, and_discarded, drained, drain_steps, drain}
@@ -89,7 +89,7 @@ all_computed [] = refl
 all_computed (t ∷ ts) = ap₂ (λ a bs. a ∷ bs) (sym (computed_same t.given)) (all_computed ts)
 
 all : SituationsHold × CasesTell × LowestShift × TypedElsewhere
-unfolding table carried_in slip_cases answer_cases clock_cases toggle_cases cursor_cases whole settled stepped computed encoded_length continuation one_byte two_bytes three_bytes four_bytes encode unprintable printed encoded text same below sender character origin is_visible with_toggles toggled_by same_insert same_toggle same_operation within site_number codePoint character_id previous_id next_id site_in_range insert_in_range toggle_in_range in_range character_in_range initial sequence index_of place_of held above adjacent candidate candidates narrowed search position between insert_at integrate_insert integrate_toggle executable crossed unplaceable integrate pending_from earliest and_integrated and_discarded drained drain_steps drain present_inserts all_in_range shares_kept capacity_kept identifiers_distinct toggles_distinct ordered neighbours_ordered none_executable clock_reaches clock_kept own_insert heard well_formed reply answer_of unchanged decided all_integrated with_characters with_pending after_drain insert_carried duplicate conflicting sender_full document_full receive_checks carry_out defer accept receive_when receive visibles next_identifier generated_insert beyond_visible identifier_taken insert_checks send_insert local_insert_when local_insert toggles_of generated_toggle send_toggle not_visible delete_checks generated_delete local_delete_when local_delete not_hidden exhausted restore_checks local_restore_when local_restore outcome through visible_through cursor_after changes receive_at_checks receive_at_when receive_at new_gap shift_of shift_at
+unfolding table carried_in slip_cases answer_cases clock_cases toggle_cases cursor_cases whole settled stepped computed encoded_length continuation one_byte two_bytes three_bytes four_bytes encode unprintable printed encoded text same below sender character origin is_visible with_toggles toggled_by same_insert same_toggle same_operation within site_number is_code_point character_id previous_id next_id site_in_range insert_in_range toggle_in_range in_range character_in_range initial sequence index_of place_of held above adjacent candidate candidates narrowed search position between insert_at integrate_insert integrate_toggle executable crossed unplaceable integrate pending_from earliest and_integrated and_discarded drained drain_steps drain present_inserts all_in_range shares_kept capacity_kept identifiers_distinct toggles_distinct ordered neighbours_ordered none_executable clock_reaches clock_kept own_insert heard well_formed reply answer_of unchanged decided all_integrated with_characters with_pending after_drain insert_carried duplicate conflicting sender_full document_full receive_checks carry_out defer accept receive_when receive visibles next_identifier generated_insert beyond_visible identifier_taken insert_checks send_insert local_insert_when local_insert toggles_of generated_toggle send_toggle not_visible delete_checks generated_delete local_delete_when local_delete not_hidden exhausted restore_checks local_restore_when local_restore outcome through visible_through cursor_after changes receive_at_checks receive_at_when receive_at new_gap shift_of shift_at
 all = (all_computed table ∙ refl, (all_computed slip_cases ∙ refl, all_computed answer_cases ∙ refl, all_computed clock_cases ∙ refl, all_computed toggle_cases ∙ refl, all_computed cursor_cases ∙ refl), sym (computed_same _) ∙ refl, (refl, refl, refl, refl))
 
 pub situations_hold : SituationsHold
@@ -110,7 +110,7 @@ largest_tells = (refl, refl, refl)
 
 -- a call on the full state goes down its rows a few times
 pub full_tells : FullTells
-unfolding full same sender character origin is_visible same_insert same_toggle same_operation within site_number codePoint character_id previous_id next_id insert_in_range toggle_in_range in_range sequence index_of place_of held above adjacent search position between executable crossed unplaceable pending_from present_inserts reply answer_of unchanged decided duplicate conflicting sender_full document_full receive_checks carry_out defer accept receive_when visibles next_identifier generated_insert beyond_visible identifier_taken insert_checks local_insert_when
+unfolding full same sender character origin is_visible same_insert same_toggle same_operation within site_number is_code_point character_id previous_id next_id insert_in_range toggle_in_range in_range sequence index_of place_of held above adjacent search position between executable crossed unplaceable pending_from present_inserts reply answer_of unchanged decided duplicate conflicting sender_full document_full receive_checks carry_out defer accept receive_when visibles next_identifier generated_insert beyond_visible identifier_taken insert_checks local_insert_when
 full_tells = (refl, refl, refl, refl, refl, refl, refl)
 
 pub checking_order : (formed : Bool) (s : State) → CheckingOrder formed s

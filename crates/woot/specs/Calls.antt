@@ -18,7 +18,7 @@ use Rattle.woot.specs.declared.Sent.TheVariants.{Done as sentDone, Refused as se
 use Rattle.woot.specs.Limits.{last_clock, last_toggles, capacity, share}
 use Rattle.woot.specs.Identifiers.{begin, end, same}
 use Rattle.woot.specs.Operations.{sender, origin, is_visible, same_insert, same_operation, inserts}
-use Rattle.woot.specs.Ranges.{codePoint, character_id, in_range}
+use Rattle.woot.specs.Ranges.{is_code_point, character_id, in_range}
 use Rattle.woot.specs.State.{State}
 use Rattle.woot.specs.Clock.{heard_all}
 use Rattle.woot.specs.Placing.{identifiers, integrate_insert, integrate_toggle}
@@ -183,7 +183,7 @@ identifier_taken s = any (λ i. same (next_identifier s.site) i.id) (present_ins
 
 unfoldable pub insert_checks : Bool → State → ℕ → ℕ → List (Check Sent)
 insert_checks formed s g n =
-    (not (codePoint n) ⇒ sentRefused Range) ∷ (not formed ⇒ sentRefused Form)
+    (not (is_code_point n) ⇒ sentRefused Range) ∷ (not formed ⇒ sentRefused Form)
     ∷ (beyond_visible s g ⇒ sentRefused Position)
     ∷ (leb last_clock s.site.clock ⇒ sentRefused Clock)
     ∷ (identifier_taken s ⇒ sentRefused Taken)

@@ -8,7 +8,7 @@ ghost use Rattle.woot.specs.Memory.{stored};
 use answers::{Answer, Refusal};
 
 // The name of a character: the site that typed it and that site's clock then. (Document 01: identifier.)
-#[derive(Drop)]
+#[derive(Clone, Copy)]
 pub struct Identifier {
     pub site: u8,
     pub clock: u16,
@@ -29,14 +29,14 @@ impl Identifier {
 }
 
 // A replica's own number and logical clock. (Document 01: the laptop's record.)
-#[derive(Drop)]
+#[derive(Clone, Copy)]
 pub struct Site {
     pub number: u8,
     pub clock: u16,
 }
 
 // A character to be inserted, with the two that it was typed between. (Document 01: insert.)
-#[derive(Drop)]
+#[derive(Clone, Copy)]
 pub struct Insert {
     pub id: Identifier,
     pub code_point: u32,
@@ -46,7 +46,7 @@ pub struct Insert {
 
 // A character to be deleted or restored, and who asks for it: the character is to have been deleted and restored this
 // many times. (Document 02: what an `E` line says, and its turn.)
-#[derive(Drop)]
+#[derive(Clone, Copy)]
 pub struct Toggle {
     pub sender: u8,
     pub target: Identifier,
@@ -54,7 +54,7 @@ pub struct Toggle {
 }
 
 // What the sites send each other.
-#[derive(Drop)]
+#[derive(Clone, Copy)]
 pub enum Operation {
     Insert(Insert),
     Toggle(Toggle),
@@ -62,7 +62,7 @@ pub enum Operation {
 
 // A character in its place, with the count of its deletions and restorations, its causal length. One that is deleted
 // stays, no longer visible. (Document 01: row; document 02: turn.)
-#[derive(Drop)]
+#[derive(Clone, Copy)]
 pub struct Character {
     pub id: Identifier,
     pub code_point: u32,
@@ -84,7 +84,7 @@ impl Character {
 // A chain is a tree, so that keys which share one cannot make it long: its head names its first character, and each
 // character has two links to later ones, among which the next bit of the key chooses. A link names a character by one
 // more than its index, and 0 none.
-#[derive(Drop)]
+#[derive(Clone, Copy)]
 pub struct Table {
     pub heads: [u16; CHAINS],
     pub links: [u16; LINKS],
@@ -124,7 +124,7 @@ pub const PENDING_NUMBERS: usize = 2048;
 // its previous's and its next's, and its code point; of a toggle 0, the target's key, 0, and 256 times the sender and
 // the count. The counts say how many slots are in use; a character is found by the table. (Document 01: the sheet
 // without its record.)
-#[derive(Drop)]
+#[derive(Clone, Copy)]
 pub struct Document {
     pub characters: [u32; CHARACTER_NUMBERS],
     pub toggles: [u8; CHARACTERS],
@@ -135,7 +135,7 @@ pub struct Document {
 }
 
 // One site's copy of the text. (Document 01: sheet.)
-#[derive(Drop)]
+#[derive(Clone, Copy)]
 pub struct Replica {
     pub site: Site,
     pub document: Document,
@@ -165,7 +165,7 @@ impl Replica {
 }
 
 // What inserting, deleting and restoring here answer: the operation to be sent with the counts, or a refusal.
-#[derive(Drop)]
+#[derive(Clone, Copy)]
 pub enum Sent {
     Done {
         operation: Operation,
@@ -176,7 +176,7 @@ pub enum Sent {
 }
 
 // What receiving returns: the answer, and the replica as it is then.
-#[derive(Drop)]
+#[derive(Clone, Copy)]
 pub struct Receipt {
     pub answer: Answer,
     pub replica: Replica,
@@ -184,7 +184,7 @@ pub struct Receipt {
 
 // What receiving with a cursor returns: the answer, the replica as it is then, and how far the cursor moves. (Document
 // 02: the shift.)
-#[derive(Drop)]
+#[derive(Clone, Copy)]
 pub struct ReceiptAt {
     pub answer: Answer,
     pub replica: Replica,
@@ -192,14 +192,14 @@ pub struct ReceiptAt {
 }
 
 // What inserting, deleting and restoring here return.
-#[derive(Drop)]
+#[derive(Clone, Copy)]
 pub struct Generated {
     pub answer: Sent,
     pub replica: Replica,
 }
 
 // What writing into a lent slice answers: how many bytes were written, or a refusal, and then none was.
-#[derive(Drop)]
+#[derive(Clone, Copy)]
 pub enum Written {
     Length(usize),
     Refused(Refusal),

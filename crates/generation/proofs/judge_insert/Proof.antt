@@ -2,7 +2,7 @@
 use mathlib.Core.Path.{◌≡◌, sym}
 use mathlib.Core.Bool.{true, false}
 use Rattle.lists.proofs.Tests.{failed, passed}
-use Rattle.woot.specs.Ranges.{codePoint}
+use Rattle.woot.specs.Ranges.{is_code_point}
 use Rattle.woot.specs.Calls.{beyond_visible}
 use Rattle.memory.specs.Columns.{Replica, meaning}
 use Rattle.memory.specs.Lent.{replica_as}
@@ -26,7 +26,7 @@ abbrev start : tie.Else2 → tie.Start
 start c = c.before.before.before.before.before.before.before.before.before
 
 -- the tests that are passed
-coded : (c : tie.Else1) → codePoint c.before.before.before.before.before.before.before.args.code-point ≡ true
+coded : (c : tie.Else1) → is_code_point c.before.before.before.before.before.before.before.args.code-point ≡ true
 coded c = passed c.before.code-point.ensures c.if1.false
 
 examined : (c : tie.Else2) → Examined (made (start c))

@@ -4,12 +4,12 @@ use mathlib.Core.Bool.{Bool, ◌&&◌, not}
 use borrow.Author.Rules.{rules}
 use Rattle.woot.specs.declared.Insert.{Insert}
 use Rattle.woot.specs.Identifiers.{same}
-use Rattle.woot.specs.Ranges.{codePoint, character_id, previous_id, next_id, insert_in_range}
+use Rattle.woot.specs.Ranges.{is_code_point, character_id, previous_id, next_id, insert_in_range}
 use Rattle.lists.proofs.Tests.{failed, passed}
 use Rattle.ranges.proofs.insert_in_range.Statement.{statement}
 use Rattle.ranges.proofs.insert_in_range.Tie as tie
 
-reading : (i : Insert) {p q r s t u : Bool} → character_id i.id ≡ p → codePoint i.code_point ≡ q
+reading : (i : Insert) {p q r s t u : Bool} → character_id i.id ≡ p → is_code_point i.code_point ≡ q
     → previous_id i.previous ≡ r → next_id i.next ≡ s → same i.id i.previous ≡ t → same i.id i.next ≡ u
     → insert_in_range i ≡ p && q && r && s && not t && not u
 unfolding insert_in_range
