@@ -1,0 +1,82 @@
+-- `block_judging::judge` makes its tests in the order in which the rule makes its own.
+use mathlib.Core.Path.{◌≡◌, sym, ◌∙◌}
+use mathlib.Core.Bool.{false}
+use Rattle.lists.proofs.Tests.{failed, passed}
+use Rattle.woot.specs.Calls.{beyond_visible}
+use Rattle.memory.specs.Columns.{Replica, meaning}
+use Rattle.memory.specs.Lent.{replica_as}
+use Rattle.memory.proofs.Fullness.{begins, Ends, ends}
+use Rattle.well_formed.specs.Examined.{Examined}
+use Rattle.well_formed.proofs.Examining.{lent_examined, few, fits}
+use Rattle.block_judging.proofs.Judging.{judged_unformed, judged_beyond, seen, judged_late, judged-full, judged-empty, judged-enough}
+use borrow.Author.Rules.{rules}
+use Rattle.block_judging.proofs.judge.Goals.{Else-count-point, Else-not-check, Start}
+use Rattle.block_judging.proofs.judge.Goals as goal
+
+-- the replica with the arrays
+abbrev given : Start → Replica
+given s =
+    let a = s.args in
+    replica_as a.site a.characters.now a.toggles.now a.n a.pending.now a.w a.heads.now a.links.now
+
+-- where the function starts
+abbrev start : Else-not-check → Start
+start c = c.before.before.before.before.before.before.before
+
+-- the tests that are passed
+examined : (c : Else-not-check) → Examined (given (start c))
+examined c = lent_examined _ _ _ (start c).requires (passed c.check.ensures c.if-not-check.false-raw)
+
+shown : (c : Else-count-point) → let s = start c in beyond_visible (meaning (given s)) s.args.point ≡ false
+shown c = seen _ _ (start c).args.count (examined c) c.count.ensures c.if-count-point.false
+
+pub returns-then-not-check : goal.returns-then-not-check
+returns-then-not-check c = judged_unformed (given c) _ _ (failed c.check.ensures c.if-not-check.true-raw)
+
+pub count-requires : goal.count-requires
+count-requires c = (fits _ (examined (goal.at.count-requires c).Else-not-check)).toggles
+
+pub returns-then-count-point : goal.returns-then-count-point
+returns-then-count-point c =
+    judged_beyond _ _ _ (examined (goal.at.returns-then-count-point c).Else-not-check) c.count.ensures c.if-count-point.true
+
+pub returns-then-clock_short : goal.returns-then-clock_short
+returns-then-clock_short c =
+    judged_late _ _ _ (examined (goal.at.returns-then-clock_short c).Else-not-check) (shown (goal.at.returns-then-clock_short c).Else-count-point) (sym c.clock_short.ensures ∙ c.if-clock_short.true)
+
+pub overfull-requires : goal.overfull-requires
+overfull-requires c =
+    let x = examined (goal.at.overfull-requires c).Else-not-check in
+    record {
+      n_le_character_slots = (few _ x).characters;
+      w_le_pending_slots = (few _ x).pending;
+      w_in_bounds = (fits _ x).own;
+    }
+
+pub returns-then-overfull : goal.returns-then-overfull
+returns-then-overfull c =
+    judged-full _ _ _ (examined (goal.at.returns-then-overfull c).Else-not-check) (shown (goal.at.returns-then-overfull c).Else-count-point) (sym c.clock_short.ensures ∙ c.if-clock_short.false)
+    (sym c.overfull.ensures ∙ c.if-overfull.true)
+
+pub returns-then-count-eq0 : goal.returns-then-count-eq0
+returns-then-count-eq0 c =
+    judged-empty _ _ _ (examined (goal.at.returns-then-count-eq0 c).Else-not-check) (shown (goal.at.returns-then-count-eq0 c).Else-count-point) (sym c.clock_short.ensures ∙ c.if-clock_short.false)
+    (sym c.overfull.ensures ∙ c.if-overfull.false) c.if-count-eq0.true
+
+pub returns : goal.returns
+returns c =
+    judged-enough _ _ _ (examined (goal.at.returns c).Else-not-check) (shown (goal.at.returns c).Else-count-point) (sym c.clock_short.ensures ∙ c.if-clock_short.false)
+    (sym c.overfull.ensures ∙ c.if-overfull.false) c.if-count-eq0.false
+
+-- the column that is lent
+waits : (c : Else-not-check) → Ends 512 (start c).args.pending.now
+waits c = ends 512 (start c).requires.pending
+
+pub slice_bounds-overfull-count : goal.slice_bounds-overfull-count
+slice_bounds-overfull-count c = begins 512 0
+
+pub slice_bounds-overfull-start : goal.slice_bounds-overfull-start
+slice_bounds-overfull-start c = begins 512 0
+
+pub slice_bounds-overfull-end : goal.slice_bounds-overfull-end
+slice_bounds-overfull-end c = (waits (goal.at.slice_bounds-overfull-end c).Else-not-check).first

@@ -1,0 +1,16 @@
+-- `building::toggle_all` carries out one toggle after another. The loop's invariant: with those that are left it
+-- comes to what all of them come to.
+use Prim.Native.Nat.{◌-◌}
+use native.Mathlib.Omega.{arith}
+use Rattle.passes.specs.Steps.{laid_as}
+use Rattle.building.specs.Steps.{Toggles}
+use Rattle.passes.proofs.Laying.{laid_count, laid_slots, laid_tabled}
+use Rattle.building.proofs.Toggling.{Changing, changing_begun, changing_again, changing_ended, slots-low}
+use Rattle.building.proofs.Toggling.{read_ranged}
+use Rattle.building.proofs.toggle_all.Given as goal
+
+abbrev pub invariant-loop-j : goal.invariant-loop-j
+invariant-loop-j l =    (g : Toggles (laid_as l.characters l.initial.toggles l.n l.heads l.links) l.changes l.m) → Changing (laid_as l.characters l.toggles l.n l.heads l.links) l.j g.characters g.toggles
+
+abbrev pub decreases-loop-j : goal.decreases-loop-j
+decreases-loop-j l = l.m - l.j

@@ -1,0 +1,95 @@
+-- `answering::put_both` meets its contract: both parts have room, or nothing is put.
+use Prim.Native.Nat.{ℕ}
+use mathlib.Core.Path.{◌≡◌, refl, sym, ◌∙◌}
+use mathlib.Core.List.{List}
+use borrow.Author.Rules.{rules}
+use lib.ListN.{length}
+use Rattle.output.specs.Output.{past}
+use Rattle.output.proofs.Laws.{past_room}
+use Rattle.lines.specs.declared.writing.Room.{Room}
+use Rattle.lines.specs.declared.writing.Room.TheVariants.{Until}
+use Rattle.lines.specs.Room.{room_for}
+use Rattle.lines.proofs.Rooms.{until_tells}
+use Rattle.codec.proofs.Answers.{front-short, front_fits, body-short, body-room, body-put}
+use Rattle.saving.specs.Documents.{lines_in}
+use Rattle.catching.proofs.answering.put_both.Goals.{Start}
+use Rattle.catching.proofs.answering.put_both.Goals as goal
+
+-- the bytes of the two parts
+abbrev front : Start → List ℕ
+front s = lines_in s.args.inserts.now s.args.sent
+
+abbrev body : Start → List ℕ
+body s = lines_in s.args.toggles.now s.args.count
+
+-- where the first part ends
+ended : (out a : List ℕ) {x : Room} {start : ℕ} → x ≡ room_for (length out) 0 a → x ≡ Until start → start ≡ past out 0 a
+ended out a e q =
+    let t = until_tells (length out) 0 a e q in
+    t.0 ∙ sym (past_room out 0 a t.1)
+
+pub returns-in_default : goal.returns-in_default
+returns-in_default c =
+    record {
+      value = (front-short (front c) (body c) _ c.args.out.now refl c.measure-front.ensures c.in_default.is).0;
+      out_after = (front-short (front c) (body c) _ c.args.out.now refl c.measure-front.ensures c.in_default.is).1;
+    }
+
+pub measure-room-requires : goal.measure-room-requires
+measure-room-requires c =
+    record {
+      numbers_len = c.requires.toggles_len;
+      count_le_character_slots = c.requires.count_le_character_slots;
+      at_le_size = front_fits (front c) (body c) _ c.args.out.now refl c.measure-front.ensures
+            c.in-Until.is;
+    }
+
+pub returns-in_default-room : goal.returns-in_default-room
+returns-in_default-room c =
+    record {
+      value = (body-short (front c) (body c) _ c.args.out.now refl c.measure-front.ensures
+    c.in-Until.is c.measure-room.ensures c.in_default-room.is).0;
+      out_after = (body-short (front c) (body c) _ c.args.out.now refl c.measure-front.ensures
+    c.in-Until.is c.measure-room.ensures c.in_default-room.is).1;
+    }
+
+pub put_lines-requires : goal.put_lines-requires
+put_lines-requires c =
+    let t = until_tells (length c.args.out.now) 0 (front c) c.measure-front.ensures
+    c.in-Until.is in
+    record {
+      numbers_len = c.requires.inserts_len;
+      count_le_character_slots = c.requires.sent_le_character_slots;
+      count_in_bounds = t.1;
+    }
+
+pub put_lines-requires-2 : goal.put_lines-requires-2
+put_lines-requires-2 c =
+    let f = c.in-Until.is in
+    record {
+      numbers_len = c.requires.toggles_len;
+      count_le_character_slots = c.requires.count_le_character_slots;
+      count_in_bounds = body-room (front c) (body c) _ c.args.out.now refl c.measure-front.ensures f
+            c.measure-room.ensures c.in-Until-room.is (
+              ended c.args.out.now (front c) c.measure-front.ensures f,
+              c.put_lines.ensures,
+            );
+    }
+
+pub returns : goal.returns
+returns c =
+    let f = c.in-Until.is in
+    record {
+      value = (body-put (front c) (body c) _ c.args.out.now refl c.measure-front.ensures f
+    c.measure-room.ensures c.in-Until-room.is (
+      ended c.args.out.now (front c) c.measure-front.ensures f,
+      c.put_lines.ensures,
+    )
+    c.put_lines-2.ensures).0;
+      out_after = (body-put (front c) (body c) _ c.args.out.now refl c.measure-front.ensures f
+    c.measure-room.ensures c.in-Until-room.is (
+      ended c.args.out.now (front c) c.measure-front.ensures f,
+      c.put_lines.ensures,
+    )
+    c.put_lines-2.ensures).1;
+    }

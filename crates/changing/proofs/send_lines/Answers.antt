@@ -1,0 +1,35 @@
+-- `changing::send_lines` meets its contract: where something was typed the arrays of the new replica stand for what it means.
+use mathlib.Core.Path.{refl}
+use Rattle.woot.specs.Memory.{characters_in, operations_in, meaning}
+use Rattle.memory.proofs.Fullness.{full-replica}
+use Rattle.saving.specs.Documents.{state_in}
+use Rattle.effects.specs.Results.{silent}
+use Rattle.effects.specs.Effects.{quiet}
+use Rattle.effects.proofs.Outputs.{leaves_by, none-typed, some-typed}
+use Rattle.effects.proofs.Saving.{storable}
+use borrow.Author.Rules.{rules}
+use Rattle.changing.proofs.send_lines.Goals as goal
+
+pub returns-then-count-eq0 : goal.returns-then-count-eq0
+unfolding quiet silent
+returns-then-count-eq0 c = leaves_by (none-typed _ _ _ _ _ c.if-count-eq0.true) (c.number_of.ensures, refl, refl)
+
+pub save_lines-requires : goal.save_lines-requires
+save_lines-requires c =
+    let r = c.args.t2 in
+    let w = storable r (full-replica {r = r} c.well-formed.1.0) (c.requires.replica_value c.if-count-eq0.false) in
+    record {
+      characters_len = w.0;
+      n_le_character_slots = w.1.0;
+      n_in_bounds = w.1.1.0;
+      pending_len = w.1.1.1.0;
+      w_le_pending_slots = w.1.1.1.1;
+      typed_len = c.requires.typed_len;
+      count_le_character_slots = c.requires.count_le_character_slots;
+    }
+
+pub returns : goal.returns
+unfolding state_in meaning characters_in operations_in
+returns c =
+    leaves_by (some-typed _ _ _ _ _ _ c.if-count-eq0.false)
+    c.save_lines.ensures

@@ -1,0 +1,46 @@
+-- `conversion::pending_within` meets its contract. The loop's invariant: the first j operations pass.
+use Prim.Native.Nat.{ℕ, ◌-◌, ◌≤◌}
+use mathlib.Core.List.{List}
+use mathlib.Core.Path.{◌≡◌, refl, sym, ◌∙◌}
+use mathlib.Core.Bool.{Bool, true}
+use borrow.Author.Tests.{not-true, not-false}
+use lib.ListN.{get_or}
+use Rattle.lists.specs.Lists.{throughout}
+use Rattle.lists.proofs.Throughout.{throughout-more, throughout-fails}
+use borrow.Author.Rules.{rules}
+use native.Mathlib.Omega.{arith}
+use Rattle.conversion.specs.Columns.{numbers_within}
+use Rattle.conversion.proofs.pending_within.Invariants.{within}
+use Rattle.conversion.proofs.pending_within.Tie as tie
+use Rattle.conversion.proofs.pending_within.Goals as goal
+
+pub loop-j-init : goal.loop-j-init
+loop-j-init c = (omega arith, refl)
+
+shared-slice-read-operation-within-2 :
+    tie.Need-shared-slice-read-operation-within-2 invariant-loop decreases-loop
+shared-slice-read-operation-within-2 c = omega arith
+
+pub returns-then-not-operation_within : goal.returns-then-not-operation_within
+returns-then-not-operation_within c =
+    let a = c.args in
+    let l = c.loop-j in
+    let here = sym c.operation_within.ensures ∙ not-true _ c.if-not-operation_within.true-raw in
+    sym (throughout-fails (within a.own.now a.values.now) a.w l.j (omega arith) here)
+
+pub loop-j-preserved : goal.loop-j-preserved
+loop-j-preserved c =
+    let a = c.args in
+    let l = c.loop-j in
+    let here = sym c.operation_within.ensures ∙ not-false _ c.if-not-operation_within.false-raw in
+    (omega arith, throughout-more (within a.own.now a.values.now) l.j l.invariant.1 here)
+
+pub returns : goal.returns
+returns c =
+    let a = c.args in
+    let l = c.loop-j in
+    let done : l.j ≡ a.w = omega arith in
+    rw (← done) (sym l.invariant.1)
+
+pub bounds-values-j : goal.bounds-values-j
+bounds-values-j c = shared-slice-read-operation-within-2 c

@@ -1,0 +1,26 @@
+-- `decimal::align` meets its contract. The loop's invariant: the digits of n are those of the rest and then the ones that stand in the
+-- array already, from just past `start` to its end.
+use mathlib.Core.Path.{◌≡◌, refl, sym, ap, ◌∙◌}
+use mathlib.Core.List.{List, [], ◌∷◌, ◌++◌, append-nil}
+use Prim.Native.Nat.{ℕ, zero, suc, ◌+◌, ◌-◌, ◌/◌, ◌%◌, ◌<◌, ◌≤◌, ◌^◌}
+use native.Mathlib.Omega.{arith}
+use lib.ListN.{length, replicate, set, length-append}
+use lib.Seq.{append_snoc}
+use Rattle.decimal.specs.declared.Aligned.{Aligned}
+use Rattle.decimal.specs.Numeral.{digits}
+use Rattle.decimal.specs.Answers.{aligned}
+use Rattle.decimal.proofs.Laws.{digits-one, digits_more, one-le-width, width-more, width-le}
+use Rattle.decimal.proofs.align.Given as goal
+
+pub record Filled (n : ℕ) (bytes : List ℕ) (start rest : ℕ) : Type 0 where
+  pub done : List ℕ
+  pub now : bytes ≡ replicate (suc start) 0 ++ done
+  pub then : digits n ≡ digits rest ++ done
+  pub at : start + length done ≡ 19
+  pub few : length (digits n) ≤ 20
+
+abbrev pub invariant-loop-rest : goal.invariant-loop-rest
+invariant-loop-rest l = Filled l.n l.bytes l.start l.rest
+
+abbrev pub decreases-loop-rest : goal.decreases-loop-rest
+decreases-loop-rest l = l.rest

@@ -1,0 +1,121 @@
+-- `judge_restore` looks at the identifier and at the form; then it goes by the character that has the identifier.
+use native.Mathlib.Omega.{arith}
+use mathlib.Core.Path.{◌≡◌, sym, ◌∙◌}
+use mathlib.Core.Bool.{true}
+use lib.ListN.{take}
+use Rattle.lists.proofs.Tests.{failed, passed}
+use Rattle.woot.specs.Ranges.{character_id}
+use Rattle.woot.specs.Table.{key}
+use Rattle.woot.specs.Memory.{key_column}
+use Rattle.index.specs.declared.Found.{Found}
+use Rattle.index.specs.Keys.{found}
+use Rattle.memory.specs.Columns.{Replica}
+use Rattle.memory.specs.Lent.{replica_as}
+use Rattle.memory.proofs.Fullness.{begins, Ends, ends}
+use Rattle.well_formed.specs.Examined.{Examined}
+use Rattle.well_formed.proofs.Examining.{lent_examined, few, fits, examined_tabled}
+use Rattle.holder.proofs.Having.{StandsAt, stands_at, found_first, character-within}
+use Rattle.generation.proofs.Judging.{unranged_restore, unformed_restore}
+use Rattle.generation.proofs.Toggling.{restore_nowhere, restore_visible, restore_last, restore_below, restore_decided}
+use borrow.Author.Rules.{rules}
+use Rattle.generation.proofs.judge_restore.Goals.{After-find_among, Else-not-character_id, Else-not-check, Start}
+use Rattle.generation.proofs.judge_restore.Goals as goal
+
+-- the replica with the arrays
+abbrev made : Start → Replica
+made s =
+    let a = s.args in
+    replica_as a.site a.characters.now a.toggles.now a.n a.pending.now a.w a.heads.now a.links.now
+
+-- where the function starts
+abbrev start : Else-not-check → Start
+start c = c.before.before.before.before.before.before.before.before.before
+
+-- the tests that are passed
+ranged : (c : Else-not-character_id) → character_id c.args.id ≡ true
+ranged c = passed c.character_id.ensures c.if-not-character_id.false-raw
+
+examined : (c : Else-not-check) → Examined (made (start c))
+examined c = lent_examined _ _ _ (start c).requires (passed c.check.ensures c.if-not-check.false-raw)
+
+-- where the search stands
+abbrev formed : After-find_among → Else-not-check
+formed c = c.before.before.before
+
+abbrev named : After-find_among → Else-not-character_id
+named c = (formed c).before.before
+
+-- what is found is what is sought
+sought : (c : After-find_among) → let a = (start (formed c)).args in
+    c.find_among.result ≡ found (key a.id) (take a.n (key_column a.characters.now))
+sought c = rw c.key.ensures.value at c.find_among.ensures
+
+-- what it says of the characters
+standing : (c : After-find_among) {f : Found} → c.find_among.result ≡ f → StandsAt _ (examined (formed c)) _ (ranged (named c)) f
+standing c e = stands_at _ (examined (formed c)) _ (ranged (named c)) (sought c) e
+
+-- the column that is lent
+rows : (c : Else-not-check) → Ends 1024 (start c).args.characters.now
+rows c = ends 1024 (start c).requires.characters
+
+pub returns-then-not-character_id : goal.returns-then-not-character_id
+returns-then-not-character_id c = unranged_restore (made c) _ (failed c.character_id.ensures c.if-not-character_id.true-raw)
+
+pub returns-then-not-check : goal.returns-then-not-check
+returns-then-not-check c =
+    let r = made c in
+    unformed_restore r _ (ranged (goal.at.returns-then-not-check c).Else-not-character_id) (failed c.check.ensures c.if-not-check.true-raw)
+
+pub find_among-requires : goal.find_among-requires
+find_among-requires c =
+    let x = examined (goal.at.find_among-requires c).Else-not-check in
+    record {
+      n_in_bounds = (fits _ x).ids;
+      tabled = examined_tabled _ x;
+    }
+
+pub bounds-toggles-k : goal.bounds-toggles-k
+bounds-toggles-k c =
+    let x = examined (formed (goal.at.bounds-toggles-k c).Else-not-check) in
+    let n = few _ x in
+    let h = character-within _ x _ (ranged (named (goal.at.bounds-toggles-k c).Else-not-character_id)) _ (standing (goal.at.bounds-toggles-k c).After-find_among c.in-At.is) in
+    omega (arith, x.slots.toggles)
+
+pub returns-then-count-eq0 : goal.returns-then-count-eq0
+returns-then-count-eq0 c =
+    let at = standing (goal.at.returns-then-count-eq0 c).After-find_among c.in-At.is in
+    restore_visible _ (examined (formed (goal.at.returns-then-count-eq0 c).Else-not-check)) _ (ranged (named (goal.at.returns-then-count-eq0 c).Else-not-character_id)) _ at c.if-count-eq0.true
+
+pub returns-then-count : goal.returns-then-count
+returns-then-count c =
+    let at = standing (goal.at.returns-then-count c).After-find_among c.in-At.is in
+    restore_last _ (examined (formed (goal.at.returns-then-count c).Else-not-check)) _ (ranged (named (goal.at.returns-then-count c).Else-not-character_id)) _ at c.if-count-eq0.false c.if-count.true
+
+pub next_toggle-toggle-requires : goal.next_toggle-toggle-requires
+next_toggle-toggle-requires c =
+    let at = standing (goal.at.next_toggle-toggle-requires c).After-find_among c.in-At.is in
+    restore_below _ (examined (formed (goal.at.next_toggle-toggle-requires c).Else-not-check)) _ (ranged (named (goal.at.next_toggle-toggle-requires c).Else-not-character_id)) _ at c.if-count-eq0.false c.if-count.false
+
+pub returns-else-count : goal.returns-else-count
+returns-else-count c =
+    let x = examined (formed (goal.at.returns-else-count c).Else-not-check) in
+    let id = ranged (named (goal.at.returns-else-count c).Else-not-character_id) in
+    let first = sym (found_first _ x _ id) ∙ sym (sought (goal.at.returns-else-count c).After-find_among) ∙ c.in-At.is in
+    let at = standing (goal.at.returns-else-count c).After-find_among c.in-At.is in
+    restore_decided _ x _ id _ at c.if-count-eq0.false c.if-count.false first _ c.next_toggle-toggle.ensures
+
+pub returns-in-Nothing : goal.returns-in-Nothing
+returns-in-Nothing c =
+    restore_nowhere _ (examined (formed (goal.at.returns-in-Nothing c).Else-not-check)) _ (ranged (named (goal.at.returns-in-Nothing c).Else-not-character_id)) (standing (goal.at.returns-in-Nothing c).After-find_among c.in-Nothing.is)
+
+pub check-requires : goal.check-requires
+check-requires c = c.requires
+
+pub slice_bounds-ids-count : goal.slice_bounds-ids-count
+slice_bounds-ids-count c = begins 1024 0
+
+pub slice_bounds-ids-start : goal.slice_bounds-ids-start
+slice_bounds-ids-start c = begins 1024 0
+
+pub slice_bounds-ids-end : goal.slice_bounds-ids-end
+slice_bounds-ids-end c = (rows (goal.at.slice_bounds-ids-end c).Else-not-check).first

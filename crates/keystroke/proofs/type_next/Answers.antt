@@ -1,0 +1,190 @@
+-- `keystroke::type_next` makes the insert, looks for its place, puts it in with what it releases, and counts the visible
+-- characters through it.
+use Prim.Native.Nat.{ℕ, ◌+◌}
+use native.Mathlib.Omega.{arith}
+use mathlib.Core.Path.{◌≡◌, ap, sym, ◌∙◌, subst}
+use Rattle.woot.specs.declared.Insert.{Insert}
+use Rattle.woot.specs.Placing.{integrate_insert}
+use Rattle.woot.specs.Cursor.{visible_through}
+use Rattle.woot.specs.Calls.{generated_insert}
+use Rattle.woot.specs.Table.{key}
+use Rattle.woot.specs.Memory.{identifier}
+use Rattle.memory.specs.Columns.{Replica, meaning, characters_in, operations_in}
+use Rattle.memory.specs.Lent.{replica_as, Slots}
+use Rattle.memory.proofs.Fullness.{sized_slots}
+use Rattle.integration.specs.declared.Placement.TheVariants.{Below}
+use Rattle.integration.specs.Placements.{placement_of}
+use Rattle.well_formed.specs.Examined.{Examined}
+use Rattle.well_formed.proofs.Examining.{few, fits, examined_tabled, ids_used, toggles_used}
+use Rattle.delivery.specs.Work.{work_as, finished, PlacedAs}
+use Rattle.keystroke.specs.declared.Typing.{Typing}
+use Rattle.keystroke.specs.Steps.{OneTyped}
+use Rattle.keystroke.proofs.Taking.{front-keys, examined, low, made, same-site, neighboured, found_below, found_nowhere, placeable, placed-there}
+use Rattle.keystroke.proofs.Taking.{integrated_next, discarded_next, balance_next, stored_next, few-next, below_next}
+use borrow.Author.Rules.{rules}
+use Rattle.keystroke.proofs.type_next.Goals.{After-find_place-placement, After-put_in-done, In-At-2, Start}
+use Rattle.keystroke.proofs.type_next.Goals as goal
+
+-- ---- what is given
+
+-- the replica with the arrays
+abbrev given : Start → Replica
+given s =
+    let a = s.args in
+    let t = a.at in
+    replica_as t.site a.characters.now a.toggles.now t.length a.pending.now t.waiting a.heads.now a.links.now
+
+slots : (s : Start) → Slots (given s).document
+slots s = sized_slots s.args.at.length s.args.at.waiting s.requires.sized
+
+checked : (s : Start) → Examined (given s)
+checked s = examined (given s) (slots s) _ _ s.requires.typeable
+
+-- the insert that the rules make
+abbrev ruled : Start → Insert
+ruled s = generated_insert (meaning (given s)) s.args.at.point s.args.code-point
+
+-- ---- the insert and its place
+
+abbrev from-find : After-find_place-placement → Start
+from-find c = c.before.before.before.before.before.before.before.before.before.before.before.before.before
+
+inserted-is : (c : After-find_place-placement) → c.make-insert.result ≡ ruled (from-find c)
+inserted-is c =
+    let s = from-find c in
+    let x = checked s in
+    let m = made (given s) (slots s) _ _ s.pre.1.0 in
+    let site = same-site (given s) (slots s) _ _ s.pre.1.0 in
+    c.make-insert.ensures (meaning (given s)) site (sym (ids_used _ x)) (sym (toggles_used _ x)) m.ranged
+
+abbrev from-k : In-At-2 → After-find_place-placement
+from-k c = c.before.before.before
+
+placed_at : (c : In-At-2) → let s = from-find (from-k c) in placement_of (meaning (given s)).characters (ruled s) ≡ Below c.in-At.k
+placed_at c =
+    let f = from-k c in
+    let s = from-find f in
+    let told = sym c.place_of.ensures ∙ c.in-At.is in
+    found_below (given s) (slots s) _ _ s.pre.1.0 (inserted-is f) _ f.find-place.ensures _ told
+
+placed-here : (c : In-At-2) → let s = from-find (from-k c) in
+    let d = (given s).document in
+    PlacedAs d (from-k c).before.before.before.before.make.result c.in-At.k (characters_in d) (operations_in d)
+placed-here c =
+    let f = from-k c in
+    let s = from-find f in
+    let d = (given s).document in
+    subst (λ (i : Insert). PlacedAs d i c.in-At.k (characters_in d) (operations_in d)) (sym (inserted-is f))
+    (placed-there (given s) (slots s) _ _ s.pre.1.0 _ (placed_at c))
+
+-- ---- what is left
+
+abbrev from-work : After-put_in-done → In-At-2
+from-work c = c.before.before.before.before.before.before.before
+
+abbrev start : After-put_in-done → Start
+start c = from-find (from-k (from-work c))
+
+worked : (c : After-put_in-done) → let s = start c in
+    let l = c.put_in-done.new in
+    work_as l.0 l.1.0 l.1.1.0 l.1.1.1.0 l.1.1.1.1.0 c.put_in-done.result
+    ≡ finished (integrate_insert (characters_in (given s).document) (ruled s)) (operations_in (given s).document) 1 0
+worked c =
+    let d = (given (start c)).document in
+    c.put_in-done.ensures _ _ (placed-here (from-work c))
+    ∙ ap (λ (i : Insert). finished (integrate_insert (characters_in d) i) (operations_in d) 1 0) (inserted-is (from-k (from-work c)))
+
+pub make-insert-requires : goal.make-insert-requires
+make-insert-requires c =
+    let x = checked (goal.at.make-insert-requires c).Start in
+    let t = c.requires.typeable in
+    record {
+      clock_lt_last_clock = low (given (goal.at.make-insert-requires c).Start) (slots (goal.at.make-insert-requires c).Start) _ _ t;
+      n_le_character_slots = (few _ x).characters;
+      characters_len = c.requires.sized.characters;
+      n_in_bounds = (fits _ x).toggles;
+      neighboured = neighboured (given (goal.at.make-insert-requires c).Start) (slots (goal.at.make-insert-requires c).Start) _ _ t;
+    }
+
+pub find_place-placement-requires : goal.find_place-placement-requires
+find_place-placement-requires c =
+    let x = checked (goal.at.find_place-placement-requires c).Start in
+    record {
+      n_le_character_slots = (few _ x).characters;
+      characters_len = c.requires.sized.characters;
+      tabled = examined_tabled _ x;
+    }
+
+pub put_in-done-requires : goal.put_in-done-requires
+put_in-done-requires c =
+    let f = from-k c in
+    let s = from-find f in
+    record {
+      characters_len = s.pre.0.characters;
+      pending_len = s.pre.0.pending;
+      insertable = record { characters = _; pending = _; placed = placed-here (goal.at.put_in-done-requires c).In-At-2 };
+    }
+
+pub visible_through-point-requires : goal.visible_through-point-requires
+visible_through-point-requires c =
+    let s = start c in
+    let before = (few _ (checked s)).characters in
+    let small = few-next (given s) (slots s) _ _ s.pre.1.0 _ (placed_at (from-work (goal.at.visible_through-point-requires c).In-At-2)) (worked (goal.at.visible_through-point-requires c).After-put_in-done) in
+    record {
+      n_in_bounds = omega (arith, small, before, c.put_in-done.auto.0, s.pre.0.characters);
+      n_in_bounds_2 = omega (arith, small, before, c.put_in-done.auto.1.0, s.pre.0.toggles);
+    }
+
+pub further-requires : goal.further-requires
+further-requires c =
+    let s = start c in
+    let sum = balance_next (given s) (slots s) _ _ s.pre.1.0 _ (placed_at (from-work (goal.at.further-requires c).In-At-2)) (worked (goal.at.further-requires c).After-put_in-done) in
+    record {
+      clock_lt_last_clock = low (given s) (slots s) _ _ s.pre.1.0;
+      integrated_bound = omega (arith, sum, s.pre.1.1);
+      discarded_bound = omega (arith, sum, s.pre.1.1);
+    }
+
+pub returns-in-At : goal.returns-in-At
+unfolding OneTyped
+returns-in-At c =
+    let s = start c in
+    let r = given s in
+    let t = s.pre.1.0 in
+    let p = placed_at (from-work (goal.at.returns-in-At c).In-At-2) in
+    let e = worked (goal.at.returns-in-At c).After-put_in-done in
+    let is = inserted-is (from-k (from-work (goal.at.returns-in-At c).After-find_place-placement)) in
+    let l = c.put_in-done.new in
+    let f = c.further.ensures in
+    let sum = balance_next r (slots s) _ _ t _ p e in
+    let seen = c.visible_through-point.ensures.value in
+    let below =
+    below_next r (slots s) _ _ t _ p e
+    (λ cs k q sm. seen cs (k ∙ sym (front-keys l.0 _ (few-next r (slots s) _ _ t _ p e))) q sm
+    ∙ ap (λ (x : ℕ). visible_through cs (identifier x)) (c.key.ensures.value ∙ ap (λ (i : Insert). key i.id) is))
+    in
+    record {
+      placed = placeable r (slots s) _ _ t _ p;
+      made = is;
+      left =
+          ap (λ (v : Typing). replica_as v.site l.0 l.1.0 v.length l.1.1.0 v.waiting l.1.1.1.0 l.1.1.1.1.0) f
+          ∙ stored_next r (slots s) _ _ t _ p e;
+      below = ap (λ (v : Typing). v.point) f ∙ below;
+      integrated = ap (λ (v : Typing). v.integrated) f ∙ ap (λ (m : ℕ). s.args.at.integrated + m) (integrated_next r (slots s) _ _ t _ p e);
+      discarded = ap (λ (v : Typing). v.discarded) f ∙ ap (λ (m : ℕ). s.args.at.discarded + m) (discarded_next r (slots s) _ _ t _ p e);
+      balance =
+          omega (
+            arith,
+            sum,
+            ap (λ (v : Typing). v.integrated) f,
+            ap (λ (v : Typing). v.discarded) f,
+            ap (λ (v : Typing). v.waiting) f,
+          );
+    }
+
+pub returns-in-Nothing : goal.returns-in-Nothing
+unfolding OneTyped
+returns-in-Nothing c =
+    let s = from-find c in
+    let told = sym c.place_of.ensures ∙ c.in-Nothing.is in
+    found_nowhere (given s) (slots s) _ _ s.pre.1.0 (inserted-is (goal.at.returns-in-Nothing c).After-find_place-placement) _ c.find_place-placement.ensures told

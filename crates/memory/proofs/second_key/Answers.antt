@@ -1,0 +1,12 @@
+-- `memory::second_key` goes by the kind of the operation.
+use Rattle.woot.specs.Memory.{second_key}
+use borrow.Author.Rules.{rules}
+use Rattle.memory.proofs.second_key.Goals as goal
+
+pub returns-in-Insert : goal.returns-in-Insert
+unfolding second_key
+returns-in-Insert c = rw (c.in-Insert.is, c.key.ensures.value)
+
+pub returns-in-Toggle : goal.returns-in-Toggle
+unfolding second_key
+returns-in-Toggle c = rw c.in-Toggle.is

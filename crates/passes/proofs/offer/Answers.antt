@@ -1,0 +1,85 @@
+-- `passes::offer` reads the insert, takes it in, and moves one that lacks a neighbour behind those that are left.
+use Prim.Native.Nat.{ℕ}
+use native.Mathlib.Omega.{arith}
+use mathlib.Core.Path.{◌≡◌, subst}
+use mathlib.Core.List.{List}
+use Rattle.memory.specs.Columns.{Document}
+use Rattle.passes.specs.declared.Taken.{Taken}
+use Rattle.passes.specs.declared.Taken.TheVariants.{Placed, Lacking, Dropped}
+use Rattle.passes.specs.Steps.{laid_as, Lays, TakenAs, Reaches}
+use Rattle.passes.proofs.Passing.{reached_ranged, reached_laid, reached-room, reached-slots, reached-placed}
+use Rattle.passes.proofs.Passing.{reached-dropped, reached_lacking}
+use borrow.Author.Rules.{rules}
+use Rattle.passes.proofs.offer.Goals.{After-take_in-taken, Start}
+use Rattle.passes.proofs.offer.Goals as goal
+
+abbrev lays : {d : Document} {xs : List ℕ} {k i : ℕ} → Reaches d xs k i → Lays d
+lays g = record { characters = g.reached.characters; laid = reached_laid g.reached g.within }
+
+-- where the function starts
+abbrev start : After-take_in-taken → Start
+start c = c.before.before.before.before.before.before.before.before.before.before.before.before
+
+-- what became of the insert
+module _ (c : After-take_in-taken) (g : Reaches (laid_as (start c).args.characters.now (start c).args.toggles.now (start c).args.at.length (start c).args.heads.now (start c).args.links.now) (start c).args.inserts.now (start c).args.at.left (start c).args.i) where
+
+  abbrev At : Taken → Type 0
+  At v =
+      let l = c.take_in-taken.new in
+      TakenAs g.reached.characters c.insert_at-insert.result l.0 l.1.0 (start c).args.at.length l.1.1.0 l.1.1.1.0 v
+
+  told : (v : Taken) → c.take_in-taken.result ≡ v → At v
+  told v e = subst At e (c.take_in-taken.ensures (lays g))
+
+pub insert_at-insert-requires : goal.insert_at-insert-requires
+insert_at-insert-requires c =
+    let g = c.requires.reaches in
+    record {
+      inserts_len = g.reached.held.size;
+      i_lt_character_slots = reached-slots g.reached g.within;
+      i_value = reached_ranged g.reached g.within;
+    }
+
+pub take_in-taken-requires : goal.take_in-taken-requires
+take_in-taken-requires c =
+    let g = c.requires.reaches in
+    record {
+      characters_len = c.requires.characters_len;
+      n_lt_character_slots = reached-room g.reached g.within;
+      lays = lays g;
+    }
+
+pub overflow_add-result : goal.overflow_add-result
+overflow_add-result c =
+    let g = c.requires.reaches in
+    omega (arith, reached-room g.reached g.within)
+
+pub move_insert-requires : goal.move_insert-requires
+move_insert-requires c =
+    let g = c.requires.reaches in
+    let low = reached-slots g.reached g.within in
+    record {
+      inserts_len = g.reached.held.size;
+      from_lt_character_slots = low;
+      to_lt_character_slots = omega (arith, low, g.reached.kept);
+    }
+
+pub overflow_add-result-in-Lacking : goal.overflow_add-result-in-Lacking
+overflow_add-result-in-Lacking c =
+    let g = c.requires.reaches in
+    omega (arith, reached-slots g.reached g.within, g.reached.kept)
+
+pub returns-in-Placed : goal.returns-in-Placed
+returns-in-Placed c g =
+    let l = c.take_in-taken.new in
+    reached-placed g.reached g.within _ c.insert_at-insert.ensures l.0 l.1.0 _ l.1.1.0 l.1.1.1.0 (told (goal.at.returns-in-Placed c).After-take_in-taken g Placed c.in-Placed.is)
+
+pub returns-in-Lacking : goal.returns-in-Lacking
+returns-in-Lacking c g =
+    let l = c.take_in-taken.new in
+    reached_lacking g.reached g.within _ c.insert_at-insert.ensures l.0 l.1.0 _ l.1.1.0 l.1.1.1.0 (told (goal.at.returns-in-Lacking c).After-take_in-taken g Lacking c.in-Lacking.is) c.move_insert.ensures
+
+pub returns-in-Dropped : goal.returns-in-Dropped
+returns-in-Dropped c g =
+    let l = c.take_in-taken.new in
+    reached-dropped g.reached g.within _ c.insert_at-insert.ensures l.0 l.1.0 _ l.1.1.0 l.1.1.1.0 (told (goal.at.returns-in-Dropped c).After-take_in-taken g Dropped c.in-Dropped.is)

@@ -1,0 +1,73 @@
+-- `pasting::type_block` reads the code points, takes the arrays out, types on them, and puts them back where all were typed.
+use mathlib.Core.Path.{◌≡◌, ◌∙◌}
+use native.Mathlib.Omega.{arith}
+use Rattle.memory.proofs.Fullness.{FullArrays, full-replica}
+use Rattle.replica.proofs.Returning.{sized_still}
+use Rattle.typing.specs.Steps.{Unwritten, points_in}
+use Rattle.pasting.specs.Replicas.{pasted_as}
+use Rattle.pasting.proofs.Clearing.{some-few}
+use Rattle.pasting.proofs.Finishing.{points-are, blank_unwritten, blank_length, wiped, told-stopped, told-finished, coded, stopped_so, finished_so}
+use borrow.Author.Rules.{rules}
+use Rattle.pasting.proofs.type_block.Goals.{After-read, Start}
+use Rattle.pasting.proofs.type_block.Goals as goal
+
+-- the arrays that were passed
+full : (s : Start) → FullArrays s.args.replica.document
+full s = full-replica s.well-formed.0
+
+-- where the function starts
+abbrev start : After-read → Start
+start c = c.before.before.before.before
+
+-- what was read
+written : (c : After-read) → Unwritten (start c).requires.0.points c.read.new.1.0
+written c = c.read.ensures _ (start c).requires.0.read
+
+points : (c : After-read) → points_in (start c).args.count c.read.new.1.0 ≡ (start c).requires.0.points
+points c = points-are (start c).requires.0.many (written c)
+
+pub read-requires : goal.read-requires
+read-requires c =
+    let p = c.requires.pasteable in
+    let blank = c.requires.typed_value in
+    record {
+      typed_len = blank_length blank;
+      readable = record { points = p.points; read = p.read; few = omega (arith, some-few _ p.spacious, p.many) };
+      unwritten = blank_unwritten blank;
+    }
+
+pub type_points-ended-requires : goal.type_points-ended-requires
+type_points-ended-requires c =
+    let s = start c in
+    record {
+      sized = full s;
+      typed_len = c.read.auto.1.0 ∙ blank_length s.pre.1;
+      unwritten = rw (points (goal.at.type_points-ended-requires c).After-read) (written (goal.at.type_points-ended-requires c).After-read);
+      typed_value = rw (points (goal.at.type_points-ended-requires c).After-read) (coded s.args.replica _ _ s.pre.0);
+      spacious = s.pre.0.spacious;
+    }
+
+pub returns-in-Finished : goal.returns-in-Finished
+returns-in-Finished c =
+    let s = start c in
+    let m = c.type_points-ended in
+    let l = m.new in
+    let k = m.auto in
+    let still = sized_still (full s) k.0 k.1.0 k.1.1.0 k.1.1.1.0 k.1.1.1.1.0 in
+    finished_so s.args.replica _ _ s.pre.0 _ still _ _
+    (told-finished _ _ (points (goal.at.returns-in-Finished c).After-read) _ l.0 l.1.0 l.1.1.0 l.1.1.1.0 l.1.1.1.1.0 m.ensures c.in-Finished.is)
+
+pub shape_of-typed-in-Unplaceable : goal.shape_of-typed-in-Unplaceable
+shape_of-typed-in-Unplaceable c =
+    omega (arith, c.clear_numbers.auto.0, c.type_points-ended.auto.1.1.1.1.1.0, c.read.auto.1.0)
+
+pub returns-in-Unplaceable : goal.returns-in-Unplaceable
+returns-in-Unplaceable c =
+    let s = start c in
+    let m = c.type_points-ended in
+    let l = m.new in
+    let long = m.auto.1.1.1.1.1.0 ∙ c.read.auto.1.0 ∙ blank_length s.pre.1 in
+    let clear = c.clear_numbers.ensures ∙ wiped l.1.1.1.1.1.0 long in
+    (λ j. pasted_as (c.untyped.ensures j) (clear j))
+    ∙ stopped_so s.args.replica _ _ s.pre.0
+    (told-stopped _ _ (points (goal.at.returns-in-Unplaceable c).After-read) _ l.0 l.1.0 l.1.1.0 l.1.1.1.0 l.1.1.1.1.0 m.ensures c.in-Unplaceable.is)

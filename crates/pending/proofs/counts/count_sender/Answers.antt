@@ -1,0 +1,38 @@
+-- `effects::counting::count_sender` meets its contract. The loop's invariant: the count, with what is left to count, is all.
+use native.Mathlib.Omega.{arith}
+use borrow.Author.Rules.{rules}
+use mathlib.Core.Path.{◌≡◌}
+use mathlib.Core.Logic.{⊎_elim}
+use Prim.Native.Nat.{◌+◌, ◌-◌, ◌≤◌, min}
+use lib.ListN.{length}
+use Rattle.pending.proofs.Searches.{sent_left, sent-counted, sent-passed, sent-none}
+use Rattle.pending.proofs.counts.count_sender.Goals as goal
+
+pub loop-i-init : goal.loop-i-init
+loop-i-init c = (omega arith, c.lesser-end.ensures, omega arith, omega arith)
+
+pub loop-i-preserved : goal.loop-i-preserved
+loop-i-preserved c =
+    let a = c.args in
+    let l = c.loop-i in
+    let e = c.sender_of.ensures in
+    ⊎_elim (λ w. (
+      omega arith,
+      l.invariant.1,
+      omega arith,
+      omega
+          (arith, sent-counted a.own.now a.values.now l.i _ a.sender (omega arith) (omega arith) e (omega (arith, w.0.taken))),
+    ))
+    (λ w. (
+      omega arith,
+      l.invariant.1,
+      omega arith,
+      omega
+          (arith, sent-passed a.own.now a.values.now l.i _ a.sender (omega arith) (omega arith) e (λ h. omega (arith, w.0.left, h))),
+    ))
+    c.if-sender_of-sender.branch
+
+pub returns : goal.returns
+returns c =
+    let a = c.args in
+    omega (arith, sent-none a.sender a.own.now a.values.now c.loop-i.i (omega arith))

@@ -1,0 +1,25 @@
+-- `placed` goes by what was found.
+use mathlib.Core.Path.{sym, ◌∙◌}
+use Rattle.reception.specs.Decisions.{full_in, placed_in}
+use borrow.Author.Rules.{rules}
+use Rattle.reception.proofs.placed.Goals as goal
+
+pub returns-then-document_full : goal.returns-then-document_full
+unfolding full_in placed_in
+returns-then-document_full c = rw (c.in-Below.is, sym c.document_full.ensures ∙ c.if-document_full.true)
+
+pub returns-in-Missing : goal.returns-in-Missing
+unfolding placed_in
+returns-in-Missing c = rw c.in-Missing.is c.lacking.ensures
+
+pub returns-in-Crossed : goal.returns-in-Crossed
+unfolding placed_in
+returns-in-Crossed c = rw c.in-Crossed.is
+
+pub returns-in-Unplaceable : goal.returns-in-Unplaceable
+unfolding placed_in
+returns-in-Unplaceable c = rw c.in-Unplaceable.is
+
+pub returns-else-document_full : goal.returns-else-document_full
+unfolding full_in placed_in
+returns-else-document_full c = rw (c.in-Below.is, sym c.document_full.ensures ∙ c.if-document_full.false)

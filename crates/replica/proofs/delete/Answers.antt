@@ -1,0 +1,17 @@
+-- `replica::delete` sends what was made.
+use mathlib.Core.Path.{◌∙◌}
+use Rattle.woot.specs.declared.Replica.{Replica}
+use Rattle.replica.proofs.Returning.{sendable, delete_so}
+use borrow.Author.Rules.{rules}
+use Rattle.replica.proofs.delete.Goals.{After-judge_delete-made}
+use Rattle.replica.proofs.delete.Goals as goal
+
+-- the replica that was passed
+abbrev passedIn : After-judge_delete-made → Replica
+passedIn c = c.before.before.before.before.before.before.before.before.before.before.before.before.before.args.t1
+
+pub send-requires : goal.send-requires
+send-requires c = sendable (passedIn c) _ _ c.judge_delete-made.ensures
+
+pub returns : goal.returns
+returns c = c.send.ensures ∙ delete_so (passedIn c) _ _ c.judge_delete-made.ensures

@@ -1,0 +1,17 @@
+-- `replica::insert` sends what was made.
+use mathlib.Core.Path.{◌∙◌}
+use Rattle.woot.specs.declared.Replica.{Replica}
+use Rattle.replica.proofs.Returning.{sendable, insert_so}
+use borrow.Author.Rules.{rules}
+use Rattle.replica.proofs.insert.Goals.{After-judge_insert-made}
+use Rattle.replica.proofs.insert.Goals as goal
+
+-- the replica that was passed
+abbrev passedIn : After-judge_insert-made → Replica
+passedIn c = c.before.before.before.before.before.before.before.before.before.before.before.before.before.args.t1
+
+pub send-requires : goal.send-requires
+send-requires c = sendable (passedIn c) _ _ c.judge_insert-made.ensures
+
+pub returns : goal.returns
+returns c = c.send.ensures ∙ insert_so (passedIn c) _ _ _ c.judge_insert-made.ensures

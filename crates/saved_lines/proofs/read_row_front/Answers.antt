@@ -1,0 +1,19 @@
+-- `saved_lines::read_row_front` meets its contract, kind by kind.
+use borrow.Author.Rules.{rules}
+use Rattle.saved_lines.proofs.read_row_front.Goals as goal
+
+pub returns-in-Saved : goal.returns-in-Saved
+returns-in-Saved c =
+    record {
+      line_value = (rw c.in-Saved.is c.read_character_front.ensures).0;
+      next_value = (rw c.in-Saved.is c.read_character_front.ensures).1.0;
+      next_in_bounds = (rw c.in-Saved.is c.read_character_front.ensures).1.1;
+    }
+
+pub returns-in-Archived : goal.returns-in-Archived
+returns-in-Archived c =
+    record {
+      line_value = (rw c.in-Archived.is c.read_placed_front.ensures).0;
+      next_value = (rw c.in-Archived.is c.read_placed_front.ensures).1.0;
+      next_in_bounds = (rw c.in-Archived.is c.read_placed_front.ensures).1.1;
+    }

@@ -1,0 +1,77 @@
+-- `saving::columns::put_columns_with` meets its contract: the site's line and the others have room, or nothing is put.
+use Prim.Native.Nat.{ℕ}
+use mathlib.Core.Path.{◌≡◌}
+use mathlib.Core.List.{List, ◌++◌}
+use Rattle.woot.specs.Memory.{pending_slots}
+use Rattle.saved.specs.Format.{site_line}
+use Rattle.saved.specs.Rows.{version_of}
+use Rattle.codec.proofs.Answers.{front-short, front_fits, body-short, body-room, body-put}
+use Rattle.saving.specs.Documents.{Lists, lists_of, body_as, file_bytes, site_with}
+use Rattle.saving.proofs.Documents.{whole-bytes}
+use borrow.Author.Rules.{rules}
+use Rattle.saving.proofs.columns.put_columns_with.Goals.{Start}
+use Rattle.saving.proofs.columns.put_columns_with.Goals as goal
+
+-- the bytes of the site's line, those after it, and all
+abbrev front : Start → List ℕ
+front s = site_line (version_of s.args.rows) (site_with s.args.number s.args.clock)
+
+abbrev lists : Start → Lists
+lists s =
+    let a = s.args in
+    lists_of a.places.now a.characters.now a.toggles.now a.n a.pending.now pending_slots a.w
+
+abbrev body : Start → List ℕ
+body s = body_as s.args.rows (lists s)
+
+abbrev bytes : Start → List ℕ
+bytes s = file_bytes s.args.rows (site_with s.args.number s.args.clock) (lists s)
+
+whole : (s : Start) → front s ++ body s ≡ bytes s
+whole s = whole-bytes s.args.rows (site_with s.args.number s.args.clock) (lists s)
+
+pub returns-in_default : goal.returns-in_default
+returns-in_default c =
+    record {
+      value = (front-short (front c) (body c) (bytes c) c.args.out.now (whole (goal.at.returns-in_default c).Start) (rw c.version-version.ensures at c.measure_site_with-front.ensures)
+    c.in_default.is).0;
+      out_after = (front-short (front c) (body c) (bytes c) c.args.out.now (whole (goal.at.returns-in_default c).Start) (rw c.version-version.ensures at c.measure_site_with-front.ensures)
+    c.in_default.is).1;
+    }
+
+pub measure-room-requires : goal.measure-room-requires
+measure-room-requires c =
+    record {
+      has_slots = c.requires;
+      at_le_size = front_fits (front c) (body c) (bytes c) c.args.out.now (whole (goal.at.measure-room-requires c).Start) (rw c.version-version.ensures at c.measure_site_with-front.ensures)
+          c.in-Until.is;
+    }
+
+pub returns-in_default-room : goal.returns-in_default-room
+returns-in_default-room c =
+    record {
+      value = (body-short (front c) (body c) (bytes c) c.args.out.now (whole (goal.at.returns-in_default-room c).Start) (rw c.version-version.ensures at c.measure_site_with-front.ensures)
+    c.in-Until.is c.measure-room.ensures c.in_default-room.is).0;
+      out_after = (body-short (front c) (body c) (bytes c) c.args.out.now (whole (goal.at.returns-in_default-room c).Start) (rw c.version-version.ensures at c.measure_site_with-front.ensures)
+    c.in-Until.is c.measure-room.ensures c.in_default-room.is).1;
+    }
+
+pub put_lines-requires : goal.put_lines-requires
+put_lines-requires c =
+    record {
+      has_slots = c.requires;
+      w_in_bounds = body-room (front c) (body c) (bytes c) c.args.out.now (whole (goal.at.put_lines-requires c).Start) (rw c.version-version.ensures at c.measure_site_with-front.ensures)
+          c.in-Until.is c.measure-room.ensures c.in-Until-room.is
+          (rw c.version-version.ensures at c.put_site_with-at.ensures);
+    }
+
+pub returns : goal.returns
+returns c =
+    record {
+      value = (body-put (front c) (body c) (bytes c) c.args.out.now (whole (goal.at.returns c).Start) (rw c.version-version.ensures at c.measure_site_with-front.ensures)
+    c.in-Until.is c.measure-room.ensures c.in-Until-room.is
+    (rw c.version-version.ensures at c.put_site_with-at.ensures) c.put_lines.ensures).0;
+      out_after = (body-put (front c) (body c) (bytes c) c.args.out.now (whole (goal.at.returns c).Start) (rw c.version-version.ensures at c.measure_site_with-front.ensures)
+    c.in-Until.is c.measure-room.ensures c.in-Until-room.is
+    (rw c.version-version.ensures at c.put_site_with-at.ensures) c.put_lines.ensures).1;
+    }

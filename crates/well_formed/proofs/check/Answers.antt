@@ -1,0 +1,135 @@
+-- `check` meets its contract: each test comes out as the rules say, once those before it are passed.
+use native.Mathlib.Omega.{arith}
+use mathlib.Core.Path.{◌≡◌, sym}
+use mathlib.Core.Bool.{true}
+use borrow.Author.Rules.{rules}
+use lib.ListN.{take}
+use Rattle.lists.specs.Lists.{every}
+use Rattle.lists.proofs.Tests.{failed, passed}
+use Rattle.memory.specs.Columns.{Replica}
+use Rattle.woot.specs.Form.{ordered}
+use Rattle.woot.specs.Table.{agrees}
+use Rattle.woot.specs.Memory.{code_point_column}
+use Rattle.memory.specs.Lent.{Slots, replica_as}
+use Rattle.memory.proofs.Fullness.{begins, Ends, ends, sized_slots}
+use Rattle.well_formed.proofs.Checks.{characters_as, ranged, out_of_range_lem, few, characters_ranged, untabled, tabled, disordered, decided}
+use Rattle.well_formed.proofs.check.Goals.{After-agrees_among, After-characters_ordered, Else-not-agrees_among, Else-not-in_ranges, Start}
+use Rattle.well_formed.proofs.check.Goals as goal
+
+-- the replica with the arrays
+abbrev made : Start → Replica
+made s =
+    let a = s.args in
+    replica_as a.site a.characters.now a.toggles.now a.n a.pending.now a.w a.heads.now a.links.now
+
+-- where the function starts
+abbrev start : Else-not-in_ranges → Start
+start c = c.before.before.before.before.before.before.before
+
+full : (s : Start) → Slots (made s).document
+full s = sized_slots s.args.n s.args.w s.requires
+
+kept : (c : Else-not-in_ranges) → ranged (made (start c)) ≡ true
+kept c = passed c.in_ranges.ensures c.if-not-in_ranges.false-raw
+
+-- the test of the table
+agree : (c : After-agrees_among) → let d = (made (start c)).document in
+    c.agrees_among.result ≡ agrees d.table (take d.length d.ids)
+agree c = c.agrees_among.ensures
+
+agreed : (c : Else-not-agrees_among) → let d = (made (start c)).document in agrees d.table (take d.length d.ids) ≡ true
+agreed c = passed (agree c) c.if-not-agrees_among.false-raw
+
+-- the test of the order
+order : (c : After-characters_ordered) → let r = made (start c) in
+    c.characters_ordered.result ≡ every (ordered (characters_as r)) (characters_as r)
+order c =
+    let s = start c in
+    let ranges = characters_ranged (made s) (full s) (kept c) in
+    c.characters_ordered.ensures (code_point_column s.args.characters.now) s.args.toggles.now ranges
+
+-- the columns that are lent
+rows : (c : Else-not-in_ranges) → Ends 1024 (start c).args.characters.now
+rows c = ends 1024 (start c).requires.characters
+
+pub returns-then-not-in_ranges : goal.returns-then-not-in_ranges
+returns-then-not-in_ranges c = sym (out_of_range_lem (made c) (failed c.in_ranges.ensures c.if-not-in_ranges.true-raw))
+
+pub agrees_among-requires : goal.agrees_among-requires
+agrees_among-requires c =
+    let s = start c in
+    let count = (few (made s) (full s) (kept (goal.at.agrees_among-requires c).Else-not-in_ranges)).characters in
+    record {
+      heads_len = (full s).heads;
+      n_in_bounds = omega (arith, count, (full s).links);
+      n_in_bounds_2 = omega (arith, count, (full s).ids);
+    }
+
+pub returns-then-not-agrees_among : goal.returns-then-not-agrees_among
+returns-then-not-agrees_among c =
+    let s = start c in
+    sym (untabled (made s) (full s) (kept (goal.at.returns-then-not-agrees_among c).Else-not-in_ranges) (failed (agree (goal.at.returns-then-not-agrees_among c).After-agrees_among) c.if-not-agrees_among.true-raw))
+
+pub characters_ordered-requires : goal.characters_ordered-requires
+characters_ordered-requires c =
+    let s = start c in
+    let ranges = kept (goal.at.characters_ordered-requires c).Else-not-in_ranges in
+    let count = (few (made s) (full s) ranges).characters in
+    let finds = tabled (made s) (full s) ranges (agreed (goal.at.characters_ordered-requires c).Else-not-agrees_among) in
+    record {
+      n_in_bounds = omega (arith, count, (full s).ids);
+      n_in_bounds_2 = omega (arith, count, (full s).previous);
+      n_in_bounds_3 = omega (arith, count, (full s).next);
+      tabled = finds;
+    }
+
+pub returns-then-not-characters_ordered : goal.returns-then-not-characters_ordered
+returns-then-not-characters_ordered c =
+    let s = start c in
+    sym (disordered (made s) (full s) (kept (goal.at.returns-then-not-characters_ordered c).Else-not-in_ranges) (agreed (goal.at.returns-then-not-characters_ordered c).Else-not-agrees_among) (failed (order (goal.at.returns-then-not-characters_ordered c).After-characters_ordered) c.if-not-characters_ordered.true-raw))
+
+pub queue_formed-requires : goal.queue_formed-requires
+queue_formed-requires c =
+    let s = start c in
+    let ranges = kept (goal.at.queue_formed-requires c).Else-not-in_ranges in
+    let counts = few (made s) (full s) ranges in
+    let finds = tabled (made s) (full s) ranges (agreed (goal.at.queue_formed-requires c).Else-not-agrees_among) in
+    record {
+      n_in_bounds = omega (arith, counts.characters, (full s).ids);
+      pending_len = s.pre.pending;
+      w_le_pending_slots = counts.pending;
+      tabled = finds;
+    }
+
+pub returns : goal.returns
+returns c =
+    let s = start c in
+    let ordered-all = passed (order (goal.at.returns c).After-characters_ordered) c.if-not-characters_ordered.false-raw in
+    decided (made s) (full s) (kept (goal.at.returns c).Else-not-in_ranges) (agreed (goal.at.returns c).Else-not-agrees_among) ordered-all c.queue_formed.ensures
+
+pub slice_bounds-ids-count : goal.slice_bounds-ids-count
+slice_bounds-ids-count c = begins 1024 0
+
+pub slice_bounds-ids-start : goal.slice_bounds-ids-start
+slice_bounds-ids-start c = begins 1024 0
+
+pub slice_bounds-ids-end : goal.slice_bounds-ids-end
+slice_bounds-ids-end c = (rows (goal.at.slice_bounds-ids-end c).Else-not-in_ranges).first
+
+pub slice_bounds-previous-count : goal.slice_bounds-previous-count
+slice_bounds-previous-count c = begins 1024 1
+
+pub slice_bounds-previous-start : goal.slice_bounds-previous-start
+slice_bounds-previous-start c = begins 1024 1
+
+pub slice_bounds-previous-end : goal.slice_bounds-previous-end
+slice_bounds-previous-end c = (rows (goal.at.slice_bounds-previous-end c).Else-not-in_ranges).second
+
+pub slice_bounds-next-count : goal.slice_bounds-next-count
+slice_bounds-next-count c = begins 1024 2
+
+pub slice_bounds-next-start : goal.slice_bounds-next-start
+slice_bounds-next-start c = begins 1024 2
+
+pub slice_bounds-next-end : goal.slice_bounds-next-end
+slice_bounds-next-end c = (rows (goal.at.slice_bounds-next-end c).Else-not-in_ranges).third

@@ -1,0 +1,26 @@
+-- `waiting::fresh_at` meets its contract.
+use borrow.Author.Rules.{rules}
+use native.Mathlib.Omega.{arith}
+use mathlib.Core.Path.{ap}
+use mathlib.Core.Bool.{not}
+use lib.ListN.{length-take}
+use borrow.Author.Tests.{eq-eqb, ne_eqb}
+use Rattle.well_formed.specs.PendingForm.{fresh_at}
+use Rattle.well_formed.proofs.waiting.fresh_at.Goals as goal
+
+pub returns-then-own-j-ne0 : goal.returns-then-own-j-ne0
+unfolding fresh_at
+returns-then-own-j-ne0 c = rw (ne_eqb _ 0 c.if-own-j-ne0.true)
+
+pub slice_bounds-has_toggle-end : goal.slice_bounds-has_toggle-end
+slice_bounds-has_toggle-end c = simp length-take (omega arith)
+
+pub slice_bounds-has_toggle-end-2 : goal.slice_bounds-has_toggle-end-2
+slice_bounds-has_toggle-end-2 c = simp length-take (omega arith)
+
+pub slice_bounds-has_toggle-end-3 : goal.slice_bounds-has_toggle-end-3
+slice_bounds-has_toggle-end-3 c = simp length-take (omega arith)
+
+pub returns : goal.returns
+unfolding fresh_at
+returns c = rw (eq-eqb _ 0 c.if-own-j-ne0.false) (ap not c.has_toggle.ensures)

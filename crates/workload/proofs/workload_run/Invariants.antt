@@ -1,0 +1,19 @@
+-- `workload::workload_run` meets its contract, by the invariant of `proofs/Tallies.antt`.
+use mathlib.Core.Path.{◌≡◌}
+use Prim.Native.Nat.{◌+◌, ◌-◌, ◌≤◌}
+use native.Mathlib.Omega.{arith}
+use borrow.Author.Rules.{rules}
+use Rattle.workload.specs.Workload.{operation_of, tallied, none_tallied}
+use Rattle.workload.proofs.Tallies.{one_if_done-le, Received, received_none, received_more, all-received}
+use Rattle.workload.proofs.workload_run.Given as goal
+
+abbrev pub invariant-loop-k : goal.invariant-loop-k
+invariant-loop-k l =    (l.k ≤ l.n + l.n)
+    × Received
+    (operation_of l.n)
+    (record { l.replica = l.initial.replica; l.count = l.initial.count })
+    (record { l.replica = l.replica; l.count = l.count })
+    l.k
+
+abbrev pub decreases-loop-k : goal.decreases-loop-k
+decreases-loop-k l = l.n + l.n - l.k
