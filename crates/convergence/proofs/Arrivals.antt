@@ -56,6 +56,7 @@ turning n (c ∷ cs) {o} m = go (eqb c.toggles 0) refl m (λ k. turning n cs k)
 pub turned_in : (n : ℕ) (cs : List Character) {c : Character} → Memᴰ c cs
     → (c.toggles ≡ 0) ⊎ Memᴰ (toggle (turn n c)) (turnings n cs)
 unfolding turnings
+turned_in n [] {c = c} m = elim m [ ]
 turned_in n (d ∷ cs) {c} m = go (eqb d.toggles 0) refl (Memᴰ.cases_cons m) (λ k. turned_in n cs k)
   where
     go : (b : Bool) → eqb d.toggles 0 ≡ b → (c ≡ d) ⊎ Memᴰ c cs

@@ -411,6 +411,8 @@ build-bounded n heap = bounded (verdict n heap)
   where
     bounded : {b : BuildOutcome} → Verdict n heap b
         → ((reply b.answer).discarded ≤ 2048) × (length b.state.characters ≤ 1024)
+    bounded (turned (Done _ _) t) = elim t [ ]
+    bounded (turned Rattle.answers.specs.declared.Answer.TheVariants.Deferred t) = elim t [ ]
     bounded (turned Duplicate t) = (omega arith, omega arith)
     bounded (turned (Refused r) t) = (omega arith, omega arith)
     bounded (accepted a) = (

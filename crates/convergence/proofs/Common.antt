@@ -28,6 +28,7 @@ use Rattle.convergence.proofs.Rising.{Rising, none, next, rising_unique, rising_
 -- ---- characters rise by their places
 
 found-located : (k : ℕ) {y : Character} (xs : List Character) → Memᴰ y xs → (l : Located) × Memᴰ l (located k xs) × (l.at ≡ y)
+found-located k {y = y} [] x' = elim x' [ ]
 found-located k (x ∷ xs) (Memᴰ.head e) = (record { place = k; at = x }, Memᴰ.head refl, sym e)
 found-located k (x ∷ xs) (Memᴰ.tail m) = let r = found-located (suc k) xs m in (r.0, Memᴰ.tail r.1, r.2)
 

@@ -81,6 +81,8 @@ record Changed (s : State) (w : Outcome Answer) (g : ℕ) : Type 0 where
 
 step_changed : (s : State) {r : Outcome Answer} → Step s r → changes r.answer ≡ true → Formed s
 unfolding unchanged carry_out defer changes
+step_changed s (turned (Rattle.answers.specs.declared.Answer.TheVariants.Done _ _) w) e = elim w [ ]
+step_changed s (turned Deferred w) e = elim w [ ]
 step_changed s (turned (Refused q) w) e = absurd (false≢true e)
 step_changed s (turned Duplicate w) e = absurd (false≢true e)
 step_changed s (adds i a) e = a.formed
@@ -96,6 +98,8 @@ step-unchanged s (defers o a) e = absurd (true≢false e)
 
 pub turned-still : (a : Answer) → Turned a → changes a ≡ false
 unfolding changes
+turned-still (Rattle.answers.specs.declared.Answer.TheVariants.Done _ _) w = elim w [ ]
+turned-still Deferred w = elim w [ ]
 turned-still Duplicate w = refl
 turned-still (Refused r) w = refl
 

@@ -31,11 +31,13 @@ use borrow.Author.Tests.{not-false}
 -- ---- the inserts among operations
 
 pub insert-listed : (os : List Operation) {i : Insert} → Memᴰ i (inserts os) → Memᴰ (insert i) os
+insert-listed [] {i = i} m = elim m [ ]
 insert-listed (insert j ∷ os) (Memᴰ.head e) = Memᴰ.head (ap insert e)
 insert-listed (insert j ∷ os) (Memᴰ.tail m) = Memᴰ.tail (insert-listed os m)
 insert-listed (toggle t ∷ os) m = Memᴰ.tail (insert-listed os m)
 
 pub listed-insert : (os : List Operation) {i : Insert} → Memᴰ (insert i) os → Memᴰ i (inserts os)
+listed-insert [] {i = i} x' = elim x' [ ]
 listed-insert (insert j ∷ os) (Memᴰ.head e) = Memᴰ.head (insert-eq e)
   where
     insert-eq : {i j : Insert} → insert i ≡ insert j → i ≡ j
@@ -48,6 +50,7 @@ listed-insert (toggle t ∷ os) (Memᴰ.tail m) = listed-insert os m
 
 pub once-among : (os : List Operation) {o : Operation} → Memᴰ o (once os) → Memᴰ o os
 unfolding once
+once-among [] {o = o} m = elim m [ ]
 once-among (p ∷ os) {o} m = go (any (same_operation p) os) refl m (λ n. once-among os n)
   where
     go : (b : Bool) → any (same_operation p) os ≡ b → Memᴰ o (cond b (once os) (p ∷ once os))
@@ -57,6 +60,7 @@ once-among (p ∷ os) {o} m = go (any (same_operation p) os) refl m (λ n. once-
 
 pub among-once : (os : List Operation) {o : Operation} → Memᴰ o os → Memᴰ o (once os)
 unfolding once
+among-once [] {o = o} m = elim m [ ]
 among-once (p ∷ os) {o} m = go (any (same_operation p) os) refl (Memᴰ.cases_cons m) (λ n. among-once os n)
   where
     go : (b : Bool) → any (same_operation p) os ≡ b → (o ≡ p) ⊎ Memᴰ o os
@@ -70,6 +74,7 @@ among-once (p ∷ os) {o} m = go (any (same_operation p) os) refl (Memᴰ.cases_
 
 insert-of : (os : List Operation) {x : Identifier} → Memᴰ x (pending_ids os)
     → (i : Insert) × Memᴰ (insert i) os × (x ≡ i.id)
+insert-of [] m = elim m [ ]
 insert-of (insert i ∷ os) (Memᴰ.head e) = (i, Memᴰ.head refl, e)
 insert-of (insert i ∷ os) (Memᴰ.tail m) = let w = insert-of os m in (w.0, Memᴰ.tail w.1, w.2)
 insert-of (toggle t ∷ os) m = let w = insert-of os m in (w.0, Memᴰ.tail w.1, w.2)

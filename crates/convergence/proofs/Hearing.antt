@@ -92,6 +92,10 @@ Follows s c r = r.state.site ≡ heard_all s.site (inserts (put_off c r.answer +
 
 -- nothing is put off by a call that is turned away, nor by one that is done
 off-turned : (c : Call) (a : Answer) → Turned a → put_off c a ≡ []
+off-turned (receiving o) (Done _ _) w = elim w [ ]
+off-turned (receiving o) Rattle.answers.specs.declared.Answer.TheVariants.Deferred w = elim w [ ]
+off-turned (receiving_at o g) (Done _ _) w = elim w [ ]
+off-turned (receiving_at o g) Rattle.answers.specs.declared.Answer.TheVariants.Deferred w = elim w [ ]
 off-turned (inserting g n) a w = refl
 off-turned (deleting p) a w = refl
 off-turned (restoring x) a w = refl

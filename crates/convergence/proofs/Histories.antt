@@ -106,6 +106,8 @@ toggles-are_largest b cs c m = (faithful b cs).largest c m
 
 balance_step : (s : State) {r : Outcome Answer} → Step s r → is_deferred r.answer + length s.pending ≡ length r.state.pending + length r.drained + length r.discarded
 unfolding unchanged carry_out defer with_characters with_pending
+balance_step s (turned (Rattle.answers.specs.declared.Answer.TheVariants.Done _ _) w) = elim w [ ]
+balance_step s (turned Rattle.answers.specs.declared.Answer.TheVariants.Deferred w) = elim w [ ]
 balance_step s (turned Duplicate w) = omega arith
 balance_step s (turned (Refused r) w) = omega arith
 balance_step s (adds i a) = omega (arith, drained_balance (after-insert s i))

@@ -72,6 +72,7 @@ part-ends cs = keeps (part-append (end ∷ []) (part_visible cs))
 pub member_range : (cs : List Character) → ((c : Character) → Memᴰ c cs → character_in_range c ≡ true) → {x : Identifier} → Memᴰ x (identifiers cs) → character_id x ≡ true
 unfolding origin
 member_range (c ∷ cs) f (Memᴰ.head e) = subst (λ (y : Identifier). character_id y ≡ true) (sym e) (in-range (origin c) (origin_ranged c (f c (Memᴰ.head refl)))).id
+member_range [] f x4 = elim x4 [ ]
 member_range (c ∷ cs) f (Memᴰ.tail m) = member_range cs (λ d n. f d (Memᴰ.tail n)) m
 
 -- identifiers of characters in range are other than the marks

@@ -95,6 +95,8 @@ nothing_ready s c h o m = any_none (executable (outcome s c).state.characters) (
 
 step_counts : (s : State) {r : Outcome Answer} → Step s r → ((reply r.answer).integrated ≡ length (all_integrated r)) × ((reply r.answer).discarded ≡ length r.discarded)
 unfolding unchanged carry_out defer all_integrated reply
+step_counts s (turned (Rattle.answers.specs.declared.Answer.TheVariants.Done _ _) w) = elim w [ ]
+step_counts s (turned Rattle.answers.specs.declared.Answer.TheVariants.Deferred w) = elim w [ ]
 step_counts s (turned Duplicate w) = (refl, refl)
 step_counts s (turned (Refused r) w) = (refl, refl)
 step_counts s (adds i a) = (refl, refl)

@@ -46,6 +46,7 @@ none-turned n x (c ∷ cs) h =
 one-turned : (n : ℕ) (cs : List Character) → distinct same (identifiers cs) ≡ true → {c : Character}
     → Memᴰ c cs → c.toggles ≡ largest_in c.id (turnings n cs)
 unfolding turnings
+one-turned n [] apart {c = c} m = elim m [ ]
 one-turned n (d ∷ cs) apart {c} m =
     go (eqb d.toggles 0) refl m
     (λ k. one-turned n cs

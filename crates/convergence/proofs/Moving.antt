@@ -50,6 +50,7 @@ later c cs m e = ⊎_elim (λ f. clash (eq-same f) e) (λ n. n) (Memᴰ.cases_co
 -- the part through x is a part of what stands through x, which has at most all the new ones more
 module _ {x : Identifier} where
   up-part : {cs ds : List Character} → Part cs ds → distinct same (identifiers ds) ≡ true → Memᴰ x (identifiers cs) → Part (up_to x cs) (up_to x ds)
+  up-part none d m = elim m [ ]
   up-part (skip {z = z} {zs = ds} p) d m = rw (other-identifier z ds d (part-identifiers p m)) (skip (up-part p (rest-distinct z ds d) m))
   up-part (keeps {z = z} {xs = cs} {zs = ds} p) d m = go (same x z.id) refl (up-part p (rest-distinct z ds d))
     where
@@ -58,6 +59,7 @@ module _ {x : Identifier} where
       go false e again = keeps (again (later z cs m e))
 
   up-length : {cs ds : List Character} → Part cs ds → distinct same (identifiers ds) ≡ true → Memᴰ x (identifiers cs) → length (up_to x ds) + length cs ≤ length (up_to x cs) + length ds
+  up-length none d m = elim m [ ]
   up-length (skip {z = z} {zs = ds} p) d m = rw (other-identifier z ds d (part-identifiers p m)) (omega (arith, up-length p (rest-distinct z ds d) m))
   up-length (keeps {z = z} {xs = cs} {zs = ds} p) d m = go (same x z.id) refl (up-length p (rest-distinct z ds d))
     where

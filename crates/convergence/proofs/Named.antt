@@ -25,6 +25,7 @@ module _ {A : Type 0} (f : A → Identifier) (p : A → Bool) (y : Identifier) w
 
   -- where one has the name, the test is that one's
   pub one-named : {x : A} (xs : List A) → distinct same (map f xs) ≡ true → Memᴰ x xs → y ≡ f x → any (λ z. same y (f z) && p z) xs ≡ p x
+  one-named {x = x} [] d x4 i = elim x4 [ ]
   one-named {x} (z ∷ zs) d (Memᴰ.head e) i =
       let named : y ≡ f z = i ∙ ap f e in
       let rest : any (λ w. same y (f w)) zs ≡ false = rw named (others z zs d) in

@@ -18,6 +18,7 @@ pub data Part {A : Type 0} : List A → List A → Type 0 where
 
 module _ {A : Type 0} where
   pub part_member : {x : A} {xs zs : List A} → Part xs zs → Memᴰ x xs → Memᴰ x zs
+  part_member none m = elim m [ ]
   part_member (skip p) m = Memᴰ.tail (part_member p m)
   part_member (keeps p) (Memᴰ.head e) = Memᴰ.head e
   part_member (keeps p) (Memᴰ.tail m) = Memᴰ.tail (part_member p m)
@@ -39,8 +40,8 @@ module _ {A : Type 0} where
   -- one element more
   pub part_extract : {y : A} {xs ys zs : List A} → Part xs ys → Extract y ys zs → Part xs zs
   part_extract p front = skip p
-  part_extract (skip p) (past e) = skip (part_extract p e)
-  part_extract (keeps p) (past e) = keeps (part_extract p e)
+  part_extract {y} {xs} (skip p) (past e) = skip (part_extract {xs = xs} p e)
+  part_extract {y} (keeps {z = z} {xs = xs} p) (past e) = keeps (part_extract {xs = xs} p e)
 
   -- a change of elements that are not among the part
   pub part_change : (f : A → A) {xs zs : List A} → ((x : A) → Memᴰ x xs → f x ≡ x) → Part xs zs → Part xs (map f zs)

@@ -83,6 +83,7 @@ kept_stays kept (j ∷ is) m =
 
 kept-all : (kept is : List Insert) {i : Insert} → Memᴰ i is → KeptFor (kept_once kept is) i
 unfolding kept_once
+kept-all kept [] {i = i} m = elim m [ ]
 kept-all kept (j ∷ is) {i} m =
     ⊎_elim
     (λ e.
@@ -110,12 +111,14 @@ ahead-inserts (i ∷ is) ts = ap (λ js. i ∷ js) (ahead-inserts is ts)
 
 -- a toggle among operations is one of their toggles
 toggle_listed : (os : List Operation) {t : Toggle} → Memᴰ t (toggles_among os) → Memᴰ (toggle t) os
+toggle_listed [] {t = t} m = elim m [ ]
 toggle_listed (insert i ∷ os) m = mathlib.Core.List.Memᴰ.tail (toggle_listed os m)
 toggle_listed (toggle u ∷ os) (mathlib.Core.List.Memᴰ.head e) = mathlib.Core.List.Memᴰ.head (ap toggle e)
 toggle_listed (toggle u ∷ os) (mathlib.Core.List.Memᴰ.tail m) = mathlib.Core.List.Memᴰ.tail (toggle_listed os m)
 
 listed_toggle : (os : List Operation) {t : Toggle} → Memᴰ (toggle t) os → Memᴰ t (toggles_among os)
 listed_toggle (insert i ∷ os) (mathlib.Core.List.Memᴰ.head e) = absurd (let z : ◌≡◌ {A = ℕ} 0 1 = cc in omega arith)
+listed_toggle [] {t = t} x' = elim x' [ ]
 listed_toggle (insert i ∷ os) (mathlib.Core.List.Memᴰ.tail m) = listed_toggle os m
 listed_toggle (toggle u ∷ os) (mathlib.Core.List.Memᴰ.head e) = mathlib.Core.List.Memᴰ.head (toggle_eq e)
   where

@@ -36,9 +36,13 @@ module _ {A : Type 0} where
       go true e rest = here e (some-eq (rw e at h))
       go false e rest = later e (rest (rw e at h))
 
+  reported_in : (a : A) (cs : List (Check A)) → Reported a cs → first cs ≡ some a
+  reported_in a cs (here {c = c} {cs = ds} e f) = rw (e, f)
+  reported_in a cs (later {c = c} {cs = ds} e r) = rw e (reported_in a ds r)
+
   pub reported_first : (cs : List (Check A)) (a : A) → Reported a cs → first cs ≡ some a
-  reported_first cs a (here {c = c} {cs = ds} e f) = rw (e, f)
-  reported_first cs a (later {c = c} {cs = ds} e r) = rw e (reported_first ds a r)
+  reported_first cs a r = reported_in a cs r
+
 
   -- an answer that what is done never gives is the first of the checks: `view` reads off the answer that is turned
   pub decided_exactly : {B : Type 0} (turned : A → B) (view : B → A) → ((x : A) → view (turned x) ≡ x) → (cs : List (Check A)) (b : B) (a : A) → (view b ≡ a → ⊥)

@@ -121,6 +121,8 @@ never-refused r e = let z : ◌≡◌ {A = ℕ} 0 1 = cc in omega arith
 pub turned_undone : (a : Answer) → Turned a → (reply a).word ≡ done → ⊥
 unfolding reply
 turned_undone Duplicate t e = let z : ◌≡◌ {A = ℕ} 0 1 = cc in omega arith
+turned_undone (Done _ _) t e = elim t [ ]
+turned_undone Deferred t e = elim t [ ]
 turned_undone (Refused r) t e = let z : ◌≡◌ {A = ℕ} 0 1 = cc in omega arith
 
 -- an answer with the number of a refusal is that refusal

@@ -43,6 +43,7 @@ keep_apart p cs d = part-distinct same (part-map (λ (c : Character). c.id) (kee
 
 pub distinct-one : {A : Type 0} (f : A → Identifier) (xs : List A) → distinct same (map f xs) ≡ true → {x y : A}
     → Memᴰ x xs → Memᴰ y xs → f x ≡ f y → x ≡ y
+distinct-one {A = A} f [] d {x = x} {y = y} m n e = elim m [ ]
 distinct-one f (z ∷ zs) d {x} {y} m n e =
     go m n (λ a b. distinct-one f zs (and_right (not (any (same (f z)) (map f zs))) (distinct same (map f zs)) d) a b e)
   where
@@ -216,6 +217,7 @@ pub record Sequenced (left os : List Character) : Type 0 where
 pub without-length : (c : Character) (left : List Character) → distinct same (identifiers left) ≡ true
     → Memᴰ c left → suc (length (without c left)) ≡ length left
 unfolding without
+without-length c [] a m = elim m [ ]
 without-length c (d ∷ ds) a m = go (Memᴰ.cases_cons m) (without-length c ds rest)
   where
     rest : distinct same (identifiers ds) ≡ true

@@ -49,6 +49,7 @@ total-more (n ∷ ns) o ps = omega (arith, one_more n o ps, total-more ns o ps)
 
 total-own : (ns : List ℕ) (o : Operation) (ps : List Operation) → Memᴰ (sender o) ns → suc (total ns ps) ≤ total ns (o ∷ ps)
 unfolding total
+total-own [] o ps x' = elim x' [ ]
 total-own (n ∷ ns) o ps (Memᴰ.head e) = omega (arith, own-more o n ps e, total-more ns o ps)
 total-own (n ∷ ns) o ps (Memᴰ.tail m) = omega (arith, one_more n o ps, total-own ns o ps m)
 

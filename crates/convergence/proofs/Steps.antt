@@ -153,10 +153,12 @@ module _ {A : Type 0} where
 -- ---- known operations
 
 member_map : {A B : Type 0} (f : A → B) (xs : List A) {y : B} → Memᴰ y (map f xs) → (x : A) × Memᴰ x xs × (y ≡ f x)
+member_map {A = A} {B = B} f [] {y = y} x' = elim x' [ ]
 member_map f (x ∷ xs) (Memᴰ.head e) = (x, Memᴰ.head refl, e)
 member_map f (x ∷ xs) (Memᴰ.tail m) = let w = member_map f xs m in (w.0, Memᴰ.tail w.1, w.2)
 
 inserts_member : (ps : List Operation) {i : Insert} → Memᴰ i (inserts ps) → Memᴰ (insert i) ps
+inserts_member [] {i = i} m = elim m [ ]
 inserts_member (insert j ∷ ps) (Memᴰ.head e) = Memᴰ.head (ap insert e)
 inserts_member (insert j ∷ ps) (Memᴰ.tail m) = Memᴰ.tail (inserts_member ps m)
 inserts_member (toggle d ∷ ps) m = Memᴰ.tail (inserts_member ps m)
@@ -252,6 +254,7 @@ Refusing (sentRefused r) = Unit
 
 refusing-turned : (a : Sent) → Refusing a → Turned (answer_of a)
 unfolding answer_of
+refusing-turned (sentDone _ _ _) w = elim w [ ]
 refusing-turned (sentRefused r) w = tt
 
 pub insert-turned : (formed : Bool) (s : State) (g n : ℕ) → All Refusing (insert_checks formed s g n)

@@ -33,6 +33,7 @@ use Rattle.convergence.proofs.Places.{held-id}
 pub toggles-found : (cs : List Character) → distinct same (identifiers cs) ≡ true → {c : Character} → Memᴰ c cs → toggles_of cs c.id ≡ c.toggles
 unfolding toggles_of
 toggles-found (d ∷ cs) apart {c} (Memᴰ.head e) = subst (λ (b : Character). toggles_of (d ∷ cs) b.id ≡ b.toggles) (sym e) (rw (same_refl d.id))
+toggles-found [] apart {c = c} x'' = elim x'' [ ]
 toggles-found (d ∷ cs) apart {c} (Memᴰ.tail m) =
     let other : same c.id d.id ≡ false = same_sym c.id d.id ∙ any_none (same d.id) (not-true (any (same d.id) (identifiers cs)) (and_left_lem (not (any (same d.id) (identifiers cs))) (distinct same (identifiers cs)) apart)) (Memᴰ.map (λ b. b.id) m) in
     let rest = toggles-found cs (and_right (not (any (same d.id) (identifiers cs))) (distinct same (identifiers cs)) apart) m in

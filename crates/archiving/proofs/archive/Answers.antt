@@ -33,9 +33,9 @@ returns-then-not-has_form c =
     let out = c.args.out.now in
     record {
       value = (archive_form b out (saved_laid b out done) (saved_ranges b out done)
-    (failed (c.has_form.ensures.value _ (saved-held b out done (z.held told)) (saved_ranged b out done)) c.if-not-has_form.true-raw)).0;
+          (failed (c.has_form.ensures.value _ (saved-held b out done (z.held told)) (saved_ranged b out done)) c.if-not-has_form.true-raw)).0;
       out_after = (archive_form b out (saved_laid b out done) (saved_ranges b out done)
-    (failed (c.has_form.ensures.value _ (saved-held b out done (z.held told)) (saved_ranged b out done)) c.if-not-has_form.true-raw)).1;
+          (failed (c.has_form.ensures.value _ (saved-held b out done (z.held told)) (saved_ranged b out done)) c.if-not-has_form.true-raw)).1;
     }
 
 pub put_archived-requires : goal.put_archived-requires

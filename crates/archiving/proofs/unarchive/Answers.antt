@@ -67,7 +67,7 @@ returns c =
     let order = a.new.1.1.1.0 in
     record {
       value = (brought_so b out done held order e (sym (a.ensures.value _ placed) ∙ so)
-    (c.put_back.ensures _ (archive_held b out done held) (led_ranged b out done held order e))).0;
+          (c.put_back.ensures _ (archive_held b out done held) (led_ranged b out done held order e))).0;
       out_after = (brought_so b out done held order e (sym (a.ensures.value _ placed) ∙ so)
-    (c.put_back.ensures _ (archive_held b out done held) (led_ranged b out done held order e))).1;
+          (c.put_back.ensures _ (archive_held b out done held) (led_ranged b out done held order e))).1;
     }

@@ -19,7 +19,7 @@ use borrow.Author.Rules.{rules}
 use Rattle.building.proofs.count_absent.Given as goal
 
 abbrev pub invariant-loop-j : goal.invariant-loop-j
-invariant-loop-j l =    (l.absent ≤ l.j) × (l.j ≤ l.m)
+invariant-loop-j l = (l.absent ≤ l.j) × (l.j ≤ l.m)
     × ((cs : List Character) (ts : List Toggle) → take l.n (key_column l.characters) ≡ keys cs → AllSmall cs → Among l.changes l.m ts
     → l.absent + absentees cs (drop l.j ts) ≡ absentees cs ts)
 

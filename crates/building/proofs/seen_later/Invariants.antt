@@ -14,7 +14,7 @@ use borrow.Author.Rules.{rules}
 use Rattle.building.proofs.seen_later.Given as goal
 
 abbrev pub invariant-loop-i : goal.invariant-loop-i
-invariant-loop-i l =    (l.j < l.i) × (l.i ≤ l.m)
+invariant-loop-i l = (l.j < l.i) × (l.i ≤ l.m)
     × ((ts : List Toggle) (t : Toggle) → Among l.changes l.m ts
     → any (same_toggle (get_or ts l.j t)) (drop (l.j + 1) ts) ≡ any (same_toggle (get_or ts l.j t)) (drop l.i ts))
 

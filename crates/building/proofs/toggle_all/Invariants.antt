@@ -10,7 +10,7 @@ use Rattle.building.proofs.Toggling.{read_ranged}
 use Rattle.building.proofs.toggle_all.Given as goal
 
 abbrev pub invariant-loop-j : goal.invariant-loop-j
-invariant-loop-j l =    (g : Toggles (laid_as l.characters l.initial.toggles l.n l.heads l.links) l.changes l.m) → Changing (laid_as l.characters l.toggles l.n l.heads l.links) l.j g.characters g.toggles
+invariant-loop-j l = (g : Toggles (laid_as l.characters l.initial.toggles l.n l.heads l.links) l.changes l.m) → Changing (laid_as l.characters l.toggles l.n l.heads l.links) l.j g.characters g.toggles
 
 abbrev pub decreases-loop-j : goal.decreases-loop-j
 decreases-loop-j l = l.m - l.j

@@ -47,9 +47,9 @@ returns-then-not-check c =
     let r = lent c in
     record {
       value = (answer_unformed r (start c).args.list.now _ (read_so (goal.at.returns-then-not-check c).After-check)
-    (failed (c.check.ensures ∙ sym (form_view r)) c.if-not-check.true-raw)).0;
+          (failed (c.check.ensures ∙ sym (form_view r)) c.if-not-check.true-raw)).0;
       out_after = (answer_unformed r (start c).args.list.now _ (read_so (goal.at.returns-then-not-check c).After-check)
-    (failed (c.check.ensures ∙ sym (form_view r)) c.if-not-check.true-raw)).1;
+          (failed (c.check.ensures ∙ sym (form_view r)) c.if-not-check.true-raw)).1;
     }
 
 pub put_answer-requires : goal.put_answer-requires
@@ -75,9 +75,9 @@ pub returns-in-Refused : goal.returns-in-Refused
 returns-in-Refused c =
     record {
       value = (answer-refused (lentFrom c) c.args.list.now c.args.out.now
-    (sym c.read-read.ensures.value ∙ c.in-Refused.is)).0;
+          (sym c.read-read.ensures.value ∙ c.in-Refused.is)).0;
       out_after = (answer-refused (lentFrom c) c.args.list.now c.args.out.now
-    (sym c.read-read.ensures.value ∙ c.in-Refused.is)).1;
+          (sym c.read-read.ensures.value ∙ c.in-Refused.is)).1;
     }
 
 pub returns-else-not-check : goal.returns-else-not-check

@@ -10,7 +10,7 @@ use lib.Seq.{take-suc-set, take_all}
 use Rattle.chains.proofs.clear.Given as goal
 
 abbrev pub invariant-loop-i : goal.invariant-loop-i
-invariant-loop-i l =    (l.i ≤ length l.initial.slots) × (length l.slots ≡ length l.initial.slots) × (take l.i l.slots ≡ replicate l.i 0)
+invariant-loop-i l = (l.i ≤ length l.initial.slots) × (length l.slots ≡ length l.initial.slots) × (take l.i l.slots ≡ replicate l.i 0)
 
 abbrev pub decreases-loop-i : goal.decreases-loop-i
 decreases-loop-i l = length l.initial.slots - l.i

@@ -14,7 +14,6 @@ use Rattle.chains.proofs.Tables.{entered_linked, entered_headed}
 use Rattle.chains.proofs.enter.Goals as goal
 
 module _ (t : Table) (i k p c : ℕ) (e : p ≡ get_or t.heads c 0) (f : c ≡ chain_of k) where
-
   head : p ≡ get_or t.heads (chain_of k) 0
   head = e ∙ ap (λ (n : ℕ). get_or t.heads n 0) f
 
@@ -29,10 +28,10 @@ module _ (t : Table) (i k p c : ℕ) (e : p ≡ get_or t.heads c 0) (f : c ≡ c
 pub free_slot-free-requires : goal.free_slot-free-requires
 free_slot-free-requires c =
     record {
-      n_in_bounds = (omega (arith, leb-true)).0;
-      n_bound = (omega (arith, leb-true)).1.0;
-      head_nonzero = (omega (arith, leb-true)).1.1.0;
-      head_le_n = (omega (arith, leb-true)).1.1.1;
+      n_in_bounds = omega (arith, leb-true);
+      n_bound = omega (arith, leb-true);
+      head_nonzero = omega (arith, leb-true);
+      head_le_n = omega (arith, leb-true);
     }
 
 pub returns-then-head-i : goal.returns-then-head-i

@@ -11,7 +11,7 @@ use Rattle.chains.proofs.Tables.{enter, Sized, table_sized}
 use Rattle.chains.proofs.enter_all.Given as goal
 
 abbrev pub invariant-loop-i : goal.invariant-loop-i
-invariant-loop-i l =    (l.i ≤ l.n) × (◌≡◌ {A = Table} (record { l.heads = l.heads; l.links = l.links }) (table_of (take l.i l.keys)))
+invariant-loop-i l = (l.i ≤ l.n) × (◌≡◌ {A = Table} (record { heads = l.heads; links = l.links }) (table_of (take l.i l.keys)))
 
 abbrev pub decreases-loop-i : goal.decreases-loop-i
 decreases-loop-i l = l.n - l.i

@@ -21,8 +21,8 @@ loop-at-init c =
 pub slot-free-requires-in-loop-at : goal.slot-free-requires-in-loop-at
 slot-free-requires-in-loop-at c =
     record {
-      at_nonzero = (omega (arith, leb-true)).0;
-      at_bound = (omega (arith, leb-true)).1;
+      at_nonzero = omega (arith, leb-true);
+      at_bound = omega (arith, leb-true);
     }
 
 pub offset_bounds-links-free-in-loop-at : goal.offset_bounds-links-free-in-loop-at

@@ -12,7 +12,7 @@ use Rattle.chains.proofs.Walks.{leads_nowhere, walk_ends, walk_here, walk-on}
 use Rattle.chains.proofs.lookup.Given as goal
 
 abbrev pub invariant-loop-at : goal.invariant-loop-at
-invariant-loop-at l =    (l.at ≤ length l.keys) × (l.next < 65536) × (lookup (record { l.heads = l.heads; l.links = l.links }) l.keys l.key ≡ walk (length l.keys - l.at) l.links l.keys l.key l.rest l.at l.next)
+invariant-loop-at l = (l.at ≤ length l.keys) × (l.next < 65536) × (lookup (record { heads = l.heads; links = l.links }) l.keys l.key ≡ walk (length l.keys - l.at) l.links l.keys l.key l.rest l.at l.next)
 
 abbrev pub decreases-loop-at : goal.decreases-loop-at
 decreases-loop-at l = length l.keys - l.at

@@ -50,9 +50,9 @@ returns-then-not-is_representable c =
     let x = examined (viewed r) (full-view r.document full) (passed c.check.ensures c.if-not-check.false-raw) in
     record {
       value = (not-representable _ _ _ _ _ c.read_as-found.ensures done (passed (c.check.ensures ∙ sym (form_view r)) c.if-not-check.false-raw)
-    (failed (told-representable r x _ c.is_representable.ensures) c.if-not-is_representable.true-raw)).0;
+          (failed (told-representable r x _ c.is_representable.ensures) c.if-not-is_representable.true-raw)).0;
       out_after = (not-representable _ _ _ _ _ c.read_as-found.ensures done (passed (c.check.ensures ∙ sym (form_view r)) c.if-not-check.false-raw)
-    (failed (told-representable r x _ c.is_representable.ensures) c.if-not-is_representable.true-raw)).1;
+          (failed (told-representable r x _ c.is_representable.ensures) c.if-not-is_representable.true-raw)).1;
     }
 
 pub put_replica-requires : goal.put_replica-requires

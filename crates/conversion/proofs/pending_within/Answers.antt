@@ -25,14 +25,14 @@ pub returns-then-not-operation_within : goal.returns-then-not-operation_within
 returns-then-not-operation_within c =
     let a = c.args in
     let l = c.loop-j in
-    let here = sym c.operation_within.ensures ∙ not-true _ c.if-not-operation_within.true-raw in
+    let here = sym c.operation_within.ensures ∙ c.if-not-operation_within.true in
     sym (throughout-fails (within a.own.now a.values.now) a.w l.j (omega arith) here)
 
 pub loop-j-preserved : goal.loop-j-preserved
 loop-j-preserved c =
     let a = c.args in
     let l = c.loop-j in
-    let here = sym c.operation_within.ensures ∙ not-false _ c.if-not-operation_within.false-raw in
+    let here = sym c.operation_within.ensures ∙ c.if-not-operation_within.false in
     (omega arith, throughout-more (within a.own.now a.values.now) l.j l.invariant.1 here)
 
 pub returns : goal.returns

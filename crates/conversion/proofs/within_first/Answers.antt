@@ -12,7 +12,7 @@ returns-then-not-characters_within c s t o v ranged =
     let a = c.args in
     let p = c.requires in
     let said = characters_said s.characters a.toggles.now a.n p.n_in_bounds t in
-    let e = said ∙ sym c.characters_within.ensures ∙ not-true _ c.if-not-characters_within.true-raw in
+    let e = said ∙ sym c.characters_within.ensures ∙ c.if-not-characters_within.true in
     both_said s e refl
 
 pub slice_bounds-pending_within-end : goal.slice_bounds-pending_within-end
@@ -30,5 +30,5 @@ pub returns : goal.returns
 returns c s t o v ranged =
     let a = c.args in
     let said = characters_said s.characters a.toggles.now a.n c.requires.n_in_bounds t in
-    let e = said ∙ sym c.characters_within.ensures ∙ not-false _ c.if-not-characters_within.false-raw in
+    let e = said ∙ sym c.characters_within.ensures ∙ c.if-not-characters_within.false in
     both_said s e (pending_said s.pending _ _ a.w (omega (arith, c.requires.w_le_pending_slots, column-length 512 0 a.pending.now (omega (arith, c.requires.pending_len)))) o v ranged ∙ sym c.pending_within.ensures)

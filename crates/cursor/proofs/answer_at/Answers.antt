@@ -8,7 +8,7 @@ use Rattle.cursor.proofs.Answering.{at-within, at_beyond}
 use Rattle.cursor.proofs.answer_at.Goals as goal
 
 pub returns-then-not-beyond : goal.returns-then-not-beyond
-returns-then-not-beyond c = at-within _ _ (not-true _ c.if-not-beyond.true-raw)
+returns-then-not-beyond c = at-within _ _ c.if-not-beyond.true
 
 pub returns-in-Done : goal.returns-in-Done
 unfolding answer_at

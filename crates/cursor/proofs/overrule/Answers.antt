@@ -8,7 +8,7 @@ use Rattle.cursor.proofs.Answering.{decided-within, decided_beyond}
 use Rattle.cursor.proofs.overrule.Goals as goal
 
 pub returns-then-not-beyond : goal.returns-then-not-beyond
-returns-then-not-beyond c = decided-within _ _ (not-true _ c.if-not-beyond.true-raw)
+returns-then-not-beyond c = decided-within _ _ c.if-not-beyond.true
 
 pub returns-in-Answered : goal.returns-in-Answered
 unfolding overruled

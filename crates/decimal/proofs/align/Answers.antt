@@ -16,7 +16,6 @@ use Rattle.decimal.proofs.align.Goals as goal
 -- a store of the next digit
 stored : (k b : ℕ) (done : List ℕ) → set (replicate (suc k) 0 ++ done) k b ≡ replicate k 0 ++ b ∷ done
 stored zero b done = refl
-
 stored (suc k) b done = ap (λ (l : List ℕ). 0 ∷ l) (stored k b done)
 
 begun : (n : ℕ) → n < 2 ^ 64 → Filled n (replicate 20 0) 19 n
@@ -29,7 +28,6 @@ begun n h = record {
 }
 
 module _ (n : ℕ) (bytes : List ℕ) (start rest b : ℕ) (f : Filled n bytes start rest) where
-
   within : start < 20
   within = omega (arith, f.at)
 

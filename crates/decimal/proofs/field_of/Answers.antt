@@ -11,19 +11,16 @@ use Rattle.decimal.specs.Answers.{field_by}
 use Rattle.decimal.proofs.field_of.Goals as goal
 
 module _ (first count value : ℕ) (above : Bool) (limit : ℕ) where
-
   none : count ≡ 0 → Malformed ≡ field_by first count value above limit
   unfolding field_by
   none e = rw (eq-eqb count 0 e) refl
 
   module _ (n : count ≡ 0 → ⊥) where
-
     zero-first : eqb first 48 && ltb 1 count ≡ true → Malformed ≡ field_by first count value above limit
     unfolding field_by
     zero-first z = rw (ne_eqb count 0 n, z) refl
 
     module _ (z : eqb first 48 && ltb 1 count ≡ false) where
-
       told-above : above ≡ true → Above ≡ field_by first count value above limit
       unfolding field_by
       told-above e = rw (ne_eqb count 0 n, z, e) refl

@@ -8,7 +8,7 @@ use Rattle.delivery.proofs.Stepping.{workable_few, workable_slots, workable_tabl
 use Rattle.delivery.proofs.drain.Given as goal
 
 abbrev pub invariant-loop-j : goal.invariant-loop-j
-invariant-loop-j l =    (length l.characters ≡ 4096) × (length l.pending ≡ 2048) × Workable (work_as l.characters l.toggles l.pending l.heads l.links l.done)
+invariant-loop-j l = (length l.characters ≡ 4096) × (length l.pending ≡ 2048) × Workable (work_as l.characters l.toggles l.pending l.heads l.links l.done)
     × (finished_in (work_as l.characters l.toggles l.pending l.heads l.links l.done) ≡ finished_in (work_as l.initial.characters l.initial.toggles l.initial.pending l.initial.heads l.initial.links l.initial.done))
 
 abbrev pub decreases-loop-j : goal.decreases-loop-j

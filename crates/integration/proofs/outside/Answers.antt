@@ -10,7 +10,6 @@ use Rattle.integration.specs.Passes.{outside}
 use Rattle.integration.proofs.outside.Goals as goal
 
 module _ (a b : ℕ) (v : Interval) {p : ℕ} (e : p ≡ a) where
-
   inside : v.upper < p → false ≡ outside a b v
   unfolding outside
   inside h = rw (← e, lt-leb p v.upper h)

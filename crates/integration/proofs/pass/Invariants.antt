@@ -20,7 +20,7 @@ abbrev pub places : List ℕ → List ℕ → List ℕ
 places ids ks = map (place_in ids) ks
 
 abbrev pub invariant-loop-i : goal.invariant-loop-i
-invariant-loop-i l =    (l.last ≡ ending l.ids (places l.ids l.previous) (places l.ids l.next) l.interval) × (l.last ≤ length l.ids) × (l.interval.upper ≤ l.i)
+invariant-loop-i l = (l.last ≡ ending l.ids (places l.ids l.previous) (places l.ids l.next) l.interval) × (l.last ≤ length l.ids) × (l.interval.upper ≤ l.i)
     × (walk_in l.key l.interval l.upper (from l.ids (places l.ids l.previous) (places l.ids l.next) l.i) ≡ pass_in (located_keys 1 l.ids (places l.ids l.previous) (places l.ids l.next)) l.key l.interval)
 
 abbrev pub decreases-loop-i : goal.decreases-loop-i

@@ -11,7 +11,7 @@ use Rattle.integration.proofs.Searching.{Searching, arrived, nowhere, again}
 use Rattle.integration.proofs.position.Given as goal
 
 abbrev pub invariant-loop-narrower : goal.invariant-loop-narrower
-invariant-loop-narrower l =    let above = map (place_in l.ids) l.previous in
+invariant-loop-narrower l = let above = map (place_in l.ids) l.previous in
     let below = map (place_in l.ids) l.next in
     Searching (located_keys 1 l.ids above below) l.key l.v (position_in l.ids above below l.key l.initial.v.upper l.initial.v.lower)
 

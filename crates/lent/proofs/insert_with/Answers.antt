@@ -11,6 +11,6 @@ returns c =
     let e = c.insert-generated.ensures in
     let a = c.args in
     record {
-      returned_value = (rw e (refl, clock_after (together a.site a.document) a.point a.code-point)).0;
-      clock_value = (rw e (refl, clock_after (together a.site a.document) a.point a.code-point)).1;
+      returned_value = rw e refl;
+      clock_value = rw e (clock_after (together a.site a.document) a.point a.code-point);
     }

@@ -9,14 +9,14 @@ use Rattle.line_writing.proofs.write_operation.Goals as goal
 pub returns-then-not-in_range : goal.returns-then-not-in_range
 returns-then-not-in_range c =
     record {
-      value = (not_in_range _ _ (sym c.in_range.ensures ∙ not-true _ c.if-not-in_range.true-raw)).0;
-      out_after = (not_in_range _ _ (sym c.in_range.ensures ∙ not-true _ c.if-not-in_range.true-raw)).1;
+      value = (not_in_range _ _ (sym c.in_range.ensures ∙ c.if-not-in_range.true)).0;
+      out_after = (not_in_range _ _ (sym c.in_range.ensures ∙ c.if-not-in_range.true)).1;
     }
 
 pub returns : goal.returns
 returns c =
     let p = c.put_operation.ensures in
-    let e = in_its_range _ _ (sym c.in_range.ensures ∙ not-false _ c.if-not-in_range.false-raw) in
+    let e = in_its_range _ _ (sym c.in_range.ensures ∙ c.if-not-in_range.false) in
     record {
       value = c.fitted.ensures ∙ offset_fitted _ _ (operation_some _) p.value ∙ e.0;
       out_after = put-after _ _ p.out_after ∙ e.1;

@@ -13,7 +13,6 @@ use Rattle.lines.proofs.find.Invariants.{distance}
 use Rattle.lines.proofs.find.Goals as goal
 
 module _ (s : List ℕ) (b i : ℕ) where
-
   here : i < length s → get_or s i 0 ≡ b → distance s b i ≡ i
   here h e = rw (drop-cons s i 0 h, eq-eqb (get_or s i 0) b e) (add-zero i)
 

@@ -20,14 +20,14 @@ pub returns-then-not-same_bytes : goal.returns-then-not-same_bytes
 returns-then-not-same_bytes c =
     let a = c.args in
     c.without.ensures
-    ∙ other-head a.head.now (take slots a.limits.now) a.line.now _ c.find-end.ensures (sym c.same_bytes.ensures ∙ not-true _ c.if-not-same_bytes.true-raw)
+    ∙ other-head a.head.now (take slots a.limits.now) a.line.now _ c.find-end.ensures (sym c.same_bytes.ensures ∙ c.if-not-same_bytes.true)
 
 pub returns-then-limits-le9 : goal.returns-then-limits-le9
 returns-then-limits-le9 c =
     let a = c.args in
     let few = sym (take_all slots a.limits.now c.if-limits-le9.true) in
     c.read_numbers.ensures ∙ ap (λ (ls : List ℕ). numbers_after ls (fields (drop c.find-end.result a.line.now))) few
-    ∙ same_head a.head.now (take slots a.limits.now) a.line.now _ c.find-end.ensures (sym c.same_bytes.ensures ∙ not-false _ c.if-not-same_bytes.false-raw)
+    ∙ same_head a.head.now (take slots a.limits.now) a.line.now _ c.find-end.ensures (sym c.same_bytes.ensures ∙ c.if-not-same_bytes.false)
 
 pub slice_bounds-read_numbers-end : goal.slice_bounds-read_numbers-end
 slice_bounds-read_numbers-end c = sym (length-take-le slots c.args.limits.now (omega arith))
@@ -39,4 +39,4 @@ pub returns : goal.returns
 returns c =
     let a = c.args in
     c.read_numbers-2.ensures
-    ∙ same_head a.head.now (take slots a.limits.now) a.line.now _ c.find-end.ensures (sym c.same_bytes.ensures ∙ not-false _ c.if-not-same_bytes.false-raw)
+    ∙ same_head a.head.now (take slots a.limits.now) a.line.now _ c.find-end.ensures (sym c.same_bytes.ensures ∙ c.if-not-same_bytes.false)

@@ -26,11 +26,11 @@ returns-then-s-at c =
     let s = c.args.s.now in
     record {
       numbers_value = (refused_end _ s c.unended.result c.unended.ensures.numbers_value c.unended.ensures.end_value
-    (short l.invariant.0 c.loop-i-test.true (omega (arith, line_le s)))).0;
+          (short l.invariant.0 c.loop-i-test.true (omega (arith, line_le s)))).0;
       end_value = (refused_end _ s c.unended.result c.unended.ensures.numbers_value c.unended.ensures.end_value
-    (short l.invariant.0 c.loop-i-test.true (omega (arith, line_le s)))).1.0;
+          (short l.invariant.0 c.loop-i-test.true (omega (arith, line_le s)))).1.0;
       end_in_bounds = (refused_end _ s c.unended.result c.unended.ensures.numbers_value c.unended.ensures.end_value
-    (short l.invariant.0 c.loop-i-test.true (omega (arith, line_le s)))).1.1;
+          (short l.invariant.0 c.loop-i-test.true (omega (arith, line_le s)))).1.1;
     }
 
 pub returns-then-s-at-ne-TAB : goal.returns-then-s-at-ne-TAB
@@ -38,11 +38,11 @@ returns-then-s-at-ne-TAB c =
     let l = c.loop-i in
     record {
       numbers_value = (refused_end _ _ c.unended-then-s-at-ne-TAB.result c.unended-then-s-at-ne-TAB.ensures.numbers_value c.unended-then-s-at-ne-TAB.ensures.end_value
-    (no-tab-here _ l.invariant.0 l.invariant.1 c.loop-i-test.true (omega arith) c.if-s-at-ne-TAB.true)).0;
+          (no-tab-here _ l.invariant.0 l.invariant.1 c.loop-i-test.true (omega arith) c.if-s-at-ne-TAB.true)).0;
       end_value = (refused_end _ _ c.unended-then-s-at-ne-TAB.result c.unended-then-s-at-ne-TAB.ensures.numbers_value c.unended-then-s-at-ne-TAB.ensures.end_value
-    (no-tab-here _ l.invariant.0 l.invariant.1 c.loop-i-test.true (omega arith) c.if-s-at-ne-TAB.true)).1.0;
+          (no-tab-here _ l.invariant.0 l.invariant.1 c.loop-i-test.true (omega arith) c.if-s-at-ne-TAB.true)).1.0;
       end_in_bounds = (refused_end _ _ c.unended-then-s-at-ne-TAB.result c.unended-then-s-at-ne-TAB.ensures.numbers_value c.unended-then-s-at-ne-TAB.ensures.end_value
-    (no-tab-here _ l.invariant.0 l.invariant.1 c.loop-i-test.true (omega arith) c.if-s-at-ne-TAB.true)).1.1;
+          (no-tab-here _ l.invariant.0 l.invariant.1 c.loop-i-test.true (omega arith) c.if-s-at-ne-TAB.true)).1.1;
     }
 
 pub returns-then-s-at-2 : goal.returns-then-s-at-2
@@ -53,19 +53,18 @@ returns-then-s-at-2 c =
     let tabbed = c.if-s-at-ne-TAB.false in
     record {
       numbers_value = (refused_end _ s c.unended-then-s-at-2.result c.unended-then-s-at-2.ensures.numbers_value c.unended-then-s-at-2.ensures.end_value
-    (nothing_left l.invariant.0 test (tab-inside s l.invariant.0 l.invariant.1 test (omega arith) tabbed) (tab-own s l.invariant.0 l.invariant.1 test (omega arith) tabbed)
-    (omega (arith, line_le s)))).0;
+          (nothing_left l.invariant.0 test (tab-inside s l.invariant.0 l.invariant.1 test (omega arith) tabbed) (tab-own s l.invariant.0 l.invariant.1 test (omega arith) tabbed)
+          (omega (arith, line_le s)))).0;
       end_value = (refused_end _ s c.unended-then-s-at-2.result c.unended-then-s-at-2.ensures.numbers_value c.unended-then-s-at-2.ensures.end_value
-    (nothing_left l.invariant.0 test (tab-inside s l.invariant.0 l.invariant.1 test (omega arith) tabbed) (tab-own s l.invariant.0 l.invariant.1 test (omega arith) tabbed)
-    (omega (arith, line_le s)))).1.0;
+          (nothing_left l.invariant.0 test (tab-inside s l.invariant.0 l.invariant.1 test (omega arith) tabbed) (tab-own s l.invariant.0 l.invariant.1 test (omega arith) tabbed)
+          (omega (arith, line_le s)))).1.0;
       end_in_bounds = (refused_end _ s c.unended-then-s-at-2.result c.unended-then-s-at-2.ensures.numbers_value c.unended-then-s-at-2.ensures.end_value
-    (nothing_left l.invariant.0 test (tab-inside s l.invariant.0 l.invariant.1 test (omega arith) tabbed) (tab-own s l.invariant.0 l.invariant.1 test (omega arith) tabbed)
-    (omega (arith, line_le s)))).1.1;
+          (nothing_left l.invariant.0 test (tab-inside s l.invariant.0 l.invariant.1 test (omega arith) tabbed) (tab-own s l.invariant.0 l.invariant.1 test (omega arith) tabbed)
+          (omega (arith, line_le s)))).1.1;
     }
 
 -- what stands before the digits, where they end, and what they say
 module _ (c : After-scan-number) where
-
   abbrev at : ℕ
   at = c.loop-i.at
 
@@ -100,14 +99,14 @@ pub returns-then-in_field : goal.returns-then-in_field
 returns-then-in_field c =
     record {
       numbers_value = (refused_end _ _ c.unended-then-in_field.result c.unended-then-in_field.ensures.numbers_value c.unended-then-in_field.ensures.end_value
-    (not_numeral c.loop-i.invariant.0 c.loop-i-test.true
-    (inside (goal.at.returns-then-in_field c).After-scan-number) (own (goal.at.returns-then-in_field c).After-scan-number) (run_goes _ (at (goal.at.returns-then-in_field c).After-scan-number + 1) (past (goal.at.returns-then-in_field c).After-scan-number) (sym c.in_field.ensures ∙ c.if-in_field.true)))).0;
+          (not_numeral c.loop-i.invariant.0 c.loop-i-test.true
+          (inside (goal.at.returns-then-in_field c).After-scan-number) (own (goal.at.returns-then-in_field c).After-scan-number) (run_goes _ (at (goal.at.returns-then-in_field c).After-scan-number + 1) (past (goal.at.returns-then-in_field c).After-scan-number) (sym c.in_field.ensures ∙ c.if-in_field.true)))).0;
       end_value = (refused_end _ _ c.unended-then-in_field.result c.unended-then-in_field.ensures.numbers_value c.unended-then-in_field.ensures.end_value
-    (not_numeral c.loop-i.invariant.0 c.loop-i-test.true
-    (inside (goal.at.returns-then-in_field c).After-scan-number) (own (goal.at.returns-then-in_field c).After-scan-number) (run_goes _ (at (goal.at.returns-then-in_field c).After-scan-number + 1) (past (goal.at.returns-then-in_field c).After-scan-number) (sym c.in_field.ensures ∙ c.if-in_field.true)))).1.0;
+          (not_numeral c.loop-i.invariant.0 c.loop-i-test.true
+          (inside (goal.at.returns-then-in_field c).After-scan-number) (own (goal.at.returns-then-in_field c).After-scan-number) (run_goes _ (at (goal.at.returns-then-in_field c).After-scan-number + 1) (past (goal.at.returns-then-in_field c).After-scan-number) (sym c.in_field.ensures ∙ c.if-in_field.true)))).1.0;
       end_in_bounds = (refused_end _ _ c.unended-then-in_field.result c.unended-then-in_field.ensures.numbers_value c.unended-then-in_field.ensures.end_value
-    (not_numeral c.loop-i.invariant.0 c.loop-i-test.true
-    (inside (goal.at.returns-then-in_field c).After-scan-number) (own (goal.at.returns-then-in_field c).After-scan-number) (run_goes _ (at (goal.at.returns-then-in_field c).After-scan-number + 1) (past (goal.at.returns-then-in_field c).After-scan-number) (sym c.in_field.ensures ∙ c.if-in_field.true)))).1.1;
+          (not_numeral c.loop-i.invariant.0 c.loop-i-test.true
+          (inside (goal.at.returns-then-in_field c).After-scan-number) (own (goal.at.returns-then-in_field c).After-scan-number) (run_goes _ (at (goal.at.returns-then-in_field c).After-scan-number + 1) (past (goal.at.returns-then-in_field c).After-scan-number) (sym c.in_field.ensures ∙ c.if-in_field.true)))).1.1;
     }
 
 -- the digits are all of the field
@@ -119,14 +118,14 @@ pub returns-in-Malformed : goal.returns-in-Malformed
 returns-in-Malformed c =
     record {
       numbers_value = (refused_end _ _ c.unended-in-Malformed.result c.unended-in-Malformed.ensures.numbers_value c.unended-in-Malformed.ensures.end_value
-    (no_numeral c.loop-i.invariant.0 c.loop-i-test.true
-    (inside (goal.at.returns-in-Malformed c).After-scan-number) (own (goal.at.returns-in-Malformed c).After-scan-number) (cut (goal.at.returns-in-Malformed c).Else-in_field) (sym (says (goal.at.returns-in-Malformed c).After-scan-number _ c.scan-number.ensures) ∙ c.in-Malformed.is))).0;
+          (no_numeral c.loop-i.invariant.0 c.loop-i-test.true
+          (inside (goal.at.returns-in-Malformed c).After-scan-number) (own (goal.at.returns-in-Malformed c).After-scan-number) (cut (goal.at.returns-in-Malformed c).Else-in_field) (sym (says (goal.at.returns-in-Malformed c).After-scan-number _ c.scan-number.ensures) ∙ c.in-Malformed.is))).0;
       end_value = (refused_end _ _ c.unended-in-Malformed.result c.unended-in-Malformed.ensures.numbers_value c.unended-in-Malformed.ensures.end_value
-    (no_numeral c.loop-i.invariant.0 c.loop-i-test.true
-    (inside (goal.at.returns-in-Malformed c).After-scan-number) (own (goal.at.returns-in-Malformed c).After-scan-number) (cut (goal.at.returns-in-Malformed c).Else-in_field) (sym (says (goal.at.returns-in-Malformed c).After-scan-number _ c.scan-number.ensures) ∙ c.in-Malformed.is))).1.0;
+          (no_numeral c.loop-i.invariant.0 c.loop-i-test.true
+          (inside (goal.at.returns-in-Malformed c).After-scan-number) (own (goal.at.returns-in-Malformed c).After-scan-number) (cut (goal.at.returns-in-Malformed c).Else-in_field) (sym (says (goal.at.returns-in-Malformed c).After-scan-number _ c.scan-number.ensures) ∙ c.in-Malformed.is))).1.0;
       end_in_bounds = (refused_end _ _ c.unended-in-Malformed.result c.unended-in-Malformed.ensures.numbers_value c.unended-in-Malformed.ensures.end_value
-    (no_numeral c.loop-i.invariant.0 c.loop-i-test.true
-    (inside (goal.at.returns-in-Malformed c).After-scan-number) (own (goal.at.returns-in-Malformed c).After-scan-number) (cut (goal.at.returns-in-Malformed c).Else-in_field) (sym (says (goal.at.returns-in-Malformed c).After-scan-number _ c.scan-number.ensures) ∙ c.in-Malformed.is))).1.1;
+          (no_numeral c.loop-i.invariant.0 c.loop-i-test.true
+          (inside (goal.at.returns-in-Malformed c).After-scan-number) (own (goal.at.returns-in-Malformed c).After-scan-number) (cut (goal.at.returns-in-Malformed c).Else-in_field) (sym (says (goal.at.returns-in-Malformed c).After-scan-number _ c.scan-number.ensures) ∙ c.in-Malformed.is))).1.1;
     }
 
 pub loop-i-preserved : goal.loop-i-preserved
@@ -146,11 +145,11 @@ returns-then-in_line c =
     let l = c.loop-i in
     record {
       numbers_value = (refused_end _ _ c.unended-then-in_line.result c.unended-then-in_line.ensures.numbers_value c.unended-then-in_line.ensures.end_value
-    (too_long l.invariant.0 c.loop-i-test.false (ltb-true _ _ (sym c.in_line.ensures ∙ c.if-in_line.true)))).0;
+          (too_long l.invariant.0 c.loop-i-test.false (ltb-true _ _ (sym c.in_line.ensures ∙ c.if-in_line.true)))).0;
       end_value = (refused_end _ _ c.unended-then-in_line.result c.unended-then-in_line.ensures.numbers_value c.unended-then-in_line.ensures.end_value
-    (too_long l.invariant.0 c.loop-i-test.false (ltb-true _ _ (sym c.in_line.ensures ∙ c.if-in_line.true)))).1.0;
+          (too_long l.invariant.0 c.loop-i-test.false (ltb-true _ _ (sym c.in_line.ensures ∙ c.if-in_line.true)))).1.0;
       end_in_bounds = (refused_end _ _ c.unended-then-in_line.result c.unended-then-in_line.ensures.numbers_value c.unended-then-in_line.ensures.end_value
-    (too_long l.invariant.0 c.loop-i-test.false (ltb-true _ _ (sym c.in_line.ensures ∙ c.if-in_line.true)))).1.1;
+          (too_long l.invariant.0 c.loop-i-test.false (ltb-true _ _ (sym c.in_line.ensures ∙ c.if-in_line.true)))).1.1;
     }
 
 pub returns : goal.returns
@@ -159,11 +158,11 @@ returns c =
     let end = ltb-false _ _ (sym c.in_line.ensures ∙ c.if-in_line.false) in
     record {
       numbers_value = (all_end _ _ c.ended.result l.values l.over c.ended.ensures.numbers_value c.ended.ensures.end_value
-    (all-judged l.invariant.0 c.loop-i-test.false end) l.invariant.1 end).0;
+          (all-judged l.invariant.0 c.loop-i-test.false end) l.invariant.1 end).0;
       end_value = (all_end _ _ c.ended.result l.values l.over c.ended.ensures.numbers_value c.ended.ensures.end_value
-    (all-judged l.invariant.0 c.loop-i-test.false end) l.invariant.1 end).1.0;
+          (all-judged l.invariant.0 c.loop-i-test.false end) l.invariant.1 end).1.0;
       end_in_bounds = (all_end _ _ c.ended.result l.values l.over c.ended.ensures.numbers_value c.ended.ensures.end_value
-    (all-judged l.invariant.0 c.loop-i-test.false end) l.invariant.1 end).1.1;
+          (all-judged l.invariant.0 c.loop-i-test.false end) l.invariant.1 end).1.1;
     }
 
 pub in_field-requires : goal.in_field-requires

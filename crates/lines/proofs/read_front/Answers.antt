@@ -25,7 +25,7 @@ pub returns-then-not-same_bytes : goal.returns-then-not-same_bytes
 unfolding holding
 returns-then-not-same_bytes c =
     let a = c.args in
-    let other = front-other a.head.now (take slots a.limits.now) a.s.now _ c.first_field-end.ensures (sym c.same_bytes.ensures ∙ not-true _ c.if-not-same_bytes.true-raw) in
+    let other = front-other a.head.now (take slots a.limits.now) a.s.now _ c.first_field-end.ensures (sym c.same_bytes.ensures ∙ c.if-not-same_bytes.true) in
     record {
       numbers_value = c.without-numbers.ensures ∙ other;
       next_value = (λ h. absurd (h (ap (λ x. x.verdict) c.without-numbers.ensures)));
@@ -40,7 +40,7 @@ unfolding holding
 returns-then-s-feed c =
     let a = c.args in
     let r = c.read_ending-read in
-    let h = sym c.same_bytes.ensures ∙ not-false _ c.if-not-same_bytes.false-raw in
+    let h = sym c.same_bytes.ensures ∙ c.if-not-same_bytes.false in
     let short = front-short a.head.now (take slots a.limits.now) a.s.now _ c.first_field-end.ensures h r.result
     (r.ensures.numbers_value ∙ ap (λ (ls : List ℕ). numbers_after ls (fields (first_line (part_from a.s.now c.first_field-end.result)))) c.leading.ensures) r.ensures.end_value c.if-s-feed.true in
     record {
@@ -53,7 +53,7 @@ pub returns : goal.returns
 returns c =
     let a = c.args in
     let r = c.read_ending-read in
-    let h = sym c.same_bytes.ensures ∙ not-false _ c.if-not-same_bytes.false-raw in
+    let h = sym c.same_bytes.ensures ∙ c.if-not-same_bytes.false in
     let n = r.ensures.numbers_value ∙ ap (λ (ls : List ℕ). numbers_after ls (fields (first_line (part_from a.s.now c.first_field-end.result)))) c.leading.ensures in
     record {
       numbers_value = front_read_lem a.head.now (take slots a.limits.now) a.s.now _ c.first_field-end.ensures h r.result n r.ensures.end_value (omega arith);

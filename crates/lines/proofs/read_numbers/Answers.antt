@@ -35,7 +35,6 @@ returns-then-line-at-2 c =
 
 -- where the digits end, and what they say
 module _ (c : After-scan-number) where
-
   abbrev at : ℕ
   at = c.loop-i.at
 

@@ -19,7 +19,6 @@ unequal a b h = fails (equal a b) (λ e. h (ap length (equal_is a b e)))
 
 -- one byte more
 module _ (a b : List ℕ) (i : ℕ) (h : i < length a) (g : i < length b) where
-
   pass : get_or a i 0 ≡ get_or b i 0 → equal (drop (i + 1) a) (drop (i + 1) b) ≡ equal (drop i a) (drop i b)
   pass e = rw (add-one i, drop-cons a i 0 h, drop-cons b i 0 g, eq-eqb (get_or a i 0) (get_or b i 0) e)
 

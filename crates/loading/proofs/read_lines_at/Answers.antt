@@ -42,7 +42,6 @@ Told ps later pending v =
 
 -- what was read, and what it comes to
 module _ (p : After-read_operations-back) where
-
   abbrev k : Rows
   k = p.args.rows
 
@@ -56,7 +55,7 @@ module _ (p : After-read_operations-back) where
   later = part_from body p.read_rows_at-ahead.result.end
 
   site_laid : p.read_site_front-first.result.line.judged.laid_out ≡ true
-  site_laid = not-false _ p.if-not-head.left
+  site_laid = not-false _ p.if-not-head.false
 
   body_is : body ≡ rest s
   body_is = part-is s p.read_site_front-first.result.next ∙ past-front s (p.read_site_front-first.ensures.next_value site_laid)
@@ -77,12 +76,10 @@ module _ (p : After-read_operations-back) where
   ranged = p.read_site_front-first.result.line.judged.in_range && p.read_rows_at-ahead.result.front.in_range && p.read_operations-back.result.in_range
 
   module _ (l : p.read_operations-back.result.laid_out ≡ true) where
-
     out : ranged ≡ false → Refused Range ≡ rows_answer k s
     out = out_of_range_lem k s _ (first_read p) site_laid body_is _ p.read_rows_at-ahead.ensures.front_value _ later-is _ operations-read.0 l
 
     module _ (e : ranged ≡ true) where
-
       each : (p.read_site_front-first.result.line.judged.in_range ≡ true) × (p.read_rows_at-ahead.result.front.in_range ≡ true)
           × (p.read_operations-back.result.in_range ≡ true)
       each = three p.read_site_front-first.result.line.judged.in_range p.read_rows_at-ahead.result.front.in_range p.read_operations-back.result.in_range e
@@ -159,7 +156,7 @@ returns-then-not-both c =
     let z = c.requires in
     let e =
     judged c.read_site_front-first.result.line.judged.in_range c.read_rows_at-ahead.result.front.in_range c.read_operations-back.result.in_range
-    c.both.ensures c.both-2.ensures (not-true _ c.if-not-both.true-raw) in
+    c.both.ensures c.both-2.ensures c.if-not-both.true in
     record {
       answer_value = c.refuse_into-then-not-both.ensures ∙ out (goal.at.returns-then-not-both c).After-read_operations-back (not-false _ c.if-not-back.false) e;
       places_len_unchanged = same-length-7 (goal.at.returns-then-not-both c).After-read_operations-back;
@@ -176,7 +173,7 @@ returns c =
     let l = not-false _ c.if-not-back.false in
     let e =
     judged c.read_site_front-first.result.line.judged.in_range c.read_rows_at-ahead.result.front.in_range c.read_operations-back.result.in_range
-    c.both.ensures c.both-2.ensures (not-false _ c.if-not-both.false-raw) in
+    c.both.ensures c.both-2.ensures c.if-not-both.false in
     record {
       answer_value = done (goal.at.returns c).After-read_operations-back l e;
       places_len_unchanged = same-length-12 (goal.at.returns c).After-read_operations-back;

@@ -15,13 +15,13 @@ pub returns-then-not-has_room : goal.returns-then-not-has_room
 returns-then-not-has_room c =
     let a = c.args in
     let short : length a.out.now < a.at + length a.bytes.now =
-    omega (arith, lacks-room _ _ _ (sym c.has_room.ensures ∙ not-true _ c.if-not-has_room.true-raw)) in
+    omega (arith, lacks-room _ _ _ (sym c.has_room.ensures ∙ c.if-not-has_room.true)) in
     (sym (past-short _ _ _ short), sym (placed-short _ _ _ short))
 
 pub loop-i-init : goal.loop-i-init
 loop-i-init c =
     let a = c.args in
-    (omega (arith, has_room_lem _ _ _ (sym c.has_room.ensures ∙ not-false _ c.if-not-has_room.false-raw)), zero-le, paste-zero a.out.now a.at a.bytes.now, refl)
+    (omega (arith, has_room_lem _ _ _ (sym c.has_room.ensures ∙ c.if-not-has_room.false)), zero-le, paste-zero a.out.now a.at a.bytes.now, refl)
 
 pub loop-i-preserved : goal.loop-i-preserved
 loop-i-preserved c =

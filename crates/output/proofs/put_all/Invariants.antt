@@ -12,7 +12,7 @@ use Rattle.output.proofs.Laws.{placed-room, past_room, placed-short, past-short,
 use Rattle.output.proofs.put_all.Given as goal
 
 abbrev pub invariant-loop-i : goal.invariant-loop-i
-invariant-loop-i l =    (l.at + length l.bytes ≤ length l.initial.out) × (l.i ≤ length l.bytes) × (l.out ≡ paste l.initial.out l.at l.bytes l.i) × (length l.out ≡ length l.initial.out)
+invariant-loop-i l = (l.at + length l.bytes ≤ length l.initial.out) × (l.i ≤ length l.bytes) × (l.out ≡ paste l.initial.out l.at l.bytes l.i) × (length l.out ≡ length l.initial.out)
 
 abbrev pub decreases-loop-i : goal.decreases-loop-i
 decreases-loop-i l = length l.bytes - l.i

@@ -22,7 +22,6 @@ start c = c.before.before.before.before.before.before.before.before.before.befor
 
 -- what became of the insert
 module _ (c : After-take_in-taken) (g : Reaches (laid_as (start c).args.characters.now (start c).args.toggles.now (start c).args.at.length (start c).args.heads.now (start c).args.links.now) (start c).args.inserts.now (start c).args.at.left (start c).args.i) where
-
   abbrev At : Taken → Type 0
   At v =
       let l = c.take_in-taken.new in

@@ -10,7 +10,7 @@ use Rattle.passes.proofs.Passing.{reached-begun, reached-ended, offering_slots, 
 use Rattle.passes.proofs.pass.Given as goal
 
 abbrev pub invariant-loop-i : goal.invariant-loop-i
-invariant-loop-i l =    (length l.characters ≡ 4096) × (l.i ≤ l.m)
+invariant-loop-i l = (length l.characters ≡ 4096) × (l.i ≤ l.m)
     × ((o : Offers (laid_as l.initial.characters l.initial.toggles l.n l.initial.heads l.initial.links) l.initial.inserts l.m)
     → Reached (laid_as l.characters l.toggles l.at.length l.heads l.links) l.inserts l.at.left l.i l.m (pass o.characters o.inserts))
 

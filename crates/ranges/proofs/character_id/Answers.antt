@@ -13,8 +13,8 @@ unfolding character_id
 reading x p q = λ k. p k && q k
 
 pub returns-then-not-site_number : goal.returns-then-not-site_number
-returns-then-not-site_number c = sym (reading _ (failed c.site_number.ensures c.if-not-site_number.taken) refl)
+returns-then-not-site_number c = sym (reading _ (failed c.site_number.ensures c.if-not-site_number.true-raw) refl)
 
 pub returns : goal.returns
 returns c =
-    sym (reading _ (passed c.site_number.ensures c.if-not-site_number.left) (sym c.character_clock.ensures))
+    sym (reading _ (passed c.site_number.ensures c.if-not-site_number.false-raw) (sym c.character_clock.ensures))

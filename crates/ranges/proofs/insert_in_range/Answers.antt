@@ -16,31 +16,31 @@ reading i e₁ e₂ e₃ e₄ e₅ e₆ = λ k. e₁ k && e₂ k && e₃ k && e�
 
 pub returns-then-not-character_id : goal.returns-then-not-character_id
 returns-then-not-character_id c =
-    sym (reading _ (failed c.character_id.ensures c.if-not-character_id.taken) refl refl refl refl refl)
+    sym (reading _ (failed c.character_id.ensures c.if-not-character_id.true-raw) refl refl refl refl refl)
 
 pub returns-then-not-code_point : goal.returns-then-not-code_point
 returns-then-not-code_point c =
-    sym (reading _ (passed c.character_id.ensures c.if-not-character_id.left)
-    (failed c.code_point.ensures c.if-not-code_point.taken) refl refl refl refl)
+    sym (reading _ (passed c.character_id.ensures c.if-not-character_id.false-raw)
+    (failed c.code_point.ensures c.if-not-code_point.true-raw) refl refl refl refl)
 
 pub returns-then-not-previous_id : goal.returns-then-not-previous_id
 returns-then-not-previous_id c =
-    sym (reading _ (passed c.character_id.ensures c.if-not-character_id.left) (passed c.code_point.ensures c.if-not-code_point.left)
-    (failed c.previous_id.ensures c.if-not-previous_id.taken) refl refl refl)
+    sym (reading _ (passed c.character_id.ensures c.if-not-character_id.false-raw) (passed c.code_point.ensures c.if-not-code_point.false-raw)
+    (failed c.previous_id.ensures c.if-not-previous_id.true-raw) refl refl refl)
 
 pub returns-then-not-next_id : goal.returns-then-not-next_id
 returns-then-not-next_id c =
-    sym (reading _ (passed c.character_id.ensures c.if-not-character_id.left) (passed c.code_point.ensures c.if-not-code_point.left)
-    (passed c.previous_id.ensures c.if-not-previous_id.left) (failed c.next_id.ensures c.if-not-next_id.taken) refl refl)
+    sym (reading _ (passed c.character_id.ensures c.if-not-character_id.false-raw) (passed c.code_point.ensures c.if-not-code_point.false-raw)
+    (passed c.previous_id.ensures c.if-not-previous_id.false-raw) (failed c.next_id.ensures c.if-not-next_id.true-raw) refl refl)
 
 pub returns-then-same_id : goal.returns-then-same_id
 returns-then-same_id c =
-    sym (reading _ (passed c.character_id.ensures c.if-not-character_id.left) (passed c.code_point.ensures c.if-not-code_point.left)
-    (passed c.previous_id.ensures c.if-not-previous_id.left) (passed c.next_id.ensures c.if-not-next_id.left)
-    (sym c.same_id.ensures ∙ c.if-same_id.taken) refl)
+    sym (reading _ (passed c.character_id.ensures c.if-not-character_id.false-raw) (passed c.code_point.ensures c.if-not-code_point.false-raw)
+    (passed c.previous_id.ensures c.if-not-previous_id.false-raw) (passed c.next_id.ensures c.if-not-next_id.false-raw)
+    (sym c.same_id.ensures ∙ c.if-same_id.true) refl)
 
 pub returns : goal.returns
 returns c =
-    sym (reading _ (passed c.character_id.ensures c.if-not-character_id.left) (passed c.code_point.ensures c.if-not-code_point.left)
-    (passed c.previous_id.ensures c.if-not-previous_id.left) (passed c.next_id.ensures c.if-not-next_id.left)
-    (sym c.same_id.ensures ∙ c.if-same_id.left) (sym c.same_id-2.ensures))
+    sym (reading _ (passed c.character_id.ensures c.if-not-character_id.false-raw) (passed c.code_point.ensures c.if-not-code_point.false-raw)
+    (passed c.previous_id.ensures c.if-not-previous_id.false-raw) (passed c.next_id.ensures c.if-not-next_id.false-raw)
+    (sym c.same_id.ensures ∙ c.if-same_id.false) (sym c.same_id-2.ensures))

@@ -11,7 +11,8 @@ reading : (x m : Identifier) {a b : Bool} → same x m ≡ a → character_id x 
 reading x m p q = λ k. p k || q k
 
 pub returns-then-same_id : goal.returns-then-same_id
-returns-then-same_id c = sym (reading _ _ (sym c.same_id.ensures ∙ c.if-same_id.taken) refl)
+returns-then-same_id c = sym (reading _ _ (sym c.same_id.ensures ∙ c.if-same_id.true) refl)
 
 pub returns : goal.returns
-returns c = sym (reading _ _ (sym c.same_id.ensures ∙ c.if-same_id.left) (sym c.character_id.ensures))
+returns c =
+    sym (reading _ _ (sym c.same_id.ensures ∙ c.if-same_id.false) (sym c.character_id.ensures))

@@ -16,7 +16,7 @@ unfolding same
 by_clock x y e = rw (eq-eqb x.site y.site e)
 
 pub returns-then-x-y : goal.returns-then-x-y
-returns-then-x-y c = sym (other _ _ c.if-x-y.taken)
+returns-then-x-y c = sym (other _ _ c.if-x-y.true)
 
 pub returns : goal.returns
-returns c = sym (by_clock _ _ c.if-x-y.left)
+returns c = sym (by_clock _ _ c.if-x-y.false)

@@ -16,15 +16,15 @@ unfolding toggle_in_range
 reading t p q r = λ k. p k && q k && r k
 
 pub returns-then-not-site_number : goal.returns-then-not-site_number
-returns-then-not-site_number c = sym (reading _ (failed c.site_number.ensures c.if-not-site_number.taken) refl refl)
+returns-then-not-site_number c = sym (reading _ (failed c.site_number.ensures c.if-not-site_number.true-raw) refl refl)
 
 pub returns-then-not-character_id : goal.returns-then-not-character_id
 returns-then-not-character_id c =
-    sym (reading _ (passed c.site_number.ensures c.if-not-site_number.left)
-    (failed c.character_id.ensures c.if-not-character_id.taken) refl)
+    sym (reading _ (passed c.site_number.ensures c.if-not-site_number.false-raw)
+    (failed c.character_id.ensures c.if-not-character_id.true-raw) refl)
 
 pub returns : goal.returns
 returns c =
-    sym (reading _ (passed c.site_number.ensures c.if-not-site_number.left)
-    (passed c.character_id.ensures c.if-not-character_id.left)
+    sym (reading _ (passed c.site_number.ensures c.if-not-site_number.false-raw)
+    (passed c.character_id.ensures c.if-not-character_id.false-raw)
     (within-below 1 last_toggles _ (omega arith)))

@@ -18,7 +18,6 @@ use Rattle.saved_lines.proofs.character_of.Goals as goal
 
 -- the numbers from one on, and their limits
 module _ (from : ℕ) (ns : List ℕ) where
-
   at : (k : ℕ) → get_or ns (from + k) 0 ≡ get_or (drop from ns) k 0
   at k = sym (get_or-drop from ns k 0)
 

@@ -8,7 +8,7 @@ use Rattle.sifting.proofs.Keeping.{KeepLoop, keep-begun, keep_tabled, keep-end, 
 use Rattle.sifting.proofs.keep_once.Given as goal
 
 abbrev pub invariant-loop-i : goal.invariant-loop-i
-invariant-loop-i l =    KeepLoop l.initial.inserts l.n l.inserts (record { l.heads = l.heads; l.links = l.links }) l.i l.count
+invariant-loop-i l = KeepLoop l.initial.inserts l.n l.inserts (record { heads = l.heads; links = l.links }) l.i l.count
 
 abbrev pub decreases-loop-i : goal.decreases-loop-i
 decreases-loop-i l = l.n - l.i

@@ -29,9 +29,9 @@ pub returns-in_default-rest : goal.returns-in_default-rest
 returns-in_default-rest c =
     record {
       value = (body-short (head c) (others c) (head c ++ others c) c.args.out.now refl c.measure_site_with-head.ensures c.in-Until.is
-    c.measure-rest.ensures c.in_default-rest.is).0;
+          c.measure-rest.ensures c.in_default-rest.is).0;
       out_after = (body-short (head c) (others c) (head c ++ others c) c.args.out.now refl c.measure_site_with-head.ensures c.in-Until.is
-    c.measure-rest.ensures c.in_default-rest.is).1;
+          c.measure-rest.ensures c.in_default-rest.is).1;
     }
 
 pub put-requires : goal.put-requires
@@ -46,7 +46,7 @@ pub returns : goal.returns
 returns c =
     record {
       value = (body-put (head c) (others c) (head c ++ others c) c.args.out.now refl c.measure_site_with-head.ensures c.in-Until.is
-    c.measure-rest.ensures c.in-Until-rest.is c.put_site_with-at.ensures c.put.ensures).0;
+          c.measure-rest.ensures c.in-Until-rest.is c.put_site_with-at.ensures c.put.ensures).0;
       out_after = (body-put (head c) (others c) (head c ++ others c) c.args.out.now refl c.measure_site_with-head.ensures c.in-Until.is
-    c.measure-rest.ensures c.in-Until-rest.is c.put_site_with-at.ensures c.put.ensures).1;
+          c.measure-rest.ensures c.in-Until-rest.is c.put_site_with-at.ensures c.put.ensures).1;
     }

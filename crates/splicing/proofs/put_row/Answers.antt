@@ -17,7 +17,6 @@ use Rattle.splicing.proofs.put_row.Goals as goal
 
 -- what is known of the replica
 module _ (s : Start) where
-
   abbrev known : Spliced s.args.body.now s.args.starts.now s.args.k s.args.skip (state_in s.args.site s.args.characters.now s.args.toggles.now s.args.n s.args.pending.now s.args.w)
   known = s.requires.spliced
 

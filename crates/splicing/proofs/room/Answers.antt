@@ -13,13 +13,13 @@ use Rattle.splicing.proofs.room.Goals as goal
 pub returns-then-not-has_room : goal.returns-then-not-has_room
 returns-then-not-has_room c =
     let a = c.args in
-    short a.size a.at a.bytes.now (lacks-room a.size a.at (length a.bytes.now) (sym c.has_room.ensures ∙ not-true _ c.if-not-has_room.true-raw))
+    short a.size a.at a.bytes.now (lacks-room a.size a.at (length a.bytes.now) (sym c.has_room.ensures ∙ c.if-not-has_room.true))
 
 -- they end in the slice
 fits : (c : Else-not-has_room) → c.args.at + length c.args.bytes.now ≤ c.args.size
 fits c =
     let a = c.args in
-    has_room_lem a.size a.at (length a.bytes.now) (sym c.has_room.ensures ∙ not-false _ c.if-not-has_room.false-raw)
+    has_room_lem a.size a.at (length a.bytes.now) (sym c.has_room.ensures ∙ c.if-not-has_room.false)
 
 pub returns : goal.returns
 returns c =

@@ -9,6 +9,6 @@ unfolding processed processed_out report_on
 returns c =
     let p = c.report_line-written.ensures in
     record {
-      value = (rw (← c.answer_line-receipt.ensures, p.value) (refl, p.out_after)).0;
-      out_after = (rw (← c.answer_line-receipt.ensures, p.value) (refl, p.out_after)).1;
+      value = rw (← c.answer_line-receipt.ensures, p.value) refl;
+      out_after = rw (← c.answer_line-receipt.ensures, p.value) p.out_after;
     }

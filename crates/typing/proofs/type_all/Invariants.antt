@@ -25,7 +25,7 @@ waiting s =
     (counts r (form_counted r s.requires.typeable.form)).pending
 
 abbrev pub invariant-loop-i : goal.invariant-loop-i
-invariant-loop-i l =    Sized l.characters l.toggles l.pending l.heads l.links × (length l.typed ≡ 4096)
+invariant-loop-i l = Sized l.characters l.toggles l.pending l.heads l.links × (length l.typed ≡ 4096)
     × Going (meaning (replica_as l.initial.at.site l.initial.characters l.initial.toggles l.n l.initial.pending l.w l.initial.heads l.initial.links)) l.point l.w (points_in l.count l.initial.typed)
     (replica_as l.at.site l.characters l.toggles l.at.length l.pending l.at.waiting l.heads l.links) l.at l.typed l.i
 

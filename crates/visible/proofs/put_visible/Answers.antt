@@ -9,16 +9,14 @@ use Rattle.visible.proofs.put_visible.Goals as goal
 pub returns-then-toggles-ne0 : goal.returns-then-toggles-ne0
 returns-then-toggles-ne0 c =
     record {
-      value = (rw (spelt-not _ _ (ne_eqb _ _ c.if-toggles-ne0.true)) (sym (past-none _ _), sym (placed-none _ _))).0;
-      out_after = (rw (spelt-not _ _ (ne_eqb _ _ c.if-toggles-ne0.true)) (sym (past-none _ _), sym (placed-none _ _))).1;
+      value = rw (spelt-not _ _ (ne_eqb _ _ c.if-toggles-ne0.true)) (sym (past-none _ _));
+      out_after = rw (spelt-not _ _ (ne_eqb _ _ c.if-toggles-ne0.true)) (sym (placed-none _ _));
     }
 
 pub returns : goal.returns
 returns c =
     let w = c.write.ensures in
     record {
-      value = (rw (spelt-shown _ _ (eq-eqb _ _ c.if-toggles-ne0.false), ← c.printed.ensures)
-    (w.0, w.1)).0;
-      out_after = (rw (spelt-shown _ _ (eq-eqb _ _ c.if-toggles-ne0.false), ← c.printed.ensures)
-    (w.0, w.1)).1;
+      value = rw (spelt-shown _ _ (eq-eqb _ _ c.if-toggles-ne0.false), ← c.printed.ensures) w.0;
+      out_after = rw (spelt-shown _ _ (eq-eqb _ _ c.if-toggles-ne0.false), ← c.printed.ensures) w.1;
     }

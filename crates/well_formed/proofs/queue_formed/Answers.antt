@@ -14,10 +14,10 @@ waits s = ends 512 s.requires.pending_len
 pub pending_formed-requires : goal.pending_formed-requires
 pending_formed-requires c =
     record {
-      tabled = (simp (length-take, length-drop) (c.requires.tabled, (omega arith, (omega arith, omega arith)))).0;
-      first_len = (simp (length-take, length-drop) (c.requires.tabled, (omega arith, (omega arith, omega arith)))).1.0;
-      second_len = (simp (length-take, length-drop) (c.requires.tabled, (omega arith, (omega arith, omega arith)))).1.1.0;
-      values_len = (simp (length-take, length-drop) (c.requires.tabled, (omega arith, (omega arith, omega arith)))).1.1.1;
+      tabled = simp (length-take, length-drop) c.requires.tabled;
+      first_len = simp (length-take, length-drop) (omega arith);
+      second_len = simp (length-take, length-drop) (omega arith);
+      values_len = simp (length-take, length-drop) (omega arith);
     }
 
 pub returns-then-not-pending_formed : goal.returns-then-not-pending_formed

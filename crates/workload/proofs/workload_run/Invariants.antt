@@ -8,11 +8,11 @@ use Rattle.workload.proofs.Tallies.{one_if_done-le, Received, received_none, rec
 use Rattle.workload.proofs.workload_run.Given as goal
 
 abbrev pub invariant-loop-k : goal.invariant-loop-k
-invariant-loop-k l =    (l.k ≤ l.n + l.n)
+invariant-loop-k l = (l.k ≤ l.n + l.n)
     × Received
     (operation_of l.n)
-    (record { l.replica = l.initial.replica; l.count = l.initial.count })
-    (record { l.replica = l.replica; l.count = l.count })
+    (record { replica = l.initial.replica; count = l.initial.count })
+    (record { replica = l.replica; count = l.count })
     l.k
 
 abbrev pub decreases-loop-k : goal.decreases-loop-k

@@ -23,7 +23,7 @@ put_sent-sent-requires c =
       count_in_bounds_2 = q.count_in_bounds_2;
       count_value = q.count_value;
       numbers_len = length-replicate {A = ℕ}
-                      4096 0;
+          4096 0;
     }
 
 pub slice_bounds-put_toggles-end : goal.slice_bounds-put_toggles-end

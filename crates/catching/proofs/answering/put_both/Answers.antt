@@ -41,16 +41,16 @@ measure-room-requires c =
       numbers_len = c.requires.toggles_len;
       count_le_character_slots = c.requires.count_le_character_slots;
       at_le_size = front_fits (front c) (body c) _ c.args.out.now refl c.measure-front.ensures
-            c.in-Until.is;
+          c.in-Until.is;
     }
 
 pub returns-in_default-room : goal.returns-in_default-room
 returns-in_default-room c =
     record {
       value = (body-short (front c) (body c) _ c.args.out.now refl c.measure-front.ensures
-    c.in-Until.is c.measure-room.ensures c.in_default-room.is).0;
+          c.in-Until.is c.measure-room.ensures c.in_default-room.is).0;
       out_after = (body-short (front c) (body c) _ c.args.out.now refl c.measure-front.ensures
-    c.in-Until.is c.measure-room.ensures c.in_default-room.is).1;
+          c.in-Until.is c.measure-room.ensures c.in_default-room.is).1;
     }
 
 pub put_lines-requires : goal.put_lines-requires
@@ -70,10 +70,10 @@ put_lines-requires-2 c =
       numbers_len = c.requires.toggles_len;
       count_le_character_slots = c.requires.count_le_character_slots;
       count_in_bounds = body-room (front c) (body c) _ c.args.out.now refl c.measure-front.ensures f
-            c.measure-room.ensures c.in-Until-room.is (
-              ended c.args.out.now (front c) c.measure-front.ensures f,
-              c.put_lines.ensures,
-            );
+          c.measure-room.ensures c.in-Until-room.is (
+            ended c.args.out.now (front c) c.measure-front.ensures f,
+            c.put_lines.ensures,
+          );
     }
 
 pub returns : goal.returns
@@ -81,15 +81,15 @@ returns c =
     let f = c.in-Until.is in
     record {
       value = (body-put (front c) (body c) _ c.args.out.now refl c.measure-front.ensures f
-    c.measure-room.ensures c.in-Until-room.is (
-      ended c.args.out.now (front c) c.measure-front.ensures f,
-      c.put_lines.ensures,
-    )
-    c.put_lines-2.ensures).0;
+          c.measure-room.ensures c.in-Until-room.is (
+            ended c.args.out.now (front c) c.measure-front.ensures f,
+            c.put_lines.ensures,
+          )
+          c.put_lines-2.ensures).0;
       out_after = (body-put (front c) (body c) _ c.args.out.now refl c.measure-front.ensures f
-    c.measure-room.ensures c.in-Until-room.is (
-      ended c.args.out.now (front c) c.measure-front.ensures f,
-      c.put_lines.ensures,
-    )
-    c.put_lines-2.ensures).1;
+          c.measure-room.ensures c.in-Until-room.is (
+            ended c.args.out.now (front c) c.measure-front.ensures f,
+            c.put_lines.ensures,
+          )
+          c.put_lines-2.ensures).1;
     }

@@ -67,8 +67,7 @@ put_at-requires c =
 
 pub loop-i-preserved : goal.loop-i-preserved
 loop-i-preserved c =
-    let l = c.loop-i in
-    (
+    let l = c.loop-i in (
       omega arith,
       one-insert _ _ _ _ _ l.invariant.1 (omega (arith, c.requires.count_le_character_slots)) refl c.put_at.ensures,
     )

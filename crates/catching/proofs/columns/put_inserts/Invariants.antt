@@ -8,7 +8,7 @@ use Rattle.catching.proofs.Operations.{no-inserts, one-insert}
 use Rattle.catching.proofs.columns.put_inserts.Given as goal
 
 abbrev pub invariant-loop-i : goal.invariant-loop-i
-invariant-loop-i l =    (l.i ≤ l.count) × InsertsOf l.ids l.previous l.next l.code_points l.order l.i l.numbers
+invariant-loop-i l = (l.i ≤ l.count) × InsertsOf l.ids l.previous l.next l.code_points l.order l.i l.numbers
 
 abbrev pub decreases-loop-i : goal.decreases-loop-i
 decreases-loop-i l = l.count - l.i

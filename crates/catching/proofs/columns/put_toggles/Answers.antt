@@ -35,8 +35,7 @@ overflow_add-count c =
 
 pub loop-i-preserved : goal.loop-i-preserved
 loop-i-preserved c =
-    let l = c.loop-i in
-    (
+    let l = c.loop-i in (
       omega arith,
       ⊎_elim
           (λ v. one_toggle _ _ _ l.invariant.1 (λ z. omega (arith, z, v.0.taken)) (omega (arith, c.type_inv.toggles l.i))

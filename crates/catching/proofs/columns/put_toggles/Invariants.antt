@@ -8,7 +8,7 @@ use Rattle.catching.proofs.Operations.{no-toggles, not-toggled, one_toggle}
 use Rattle.catching.proofs.columns.put_toggles.Given as goal
 
 abbrev pub invariant-loop-i : goal.invariant-loop-i
-invariant-loop-i l =    (l.i ≤ l.n) × TogglesOf l.ids l.toggles l.i l.sender l.numbers l.count
+invariant-loop-i l = (l.i ≤ l.n) × TogglesOf l.ids l.toggles l.i l.sender l.numbers l.count
 
 abbrev pub decreases-loop-i : goal.decreases-loop-i
 decreases-loop-i l = l.n - l.i

@@ -11,7 +11,7 @@ use Rattle.catching.proofs.Flagging.{none_flagged, one-listed, one-unlisted}
 use Rattle.catching.proofs.sending.flag_unlisted.Given as goal
 
 abbrev pub invariant-loop-i : goal.invariant-loop-i
-invariant-loop-i l =    (l.i ≤ length l.ids) × FlagsUnlisted l.ids (chunks_in l.heads l.words l.count) (length l.initial.left) l.i l.left
+invariant-loop-i l = (l.i ≤ length l.ids) × FlagsUnlisted l.ids (chunks_in l.heads l.words l.count) (length l.initial.left) l.i l.left
 
 abbrev pub decreases-loop-i : goal.decreases-loop-i
 decreases-loop-i l = length l.ids - l.i

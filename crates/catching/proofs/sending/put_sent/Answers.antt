@@ -21,7 +21,6 @@ zeros (suc n) zero = refl
 zeros (suc n) (suc p) = zeros n p
 
 module _ (s : Start) where
-
   abbrev rows : List ℕ
   rows = s.args.characters.now
 
@@ -81,10 +80,10 @@ sequence-sent-requires c =
       ids_in_bounds_3 = omega (arith, first_part (goal.at.sequence-sent-requires c).Start, c.requires.n_le_character_slots, f.size-kept);
       rows_alone = f.alone;
       ids_in_bounds_4 = omega (
-                  arith,
-                  first_part (goal.at.sequence-sent-requires c).Start,
-                  c.requires.n_le_character_slots,
-                );
+        arith,
+        first_part (goal.at.sequence-sent-requires c).Start,
+        c.requires.n_le_character_slots,
+      );
     }
 
 pub put_inserts-requires : goal.put_inserts-requires

@@ -24,15 +24,15 @@ unfolding within
 above clock h = rw (le-leb 1 clock h)
 
 pub returns-then-site-lt1 : goal.returns-then-site-lt1
-returns-then-site-lt1 c = sym (reading _ _ (within-under 1 last_site _ c.if-site-lt1.taken) refl)
+returns-then-site-lt1 c = sym (reading _ _ (within-under 1 last_site _ c.if-site-lt1.true) refl)
 
 pub returns-then-site-gt16 : goal.returns-then-site-gt16
-returns-then-site-gt16 c = sym (reading _ _ (within-above 1 last_site _ c.if-site-gt16.taken) refl)
+returns-then-site-gt16 c = sym (reading _ _ (within-above 1 last_site _ c.if-site-gt16.true) refl)
 
 pub returns-then-clock-lt1 : goal.returns-then-clock-lt1
 returns-then-clock-lt1 c =
-    sym (reading _ _ (inside _ c.if-site-lt1.left c.if-site-gt16.left) (within-under 1 last_clock _ c.if-clock-lt1.taken))
+    sym (reading _ _ (inside _ c.if-site-lt1.false c.if-site-gt16.false) (within-under 1 last_clock _ c.if-clock-lt1.true))
 
 pub returns : goal.returns
 returns c =
-    sym (reading _ _ (inside _ c.if-site-lt1.left c.if-site-gt16.left) (above _ c.if-clock-lt1.left))
+    sym (reading _ _ (inside _ c.if-site-lt1.false c.if-site-gt16.false) (above _ c.if-clock-lt1.false))

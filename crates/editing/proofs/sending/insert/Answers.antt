@@ -29,7 +29,7 @@ pub returns-then-not-code_point : goal.returns-then-not-code_point
 unfolding inserting_here turned quiet
 returns-then-not-code_point c =
     let s = c.args.bytes.now in
-    let out_of_range = sym c.code_point.ensures ∙ not-true _ c.if-not-code_point.true-raw in
+    let out_of_range = sym c.code_point.ensures ∙ c.if-not-code_point.true in
     let told = ap (λ (b : Bool). first (input_checks s true b)) out_of_range ∙ refused-range _ c.read_into-found.ensures.answer_value ∙ ap some (sym c.first_of.ensures) in
     leaves_by (turned-away _ _ _ told) (c.number_of_refusal.ensures, refl, refl)
 
@@ -37,7 +37,7 @@ pub returns-in-Refused : goal.returns-in-Refused
 unfolding inserting_here turned quiet
 returns-in-Refused c =
     let s = c.args.bytes.now in
-    let in-range = sym c.code_point.ensures ∙ not-false _ c.if-not-code_point.false-raw in
+    let in-range = sym c.code_point.ensures ∙ c.if-not-code_point.false in
     let told = ap (λ (b : Bool). first (input_checks s true b)) in-range ∙ refused_alone _ c.read_into-found.ensures.answer_value _ c.in-Refused.is in
     leaves_by (turned-away _ _ _ told) (c.number_of_refusal-in-Refused.ensures, refl, refl)
 
@@ -46,7 +46,7 @@ unfolding inserting_here
 returns-in-Done c =
     let a = c.args in
     let z = c.read_into-found.ensures in
-    let in-range = sym c.code_point.ensures ∙ not-false _ c.if-not-code_point.false-raw in
+    let in-range = sym c.code_point.ensures ∙ c.if-not-code_point.false in
     let p = passed _ z.answer_value c.in-Done.is z.links_after in
     leaves_by (goes_on_lem _ _ _ (ap (λ (b : Bool). first (input_checks a.bytes.now true b)) in-range ∙ p.0) ∙ type_bridge _ _ p.1 _ _ _ _ in-range)
     c.insert.ensures

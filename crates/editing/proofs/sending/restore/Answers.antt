@@ -47,7 +47,7 @@ pub returns-then-not-names_character : goal.returns-then-not-names_character
 unfolding restoring_here turned quiet
 returns-then-not-names_character c =
     let s = c.args.bytes.now in
-    let out_of_range = sym c.names_character.ensures ∙ not-true _ c.if-not-names_character.true-raw in
+    let out_of_range = sym c.names_character.ensures ∙ c.if-not-names_character.true in
     let told = ap (λ (b : Bool). first (input_checks s true b)) out_of_range ∙ refused-range _ c.read_into-found.ensures.answer_value ∙ ap some (sym c.first_of.ensures) in
     leaves_by (turned-away _ _ _ told) (c.number_of_refusal.ensures, refl, refl)
 
@@ -55,7 +55,7 @@ pub returns-in-Refused : goal.returns-in-Refused
 unfolding restoring_here turned quiet
 returns-in-Refused c =
     let s = c.args.bytes.now in
-    let in-range = sym c.names_character.ensures ∙ not-false _ c.if-not-names_character.false-raw in
+    let in-range = sym c.names_character.ensures ∙ c.if-not-names_character.false in
     let told = ap (λ (b : Bool). first (input_checks s true b)) in-range ∙ refused_alone _ c.read_into-found.ensures.answer_value _ c.in-Refused.is in
     leaves_by (turned-away _ _ _ told) (c.number_of_refusal-in-Refused.ensures, refl, refl)
 
@@ -64,7 +64,7 @@ unfolding restoring_here
 returns-in-Done c =
     let a = c.args in
     let z = c.read_into-found.ensures in
-    let in-range = sym c.names_character.ensures ∙ not-false _ c.if-not-names_character.false-raw in
+    let in-range = sym c.names_character.ensures ∙ c.if-not-names_character.false in
     let p = passed _ z.answer_value c.in-Done.is z.links_after in
     let fit = named-fits _ _ in-range in
     let id = fits_whole c.identifier-id.ensures fit.0 fit.1 in

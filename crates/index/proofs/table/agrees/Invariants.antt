@@ -12,7 +12,7 @@ use Rattle.woot.specs.Table.{found_at, agrees}
 use Rattle.index.proofs.table.agrees.Given as goal
 
 abbrev pub invariant-loop-i : goal.invariant-loop-i
-invariant-loop-i l =    (l.i ≤ length l.keys) × (throughout (found_at (record { l.heads = l.heads; l.links = l.links }) l.keys) l.i ≡ true)
+invariant-loop-i l = (l.i ≤ length l.keys) × (throughout (found_at (record { heads = l.heads; links = l.links }) l.keys) l.i ≡ true)
 
 abbrev pub decreases-loop-i : goal.decreases-loop-i
 decreases-loop-i l = length l.keys - l.i

@@ -24,12 +24,12 @@ ended head ns at end i e h =
 pub returns-then-not-has_room : goal.returns-then-not-has_room
 returns-then-not-has_room c =
     let a = c.args in
-    let low = lacks-room _ _ _ (sym c.has_room.ensures ∙ not-true _ c.if-not-has_room.true-raw) in
+    let low = lacks-room _ _ _ (sym c.has_room.ensures ∙ c.if-not-has_room.true) in
     short _ _ (line_of a.head.now a.numbers.now) (omega (arith, low, line_length a.head.now a.numbers.now))
 
 -- there is room for the head word
 fits : (c : Else-not-has_room) → c.args.at + length c.args.head.now ≤ c.args.size
-fits c = has_room_lem _ _ _ (sym c.has_room.ensures ∙ not-false _ c.if-not-has_room.false-raw)
+fits c = has_room_lem _ _ _ (sym c.has_room.ensures ∙ c.if-not-has_room.false)
 
 pub overflow_add-end : goal.overflow_add-end
 overflow_add-end c = omega (arith, fits (goal.at.overflow_add-end c).Else-not-has_room)
@@ -51,14 +51,14 @@ pub returns-then-not-has_room-2 : goal.returns-then-not-has_room-2
 returns-then-not-has_room-2 c =
     let l = c.loop-i in
     let a = c.args in
-    let low = lacks-room _ _ _ (sym c.has_room-in-loop-i.ensures ∙ not-true _ c.if-not-has_room-2.true-raw) in
+    let low = lacks-room _ _ _ (sym c.has_room-in-loop-i.ensures ∙ c.if-not-has_room-2.true) in
     short _ _ (line_of a.head.now a.numbers.now)
     (omega (arith, low, l.invariant.2, c.width-count.ensures, columns-length a.numbers.now l.i (omega arith), line_length a.head.now a.numbers.now))
 
 -- there is room for the number
 fits_2 : (c : Else-not-has_room-2)
     → c.loop-i.end + (c.width-count.result + 1) ≤ c.args.size
-fits_2 c = has_room_lem _ _ _ (sym c.has_room-in-loop-i.ensures ∙ not-false _ c.if-not-has_room-2.false-raw)
+fits_2 c = has_room_lem _ _ _ (sym c.has_room-in-loop-i.ensures ∙ c.if-not-has_room-2.false)
 
 pub overflow_add-end-in-loop-i : goal.overflow_add-end-in-loop-i
 overflow_add-end-in-loop-i c = omega (arith, fits_2 (goal.at.overflow_add-end-in-loop-i c).Else-not-has_room-2)

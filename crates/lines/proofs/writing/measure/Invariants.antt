@@ -14,7 +14,7 @@ use Rattle.lines.proofs.Rooms.{until, short}
 use Rattle.lines.proofs.writing.measure.Given as goal
 
 abbrev pub invariant-loop-i : goal.invariant-loop-i
-invariant-loop-i l =    (l.i ≤ length l.numbers) × (l.end ≤ l.size) × (l.end + length (columns (drop l.i l.numbers)) ≡ l.at + (length l.head + length (columns l.numbers)))
+invariant-loop-i l = (l.i ≤ length l.numbers) × (l.end ≤ l.size) × (l.end + length (columns (drop l.i l.numbers)) ≡ l.at + (length l.head + length (columns l.numbers)))
 
 abbrev pub decreases-loop-i : goal.decreases-loop-i
 decreases-loop-i l = length l.numbers - l.i

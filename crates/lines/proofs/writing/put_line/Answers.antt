@@ -49,9 +49,9 @@ returns c =
     let q = c.put.ensures in
     record {
       value = (line_put a.head.now a.numbers.now a.out.now a.at (fits (goal.at.returns c).In_default) p.0 p.1
-    (last c.loop-i.invariant c.loop-i-test.false q.0 q.1)).0;
+          (last c.loop-i.invariant c.loop-i-test.false q.0 q.1)).0;
       out_after = (line_put a.head.now a.numbers.now a.out.now a.at (fits (goal.at.returns c).In_default) p.0 p.1
-    (last c.loop-i.invariant c.loop-i-test.false q.0 q.1)).1;
+          (last c.loop-i.invariant c.loop-i-test.false q.0 q.1)).1;
     }
 
 pub shape_of-out : goal.shape_of-out

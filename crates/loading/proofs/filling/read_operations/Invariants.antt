@@ -13,7 +13,7 @@ use Rattle.saved_lines.specs.Judging.{operation_read}
 use Rattle.loading.proofs.filling.read_operations.Given as goal
 
 abbrev pub invariant-loop-left : goal.invariant-loop-left
-invariant-loop-left l =    BackLoop l.version l.bytes l.pending l.count l.in_range l.left
+invariant-loop-left l = BackLoop l.version l.bytes l.pending l.count l.in_range l.left
 
 abbrev pub decreases-loop-left : goal.decreases-loop-left
 decreases-loop-left l = length l.left

@@ -14,7 +14,7 @@ use Rattle.lines.proofs.Fronts.{part_from}
 use Rattle.loading.proofs.filling.read_rows_at.Given as goal
 
 abbrev pub invariant-loop-left : goal.invariant-loop-left
-invariant-loop-left l =    FrontLoop l.rows l.bytes (length l.initial.starts) l.starts (length l.initial.places) l.places l.characters l.toggles l.count l.in_range l.left
+invariant-loop-left l = FrontLoop l.rows l.bytes (length l.initial.starts) l.starts (length l.initial.places) l.places l.characters l.toggles l.count l.in_range l.left
 
 abbrev pub decreases-loop-left : goal.decreases-loop-left
-decreases-loop-left l =    length l.left
+decreases-loop-left l = length l.left

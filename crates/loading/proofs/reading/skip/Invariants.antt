@@ -9,7 +9,7 @@ use Rattle.lines.proofs.Lines.{skip-lines, skip_closed}
 use Rattle.loading.proofs.reading.skip.Given as goal
 
 abbrev pub invariant-loop-i : goal.invariant-loop-i
-invariant-loop-i l =    (l.i ≤ l.n) × (l.n ≤ length (lines l.bytes)) × (lines l.left ≡ drop l.i (lines l.bytes)) × (closed l.left ≡ closed l.bytes)
+invariant-loop-i l = (l.i ≤ l.n) × (l.n ≤ length (lines l.bytes)) × (lines l.left ≡ drop l.i (lines l.bytes)) × (closed l.left ≡ closed l.bytes)
 
 abbrev pub decreases-loop-i : goal.decreases-loop-i
 decreases-loop-i l = l.n - l.i

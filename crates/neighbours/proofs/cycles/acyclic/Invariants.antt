@@ -10,7 +10,7 @@ use Rattle.neighbours.proofs.Passing.{remaining-first, AllSpared, spared_first, 
 use Rattle.neighbours.proofs.cycles.acyclic.Given as goal
 
 abbrev pub invariant-loop-left : goal.invariant-loop-left
-invariant-loop-left l =    (remaining l.flags l.n ≡ l.left) × AllSpared l.above l.below l.n l.flags × (length l.flags ≡ 1024)
+invariant-loop-left l = (remaining l.flags l.n ≡ l.left) × AllSpared l.above l.below l.n l.flags × (length l.flags ≡ 1024)
 
 abbrev pub decreases-loop-left : goal.decreases-loop-left
 decreases-loop-left l = l.left

@@ -13,7 +13,6 @@ use Rattle.neighbours.specs.Steps.{settled, unflagged}
 use Rattle.neighbours.proofs.cycles.settled.Goals as goal
 
 module _ (flags : List ℕ) (n p : ℕ) where
-
   mark : p ≡ 0 → true ≡ settled (unflagged flags) n p
   unfolding settled
   mark e = sym (or_left (eqb p 0) (ltb n p || not (unflagged flags (p - 1))) (eq-eqb p 0 e))

@@ -13,7 +13,6 @@ use Rattle.neighbours.proofs.Passing.{stays, goes}
 use Rattle.neighbours.proofs.cycles.take_free.Goals as goal
 
 module _ (above below : List ℕ) (n : ℕ) (flags : List ℕ) (k : ℕ) where
-
   flagged : (get_or flags k 0 ≡ 0 → ⊥) → unflagged flags k ≡ false
   unfolding unflagged
   flagged h = ne_eqb (get_or flags k 0) 0 h
@@ -24,7 +23,6 @@ module _ (above below : List ℕ) (n : ℕ) (flags : List ℕ) (k : ℕ) where
 
   -- a neighbour, by the test of its place
   module _ (places : List ℕ) {p : ℕ} {b : Bool} (e : p ≡ get_or places k 0) (f : b ≡ settled (unflagged flags) n p) where
-
     here : b ≡ settled (unflagged flags) n (get_or places k 0)
     here = f ∙ ap (settled (unflagged flags) n) e
 

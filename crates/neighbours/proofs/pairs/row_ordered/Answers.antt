@@ -26,7 +26,6 @@ module _ (ids below : List ℕ) (p k : ℕ) where
       (lt-ltb j p (omega (arith, i, h))))
 
   module _ (j : ℕ) where
-
     wrong : {q : ℕ} → p ≤ j → q ≡ get_or below j 0 → k + 1 < q → get_or ids k 0 < get_or ids j 0
         → pair_at ids below p k j ≡ false
     unfolding pair_at

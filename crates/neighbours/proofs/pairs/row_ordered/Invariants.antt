@@ -16,7 +16,7 @@ use Rattle.neighbours.specs.Steps.{pair_at}
 use Rattle.neighbours.proofs.pairs.row_ordered.Given as goal
 
 abbrev pub invariant-loop-j : goal.invariant-loop-j
-invariant-loop-j l =    (l.above ≤ l.j) × (throughout (pair_at l.ids l.below l.above l.k) l.j ≡ true)
+invariant-loop-j l = (l.above ≤ l.j) × (throughout (pair_at l.ids l.below l.above l.k) l.j ≡ true)
 
 abbrev pub decreases-loop-j : goal.decreases-loop-j
 decreases-loop-j l = l.k - l.j

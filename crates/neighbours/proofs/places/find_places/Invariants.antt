@@ -16,7 +16,7 @@ abbrev pub Found : List ℕ → List ℕ → List ℕ → ℕ → Type 0
 Found ids keys places i = (j : ℕ) → j < i → get_or places j 0 ≡ place_in ids (get_or keys j 0)
 
 abbrev pub invariant-loop-i : goal.invariant-loop-i
-invariant-loop-i l =    (l.i ≤ length l.ids) × (length l.places ≡ length l.initial.places) × Found l.ids l.keys l.places l.i
+invariant-loop-i l = (l.i ≤ length l.ids) × (length l.places ≡ length l.initial.places) × Found l.ids l.keys l.places l.i
 
 abbrev pub decreases-loop-i : goal.decreases-loop-i
 decreases-loop-i l = length l.ids - l.i

@@ -11,7 +11,7 @@ use Rattle.pending.proofs.Searches.{left, left-counted, left_passed, left-none}
 use Rattle.pending.proofs.counts.count_inserts.Given as goal
 
 abbrev pub invariant-loop-i : goal.invariant-loop-i
-invariant-loop-i l =    (l.i ≤ length l.own) × (l.count ≤ l.i) × (l.count + left (λ k. not (eqb k 0)) l.own l.i ≡ left (λ k. not (eqb k 0)) l.own 0)
+invariant-loop-i l = (l.i ≤ length l.own) × (l.count ≤ l.i) × (l.count + left (λ k. not (eqb k 0)) l.own l.i ≡ left (λ k. not (eqb k 0)) l.own 0)
 
 abbrev pub decreases-loop-i : goal.decreases-loop-i
 decreases-loop-i l = length l.own - l.i

@@ -9,7 +9,7 @@ use Rattle.pending.proofs.Searches.{sent_left, sent-counted, sent-passed, sent-n
 use Rattle.pending.proofs.counts.count_sender.Given as goal
 
 abbrev pub invariant-loop-i : goal.invariant-loop-i
-invariant-loop-i l =    (l.i ≤ l.end) × (l.end ≡ min (length l.own) (length l.values)) × (l.count ≤ l.i)
+invariant-loop-i l = (l.i ≤ l.end) × (l.end ≡ min (length l.own) (length l.values)) × (l.count ≤ l.i)
     × (l.count + sent_left l.sender l.own l.values l.i ≡ sent_left l.sender l.own l.values 0)
 
 abbrev pub decreases-loop-i : goal.decreases-loop-i

@@ -10,7 +10,7 @@ use Rattle.pending.proofs.Searches.{toggle_left, toggle_here, toggle_passed, tog
 use Rattle.pending.proofs.counts.has_toggle.Given as goal
 
 abbrev pub invariant-loop-i : goal.invariant-loop-i
-invariant-loop-i l =    (l.i ≤ l.end) × (l.end ≡ min (length l.own) (min (length l.first) (length l.values)))
+invariant-loop-i l = (l.i ≤ l.end) × (l.end ≡ min (length l.own) (min (length l.first) (length l.values)))
     × (has_toggle l.key l.stamp l.own l.first l.values ≡ toggle_left l.key l.stamp l.own l.first l.values l.i)
 
 abbrev pub decreases-loop-i : goal.decreases-loop-i

@@ -9,7 +9,7 @@ use Rattle.pending.proofs.Earliest.{ready_left, ready_start, ready_here, ready_p
 use Rattle.pending.proofs.ready.ready.Given as goal
 
 abbrev pub invariant-loop-i : goal.invariant-loop-i
-invariant-loop-i l =    (l.i ≤ l.end) × (l.end ≡ min (length l.first) (length l.second)) × (ready_in l.ids l.first l.second ≡ ready_left l.ids l.first l.second l.i)
+invariant-loop-i l = (l.i ≤ l.end) × (l.end ≡ min (length l.first) (length l.second)) × (ready_in l.ids l.first l.second ≡ ready_left l.ids l.first l.second l.i)
 
 abbrev pub decreases-loop-i : goal.decreases-loop-i
 decreases-loop-i l = l.end - l.i

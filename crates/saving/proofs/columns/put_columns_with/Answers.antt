@@ -34,9 +34,9 @@ pub returns-in_default : goal.returns-in_default
 returns-in_default c =
     record {
       value = (front-short (front c) (body c) (bytes c) c.args.out.now (whole (goal.at.returns-in_default c).Start) (rw c.version-version.ensures at c.measure_site_with-front.ensures)
-    c.in_default.is).0;
+          c.in_default.is).0;
       out_after = (front-short (front c) (body c) (bytes c) c.args.out.now (whole (goal.at.returns-in_default c).Start) (rw c.version-version.ensures at c.measure_site_with-front.ensures)
-    c.in_default.is).1;
+          c.in_default.is).1;
     }
 
 pub measure-room-requires : goal.measure-room-requires
@@ -51,9 +51,9 @@ pub returns-in_default-room : goal.returns-in_default-room
 returns-in_default-room c =
     record {
       value = (body-short (front c) (body c) (bytes c) c.args.out.now (whole (goal.at.returns-in_default-room c).Start) (rw c.version-version.ensures at c.measure_site_with-front.ensures)
-    c.in-Until.is c.measure-room.ensures c.in_default-room.is).0;
+          c.in-Until.is c.measure-room.ensures c.in_default-room.is).0;
       out_after = (body-short (front c) (body c) (bytes c) c.args.out.now (whole (goal.at.returns-in_default-room c).Start) (rw c.version-version.ensures at c.measure_site_with-front.ensures)
-    c.in-Until.is c.measure-room.ensures c.in_default-room.is).1;
+          c.in-Until.is c.measure-room.ensures c.in_default-room.is).1;
     }
 
 pub put_lines-requires : goal.put_lines-requires
@@ -69,9 +69,9 @@ pub returns : goal.returns
 returns c =
     record {
       value = (body-put (front c) (body c) (bytes c) c.args.out.now (whole (goal.at.returns c).Start) (rw c.version-version.ensures at c.measure_site_with-front.ensures)
-    c.in-Until.is c.measure-room.ensures c.in-Until-room.is
-    (rw c.version-version.ensures at c.put_site_with-at.ensures) c.put_lines.ensures).0;
+          c.in-Until.is c.measure-room.ensures c.in-Until-room.is
+          (rw c.version-version.ensures at c.put_site_with-at.ensures) c.put_lines.ensures).0;
       out_after = (body-put (front c) (body c) (bytes c) c.args.out.now (whole (goal.at.returns c).Start) (rw c.version-version.ensures at c.measure_site_with-front.ensures)
-    c.in-Until.is c.measure-room.ensures c.in-Until-room.is
-    (rw c.version-version.ensures at c.put_site_with-at.ensures) c.put_lines.ensures).1;
+          c.in-Until.is c.measure-room.ensures c.in-Until-room.is
+          (rw c.version-version.ensures at c.put_site_with-at.ensures) c.put_lines.ensures).1;
     }

@@ -12,11 +12,11 @@ slice_bounds-numbers-end c = omega (arith, c.requires, full_line c.args.line c.w
 pub slice_bounds-measure-end-2 : goal.slice_bounds-measure-end-2
 slice_bounds-measure-end-2 c =
     simp length-take (omega (
-  arith,
-  c.requires,
-  full_line c.args.line
-      c.well-formed.0,
-))
+      arith,
+      c.requires,
+      full_line c.args.line
+          c.well-formed.0,
+    ))
 
 pub returns : goal.returns
 unfolding line_bytes

@@ -9,20 +9,20 @@ use Rattle.saving.proofs.numbered.put_numbered.Goals as goal
 pub slice_bounds-numbers-end : goal.slice_bounds-numbers-end
 slice_bounds-numbers-end c =
     omega (
-  arith,
-  c.requires,
-  full_line c.args.line
-      c.well-formed.0,
-)
+      arith,
+      c.requires,
+      full_line c.args.line
+          c.well-formed.0,
+    )
 
 pub slice_bounds-put_line-end-2 : goal.slice_bounds-put_line-end-2
 slice_bounds-put_line-end-2 c =
     simp length-take (omega (
-  arith,
-  c.requires,
-  full_line
-      c.args.line c.well-formed.0,
-))
+      arith,
+      c.requires,
+      full_line
+          c.args.line c.well-formed.0,
+    ))
 
 pub returns : goal.returns
 unfolding line_bytes

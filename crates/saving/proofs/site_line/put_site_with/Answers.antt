@@ -13,8 +13,8 @@ returns-in-First c =
     let p = c.put_line.ensures in
     let e = ap (line_of (site_head First)) c.site_numbers_with-numbers.ensures in
     record {
-      value = (rw c.in-First.is (p.value ∙ ap (past _ _) e, p.out_after ∙ ap (placed _ _) e)).0;
-      out_after = (rw c.in-First.is (p.value ∙ ap (past _ _) e, p.out_after ∙ ap (placed _ _) e)).1;
+      value = rw c.in-First.is (p.value ∙ ap (past _ _) e);
+      out_after = rw c.in-First.is (p.out_after ∙ ap (placed _ _) e);
     }
 
 pub returns-in-Second : goal.returns-in-Second
@@ -23,6 +23,6 @@ returns-in-Second c =
     let p = c.put_line-in-Second.ensures in
     let e = ap (line_of (site_head Second)) c.site_numbers_with-numbers.ensures in
     record {
-      value = (rw c.in-Second.is (p.value ∙ ap (past _ _) e, p.out_after ∙ ap (placed _ _) e)).0;
-      out_after = (rw c.in-Second.is (p.value ∙ ap (past _ _) e, p.out_after ∙ ap (placed _ _) e)).1;
+      value = rw c.in-Second.is (p.value ∙ ap (past _ _) e);
+      out_after = rw c.in-Second.is (p.out_after ∙ ap (placed _ _) e);
     }

@@ -13,7 +13,7 @@ use Rattle.transcript.proofs.Listings.{Gathered, gathered_none, gathered-shown, 
 use Rattle.transcript.proofs.report.list.Given as goal
 
 abbrev pub invariant-loop-i : goal.invariant-loop-i
-invariant-loop-i l =    (l.i ≤ l.n) × (l.count ≤ l.i) × (length l.values ≡ 1025) × ((cs : List Character) → code_points_of cs ≡ take l.n l.code_points → toggle_counts cs ≡ take l.n l.toggles → Gathered cs l.values l.count l.i)
+invariant-loop-i l = (l.i ≤ l.n) × (l.count ≤ l.i) × (length l.values ≡ 1025) × ((cs : List Character) → code_points_of cs ≡ take l.n l.code_points → toggle_counts cs ≡ take l.n l.toggles → Gathered cs l.values l.count l.i)
 
 abbrev pub decreases-loop-i : goal.decreases-loop-i
 decreases-loop-i l = l.n - l.i

@@ -33,8 +33,6 @@ pub returns : goal.returns
 returns c =
     let p = c.put_line.ensures in
     record {
-      value = (rw (← (head (goal.at.returns c).After-put_all-end).bytes)
-    (c.fitted.ensures ∙ offset_fitted _ _ (line_some _ _) p.value, put-after _ _ p.out_after)).0;
-      out_after = (rw (← (head (goal.at.returns c).After-put_all-end).bytes)
-    (c.fitted.ensures ∙ offset_fitted _ _ (line_some _ _) p.value, put-after _ _ p.out_after)).1;
+      value = rw (← (head (goal.at.returns c).After-put_all-end).bytes) (c.fitted.ensures ∙ offset_fitted _ _ (line_some _ _) p.value);
+      out_after = rw (← (head (goal.at.returns c).After-put_all-end).bytes) (put-after _ _ p.out_after);
     }

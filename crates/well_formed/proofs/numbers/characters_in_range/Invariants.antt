@@ -15,7 +15,7 @@ use Rattle.woot.specs.Memory.{character_of}
 use Rattle.well_formed.proofs.numbers.characters_in_range.Given as goal
 
 abbrev pub invariant-loop-i : goal.invariant-loop-i
-invariant-loop-i l =    (l.i ≤ l.n) × (l.kept ≡ throughout (λ j. insert_in_range (origin (character_of (get_or l.ids j 0) (get_or l.previous j 0) (get_or l.next j 0) (get_or l.codes j 0) 0))) l.i)
+invariant-loop-i l = (l.i ≤ l.n) × (l.kept ≡ throughout (λ j. insert_in_range (origin (character_of (get_or l.ids j 0) (get_or l.previous j 0) (get_or l.next j 0) (get_or l.codes j 0) 0))) l.i)
 
 abbrev pub decreases-loop-i : goal.decreases-loop-i
 decreases-loop-i l = l.n - l.i

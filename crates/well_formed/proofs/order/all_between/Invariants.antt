@@ -14,7 +14,7 @@ use Rattle.well_formed.specs.Order.{stands_between, between_at}
 use Rattle.well_formed.proofs.order.all_between.Given as goal
 
 abbrev pub invariant-loop-i : goal.invariant-loop-i
-invariant-loop-i l =    (l.i ≤ length l.ids) × (l.end ≡ place_in l.ids 1) × (throughout (between_at l.ids l.previous l.next) l.i ≡ true)
+invariant-loop-i l = (l.i ≤ length l.ids) × (l.end ≡ place_in l.ids 1) × (throughout (between_at l.ids l.previous l.next) l.i ≡ true)
 
 abbrev pub decreases-loop-i : goal.decreases-loop-i
 decreases-loop-i l = length l.ids - l.i
