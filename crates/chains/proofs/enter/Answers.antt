@@ -49,5 +49,4 @@ returns-else-head-gt0 c =
     let k = c.chain-c in
     headed _ a.i _ p.result k.result p.ensures.value k.ensures.value
     (λ h g.
-    ⊎_elim (λ v. let out : a.i < p.result = leb-false _ _ v.1.left in omega arith) (λ v. omega arith)
-    c.else-head-gt0.branch)
+    ⊎_elim (λ v. omega (arith, v.1)) (λ v. omega arith) c.else-head-gt0.either)

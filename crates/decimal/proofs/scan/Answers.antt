@@ -8,7 +8,7 @@ use borrow.Author.Rules.{rules}
 use borrow.Author.Tests.{ltb-false}
 use Rattle.decimal.proofs.Laws.{digit-range}
 use Rattle.decimal.proofs.Scanning.{Scanning, scan-begun, is-there, scan-more, scan-above, scan-done}
-use Rattle.decimal.proofs.scan.Goals.{After-digit_value-digit, Else-exceeds, Joined-value-lt-ROOMY}
+use Rattle.decimal.proofs.scan.Goals.{After-digit_value-digit, Else-exceeds, Joined-value-lt-ROOMY, then-value-lt-ROOMY, else-value-lt-ROOMY+then-exceeds, else-value-lt-ROOMY+else-exceeds}
 use Rattle.decimal.proofs.scan.Goals as goal
 
 pub loop-digit-init : goal.loop-digit-init
@@ -59,9 +59,13 @@ pub loop-digit-preserved : goal.loop-digit-preserved
 loop-digit-preserved c =
     let l = c.loop-digit in
     let there = sym c.digit_at.ensures ∙ c.loop-digit-test.true in
-    ⊎_elim (λ w. rw (w.1, w.2) (scan-more l.invariant there c.digit_value-digit.ensures))
-    (⊎_elim (λ w. rw (w.3, w.4) (scan-above l.invariant there c.digit_value-digit.ensures (sym w.1.ensures ∙ w.2.taken)))
-    (λ w. rw (w.3, w.4) (scan-more l.invariant there c.digit_value-digit.ensures))) c.if-value-lt-ROOMY.branch
+    elim c.if-value-lt-ROOMY.branch [
+      then-value-lt-ROOMY w ↦ rw (w.value-is, w.above-is) (scan-more l.invariant there c.digit_value-digit.ensures)
+    | else-value-lt-ROOMY+then-exceeds w ↦
+      rw (w.value-is, w.above-is)
+      (scan-above l.invariant there c.digit_value-digit.ensures (sym w.exceeds.ensures ∙ w.if-exceeds.true))
+    | else-value-lt-ROOMY+else-exceeds w ↦ rw (w.value-is, w.above-is) (scan-more l.invariant there c.digit_value-digit.ensures)
+    ]
 
 pub bounds-s-from : goal.bounds-s-from
 bounds-s-from c = c.requires
