@@ -43,7 +43,6 @@ module _ {A : Type 0} where
   pub reported_first : (cs : List (Check A)) (a : A) → Reported a cs → first cs ≡ some a
   reported_first cs a r = reported_in a cs r
 
-
   -- an answer that what is done never gives is the first of the checks: `view` reads off the answer that is turned
   pub decided_exactly : {B : Type 0} (turned : A → B) (view : B → A) → ((x : A) → view (turned x) ≡ x) → (cs : List (Check A)) (b : B) (a : A) → (view b ≡ a → ⊥)
       → (view (decided turned (first cs) b) ≡ a) ↔ Reported a cs

@@ -7,7 +7,7 @@ use Rattle.cursor.proofs.receive_at.Goals as goal
 
 -- the arrays that were passed
 full : (s : Start) → FullArrays s.args.replica.document
-full s = full-replica s.well-formed.0
+full s = full-replica s.well_formed.0
 
 pub carry_at-received-requires : goal.carry_at-received-requires
 carry_at-received-requires c =

@@ -13,7 +13,7 @@ use Rattle.effects.proofs.save_and_send.Goals as goal
 pub save_both-requires : goal.save_both-requires
 save_both-requires c =
     let r = c.args.generated.replica in
-    let full = full-generated c.args.generated c.well-formed.0 in
+    let full = full-generated c.args.generated c.well_formed.0 in
     let w = few-held r (c.requires (sent-changes c.in-Done.is)) in
     record {
       characters_len = full.characters;

@@ -22,7 +22,7 @@ pub in_field-requires : goal.in_field-requires
 in_field-requires c = field-le (first_line c.args.s.now) _ c.loop-i.invariant
 
 pub overflow_add-i : goal.overflow_add-i
-overflow_add-i c = omega (arith, further (goal.at.overflow_add-i c).In-loop-i, line_field-le c.args.s.now, c.well-formed)
+overflow_add-i c = omega (arith, further (goal.at.overflow_add-i c).In-loop-i, line_field-le c.args.s.now, c.well_formed)
 
 pub loop-i-smaller : goal.loop-i-smaller
 loop-i-smaller c = omega (arith, further (goal.at.loop-i-smaller c).In-loop-i, line_field-le c.args.s.now)

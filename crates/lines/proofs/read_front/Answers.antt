@@ -68,4 +68,4 @@ pub slice_bounds-read_ending-start : goal.slice_bounds-read_ending-start
 slice_bounds-read_ending-start c = omega (arith, end-le (goal.at.slice_bounds-read_ending-start c).Else-not-same_bytes)
 
 pub overflow_add-feed : goal.overflow_add-feed
-overflow_add-feed c = omega (arith, end-le (goal.at.overflow_add-feed c).Else-not-same_bytes, c.read_ending-read.ensures.end_in_bounds, part-le c.args.s.now c.first_field-end.result, c.well-formed)
+overflow_add-feed c = omega (arith, end-le (goal.at.overflow_add-feed c).Else-not-same_bytes, c.read_ending-read.ensures.end_in_bounds, part-le c.args.s.now c.first_field-end.result, c.well_formed)

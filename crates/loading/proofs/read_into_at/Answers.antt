@@ -43,6 +43,12 @@ settle-raised-requires c =
       links_len = z.links_len;
     }
 
+pub shape_of-heads : goal.shape_of-heads
+shape_of-heads c = search rules
+
+pub shape_of-links : goal.shape_of-links
+shape_of-links c = search rules
+
 pub returns : goal.returns
 returns c =
     let z = c.requires in
@@ -52,8 +58,8 @@ returns c =
       characters_len = i.characters_len;
       toggles_len = i.toggles_len;
       pending_len = i.pending_len;
-      heads_len_2 = same-length-9 c ∙ z.heads_len;
-      links_len_2 = same-length-10 c ∙ z.links_len;
+      heads_len_2 = shape_of-heads c ∙ z.heads_len;
+      links_len_2 = shape_of-links c ∙ z.links_len;
       links_after = (λ d. all-raised c.args.version c.args.bytes.now (sym i.answer_value ∙ d) (i.held d) c.settle-raised.ensures.value c.settle-raised.ensures.links_after);
       rows_noted = i.rows_noted;
     }

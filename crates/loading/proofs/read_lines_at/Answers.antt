@@ -138,18 +138,36 @@ read_rows_at-ahead-requires c =
 pub read_operations-back-requires : goal.read_operations-back-requires
 read_operations-back-requires c = c.requires.pending_value
 
+pub shape_of-places-then-not-back : goal.shape_of-places-then-not-back
+shape_of-places-then-not-back c = search rules
+
+pub shape_of-characters-then-not-back : goal.shape_of-characters-then-not-back
+shape_of-characters-then-not-back c = search rules
+
+pub shape_of-toggles-then-not-back : goal.shape_of-toggles-then-not-back
+shape_of-toggles-then-not-back c = search rules
+
 pub returns-then-not-back : goal.returns-then-not-back
 returns-then-not-back c =
     let z = c.requires in
     record {
       answer_value = c.refuse_into-then-not-back.ensures ∙ lacks (goal.at.returns-then-not-back c).After-read_operations-back (not-true _ c.if-not-back.true);
-      places_len_unchanged = same-length-2 (goal.at.returns-then-not-back c).After-read_operations-back;
-      characters_len = same-length-3 c ∙ ap length z.characters_value ∙ characters-length [];
-      toggles_len = same-length-4 c ∙ ap length z.toggles_value ∙ toggles-length [];
+      places_len_unchanged = shape_of-places-then-not-back (goal.at.returns-then-not-back c).After-read_operations-back;
+      characters_len = shape_of-characters-then-not-back c ∙ ap length z.characters_value ∙ characters-length [];
+      toggles_len = shape_of-toggles-then-not-back c ∙ ap length z.toggles_value ∙ toggles-length [];
       pending_len = (operations-read (goal.at.returns-then-not-back c).After-read_operations-back).1.0;
       held = (λ d. absurd (never_done Layout (sym d ∙ c.refuse_into-then-not-back.ensures)));
       rows_noted = (λ d. absurd (never_done Layout (sym d ∙ c.refuse_into-then-not-back.ensures)));
     }
+
+pub shape_of-places-then-not-both : goal.shape_of-places-then-not-both
+shape_of-places-then-not-both c = search rules
+
+pub shape_of-characters-then-not-both : goal.shape_of-characters-then-not-both
+shape_of-characters-then-not-both c = search rules
+
+pub shape_of-toggles-then-not-both : goal.shape_of-toggles-then-not-both
+shape_of-toggles-then-not-both c = search rules
 
 pub returns-then-not-both : goal.returns-then-not-both
 returns-then-not-both c =
@@ -159,13 +177,22 @@ returns-then-not-both c =
     c.both.ensures c.both-2.ensures c.if-not-both.true in
     record {
       answer_value = c.refuse_into-then-not-both.ensures ∙ out (goal.at.returns-then-not-both c).After-read_operations-back (not-false _ c.if-not-back.false) e;
-      places_len_unchanged = same-length-7 (goal.at.returns-then-not-both c).After-read_operations-back;
-      characters_len = same-length-8 c ∙ ap length z.characters_value ∙ characters-length [];
-      toggles_len = same-length-9 c ∙ ap length z.toggles_value ∙ toggles-length [];
+      places_len_unchanged = shape_of-places-then-not-both (goal.at.returns-then-not-both c).After-read_operations-back;
+      characters_len = shape_of-characters-then-not-both c ∙ ap length z.characters_value ∙ characters-length [];
+      toggles_len = shape_of-toggles-then-not-both c ∙ ap length z.toggles_value ∙ toggles-length [];
       pending_len = (operations-read (goal.at.returns-then-not-both c).After-read_operations-back).1.0;
       held = (λ d. absurd (never_done Range (sym d ∙ c.refuse_into-then-not-both.ensures)));
       rows_noted = (λ d. absurd (never_done Range (sym d ∙ c.refuse_into-then-not-both.ensures)));
     }
+
+pub shape_of-places : goal.shape_of-places
+shape_of-places c = search rules
+
+pub shape_of-characters : goal.shape_of-characters
+shape_of-characters c = search rules
+
+pub shape_of-toggles : goal.shape_of-toggles
+shape_of-toggles c = search rules
 
 pub returns : goal.returns
 returns c =
@@ -176,9 +203,9 @@ returns c =
     c.both.ensures c.both-2.ensures c.if-not-both.false in
     record {
       answer_value = done (goal.at.returns c).After-read_operations-back l e;
-      places_len_unchanged = same-length-12 (goal.at.returns c).After-read_operations-back;
-      characters_len = same-length-13 c ∙ ap length z.characters_value ∙ characters-length [];
-      toggles_len = same-length-14 c ∙ ap length z.toggles_value ∙ toggles-length [];
+      places_len_unchanged = shape_of-places (goal.at.returns c).After-read_operations-back;
+      characters_len = shape_of-characters c ∙ ap length z.characters_value ∙ characters-length [];
+      toggles_len = shape_of-toggles c ∙ ap length z.toggles_value ∙ toggles-length [];
       pending_len = (operations-read (goal.at.returns c).After-read_operations-back).1.0;
       held = (λ told. held (goal.at.returns c).After-read_operations-back l e);
       rows_noted = (λ told. begun (goal.at.returns c).After-read_operations-back);

@@ -13,7 +13,7 @@ use Rattle.pasting.proofs.type_block.Goals as goal
 
 -- the arrays that were passed
 full : (s : Start) → FullArrays s.args.replica.document
-full s = full-replica s.well-formed.0
+full s = full-replica s.well_formed.0
 
 -- where the function starts
 abbrev start : After-read → Start

@@ -8,7 +8,7 @@ use Rattle.replica.proofs.receive.Goals as goal
 
 -- the arrays that were passed
 full : (s : Start) → FullArrays s.args.replica.document
-full s = full-replica s.well-formed.0
+full s = full-replica s.well_formed.0
 
 pub judge-decision-requires : goal.judge-decision-requires
 judge-decision-requires c = full (goal.at.judge-decision-requires c).Start

@@ -24,7 +24,7 @@ returns-then-not-check c =
 pub put_replica-requires : goal.put_replica-requires
 put_replica-requires c =
     let r = c.args.t1 in
-    let full = full-replica {r = r} c.well-formed.0 in
+    let full = full-replica {r = r} c.well_formed.0 in
     let x = examined (viewed r) (full-view r.document full) (passed c.check.ensures c.if-not-check.false-raw) in
     let w = few (viewed r) x in
     record {

@@ -26,4 +26,4 @@ returns c =
     let a = c.args in until a.size a.at a.bytes.now refl (fits (goal.at.returns c).Else-not-has_room)
 
 pub overflow_add-result : goal.overflow_add-result
-overflow_add-result c = omega (arith, fits (goal.at.overflow_add-result c).Else-not-has_room, c.well-formed)
+overflow_add-result c = omega (arith, fits (goal.at.overflow_add-result c).Else-not-has_room, c.well_formed)

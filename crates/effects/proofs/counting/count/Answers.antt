@@ -20,7 +20,7 @@ returns-then-not-check c =
 pub counts_of-requires : goal.counts_of-requires
 counts_of-requires c =
     let r = c.args.t1 in
-    let full = full-replica {r = r} c.well-formed.0 in
+    let full = full-replica {r = r} c.well_formed.0 in
     let x = examined (viewed r) (full-view r.document full) (passed c.check.ensures c.if-not-check.false-raw) in
     let w = few (viewed r) x in
     record {
@@ -32,7 +32,7 @@ counts_of-requires c =
 pub returns : goal.returns
 returns c =
     let r = c.args.t1 in
-    let full = full-replica {r = r} c.well-formed.0 in
+    let full = full-replica {r = r} c.well_formed.0 in
     let x = examined (viewed r) (full-view r.document full) (passed c.check.ensures c.if-not-check.false-raw) in
     c.counts_of.ensures _ (written-toggles r x)
     ∙ ap number_of (counts_told r x)

@@ -55,4 +55,4 @@ returns c =
     }
 
 pub shape_of-out : goal.shape_of-out
-shape_of-out c = ap length (returns-2 c).1 ∙ length-placed _ _ _
+shape_of-out c = ap length (returns c).1 ∙ length-placed _ _ _

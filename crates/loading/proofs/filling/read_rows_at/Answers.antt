@@ -59,7 +59,7 @@ overflow_add-count c =
       arith,
       l.invariant.small,
       front-left l.invariant _ c.read_row_front-ahead.ensures.line_value (not-false _ c.if-not-line.false),
-      c.well-formed.1.0,
+      c.well_formed.1.0,
     )
 
 -- the bytes that are left after the line

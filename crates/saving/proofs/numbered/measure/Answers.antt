@@ -7,7 +7,7 @@ use native.Mathlib.Omega.{arith}
 use Rattle.saving.proofs.numbered.measure.Goals as goal
 
 pub slice_bounds-numbers-end : goal.slice_bounds-numbers-end
-slice_bounds-numbers-end c = omega (arith, c.requires, full_line c.args.line c.well-formed.0)
+slice_bounds-numbers-end c = omega (arith, c.requires, full_line c.args.line c.well_formed.0)
 
 pub slice_bounds-measure-end-2 : goal.slice_bounds-measure-end-2
 slice_bounds-measure-end-2 c =
@@ -15,7 +15,7 @@ slice_bounds-measure-end-2 c =
       arith,
       c.requires,
       full_line c.args.line
-          c.well-formed.0,
+          c.well_formed.0,
     ))
 
 pub returns : goal.returns

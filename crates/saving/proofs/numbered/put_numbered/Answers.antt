@@ -12,7 +12,7 @@ slice_bounds-numbers-end c =
       arith,
       c.requires,
       full_line c.args.line
-          c.well-formed.0,
+          c.well_formed.0,
     )
 
 pub slice_bounds-put_line-end-2 : goal.slice_bounds-put_line-end-2
@@ -21,7 +21,7 @@ slice_bounds-put_line-end-2 c =
       arith,
       c.requires,
       full_line
-          c.args.line c.well-formed.0,
+          c.args.line c.well_formed.0,
     ))
 
 pub returns : goal.returns

@@ -14,7 +14,7 @@ use Rattle.transcript.proofs.report.text_line.Goals as goal
 pub put_text-requires : goal.put_text-requires
 put_text-requires c =
     let r = c.args.t1 in
-    let full = full-replica {r = r} c.well-formed.0 in
+    let full = full-replica {r = r} c.well_formed.0 in
     let x = examined (viewed r) (full-view r.document full) (sym (form_view r) ∙ c.requires) in
     record {
       n_le_character_slots = (few (viewed r) x).characters;
@@ -26,7 +26,7 @@ pub returns : goal.returns
 unfolding meaning characters_in columns.meaning columns.characters_in
 returns c =
     let r = c.args.t1 in
-    let full = full-replica {r = r} c.well-formed.0 in
+    let full = full-replica {r = r} c.well_formed.0 in
     let x = examined (viewed r) (full-view r.document full) (sym (form_view r) ∙ c.requires) in
     let w = c.put_text.ensures in
     record {
