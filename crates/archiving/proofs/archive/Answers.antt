@@ -19,9 +19,10 @@ read_lines-found-requires c =
 
 pub returns-in-Refused : goal.returns-in-Refused
 returns-in-Refused c =
+    let all = archive_unread _ _ _ (sym c.read_lines-found.ensures.answer_value ∙ c.in-Refused.is) in
     record {
-      value = (archive_unread _ _ _ (sym c.read_lines-found.ensures.answer_value ∙ c.in-Refused.is)).0;
-      out_after = (archive_unread _ _ _ (sym c.read_lines-found.ensures.answer_value ∙ c.in-Refused.is)).1;
+      value = all.0;
+      out_after = all.1;
     }
 
 pub returns-then-not-has_form : goal.returns-then-not-has_form
@@ -31,11 +32,11 @@ returns-then-not-has_form c =
     let done = sym z.answer_value ∙ told in
     let b = c.args.bytes.now in
     let out = c.args.out.now in
+    let all = archive_form b out (saved_laid b out done) (saved_ranges b out done)
+    (failed (c.has_form.ensures.value _ (saved-held b out done (z.held told)) (saved_ranged b out done)) c.if-not-has_form.true-raw) in
     record {
-      value = (archive_form b out (saved_laid b out done) (saved_ranges b out done)
-          (failed (c.has_form.ensures.value _ (saved-held b out done (z.held told)) (saved_ranged b out done)) c.if-not-has_form.true-raw)).0;
-      out_after = (archive_form b out (saved_laid b out done) (saved_ranges b out done)
-          (failed (c.has_form.ensures.value _ (saved-held b out done (z.held told)) (saved_ranged b out done)) c.if-not-has_form.true-raw)).1;
+      value = all.0;
+      out_after = all.1;
     }
 
 pub put_archived-requires : goal.put_archived-requires

@@ -19,9 +19,10 @@ read_lines-found-requires c =
 
 pub returns-in-Refused : goal.returns-in-Refused
 returns-in-Refused c =
+    let all = unarchive_unread _ _ _ (sym c.read_lines-found.ensures.answer_value ∙ c.in-Refused.is) in
     record {
-      value = (unarchive_unread _ _ _ (sym c.read_lines-found.ensures.answer_value ∙ c.in-Refused.is)).0;
-      out_after = (unarchive_unread _ _ _ (sym c.read_lines-found.ensures.answer_value ∙ c.in-Refused.is)).1;
+      value = all.0;
+      out_after = all.1;
     }
 
 pub returns-then-not-is_arranged : goal.returns-then-not-is_arranged
@@ -32,9 +33,10 @@ returns-then-not-is_arranged c =
     let held = z.held told in
     let b = c.args.bytes.now in
     let out = c.args.out.now in
+    let all = misarranged b out done held (failed (c.is_arranged.ensures.value _ (archive_placed b out done held z.places_len_unchanged)) c.if-not-is_arranged.true-raw) in
     record {
-      value = (misarranged b out done held (failed (c.is_arranged.ensures.value _ (archive_placed b out done held z.places_len_unchanged)) c.if-not-is_arranged.true-raw)).0;
-      out_after = (misarranged b out done held (failed (c.is_arranged.ensures.value _ (archive_placed b out done held z.places_len_unchanged)) c.if-not-is_arranged.true-raw)).1;
+      value = all.0;
+      out_after = all.1;
     }
 
 pub put_back-requires : goal.put_back-requires
@@ -65,9 +67,9 @@ returns c =
     let placed = archive_placed b out done held z.places_len_unchanged in
     let e = a.ensures.order_after so _ placed in
     let order = a.new.1.1.1.0 in
+    let all = brought_so b out done held order e (sym (a.ensures.value _ placed) ∙ so)
+    (c.put_back.ensures _ (archive_held b out done held) (led_ranged b out done held order e)) in
     record {
-      value = (brought_so b out done held order e (sym (a.ensures.value _ placed) ∙ so)
-          (c.put_back.ensures _ (archive_held b out done held) (led_ranged b out done held order e))).0;
-      out_after = (brought_so b out done held order e (sym (a.ensures.value _ placed) ∙ so)
-          (c.put_back.ensures _ (archive_held b out done held) (led_ranged b out done held order e))).1;
+      value = all.0;
+      out_after = all.1;
     }

@@ -45,11 +45,11 @@ read_so c = was_read (start c).args.list.now (sym c.read-read.ensures.value ∙ 
 pub returns-then-not-check : goal.returns-then-not-check
 returns-then-not-check c =
     let r = lent c in
+    let all = answer_unformed r (start c).args.list.now _ (read_so (goal.at.returns-then-not-check c).After-check)
+    (failed (c.check.ensures ∙ sym (form_view r)) c.if-not-check.true-raw) in
     record {
-      value = (answer_unformed r (start c).args.list.now _ (read_so (goal.at.returns-then-not-check c).After-check)
-          (failed (c.check.ensures ∙ sym (form_view r)) c.if-not-check.true-raw)).0;
-      out_after = (answer_unformed r (start c).args.list.now _ (read_so (goal.at.returns-then-not-check c).After-check)
-          (failed (c.check.ensures ∙ sym (form_view r)) c.if-not-check.true-raw)).1;
+      value = all.0;
+      out_after = all.1;
     }
 
 pub put_answer-requires : goal.put_answer-requires
@@ -73,11 +73,11 @@ put_answer-requires c =
 
 pub returns-in-Refused : goal.returns-in-Refused
 returns-in-Refused c =
+    let all = answer-refused (lentFrom c) c.args.list.now c.args.out.now
+    (sym c.read-read.ensures.value ∙ c.in-Refused.is) in
     record {
-      value = (answer-refused (lentFrom c) c.args.list.now c.args.out.now
-          (sym c.read-read.ensures.value ∙ c.in-Refused.is)).0;
-      out_after = (answer-refused (lentFrom c) c.args.list.now c.args.out.now
-          (sym c.read-read.ensures.value ∙ c.in-Refused.is)).1;
+      value = all.0;
+      out_after = all.1;
     }
 
 pub returns-else-not-check : goal.returns-else-not-check

@@ -36,9 +36,10 @@ formed c = passed (c.check.ensures ∙ sym (form_view (lent c))) c.if-not-check.
 pub returns-then-not-check : goal.returns-then-not-check
 returns-then-not-check c =
     let r = lent c in
+    let all = list_unformed r _ (failed (c.check.ensures ∙ sym (form_view r)) c.if-not-check.true-raw) in
     record {
-      value = (list_unformed r _ (failed (c.check.ensures ∙ sym (form_view r)) c.if-not-check.true-raw)).0;
-      out_after = (list_unformed r _ (failed (c.check.ensures ∙ sym (form_view r)) c.if-not-check.true-raw)).1;
+      value = all.0;
+      out_after = all.1;
     }
 
 pub put_list-requires : goal.put_list-requires

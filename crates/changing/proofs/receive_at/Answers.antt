@@ -31,12 +31,13 @@ save_noted-requires c =
     let m = c.carry_at-received in
     let k = m.auto in
     let full = sized_still c.requires k.0 k.1.0 k.1.1.0 k.1.1.1.0 k.1.1.1.1.0 in
+    let all = storable _ full (received-at-formed _ _ _ m.ensures (passed c.is_change.ensures c.if-not-is_change.false-raw)) in
     record {
-      characters_len = (storable _ full (received-at-formed _ _ _ m.ensures (passed c.is_change.ensures c.if-not-is_change.false-raw))).0;
-      n_le_character_slots = (storable _ full (received-at-formed _ _ _ m.ensures (passed c.is_change.ensures c.if-not-is_change.false-raw))).1.0;
-      n_in_bounds = (storable _ full (received-at-formed _ _ _ m.ensures (passed c.is_change.ensures c.if-not-is_change.false-raw))).1.1.0;
-      pending_len = (storable _ full (received-at-formed _ _ _ m.ensures (passed c.is_change.ensures c.if-not-is_change.false-raw))).1.1.1.0;
-      w_le_pending_slots = (storable _ full (received-at-formed _ _ _ m.ensures (passed c.is_change.ensures c.if-not-is_change.false-raw))).1.1.1.1;
+      characters_len = all.0;
+      n_le_character_slots = all.1.0;
+      n_in_bounds = all.1.1.0;
+      pending_len = all.1.1.1.0;
+      w_le_pending_slots = all.1.1.1.1;
     }
 
 pub returns : goal.returns

@@ -23,12 +23,13 @@ save_both-requires c =
     let m = c.carry_made-sent in
     let k = m.auto in
     let full = sized_still p.sized k.0 k.1.0 k.1.1.0 k.1.1.1.0 k.1.1.1.1.0 in
+    let all = storable _ full (subst Savable (sym m.ensures) p.savable (sent-changes c.in-Done.is)) in
     record {
-      characters_len = (storable _ full (subst Savable (sym m.ensures) p.savable (sent-changes c.in-Done.is))).0;
-      n_le_character_slots = (storable _ full (subst Savable (sym m.ensures) p.savable (sent-changes c.in-Done.is))).1.0;
-      n_in_bounds = (storable _ full (subst Savable (sym m.ensures) p.savable (sent-changes c.in-Done.is))).1.1.0;
-      pending_len = (storable _ full (subst Savable (sym m.ensures) p.savable (sent-changes c.in-Done.is))).1.1.1.0;
-      w_le_pending_slots = (storable _ full (subst Savable (sym m.ensures) p.savable (sent-changes c.in-Done.is))).1.1.1.1;
+      characters_len = all.0;
+      n_le_character_slots = all.1.0;
+      n_in_bounds = all.1.1.0;
+      pending_len = all.1.1.1.0;
+      w_le_pending_slots = all.1.1.1.1;
     }
 
 pub returns-in-Refused : goal.returns-in-Refused

@@ -15,9 +15,10 @@ use Rattle.conversion.proofs.convert.Goals as goal
 
 pub returns-in-Refused : goal.returns-in-Refused
 returns-in-Refused c =
+    let all = not-read _ _ _ _ _ c.read_as-found.ensures _ c.in-Refused.is in
     record {
-      value = (not-read _ _ _ _ _ c.read_as-found.ensures _ c.in-Refused.is).0;
-      out_after = (not-read _ _ _ _ _ c.read_as-found.ensures _ c.in-Refused.is).1;
+      value = all.0;
+      out_after = all.1;
     }
 
 pub check-requires : goal.check-requires
@@ -26,9 +27,10 @@ check-requires c = read-full _ _ _ c.read_as-found.ensures c.in_default.is
 pub returns-then-not-check : goal.returns-then-not-check
 returns-then-not-check c =
     let r = c.read_as-found.result.replica in
+    let all = not-formed _ _ _ _ _ c.read_as-found.ensures c.in_default.is (failed (c.check.ensures ∙ sym (form_view r)) c.if-not-check.true-raw) in
     record {
-      value = (not-formed _ _ _ _ _ c.read_as-found.ensures c.in_default.is (failed (c.check.ensures ∙ sym (form_view r)) c.if-not-check.true-raw)).0;
-      out_after = (not-formed _ _ _ _ _ c.read_as-found.ensures c.in_default.is (failed (c.check.ensures ∙ sym (form_view r)) c.if-not-check.true-raw)).1;
+      value = all.0;
+      out_after = all.1;
     }
 
 pub is_representable-requires : goal.is_representable-requires
@@ -48,11 +50,11 @@ returns-then-not-is_representable c =
     let done = c.in_default.is in
     let full = read-full _ _ _ c.read_as-found.ensures done in
     let x = examined (viewed r) (full-view r.document full) (passed c.check.ensures c.if-not-check.false-raw) in
+    let all = not-representable _ _ _ _ _ c.read_as-found.ensures done (passed (c.check.ensures ∙ sym (form_view r)) c.if-not-check.false-raw)
+    (failed (told-representable r x _ c.is_representable.ensures) c.if-not-is_representable.true-raw) in
     record {
-      value = (not-representable _ _ _ _ _ c.read_as-found.ensures done (passed (c.check.ensures ∙ sym (form_view r)) c.if-not-check.false-raw)
-          (failed (told-representable r x _ c.is_representable.ensures) c.if-not-is_representable.true-raw)).0;
-      out_after = (not-representable _ _ _ _ _ c.read_as-found.ensures done (passed (c.check.ensures ∙ sym (form_view r)) c.if-not-check.false-raw)
-          (failed (told-representable r x _ c.is_representable.ensures) c.if-not-is_representable.true-raw)).1;
+      value = all.0;
+      out_after = all.1;
     }
 
 pub put_replica-requires : goal.put_replica-requires

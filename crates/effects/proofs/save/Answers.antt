@@ -10,12 +10,13 @@ use Rattle.effects.proofs.save.Goals as goal
 pub save_noted-requires : goal.save_noted-requires
 save_noted-requires c =
     let r = c.args.t2 in
+    let all = storable r (full-replica {r = r} c.well_formed.1.0) c.requires in
     record {
-      characters_len = (storable r (full-replica {r = r} c.well_formed.1.0) c.requires).0;
-      n_le_character_slots = (storable r (full-replica {r = r} c.well_formed.1.0) c.requires).1.0;
-      n_in_bounds = (storable r (full-replica {r = r} c.well_formed.1.0) c.requires).1.1.0;
-      pending_len = (storable r (full-replica {r = r} c.well_formed.1.0) c.requires).1.1.1.0;
-      w_le_pending_slots = (storable r (full-replica {r = r} c.well_formed.1.0) c.requires).1.1.1.1;
+      characters_len = all.0;
+      n_le_character_slots = all.1.0;
+      n_in_bounds = all.1.1.0;
+      pending_len = all.1.1.1.0;
+      w_le_pending_slots = all.1.1.1.1;
     }
 
 pub returns : goal.returns

@@ -8,9 +8,10 @@ use Rattle.line_writing.proofs.write_operation.Goals as goal
 
 pub returns-then-not-in_range : goal.returns-then-not-in_range
 returns-then-not-in_range c =
+    let all = not_in_range _ _ (sym c.in_range.ensures ∙ c.if-not-in_range.true) in
     record {
-      value = (not_in_range _ _ (sym c.in_range.ensures ∙ c.if-not-in_range.true)).0;
-      out_after = (not_in_range _ _ (sym c.in_range.ensures ∙ c.if-not-in_range.true)).1;
+      value = all.0;
+      out_after = all.1;
     }
 
 pub returns : goal.returns

@@ -10,11 +10,12 @@ use borrow.Author.Rules.{rules}
 use Rattle.decimal.specs.Answers.{field_of, digits_front, scan_of}
 use Rattle.lines.specs.Lines.{before, first_line}
 use Rattle.lines.specs.Fields.{tab}
+use Rattle.lines.specs.Answers.{goes_on_at}
 use Rattle.lines.proofs.Runs.{run_ends, run_goes}
 use Rattle.lines.proofs.Reading.{Reading, begun, short, nothing_left, not_numeral, no_numeral, next-above, next-number, too_long}
 use Rattle.lines.proofs.Reading.{all-judged}
 use Rattle.lines.proofs.FrontLine.{line_le, refused_end, all_end, no-tab-here, tab-inside, tab-own, digits-within, digits-inside}
-use Rattle.lines.proofs.read_ending.Goals.{After-scan-number, Else-in_field}
+use Rattle.lines.proofs.read_ending.Goals.{After-scan-number, in-Above, in-Number}
 use Rattle.lines.proofs.read_ending.Goals as goal
 
 pub loop-i-init : goal.loop-i-init
@@ -24,25 +25,23 @@ pub returns-then-s-at : goal.returns-then-s-at
 returns-then-s-at c =
     let l = c.loop-i in
     let s = c.args.s.now in
+    let all = refused_end _ s c.unended.result c.unended.ensures.numbers_value c.unended.ensures.end_value
+    (short l.invariant.0 c.loop-i-test.true (omega (arith, line_le s))) in
     record {
-      numbers_value = (refused_end _ s c.unended.result c.unended.ensures.numbers_value c.unended.ensures.end_value
-          (short l.invariant.0 c.loop-i-test.true (omega (arith, line_le s)))).0;
-      end_value = (refused_end _ s c.unended.result c.unended.ensures.numbers_value c.unended.ensures.end_value
-          (short l.invariant.0 c.loop-i-test.true (omega (arith, line_le s)))).1.0;
-      end_in_bounds = (refused_end _ s c.unended.result c.unended.ensures.numbers_value c.unended.ensures.end_value
-          (short l.invariant.0 c.loop-i-test.true (omega (arith, line_le s)))).1.1;
+      numbers_value = all.0;
+      end_value = all.1.0;
+      end_in_bounds = all.1.1;
     }
 
 pub returns-then-s-at-ne-TAB : goal.returns-then-s-at-ne-TAB
 returns-then-s-at-ne-TAB c =
     let l = c.loop-i in
+    let all = refused_end _ _ c.unended-then-s-at-ne-TAB.result c.unended-then-s-at-ne-TAB.ensures.numbers_value c.unended-then-s-at-ne-TAB.ensures.end_value
+    (no-tab-here _ l.invariant.0 l.invariant.1 c.loop-i-test.true (omega arith) c.if-s-at-ne-TAB.true) in
     record {
-      numbers_value = (refused_end _ _ c.unended-then-s-at-ne-TAB.result c.unended-then-s-at-ne-TAB.ensures.numbers_value c.unended-then-s-at-ne-TAB.ensures.end_value
-          (no-tab-here _ l.invariant.0 l.invariant.1 c.loop-i-test.true (omega arith) c.if-s-at-ne-TAB.true)).0;
-      end_value = (refused_end _ _ c.unended-then-s-at-ne-TAB.result c.unended-then-s-at-ne-TAB.ensures.numbers_value c.unended-then-s-at-ne-TAB.ensures.end_value
-          (no-tab-here _ l.invariant.0 l.invariant.1 c.loop-i-test.true (omega arith) c.if-s-at-ne-TAB.true)).1.0;
-      end_in_bounds = (refused_end _ _ c.unended-then-s-at-ne-TAB.result c.unended-then-s-at-ne-TAB.ensures.numbers_value c.unended-then-s-at-ne-TAB.ensures.end_value
-          (no-tab-here _ l.invariant.0 l.invariant.1 c.loop-i-test.true (omega arith) c.if-s-at-ne-TAB.true)).1.1;
+      numbers_value = all.0;
+      end_value = all.1.0;
+      end_in_bounds = all.1.1;
     }
 
 pub returns-then-s-at-2 : goal.returns-then-s-at-2
@@ -51,16 +50,13 @@ returns-then-s-at-2 c =
     let s = c.args.s.now in
     let test = c.loop-i-test.true in
     let tabbed = c.if-s-at-ne-TAB.false in
+    let all = refused_end _ s c.unended-then-s-at-2.result c.unended-then-s-at-2.ensures.numbers_value c.unended-then-s-at-2.ensures.end_value
+    (nothing_left l.invariant.0 test (tab-inside s l.invariant.0 l.invariant.1 test (omega arith) tabbed) (tab-own s l.invariant.0 l.invariant.1 test (omega arith) tabbed)
+    (omega (arith, line_le s))) in
     record {
-      numbers_value = (refused_end _ s c.unended-then-s-at-2.result c.unended-then-s-at-2.ensures.numbers_value c.unended-then-s-at-2.ensures.end_value
-          (nothing_left l.invariant.0 test (tab-inside s l.invariant.0 l.invariant.1 test (omega arith) tabbed) (tab-own s l.invariant.0 l.invariant.1 test (omega arith) tabbed)
-          (omega (arith, line_le s)))).0;
-      end_value = (refused_end _ s c.unended-then-s-at-2.result c.unended-then-s-at-2.ensures.numbers_value c.unended-then-s-at-2.ensures.end_value
-          (nothing_left l.invariant.0 test (tab-inside s l.invariant.0 l.invariant.1 test (omega arith) tabbed) (tab-own s l.invariant.0 l.invariant.1 test (omega arith) tabbed)
-          (omega (arith, line_le s)))).1.0;
-      end_in_bounds = (refused_end _ s c.unended-then-s-at-2.result c.unended-then-s-at-2.ensures.numbers_value c.unended-then-s-at-2.ensures.end_value
-          (nothing_left l.invariant.0 test (tab-inside s l.invariant.0 l.invariant.1 test (omega arith) tabbed) (tab-own s l.invariant.0 l.invariant.1 test (omega arith) tabbed)
-          (omega (arith, line_le s)))).1.1;
+      numbers_value = all.0;
+      end_value = all.1.0;
+      end_in_bounds = all.1.1;
     }
 
 -- what stands before the digits, where they end, and what they say
@@ -95,74 +91,72 @@ module _ (c : After-scan-number) where
   unfolding scan_of
   says limit e = ap (λ x. x.field) e ∙ ap (λ (f : List ℕ). field_of f limit) same
 
+  -- the digits are all of the field
+  cut : goes_on_at (first_line bytes) c.scan-number.result.next ≡ false
+      → digits_front (drop (at + 1) (first_line bytes)) ≡ before tab (drop (at + 1) (first_line bytes))
+  cut ended = sym (run_ends _ (at + 1) past ended)
+
 pub returns-then-in_field : goal.returns-then-in_field
 returns-then-in_field c =
+    let all = refused_end _ _ c.unended-then-in_field.result c.unended-then-in_field.ensures.numbers_value c.unended-then-in_field.ensures.end_value
+    (not_numeral c.loop-i.invariant.0 c.loop-i-test.true
+    (inside (goal.at.returns-then-in_field c).After-scan-number) (own (goal.at.returns-then-in_field c).After-scan-number) (run_goes _ (at (goal.at.returns-then-in_field c).After-scan-number + 1) (past (goal.at.returns-then-in_field c).After-scan-number) (sym c.in_field.ensures ∙ c.if-in_field.true))) in
     record {
-      numbers_value = (refused_end _ _ c.unended-then-in_field.result c.unended-then-in_field.ensures.numbers_value c.unended-then-in_field.ensures.end_value
-          (not_numeral c.loop-i.invariant.0 c.loop-i-test.true
-          (inside (goal.at.returns-then-in_field c).After-scan-number) (own (goal.at.returns-then-in_field c).After-scan-number) (run_goes _ (at (goal.at.returns-then-in_field c).After-scan-number + 1) (past (goal.at.returns-then-in_field c).After-scan-number) (sym c.in_field.ensures ∙ c.if-in_field.true)))).0;
-      end_value = (refused_end _ _ c.unended-then-in_field.result c.unended-then-in_field.ensures.numbers_value c.unended-then-in_field.ensures.end_value
-          (not_numeral c.loop-i.invariant.0 c.loop-i-test.true
-          (inside (goal.at.returns-then-in_field c).After-scan-number) (own (goal.at.returns-then-in_field c).After-scan-number) (run_goes _ (at (goal.at.returns-then-in_field c).After-scan-number + 1) (past (goal.at.returns-then-in_field c).After-scan-number) (sym c.in_field.ensures ∙ c.if-in_field.true)))).1.0;
-      end_in_bounds = (refused_end _ _ c.unended-then-in_field.result c.unended-then-in_field.ensures.numbers_value c.unended-then-in_field.ensures.end_value
-          (not_numeral c.loop-i.invariant.0 c.loop-i-test.true
-          (inside (goal.at.returns-then-in_field c).After-scan-number) (own (goal.at.returns-then-in_field c).After-scan-number) (run_goes _ (at (goal.at.returns-then-in_field c).After-scan-number + 1) (past (goal.at.returns-then-in_field c).After-scan-number) (sym c.in_field.ensures ∙ c.if-in_field.true)))).1.1;
+      numbers_value = all.0;
+      end_value = all.1.0;
+      end_in_bounds = all.1.1;
     }
-
--- the digits are all of the field
-cut : (c : Else-in_field)
-    → digits_front (drop (at c + 1) (first_line (bytes c))) ≡ before tab (drop (at c + 1) (first_line (bytes c)))
-cut c = sym (run_ends _ (at c + 1) (past c) (sym c.in_field.ensures ∙ c.if-in_field.false))
 
 pub returns-in-Malformed : goal.returns-in-Malformed
 returns-in-Malformed c =
+    let all = refused_end _ _ c.unended-in-Malformed.result c.unended-in-Malformed.ensures.numbers_value c.unended-in-Malformed.ensures.end_value
+    (no_numeral c.loop-i.invariant.0 c.loop-i-test.true
+    (inside (goal.at.returns-in-Malformed c).After-scan-number) (own (goal.at.returns-in-Malformed c).After-scan-number) (cut (goal.at.returns-in-Malformed c).After-scan-number (sym c.in_field.ensures ∙ c.if-in_field.false)) (sym (says (goal.at.returns-in-Malformed c).After-scan-number _ c.scan-number.ensures) ∙ c.in-Malformed.is)) in
     record {
-      numbers_value = (refused_end _ _ c.unended-in-Malformed.result c.unended-in-Malformed.ensures.numbers_value c.unended-in-Malformed.ensures.end_value
-          (no_numeral c.loop-i.invariant.0 c.loop-i-test.true
-          (inside (goal.at.returns-in-Malformed c).After-scan-number) (own (goal.at.returns-in-Malformed c).After-scan-number) (cut (goal.at.returns-in-Malformed c).Else-in_field) (sym (says (goal.at.returns-in-Malformed c).After-scan-number _ c.scan-number.ensures) ∙ c.in-Malformed.is))).0;
-      end_value = (refused_end _ _ c.unended-in-Malformed.result c.unended-in-Malformed.ensures.numbers_value c.unended-in-Malformed.ensures.end_value
-          (no_numeral c.loop-i.invariant.0 c.loop-i-test.true
-          (inside (goal.at.returns-in-Malformed c).After-scan-number) (own (goal.at.returns-in-Malformed c).After-scan-number) (cut (goal.at.returns-in-Malformed c).Else-in_field) (sym (says (goal.at.returns-in-Malformed c).After-scan-number _ c.scan-number.ensures) ∙ c.in-Malformed.is))).1.0;
-      end_in_bounds = (refused_end _ _ c.unended-in-Malformed.result c.unended-in-Malformed.ensures.numbers_value c.unended-in-Malformed.ensures.end_value
-          (no_numeral c.loop-i.invariant.0 c.loop-i-test.true
-          (inside (goal.at.returns-in-Malformed c).After-scan-number) (own (goal.at.returns-in-Malformed c).After-scan-number) (cut (goal.at.returns-in-Malformed c).Else-in_field) (sym (says (goal.at.returns-in-Malformed c).After-scan-number _ c.scan-number.ensures) ∙ c.in-Malformed.is))).1.1;
+      numbers_value = all.0;
+      end_value = all.1.0;
+      end_in_bounds = all.1.1;
     }
 
 pub loop-i-preserved : goal.loop-i-preserved
 loop-i-preserved c =
     let l = c.loop-i in
     let test = c.loop-i-test.true in
-    let whole = past (goal.at.loop-i-preserved c).After-scan-number ∙ ap (λ (f : List ℕ). l.at + 1 + length f) (cut (goal.at.loop-i-preserved c).Else-in_field) in (
-      ⊎_elim
-          (λ w. rw (w.2, w.3) (next-above l.invariant.0 test (inside (goal.at.loop-i-preserved c).After-scan-number) (own (goal.at.loop-i-preserved c).After-scan-number) (cut (goal.at.loop-i-preserved c).Else-in_field) whole (sym (says (goal.at.loop-i-preserved c).After-scan-number _ c.scan-number.ensures) ∙ w.1.given.1)))
-          (λ w. rw (w.3, w.4) (next-number l.invariant.0 test (inside (goal.at.loop-i-preserved c).After-scan-number) (own (goal.at.loop-i-preserved c).After-scan-number) (cut (goal.at.loop-i-preserved c).Else-in_field) whole (sym (says (goal.at.loop-i-preserved c).After-scan-number _ c.scan-number.ensures) ∙ w.1.given.1)))
-          c.match-field.branch,
+    let digits = cut (goal.at.loop-i-preserved c).After-scan-number (sym c.in_field.ensures ∙ c.if-in_field.false) in
+    let said = says (goal.at.loop-i-preserved c).After-scan-number _ c.scan-number.ensures in
+    let whole = past (goal.at.loop-i-preserved c).After-scan-number ∙ ap (λ (f : List ℕ). l.at + 1 + length f) digits in (
+      elim c.match-field.branch [
+        in-Above w ↦
+        rw (w.values-is, w.above-is)
+        (next-above l.invariant.0 test (inside (goal.at.loop-i-preserved c).After-scan-number) (own (goal.at.loop-i-preserved c).After-scan-number) digits whole (sym said ∙ w.in-Above.is))
+      | in-Number w ↦
+        rw (w.values-is, w.above-is)
+        (next-number l.invariant.0 test (inside (goal.at.loop-i-preserved c).After-scan-number) (own (goal.at.loop-i-preserved c).After-scan-number) digits whole (sym said ∙ w.in-Number.is))
+      ],
       low (goal.at.loop-i-preserved c).After-scan-number,
     )
 
 pub returns-then-in_line : goal.returns-then-in_line
 returns-then-in_line c =
     let l = c.loop-i in
+    let all = refused_end _ _ c.unended-then-in_line.result c.unended-then-in_line.ensures.numbers_value c.unended-then-in_line.ensures.end_value
+    (too_long l.invariant.0 c.loop-i-test.false (ltb-true _ _ (sym c.in_line.ensures ∙ c.if-in_line.true))) in
     record {
-      numbers_value = (refused_end _ _ c.unended-then-in_line.result c.unended-then-in_line.ensures.numbers_value c.unended-then-in_line.ensures.end_value
-          (too_long l.invariant.0 c.loop-i-test.false (ltb-true _ _ (sym c.in_line.ensures ∙ c.if-in_line.true)))).0;
-      end_value = (refused_end _ _ c.unended-then-in_line.result c.unended-then-in_line.ensures.numbers_value c.unended-then-in_line.ensures.end_value
-          (too_long l.invariant.0 c.loop-i-test.false (ltb-true _ _ (sym c.in_line.ensures ∙ c.if-in_line.true)))).1.0;
-      end_in_bounds = (refused_end _ _ c.unended-then-in_line.result c.unended-then-in_line.ensures.numbers_value c.unended-then-in_line.ensures.end_value
-          (too_long l.invariant.0 c.loop-i-test.false (ltb-true _ _ (sym c.in_line.ensures ∙ c.if-in_line.true)))).1.1;
+      numbers_value = all.0;
+      end_value = all.1.0;
+      end_in_bounds = all.1.1;
     }
 
 pub returns : goal.returns
 returns c =
     let l = c.loop-i in
     let end = ltb-false _ _ (sym c.in_line.ensures ∙ c.if-in_line.false) in
+    let all = all_end _ _ c.ended.result l.values l.over c.ended.ensures.numbers_value c.ended.ensures.end_value
+    (all-judged l.invariant.0 c.loop-i-test.false end) l.invariant.1 end in
     record {
-      numbers_value = (all_end _ _ c.ended.result l.values l.over c.ended.ensures.numbers_value c.ended.ensures.end_value
-          (all-judged l.invariant.0 c.loop-i-test.false end) l.invariant.1 end).0;
-      end_value = (all_end _ _ c.ended.result l.values l.over c.ended.ensures.numbers_value c.ended.ensures.end_value
-          (all-judged l.invariant.0 c.loop-i-test.false end) l.invariant.1 end).1.0;
-      end_in_bounds = (all_end _ _ c.ended.result l.values l.over c.ended.ensures.numbers_value c.ended.ensures.end_value
-          (all-judged l.invariant.0 c.loop-i-test.false end) l.invariant.1 end).1.1;
+      numbers_value = all.0;
+      end_value = all.1.0;
+      end_in_bounds = all.1.1;
     }
 
 pub in_field-requires : goal.in_field-requires

@@ -1,7 +1,7 @@
 -- `lines::read_numbers` meets its contract, by the invariant of `proofs/Reading.antt`.
 use mathlib.Core.Path.{◌≡◌, sym, ap, ◌∙◌}
 use mathlib.Core.List.{List}
-use mathlib.Core.Logic.{⊎_elim}
+use Rattle.decimal.specs.declared.Scanned.{Scanned}
 use Prim.Native.Nat.{ℕ, ◌+◌, ◌-◌}
 use native.Mathlib.Omega.{arith}
 use lib.ListN.{length, drop}
@@ -12,7 +12,7 @@ use Rattle.lines.specs.Fields.{tab}
 use Rattle.lines.proofs.Runs.{run_ends, run_goes}
 use Rattle.lines.proofs.Reading.{Reading, begun, short, no-tab, nothing_left, not_numeral, no_numeral, next-above, next-number, too_long}
 use Rattle.lines.proofs.Reading.{above_limit, in_limits}
-use Rattle.lines.proofs.read_numbers.Goals.{After-scan-number, Else-goes_on}
+use Rattle.lines.proofs.read_numbers.Goals.{Else-goes_on, in-Above, in-Number}
 use Rattle.lines.proofs.read_numbers.Goals as goal
 
 pub loop-i-init : goal.loop-i-init
@@ -34,39 +34,34 @@ returns-then-line-at-2 c =
     c.if-line-at.false c.if-line-at-ne-TAB.false (omega arith)
 
 -- where the digits end, and what they say
-module _ (c : After-scan-number) where
-  abbrev at : ℕ
-  at = c.loop-i.at
+past : (line : List ℕ) (from limit : ℕ) (r : Scanned) → r ≡ scan_of line from limit
+    → r.next ≡ from + length (digits_front (drop from line))
+unfolding scan_of
+past line from limit r e = ap (λ (x : Scanned). x.next) e
 
-  abbrev line : List ℕ
-  line = c.args.line.now
-
-  past : c.scan-number.result.next ≡ at + 1 + length (digits_front (drop (at + 1) line))
-  unfolding scan_of
-  past = ap (λ x. x.next) c.scan-number.ensures
-
-  says : (limit : ℕ) → c.scan-number.result ≡ scan_of line (at + 1) limit → c.scan-number.result.field ≡ field_of (digits_front (drop (at + 1) line)) limit
-  unfolding scan_of
-  says limit e = ap (λ x. x.field) e
+says : (line : List ℕ) (from limit : ℕ) (r : Scanned) → r ≡ scan_of line from limit
+    → r.field ≡ field_of (digits_front (drop from line)) limit
+unfolding scan_of
+says line from limit r e = ap (λ (x : Scanned). x.field) e
 
 pub returns-then-goes_on : goal.returns-then-goes_on
 returns-then-goes_on c =
     c.without-then-goes_on.ensures
     ∙ not_numeral c.loop-i.invariant c.loop-i-test.true
     c.if-line-at.false c.if-line-at-ne-TAB.false
-    (run_goes _ (at (goal.at.returns-then-goes_on c).After-scan-number + 1) (past (goal.at.returns-then-goes_on c).After-scan-number) (sym c.goes_on.ensures ∙ c.if-goes_on.true))
+    (run_goes _ (c.loop-i.at + 1) (past _ _ _ _ c.scan-number.ensures) (sym c.goes_on.ensures ∙ c.if-goes_on.true))
 
 -- the digits are all of the field
 cut : (c : Else-goes_on)
-    → digits_front (drop (at c + 1) (line c)) ≡ before tab (drop (at c + 1) (line c))
-cut c = sym (run_ends _ (at c + 1) (past c) (sym c.goes_on.ensures ∙ c.if-goes_on.false))
+    → digits_front (drop (c.loop-i.at + 1) c.args.line.now) ≡ before tab (drop (c.loop-i.at + 1) c.args.line.now)
+cut c = sym (run_ends _ (c.loop-i.at + 1) (past _ _ _ _ c.scan-number.ensures) (sym c.goes_on.ensures ∙ c.if-goes_on.false))
 
 pub returns-in-Malformed : goal.returns-in-Malformed
 returns-in-Malformed c =
     c.without-in-Malformed.ensures
     ∙ no_numeral c.loop-i.invariant c.loop-i-test.true
     c.if-line-at.false c.if-line-at-ne-TAB.false (cut (goal.at.returns-in-Malformed c).Else-goes_on)
-    (sym (says (goal.at.returns-in-Malformed c).After-scan-number _ c.scan-number.ensures) ∙ c.in-Malformed.is)
+    (sym (says _ _ _ _ c.scan-number.ensures) ∙ c.in-Malformed.is)
 
 pub loop-i-preserved : goal.loop-i-preserved
 loop-i-preserved c =
@@ -74,11 +69,13 @@ loop-i-preserved c =
     let test = c.loop-i-test.true in
     let some = c.if-line-at.false in
     let tabbed = c.if-line-at-ne-TAB.false in
-    let whole = past (goal.at.loop-i-preserved c).After-scan-number ∙ ap (λ (f : List ℕ). l.at + 1 + length f) (cut (goal.at.loop-i-preserved c).Else-goes_on) in
-    ⊎_elim
-    (λ w. rw (w.2, w.3) (next-above l.invariant test some tabbed (cut (goal.at.loop-i-preserved c).Else-goes_on) whole (sym (says (goal.at.loop-i-preserved c).After-scan-number _ c.scan-number.ensures) ∙ w.1.given.1)))
-    (λ w. rw (w.3, w.4) (next-number l.invariant test some tabbed (cut (goal.at.loop-i-preserved c).Else-goes_on) whole (sym (says (goal.at.loop-i-preserved c).After-scan-number _ c.scan-number.ensures) ∙ w.1.given.1)))
-    c.match-field.branch
+    let whole = past _ _ _ _ c.scan-number.ensures ∙ ap (λ (f : List ℕ). l.at + 1 + length f) (cut (goal.at.loop-i-preserved c).Else-goes_on) in
+    let digits = cut (goal.at.loop-i-preserved c).Else-goes_on in
+    let said = says _ _ _ _ c.scan-number.ensures in
+    elim c.match-field.branch [
+      in-Above w ↦ rw (w.values-is, w.above-is) (next-above l.invariant test some tabbed digits whole (sym said ∙ w.in-Above.is))
+    | in-Number w ↦ rw (w.values-is, w.above-is) (next-number l.invariant test some tabbed digits whole (sym said ∙ w.in-Number.is))
+    ]
 
 pub returns-then-at-line : goal.returns-then-at-line
 returns-then-at-line c =

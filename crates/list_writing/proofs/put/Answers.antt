@@ -29,11 +29,11 @@ whole s = refl
 
 pub returns-in_default : goal.returns-in_default
 returns-in_default c =
+    let all = front-short (front c) (body c) (bytes c) c.args.out.now (whole (goal.at.returns-in_default c).Start) c.measure_header-front.ensures
+    c.in_default.is in
     record {
-      value = (front-short (front c) (body c) (bytes c) c.args.out.now (whole (goal.at.returns-in_default c).Start) c.measure_header-front.ensures
-          c.in_default.is).0;
-      out_after = (front-short (front c) (body c) (bytes c) c.args.out.now (whole (goal.at.returns-in_default c).Start) c.measure_header-front.ensures
-          c.in_default.is).1;
+      value = all.0;
+      out_after = all.1;
     }
 
 pub measure_chunks-room-requires : goal.measure_chunks-room-requires
@@ -49,11 +49,11 @@ measure_chunks-room-requires c =
 
 pub returns-in_default-room : goal.returns-in_default-room
 returns-in_default-room c =
+    let all = body-short (front c) (body c) (bytes c) c.args.out.now (whole (goal.at.returns-in_default-room c).Start) c.measure_header-front.ensures
+    c.in-Until.is c.measure_chunks-room.ensures c.in_default-room.is in
     record {
-      value = (body-short (front c) (body c) (bytes c) c.args.out.now (whole (goal.at.returns-in_default-room c).Start) c.measure_header-front.ensures
-          c.in-Until.is c.measure_chunks-room.ensures c.in_default-room.is).0;
-      out_after = (body-short (front c) (body c) (bytes c) c.args.out.now (whole (goal.at.returns-in_default-room c).Start) c.measure_header-front.ensures
-          c.in-Until.is c.measure_chunks-room.ensures c.in_default-room.is).1;
+      value = all.0;
+      out_after = all.1;
     }
 
 pub put_chunks-requires : goal.put_chunks-requires
@@ -69,11 +69,10 @@ put_chunks-requires c =
 
 pub returns : goal.returns
 returns c =
+    let all = body-put (front c) (body c) (bytes c) c.args.out.now (whole (goal.at.returns c).Start) c.measure_header-front.ensures
+    c.in-Until.is c.measure_chunks-room.ensures c.in-Until-room.is c.put_header-at.ensures
+    c.put_chunks.ensures in
     record {
-      value = (body-put (front c) (body c) (bytes c) c.args.out.now (whole (goal.at.returns c).Start) c.measure_header-front.ensures
-          c.in-Until.is c.measure_chunks-room.ensures c.in-Until-room.is c.put_header-at.ensures
-          c.put_chunks.ensures).0;
-      out_after = (body-put (front c) (body c) (bytes c) c.args.out.now (whole (goal.at.returns c).Start) c.measure_header-front.ensures
-          c.in-Until.is c.measure_chunks-room.ensures c.in-Until-room.is c.put_header-at.ensures
-          c.put_chunks.ensures).1;
+      value = all.0;
+      out_after = all.1;
     }

@@ -33,9 +33,10 @@ examined c = lent_examined _ _ _ (start c).requires (sym (form_view (lent c)) �
 pub returns-then-not-check : goal.returns-then-not-check
 returns-then-not-check c =
     let r = lent c in
+    let all = unformed_text r _ (failed (c.check.ensures ∙ sym (form_view r)) c.if-not-check.true-raw) in
     record {
-      value = (unformed_text r _ (failed (c.check.ensures ∙ sym (form_view r)) c.if-not-check.true-raw)).0;
-      out_after = (unformed_text r _ (failed (c.check.ensures ∙ sym (form_view r)) c.if-not-check.true-raw)).1;
+      value = all.0;
+      out_after = all.1;
     }
 
 pub write_text-requires : goal.write_text-requires

@@ -16,9 +16,10 @@ use Rattle.saving.proofs.save.Goals as goal
 pub returns-then-not-check : goal.returns-then-not-check
 returns-then-not-check c =
     let r = c.args.t1 in
+    let all = unformed r _ (failed (c.check.ensures ∙ sym (form_view r)) c.if-not-check.true-raw) in
     record {
-      value = (unformed r _ (failed (c.check.ensures ∙ sym (form_view r)) c.if-not-check.true-raw)).0;
-      out_after = (unformed r _ (failed (c.check.ensures ∙ sym (form_view r)) c.if-not-check.true-raw)).1;
+      value = all.0;
+      out_after = all.1;
     }
 
 pub put_replica-requires : goal.put_replica-requires

@@ -20,18 +20,19 @@ others s = between s.args.front.now (line_bytes s.args.line) s.args.back.now
 
 pub returns-in_default : goal.returns-in_default
 returns-in_default c =
+    let all = front-short (head c) (others c) (head c ++ others c) c.args.out.now refl c.measure_site_with-head.ensures c.in_default.is in
     record {
-      value = (front-short (head c) (others c) (head c ++ others c) c.args.out.now refl c.measure_site_with-head.ensures c.in_default.is).0;
-      out_after = (front-short (head c) (others c) (head c ++ others c) c.args.out.now refl c.measure_site_with-head.ensures c.in_default.is).1;
+      value = all.0;
+      out_after = all.1;
     }
 
 pub returns-in_default-rest : goal.returns-in_default-rest
 returns-in_default-rest c =
+    let all = body-short (head c) (others c) (head c ++ others c) c.args.out.now refl c.measure_site_with-head.ensures c.in-Until.is
+    c.measure-rest.ensures c.in_default-rest.is in
     record {
-      value = (body-short (head c) (others c) (head c ++ others c) c.args.out.now refl c.measure_site_with-head.ensures c.in-Until.is
-          c.measure-rest.ensures c.in_default-rest.is).0;
-      out_after = (body-short (head c) (others c) (head c ++ others c) c.args.out.now refl c.measure_site_with-head.ensures c.in-Until.is
-          c.measure-rest.ensures c.in_default-rest.is).1;
+      value = all.0;
+      out_after = all.1;
     }
 
 pub put-requires : goal.put-requires
@@ -44,9 +45,9 @@ put-requires c =
 
 pub returns : goal.returns
 returns c =
+    let all = body-put (head c) (others c) (head c ++ others c) c.args.out.now refl c.measure_site_with-head.ensures c.in-Until.is
+    c.measure-rest.ensures c.in-Until-rest.is c.put_site_with-at.ensures c.put.ensures in
     record {
-      value = (body-put (head c) (others c) (head c ++ others c) c.args.out.now refl c.measure_site_with-head.ensures c.in-Until.is
-          c.measure-rest.ensures c.in-Until-rest.is c.put_site_with-at.ensures c.put.ensures).0;
-      out_after = (body-put (head c) (others c) (head c ++ others c) c.args.out.now refl c.measure_site_with-head.ensures c.in-Until.is
-          c.measure-rest.ensures c.in-Until-rest.is c.put_site_with-at.ensures c.put.ensures).1;
+      value = all.0;
+      out_after = all.1;
     }

@@ -57,11 +57,12 @@ waits c = ends 512 c.requires.pending_len
 
 pub characters_in_range-requires : goal.characters_in_range-requires
 characters_in_range-requires c =
+    let all = in-columns 1024 (rows (goal.at.characters_in_range-requires c).Else-not-site_in_range) c.if-n-gt-CHARACTERS.false in
     record {
-      n_in_bounds = (in-columns 1024 (rows (goal.at.characters_in_range-requires c).Else-not-site_in_range) c.if-n-gt-CHARACTERS.false).0;
-      n_in_bounds_2 = (in-columns 1024 (rows (goal.at.characters_in_range-requires c).Else-not-site_in_range) c.if-n-gt-CHARACTERS.false).1.0;
-      n_in_bounds_3 = (in-columns 1024 (rows (goal.at.characters_in_range-requires c).Else-not-site_in_range) c.if-n-gt-CHARACTERS.false).1.1.0;
-      n_in_bounds_4 = (in-columns 1024 (rows (goal.at.characters_in_range-requires c).Else-not-site_in_range) c.if-n-gt-CHARACTERS.false).1.1.1;
+      n_in_bounds = all.0;
+      n_in_bounds_2 = all.1.0;
+      n_in_bounds_3 = all.1.1.0;
+      n_in_bounds_4 = all.1.1.1;
     }
 
 pub returns-then-not-characters_in_range : goal.returns-then-not-characters_in_range
@@ -71,11 +72,12 @@ returns-then-not-characters_in_range c =
 
 pub operations_in_range-requires : goal.operations_in_range-requires
 operations_in_range-requires c =
+    let all = in-columns 512 (waits (goal.at.operations_in_range-requires c).Else-not-characters_in_range) c.if-w-gt-PENDING.false in
     record {
-      w_in_bounds = (in-columns 512 (waits (goal.at.operations_in_range-requires c).Else-not-characters_in_range) c.if-w-gt-PENDING.false).0;
-      w_in_bounds_2 = (in-columns 512 (waits (goal.at.operations_in_range-requires c).Else-not-characters_in_range) c.if-w-gt-PENDING.false).1.0;
-      w_in_bounds_3 = (in-columns 512 (waits (goal.at.operations_in_range-requires c).Else-not-characters_in_range) c.if-w-gt-PENDING.false).1.1.0;
-      w_in_bounds_4 = (in-columns 512 (waits (goal.at.operations_in_range-requires c).Else-not-characters_in_range) c.if-w-gt-PENDING.false).1.1.1;
+      w_in_bounds = all.0;
+      w_in_bounds_2 = all.1.0;
+      w_in_bounds_3 = all.1.1.0;
+      w_in_bounds_4 = all.1.1.1;
     }
 
 pub returns : goal.returns

@@ -30,9 +30,10 @@ ended out a e q =
 
 pub returns-in_default : goal.returns-in_default
 returns-in_default c =
+    let all = front-short (front c) (body c) _ c.args.out.now refl c.measure-front.ensures c.in_default.is in
     record {
-      value = (front-short (front c) (body c) _ c.args.out.now refl c.measure-front.ensures c.in_default.is).0;
-      out_after = (front-short (front c) (body c) _ c.args.out.now refl c.measure-front.ensures c.in_default.is).1;
+      value = all.0;
+      out_after = all.1;
     }
 
 pub measure-room-requires : goal.measure-room-requires
@@ -46,11 +47,11 @@ measure-room-requires c =
 
 pub returns-in_default-room : goal.returns-in_default-room
 returns-in_default-room c =
+    let all = body-short (front c) (body c) _ c.args.out.now refl c.measure-front.ensures
+    c.in-Until.is c.measure-room.ensures c.in_default-room.is in
     record {
-      value = (body-short (front c) (body c) _ c.args.out.now refl c.measure-front.ensures
-          c.in-Until.is c.measure-room.ensures c.in_default-room.is).0;
-      out_after = (body-short (front c) (body c) _ c.args.out.now refl c.measure-front.ensures
-          c.in-Until.is c.measure-room.ensures c.in_default-room.is).1;
+      value = all.0;
+      out_after = all.1;
     }
 
 pub put_lines-requires : goal.put_lines-requires
@@ -79,17 +80,13 @@ put_lines-requires-2 c =
 pub returns : goal.returns
 returns c =
     let f = c.in-Until.is in
+    let all = body-put (front c) (body c) _ c.args.out.now refl c.measure-front.ensures f
+    c.measure-room.ensures c.in-Until-room.is (
+      ended c.args.out.now (front c) c.measure-front.ensures f,
+      c.put_lines.ensures,
+    )
+    c.put_lines-2.ensures in
     record {
-      value = (body-put (front c) (body c) _ c.args.out.now refl c.measure-front.ensures f
-          c.measure-room.ensures c.in-Until-room.is (
-            ended c.args.out.now (front c) c.measure-front.ensures f,
-            c.put_lines.ensures,
-          )
-          c.put_lines-2.ensures).0;
-      out_after = (body-put (front c) (body c) _ c.args.out.now refl c.measure-front.ensures f
-          c.measure-room.ensures c.in-Until-room.is (
-            ended c.args.out.now (front c) c.measure-front.ensures f,
-            c.put_lines.ensures,
-          )
-          c.put_lines-2.ensures).1;
+      value = all.0;
+      out_after = all.1;
     }

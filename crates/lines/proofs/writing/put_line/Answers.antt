@@ -47,12 +47,12 @@ returns c =
     let a = c.args in
     let p = c.put_all-end.ensures in
     let q = c.put.ensures in
+    let all = line_put a.head.now a.numbers.now a.out.now a.at (fits (goal.at.returns c).In_default) p.0 p.1
+    (last c.loop-i.invariant c.loop-i-test.false q.0 q.1) in
     record {
-      value = (line_put a.head.now a.numbers.now a.out.now a.at (fits (goal.at.returns c).In_default) p.0 p.1
-          (last c.loop-i.invariant c.loop-i-test.false q.0 q.1)).0;
-      out_after = (line_put a.head.now a.numbers.now a.out.now a.at (fits (goal.at.returns c).In_default) p.0 p.1
-          (last c.loop-i.invariant c.loop-i-test.false q.0 q.1)).1;
+      value = all.0;
+      out_after = all.1;
     }
 
 pub shape_of-out : goal.shape_of-out
-shape_of-out c = ap length (returns c).1 ∙ length-placed _ _ _
+shape_of-out c = ap length (returns c).out_after ∙ length-placed _ _ _

@@ -32,11 +32,11 @@ whole s = whole-bytes s.args.rows (site_with s.args.number s.args.clock) (lists 
 
 pub returns-in_default : goal.returns-in_default
 returns-in_default c =
+    let all = front-short (front c) (body c) (bytes c) c.args.out.now (whole (goal.at.returns-in_default c).Start) (rw c.version-version.ensures at c.measure_site_with-front.ensures)
+    c.in_default.is in
     record {
-      value = (front-short (front c) (body c) (bytes c) c.args.out.now (whole (goal.at.returns-in_default c).Start) (rw c.version-version.ensures at c.measure_site_with-front.ensures)
-          c.in_default.is).0;
-      out_after = (front-short (front c) (body c) (bytes c) c.args.out.now (whole (goal.at.returns-in_default c).Start) (rw c.version-version.ensures at c.measure_site_with-front.ensures)
-          c.in_default.is).1;
+      value = all.0;
+      out_after = all.1;
     }
 
 pub measure-room-requires : goal.measure-room-requires
@@ -49,11 +49,11 @@ measure-room-requires c =
 
 pub returns-in_default-room : goal.returns-in_default-room
 returns-in_default-room c =
+    let all = body-short (front c) (body c) (bytes c) c.args.out.now (whole (goal.at.returns-in_default-room c).Start) (rw c.version-version.ensures at c.measure_site_with-front.ensures)
+    c.in-Until.is c.measure-room.ensures c.in_default-room.is in
     record {
-      value = (body-short (front c) (body c) (bytes c) c.args.out.now (whole (goal.at.returns-in_default-room c).Start) (rw c.version-version.ensures at c.measure_site_with-front.ensures)
-          c.in-Until.is c.measure-room.ensures c.in_default-room.is).0;
-      out_after = (body-short (front c) (body c) (bytes c) c.args.out.now (whole (goal.at.returns-in_default-room c).Start) (rw c.version-version.ensures at c.measure_site_with-front.ensures)
-          c.in-Until.is c.measure-room.ensures c.in_default-room.is).1;
+      value = all.0;
+      out_after = all.1;
     }
 
 pub put_lines-requires : goal.put_lines-requires
@@ -67,11 +67,10 @@ put_lines-requires c =
 
 pub returns : goal.returns
 returns c =
+    let all = body-put (front c) (body c) (bytes c) c.args.out.now (whole (goal.at.returns c).Start) (rw c.version-version.ensures at c.measure_site_with-front.ensures)
+    c.in-Until.is c.measure-room.ensures c.in-Until-room.is
+    (rw c.version-version.ensures at c.put_site_with-at.ensures) c.put_lines.ensures in
     record {
-      value = (body-put (front c) (body c) (bytes c) c.args.out.now (whole (goal.at.returns c).Start) (rw c.version-version.ensures at c.measure_site_with-front.ensures)
-          c.in-Until.is c.measure-room.ensures c.in-Until-room.is
-          (rw c.version-version.ensures at c.put_site_with-at.ensures) c.put_lines.ensures).0;
-      out_after = (body-put (front c) (body c) (bytes c) c.args.out.now (whole (goal.at.returns c).Start) (rw c.version-version.ensures at c.measure_site_with-front.ensures)
-          c.in-Until.is c.measure-room.ensures c.in-Until-room.is
-          (rw c.version-version.ensures at c.put_site_with-at.ensures) c.put_lines.ensures).1;
+      value = all.0;
+      out_after = all.1;
     }

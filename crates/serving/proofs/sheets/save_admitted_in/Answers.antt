@@ -29,12 +29,13 @@ returns-then-not-is_change c =
 
 pub save_noted-requires : goal.save_noted-requires
 save_noted-requires c =
+    let all = storable (lent c) c.requires (use_savable (lent c) c.judge-answer.ensures (passed c.is_change.ensures c.if-not-is_change.false-raw)) in
     record {
-      characters_len = (storable (lent c) c.requires (use_savable (lent c) c.judge-answer.ensures (passed c.is_change.ensures c.if-not-is_change.false-raw))).0;
-      n_le_character_slots = (storable (lent c) c.requires (use_savable (lent c) c.judge-answer.ensures (passed c.is_change.ensures c.if-not-is_change.false-raw))).1.0;
-      n_in_bounds = (storable (lent c) c.requires (use_savable (lent c) c.judge-answer.ensures (passed c.is_change.ensures c.if-not-is_change.false-raw))).1.1.0;
-      pending_len = (storable (lent c) c.requires (use_savable (lent c) c.judge-answer.ensures (passed c.is_change.ensures c.if-not-is_change.false-raw))).1.1.1.0;
-      w_le_pending_slots = (storable (lent c) c.requires (use_savable (lent c) c.judge-answer.ensures (passed c.is_change.ensures c.if-not-is_change.false-raw))).1.1.1.1;
+      characters_len = all.0;
+      n_le_character_slots = all.1.0;
+      n_in_bounds = all.1.1.0;
+      pending_len = all.1.1.1.0;
+      w_le_pending_slots = all.1.1.1.1;
     }
 
 pub returns : goal.returns

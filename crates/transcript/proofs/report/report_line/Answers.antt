@@ -7,31 +7,35 @@ use Rattle.transcript.proofs.report.report_line.Goals as goal
 pub returns-in-Done : goal.returns-in-Done
 unfolding report_line reply_line spelled reply
 returns-in-Done c =
+    let all = rw c.in-Done.is c.put_report.ensures in
     record {
-      value = (rw c.in-Done.is c.put_report.ensures).0;
-      out_after = (rw c.in-Done.is c.put_report.ensures).1;
+      value = all.0;
+      out_after = all.1;
     }
 
 pub returns-in-Deferred : goal.returns-in-Deferred
 unfolding report_line reply_line spelled reply
 returns-in-Deferred c =
+    let all = rw c.in-Deferred.is c.put_report-in-Deferred.ensures in
     record {
-      value = (rw c.in-Deferred.is c.put_report-in-Deferred.ensures).0;
-      out_after = (rw c.in-Deferred.is c.put_report-in-Deferred.ensures).1;
+      value = all.0;
+      out_after = all.1;
     }
 
 pub returns-in-Duplicate : goal.returns-in-Duplicate
 unfolding report_line reply_line spelled reply
 returns-in-Duplicate c =
+    let all = rw c.in-Duplicate.is c.put_report-in-Duplicate.ensures in
     record {
-      value = (rw c.in-Duplicate.is c.put_report-in-Duplicate.ensures).0;
-      out_after = (rw c.in-Duplicate.is c.put_report-in-Duplicate.ensures).1;
+      value = all.0;
+      out_after = all.1;
     }
 
 pub returns-in-Refused : goal.returns-in-Refused
 unfolding report_line reply_line spelled reply
 returns-in-Refused c =
+    let all = rw (c.in-Refused.is, ← c.number.ensures) c.put_report-in-Refused.ensures in
     record {
-      value = (rw (c.in-Refused.is, ← c.number.ensures) c.put_report-in-Refused.ensures).0;
-      out_after = (rw (c.in-Refused.is, ← c.number.ensures) c.put_report-in-Refused.ensures).1;
+      value = all.0;
+      out_after = all.1;
     }
