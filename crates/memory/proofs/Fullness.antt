@@ -21,11 +21,11 @@ FullArrays d = Sized d.characters d.toggles d.pending d.table.heads d.table.link
 pub full_arrays : {d : InMemory} {vs : List Val} → Is document.the_row d vs → FullArrays d
 full_arrays g =
     record {
-      characters = simp length-map at g.1.1.0.1.0.1;
-      toggles = simp length-map at g.1.1.1.0.1.0.1;
-      pending = simp length-map at g.1.1.1.1.1.0.1.0.1;
-      heads = simp length-map at g.1.1.1.1.1.1.1.0.1.1.0.1.0.1;
-      links = simp length-map at g.1.1.1.1.1.1.1.0.1.1.1.0.1.0.1;
+      characters = g.1.1.0.1.0.1;
+      toggles = g.1.1.1.0.1.0.1;
+      pending = g.1.1.1.1.1.0.1.0.1;
+      heads = g.1.1.1.1.1.1.1.0.1.1.0.1.0.1;
+      links = g.1.1.1.1.1.1.1.0.1.1.1.0.1.0.1;
     }
 
 pub full-replica : {r : ReplicaInMemory} {vs : List Val} → Is replica.the_row r vs → FullArrays r.document

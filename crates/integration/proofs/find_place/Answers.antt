@@ -31,8 +31,8 @@ upper-at : (c : After-place_near-upper)
     → take a.n a.keys.now ≡ keys cs
     → AllSmall cs
     → (a.n ≡ length cs) × (c.place_near-upper.result ≡ place_of cs a.insert.previous)
-upper-at c cs e c =
-    (counted cs _ _ c.requires.n_in_bounds e, sought cs c _ e _ _ _ c.key.ensures c.place_near-upper.ensures)
+upper-at c cs e s =
+    (counted cs _ _ c.requires.n_in_bounds e, sought cs s _ e _ _ _ (c.key.ensures.value, c.key.ensures.small) c.place_near-upper.ensures)
 
 -- where the next does
 lower-at : (c : After-place_near-lower)
@@ -40,7 +40,7 @@ lower-at : (c : After-place_near-lower)
     → take a.n a.keys.now ≡ keys cs
     → AllSmall cs
     → c.place_near-lower.result ≡ place_of cs a.insert.next
-lower-at c cs e c = sought cs c _ e _ _ _ c.key-2.ensures c.place_near-lower.ensures
+lower-at c cs e s = sought cs s _ e _ _ _ (c.key-2.ensures.value, c.key-2.ensures.small) c.place_near-lower.ensures
 
 pub slice_bounds-ids-end : goal.slice_bounds-ids-end
 slice_bounds-ids-end c = simp length-take (omega arith)

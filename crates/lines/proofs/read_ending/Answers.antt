@@ -10,6 +10,7 @@ use borrow.Author.Rules.{rules}
 use Rattle.decimal.specs.Answers.{field_of, digits_front, scan_of}
 use Rattle.lines.specs.Lines.{before, first_line}
 use Rattle.lines.specs.Fields.{tab}
+use mathlib.Core.Bool.{false}
 use Rattle.lines.specs.Answers.{goes_on_at}
 use Rattle.lines.proofs.Runs.{run_ends, run_goes}
 use Rattle.lines.proofs.Reading.{Reading, begun, short, nothing_left, not_numeral, no_numeral, next-above, next-number, too_long}
@@ -127,10 +128,10 @@ loop-i-preserved c =
     let whole = past (goal.at.loop-i-preserved c).After-scan-number ∙ ap (λ (f : List ℕ). l.at + 1 + length f) digits in (
       elim c.match-field.branch [
         in-Above w ↦
-        rw (w.values-is, w.above-is)
+        rw (w.values-is, w.over-is)
         (next-above l.invariant.0 test (inside (goal.at.loop-i-preserved c).After-scan-number) (own (goal.at.loop-i-preserved c).After-scan-number) digits whole (sym said ∙ w.in-Above.is))
       | in-Number w ↦
-        rw (w.values-is, w.above-is)
+        rw (w.values-is, w.over-is)
         (next-number l.invariant.0 test (inside (goal.at.loop-i-preserved c).After-scan-number) (own (goal.at.loop-i-preserved c).After-scan-number) digits whole (sym said ∙ w.in-Number.is))
       ],
       low (goal.at.loop-i-preserved c).After-scan-number,

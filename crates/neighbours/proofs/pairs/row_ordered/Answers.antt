@@ -13,6 +13,7 @@ use Rattle.lists.specs.Lists.{throughout}
 use Rattle.lists.proofs.Tests.{and_intro, or_left, or_right, or-false, not-intro}
 use Rattle.lists.proofs.Throughout.{throughout-more, throughout-fails, throughout-at, throughout-all}
 use Rattle.neighbours.specs.Steps.{pair_at}
+use Rattle.neighbours.proofs.pairs.row_ordered.Goals.{then-k-place+else-key-ids, else-k-place}
 use Rattle.neighbours.proofs.pairs.row_ordered.Goals as goal
 
 module _ (ids below : List ℕ) (p k : ℕ) where
@@ -68,8 +69,10 @@ loop-j-preserved c =
     let p = c.place.ensures in (
       omega arith,
       throughout-more (pair_at a.ids.now a.below.now a.above a.k) l.j l.invariant.1
-          (⊎_elim (λ v. right_key a.ids.now a.below.now a.above a.k l.j v.2.left)
-          (λ v. right-place a.ids.now a.below.now a.above a.k l.j p v.left) c.if-k-place.branch),
+          (elim c.if-k-place.branch [
+            then-k-place+else-key-ids w ↦ right_key a.ids.now a.below.now a.above a.k l.j w.if-key-ids.false
+          | else-k-place w ↦ right-place a.ids.now a.below.now a.above a.k l.j p w.if-k-place.false
+          ]),
     )
 
 pub returns : goal.returns
