@@ -60,7 +60,7 @@ pub put_chunks-requires : goal.put_chunks-requires
 put_chunks-requires c =
     let room =
     body-room (front c) (body c) (bytes c) c.args.out.now (whole (goal.at.put_chunks-requires c).Start) c.measure_header-front.ensures
-    c.in-Until.is c.measure_chunks-room.ensures c.in-Until-room.is c.put_header-at.ensures in
+    c.in-Until.is c.measure_chunks-room.ensures c.in-Until-room.is (c.put_header-at.ensures.value, c.put_header-at.ensures.out_after) in
     record {
       n_in_bounds = c.requires.n_in_bounds;
       n_in_bounds_2 = c.requires.n_in_bounds_2;
@@ -70,7 +70,7 @@ put_chunks-requires c =
 pub returns : goal.returns
 returns c =
     let all = body-put (front c) (body c) (bytes c) c.args.out.now (whole (goal.at.returns c).Start) c.measure_header-front.ensures
-    c.in-Until.is c.measure_chunks-room.ensures c.in-Until-room.is c.put_header-at.ensures
+    c.in-Until.is c.measure_chunks-room.ensures c.in-Until-room.is (c.put_header-at.ensures.value, c.put_header-at.ensures.out_after)
     c.put_chunks.ensures in
     record {
       value = all.0;

@@ -8,11 +8,11 @@ pub read_into_at-requires : goal.read_into_at-requires
 read_into_at-requires c =
     record {
       starts_value = sym (pad-none 1 0);
-      characters_value = c.requires.0;
-      toggles_value = c.requires.1.0;
-      pending_value = c.requires.1.1.0;
-      heads_len = c.requires.1.1.1.0;
-      links_len = c.requires.1.1.1.1;
+      characters_value = c.requires.characters_value;
+      toggles_value = c.requires.toggles_value;
+      pending_value = c.requires.pending_value;
+      heads_len = c.requires.heads_len;
+      links_len = c.requires.links_len;
     }
 
 pub returns : goal.returns

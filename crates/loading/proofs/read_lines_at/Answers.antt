@@ -66,7 +66,7 @@ module _ (p : After-read_operations-back) where
       let past = p.read_rows_at-ahead.ensures.past in (ap lines whole ∙ past.others, ap closed whole ∙ past.shut)
 
   operations-read : Told p.read_operations-back.result later p.read_operations-back.new.pending (version_of k)
-  operations-read = subst (Told p.read_operations-back.result later p.read_operations-back.new.pending) p.version-version.ensures p.read_operations-back.ensures
+  operations-read = subst (Told p.read_operations-back.result later p.read_operations-back.new.pending) p.version-version.ensures (p.read_operations-back.ensures.value, (p.read_operations-back.ensures.pending_len, p.read_operations-back.ensures.pending_after))
 
   lacks : p.read_operations-back.result.laid_out ≡ false → Refused Layout ≡ rows_answer k s
   lacks = no-later k s _ (first_read p) site_laid body_is _ p.read_rows_at-ahead.ensures.front_value _ later-is _ operations-read.0

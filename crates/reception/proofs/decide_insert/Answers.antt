@@ -52,9 +52,9 @@ returns-in-Other c =
 
 pub seen_by-requires : goal.seen_by-requires
 seen_by-requires c = record {
-  sized = c.requires.0;
-  examined = c.requires.1.0;
-  insert_value = c.requires.1.1;
+  sized = c.requires.sized;
+  examined = c.requires.examined;
+  insert_value = c.requires.insert_value;
 }
 
 pub slice_bounds-ids-count : goal.slice_bounds-ids-count

@@ -9,7 +9,7 @@ use Rattle.splicing.proofs.put.Goals as goal
 
 pub returns : goal.returns
 returns c =
-    put-between _ _ _ _ _ c.requires.back_in_bounds _ _ c.put_all-middle.ensures _ _ c.put_numbered-end.ensures c.put_all.ensures.1
+    put-between _ _ _ _ _ c.requires.back_in_bounds _ _ c.put_all-middle.ensures _ _ (c.put_numbered-end.ensures.value, c.put_numbered-end.ensures.out_after) c.put_all.ensures.1
 
 pub put_numbered-end-requires : goal.put_numbered-end-requires
 put_numbered-end-requires c = c.requires.count_bound

@@ -49,20 +49,20 @@ put_row-requires-in-Altered c =
 pub returns-in-Any : goal.returns-in-Any
 returns-in-Any c =
     record {
-      value = c.put_replica.ensures.0;
-      out_after = c.put_replica.ensures.1;
+      value = c.put_replica.ensures.value;
+      out_after = c.put_replica.ensures.out_after;
     }
 
 pub returns-in-Inserted : goal.returns-in-Inserted
 returns-in-Inserted c =
     record {
-      value = c.put_row.ensures.0;
-      out_after = c.put_row.ensures.1;
+      value = c.put_row.ensures.value;
+      out_after = c.put_row.ensures.out_after;
     }
 
 pub returns-in-Altered : goal.returns-in-Altered
 returns-in-Altered c =
     record {
-      value = c.put_row-in-Altered.ensures.0;
-      out_after = c.put_row-in-Altered.ensures.1;
+      value = c.put_row-in-Altered.ensures.value;
+      out_after = c.put_row-in-Altered.ensures.out_after;
     }

@@ -40,13 +40,13 @@ put-requires c =
     record {
       count_bound = c.requires;
       back_in_bounds = body-room (head c) (others c) (head c ++ others c) c.args.out.now refl c.measure_site_with-head.ensures c.in-Until.is
-          c.measure-rest.ensures c.in-Until-rest.is c.put_site_with-at.ensures;
+          c.measure-rest.ensures c.in-Until-rest.is (c.put_site_with-at.ensures.value, c.put_site_with-at.ensures.out_after);
     }
 
 pub returns : goal.returns
 returns c =
     let all = body-put (head c) (others c) (head c ++ others c) c.args.out.now refl c.measure_site_with-head.ensures c.in-Until.is
-    c.measure-rest.ensures c.in-Until-rest.is c.put_site_with-at.ensures c.put.ensures in
+    c.measure-rest.ensures c.in-Until-rest.is (c.put_site_with-at.ensures.value, c.put_site_with-at.ensures.out_after) c.put.ensures in
     record {
       value = all.0;
       out_after = all.1;

@@ -62,4 +62,4 @@ pub slice_bounds-receive_at-end-in-Done-4 : goal.slice_bounds-receive_at-end-in-
 slice_bounds-receive_at-end-in-Done-4 c = sym c.read_into-found.ensures.links_len_2
 
 pub receive_at-requires : goal.receive_at-requires
-receive_at-requires c = lent_sized c.read_into-found.ensures
+receive_at-requires c = lent_sized (c.read_into-found.ensures.characters_len, (c.read_into-found.ensures.toggles_len, (c.read_into-found.ensures.pending_len, (c.read_into-found.ensures.heads_len_2, (c.read_into-found.ensures.links_len_2, c.read_into-found.ensures.links_after)))))

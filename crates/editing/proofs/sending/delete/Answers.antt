@@ -48,4 +48,4 @@ pub slice_bounds-delete-end-in-Done-4 : goal.slice_bounds-delete-end-in-Done-4
 slice_bounds-delete-end-in-Done-4 c = sym c.read_into-found.ensures.links_len_2
 
 pub delete-requires : goal.delete-requires
-delete-requires c = lent_sized c.read_into-found.ensures
+delete-requires c = lent_sized (c.read_into-found.ensures.characters_len, (c.read_into-found.ensures.toggles_len, (c.read_into-found.ensures.pending_len, (c.read_into-found.ensures.heads_len_2, (c.read_into-found.ensures.links_len_2, c.read_into-found.ensures.links_after)))))

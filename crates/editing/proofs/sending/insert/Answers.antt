@@ -67,4 +67,4 @@ pub slice_bounds-insert-end-in-Done-4 : goal.slice_bounds-insert-end-in-Done-4
 slice_bounds-insert-end-in-Done-4 c = sym c.read_into-found.ensures.links_len_2
 
 pub insert-requires : goal.insert-requires
-insert-requires c = lent_sized c.read_into-found.ensures
+insert-requires c = lent_sized (c.read_into-found.ensures.characters_len, (c.read_into-found.ensures.toggles_len, (c.read_into-found.ensures.pending_len, (c.read_into-found.ensures.heads_len_2, (c.read_into-found.ensures.links_len_2, c.read_into-found.ensures.links_after)))))

@@ -88,4 +88,4 @@ pub slice_bounds-restore-end-in-Done-4 : goal.slice_bounds-restore-end-in-Done-4
 slice_bounds-restore-end-in-Done-4 c = sym c.read_into-found.ensures.links_len_2
 
 pub restore-requires : goal.restore-requires
-restore-requires c = lent_sized c.read_into-found.ensures
+restore-requires c = lent_sized (c.read_into-found.ensures.characters_len, (c.read_into-found.ensures.toggles_len, (c.read_into-found.ensures.pending_len, (c.read_into-found.ensures.heads_len_2, (c.read_into-found.ensures.links_len_2, c.read_into-found.ensures.links_after)))))

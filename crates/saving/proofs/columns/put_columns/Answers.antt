@@ -5,6 +5,6 @@ use Rattle.saving.proofs.columns.put_columns.Goals as goal
 pub returns : goal.returns
 returns c =
     record {
-      value = c.put_columns_with.ensures.0;
-      out_after = c.put_columns_with.ensures.1;
+      value = c.put_columns_with.ensures.value;
+      out_after = c.put_columns_with.ensures.out_after;
     }

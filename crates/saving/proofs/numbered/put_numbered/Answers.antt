@@ -28,6 +28,6 @@ pub returns : goal.returns
 unfolding line_bytes
 returns c =
     record {
-      value = c.put_line.ensures.0;
-      out_after = c.put_line.ensures.1;
+      value = c.put_line.ensures.value;
+      out_after = c.put_line.ensures.out_after;
     }

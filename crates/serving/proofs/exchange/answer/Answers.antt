@@ -62,4 +62,4 @@ pub slice_bounds-answer_in-end-in-Done-4 : goal.slice_bounds-answer_in-end-in-Do
 slice_bounds-answer_in-end-in-Done-4 c = sym c.read_into-found.ensures.links_len_2
 
 pub answer_in-requires : goal.answer_in-requires
-answer_in-requires c = lent_sized c.read_into-found.ensures
+answer_in-requires c = lent_sized (c.read_into-found.ensures.characters_len, (c.read_into-found.ensures.toggles_len, (c.read_into-found.ensures.pending_len, (c.read_into-found.ensures.heads_len_2, (c.read_into-found.ensures.links_len_2, c.read_into-found.ensures.links_after)))))

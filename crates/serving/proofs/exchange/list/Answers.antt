@@ -57,4 +57,4 @@ pub slice_bounds-list_in-end-in-Done-4 : goal.slice_bounds-list_in-end-in-Done-4
 slice_bounds-list_in-end-in-Done-4 c = sym c.read_into-found.ensures.links_len_2
 
 pub list_in-requires : goal.list_in-requires
-list_in-requires c = lent_sized c.read_into-found.ensures
+list_in-requires c = lent_sized (c.read_into-found.ensures.characters_len, (c.read_into-found.ensures.toggles_len, (c.read_into-found.ensures.pending_len, (c.read_into-found.ensures.heads_len_2, (c.read_into-found.ensures.links_len_2, c.read_into-found.ensures.links_after)))))

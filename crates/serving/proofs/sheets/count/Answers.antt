@@ -45,4 +45,4 @@ pub slice_bounds-count_in-end-in-Done-4 : goal.slice_bounds-count_in-end-in-Done
 slice_bounds-count_in-end-in-Done-4 c = sym c.read_into-found.ensures.links_len_2
 
 pub count_in-requires : goal.count_in-requires
-count_in-requires c = lent_sized c.read_into-found.ensures
+count_in-requires c = lent_sized (c.read_into-found.ensures.characters_len, (c.read_into-found.ensures.toggles_len, (c.read_into-found.ensures.pending_len, (c.read_into-found.ensures.heads_len_2, (c.read_into-found.ensures.links_len_2, c.read_into-found.ensures.links_after)))))

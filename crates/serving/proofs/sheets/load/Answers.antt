@@ -51,4 +51,4 @@ pub slice_bounds-save_admitted_in-end-in-Done-4 : goal.slice_bounds-save_admitte
 slice_bounds-save_admitted_in-end-in-Done-4 c = sym c.read_into-found.ensures.links_len_2
 
 pub save_admitted_in-requires : goal.save_admitted_in-requires
-save_admitted_in-requires c = lent_sized c.read_into-found.ensures
+save_admitted_in-requires c = lent_sized (c.read_into-found.ensures.characters_len, (c.read_into-found.ensures.toggles_len, (c.read_into-found.ensures.pending_len, (c.read_into-found.ensures.heads_len_2, (c.read_into-found.ensures.links_len_2, c.read_into-found.ensures.links_after)))))

@@ -50,4 +50,4 @@ pub slice_bounds-show_in-end-in-Done-4 : goal.slice_bounds-show_in-end-in-Done-4
 slice_bounds-show_in-end-in-Done-4 c = sym c.read_into-found.ensures.links_len_2
 
 pub show_in-requires : goal.show_in-requires
-show_in-requires c = lent_sized c.read_into-found.ensures
+show_in-requires c = lent_sized (c.read_into-found.ensures.characters_len, (c.read_into-found.ensures.toggles_len, (c.read_into-found.ensures.pending_len, (c.read_into-found.ensures.heads_len_2, (c.read_into-found.ensures.links_len_2, c.read_into-found.ensures.links_after)))))

@@ -7,35 +7,31 @@ use Rattle.transcript.proofs.report.report_line.Goals as goal
 pub returns-in-Done : goal.returns-in-Done
 unfolding report_line reply_line spelled reply
 returns-in-Done c =
-    let all = rw c.in-Done.is c.put_report.ensures in
     record {
-      value = all.0;
-      out_after = all.1;
+      value = rw c.in-Done.is c.put_report.ensures.value;
+      out_after = rw c.in-Done.is c.put_report.ensures.out_after;
     }
 
 pub returns-in-Deferred : goal.returns-in-Deferred
 unfolding report_line reply_line spelled reply
 returns-in-Deferred c =
-    let all = rw c.in-Deferred.is c.put_report-in-Deferred.ensures in
     record {
-      value = all.0;
-      out_after = all.1;
+      value = rw c.in-Deferred.is c.put_report-in-Deferred.ensures.value;
+      out_after = rw c.in-Deferred.is c.put_report-in-Deferred.ensures.out_after;
     }
 
 pub returns-in-Duplicate : goal.returns-in-Duplicate
 unfolding report_line reply_line spelled reply
 returns-in-Duplicate c =
-    let all = rw c.in-Duplicate.is c.put_report-in-Duplicate.ensures in
     record {
-      value = all.0;
-      out_after = all.1;
+      value = rw c.in-Duplicate.is c.put_report-in-Duplicate.ensures.value;
+      out_after = rw c.in-Duplicate.is c.put_report-in-Duplicate.ensures.out_after;
     }
 
 pub returns-in-Refused : goal.returns-in-Refused
 unfolding report_line reply_line spelled reply
 returns-in-Refused c =
-    let all = rw (c.in-Refused.is, ← c.number.ensures) c.put_report-in-Refused.ensures in
     record {
-      value = all.0;
-      out_after = all.1;
+      value = rw (c.in-Refused.is, ← c.number.ensures) c.put_report-in-Refused.ensures.value;
+      out_after = rw (c.in-Refused.is, ← c.number.ensures) c.put_report-in-Refused.ensures.out_after;
     }
