@@ -82,6 +82,7 @@ Sought x os Nothing = any (λ j. same x j.id) (inserts os) ≡ false
 
 member_inserts : (os : List Operation) {i : Insert} → Memᴰ (insert i) os → Memᴰ i (inserts os)
 member_inserts (insert j ∷ os) {i} (Memᴰ.head e) = Memᴰ.head (let q : i ≡ j = cc in q)
+member_inserts [] {i = i} x' = elim x' [ ]
 member_inserts (insert j ∷ os) (Memᴰ.tail m) = Memᴰ.tail (member_inserts os m)
 member_inserts (toggle d ∷ os) (Memᴰ.head e) = let z : ◌≡◌ {A = ℕ} 0 1 = cc in absurd (omega arith)
 member_inserts (toggle d ∷ os) (Memᴰ.tail m) = member_inserts os m

@@ -7,16 +7,17 @@ use Rattle.admission.proofs.admit.Goals as goal
 
 pub returns-in-Refused : goal.returns-in-Refused
 unfolding used_after
-returns-in-Refused c = c.refused.ensures ∙ admitted_so c.args.t1 (sym c.in-Refused.is ∙ c.judge-answer.ensures)
+returns-in-Refused c =
+    c.refused.ensures ∙ admitted_so c.args.replica (sym c.in-Refused.is ∙ c.judge-answer.ensures)
 
 pub returns-in-Done : goal.returns-in-Done
 unfolding used_after
-returns-in-Done c = admitted-by c.args.t1 c.judge-answer.ensures c.in-Done.is
+returns-in-Done c = admitted-by c.args.replica c.judge-answer.ensures c.in-Done.is
 
 pub returns-in-Deferred : goal.returns-in-Deferred
 unfolding used_after
-returns-in-Deferred c = admitted-by c.args.t1 c.judge-answer.ensures c.in-Deferred.is
+returns-in-Deferred c = admitted-by c.args.replica c.judge-answer.ensures c.in-Deferred.is
 
 pub returns-in-Duplicate : goal.returns-in-Duplicate
 unfolding used_after
-returns-in-Duplicate c = admitted-by c.args.t1 c.judge-answer.ensures c.in-Duplicate.is
+returns-in-Duplicate c = admitted-by c.args.replica c.judge-answer.ensures c.in-Duplicate.is

@@ -15,7 +15,7 @@ pub gather-requires : goal.gather-requires
 gather-requires c =
     let p = c.requires in
     let q = c.sequence in
-    let size = q.auto.1.1.0 in
+    let size = q.auto.places in
     record {
       characters_len = p.characters_len;
       toggles_len = p.toggles_len;
@@ -32,7 +32,7 @@ returns c =
     let q = c.sequence in
     let g = c.gather.ensures in
     let r = c.put_archive.ensures in
-    let size = q.auto.1.1.0 in
+    let size = q.auto.places in
     let out = c.args.out.now in
     record {
       value = λ t held h.

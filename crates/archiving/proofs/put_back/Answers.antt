@@ -47,9 +47,9 @@ put_replica-requires c =
     let g = c.gather in
     let true-so = passed refl c.if-not-has_form.false-raw in
     record {
-      characters_len = g.auto.1.1.1.1.0;
+      characters_len = g.auto.moved;
       n_le_character_slots = p.n_le_character_slots;
-      n_in_bounds = omega (arith, g.auto.1.1.1.1.1.0, p.n_le_character_slots);
+      n_in_bounds = omega (arith, g.auto.moved_toggles, p.n_le_character_slots);
       pending_len = p.pending_len;
       w_le_pending_slots = f.ensures.w_le_pending_slots true-so;
       w_value = second-says _;

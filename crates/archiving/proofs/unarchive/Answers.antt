@@ -48,7 +48,7 @@ put_back-requires c =
     record {
       characters_len = z.characters_len;
       toggles_len = z.toggles_len;
-      n_in_bounds = omega (arith, few, a.auto.1.1.1.0);
+      n_in_bounds = omega (arith, few, a.auto.order);
       n_le_character_slots = few;
       leads = a.ensures.leads so;
       pending_len = z.pending_len;
@@ -66,7 +66,7 @@ returns c =
     let so = passed refl c.if-not-is_arranged.false-raw in
     let placed = archive_placed b out done held z.places_len_unchanged in
     let e = a.ensures.order_after so _ placed in
-    let order = a.new.1.1.1.0 in
+    let order = a.new.order in
     let all = brought_so b out done held order e (sym (a.ensures.value _ placed) ∙ so)
     (c.put_back.ensures _ (archive_held b out done held) (led_ranged b out done held order e)) in
     record {

@@ -27,7 +27,7 @@ count_absent-absent-requires c =
     let l = p.ensures (empty_offers _ e.result e.ensures a) in
     record {
       n_le_character_slots = laid_count l;
-      characters_len = p.auto.0 ∙ empty-size _ e.result e.ensures;
+      characters_len = p.auto.characters ∙ empty-size _ e.result e.ensures;
       tabled = laid_tabled l;
       changes_len = a.among.held.size;
       m_le_character_slots = omega (arith, a.among.many, a.among.held.few);
@@ -40,7 +40,7 @@ toggle_all-requires c =
     let p = c.place_all-n in
     let l = p.ensures (empty_offers _ e.result e.ensures a) in
     record {
-      characters_len = p.auto.0 ∙ empty-size _ e.result e.ensures;
+      characters_len = p.auto.characters ∙ empty-size _ e.result e.ensures;
       toggles = toggles-on l a.among;
     }
 
@@ -67,11 +67,11 @@ returns c a =
     let n = c.count_absent-absent.ensures.value _ _ (laid_keys l) l.small a.among in
     assembled_so c.args.site a.inserts a.toggles _ _ refl
     (record {
-      characters = p.auto.0 ∙ empty-size _ e.result e.ensures;
+      characters = p.auto.characters ∙ empty-size _ e.result e.ensures;
       toggles = s.toggles;
       pending = empty-pending-size _ e.result e.ensures;
       heads = s.heads;
       links = s.links;
     })
-    (ap (λ (q : List ℕ). columns_as p.new.0 t.new.1.1.1.0 p.result q 0 p.new.1.1.0 p.new.1.1.1.0) (empty-pending _ e.result e.ensures) ∙ f.tidy)
+    (ap (λ (q : List ℕ). columns_as p.new.characters t.new.toggles p.result q 0 p.new.heads p.new.links) (empty-pending _ e.result e.ensures) ∙ f.tidy)
     _ (omega (arith, n, (laid_parts l).length-is, a.many))

@@ -30,7 +30,7 @@ pub save_noted-requires : goal.save_noted-requires
 save_noted-requires c =
     let m = c.carry_at-received in
     let k = m.auto in
-    let full = sized_still c.requires k.0 k.1.0 k.1.1.0 k.1.1.1.0 k.1.1.1.1.0 in
+    let full = sized_still c.requires m.auto.characters m.auto.toggles m.auto.pending m.auto.heads m.auto.links in
     let all = storable _ full (received-at-formed _ _ _ m.ensures (passed c.is_change.ensures c.if-not-is_change.false-raw)) in
     record {
       characters_len = all.0;

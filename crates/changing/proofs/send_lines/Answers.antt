@@ -16,7 +16,7 @@ returns-then-count-eq0 c = leaves_by (none-typed _ _ _ _ _ c.if-count-eq0.true) 
 
 pub save_lines-requires : goal.save_lines-requires
 save_lines-requires c =
-    let r = c.args.t2 in
+    let r = c.args.replica in
     let w = storable r (full-replica {r = r} c.well_formed.1.0) (c.requires.replica_value c.if-count-eq0.false) in
     record {
       characters_len = w.0;

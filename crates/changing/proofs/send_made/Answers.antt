@@ -22,7 +22,7 @@ save_both-requires c =
     let p = c.requires in
     let m = c.carry_made-sent in
     let k = m.auto in
-    let full = sized_still p.sized k.0 k.1.0 k.1.1.0 k.1.1.1.0 k.1.1.1.1.0 in
+    let full = sized_still p.sized m.auto.characters m.auto.toggles m.auto.pending m.auto.heads m.auto.links in
     let all = storable _ full (subst Savable (sym m.ensures) p.savable (sent-changes c.in-Done.is)) in
     record {
       characters_len = all.0;

@@ -16,5 +16,5 @@ returns c =
       characters_after_3 = rw (← c.key-3.ensures.value) e.characters_after_3;
       characters_after_4 = e.characters_after_4;
       toggles_after = c.put_byte.ensures;
-      links_after = c.enter_all.ensures ∙ ap table_of (sym (take-take (c.args.n + 1) 1024 c.put_numbers.new.0 (omega (arith, c.requires.n_lt_character_slots))));
+      links_after = c.enter_all.ensures ∙ ap table_of (sym (take-take (c.args.n + 1) 1024 c.put_numbers.new.characters (omega (arith, c.requires.n_lt_character_slots))));
     }

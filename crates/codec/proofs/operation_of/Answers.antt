@@ -10,17 +10,17 @@ use Rattle.codec.proofs.operation_of.Goals as goal
 
 pub overflow_cast-values : goal.overflow_cast-values
 overflow_cast-values c =
-    let b = at_most_at toggle_limits c.args.t2 (rw c.in-Toggle.is at c.requires) in
+    let b = at_most_at toggle_limits c.args.values (rw c.in-Toggle.is at c.requires) in
     omega (arith, b 3 (omega arith))
 
 pub toggle_of-requires : goal.toggle_of-requires
 toggle_of-requires c =
-    let b = at_most_at toggle_limits c.args.t2 (rw c.in-Toggle.is at c.requires) in
+    let b = at_most_at toggle_limits c.args.values (rw c.in-Toggle.is at c.requires) in
     omega (arith, b 0 (omega arith), b 1 (omega arith), b 2 (omega arith))
 
 pub toggle_of-requires-in-Delete : goal.toggle_of-requires-in-Delete
 toggle_of-requires-in-Delete c =
-    let b = at_most_at delete_limits c.args.t2 (rw c.in-Delete.is at c.requires) in
+    let b = at_most_at delete_limits c.args.values (rw c.in-Delete.is at c.requires) in
     omega (arith, b 0 (omega arith), b 1 (omega arith), b 2 (omega arith))
 
 pub returns-in-Insert : goal.returns-in-Insert

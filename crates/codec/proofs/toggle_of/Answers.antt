@@ -11,4 +11,4 @@ pub returns : goal.returns
 unfolding toggles_of identifier_at
 returns c =
     let target = fits_whole c.identifier.ensures (omega arith) (omega arith) in
-    λ j. record { sender = get_or c.args.t1 0 0; target = target j; toggles = c.args.toggles }
+    λ j. record { sender = get_or c.args.values 0 0; target = target j; toggles = c.args.toggles }

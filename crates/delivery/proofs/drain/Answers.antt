@@ -38,7 +38,7 @@ loop-j-smaller c =
 pub loop-j-preserved : goal.loop-j-preserved
 loop-j-preserved c =
     let n = (step_nearer c.loop-j.invariant.2 _ (sym (workable_due c.loop-j.invariant.2) ∙ sym c.due.ensures ∙ c.in-At.is) _ c.step-done.ensures) in
-    (omega (arith, c.step-done.auto.0, c.loop-j.invariant.0), omega (arith, c.step-done.auto.1.1.0, c.loop-j.invariant.1), n.workable, n.same ∙ c.loop-j.invariant.3)
+    (omega (arith, c.step-done.auto.characters, c.loop-j.invariant.0), omega (arith, c.step-done.auto.pending, c.loop-j.invariant.1), n.workable, n.same ∙ c.loop-j.invariant.3)
 
 pub shape_of-characters-in-Nothing : goal.shape_of-characters-in-Nothing
 shape_of-characters-in-Nothing c = omega (arith, c.requires.characters_len, c.loop-j.invariant.0)

@@ -22,13 +22,13 @@ put_in-requires c =
     let p = c.requires in
     let s = c.sweep in
     record {
-      characters_len = omega (arith, p.characters_len, s.auto.0);
-      pending_len = omega (arith, p.pending_len, s.auto.1.1.0);
-      insertable = record { characters = _; pending = _; placed = placed_as p.placed (s.ensures _ _ p.placed.lent) refl refl s.auto.1.0 };
+      characters_len = omega (arith, p.characters_len, s.auto.characters);
+      pending_len = omega (arith, p.pending_len, s.auto.pending);
+      insertable = record { characters = _; pending = _; placed = placed_as p.placed (s.ensures _ _ p.placed.lent) refl refl s.auto.toggles };
     }
 
 pub returns : goal.returns
 returns c =
     let p = c.requires.placed in
     let s = c.sweep in
-    c.put_in.ensures _ _ (placed_as p (s.ensures _ _ p.lent) refl refl s.auto.1.0)
+    c.put_in.ensures _ _ (placed_as p (s.ensures _ _ p.lent) refl refl s.auto.toggles)

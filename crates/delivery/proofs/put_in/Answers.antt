@@ -28,7 +28,7 @@ drain-requires c =
     let q = p.insertable.placed in
     let e = c.put_in.ensures in
     record {
-      characters_len = omega (arith, p.characters_len, c.put_in.auto.0);
+      characters_len = omega (arith, p.characters_len, c.put_in.auto.characters);
       pending_len = p.pending_len;
       workable = carried_workable (placed-parts q.swept _ _ q.room e.characters_after e.characters_after_2 e.characters_after_3 e.characters_after_4 e.toggles_after e.links_after) q.result refl refl q.sound;
     }

@@ -8,7 +8,7 @@ use Rattle.delivery.proofs.toggle.Goals as goal
 pub toggle-requires : goal.toggle-requires
 toggle-requires c =
     let t = c.requires.targeted in
-    omega (arith, targeted_within _ _ _ t, t.lent.few, t.lent.slots.toggles, c.clear.auto.1.0)
+    omega (arith, targeted_within _ _ _ t, t.lent.few, t.lent.slots.toggles, c.clear.auto.toggles)
 
 pub returns : goal.returns
 returns c =

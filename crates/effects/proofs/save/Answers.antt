@@ -9,7 +9,7 @@ use Rattle.effects.proofs.save.Goals as goal
 
 pub save_noted-requires : goal.save_noted-requires
 save_noted-requires c =
-    let r = c.args.t2 in
+    let r = c.args.replica in
     let all = storable r (full-replica {r = r} c.well_formed.1.0) c.requires in
     record {
       characters_len = all.0;

@@ -82,14 +82,14 @@ pub returns-in-Defer : goal.returns-in-Defer
 returns-in-Defer c =
     let done = c.defer in
     rw c.in-Defer.is
-    (ap (left_as done.new.0 _ done.new.1.1.0 _ _) c.left-in-Defer.ensures
+    (ap (left_as done.new.characters _ done.new.pending _ _) c.left-in-Defer.ensures
     ∙ deferred_left (made (deferring c)) _ _ _ _ c.heard_operation.ensures done.ensures (omega arith))
 
 pub returns-in-Insert : goal.returns-in-Insert
 returns-in-Insert c =
     let done = c.integrate-done in
     rw (c.in-Insert.is, c.in-Place.is)
-    (ap (left_as done.new.0 _ done.new.1.1.0 _ _) c.left-in-Insert.ensures
+    (ap (left_as done.new.characters _ done.new.pending _ _) c.left-in-Insert.ensures
     ∙ integrated_left (made (placing c)) _ _ _ _ _ _ (places (goal.at.returns-in-Insert c).In-Insert-2) c.heard.ensures done.ensures)
 
 pub returns-in-Toggle-operation : goal.returns-in-Toggle-operation
@@ -104,50 +104,50 @@ pub returns-in-Toggle-operation-2 : goal.returns-in-Toggle-operation-2
 returns-in-Toggle-operation-2 c =
     let done = c.toggle in
     rw (c.in-Toggle-operation-2.is, c.in-Toggle.is)
-    (ap (left_as done.new.0 _ done.new.1.1.0 _ _) c.left-in-Toggle-operation-2.ensures
+    (ap (left_as done.new.characters _ done.new.pending _ _) c.left-in-Toggle-operation-2.ensures
     ∙ toggled-left (made (toggling c)) _ _ _ done.ensures)
 
 pub shape_of-characters-in-Defer : goal.shape_of-characters-in-Defer
-shape_of-characters-in-Defer c = c.defer.auto.0
+shape_of-characters-in-Defer c = c.defer.auto.characters
 
 pub shape_of-toggles-in-Defer : goal.shape_of-toggles-in-Defer
-shape_of-toggles-in-Defer c = c.defer.auto.1.0
+shape_of-toggles-in-Defer c = c.defer.auto.toggles
 
 pub shape_of-pending-in-Defer : goal.shape_of-pending-in-Defer
-shape_of-pending-in-Defer c = c.defer.auto.1.1.0
+shape_of-pending-in-Defer c = c.defer.auto.pending
 
 pub shape_of-heads-in-Defer : goal.shape_of-heads-in-Defer
-shape_of-heads-in-Defer c = c.defer.auto.1.1.1.0
+shape_of-heads-in-Defer c = c.defer.auto.heads
 
 pub shape_of-links-in-Defer : goal.shape_of-links-in-Defer
-shape_of-links-in-Defer c = c.defer.auto.1.1.1.1.0
+shape_of-links-in-Defer c = c.defer.auto.links
 
 pub shape_of-characters-in-Insert : goal.shape_of-characters-in-Insert
-shape_of-characters-in-Insert c = c.integrate-done.auto.0
+shape_of-characters-in-Insert c = c.integrate-done.auto.characters
 
 pub shape_of-toggles-in-Insert : goal.shape_of-toggles-in-Insert
-shape_of-toggles-in-Insert c = c.integrate-done.auto.1.0
+shape_of-toggles-in-Insert c = c.integrate-done.auto.toggles
 
 pub shape_of-pending-in-Insert : goal.shape_of-pending-in-Insert
-shape_of-pending-in-Insert c = c.integrate-done.auto.1.1.0
+shape_of-pending-in-Insert c = c.integrate-done.auto.pending
 
 pub shape_of-heads-in-Insert : goal.shape_of-heads-in-Insert
-shape_of-heads-in-Insert c = c.integrate-done.auto.1.1.1.0
+shape_of-heads-in-Insert c = c.integrate-done.auto.heads
 
 pub shape_of-links-in-Insert : goal.shape_of-links-in-Insert
-shape_of-links-in-Insert c = c.integrate-done.auto.1.1.1.1.0
+shape_of-links-in-Insert c = c.integrate-done.auto.links
 
 pub shape_of-characters-in-Toggle-operation-2 : goal.shape_of-characters-in-Toggle-operation-2
-shape_of-characters-in-Toggle-operation-2 c = c.toggle.auto.0
+shape_of-characters-in-Toggle-operation-2 c = c.toggle.auto.characters
 
 pub shape_of-toggles-in-Toggle-operation-2 : goal.shape_of-toggles-in-Toggle-operation-2
-shape_of-toggles-in-Toggle-operation-2 c = c.toggle.auto.1.0
+shape_of-toggles-in-Toggle-operation-2 c = c.toggle.auto.toggles
 
 pub shape_of-pending-in-Toggle-operation-2 : goal.shape_of-pending-in-Toggle-operation-2
-shape_of-pending-in-Toggle-operation-2 c = c.toggle.auto.1.1.0
+shape_of-pending-in-Toggle-operation-2 c = c.toggle.auto.pending
 
 pub shape_of-heads-in-Toggle-operation-2 : goal.shape_of-heads-in-Toggle-operation-2
-shape_of-heads-in-Toggle-operation-2 c = c.toggle.auto.1.1.1.0
+shape_of-heads-in-Toggle-operation-2 c = c.toggle.auto.heads
 
 pub shape_of-links-in-Toggle-operation-2 : goal.shape_of-links-in-Toggle-operation-2
-shape_of-links-in-Toggle-operation-2 c = c.toggle.auto.1.1.1.1.0
+shape_of-links-in-Toggle-operation-2 c = c.toggle.auto.links

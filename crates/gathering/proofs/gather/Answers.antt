@@ -42,8 +42,8 @@ loop-left-preserved c =
     let l = c.loop-left.invariant in
     let k = c.gather_line-next.auto in
     gather_more l c.loop-left-test.true c.first_line-line.ensures c.gather_line-next.ensures.value
-    (not-false _ c.if-not-next.false) c.rest-rest.ensures c.gather_line-next.ensures.held (k.1.0 ∙ l.inserts-size)
-    (k.1.1.0 ∙ l.toggles-size)
+    (not-false _ c.if-not-next.false) c.rest-rest.ensures c.gather_line-next.ensures.held (c.gather_line-next.auto.inserts ∙ l.inserts-size)
+    (c.gather_line-next.auto.toggles ∙ l.toggles-size)
 
 pub returns : goal.returns
 returns c =

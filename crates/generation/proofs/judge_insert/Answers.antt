@@ -26,7 +26,7 @@ abbrev start : Else-not-check → Start
 start c = c.before.before.before.before.before.before.before.before.before
 
 -- the tests that are passed
-coded : (c : Else-not-code_point) → is_code_point c.args.code-point ≡ true
+coded : (c : Else-not-code_point) → is_code_point c.args.code_point ≡ true
 coded c = passed c.code_point.ensures c.if-not-code_point.false-raw
 
 examined : (c : Else-not-check) → Examined (made (start c))

@@ -87,7 +87,7 @@ start c = from-find (from-k (from-work c))
 
 worked : (c : After-put_in-done) → let s = start c in
     let l = c.put_in-done.new in
-    work_as l.0 l.1.0 l.1.1.0 l.1.1.1.0 l.1.1.1.1.0 c.put_in-done.result
+    work_as c.put_in-done.new.characters c.put_in-done.new.toggles c.put_in-done.new.pending c.put_in-done.new.heads c.put_in-done.new.links c.put_in-done.result
     ≡ finished (integrate_insert (characters_in (given s).document) (ruled s)) (operations_in (given s).document) 1 0
 worked c =
     let d = (given (start c)).document in
@@ -131,8 +131,8 @@ visible_through-point-requires c =
     let before = (few _ (checked s)).characters in
     let small = few-next (given s) (slots s) _ _ s.pre.1.0 _ (placed_at (from-work (goal.at.visible_through-point-requires c).In-At-2)) (worked (goal.at.visible_through-point-requires c).After-put_in-done) in
     record {
-      n_in_bounds = omega (arith, small, before, c.put_in-done.auto.0, s.pre.0.characters);
-      n_in_bounds_2 = omega (arith, small, before, c.put_in-done.auto.1.0, s.pre.0.toggles);
+      n_in_bounds = omega (arith, small, before, c.put_in-done.auto.characters, s.pre.0.characters);
+      n_in_bounds_2 = omega (arith, small, before, c.put_in-done.auto.toggles, s.pre.0.toggles);
     }
 
 pub further-requires : goal.further-requires
@@ -160,14 +160,14 @@ returns-in-At c =
     let seen = c.visible_through-point.ensures.value in
     let below =
     below_next r (slots s) _ _ t _ p e
-    (λ cs k q sm. seen cs (k ∙ sym (front-keys l.0 _ (few-next r (slots s) _ _ t _ p e))) q sm
+    (λ cs k q sm. seen cs (k ∙ sym (front-keys c.put_in-done.new.characters _ (few-next r (slots s) _ _ t _ p e))) q sm
     ∙ ap (λ (x : ℕ). visible_through cs (identifier x)) (c.key.ensures.value ∙ ap (λ (i : Insert). key i.id) is))
     in
     record {
       placed = placeable r (slots s) _ _ t _ p;
       made = is;
       left =
-          ap (λ (v : Typing). replica_as v.site l.0 l.1.0 v.length l.1.1.0 v.waiting l.1.1.1.0 l.1.1.1.1.0) f
+          ap (λ (v : Typing). replica_as v.site c.put_in-done.new.characters c.put_in-done.new.toggles v.length c.put_in-done.new.pending v.waiting c.put_in-done.new.heads c.put_in-done.new.links) f
           ∙ stored_next r (slots s) _ _ t _ p e;
       below = ap (λ (v : Typing). v.point) f ∙ below;
       integrated = ap (λ (v : Typing). v.integrated) f ∙ ap (λ (m : ℕ). s.args.at.integrated + m) (integrated_next r (slots s) _ _ t _ p e);

@@ -12,5 +12,5 @@ returns c =
     let a = c.args in
     record {
       returned_value = rw e refl;
-      clock_value = rw e (clock_after (together a.site a.document) a.point a.code-point);
+      clock_value = rw e (clock_after (together a.site a.document) a.point a.code_point);
     }

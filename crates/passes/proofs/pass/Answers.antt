@@ -36,7 +36,7 @@ loop-i-smaller c = omega (arith, c.loop-i-test.true)
 pub loop-i-preserved : goal.loop-i-preserved
 loop-i-preserved c =
     let f = c.offer-at in
-    (f.auto.0 ∙ c.loop-i.invariant.0, omega (arith, c.loop-i-test.true), λ o. f.ensures (reaches (goal.at.loop-i-preserved c).In-loop-i o))
+    (f.auto.characters ∙ c.loop-i.invariant.0, omega (arith, c.loop-i-test.true), λ o. f.ensures (reaches (goal.at.loop-i-preserved c).In-loop-i o))
 
 -- ---- the arrays keep their lengths
 

@@ -24,27 +24,28 @@ pass-passed-requires c =
 -- ---- the arrays keep their lengths
 
 pub shape_of-characters-then-passed-length : goal.shape_of-characters-then-passed-length
-shape_of-characters-then-passed-length c = omega (arith, c.pass-passed.auto.0, c.loop-length.invariant.0, c.requires.characters_len)
+shape_of-characters-then-passed-length c =
+    omega (arith, c.pass-passed.auto.characters, c.loop-length.invariant.0, c.requires.characters_len)
 
 pub shape_of-toggles-then-passed-length : goal.shape_of-toggles-then-passed-length
 shape_of-toggles-then-passed-length c =
     let o = c.requires.offers in
-    omega (arith, c.pass-passed.auto.1.0, (offering_slots o.offering).toggles, (offering_slots (c.loop-length.invariant.1 o).offering).toggles)
+    omega (arith, c.pass-passed.auto.toggles, (offering_slots o.offering).toggles, (offering_slots (c.loop-length.invariant.1 o).offering).toggles)
 
 pub shape_of-heads-then-passed-length : goal.shape_of-heads-then-passed-length
 shape_of-heads-then-passed-length c =
     let o = c.requires.offers in
-    omega (arith, c.pass-passed.auto.1.1.0, (offering_slots o.offering).heads, (offering_slots (c.loop-length.invariant.1 o).offering).heads)
+    omega (arith, c.pass-passed.auto.heads, (offering_slots o.offering).heads, (offering_slots (c.loop-length.invariant.1 o).offering).heads)
 
 pub shape_of-links-then-passed-length : goal.shape_of-links-then-passed-length
 shape_of-links-then-passed-length c =
     let o = c.requires.offers in
-    omega (arith, c.pass-passed.auto.1.1.1.0, (offering_slots o.offering).links, (offering_slots (c.loop-length.invariant.1 o).offering).links)
+    omega (arith, c.pass-passed.auto.links, (offering_slots o.offering).links, (offering_slots (c.loop-length.invariant.1 o).offering).links)
 
 pub shape_of-inserts-then-passed-length : goal.shape_of-inserts-then-passed-length
 shape_of-inserts-then-passed-length c =
     let o = c.requires.offers in
-    omega (arith, c.pass-passed.auto.1.1.1.1.0, o.offering.held.size, (c.loop-length.invariant.1 o).offering.held.size)
+    omega (arith, c.pass-passed.auto.inserts, o.offering.held.size, (c.loop-length.invariant.1 o).offering.held.size)
 
 pub returns-then-passed-length : goal.returns-then-passed-length
 returns-then-passed-length c o =
@@ -59,4 +60,4 @@ loop-length-smaller c =
 pub loop-length-preserved : goal.loop-length-preserved
 loop-length-preserved c =
     let f = c.pass-passed in
-    (f.auto.0 ∙ c.loop-length.invariant.0, λ o. let r = c.loop-length.invariant.1 o in repeating_again r (f.ensures (repeating_offers r)) c.if-passed-length.false)
+    (f.auto.characters ∙ c.loop-length.invariant.0, λ o. let r = c.loop-length.invariant.1 o in repeating_again r (f.ensures (repeating_offers r)) c.if-passed-length.false)

@@ -21,12 +21,12 @@ type_block-requires c =
 pub returns-in-Malformed : goal.returns-in-Malformed
 returns-in-Malformed c =
     (λ j. pasted_as (c.untyped.ensures j) (c.requires j))
-    ∙ answered_so c.args.t1 _ _ (Refused NotUtf8)
+    ∙ answered_so c.args.replica _ _ (Refused NotUtf8)
     (not_utf8 _ _ _ _ (counted_none _ (sym c.in-Malformed.is ∙ c.count.ensures)))
 
 pub returns-in-Answered : goal.returns-in-Answered
 returns-in-Answered c =
     let k = counted-some _ _ (sym c.in-Characters.is ∙ c.count.ensures) in
     (λ i. pasted_as (c.untyped-in-Answered.ensures i) (c.requires i))
-    ∙ answered_so c.args.t1 _ _ _
+    ∙ answered_so c.args.replica _ _ _
     (told-answer _ _ _ c.judge-judged.ensures c.in-Answered.is _ _ k.1 k.2)

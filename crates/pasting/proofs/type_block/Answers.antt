@@ -20,10 +20,10 @@ abbrev start : After-read → Start
 start c = c.before.before.before.before
 
 -- what was read
-written : (c : After-read) → Unwritten (start c).requires.0.points c.read.new.1.0
+written : (c : After-read) → Unwritten (start c).requires.0.points c.read.new.typed
 written c = c.read.ensures _ (start c).requires.0.read
 
-points : (c : After-read) → points_in (start c).args.count c.read.new.1.0 ≡ (start c).requires.0.points
+points : (c : After-read) → points_in (start c).args.count c.read.new.typed ≡ (start c).requires.0.points
 points c = points-are (start c).requires.0.many (written c)
 
 pub read-requires : goal.read-requires
@@ -41,7 +41,7 @@ type_points-ended-requires c =
     let s = start c in
     record {
       sized = full s;
-      typed_len = c.read.auto.1.0 ∙ blank_length s.pre.1;
+      typed_len = c.read.auto.typed ∙ blank_length s.pre.1;
       unwritten = rw (points (goal.at.type_points-ended-requires c).After-read) (written (goal.at.type_points-ended-requires c).After-read);
       typed_value = rw (points (goal.at.type_points-ended-requires c).After-read) (coded s.args.replica _ _ s.pre.0);
       spacious = s.pre.0.spacious;
@@ -53,21 +53,20 @@ returns-in-Finished c =
     let m = c.type_points-ended in
     let l = m.new in
     let k = m.auto in
-    let still = sized_still (full s) k.0 k.1.0 k.1.1.0 k.1.1.1.0 k.1.1.1.1.0 in
+    let still = sized_still (full s) m.auto.characters m.auto.toggles m.auto.pending m.auto.heads m.auto.links in
     finished_so s.args.replica _ _ s.pre.0 _ still _ _
-    (told-finished _ _ (points (goal.at.returns-in-Finished c).After-read) _ l.0 l.1.0 l.1.1.0 l.1.1.1.0 l.1.1.1.1.0 m.ensures c.in-Finished.is)
+    (told-finished _ _ (points (goal.at.returns-in-Finished c).After-read) _ m.new.characters m.new.toggles m.new.pending m.new.heads m.new.links m.ensures c.in-Finished.is)
 
 pub shape_of-typed-in-Unplaceable : goal.shape_of-typed-in-Unplaceable
-shape_of-typed-in-Unplaceable c =
-    omega (arith, c.clear_numbers.auto.0, c.type_points-ended.auto.1.1.1.1.1.0, c.read.auto.1.0)
+shape_of-typed-in-Unplaceable c = omega (arith, c.clear_numbers.auto.a, c.type_points-ended.auto.typed, c.read.auto.typed)
 
 pub returns-in-Unplaceable : goal.returns-in-Unplaceable
 returns-in-Unplaceable c =
     let s = start c in
     let m = c.type_points-ended in
     let l = m.new in
-    let long = m.auto.1.1.1.1.1.0 ∙ c.read.auto.1.0 ∙ blank_length s.pre.1 in
-    let clear = c.clear_numbers.ensures ∙ wiped l.1.1.1.1.1.0 long in
+    let long = m.auto.typed ∙ c.read.auto.typed ∙ blank_length s.pre.1 in
+    let clear = c.clear_numbers.ensures ∙ wiped m.new.typed long in
     (λ j. pasted_as (c.untyped.ensures j) (clear j))
     ∙ stopped_so s.args.replica _ _ s.pre.0
-    (told-stopped _ _ (points (goal.at.returns-in-Unplaceable c).After-read) _ l.0 l.1.0 l.1.1.0 l.1.1.1.0 l.1.1.1.1.0 m.ensures c.in-Unplaceable.is)
+    (told-stopped _ _ (points (goal.at.returns-in-Unplaceable c).After-read) _ m.new.characters m.new.toggles m.new.pending m.new.heads m.new.links m.ensures c.in-Unplaceable.is)

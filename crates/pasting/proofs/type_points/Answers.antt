@@ -40,7 +40,7 @@ type_all-requires c =
     let k = c.clear.auto in
     let x = c.requires.spacious in
     record {
-      sized = sized_still c.requires.sized k.0 k.1.0 k.1.1.0 k.1.1.1.0 k.1.1.1.1.0;
+      sized = sized_still c.requires.sized c.clear.auto.characters c.clear.auto.toggles c.clear.auto.pending c.clear.auto.heads c.clear.auto.links;
       typed_len = c.requires.typed_len;
       count_le_character_slots = some-few (given c) x;
       unwritten = c.requires.unwritten;
@@ -53,6 +53,6 @@ returns c =
     let x = c.requires.spacious in
     subst
     (λ (t : State).
-    AllTyped t c.args.point (points_in c.args.count c.args.typed.now) l.1.1.1.1.1.0 l.0 l.1.0 l.1.1.0 l.1.1.1.0
-    l.1.1.1.1.0 c.type_all.result)
+    AllTyped t c.args.point (points_in c.args.count c.args.typed.now) c.type_all.new.typed c.type_all.new.characters c.type_all.new.toggles c.type_all.new.pending c.type_all.new.heads
+    c.type_all.new.links c.type_all.result)
     (cleared_meant (given c) x c.clear.ensures) c.type_all.ensures

@@ -24,14 +24,14 @@ pub returns : goal.returns
 returns c =
     let xs = c.args.pending.now in
     let size = c.requires.pending_len in
-    let p1 : length c.set_number.new.0 ≡ 512 = omega (arith, c.set_number.auto.0, column-length 512 0 xs (omega (arith, size))) in
-    let p2 : length c.set_number-2.new.0 ≡ 512 = omega (arith, c.set_number-2.auto.0, ap length (second-before 512 xs size c.set_number.new.0 p1), column-length 512 1 xs (omega (arith, size))) in
-    let p3 : length c.set_number-3.new.0 ≡ 512 = omega (arith, c.set_number-3.auto.0, ap length (third-before 512 xs size c.set_number.new.0 p1 c.set_number-2.new.0 p2), column-length 512 2 xs (omega (arith, size))) in
-    let p4 : length c.set_number-4.new.0 ≡ 512 = omega (arith, c.set_number-4.auto.0, ap length (fourth_before 512 xs size c.set_number.new.0 p1 c.set_number-2.new.0 p2 c.set_number-3.new.0 p3), column-length 512 3 xs (omega (arith, size))) in
-    let e = columns-are 512 xs size c.set_number.new.0 p1 c.set_number-2.new.0 p2 c.set_number-3.new.0 p3 c.set_number-4.new.0 p4 in
+    let p1 : length c.set_number.new.a ≡ 512 = omega (arith, c.set_number.auto.a, column-length 512 0 xs (omega (arith, size))) in
+    let p2 : length c.set_number-2.new.a ≡ 512 = omega (arith, c.set_number-2.auto.a, ap length (second-before 512 xs size c.set_number.new.a p1), column-length 512 1 xs (omega (arith, size))) in
+    let p3 : length c.set_number-3.new.a ≡ 512 = omega (arith, c.set_number-3.auto.a, ap length (third-before 512 xs size c.set_number.new.a p1 c.set_number-2.new.a p2), column-length 512 2 xs (omega (arith, size))) in
+    let p4 : length c.set_number-4.new.a ≡ 512 = omega (arith, c.set_number-4.auto.a, ap length (fourth_before 512 xs size c.set_number.new.a p1 c.set_number-2.new.a p2 c.set_number-3.new.a p3), column-length 512 3 xs (omega (arith, size))) in
+    let e = columns-are 512 xs size c.set_number.new.a p1 c.set_number-2.new.a p2 c.set_number-3.new.a p3 c.set_number-4.new.a p4 in
     record {
       pending_after = e.0 ∙ c.set_number.ensures ∙ ap (λ (x : ℕ). set (column 512 0 xs) c.args.w x) c.own_key.ensures;
-      pending_after_2 = e.1 ∙ c.set_number-2.ensures ∙ ap₂ (λ (l : List ℕ) (x : ℕ). set l c.args.w x) (second-before 512 xs size c.set_number.new.0 p1) c.first_key.ensures;
-      pending_after_3 = e.2 ∙ c.set_number-3.ensures ∙ ap₂ (λ (l : List ℕ) (x : ℕ). set l c.args.w x) (third-before 512 xs size c.set_number.new.0 p1 c.set_number-2.new.0 p2) c.second_key.ensures;
-      pending_after_4 = e.3 ∙ c.set_number-4.ensures ∙ ap₂ (λ (l : List ℕ) (x : ℕ). set l c.args.w x) (fourth_before 512 xs size c.set_number.new.0 p1 c.set_number-2.new.0 p2 c.set_number-3.new.0 p3) c.value_of.ensures;
+      pending_after_2 = e.1 ∙ c.set_number-2.ensures ∙ ap₂ (λ (l : List ℕ) (x : ℕ). set l c.args.w x) (second-before 512 xs size c.set_number.new.a p1) c.first_key.ensures;
+      pending_after_3 = e.2 ∙ c.set_number-3.ensures ∙ ap₂ (λ (l : List ℕ) (x : ℕ). set l c.args.w x) (third-before 512 xs size c.set_number.new.a p1 c.set_number-2.new.a p2) c.second_key.ensures;
+      pending_after_4 = e.3 ∙ c.set_number-4.ensures ∙ ap₂ (λ (l : List ℕ) (x : ℕ). set l c.args.w x) (fourth_before 512 xs size c.set_number.new.a p1 c.set_number-2.new.a p2 c.set_number-3.new.a p3) c.value_of.ensures;
     }

@@ -32,5 +32,5 @@ returns-in-Send c =
     let told = c.in-Send.is in
     let done = c.carry-carried in
     let k = done.auto in
-    let still = sized_still c.requires.sized k.0 k.1.0 k.1.1.0 k.1.1.1.0 k.1.1.1.1.0 in
+    let still = sized_still c.requires.sized done.auto.characters done.auto.toggles done.auto.pending done.auto.heads done.auto.links in
     rw told (sent_so (lent c) _ c.requires.sized still _ _ _ _ (rw told at c.requires.sendable) done.ensures)

@@ -26,6 +26,6 @@ pub returns : goal.returns
 returns c =
     let done = c.carry-carried in
     let k = done.auto in
-    let still = sized_still (full (goal.at.returns c).Start) k.0 k.1.0 k.1.1.0 k.1.1.1.0 k.1.1.1.1.0 in
+    let still = sized_still (full (goal.at.returns c).Start) done.auto.characters done.auto.toggles done.auto.pending done.auto.heads done.auto.links in
     put_back _ c.put_characters.ensures c.put_toggles.ensures c.put_pending.ensures c.put_heads.ensures c.put_links.ensures
     ∙ received_so c.args.replica _ (full (goal.at.returns c).Start) still _ _ _ _ _ c.answer-answer.ensures c.judge-decision.ensures done.ensures

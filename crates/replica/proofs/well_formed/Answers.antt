@@ -5,4 +5,4 @@ use borrow.Author.Rules.{rules}
 use Rattle.replica.proofs.well_formed.Goals as goal
 
 pub returns : goal.returns
-returns c = c.check.ensures ∙ sym (form_view c.args.t1)
+returns c = c.check.ensures ∙ sym (form_view c.args.replica)

@@ -34,24 +34,24 @@ module _ (from : ℕ) (ns : List ℕ) where
 pub overflow_cast-result : goal.overflow_cast-result
 overflow_cast-result c =
     let a = c.args in
-    omega (arith, bound a.from a.t2 (character_limits a.version) c.requires.values_value 2 (omega arith))
+    omega (arith, bound a.from a.values (character_limits a.version) c.requires.values_value 2 (omega arith))
 
 pub overflow_cast-result-2 : goal.overflow_cast-result-2
 overflow_cast-result-2 c =
     let a = c.args in
-    let b = bound a.from a.t2 (character_limits a.version) c.requires.values_value 3 (omega arith) in
+    let b = bound a.from a.values (character_limits a.version) c.requires.values_value 3 (omega arith) in
     omega (arith, c.toggle_field.ensures, toggle_field-kept a.version _ b, last_fits a.version)
 
 pub returns : goal.returns
 unfolding character_of
 returns c =
     let a = c.args in
-    let b = bound a.from a.t2 (character_limits a.version) c.requires.values_value in
-    let n = at a.from a.t2 in
+    let b = bound a.from a.values (character_limits a.version) c.requires.values_value in
+    let n = at a.from a.values in
     λ j. record {
-      id = whole a.from a.t2 0 _ (omega arith) (b 0 (omega arith)) (b 1 (omega arith)) c.identifier.ensures j;
+      id = whole a.from a.values 0 _ (omega arith) (b 0 (omega arith)) (b 1 (omega arith)) c.identifier.ensures j;
       code_point = n 2 j;
       toggles = (c.toggle_field.ensures ∙ ap (toggle_field a.version) (n 3)) j;
-      previous = whole a.from a.t2 4 _ refl (b 4 (omega arith)) (b 5 (omega arith)) c.identifier-2.ensures j;
-      next = whole a.from a.t2 6 _ refl (b 6 (omega arith)) (b 7 (omega arith)) c.identifier-3.ensures j;
+      previous = whole a.from a.values 4 _ refl (b 4 (omega arith)) (b 5 (omega arith)) c.identifier-2.ensures j;
+      next = whole a.from a.values 6 _ refl (b 6 (omega arith)) (b 7 (omega arith)) c.identifier-3.ensures j;
     }

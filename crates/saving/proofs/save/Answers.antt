@@ -15,7 +15,7 @@ use Rattle.saving.proofs.save.Goals as goal
 
 pub returns-then-not-check : goal.returns-then-not-check
 returns-then-not-check c =
-    let r = c.args.t1 in
+    let r = c.args.replica in
     let all = unformed r _ (failed (c.check.ensures ∙ sym (form_view r)) c.if-not-check.true-raw) in
     record {
       value = all.0;
@@ -24,7 +24,7 @@ returns-then-not-check c =
 
 pub put_replica-requires : goal.put_replica-requires
 put_replica-requires c =
-    let r = c.args.t1 in
+    let r = c.args.replica in
     let full = full-replica {r = r} c.well_formed.0 in
     let x = examined (viewed r) (full-view r.document full) (passed c.check.ensures c.if-not-check.false-raw) in
     let w = few (viewed r) x in
@@ -40,7 +40,7 @@ put_replica-requires c =
 pub returns : goal.returns
 unfolding state_in meaning characters_in operations_in
 returns c =
-    let r = c.args.t1 in
+    let r = c.args.replica in
     let p = c.put_replica.ensures in
     let e = formed r _ (passed (c.check.ensures ∙ sym (form_view r)) c.if-not-check.false-raw) in
     record {

@@ -31,11 +31,11 @@ start c = c.before.before.before.before.before.before.before.before.before.befor
 -- the table keeps its sizes
 pub shape_of-heads-then-not-kept : goal.shape_of-heads-then-not-kept
 shape_of-heads-then-not-kept c =
-    c.keep_next-kept.auto.1.1.1.0 ∙ (keep_tabled c.loop-i.invariant).heads ∙ sym (start c).requires.1.1.0
+    c.keep_next-kept.auto.heads ∙ (keep_tabled c.loop-i.invariant).heads ∙ sym (start c).requires.1.1.0
 
 pub shape_of-links-then-not-kept : goal.shape_of-links-then-not-kept
 shape_of-links-then-not-kept c =
-    c.keep_next-kept.auto.1.1.1.1.0 ∙ (keep_tabled c.loop-i.invariant).links ∙ sym (start c).requires.1.1.1
+    c.keep_next-kept.auto.links ∙ (keep_tabled c.loop-i.invariant).links ∙ sym (start c).requires.1.1.1
 
 pub shape_of-heads : goal.shape_of-heads
 shape_of-heads c = (keep_tabled c.loop-i.invariant).heads ∙ sym (start c).pre.1.1.0

@@ -25,23 +25,23 @@ second c = c.before.before.before.before.before
 size : (s : Start) → length s.args.typed.now ≡ 4096
 size s = s.requires.typed_len
 
-wide_1 : (c : After-set_number) → length c.set_number.new.0 ≡ 1024
-wide_1 c = omega (arith, c.set_number.auto.0, column-length 1024 0 (start c).args.typed.now (omega (arith, size (start c))))
+wide_1 : (c : After-set_number) → length c.set_number.new.a ≡ 1024
+wide_1 c = omega (arith, c.set_number.auto.a, column-length 1024 0 (start c).args.typed.now (omega (arith, size (start c))))
 
-wide_2 : (c : After-set_number-2) → length c.set_number-2.new.0 ≡ 1024
+wide_2 : (c : After-set_number-2) → length c.set_number-2.new.a ≡ 1024
 wide_2 c =
     let xs = (start (first c)).args.typed.now in
     let z = size (start (first c)) in
     let part = second-before 1024 xs z (first c).set-number.new.0 (wide_1 (first c)) in
-    omega (arith, c.set_number-2.auto.0, ap length part, column-length 1024 1 xs (omega (arith, z)))
+    omega (arith, c.set_number-2.auto.a, ap length part, column-length 1024 1 xs (omega (arith, z)))
 
-wide_3 : (c : After-set_number-3) → length c.set_number-3.new.0 ≡ 1024
+wide_3 : (c : After-set_number-3) → length c.set_number-3.new.a ≡ 1024
 wide_3 c =
     let a = first (second c) in
     let xs = (start a).args.typed.now in
     let z = size (start a) in
     let part = third-before 1024 xs z a.set-number.last.0 (wide_1 a) (second c).set-number2.new.0 (wide_2 (second c)) in
-    omega (arith, c.set_number-3.auto.0, ap length part, column-length 1024 2 xs (omega (arith, z)))
+    omega (arith, c.set_number-3.auto.a, ap length part, column-length 1024 2 xs (omega (arith, z)))
 
 -- what the last part holds before its store
 abbrev last-part : After-set_number-3 → List ℕ
@@ -55,7 +55,7 @@ last-is c =
     let a = first (second c) in
     let z = size (start a) in
     fourth_before 1024 (start a).args.typed.now z a.set-number.last.0 (wide_1 a) (second c).set-number2.new.0 (wide_2 (second c))
-    c.set_number-3.new.0 (wide_3 c)
+    c.set_number-3.new.a (wide_3 c)
 
 last_wide : (c : After-set_number-3) → length (last-part c) ≡ 1024
 last_wide c =
@@ -79,10 +79,10 @@ set_number-requires-4 c =
 abbrev third : After-slice_known-5-1 → After-set_number-3
 third c = c.before.before.before.before.before.before
 
-wide_4 : (c : After-slice_known-5-1) → length c.set_number-4.new.0 ≡ 1024
+wide_4 : (c : After-slice_known-5-1) → length c.set_number-4.new.a ≡ 1024
 wide_4 c =
     let d = third c in
-    omega (arith, c.set_number-4.auto.0, last_wide d)
+    omega (arith, c.set_number-4.auto.a, last_wide d)
 
 pub shape_of-typed : goal.shape_of-typed
 shape_of-typed c =
@@ -93,7 +93,7 @@ shape_of-typed c =
     let vs = a.set-number.last.0 in
     let bs = (second d).set-number2.last.0 in
     let cs = d.set-number3.last.0 in
-    let ds = c.set_number-4.new.0 in
+    let ds = c.set_number-4.new.a in
     let whole = ap (λ (l : List ℕ). length l) (all_replaced 1024 xs z vs (wide_1 a) bs (wide_2 (second d)) cs (wide_3 d) ds) in
     let sizes = length-append vs (bs ++ (cs ++ ds)) in
     omega (arith, whole, z, wide_1 a, wide_2 (second d), wide_3 d, wide_4 (goal.at.shape_of-typed c).After-slice_known-5-1, sizes, length-append bs (cs ++ ds), length-append cs ds)
@@ -108,7 +108,7 @@ returns c =
     let vs = a.set-number.last.0 in
     let bs = (second d).set-number2.last.0 in
     let cs = d.set-number3.last.0 in
-    let ds = c.set_number-4.new.0 in
+    let ds = c.set_number-4.new.a in
     let e = columns-are 1024 xs z vs (wide_1 a) bs (wide_2 (second d)) cs (wide_3 d) ds (wide_4 (goal.at.returns c).After-slice_known-5-1) in
     record {
       ids = e.0 ∙ a.set-number.ensures ∙ ap (λ (x : ℕ). set (column 1024 0 xs) s.args.i x) a.before.key.ensures.0;

@@ -85,7 +85,7 @@ unfolding AllTyped
 returns-in-Unplaceable c =
     let l = c.type_next-step.new in
     going_stopped c.loop-i.invariant.2 (short (goal.at.returns-in-Unplaceable c).In-loop-i)
-    (told_nowhere (reached (goal.at.returns-in-Unplaceable c).In-loop-i) c.loop-i.at (read (goal.at.returns-in-Unplaceable c).In-loop-i) l.0 l.1.0 l.1.1.0 l.1.1.1.0 l.1.1.1.1.0
+    (told_nowhere (reached (goal.at.returns-in-Unplaceable c).In-loop-i) c.loop-i.at (read (goal.at.returns-in-Unplaceable c).In-loop-i) c.type_next-step.new.characters c.type_next-step.new.toggles c.type_next-step.new.pending c.type_next-step.new.heads c.type_next-step.new.links
     c.type_next-step.ensures c.in-Unplaceable.is)
 
 pub loop-i-preserved : goal.loop-i-preserved
@@ -94,11 +94,11 @@ loop-i-preserved c =
     let l = c.type_next-step.new in
     let k = c.type_next-step.auto in
     let told = c.in-Inserted.is in
-    let t = told-taken (reached c) c.loop-i.at (read (goal.at.loop-i-preserved c).In-loop-i) l.0 l.1.0 l.1.1.0 l.1.1.1.0 l.1.1.1.1.0
+    let t = told-taken (reached c) c.loop-i.at (read (goal.at.loop-i-preserved c).In-loop-i) c.type_next-step.new.characters c.type_next-step.new.toggles c.type_next-step.new.pending c.type_next-step.new.heads c.type_next-step.new.links
     c.type_next-step.ensures told
     in (
-      sized_still v.0 k.0 k.1.0 k.1.1.0 k.1.1.1.0 k.1.1.1.1.0,
-      c.inscribe.auto.0 ∙ v.1,
+      sized_still v.0 c.type_next-step.auto.characters c.type_next-step.auto.toggles c.type_next-step.auto.pending c.type_next-step.auto.heads c.type_next-step.auto.links,
+      c.inscribe.auto.typed ∙ v.1,
       going_again v.2 (short (goal.at.loop-i-preserved c).In-loop-i) (few (start (goal.at.loop-i-preserved c).Start)) t c.inscribe.ensures,
     )
 

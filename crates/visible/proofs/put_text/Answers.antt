@@ -16,7 +16,7 @@ loop-i-preserved c =
     let l = c.loop-i in
     let p = c.put_visible-at.ensures in
     let h : l.i < a.n = omega (arith, c.loop-i-test.true) in
-    let more = text-more a.code-points.now a.toggles.now a.n l.i h c.requires.n_in_bounds c.requires.n_in_bounds_2 in
+    let more = text-more a.code_points.now a.toggles.now a.n l.i h c.requires.n_in_bounds c.requires.n_in_bounds_2 in
     (omega (arith, h), onward _ _ _ _ _ _ (rw more at l.invariant.1) p.value p.out_after)
 
 pub shape_of-out : goal.shape_of-out
@@ -26,4 +26,4 @@ pub returns : goal.returns
 returns c =
     let a = c.args in
     let l = c.loop-i in
-    arrived _ _ _ _ (rw (text-done a.code-points.now a.toggles.now a.n l.i (omega arith)) at l.invariant.1)
+    arrived _ _ _ _ (rw (text-done a.code_points.now a.toggles.now a.n l.i (omega arith)) at l.invariant.1)

@@ -17,10 +17,10 @@ pub loop-i-preserved : goal.loop-i-preserved
 loop-i-preserved c =
     let a = c.args in
     let l = c.loop-i in
-    let more = length_more a.code-points.now a.toggles.now a.n l.i _ c.size-bytes.ensures (omega arith) c.requires.n_in_bounds c.requires.n_in_bounds_2 in
+    let more = length_more a.code_points.now a.toggles.now a.n l.i _ c.size-bytes.ensures (omega arith) c.requires.n_in_bounds c.requires.n_in_bounds_2 in
     (omega arith, omega (arith, spelt-few _ _ _ c.size-bytes.ensures), omega (arith, more))
 
 pub returns : goal.returns
 returns c =
     let a = c.args in
-    omega (arith, ap length (text-done a.code-points.now a.toggles.now a.n c.loop-i.i (omega arith)))
+    omega (arith, ap length (text-done a.code_points.now a.toggles.now a.n c.loop-i.i (omega arith)))

@@ -20,7 +20,7 @@ whole cs ps ts p t = rw (← p, ← t) (text-columns cs)
 pub returns-then-out-bytes : goal.returns-then-out-bytes
 returns-then-out-bytes c =
     let a = c.args in
-    let bytes = text_of (take a.n a.code-points.now) (take a.n a.toggles.now) in
+    let bytes = text_of (take a.n a.code_points.now) (take a.n a.toggles.now) in
     let short = ends-short bytes a.out.now (omega (arith, c.text_length-bytes.ensures)) in
     record {
       value = λ cs p t. rw (← whole cs _ _ p t) short.0;
@@ -38,7 +38,7 @@ put_text-requires c =
 pub returns : goal.returns
 returns c =
     let a = c.args in
-    let bytes = text_of (take a.n a.code-points.now) (take a.n a.toggles.now) in
+    let bytes = text_of (take a.n a.code_points.now) (take a.n a.toggles.now) in
     let e = c.text_length-bytes.ensures in
     let ends = ends-written bytes a.out.now _ _ e c.put_text.ensures (omega (arith, e)) in
     record {

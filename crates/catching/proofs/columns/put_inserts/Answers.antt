@@ -80,5 +80,5 @@ returns c =
     let l = c.loop-i in
     let a = c.args in
     let done : l.i ≡ a.count = omega arith in
-    subst (λ (n : ℕ). InsertsOf a.ids.now a.previous.now a.next.now a.code-points.now a.order.now n
+    subst (λ (n : ℕ). InsertsOf a.ids.now a.previous.now a.next.now a.code_points.now a.order.now n
     l.numbers) done l.invariant.1

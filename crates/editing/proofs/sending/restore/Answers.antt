@@ -69,7 +69,7 @@ returns-in-Done c =
     let fit = named-fits _ _ in-range in
     let id = fits_whole c.identifier-id.ensures fit.0 fit.1 in
     leaves_by
-    (goes_on_lem _ _ _ (ap (λ (b : Bool). first (input_checks a.bytes.now true b)) in-range ∙ p.0) ∙ restore_bridge _ _ p.1 _ _ _ in-range ∙ ap (λ (x : Generated). generated_left x a.out.now a.line-out.now) (ap (restored _) (sym id)))
+    (goes_on_lem _ _ _ (ap (λ (b : Bool). first (input_checks a.bytes.now true b)) in-range ∙ p.0) ∙ restore_bridge _ _ p.1 _ _ _ in-range ∙ ap (λ (x : Generated). generated_left x a.out.now a.line_out.now) (ap (restored _) (sym id)))
     c.restore.ensures
 
 pub slice_bounds-restore-end : goal.slice_bounds-restore-end

@@ -14,12 +14,12 @@ use Rattle.effects.proofs.counting.count.Goals as goal
 
 pub returns-then-not-check : goal.returns-then-not-check
 returns-then-not-check c =
-    let r = c.args.t1 in
+    let r = c.args.replica in
     c.number_of_refusal.ensures ∙ ap number_of (sym (counts_unformed r (failed (c.check.ensures ∙ sym (form_view r)) c.if-not-check.true-raw)))
 
 pub counts_of-requires : goal.counts_of-requires
 counts_of-requires c =
-    let r = c.args.t1 in
+    let r = c.args.replica in
     let full = full-replica {r = r} c.well_formed.0 in
     let x = examined (viewed r) (full-view r.document full) (passed c.check.ensures c.if-not-check.false-raw) in
     let w = few (viewed r) x in
@@ -31,7 +31,7 @@ counts_of-requires c =
 
 pub returns : goal.returns
 returns c =
-    let r = c.args.t1 in
+    let r = c.args.replica in
     let full = full-replica {r = r} c.well_formed.0 in
     let x = examined (viewed r) (full-view r.document full) (passed c.check.ensures c.if-not-check.false-raw) in
     c.counts_of.ensures _ (written-toggles r x)

@@ -38,8 +38,8 @@ loop-left-preserved c =
     let l = c.loop-left.invariant in
     let k = c.read_line-next.auto in
     read_more l c.loop-left-test.true c.first_line-line.ensures c.read_line-next.ensures.value
-    (not-false _ c.if-not-next.false) c.rest-rest.ensures c.read_line-next.ensures.chunks_kept (k.1.0 ∙ l.heads-size)
-    (k.1.1.0 ∙ l.words_size)
+    (not-false _ c.if-not-next.false) c.rest-rest.ensures c.read_line-next.ensures.chunks_kept (c.read_line-next.auto.heads ∙ l.heads-size)
+    (c.read_line-next.auto.words ∙ l.words_size)
 
 pub returns : goal.returns
 returns c =

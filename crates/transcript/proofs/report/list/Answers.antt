@@ -27,7 +27,7 @@ loop-i-preserved c =
       ap length w.3 ∙ length-set l.values _ _ ∙ l.invariant.2,
       λ cs p t.
           rw (w.3, w.4, w.2.ensures)
-          (gathered-shown cs a.«code-points».now a.toggles.now a.n l.i p t (omega arith) (omega (arith, s.n_in_bounds)) (omega (arith, s.n_in_bounds_2)) _ _ (l.invariant.3 cs p t) (omega arith) w.0.taken),
+          (gathered-shown cs a.«code_points».now a.toggles.now a.n l.i p t (omega arith) (omega (arith, s.n_in_bounds)) (omega (arith, s.n_in_bounds_2)) _ _ (l.invariant.3 cs p t) (omega arith) w.0.taken),
     ))
     (λ w. (
       omega arith,
@@ -35,7 +35,7 @@ loop-i-preserved c =
       ap length w.1 ∙ l.invariant.2,
       λ cs p t.
           rw (w.1, w.2)
-          (gathered-not cs a.«code-points».now a.toggles.now a.n l.i p t (omega arith) (omega (arith, s.n_in_bounds)) (omega (arith, s.n_in_bounds_2)) _ _ (l.invariant.3 cs p t) w.0.left),
+          (gathered-not cs a.«code_points».now a.toggles.now a.n l.i p t (omega arith) (omega (arith, s.n_in_bounds)) (omega (arith, s.n_in_bounds_2)) _ _ (l.invariant.3 cs p t) w.0.left),
     ))
     c.if-toggles-i-eq0.branch
 
@@ -44,7 +44,7 @@ returns c =
     let a = c.args in
     let s = c.requires in
     record {
-      value = λ cs p t. gathered-whole cs a.«code-points».now a.n p (omega (arith, s.n_in_bounds)) _ _ _ (omega arith) (c.loop-i.invariant.3 cs p t);
+      value = λ cs p t. gathered-whole cs a.«code_points».now a.n p (omega (arith, s.n_in_bounds)) _ _ _ (omega arith) (c.loop-i.invariant.3 cs p t);
       count_le_character_slots = omega (arith, s.n_le_character_slots);
       values_len = length-set c.loop-i.values _ _ ∙ c.loop-i.invariant.2;
     }

@@ -15,7 +15,7 @@ abbrev start : After-put_all-end → Start
 start c = c.before.before.before.before.before.before.before.before.before.before
 
 -- the head is in the array
-head : (c : After-put_all-end) → Front (digits (start c).args.number ++ tab ∷ (start c).args.word.now) c.put_all-end.new.0 c.put_all-end.result
+head : (c : After-put_all-end) → Front (digits (start c).args.number ++ tab ∷ (start c).args.word.now) c.put_all-end.new.out c.put_all-end.result
 head c =
     let p = c.write-end.ensures in
     let q = c.put-end.ensures in

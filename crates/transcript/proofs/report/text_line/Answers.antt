@@ -13,7 +13,7 @@ use Rattle.transcript.proofs.report.text_line.Goals as goal
 
 pub put_text-requires : goal.put_text-requires
 put_text-requires c =
-    let r = c.args.t1 in
+    let r = c.args.replica in
     let full = full-replica {r = r} c.well_formed.0 in
     let x = examined (viewed r) (full-view r.document full) (sym (form_view r) ∙ c.requires) in
     record {
@@ -25,7 +25,7 @@ put_text-requires c =
 pub returns : goal.returns
 unfolding meaning characters_in columns.meaning columns.characters_in
 returns c =
-    let r = c.args.t1 in
+    let r = c.args.replica in
     let full = full-replica {r = r} c.well_formed.0 in
     let x = examined (viewed r) (full-view r.document full) (sym (form_view r) ∙ c.requires) in
     let w = c.put_text.ensures in
