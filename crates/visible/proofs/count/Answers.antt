@@ -10,6 +10,7 @@ use Rattle.lists.specs.Lists.{keep}
 use Rattle.visible.specs.Shown.{shown}
 use Rattle.visible.proofs.Shown.{left, kept_here, kept-not, kept-none, shown-count}
 use native.Mathlib.Omega.{arith}
+use Rattle.visible.proofs.count.Goals.{then-toggles-i-eq0, else-toggles-i-eq0}
 use Rattle.visible.proofs.count.Goals as goal
 
 pub loop-i-init : goal.loop-i-init
@@ -21,9 +22,12 @@ loop-i-preserved c =
     let l = c.loop-i in
     let ts = a.toggles.now in
     let few : a.n ≤ length ts = omega (arith, c.requires) in
-    ⊎_elim (λ w. (omega arith, omega arith, omega (arith, ap length (kept_here shown ts a.n l.i 0 (omega arith) few (eq-eqb _ _ w.0.taken)))))
-    (λ w. (omega arith, omega arith, omega (arith, ap length (kept-not shown ts a.n l.i 0 (omega arith) few (ne_eqb _ _ w.0.left)))))
-    c.if-toggles-i-eq0.branch
+    elim c.if-toggles-i-eq0.branch [
+      then-toggles-i-eq0 w ↦
+      (omega arith, omega arith, omega (arith, ap length (kept_here shown ts a.n l.i 0 (omega arith) few (eq-eqb _ _ w.if-toggles-i-eq0.true))))
+    | else-toggles-i-eq0 w ↦
+      (omega arith, omega arith, omega (arith, ap length (kept-not shown ts a.n l.i 0 (omega arith) few (ne_eqb _ _ w.if-toggles-i-eq0.false))))
+    ]
 
 pub returns : goal.returns
 returns c cs e =

@@ -8,6 +8,7 @@ use lib.ListN.{length}
 use Rattle.visible.specs.Shown.{shown}
 use Rattle.visible.proofs.Shown.{left, nth_left, nth_here, nth-counted, nth-passed, nth-none, shown-nth}
 use native.Mathlib.Omega.{arith}
+use Rattle.visible.proofs.nth.Goals.{then-toggles-i-eq0+else-rest-eq0, else-toggles-i-eq0}
 use Rattle.visible.proofs.nth.Goals as goal
 
 pub loop-i-init : goal.loop-i-init
@@ -29,13 +30,16 @@ loop-i-preserved c =
     let l = c.loop-i in
     let ts = a.toggles.now in
     let few : a.n ≤ length ts = omega (arith, c.requires) in
-    ⊎_elim (λ w. (
+    elim c.if-toggles-i-eq0.branch [
+      then-toggles-i-eq0+else-rest-eq0 w ↦
+      (
       omega arith,
-      rw w.2 (sym (nth-counted shown ts a.n l.i 0 (omega arith) few l.rest (eq-eqb _ _ w.0.taken) w.1.left)
+      rw w.rest-is (sym (nth-counted shown ts a.n l.i 0 (omega arith) few l.rest (eq-eqb _ _ w.if-toggles-i-eq0.true) w.if-rest-eq0.false)
           ∙ l.invariant.1),
-    ))
-    (λ w. (omega arith, rw w.1 (sym (nth-passed shown ts a.n l.i 0 (omega arith) few l.rest (ne_eqb _ _ w.0.left)) ∙ l.invariant.1)))
-    c.if-toggles-i-eq0.branch
+    )
+    | else-toggles-i-eq0 w ↦
+      (omega arith, rw w.rest-is (sym (nth-passed shown ts a.n l.i 0 (omega arith) few l.rest (ne_eqb _ _ w.if-toggles-i-eq0.false)) ∙ l.invariant.1))
+    ]
 
 pub returns : goal.returns
 returns c cs e =

@@ -8,10 +8,10 @@ pub returns-in_default : goal.returns-in_default
 returns-in_default c = sym (printed-between _ (omega arith) (omega arith))
 
 pub returns-in_default-2 : goal.returns-in_default-2
-returns-in_default-2 c = sym (printed-above _ (omega arith) c.in_default-1.rest.1)
+returns-in_default-2 c = sym (printed-above _ (omega arith) (omega arith))
 
 pub returns-in-0-to-8 : goal.returns-in-0-to-8
-returns-in-0-to-8 c = sym (printed_delete _ c.in-0-to-8.keys1)
+returns-in-0-to-8 c = sym (printed_delete _ (omega arith))
 
 pub returns-in-0-to-8-2 : goal.returns-in-0-to-8-2
 returns-in-0-to-8-2 c = sym (printed-low _ (omega arith))

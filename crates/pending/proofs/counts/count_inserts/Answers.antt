@@ -8,6 +8,7 @@ use borrow.Author.Tests.{eq-eqb, ne_eqb}
 use lib.Dec.{eqb}
 use lib.ListN.{length}
 use Rattle.pending.proofs.Searches.{left, left-counted, left_passed, left-none}
+use Rattle.pending.proofs.counts.count_inserts.Goals.{then-own-i-ne0, else-own-i-ne0}
 use Rattle.pending.proofs.counts.count_inserts.Goals as goal
 
 pub loop-i-preserved : goal.loop-i-preserved
@@ -15,9 +16,12 @@ loop-i-preserved c =
     let a = c.args in
     let l = c.loop-i in
     let p : ℕ → Bool = λ k. not (eqb k 0) in
-    ⊎_elim (λ w. (omega arith, omega arith, omega (arith, left-counted p a.own.now l.i 0 (omega arith) (rw (ne_eqb _ _ w.0.taken)))))
-    (λ w. (omega arith, omega arith, omega (arith, left_passed p a.own.now l.i 0 (omega arith) (rw (eq-eqb _ _ w.0.left)))))
-    c.if-own-i-ne0.branch
+    elim c.if-own-i-ne0.branch [
+      then-own-i-ne0 w ↦
+      (omega arith, omega arith, omega (arith, left-counted p a.own.now l.i 0 (omega arith) (rw (ne_eqb _ _ w.if-own-i-ne0.true))))
+    | else-own-i-ne0 w ↦
+      (omega arith, omega arith, omega (arith, left_passed p a.own.now l.i 0 (omega arith) (rw (eq-eqb _ _ w.if-own-i-ne0.false))))
+    ]
 
 pub returns : goal.returns
 returns c =

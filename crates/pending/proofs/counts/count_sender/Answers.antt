@@ -6,6 +6,7 @@ use mathlib.Core.Logic.{⊎_elim}
 use Prim.Native.Nat.{◌+◌, ◌-◌, ◌≤◌, min}
 use lib.ListN.{length}
 use Rattle.pending.proofs.Searches.{sent_left, sent-counted, sent-passed, sent-none}
+use Rattle.pending.proofs.counts.count_sender.Goals.{then-sender_of-sender, else-sender_of-sender}
 use Rattle.pending.proofs.counts.count_sender.Goals as goal
 
 pub loop-i-init : goal.loop-i-init
@@ -16,21 +17,24 @@ loop-i-preserved c =
     let a = c.args in
     let l = c.loop-i in
     let e = c.sender_of.ensures in
-    ⊎_elim (λ w. (
+    elim c.if-sender_of-sender.branch [
+      then-sender_of-sender w ↦
+      (
       omega arith,
       l.invariant.1,
       omega arith,
       omega
-          (arith, sent-counted a.own.now a.values.now l.i _ a.sender (omega arith) (omega arith) e (omega (arith, w.0.taken))),
-    ))
-    (λ w. (
+          (arith, sent-counted a.own.now a.values.now l.i _ a.sender (omega arith) (omega arith) e (omega (arith, w.if-sender_of-sender.true))),
+    )
+    | else-sender_of-sender w ↦
+      (
       omega arith,
       l.invariant.1,
       omega arith,
       omega
-          (arith, sent-passed a.own.now a.values.now l.i _ a.sender (omega arith) (omega arith) e (λ h. omega (arith, w.0.left, h))),
-    ))
-    c.if-sender_of-sender.branch
+          (arith, sent-passed a.own.now a.values.now l.i _ a.sender (omega arith) (omega arith) e (λ h. omega (arith, w.if-sender_of-sender.false, h))),
+    )
+    ]
 
 pub returns : goal.returns
 returns c =
