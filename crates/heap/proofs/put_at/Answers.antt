@@ -9,13 +9,13 @@ use Rattle.heap.proofs.put_at.Goals as goal
 pub bounds-inserts-i-2 : goal.bounds-inserts-i-2
 bounds-inserts-i-2 c =
     let a = c.args in
-    omega (arith, (c.requires.inserts_len, c.requires.i_lt_character_slots), length-set a.inserts.now a.i a.w)
+    omega (arith, length-set a.inserts.now a.i a.w)
 
 pub bounds-inserts-i-3 : goal.bounds-inserts-i-3
 bounds-inserts-i-3 c =
     let a = c.args in
     let once = set a.inserts.now a.i a.w in
-    omega (arith, (c.requires.inserts_len, c.requires.i_lt_character_slots), length-set a.inserts.now a.i a.w, length-set once (1024 + a.i) a.x)
+    omega (arith, length-set a.inserts.now a.i a.w, length-set once (1024 + a.i) a.x)
 
 pub bounds-inserts-i-4 : goal.bounds-inserts-i-4
 bounds-inserts-i-4 c =
@@ -24,7 +24,7 @@ bounds-inserts-i-4 c =
     let twice = set once (1024 + a.i) a.x in
     omega (
       arith,
-      (c.requires.inserts_len, c.requires.i_lt_character_slots),
+
       length-set a.inserts.now a.i a.w,
       length-set once (1024 + a.i) a.x,
       length-set twice (2048 + a.i) a.y,

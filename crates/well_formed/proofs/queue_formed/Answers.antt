@@ -14,7 +14,7 @@ waits s = ends 512 s.requires.pending_len
 pub pending_formed-requires : goal.pending_formed-requires
 pending_formed-requires c =
     record {
-      tabled = simp (length-take, length-drop) c.requires.tabled;
+      tabled = c.requires.tabled;
       first_len = simp (length-take, length-drop) (omega arith);
       second_len = simp (length-take, length-drop) (omega arith);
       values_len = simp (length-take, length-drop) (omega arith);

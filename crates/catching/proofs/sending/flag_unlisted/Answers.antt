@@ -24,7 +24,7 @@ listed-requires c =
 pub bounds-left-i : goal.bounds-left-i
 bounds-left-i c =
     let l = c.loop-i in
-    omega (arith, c.requires.ids_in_bounds, l.invariant.1.size_kept)
+    omega (arith, c.requires.ids_in_bounds, l.invariant.1.size-kept)
 
 pub loop-i-preserved : goal.loop-i-preserved
 loop-i-preserved c =
@@ -37,7 +37,7 @@ loop-i-preserved c =
     )
 
 pub shape_of-left : goal.shape_of-left
-shape_of-left c = c.loop-i.invariant.1.size_kept
+shape_of-left c = c.loop-i.invariant.1.size-kept
 
 pub returns : goal.returns
 returns c =

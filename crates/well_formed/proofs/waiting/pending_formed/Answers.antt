@@ -12,7 +12,7 @@ use Rattle.lists.specs.Lists.{keep}
 use Rattle.lists.proofs.Tests.{failed, passed}
 use Rattle.well_formed.specs.PendingForm.{shares_in, room_kept, keys_new, none_repeated, none_ready, pending_formed}
 use Rattle.lists.proofs.Members.{keep-length}
-use Rattle.well_formed.proofs.waiting.pending_formed.Goals.{Else-ids-count_inserts-gt-CHARACTERS, Else-not-keys_new, Else-not-none_repeated, Else-not-shares_kept, Start}
+use Rattle.well_formed.proofs.waiting.pending_formed.Goals.{Else-ids-count_inserts-gt-CHARACTERS, Else-not-keys_new, Else-not-none_repeated, Else-not-shares_kept}
 use Rattle.well_formed.proofs.waiting.pending_formed.Goals as goal
 
 -- the five tests, as they come out
@@ -34,21 +34,17 @@ no_room : (ids own : List ℕ) (n : ℕ) → Inserts own n → 1024 < length ids
 unfolding room_kept
 no_room ids own n e h = rw (← e) (lt-leb _ _ h)
 
--- where the function starts
-abbrev start : Else-not-shares_kept → Start
-start c = c.before.before.before.before.before.before.before.before.before
-
 -- the tests that are passed
-shares : (c : Else-not-shares_kept) → shares_in (start c).args.own.now (start c).args.values.now ≡ true
+shares : (c : Else-not-shares_kept) → shares_in c.args.own.now c.args.values.now ≡ true
 shares c = passed c.shares_kept.ensures c.if-not-shares_kept.false-raw
 
-fits : (c : Else-ids-count_inserts-gt-CHARACTERS) → let a = (start c).args in room_kept a.ids.now a.own.now ≡ true
+fits : (c : Else-ids-count_inserts-gt-CHARACTERS) → let a = c.args in room_kept a.ids.now a.own.now ≡ true
 fits c = room _ _ _ c.count_inserts.ensures (omega (arith, c.if-ids-count_inserts-gt-CHARACTERS.false))
 
-fresh : (c : Else-not-keys_new) → let a = (start c).args in keys_new a.ids.now a.own.now ≡ true
+fresh : (c : Else-not-keys_new) → let a = c.args in keys_new a.ids.now a.own.now ≡ true
 fresh c = passed c.keys_new.ensures c.if-not-keys_new.false-raw
 
-once : (c : Else-not-none_repeated) → let a = (start c).args in
+once : (c : Else-not-none_repeated) → let a = c.args in
     none_repeated a.own.now a.first.now a.values.now ≡ true
 once c = passed c.none_repeated.ensures c.if-not-none_repeated.false-raw
 
@@ -58,7 +54,7 @@ returns-then-not-shares_kept c =
 
 pub overflow_add-ids : goal.overflow_add-ids
 overflow_add-ids c =
-    omega (arith, c.count_inserts.ensures, keep-length (λ (k : ℕ). not (eqb k 0)) (start c).args.own.now)
+    omega (arith, c.count_inserts.ensures, keep-length (λ (k : ℕ). not (eqb k 0)) c.args.own.now)
 
 pub returns-then-ids-count_inserts-gt-CHARACTERS : goal.returns-then-ids-count_inserts-gt-CHARACTERS
 returns-then-ids-count_inserts-gt-CHARACTERS c =
