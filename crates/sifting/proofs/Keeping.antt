@@ -87,6 +87,7 @@ module _ {A : Type 0} {x : A} where
   at-end (z ∷ xs) e = Memᴰ.tail (at-end xs e)
 
   front-or-end : (xs : List A) {y : A} → Memᴰ x (xs ++ y ∷ []) → Memᴰ x xs ⊎ (x ≡ y)
+  front-or-end [] {y = y} (mathlib.Core.List.Memᴰ.tail m) = elim m [ ]
   front-or-end [] (Memᴰ.head e) = inr e
   front-or-end (z ∷ xs) (Memᴰ.head e) = inl (Memᴰ.head e)
   front-or-end (z ∷ xs) (Memᴰ.tail m) = ⊎_elim (λ n. inl (Memᴰ.tail n)) inr (front-or-end xs m)
@@ -112,6 +113,7 @@ module _ {A : Type 0} (f : A → ℕ) where
 
   one_with : (cs : List A) → distinct eqb (map f cs) ≡ true → {x y : A} → Memᴰ x cs → Memᴰ y cs → f x ≡ f y
       → x ≡ y
+  one_with [] d {y = y} x6 _ q = elim x6 [ ]
   one_with (c ∷ cs) d (Memᴰ.head e) (Memᴰ.head g) q = e ∙ sym g
   one_with (c ∷ cs) d (Memᴰ.head e) (Memᴰ.tail m) q = absurd (first_alone c cs d m (sym (ap f e) ∙ q))
   one_with (c ∷ cs) d (Memᴰ.tail m) (Memᴰ.head g) q = absurd (first_alone c cs d m (sym (ap f g) ∙ sym q))

@@ -17,17 +17,13 @@ use Rattle.replica.specs.Outcomes.{replica_lent}
 use Rattle.admission.specs.declared.Admitted.{Admitted}
 use Rattle.admission.proofs.Answering.{admitted_unformed, admitted_unreachable, admitted_done}
 use borrow.Author.Rules.{rules}
-use Rattle.admission.proofs.judge.Goals.{After-can_be_made, After-check, Else-not-check, Start}
+use Rattle.admission.proofs.judge.Goals.{After-can_be_made, After-check, Else-not-check}
 use Rattle.admission.proofs.judge.Goals as goal
-
--- where the function starts
-abbrev start : After-check → Start
-start c = c.before.before.before.before.before.before
 
 -- the replica in the arrays that were lent
 abbrev lent : After-check → Replica
 lent c =
-    let a = (start c).args in
+    let a = c.args in
     replica_lent a.site a.characters.now a.toggles.now a.n a.pending.now a.w a.heads.now
     a.links.now
 
@@ -35,13 +31,13 @@ formed : (c : Else-not-check) → replica_well_formed (lent c) ≡ true
 formed c = passed (c.check.ensures ∙ sym (form_view (lent c))) c.if-not-check.false-raw
 
 examined : (c : Else-not-check) → Examined (viewed (lent c))
-examined c = lent_examined _ _ _ (start c).requires (sym (form_view (lent c)) ∙ formed c)
+examined c = lent_examined _ _ _ c.requires (sym (form_view (lent c)) ∙ formed c)
 
 -- the test of the rows
 made : (c : After-can_be_made) → c.can_be_made.result ≡ loadable (meaning (lent c)).characters
 made c =
     let r = lent c in
-    let x = examined c in
+    let x = (lent_examined _ _ _ c.requires (sym (form_view (lent c)) ∙ (passed (c.check.ensures ∙ sym (form_view (lent c))) c.if-not-check.false-raw))) in
     c.can_be_made.ensures (columns.meaning (viewed r)).characters (standing (form (viewed r) x).sound)
     (small (viewed r) x) (ids_used (viewed r) x) (previous_used (viewed r) x) (next_used (viewed r) x)
     ∙ sym (ap (λ (s : State). loadable s.characters) (meaning-view r))
@@ -56,7 +52,7 @@ pub can_be_made-requires : goal.can_be_made-requires
 can_be_made-requires c =
     let x = examined (goal.at.can_be_made-requires c).Else-not-check in
     record {
-      characters_len = (start (goal.at.can_be_made-requires c).Else-not-check).requires.characters;
+      characters_len = c.requires.characters;
       n_le_character_slots = (few _ x).characters;
       tabled = examined_tabled _ x;
     }

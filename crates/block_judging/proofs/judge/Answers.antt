@@ -19,16 +19,12 @@ given s =
     let a = s.args in
     replica_as a.site a.characters.now a.toggles.now a.n a.pending.now a.w a.heads.now a.links.now
 
--- where the function starts
-abbrev start : Else-not-check → Start
-start c = c.before.before.before.before.before.before.before
-
 -- the tests that are passed
-examined : (c : Else-not-check) → Examined (given (start c))
-examined c = lent_examined _ _ _ (start c).requires (passed c.check.ensures c.if-not-check.false-raw)
+examined : (c : Else-not-check) → Examined (given c)
+examined c = lent_examined _ _ _ c.requires (passed c.check.ensures c.if-not-check.false-raw)
 
-shown : (c : Else-count-point) → let s = start c in beyond_visible (meaning (given s)) s.args.point ≡ false
-shown c = seen _ _ (start c).args.count (examined c) c.count.ensures c.if-count-point.false
+shown : (c : Else-count-point) → beyond_visible (meaning (given c)) c.args.point ≡ false
+shown c = seen _ _ c.args.count (lent_examined _ _ _ c.requires (passed c.check.ensures c.if-not-check.false-raw)) c.count.ensures c.if-count-point.false
 
 pub returns-then-not-check : goal.returns-then-not-check
 returns-then-not-check c = judged_unformed (given c) _ _ (failed c.check.ensures c.if-not-check.true-raw)
@@ -69,8 +65,8 @@ returns c =
     (sym c.overfull.ensures ∙ c.if-overfull.false) c.if-count-eq0.false
 
 -- the column that is lent
-waits : (c : Else-not-check) → Ends 512 (start c).args.pending.now
-waits c = ends 512 (start c).requires.pending
+waits : (c : Else-not-check) → Ends 512 c.args.pending.now
+waits c = ends 512 c.requires.pending
 
 pub slice_bounds-overfull-count : goal.slice_bounds-overfull-count
 slice_bounds-overfull-count c = begins 512 0

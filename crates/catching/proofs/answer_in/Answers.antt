@@ -21,10 +21,6 @@ use borrow.Author.Rules.{rules}
 use Rattle.catching.proofs.answer_in.Goals.{After-check, Else-not-check, Start}
 use Rattle.catching.proofs.answer_in.Goals as goal
 
--- where the function starts
-abbrev start : After-check → Start
-start c = c.before.before.before.before.before.before.before.before.before.before.before.before.before.before.before.before
-
 -- the replica in the arrays that were lent
 abbrev lentFrom : Start → Replica
 lentFrom s =
@@ -33,19 +29,19 @@ lentFrom s =
     a.links.now
 
 abbrev lent : After-check → Replica
-lent c = lentFrom (start c)
+lent c = lentFrom c
 
 formed : (c : Else-not-check) → replica_well_formed (lent c) ≡ true
 formed c = passed (c.check.ensures ∙ sym (form_view (lent c))) c.if-not-check.false-raw
 
 -- the list was read
-read_so : (c : After-check) → ReadSo (start c).args.list.now
-read_so c = was_read (start c).args.list.now (sym c.read-read.ensures.value ∙ c.in-Done.is)
+read_so : (c : After-check) → ReadSo c.args.list.now
+read_so c = was_read c.args.list.now (sym c.read-read.ensures.value ∙ c.in-Done.is)
 
 pub returns-then-not-check : goal.returns-then-not-check
 returns-then-not-check c =
     let r = lent c in
-    let all = answer_unformed r (start c).args.list.now _ (read_so (goal.at.returns-then-not-check c).After-check)
+    let all = answer_unformed r c.args.list.now _ (read_so (goal.at.returns-then-not-check c).After-check)
     (failed (c.check.ensures ∙ sym (form_view r)) c.if-not-check.true-raw) in
     record {
       value = all.0;
@@ -55,7 +51,7 @@ returns-then-not-check c =
 pub put_answer-requires : goal.put_answer-requires
 put_answer-requires c =
     let r = lent c in
-    let f = (start c).requires in
+    let f = c.requires in
     let x = seen r f (formed (goal.at.put_answer-requires c).Else-not-check) in
     let n = few (viewed r) x in
     let q = c.read-read.ensures.by_index _ c.in-Done.is in
@@ -68,7 +64,7 @@ put_answer-requires c =
       standing = rows_stand r f (formed (goal.at.put_answer-requires c).Else-not-check);
       count_in_bounds = omega (arith, q.0, c.firsts-2-1.given);
       count_in_bounds_2 = omega (arith, q.0, c.words-2-1.given);
-      count_value = ap in_sequence q.1 ∙ read-sequence (start c).args.list.now (read_so (goal.at.put_answer-requires c).After-check);
+      count_value = ap in_sequence q.1 ∙ read-sequence c.args.list.now (read_so (goal.at.put_answer-requires c).After-check);
     }
 
 pub returns-in-Refused : goal.returns-in-Refused
@@ -83,7 +79,7 @@ returns-in-Refused c =
 pub returns-else-not-check : goal.returns-else-not-check
 returns-else-not-check c =
     let r = lent c in
-    let a = (start c).args in
+    let a = c.args in
     let rows = rows_in r.document.characters r.document.toggles r.document.length in
     let q = c.read-read.ensures.by_index _ c.in-Done.is in
     let w = c.put_answer.ensures in

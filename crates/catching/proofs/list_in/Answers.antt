@@ -16,17 +16,13 @@ use Rattle.catching.specs.Calls.{list_bytes_of}
 use Rattle.catching.proofs.Deciding.{list_unformed, list-formed}
 use Rattle.catching.proofs.Formed.{seen, ids_ranged, list-is}
 use borrow.Author.Rules.{rules}
-use Rattle.catching.proofs.list_in.Goals.{After-check, Else-not-check, Start}
+use Rattle.catching.proofs.list_in.Goals.{After-check, Else-not-check}
 use Rattle.catching.proofs.list_in.Goals as goal
-
--- where the function starts
-abbrev start : After-check → Start
-start c = c.before.before.before.before.before.before.before
 
 -- the replica in the arrays that were lent
 abbrev lent : After-check → Replica
 lent c =
-    let a = (start c).args in
+    let a = c.args in
     replica_lent a.site a.characters.now a.toggles.now a.n a.pending.now a.w a.heads.now
     a.links.now
 
@@ -45,7 +41,7 @@ returns-then-not-check c =
 pub put_list-requires : goal.put_list-requires
 put_list-requires c =
     let r = lent c in
-    let f = (start c).requires in
+    let f = c.requires in
     record {
       characters_len = f.characters;
       n_le_character_slots = (few (viewed r) (seen r f (formed (goal.at.put_list-requires c).Else-not-check))).characters;
@@ -56,9 +52,9 @@ pub returns : goal.returns
 unfolding list_bytes_of
 returns c =
     let r = lent c in
-    let out = (start c).args.out.now in
+    let out = c.args.out.now in
     let w = c.put_list.ensures in
-    let l = list-is r (start c).requires (formed (goal.at.returns c).Else-not-check) in
+    let l = list-is r c.requires (formed (goal.at.returns c).Else-not-check) in
     let v = list-formed r out (formed (goal.at.returns c).Else-not-check) in
     record {
       value = w.value ∙ ap (λ (k : Listing). written_as [] (list_bytes k) out) l ∙ v.0;

@@ -8,32 +8,25 @@ use Rattle.replica.specs.Outcomes.{replica_lent}
 use Rattle.replica.proofs.Returning.{sized_still}
 use Rattle.cursor.proofs.Receiving.{changed_few, receipt-at_so}
 use borrow.Author.Rules.{rules}
-use Rattle.cursor.proofs.carry_at.Goals.{After-answer-answer, After-carry-carried, Start}
+use Rattle.cursor.proofs.carry_at.Goals.{After-answer-answer}
 use Rattle.cursor.proofs.carry_at.Goals as goal
-
--- where the function starts, and what was carried out
-abbrev start : After-answer-answer → Start
-start c = c.before.before.before.before.before.before.before.before.before.before.before.before.before.before.before.before.before.before.before.before.before.before
-
-abbrev carrying : After-answer-answer → After-carry-carried
-carrying c = c.before.before.before.before.before.before.before.before.before.before.before
 
 -- the replica in the arrays that were lent, before the decision is carried out and after
 abbrev before : After-answer-answer → Replica
 before c =
-    let a = (start c).args in
+    let a = c.args in
     replica_lent a.site a.characters.now a.toggles.now a.n a.pending.now a.w a.heads.now a.links.now
 
 abbrev after : After-answer-answer → Replica
 after c =
-    let done = (carrying c).carry in
+    let done = c.carry in
     replica_lent done.result.site done.last.0 done.last.1.0 done.result.length done.last.1.1.0 done.result.waiting
     done.last.1.1.1.0 done.last.1.1.1.1.0
 
 still : (c : After-answer-answer) → FullArrays (after c).document
 still c =
-    let k = (carrying c).carry.auto in
-    sized_still (start c).requires.0 k.0 k.1.0 k.1.1.0 k.1.1.1.0 k.1.1.1.1.0
+    let k = c.carry-carried.auto in
+    sized_still c.requires.sized c.carry-carried.auto.characters c.carry-carried.auto.toggles c.carry-carried.auto.pending c.carry-carried.auto.heads c.carry-carried.auto.links
 
 pub carry-carried-requires : goal.carry-carried-requires
 carry-carried-requires c =
@@ -46,8 +39,8 @@ carry-carried-requires c =
 
 pub shift_with-shift-requires : goal.shift_with-shift-requires
 shift_with-shift-requires c =
-    let p = (start c).requires in
-    let few = changed_few (before c) (after c) p.0 (still (goal.at.shift_with-shift-requires c).After-answer-answer) _ _ _ _ _ p.1 (carrying (goal.at.shift_with-shift-requires c).After-answer-answer).carry.ensures _ c.answer-answer.ensures in
+    let p = c.requires in
+    let few = changed_few (before c) (after c) p.sized (still (goal.at.shift_with-shift-requires c).After-answer-answer) _ _ _ _ _ p.judged_at c.carry-carried.ensures _ c.answer-answer.ensures in
     record {
       ids_len = (still (goal.at.shift_with-shift-requires c).After-answer-answer).characters;
       toggles_len = (still (goal.at.shift_with-shift-requires c).After-answer-answer).toggles;
@@ -56,8 +49,8 @@ shift_with-shift-requires c =
 
 pub returns : goal.returns
 returns c =
-    let p = (start c).requires in
+    let p = c.requires in
     let told = c.shift_with-shift.ensures in
     let read = to_z-of_z {w = w32} {z = c.shift_with-shift.result} (record { sfits = c.shift_with-shift.type-inv }) in
-    receipt-at_so (before c) (after c) p.0 (still (goal.at.returns c).After-answer-answer) _ _ _ _ _ p.1 (carrying (goal.at.returns c).After-answer-answer).carry.ensures _ c.answer-answer.ensures _
+    receipt-at_so (before c) (after c) p.sized (still (goal.at.returns c).After-answer-answer) _ _ _ _ _ p.judged_at c.carry-carried.ensures _ c.answer-answer.ensures _
     (λ e. read ∙ told.value e) (λ e cs k t small. read ∙ told.value_2 e cs k t small)

@@ -19,7 +19,7 @@ placed : (c : In-At)
     → let a = c.args in
     c.in-At.i + 1 ≡ min (place_in (take a.n a.ids.now) a.key) a.n
 placed c =
-    through-found _ _ (many c) c.if-key-eq0.false _ (sym c.find.ensures ∙ c.in-At.is)
+    through-found _ _ (length-take-le c.args.n c.args.ids.now c.requires) c.if-key-eq0.false _ (sym c.find.ensures ∙ c.in-At.is)
 
 pub returns-then-key-eq0 : goal.returns-then-key-eq0
 returns-then-key-eq0 c = through-begin _ _ (many (goal.at.returns-then-key-eq0 c).Start) c.if-key-eq0.true

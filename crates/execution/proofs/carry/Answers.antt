@@ -19,58 +19,44 @@ made s =
     let a = s.args in
     replica_as a.site a.characters.now a.toggles.now a.n a.pending.now a.w a.heads.now a.links.now
 
--- where the function starts, seen from each branch
-abbrev deferring : In-Defer → Start
-deferring c = c.before.before.before.before.before.before.before
-
-abbrev placing : In-Insert-2 → Start
-placing c = c.before.before.before.before.before.before.before.before.before.before
-
-abbrev toggling : In-Toggle-operation-2-2 → Start
-toggling c = c.before.before.before.before.before.before.before.before.before.before
-
 -- what the branch knows
-defers : (c : In-Defer) → Feasible (made (deferring c)) (deferring c).args.operation Defer
-defers c = told (made (deferring c)) (deferring c).requires.1.1 refl c.in-Defer.is
+defers : (c : In-Defer) → Feasible (made c) c.args.operation Defer
+defers c = told (made c) c.requires.feasible refl c.in-Defer.is
 
 places : (c : In-Insert-2) → let k = c.in-Place.k in
-    Feasible (made (placing c)) (insert c.in-Insert.i) (Place k)
-places c = told (made (placing c)) (placing c).requires.1.1 c.in-Insert.is c.in-Place.is
+    Feasible (made c) (insert c.in-Insert.i) (Place k)
+places c = told (made c) c.requires.feasible c.in-Insert.is c.in-Place.is
 
 toggles : (c : In-Toggle-operation-2-2) → let k = c.in-Toggle.k in
-    Feasible (made (toggling c)) (toggle c.in-Toggle-operation-2.t) (toggleAt k)
-toggles c = told (made (toggling c)) (toggling c).requires.1.1 c.in-Toggle-operation-2.is c.in-Toggle.is
+    Feasible (made c) (toggle c.in-Toggle-operation-2.t) (toggleAt k)
+toggles c = told (made c) c.requires.feasible c.in-Toggle-operation-2.is c.in-Toggle.is
 
 pub defer-requires : goal.defer-requires
 defer-requires c =
-    let s = deferring c in
     record {
-      characters_len = s.pre.0;
-      pending_len = s.pre.1.0;
-      lent = defer-lent (made s) _ (defers (goal.at.defer-requires c).In-Defer);
-      w_lt_pending_slots = defer-slot (made s) _ (defers (goal.at.defer-requires c).In-Defer);
+      characters_len = c.requires.characters_len;
+      pending_len = c.requires.pending_len;
+      lent = defer-lent (made c) _ (defers (goal.at.defer-requires c).In-Defer);
+      w_lt_pending_slots = defer-slot (made (goal.at.defer-requires c).In-Defer) _ (defers (goal.at.defer-requires c).In-Defer);
     }
 
 pub overflow_add-w : goal.overflow_add-w
-overflow_add-w c =
-    omega (arith, defer-slot (made (deferring c)) _ (defers (goal.at.overflow_add-w c).In-Defer))
+overflow_add-w c = omega (arith, defer-slot (made c) _ (defers (goal.at.overflow_add-w c).In-Defer))
 
 pub integrate-done-requires : goal.integrate-done-requires
 integrate-done-requires c =
-    let s = placing c in
     record {
-      characters_len = s.pre.0;
-      pending_len = s.pre.1.0;
-      placed = placeable (made s) _ _ (places (goal.at.integrate-done-requires c).In-Insert-2);
+      characters_len = c.requires.characters_len;
+      pending_len = c.requires.pending_len;
+      placed = placeable (made c) _ _ (places (goal.at.integrate-done-requires c).In-Insert-2);
     }
 
 pub toggle-requires : goal.toggle-requires
 toggle-requires c =
-    let s = toggling c in
     record {
-      characters_len = s.pre.0;
-      pending_len = s.pre.1.0;
-      targeted = targeted (made s) _ _ (toggles (goal.at.toggle-requires c).In-Toggle-operation-2-2);
+      characters_len = c.requires.characters_len;
+      pending_len = c.requires.pending_len;
+      targeted = targeted (made c) _ _ (toggles (goal.at.toggle-requires c).In-Toggle-operation-2-2);
     }
 
 pub returns-in-Answered : goal.returns-in-Answered
@@ -83,14 +69,14 @@ returns-in-Defer c =
     let done = c.defer in
     rw c.in-Defer.is
     (ap (left_as done.new.characters _ done.new.pending _ _) c.left-in-Defer.ensures
-    ∙ deferred_left (made (deferring c)) _ _ _ _ c.heard_operation.ensures done.ensures (omega arith))
+    ∙ deferred_left (made c) _ _ _ _ c.heard_operation.ensures done.ensures (omega arith))
 
 pub returns-in-Insert : goal.returns-in-Insert
 returns-in-Insert c =
     let done = c.integrate-done in
     rw (c.in-Insert.is, c.in-Place.is)
     (ap (left_as done.new.characters _ done.new.pending _ _) c.left-in-Insert.ensures
-    ∙ integrated_left (made (placing c)) _ _ _ _ _ _ (places (goal.at.returns-in-Insert c).In-Insert-2) c.heard.ensures done.ensures)
+    ∙ integrated_left (made c) _ _ _ _ _ _ (places (goal.at.returns-in-Insert c).In-Insert-2) c.heard.ensures done.ensures)
 
 pub returns-in-Toggle-operation : goal.returns-in-Toggle-operation
 returns-in-Toggle-operation c =
@@ -105,7 +91,7 @@ returns-in-Toggle-operation-2 c =
     let done = c.toggle in
     rw (c.in-Toggle-operation-2.is, c.in-Toggle.is)
     (ap (left_as done.new.characters _ done.new.pending _ _) c.left-in-Toggle-operation-2.ensures
-    ∙ toggled-left (made (toggling c)) _ _ _ done.ensures)
+    ∙ toggled-left (made c) _ _ _ done.ensures)
 
 pub shape_of-characters-in-Defer : goal.shape_of-characters-in-Defer
 shape_of-characters-in-Defer c = c.defer.auto.characters

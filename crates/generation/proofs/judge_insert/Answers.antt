@@ -21,27 +21,23 @@ made s =
     let a = s.args in
     replica_as a.site a.characters.now a.toggles.now a.n a.pending.now a.w a.heads.now a.links.now
 
--- where the function starts
-abbrev start : Else-not-check → Start
-start c = c.before.before.before.before.before.before.before.before.before
-
 -- the tests that are passed
 coded : (c : Else-not-code_point) → is_code_point c.args.code_point ≡ true
 coded c = passed c.code_point.ensures c.if-not-code_point.false-raw
 
-examined : (c : Else-not-check) → Examined (made (start c))
-examined c = lent_examined _ _ _ (start c).requires (passed c.check.ensures c.if-not-check.false-raw)
+examined : (c : Else-not-check) → Examined (made c)
+examined c = lent_examined _ _ _ c.requires (passed c.check.ensures c.if-not-check.false-raw)
 
-seen : (c : Else-count-point) → let s = start c in beyond_visible (meaning (made s)) s.args.point ≡ false
+seen : (c : Else-count-point) → beyond_visible (meaning (made c)) c.args.point ≡ false
 seen c =
-    insert-within _ (examined c) _ _ (coded c) _ c.count.ensures c.if-count-point.false
+    insert-within _ (lent_examined _ _ _ c.requires (passed c.check.ensures c.if-not-check.false-raw)) _ _ (passed c.code_point.ensures c.if-not-code_point.false-raw) _ c.count.ensures c.if-count-point.false
 
 -- the columns that are lent
-rows : (c : Else-not-check) → Ends 1024 (start c).args.characters.now
-rows c = ends 1024 (start c).requires.characters
+rows : (c : Else-not-check) → Ends 1024 c.args.characters.now
+rows c = ends 1024 c.requires.characters
 
-waits : (c : Else-not-check) → Ends 512 (start c).args.pending.now
-waits c = ends 512 (start c).requires.pending
+waits : (c : Else-not-check) → Ends 512 c.args.pending.now
+waits c = ends 512 c.requires.pending
 
 pub returns-then-not-code_point : goal.returns-then-not-code_point
 returns-then-not-code_point c = unranged_insert (made c) _ _ (failed c.code_point.ensures c.if-not-code_point.true-raw)

@@ -27,36 +27,25 @@ made s =
     let a = s.args in
     replica_as a.site a.characters.now a.toggles.now a.n a.pending.now a.w a.heads.now a.links.now
 
--- where the function starts
-abbrev start : Else-not-check → Start
-start c = c.before.before.before.before.before.before.before.before.before
-
 -- the tests that are passed
 ranged : (c : Else-not-character_id) → character_id c.args.id ≡ true
 ranged c = passed c.character_id.ensures c.if-not-character_id.false-raw
 
-examined : (c : Else-not-check) → Examined (made (start c))
-examined c = lent_examined _ _ _ (start c).requires (passed c.check.ensures c.if-not-check.false-raw)
-
--- where the search stands
-abbrev formed : After-find_among → Else-not-check
-formed c = c.before.before.before
-
-abbrev named : After-find_among → Else-not-character_id
-named c = (formed c).before.before
+examined : (c : Else-not-check) → Examined (made c)
+examined c = lent_examined _ _ _ c.requires (passed c.check.ensures c.if-not-check.false-raw)
 
 -- what is found is what is sought
-sought : (c : After-find_among) → let a = (start (formed c)).args in
+sought : (c : After-find_among) → let a = (start c).args in
     c.find_among.result ≡ found (key a.id) (take a.n (key_column a.characters.now))
 sought c = rw c.key.ensures.value at c.find_among.ensures
 
 -- what it says of the characters
-standing : (c : After-find_among) {f : Found} → c.find_among.result ≡ f → StandsAt _ (examined (formed c)) _ (ranged (named c)) f
-standing c e = stands_at _ (examined (formed c)) _ (ranged (named c)) (sought c) e
+standing : (c : After-find_among) {f : Found} → c.find_among.result ≡ f → StandsAt _ (lent_examined _ _ _ c.requires (passed c.check.ensures c.if-not-check.false-raw)) _ (passed c.character_id.ensures c.if-not-character_id.false-raw) f
+standing c e = stands_at _ (lent_examined _ _ _ c.requires (passed c.check.ensures c.if-not-check.false-raw)) _ (passed c.character_id.ensures c.if-not-character_id.false-raw) (sought c) e
 
 -- the column that is lent
-rows : (c : Else-not-check) → Ends 1024 (start c).args.characters.now
-rows c = ends 1024 (start c).requires.characters
+rows : (c : Else-not-check) → Ends 1024 c.args.characters.now
+rows c = ends 1024 c.requires.characters
 
 pub returns-then-not-character_id : goal.returns-then-not-character_id
 returns-then-not-character_id c = unranged_restore (made c) _ (failed c.character_id.ensures c.if-not-character_id.true-raw)
@@ -76,37 +65,37 @@ find_among-requires c =
 
 pub bounds-toggles-k : goal.bounds-toggles-k
 bounds-toggles-k c =
-    let x = examined (formed (goal.at.bounds-toggles-k c).Else-not-check) in
+    let x = examined (goal.at.bounds-toggles-k c).Else-not-check in
     let n = few _ x in
-    let h = character-within _ x _ (ranged (named (goal.at.bounds-toggles-k c).Else-not-character_id)) _ (standing (goal.at.bounds-toggles-k c).After-find_among c.in-At.is) in
+    let h = character-within _ x _ (ranged (goal.at.bounds-toggles-k c).Else-not-character_id) _ (standing (goal.at.bounds-toggles-k c).After-find_among c.in-At.is) in
     omega (arith, x.slots.toggles)
 
 pub returns-then-count-eq0 : goal.returns-then-count-eq0
 returns-then-count-eq0 c =
     let at = standing (goal.at.returns-then-count-eq0 c).After-find_among c.in-At.is in
-    restore_visible _ (examined (formed (goal.at.returns-then-count-eq0 c).Else-not-check)) _ (ranged (named (goal.at.returns-then-count-eq0 c).Else-not-character_id)) _ at c.if-count-eq0.true
+    restore_visible _ (examined (goal.at.returns-then-count-eq0 c).Else-not-check) _ (ranged (goal.at.returns-then-count-eq0 c).Else-not-character_id) _ at c.if-count-eq0.true
 
 pub returns-then-count : goal.returns-then-count
 returns-then-count c =
     let at = standing (goal.at.returns-then-count c).After-find_among c.in-At.is in
-    restore_last _ (examined (formed (goal.at.returns-then-count c).Else-not-check)) _ (ranged (named (goal.at.returns-then-count c).Else-not-character_id)) _ at c.if-count-eq0.false c.if-count.true
+    restore_last _ (examined (goal.at.returns-then-count c).Else-not-check) _ (ranged (goal.at.returns-then-count c).Else-not-character_id) _ at c.if-count-eq0.false c.if-count.true
 
 pub next_toggle-toggle-requires : goal.next_toggle-toggle-requires
 next_toggle-toggle-requires c =
     let at = standing (goal.at.next_toggle-toggle-requires c).After-find_among c.in-At.is in
-    restore_below _ (examined (formed (goal.at.next_toggle-toggle-requires c).Else-not-check)) _ (ranged (named (goal.at.next_toggle-toggle-requires c).Else-not-character_id)) _ at c.if-count-eq0.false c.if-count.false
+    restore_below _ (examined (goal.at.next_toggle-toggle-requires c).Else-not-check) _ (ranged (goal.at.next_toggle-toggle-requires c).Else-not-character_id) _ at c.if-count-eq0.false c.if-count.false
 
 pub returns-else-count : goal.returns-else-count
 returns-else-count c =
-    let x = examined (formed (goal.at.returns-else-count c).Else-not-check) in
-    let id = ranged (named (goal.at.returns-else-count c).Else-not-character_id) in
+    let x = examined (goal.at.returns-else-count c).Else-not-check in
+    let id = ranged (goal.at.returns-else-count c).Else-not-character_id in
     let first = sym (found_first _ x _ id) ∙ sym (sought (goal.at.returns-else-count c).After-find_among) ∙ c.in-At.is in
     let at = standing (goal.at.returns-else-count c).After-find_among c.in-At.is in
     restore_decided _ x _ id _ at c.if-count-eq0.false c.if-count.false first _ c.next_toggle-toggle.ensures
 
 pub returns-in-Nothing : goal.returns-in-Nothing
 returns-in-Nothing c =
-    restore_nowhere _ (examined (formed (goal.at.returns-in-Nothing c).Else-not-check)) _ (ranged (named (goal.at.returns-in-Nothing c).Else-not-character_id)) (standing (goal.at.returns-in-Nothing c).After-find_among c.in-Nothing.is)
+    restore_nowhere _ (examined (goal.at.returns-in-Nothing c).Else-not-check) _ (ranged (goal.at.returns-in-Nothing c).Else-not-character_id) (standing (goal.at.returns-in-Nothing c).After-find_among c.in-Nothing.is)
 
 pub check-requires : goal.check-requires
 check-requires c = c.requires

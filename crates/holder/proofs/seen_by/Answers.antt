@@ -16,13 +16,9 @@ use Rattle.holder.proofs.seen_by.Goals as goal
 id_ranged : (s : Start) → character_id s.args.insert.id ≡ true
 id_ranged s = (in-range s.args.insert s.requires.insert_value).id
 
--- where the function starts
-abbrev start : After-holder_of → Start
-start c = c.before.before.before.before.before.before.before.before.before.before
-
 -- who has the identifier
-held : (c : After-holder_of) (h : Holder) → c.holder_of.result ≡ h → Has _ (start c).requires.1.0 _ (id_ranged (start c)) h
-held c h e = has _ (start c).requires.1.0 _ (id_ranged (start c)) (rw c.key.ensures.value at c.holder_of.ensures) e
+held : (c : After-holder_of) (h : Holder) → c.holder_of.result ≡ h → Has _ c.requires.examined _ ((in-range c.args.insert c.requires.insert_value).id) h
+held c h e = has _ c.requires.examined _ ((in-range c.args.insert c.requires.insert_value).id) (rw c.key.ensures.value at c.holder_of.ensures) e
 
 -- the columns that are lent
 rows : (s : Start) → Ends 1024 s.args.characters.now

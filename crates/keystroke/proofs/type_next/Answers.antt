@@ -46,44 +46,36 @@ ruled s = generated_insert (meaning (given s)) s.args.at.point s.args.code-point
 
 -- ---- the insert and its place
 
-abbrev from-find : After-find_place-placement → Start
-from-find c = c.before.before.before.before.before.before.before.before.before.before.before.before.before
-
-inserted-is : (c : After-find_place-placement) → c.make-insert.result ≡ ruled (from-find c)
+inserted-is : (c : After-find_place-placement) → c.make-insert.result ≡ ruled c
 inserted-is c =
-    let s = from-find c in
-    let x = checked s in
-    let m = made (given s) (slots s) _ _ s.pre.1.0 in
-    let site = same-site (given s) (slots s) _ _ s.pre.1.0 in
-    c.make-insert.ensures (meaning (given s)) site (sym (ids_used _ x)) (sym (toggles_used _ x)) m.ranged
+    let x = (examined (given c) (sized_slots c.args.at.length c.args.at.waiting c.requires.sized) _ _ c.requires.typeable) in
+    let m = made (given c) (sized_slots c.args.at.length c.args.at.waiting c.requires.sized) _ _ c.requires.typeable in
+    let site = same-site (given c) (sized_slots c.args.at.length c.args.at.waiting c.requires.sized) _ _ c.requires.typeable in
+    c.make-insert.ensures (meaning (given c)) site (sym (ids_used _ x)) (sym (toggles_used _ x)) m.ranged
 
-abbrev from-k : In-At-2 → After-find_place-placement
-from-k c = c.before.before.before
-
-placed_at : (c : In-At-2) → let s = from-find (from-k c) in placement_of (meaning (given s)).characters (ruled s) ≡ Below c.in-At.k
+placed_at : (c : In-At-2) → let s = from-find c in placement_of (meaning (given s)).characters (ruled s) ≡ Below c.in-At.k
 placed_at c =
-    let f = from-k c in
-    let s = from-find f in
     let told = sym c.place_of.ensures ∙ c.in-At.is in
-    found_below (given s) (slots s) _ _ s.pre.1.0 (inserted-is f) _ f.find-place.ensures _ told
+    found_below (given c) (sized_slots c.args.at.length c.args.at.waiting c.requires.sized) _ _ c.requires.typeable (let x = (examined (given c) (sized_slots c.args.at.length c.args.at.waiting c.requires.sized) _ _ c.requires.typeable) in
+    let m = made (given c) (sized_slots c.args.at.length c.args.at.waiting c.requires.sized) _ _ c.requires.typeable in
+    let site = same-site (given c) (sized_slots c.args.at.length c.args.at.waiting c.requires.sized) _ _ c.requires.typeable in
+    c.make-insert.ensures (meaning (given c)) site (sym (ids_used _ x)) (sym (toggles_used _ x)) m.ranged) _ c.find_place-placement.ensures _ told
 
-placed-here : (c : In-At-2) → let s = from-find (from-k c) in
+placed-here : (c : In-At-2) → let s = from-find c in
     let d = (given s).document in
-    PlacedAs d (from-k c).before.before.before.before.make.result c.in-At.k (characters_in d) (operations_in d)
+    PlacedAs d c.make-insert.result c.in-At.k (characters_in d) (operations_in d)
 placed-here c =
-    let f = from-k c in
-    let s = from-find f in
-    let d = (given s).document in
-    subst (λ (i : Insert). PlacedAs d i c.in-At.k (characters_in d) (operations_in d)) (sym (inserted-is f))
-    (placed-there (given s) (slots s) _ _ s.pre.1.0 _ (placed_at c))
+    let d = (given c).document in
+    subst (λ (i : Insert). PlacedAs d i c.in-At.k (characters_in d) (operations_in d)) (sym (let x = (examined (given c) (sized_slots c.args.at.length c.args.at.waiting c.requires.sized) _ _ c.requires.typeable) in
+    let m = made (given c) (sized_slots c.args.at.length c.args.at.waiting c.requires.sized) _ _ c.requires.typeable in
+    let site = same-site (given c) (sized_slots c.args.at.length c.args.at.waiting c.requires.sized) _ _ c.requires.typeable in
+    c.make-insert.ensures (meaning (given c)) site (sym (ids_used _ x)) (sym (toggles_used _ x)) m.ranged))
+    (placed-there (given c) (sized_slots c.args.at.length c.args.at.waiting c.requires.sized) _ _ c.requires.typeable _ (placed_at c))
 
 -- ---- what is left
 
-abbrev from-work : After-put_in-done → In-At-2
-from-work c = c.before.before.before.before.before.before.before
-
 abbrev start : After-put_in-done → Start
-start c = from-find (from-k (from-work c))
+start c = from-find (from-k c)
 
 worked : (c : After-put_in-done) → let s = start c in
     let l = c.put_in-done.new in
@@ -91,8 +83,17 @@ worked : (c : After-put_in-done) → let s = start c in
     ≡ finished (integrate_insert (characters_in (given s).document) (ruled s)) (operations_in (given s).document) 1 0
 worked c =
     let d = (given (start c)).document in
-    c.put_in-done.ensures _ _ (placed-here (from-work c))
-    ∙ ap (λ (i : Insert). finished (integrate_insert (characters_in d) i) (operations_in d) 1 0) (inserted-is (from-k (from-work c)))
+    c.put_in-done.ensures _ _ (let d = (given c).document in
+    subst (λ (i : Insert). PlacedAs d i c.in-At.k (characters_in d) (operations_in d)) (sym (let x = (examined (given c) (sized_slots c.args.at.length c.args.at.waiting c.requires.sized) _ _ c.requires.typeable) in
+    let m = made (given c) (sized_slots c.args.at.length c.args.at.waiting c.requires.sized) _ _ c.requires.typeable in
+    let site = same-site (given c) (sized_slots c.args.at.length c.args.at.waiting c.requires.sized) _ _ c.requires.typeable in
+    c.make-insert.ensures (meaning (given c)) site (sym (ids_used _ x)) (sym (toggles_used _ x)) m.ranged))
+    (placed-there (given c) (sized_slots c.args.at.length c.args.at.waiting c.requires.sized) _ _ c.requires.typeable _ (let told = sym c.place_of.ensures ∙ c.in-At.is in
+    found_below (given c) (sized_slots c.args.at.length c.args.at.waiting c.requires.sized) _ _ c.requires.typeable (let x = (examined (given c) (slots c) _ _ c.requires.typeable) in
+    let m = made (given c) (sized_slots c.args.at.length c.args.at.waiting c.requires.sized) _ _ c.requires.typeable in
+    let site = same-site (given c) (sized_slots c.args.at.length c.args.at.waiting c.requires.sized) _ _ c.requires.typeable in
+    c.make-insert.ensures (meaning (given c)) site (sym (ids_used _ x)) (sym (toggles_used _ x)) m.ranged) _ c.find_place-placement.ensures _ told)))
+    ∙ ap (λ (i : Insert). finished (integrate_insert (characters_in d) i) (operations_in d) 1 0) (inserted-is (from-k c))
 
 pub make-insert-requires : goal.make-insert-requires
 make-insert-requires c =
@@ -117,11 +118,9 @@ find_place-placement-requires c =
 
 pub put_in-done-requires : goal.put_in-done-requires
 put_in-done-requires c =
-    let f = from-k c in
-    let s = from-find f in
     record {
-      characters_len = s.pre.0.characters;
-      pending_len = s.pre.0.pending;
+      characters_len = c.requires.sized.characters;
+      pending_len = c.requires.sized.pending;
       insertable = record { characters = _; pending = _; placed = placed-here (goal.at.put_in-done-requires c).In-At-2 };
     }
 
@@ -129,7 +128,7 @@ pub visible_through-point-requires : goal.visible_through-point-requires
 visible_through-point-requires c =
     let s = start c in
     let before = (few _ (checked s)).characters in
-    let small = few-next (given s) (slots s) _ _ s.pre.1.0 _ (placed_at (from-work (goal.at.visible_through-point-requires c).In-At-2)) (worked (goal.at.visible_through-point-requires c).After-put_in-done) in
+    let small = few-next (given s) (slots s) _ _ s.pre.1.0 _ (placed_at (goal.at.visible_through-point-requires c).In-At-2) (worked (goal.at.visible_through-point-requires c).After-put_in-done) in
     record {
       n_in_bounds = omega (arith, small, before, c.put_in-done.auto.characters, s.pre.0.characters);
       n_in_bounds_2 = omega (arith, small, before, c.put_in-done.auto.toggles, s.pre.0.toggles);
@@ -138,7 +137,7 @@ visible_through-point-requires c =
 pub further-requires : goal.further-requires
 further-requires c =
     let s = start c in
-    let sum = balance_next (given s) (slots s) _ _ s.pre.1.0 _ (placed_at (from-work (goal.at.further-requires c).In-At-2)) (worked (goal.at.further-requires c).After-put_in-done) in
+    let sum = balance_next (given s) (slots s) _ _ s.pre.1.0 _ (placed_at (goal.at.further-requires c).In-At-2) (worked (goal.at.further-requires c).After-put_in-done) in
     record {
       clock_lt_last_clock = low (given s) (slots s) _ _ s.pre.1.0;
       integrated_bound = omega (arith, sum, s.pre.1.1);
@@ -151,9 +150,9 @@ returns-in-At c =
     let s = start c in
     let r = given s in
     let t = s.pre.1.0 in
-    let p = placed_at (from-work (goal.at.returns-in-At c).In-At-2) in
+    let p = placed_at (goal.at.returns-in-At c).In-At-2 in
     let e = worked (goal.at.returns-in-At c).After-put_in-done in
-    let is = inserted-is (from-k (from-work (goal.at.returns-in-At c).After-find_place-placement)) in
+    let is = inserted-is (from-k (goal.at.returns-in-At c).After-find_place-placement) in
     let l = c.put_in-done.new in
     let f = c.further.ensures in
     let sum = balance_next r (slots s) _ _ t _ p e in
@@ -185,6 +184,5 @@ returns-in-At c =
 pub returns-in-Nothing : goal.returns-in-Nothing
 unfolding OneTyped
 returns-in-Nothing c =
-    let s = from-find c in
     let told = sym c.place_of.ensures ∙ c.in-Nothing.is in
-    found_nowhere (given s) (slots s) _ _ s.pre.1.0 (inserted-is (goal.at.returns-in-Nothing c).After-find_place-placement) _ c.find_place-placement.ensures told
+    found_nowhere (given c) (slots (goal.at.returns-in-Nothing c).Start) _ _ c.requires.typeable (inserted-is (goal.at.returns-in-Nothing c).After-find_place-placement) _ c.find_place-placement.ensures told

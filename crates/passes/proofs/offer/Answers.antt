@@ -10,22 +10,18 @@ use Rattle.passes.specs.Steps.{laid_as, Lays, TakenAs, Reaches}
 use Rattle.passes.proofs.Passing.{reached_ranged, reached_laid, reached-room, reached-slots, reached-placed}
 use Rattle.passes.proofs.Passing.{reached-dropped, reached_lacking}
 use borrow.Author.Rules.{rules}
-use Rattle.passes.proofs.offer.Goals.{After-take_in-taken, Start}
+use Rattle.passes.proofs.offer.Goals.{After-take_in-taken}
 use Rattle.passes.proofs.offer.Goals as goal
 
 abbrev lays : {d : Document} {xs : List ℕ} {k i : ℕ} → Reaches d xs k i → Lays d
 lays g = record { characters = g.reached.characters; laid = reached_laid g.reached g.within }
 
--- where the function starts
-abbrev start : After-take_in-taken → Start
-start c = c.before.before.before.before.before.before.before.before.before.before.before.before
-
 -- what became of the insert
-module _ (c : After-take_in-taken) (g : Reaches (laid_as (start c).args.characters.now (start c).args.toggles.now (start c).args.at.length (start c).args.heads.now (start c).args.links.now) (start c).args.inserts.now (start c).args.at.left (start c).args.i) where
+module _ (c : After-take_in-taken) (g : Reaches (laid_as c.args.characters.now c.args.toggles.now c.args.at.length c.args.heads.now c.args.links.now) c.args.inserts.now c.args.at.left c.args.i) where
   abbrev At : Taken → Type 0
   At v =
       let l = c.take_in-taken.new in
-      TakenAs g.reached.characters c.insert_at-insert.result c.take_in-taken.new.characters c.take_in-taken.new.toggles (start c).args.at.length c.take_in-taken.new.heads c.take_in-taken.new.links v
+      TakenAs g.reached.characters c.insert_at-insert.result c.take_in-taken.new.characters c.take_in-taken.new.toggles c.args.at.length c.take_in-taken.new.heads c.take_in-taken.new.links v
 
   told : (v : Taken) → c.take_in-taken.result ≡ v → At v
   told v e = subst At e (c.take_in-taken.ensures (lays g))

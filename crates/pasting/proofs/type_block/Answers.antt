@@ -15,16 +15,12 @@ use Rattle.pasting.proofs.type_block.Goals as goal
 full : (s : Start) → FullArrays s.args.replica.document
 full s = full-replica s.well_formed.0
 
--- where the function starts
-abbrev start : After-read → Start
-start c = c.before.before.before.before
-
 -- what was read
-written : (c : After-read) → Unwritten (start c).requires.0.points c.read.new.typed
-written c = c.read.ensures _ (start c).requires.0.read
+written : (c : After-read) → Unwritten c.requires.pasteable.points c.read.new.typed
+written c = c.read.ensures _ c.requires.pasteable.read
 
-points : (c : After-read) → points_in (start c).args.count c.read.new.typed ≡ (start c).requires.0.points
-points c = points-are (start c).requires.0.many (written c)
+points : (c : After-read) → points_in c.args.count c.read.new.typed ≡ c.requires.pasteable.points
+points c = points-are c.requires.pasteable.many (written c)
 
 pub read-requires : goal.read-requires
 read-requires c =
@@ -38,23 +34,21 @@ read-requires c =
 
 pub type_points-ended-requires : goal.type_points-ended-requires
 type_points-ended-requires c =
-    let s = start c in
     record {
-      sized = full s;
-      typed_len = c.read.auto.typed ∙ blank_length s.pre.1;
+      sized = full (goal.at.type_points-ended-requires c).Start;
+      typed_len = c.read.auto.typed ∙ blank_length c.requires.typed_value;
       unwritten = rw (points (goal.at.type_points-ended-requires c).After-read) (written (goal.at.type_points-ended-requires c).After-read);
-      typed_value = rw (points (goal.at.type_points-ended-requires c).After-read) (coded s.args.replica _ _ s.pre.0);
-      spacious = s.pre.0.spacious;
+      typed_value = rw (points (goal.at.type_points-ended-requires c).After-read) (coded c.args.replica _ _ c.requires.pasteable);
+      spacious = c.requires.pasteable.spacious;
     }
 
 pub returns-in-Finished : goal.returns-in-Finished
 returns-in-Finished c =
-    let s = start c in
     let m = c.type_points-ended in
     let l = m.new in
     let k = m.auto in
-    let still = sized_still (full s) m.auto.characters m.auto.toggles m.auto.pending m.auto.heads m.auto.links in
-    finished_so s.args.replica _ _ s.pre.0 _ still _ _
+    let still = sized_still (full (goal.at.returns-in-Finished c).Start) m.auto.characters m.auto.toggles m.auto.pending m.auto.heads m.auto.links in
+    finished_so c.args.replica _ _ c.requires.pasteable _ still _ _
     (told-finished _ _ (points (goal.at.returns-in-Finished c).After-read) _ m.new.characters m.new.toggles m.new.pending m.new.heads m.new.links m.ensures c.in-Finished.is)
 
 pub shape_of-typed-in-Unplaceable : goal.shape_of-typed-in-Unplaceable
@@ -62,11 +56,10 @@ shape_of-typed-in-Unplaceable c = omega (arith, c.clear_numbers.auto.a, c.type_p
 
 pub returns-in-Unplaceable : goal.returns-in-Unplaceable
 returns-in-Unplaceable c =
-    let s = start c in
     let m = c.type_points-ended in
     let l = m.new in
-    let long = m.auto.typed ∙ c.read.auto.typed ∙ blank_length s.pre.1 in
+    let long = m.auto.typed ∙ c.read.auto.typed ∙ blank_length c.requires.typed_value in
     let clear = c.clear_numbers.ensures ∙ wiped m.new.typed long in
     (λ j. pasted_as (c.untyped.ensures j) (clear j))
-    ∙ stopped_so s.args.replica _ _ s.pre.0
+    ∙ stopped_so c.args.replica _ _ c.requires.pasteable
     (told-stopped _ _ (points (goal.at.returns-in-Unplaceable c).After-read) _ m.new.characters m.new.toggles m.new.pending m.new.heads m.new.links m.ensures c.in-Unplaceable.is)

@@ -20,18 +20,14 @@ use Rattle.reception.proofs.decide_toggle.Goals as goal
 ranged : (s : Start) → character_id s.args.toggle.target ≡ true
 ranged s = target_ranged _ s.requires.toggle_value
 
--- where the function starts
-abbrev start : After-find_among → Start
-start c = c.before.before.before.before.before.before.before.before.before
-
 -- what is found is what is sought
-sought : (c : After-find_among) → let a = (start c).args in
+sought : (c : After-find_among) → let a = c.args in
     c.find_among.result ≡ found (key a.toggle.target) (take a.n (key_column a.characters.now))
 sought c = rw c.key.ensures.value at c.find_among.ensures
 
 -- what it says of the characters
-standing : (c : After-find_among) {f : Found} → c.find_among.result ≡ f → StandsAt _ (start c).requires.1.0 _ (ranged (start c)) f
-standing c e = stands_at _ (start c).requires.1.0 _ (ranged (start c)) (sought c) e
+standing : (c : After-find_among) {f : Found} → c.find_among.result ≡ f → StandsAt _ c.requires.examined _ (target_ranged _ c.requires.toggle_value) f
+standing c e = stands_at _ c.requires.examined _ (target_ranged _ c.requires.toggle_value) (sought c) e
 
 -- the columns that are lent
 rows : (s : Start) → Ends 1024 s.args.characters.now
@@ -50,17 +46,15 @@ find_among-requires c =
 
 pub bounds-toggles-k : goal.bounds-toggles-k
 bounds-toggles-k c =
-    let s = start c in
-    let x = s.pre.1.0 in
+    let x = c.requires.examined in
     let n = few _ x in
-    let h = character-within _ x _ (ranged s) _ (standing (goal.at.bounds-toggles-k c).After-find_among c.in-At.is) in
+    let h = character-within _ x _ (ranged (goal.at.bounds-toggles-k c).Start) _ (standing (goal.at.bounds-toggles-k c).After-find_among c.in-At.is) in
     omega (arith, x.slots.toggles)
 
 pub returns-then-toggle-toggles : goal.returns-then-toggle-toggles
 returns-then-toggle-toggles c =
-    let s = start c in
-    let x = s.pre.1.0 in
-    judged _ _ _ x (again-decided _ x _ s.pre.1.1 _ (standing (goal.at.returns-then-toggle-toggles c).After-find_among c.in-At.is) c.if-toggle-toggles.true)
+    let x = c.requires.examined in
+    judged _ _ _ x (again-decided _ x _ c.requires.toggle_value _ (standing (goal.at.returns-then-toggle-toggles c).After-find_among c.in-At.is) c.if-toggle-toggles.true)
 
 pub absent-requires : goal.absent-requires
 absent-requires c =
@@ -73,16 +67,14 @@ absent-requires c =
 
 pub returns-else-toggle-toggles : goal.returns-else-toggle-toggles
 returns-else-toggle-toggles c =
-    let s = start c in
-    let x = s.pre.1.0 in
-    let first = sym (found_first _ x _ (ranged s)) ∙ sym (sought (goal.at.returns-else-toggle-toggles c).After-find_among) ∙ c.in-At.is in
-    judged _ _ _ x (toggle_decided _ x _ s.pre.1.1 _ (standing (goal.at.returns-else-toggle-toggles c).After-find_among c.in-At.is) first c.if-toggle-toggles.false)
+    let x = c.requires.examined in
+    let first = sym (found_first _ x _ (ranged (goal.at.returns-else-toggle-toggles c).Start)) ∙ sym (sought (goal.at.returns-else-toggle-toggles c).After-find_among) ∙ c.in-At.is in
+    judged _ _ _ x (toggle_decided _ x _ c.requires.toggle_value _ (standing (goal.at.returns-else-toggle-toggles c).After-find_among c.in-At.is) first c.if-toggle-toggles.false)
 
 pub returns-in-Nothing : goal.returns-in-Nothing
 returns-in-Nothing c =
-    let s = start c in
     let stands = standing (goal.at.returns-in-Nothing c).After-find_among c.in-Nothing.is in
-    rw c.absent.ensures (judged _ _ _ s.pre.1.0 (absent-decided _ s.pre.1.0 _ s.pre.1.1 stands))
+    rw c.absent.ensures (judged _ _ _ c.requires.examined (absent-decided _ c.requires.examined _ c.requires.toggle_value stands))
 
 pub slice_bounds-ids-count : goal.slice_bounds-ids-count
 slice_bounds-ids-count c = begins 1024 0

@@ -18,15 +18,11 @@ made s =
     let a = s.args in
     replica_as a.site a.characters.now a.toggles.now a.n a.pending.now a.w a.heads.now a.links.now
 
--- where the function starts
-abbrev start : Else-not-check → Start
-start c = c.before.before.before.before.before.before.before.before.before
-
 ranged : (c : Else-not-in_range) → in_range c.args.operation ≡ true
 ranged c = passed c.in_range.ensures c.if-not-in_range.false-raw
 
-examined : (c : Else-not-check) → Examined (made (start c))
-examined c = lent_examined _ _ _ (start c).requires (passed c.check.ensures c.if-not-check.false-raw)
+examined : (c : Else-not-check) → Examined (made c)
+examined c = lent_examined _ _ _ c.requires (passed c.check.ensures c.if-not-check.false-raw)
 
 pub returns-then-not-in_range : goal.returns-then-not-in_range
 returns-then-not-in_range c = unranged (made c) _ (failed c.in_range.ensures c.if-not-in_range.true-raw)
@@ -40,7 +36,7 @@ pub decide_insert-requires : goal.decide_insert-requires
 unfolding in_range
 decide_insert-requires c =
     record {
-      sized = (start c).requires;
+      sized = c.requires;
       examined = examined (goal.at.decide_insert-requires c).Else-not-check;
       insert_value = rw c.in-Insert.is at (ranged (goal.at.decide_insert-requires c).Else-not-in_range);
     }
@@ -49,7 +45,7 @@ pub decide_toggle-requires : goal.decide_toggle-requires
 unfolding in_range
 decide_toggle-requires c =
     record {
-      sized = (start c).requires;
+      sized = c.requires;
       examined = examined (goal.at.decide_toggle-requires c).Else-not-check;
       toggle_value = rw c.in-Toggle.is at (ranged (goal.at.decide_toggle-requires c).Else-not-in_range);
     }

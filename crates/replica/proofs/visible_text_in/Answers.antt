@@ -11,24 +11,20 @@ use Rattle.well_formed.proofs.Examining.{lent_examined, few}
 use Rattle.replica.specs.Outcomes.{replica_lent}
 use Rattle.replica.proofs.Writing.{unformed_text, formed-text, written-points, written-toggles}
 use borrow.Author.Rules.{rules}
-use Rattle.replica.proofs.visible_text_in.Goals.{After-check, Else-not-check, Start}
+use Rattle.replica.proofs.visible_text_in.Goals.{After-check, Else-not-check}
 use Rattle.replica.proofs.visible_text_in.Goals as goal
-
--- where the function starts
-abbrev start : After-check → Start
-start c = c.before.before.before.before.before.before.before
 
 -- the replica in the arrays that were lent
 abbrev lent : After-check → Replica
 lent c =
-    let a = (start c).args in
+    let a = c.args in
     replica_lent a.site a.characters.now a.toggles.now a.n a.pending.now a.w a.heads.now a.links.now
 
 formed : (c : Else-not-check) → replica_well_formed (lent c) ≡ true
 formed c = passed (c.check.ensures ∙ sym (form_view (lent c))) c.if-not-check.false-raw
 
 examined : (c : Else-not-check) → Examined (viewed (lent c))
-examined c = lent_examined _ _ _ (start c).requires (sym (form_view (lent c)) ∙ formed c)
+examined c = lent_examined _ _ _ c.requires (sym (form_view (lent c)) ∙ formed c)
 
 pub returns-then-not-check : goal.returns-then-not-check
 returns-then-not-check c =
@@ -41,7 +37,7 @@ returns-then-not-check c =
 
 pub write_text-requires : goal.write_text-requires
 write_text-requires c =
-    let sized = (start c).requires in
+    let sized = c.requires in
     record {
       characters_len = sized.characters;
       toggles_len = sized.toggles;

@@ -5,7 +5,6 @@ use mathlib.Core.Path.{sym, ◌∙◌}
 use borrow.Author.Rules.{rules}
 use borrow.Author.Tests.{not-true, not-false}
 use Rattle.sifting.proofs.Keeping.{KeepLoop, keep-begun, keep_tabled, keep-end, keep-more, keep_conflict}
-use Rattle.sifting.proofs.keep_once.Goals.{At-loop-i, Start}
 use Rattle.sifting.proofs.keep_once.Goals as goal
 
 pub loop-i-init : goal.loop-i-init
@@ -24,24 +23,20 @@ keep_next-kept-requires c =
       tabled = keep_tabled l;
     }
 
--- where the function starts
-abbrev start : At-loop-i → Start
-start c = c.before.before.before.before.before.before.before.before.before.before.before.before
-
 -- the table keeps its sizes
 pub shape_of-heads-then-not-kept : goal.shape_of-heads-then-not-kept
 shape_of-heads-then-not-kept c =
-    c.keep_next-kept.auto.heads ∙ (keep_tabled c.loop-i.invariant).heads ∙ sym (start c).requires.1.1.0
+    c.keep_next-kept.auto.heads ∙ (keep_tabled c.loop-i.invariant).heads ∙ sym c.requires.heads_len
 
 pub shape_of-links-then-not-kept : goal.shape_of-links-then-not-kept
 shape_of-links-then-not-kept c =
-    c.keep_next-kept.auto.links ∙ (keep_tabled c.loop-i.invariant).links ∙ sym (start c).requires.1.1.1
+    c.keep_next-kept.auto.links ∙ (keep_tabled c.loop-i.invariant).links ∙ sym c.requires.links_len
 
 pub shape_of-heads : goal.shape_of-heads
-shape_of-heads c = (keep_tabled c.loop-i.invariant).heads ∙ sym (start c).pre.1.1.0
+shape_of-heads c = (keep_tabled c.loop-i.invariant).heads ∙ sym c.requires.heads_len
 
 pub shape_of-links : goal.shape_of-links
-shape_of-links c = (keep_tabled c.loop-i.invariant).links ∙ sym (start c).pre.1.1.1
+shape_of-links c = (keep_tabled c.loop-i.invariant).links ∙ sym c.requires.links_len
 
 pub returns-then-not-kept : goal.returns-then-not-kept
 returns-then-not-kept c =

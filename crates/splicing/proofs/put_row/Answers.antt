@@ -59,7 +59,7 @@ slice_bounds-put_file-end c =
 
 -- the rows after it begin in the bytes
 to_le : (c : After-put_file-arg-1) → c.start_of-to.result ≤ length c.args.body.now
-to_le c = start-le (known c).spelled (c.args.k + c.args.skip) (to_is c)
+to_le c = start-le (known c).spelled (c.args.k + c.args.skip) (c.start_of-to.ensures ∙ start_is (known c).spelled (c.args.k + c.args.skip) _ (all_held c) (omega (arith, all_held c, (known c).place)))
 
 pub returns : goal.returns
 unfolding state_in

@@ -12,54 +12,50 @@ use borrow.Author.Rules.{rules}
 use Rattle.typing.proofs.inscribe.Goals.{After-set_number, After-set_number-2, After-set_number-3, After-slice_known-5-1, Start}
 use Rattle.typing.proofs.inscribe.Goals as goal
 
--- where the function starts, and what each store leaves of its part
-abbrev start : After-set_number → Start
-start c = c.before.before.before.before.before.before.before
-
-abbrev first : After-set_number-2 → After-set_number
-first c = c.before.before.before.before.before
-
-abbrev second : After-set_number-3 → After-set_number-2
-second c = c.before.before.before.before.before
-
 size : (s : Start) → length s.args.typed.now ≡ 4096
 size s = s.requires.typed_len
 
 wide_1 : (c : After-set_number) → length c.set_number.new.a ≡ 1024
-wide_1 c = omega (arith, c.set_number.auto.a, column-length 1024 0 (start c).args.typed.now (omega (arith, size (start c))))
+wide_1 c = omega (arith, c.set_number.auto.a, column-length 1024 0 c.args.typed.now (omega (arith, c.requires.typed_len)))
 
 wide_2 : (c : After-set_number-2) → length c.set_number-2.new.a ≡ 1024
 wide_2 c =
-    let xs = (start (first c)).args.typed.now in
-    let z = size (start (first c)) in
-    let part = second-before 1024 xs z (first c).set-number.new.0 (wide_1 (first c)) in
+    let xs = (start c).args.typed.now in
+    let z = size (start c) in
+    let part = second-before 1024 xs z c.set_number.new.a (omega (arith, c.set_number.auto.a, column-length 1024 0 c.args.typed.now (omega (arith, c.requires.typed_len)))) in
     omega (arith, c.set_number-2.auto.a, ap length part, column-length 1024 1 xs (omega (arith, z)))
 
 wide_3 : (c : After-set_number-3) → length c.set_number-3.new.a ≡ 1024
 wide_3 c =
-    let a = first (second c) in
-    let xs = (start a).args.typed.now in
-    let z = size (start a) in
-    let part = third-before 1024 xs z a.set-number.last.0 (wide_1 a) (second c).set-number2.new.0 (wide_2 (second c)) in
+    let a = first c in
+    let xs = a.args.typed.now in
+    let z = size a in
+    let part = third-before 1024 xs z a.set-number.last.0 (wide_1 a) c.set_number-2.new.a (let xs = (start c).args.typed.now in
+    let z = size (start c) in
+    let part = second-before 1024 xs z c.set_number.new.a (omega (arith, c.set_number.auto.a, column-length 1024 0 c.args.typed.now (omega (arith, c.requires.typed_len)))) in
+    omega (arith, c.set_number-2.auto.a, ap length part, column-length 1024 1 xs (omega (arith, z)))) in
     omega (arith, c.set_number-3.auto.a, ap length part, column-length 1024 2 xs (omega (arith, z)))
 
 -- what the last part holds before its store
 abbrev last-part : After-set_number-3 → List ℕ
 last-part c =
-    let a = first (second c) in
-    let once = a.set-number.last.0 ++ drop 1024 (start a).args.typed.now in
-    take 1024 (drop 3072 (put_mid 2048 1024 (put_mid 1024 1024 once (second c).set-number2.new.0) c.set-number3.new.0))
+    let a = first c in
+    let once = a.set-number.last.0 ++ drop 1024 a.args.typed.now in
+    take 1024 (drop 3072 (put_mid 2048 1024 (put_mid 1024 1024 once c.set-number2.new.0) c.set-number3.new.0))
 
-last-is : (c : After-set_number-3) → last-part c ≡ column 1024 3 (start (first (second c))).args.typed.now
+last-is : (c : After-set_number-3) → last-part c ≡ column 1024 3 (start (first c)).args.typed.now
 last-is c =
-    let a = first (second c) in
-    let z = size (start a) in
-    fourth_before 1024 (start a).args.typed.now z a.set-number.last.0 (wide_1 a) (second c).set-number2.new.0 (wide_2 (second c))
+    let a = first c in
+    let z = size a in
+    fourth_before 1024 a.args.typed.now z a.set-number.last.0 (wide_1 a) c.set_number-2.new.a (let xs = (start c).args.typed.now in
+    let z = size (start c) in
+    let part = second-before 1024 xs z c.set_number.new.a (omega (arith, c.set_number.auto.a, column-length 1024 0 c.args.typed.now (omega (arith, c.requires.typed_len)))) in
+    omega (arith, c.set_number-2.auto.a, ap length part, column-length 1024 1 xs (omega (arith, z))))
     c.set_number-3.new.a (wide_3 c)
 
 last_wide : (c : After-set_number-3) → length (last-part c) ≡ 1024
 last_wide c =
-    let s = start (first (second c)) in
+    let s = start (first c) in
     ap length (last-is c) ∙ column-length 1024 3 s.args.typed.now (omega (arith, size s))
 
 pub slice_bounds-set_number-end-2 : goal.slice_bounds-set_number-end-2
@@ -72,53 +68,64 @@ set_number-requires c =
 
 pub set_number-requires-4 : goal.set_number-requires-4
 set_number-requires-4 c =
-    let a = first (second c) in
-    omega (arith, (start a).pre.0, last_wide (goal.at.set_number-requires-4 c).After-set_number-3)
-
--- the last part, and the whole
-abbrev third : After-slice_known-5-1 → After-set_number-3
-third c = c.before.before.before.before.before.before
+    let a = first c in
+    omega (arith, a.pre.0, last_wide (goal.at.set_number-requires-4 c).After-set_number-3)
 
 wide_4 : (c : After-slice_known-5-1) → length c.set_number-4.new.a ≡ 1024
 wide_4 c =
-    let d = third c in
-    omega (arith, c.set_number-4.auto.a, last_wide d)
+    omega (
+      arith,
+      c.set_number-4.auto.a,
+      (let s = start (first c) in
+          ap length (let a = first c in
+          let z = size a in
+          fourth_before 1024 a.args.typed.now z a.set-number.last.0 (wide_1 a) c.set_number-2.new.a (let xs = (start c).args.typed.now in
+          let z = size (start c) in
+          let part = second-before 1024 xs z c.set_number.new.a (omega (arith, c.set_number.auto.a, column-length 1024 0 c.args.typed.now (omega (arith, size c)))) in
+          omega (arith, c.set_number-2.auto.a, ap length part, column-length 1024 1 xs (omega (arith, z))))
+          c.set_number-3.new.a (let a = first c in
+          let xs = a.args.typed.now in
+          let z = size a in
+          let part = third-before 1024 xs z a.set-number.last.0 (wide_1 a) c.set_number-2.new.a (let xs = (start c).args.typed.now in
+          let z = size (start c) in
+          let part = second-before 1024 xs z c.set_number.new.a (wide_1 c) in
+          omega (arith, c.set_number-2.auto.a, ap length part, column-length 1024 1 xs (omega (arith, z)))) in
+          omega (arith, c.set_number-3.auto.a, ap length part, column-length 1024 2 xs (omega (arith, z))))) ∙ column-length 1024 3 s.args.typed.now (omega (arith, size s))),
+    )
 
 pub shape_of-typed : goal.shape_of-typed
 shape_of-typed c =
-    let d = third c in
-    let a = first (second d) in
-    let xs = (start a).args.typed.now in
-    let z = size (start a) in
+    let a = first c in
+    let xs = a.args.typed.now in
+    let z = size a in
     let vs = a.set-number.last.0 in
-    let bs = (second d).set-number2.last.0 in
-    let cs = d.set-number3.last.0 in
+    let bs = c.set_number-2.new.a in
+    let cs = c.set_number-3.new.a in
     let ds = c.set_number-4.new.a in
-    let whole = ap (λ (l : List ℕ). length l) (all_replaced 1024 xs z vs (wide_1 a) bs (wide_2 (second d)) cs (wide_3 d) ds) in
+    let whole = ap (λ (l : List ℕ). length l) (all_replaced 1024 xs z vs (wide_1 a) bs (wide_2 (goal.at.shape_of-typed c).After-set_number-2) cs (wide_3 (goal.at.shape_of-typed c).After-set_number-3) ds) in
     let sizes = length-append vs (bs ++ (cs ++ ds)) in
-    omega (arith, whole, z, wide_1 a, wide_2 (second d), wide_3 d, wide_4 (goal.at.shape_of-typed c).After-slice_known-5-1, sizes, length-append bs (cs ++ ds), length-append cs ds)
+    omega (arith, whole, z, wide_1 a, wide_2 (goal.at.shape_of-typed c).After-set_number-2, wide_3 (goal.at.shape_of-typed c).After-set_number-3, wide_4 (goal.at.shape_of-typed c).After-slice_known-5-1, sizes, length-append bs (cs ++ ds), length-append cs ds)
 
 pub returns : goal.returns
 returns c =
-    let d = third c in
-    let a = first (second d) in
-    let s = start a in
+    let a = first c in
+    let s = a in
     let xs = s.args.typed.now in
     let z = size s in
     let vs = a.set-number.last.0 in
-    let bs = (second d).set-number2.last.0 in
-    let cs = d.set-number3.last.0 in
+    let bs = c.set_number-2.new.a in
+    let cs = c.set_number-3.new.a in
     let ds = c.set_number-4.new.a in
-    let e = columns-are 1024 xs z vs (wide_1 a) bs (wide_2 (second d)) cs (wide_3 d) ds (wide_4 (goal.at.returns c).After-slice_known-5-1) in
+    let e = columns-are 1024 xs z vs (wide_1 a) bs (wide_2 (goal.at.returns c).After-set_number-2) cs (wide_3 (goal.at.returns c).After-set_number-3) ds (wide_4 (goal.at.returns c).After-slice_known-5-1) in
     record {
       ids = e.0 ∙ a.set-number.ensures ∙ ap (λ (x : ℕ). set (column 1024 0 xs) s.args.i x) a.before.key.ensures.0;
       previous =
-          e.1 ∙ (second d).set-number2.ensures
-          ∙ ap₂ (λ (l : List ℕ) (x : ℕ). set l s.args.i x) (second-before 1024 xs z vs (wide_1 a)) (second d).before.key2.ensures.0;
+          e.1 ∙ c.set_number-2.ensures
+          ∙ ap₂ (λ (l : List ℕ) (x : ℕ). set l s.args.i x) (second-before 1024 xs z vs (wide_1 a)) c.key-2.ensures.value;
       next =
-          e.2 ∙ d.set-number3.ensures
-          ∙ ap₂ (λ (l : List ℕ) (x : ℕ). set l s.args.i x) (third-before 1024 xs z vs (wide_1 a) bs (wide_2 (second d))) d.before.key3.ensures.0;
+          e.2 ∙ c.set_number-3.ensures
+          ∙ ap₂ (λ (l : List ℕ) (x : ℕ). set l s.args.i x) (third-before 1024 xs z vs (wide_1 a) bs (wide_2 (goal.at.returns c).After-set_number-2)) c.key-3.ensures.value;
       points =
           e.3 ∙ c.set_number-4.ensures
-          ∙ ap (λ (l : List ℕ). set l s.args.i s.args.insert.code_point) (last-is d);
+          ∙ ap (λ (l : List ℕ). set l s.args.i s.args.insert.code_point) (last-is (goal.at.returns c).After-set_number-3);
     }

@@ -30,17 +30,23 @@ counted s =
 few : (s : Start) → length (points_in s.args.count s.args.typed.now) ≤ 1024
 few s = omega (arith, counted s, s.requires.count_le_character_slots)
 
--- where the function starts
-abbrev start : In-loop-i → Start
-start c = c.before.before.before.before.before.before.before.before
-
-short : (c : In-loop-i) → c.loop-i.i < length (points_in (start c).args.count (start c).args.typed.now)
-short c = omega (arith, c.loop-i-test.true, counted (start c))
+short : (c : In-loop-i) → c.loop-i.i < length (points_in c.args.count c.args.typed.now)
+short c = omega (
+  arith,
+  c.loop-i-test.true,
+  (length-take-le c.args.count (code_point_column c.args.typed.now)
+      (omega (arith, c.requires.count_le_character_slots, column-length 1024 3 c.args.typed.now (omega (arith, c.requires.typed_len))))),
+)
 
 -- the code point that is lent on
 read : (c : In-loop-i)
-    → get_or c.loop-i.typed (3072 + c.loop-i.i) 0 ≡ get_or (points_in (start c).args.count (start c).args.typed.now) c.loop-i.i 0
-read c = point-read c.loop-i.invariant.2.columns c.loop-i.i (short c) (few (start c))
+    → get_or c.loop-i.typed (3072 + c.loop-i.i) 0 ≡ get_or (points_in c.args.count c.args.typed.now) c.loop-i.i 0
+read c = point-read c.loop-i.invariant.2.columns c.loop-i.i (short c) (omega (
+  arith,
+  (length-take-le c.args.count (code_point_column c.args.typed.now)
+      (omega (arith, c.requires.count_le_character_slots, column-length 1024 3 c.args.typed.now (omega (arith, c.requires.typed_len))))),
+  c.requires.count_le_character_slots,
+))
 
 pub loop-i-init : goal.loop-i-init
 loop-i-init c =
@@ -51,23 +57,23 @@ pub type_next-step-requires : goal.type_next-step-requires
 type_next-step-requires c =
     let v = c.loop-i.invariant in
     let x = going_typeable v.2 (short (goal.at.type_next-step-requires c).In-loop-i) in
-    let room = waiting (start (goal.at.type_next-step-requires c).Start) in
+    let room = waiting (goal.at.type_next-step-requires c).Start in
     record {
       sized = v.0;
       typeable = rw (read (goal.at.type_next-step-requires c).In-loop-i) x;
-      waiting_bound = omega (arith, v.2.balance, short (goal.at.type_next-step-requires c).In-loop-i, few (start (goal.at.type_next-step-requires c).Start), room);
+      waiting_bound = omega (arith, v.2.balance, short (goal.at.type_next-step-requires c).In-loop-i, few (goal.at.type_next-step-requires c).Start, room);
     }
 
 pub inscribe-requires : goal.inscribe-requires
 inscribe-requires c =
     record {
-      i_lt_character_slots = omega (arith, short (goal.at.inscribe-requires c).In-loop-i, few (start (goal.at.inscribe-requires c).Start));
+      i_lt_character_slots = omega (arith, short (goal.at.inscribe-requires c).In-loop-i, few (goal.at.inscribe-requires c).Start);
       typed_len = c.loop-i.invariant.1;
     }
 
 pub overflow_add-i-in-loop-i : goal.overflow_add-i-in-loop-i
 overflow_add-i-in-loop-i c =
-    omega (arith, short (goal.at.overflow_add-i-in-loop-i c).In-loop-i, few (start (goal.at.overflow_add-i-in-loop-i c).Start))
+    omega (arith, short (goal.at.overflow_add-i-in-loop-i c).In-loop-i, few (goal.at.overflow_add-i-in-loop-i c).Start)
 
 pub loop-i-smaller : goal.loop-i-smaller
 loop-i-smaller c = omega (arith, c.loop-i-test.true)
@@ -99,7 +105,7 @@ loop-i-preserved c =
     in (
       sized_still v.0 c.type_next-step.auto.characters c.type_next-step.auto.toggles c.type_next-step.auto.pending c.type_next-step.auto.heads c.type_next-step.auto.links,
       c.inscribe.auto.typed ∙ v.1,
-      going_again v.2 (short (goal.at.loop-i-preserved c).In-loop-i) (few (start (goal.at.loop-i-preserved c).Start)) t c.inscribe.ensures,
+      going_again v.2 (short (goal.at.loop-i-preserved c).In-loop-i) (few (goal.at.loop-i-preserved c).Start) t c.inscribe.ensures,
     )
 
 pub returns : goal.returns

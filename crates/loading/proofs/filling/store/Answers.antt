@@ -11,19 +11,19 @@ use Rattle.loading.proofs.filling.store.Goals as goal
 pub bounds-columns-m : goal.bounds-columns-m
 bounds-columns-m c =
     let a = c.args in
-    omega (arith, (c.requires.i_lt_m, (c.requires.columns_len, c.requires.m_bound)), length-set a.columns.now a.i a.w)
+    omega (arith, c.requires, length-set a.columns.now a.i a.w)
 
 pub bounds-columns-m-2 : goal.bounds-columns-m-2
 bounds-columns-m-2 c =
     let a = c.args in
-    omega (arith, (c.requires.i_lt_m, (c.requires.columns_len, c.requires.m_bound)), length-set a.columns.now a.i a.w, length-set (set a.columns.now a.i a.w) (a.m + a.i) a.x)
+    omega (arith, c.requires, length-set a.columns.now a.i a.w, length-set (set a.columns.now a.i a.w) (a.m + a.i) a.x)
 
 pub bounds-columns-m-3 : goal.bounds-columns-m-3
 bounds-columns-m-3 c =
     let a = c.args in
     omega (
       arith,
-      (c.requires.i_lt_m, (c.requires.columns_len, c.requires.m_bound)),
+      c.requires,
       length-set a.columns.now a.i a.w,
       length-set (set a.columns.now a.i a.w) (a.m + a.i) a.x,
       length-set (set (set a.columns.now a.i a.w) (a.m + a.i) a.x) (2 * a.m + a.i) a.y,

@@ -8,19 +8,16 @@ use Rattle.lines.specs.Fields.{tab}
 use Rattle.lines.proofs.Sizes.{line_some}
 use Rattle.codec.proofs.Answers.{put-after, offset_fitted}
 use Rattle.transcript.proofs.Heads.{Front, head-put}
-use Rattle.transcript.proofs.report.put_report.Goals.{After-put_all-end, Start}
+use Rattle.transcript.proofs.report.put_report.Goals.{After-put_all-end}
 use Rattle.transcript.proofs.report.put_report.Goals as goal
 
-abbrev start : After-put_all-end → Start
-start c = c.before.before.before.before.before.before.before.before.before.before
-
 -- the head is in the array
-head : (c : After-put_all-end) → Front (digits (start c).args.number ++ tab ∷ (start c).args.word.now) c.put_all-end.new.out c.put_all-end.result
+head : (c : After-put_all-end) → Front (digits c.args.number ++ tab ∷ c.args.word.now) c.put_all-end.new.out c.put_all-end.result
 head c =
     let p = c.write-end.ensures in
     let q = c.put-end.ensures in
     let r = c.put_all-end.ensures in
-    head-put (start c).args.number (start c).args.word.now _ refl (start c).ranges.number.fits (start c).requires p.0 p.1 q.0 q.1 r.0 r.1
+    head-put c.args.number c.args.word.now _ refl c.ranges.number.fits c.requires p.0 p.1 q.0 q.1 r.0 r.1
 
 pub slice_bounds-head-end : goal.slice_bounds-head-end
 slice_bounds-head-end c = (head (goal.at.slice_bounds-head-end c).After-put_all-end).fits
