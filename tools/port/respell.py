@@ -149,6 +149,7 @@ def main(argv):
         becomes = json.load(open(table, encoding="utf-8"))
     else:
         json.dump(becomes, open(table, "w", encoding="utf-8"), indent=1, ensure_ascii=False, sort_keys=True)
+    source_fields = {f for p, t in texts.items() if p.endswith(".rt") for f in re.findall(r"^\s+(?:pub )?(\w+): ", t, re.M)}
     changed = 0
     captured = []
     for p, text in texts.items():
@@ -179,6 +180,9 @@ def main(argv):
         def turn(m):
             n, at = m[0], m.start()
             before = whole[at - 1] if at else " "
+            # a field of a record of the sources, in a record that is made
+            if n in source_fields and re.match(r"\s=\s", whole[m.end() : m.end() + 3]) and re.search(r"(?:[{;(]|^)\s*$", whole[max(0, at - 60) : at], re.M):
+                return n
             if before == ".":
                 head = re.search(r"([\w.+'·-]+)\.$", whole[max(0, at - 200) : at])
                 if head:

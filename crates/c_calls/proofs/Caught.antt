@@ -158,7 +158,7 @@ module _ (bytes out : List ℕ) where
   unfolding handed_checks input_checks
   listed_so w =
       record {
-        laid_out_lem = and_left_lem (saved_laid_out bytes) true (not-false _ w.0);
+        laid_out = and_left_lem (saved_laid_out bytes) true (not-false _ w.0);
         in-range = and_left_lem (saved_in_range bytes) true (not-false _ w.1.0);
         formed = list-formed bytes w;
       }
@@ -179,7 +179,7 @@ list-writes bytes out d =
     let w = listed-done bytes out d in
     let back = list-reads-back (listing s) in
     record {
-      list_written_lem = w.1;
+      list_written = w.1;
       list-laid-out = ap list_laid_out w.1 ∙ back.0;
       list-says = ap list_said w.1 ∙ back.1;
     }
@@ -205,7 +205,7 @@ module _ (bytes list out : List ℕ) where
   unfolding handed_checks
   answered_so w =
       record {
-        laid_out_lem = and_left_lem (saved_laid_out bytes) (list_laid_out list) (not-false _ w.0);
+        laid_out = and_left_lem (saved_laid_out bytes) (list_laid_out list) (not-false _ w.0);
         in-range = and_left_lem (saved_in_range bytes) (listing_in_range (list_said list)) (not-false _ w.1.0);
         formed = answer-formed bytes list w;
       }
@@ -225,7 +225,7 @@ module _ (bytes list out : List ℕ) where
       let laid = not-false (saved_laid_out bytes && list_laid_out list) a.0 in
       let ranged = not-false (saved_in_range bytes && listing_in_range (list_said list)) b.0 in (
         record {
-          laid_out_lem = and_left_lem (saved_laid_out bytes) (list_laid_out list) laid;
+          laid_out = and_left_lem (saved_laid_out bytes) (list_laid_out list) laid;
           list-laid-out = and_right (saved_laid_out bytes) (list_laid_out list) laid;
           in-range = and_left_lem (saved_in_range bytes) (listing_in_range (list_said list)) ranged;
           list-in-range = and_right (saved_in_range bytes) (listing_in_range (list_said list)) ranged;

@@ -115,11 +115,11 @@ fits-read-back b x n f =
     let p = parts-read-back w x.reply.refusal x.reply.integrated x.reply.discarded x.written x.line in
     let few : w < 4 = word-few x.reply.word in
     record {
-      word_read_lem = omega (arith, p.word_back);
+      word_read = omega (arith, p.word_back);
       refusal-read = omega (arith, p.refusal-back, f.refusal-fits);
       integrated-read = omega (arith, p.integrated-back, f.integrated-fits, ltb-true b.integrated 4096 k.0);
       discarded-read = omega (arith, p.discarded-back, f.discarded-fits, ltb-true b.discarded 4096 k.1);
-      written_read_lem = omega (arith, p.written_back, f.written-fits, ltb-true b.written 65536 k.2);
+      written_read = omega (arith, p.written_back, f.written-fits, ltb-true b.written 65536 k.2);
       line_read = omega (arith, p.line-back, f.line-fits, ltb-true b.line 65536 k.3);
     }
 

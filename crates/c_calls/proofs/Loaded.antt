@@ -105,7 +105,7 @@ module _ (bytes out : List ℕ) where
   unfolding handed_checks rule_checks input_checks use_checks
   passed_so w = (
     record {
-      laid_out_lem = and_left_lem (saved_laid_out bytes) true (not-false _ w.0);
+      laid_out = and_left_lem (saved_laid_out bytes) true (not-false _ w.0);
       in-range = and_left_lem (saved_in_range bytes) true (not-false _ w.1.0);
       formed = not-false (well_formed said) w.1.1.0;
     },
@@ -154,7 +154,7 @@ module _ (bytes out : List ℕ) where
       let b = skipped (other (λ z. omega arith)) a.1 in
       let d = skipped (other (λ z. omega arith)) b.1 in (
         record {
-          laid_out_lem = and_left_lem (saved_laid_out bytes) true (not-false _ a.0);
+          laid_out = and_left_lem (saved_laid_out bytes) true (not-false _ a.0);
           in-range = and_left_lem (saved_in_range bytes) true (not-false _ b.0);
           formed = not-false (well_formed said) d.0;
         },

@@ -107,7 +107,7 @@ starts-example = (
     bytes-built = refl;
     one-left-out = refl;
     carried-out = refl;
-    goes_on_lem = refl;
+    goes_on = refl;
     rules-after = refl;
     none-built = refl;
     begins-empty = refl;
@@ -193,5 +193,5 @@ archived-example =
       three = refl;
       nineteen = refl;
       two = refl;
-      goes_on_lem = refl;
+      goes_on = refl;
     }

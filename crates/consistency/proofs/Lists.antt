@@ -136,7 +136,7 @@ module _ (r : Replica) (s : State) (m : Means r s) (out : List ℕ) where
 saved_in_form : (s : State) → well_formed s ≡ true → InForm (saved_bytes s)
 saved_in_form s h =
     record {
-      laid_out_lem = saved_laid Second s;
+      laid_out = saved_laid Second s;
       in-range = in_range-back Second s h (second-says s);
       formed = ap well_formed (saved_loads s h) ∙ h;
     }

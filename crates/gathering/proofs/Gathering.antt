@@ -63,7 +63,7 @@ counted os (insert i) =
     let same : length (toggles_among os) ≡ length (toggles_among (os ++ insert i ∷ [])) =
     sym (ap length (toggles-append os (insert i ∷ []) ∙ append-nil (toggles_among os))) in
     λ j. record {
-      laid_out_lem = true;
+      laid_out = true;
       in_range = sym (every_more in_range os (insert i)) j;
       inserts = more j;
       toggles = same j;
@@ -74,7 +74,7 @@ counted os (toggle t) =
     let same : length (inserts os) ≡ length (inserts (os ++ toggle t ∷ [])) =
     sym (ap length (inserts-append os (toggle t ∷ []) ∙ append-nil (inserts os))) in
     λ j. record {
-      laid_out_lem = true;
+      laid_out = true;
       in_range = sym (every_more in_range os (toggle t)) j;
       inserts = same j;
       toggles = more j;
@@ -246,7 +246,7 @@ pub record GatherLoop (s xs ts : List ℕ) (g : Gathered) (left : List ℕ) : Ty
   pub small : length done + length left ≤ length s
 
 pub gather_begun : (s xs ts : List ℕ) → length xs ≡ 4096 → length ts ≡ 2048
-    → GatherLoop s xs ts (record { laid_out_lem = true; in_range = true; inserts = 0; toggles = 0 }) s
+    → GatherLoop s xs ts (record { laid_out = true; in_range = true; inserts = 0; toggles = 0 }) s
 unfolding gathered_of
 gather_begun s xs ts h k =
     record {

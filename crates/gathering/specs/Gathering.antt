@@ -15,13 +15,13 @@ use Rattle.heap.specs.Columns.{InsertsIn, TogglesIn}
 
 -- with a line that lacks the layout nothing is told
 unfoldable pub ungathered : Gathered
-ungathered = record { laid_out_lem = false; in_range = false; inserts = 0; toggles = 0 }
+ungathered = record { laid_out = false; in_range = false; inserts = 0; toggles = 0 }
 
 -- whether all are in range, and how many there are of either kind, "repeats counted"
 unfoldable pub gathered_of : List Operation → Gathered
 gathered_of os =
     record {
-      laid_out_lem = true;
+      laid_out = true;
       in_range = every in_range os;
       inserts = length (inserts os);
       toggles = length (toggles_among os);
@@ -43,7 +43,7 @@ pub record Held (xs ts : List ℕ) (os : List Operation) : Type 0 where
 unfoldable pub counted_one : Gathered → Bool → Bool → Gathered
 counted_one g isInsert passes =
     record {
-      laid_out_lem = true;
+      laid_out = true;
       in_range = g.in_range && passes;
       inserts = cond isInsert (g.inserts + 1) g.inserts;
       toggles = cond isInsert g.toggles (g.toggles + 1);

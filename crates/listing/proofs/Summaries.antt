@@ -80,7 +80,7 @@ module _ (l : Listing) (k : Chunk) where
         let count-is : min 1024 (min 1024 (length l.chunks) + 1) ≡ min 1024 (length (l.chunks ++ k ∷ [])) =
         omega arith in
         λ j. record {
-          laid_out_lem = true;
+          laid_out = true;
           in_range = true;
           total = l.total;
           sound = sound_more j;

@@ -39,7 +39,7 @@ chunk_read line = cond (is_chunk line) (chunk_read_as (chunk_said line)) Malform
 unfoldable pub without_layout : Summary
 without_layout =
     record {
-      laid_out_lem = false;
+      laid_out = false;
       in_range = false;
       total = 0;
       sound = false;
@@ -51,7 +51,7 @@ without_layout =
 unfoldable pub out_of_range : Summary
 out_of_range =
     record {
-      laid_out_lem = true;
+      laid_out = true;
       in_range = false;
       total = 0;
       sound = false;
@@ -63,7 +63,7 @@ out_of_range =
 unfoldable pub total_alone : ℕ → Summary
 total_alone total =
     record {
-      laid_out_lem = true;
+      laid_out = true;
       in_range = true;
       total = total;
       sound = true;
@@ -87,7 +87,7 @@ ones_and n word = min 1025 (n + ones word)
 unfoldable pub with_chunk : Summary → ℕ → ℕ → Summary
 with_chunk t head word =
     record {
-      laid_out_lem = true;
+      laid_out = true;
       in_range = true;
       total = t.total;
       sound = (t.sound && ltb t.last head) && not (marks_zero (chunk_as head word));
@@ -136,7 +136,7 @@ last_head n (k ∷ ks) = last_head (head_for k) ks
 unfoldable pub summary_of : Listing → Summary
 summary_of l =
     record {
-      laid_out_lem = true;
+      laid_out = true;
       in_range = true;
       total = l.total;
       sound = not (any marks_zero l.chunks) && in_sequence l.chunks;

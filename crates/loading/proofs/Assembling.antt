@@ -134,7 +134,7 @@ module _ (k : Rows) (s : List ℕ) (first : SiteLine) (f : first ≡ site_read (
         rows-good = every-leading (is_row k) (drop 1 (lines s))
 
         back_is : ◌≡◌ {A = Back} ps (record {
-          laid_out_lem = true;
+          laid_out = true;
           in_range = every (operation_passes v) (operation_lines (is_row k) s);
           count = length (operation_lines (is_row k) s);
         })
