@@ -27,24 +27,40 @@ lent c =
     replica_lent a.site a.characters.now a.toggles.now a.n a.pending.now a.w a.heads.now
     a.links.now
 
-formed : (c : Else-not-check) → replica_well_formed (lent c) ≡ true
-formed c = passed (c.check.ensures ∙ sym (form_view (lent c))) c.if-not-check.false-raw
+formed : (c : Else-not-check) → replica_well_formed (let a = c.args in
+    replica_lent a.site a.characters.now a.toggles.now a.n a.pending.now a.w a.heads.now
+    a.links.now) ≡ true
+formed c = passed (c.check.ensures ∙ sym (form_view (let a = c.args in
+    replica_lent a.site a.characters.now a.toggles.now a.n a.pending.now a.w a.heads.now
+    a.links.now))) c.if-not-check.false-raw
 
-examined : (c : Else-not-check) → Examined (viewed (lent c))
-examined c = lent_examined _ _ _ c.requires (sym (form_view (lent c)) ∙ formed c)
+examined : (c : Else-not-check) → Examined (viewed (let a = c.args in
+    replica_lent a.site a.characters.now a.toggles.now a.n a.pending.now a.w a.heads.now
+    a.links.now))
+examined c = lent_examined _ _ _ c.requires (sym (form_view (let a = c.args in
+    replica_lent a.site a.characters.now a.toggles.now a.n a.pending.now a.w a.heads.now
+    a.links.now)) ∙ formed c)
 
 -- the test of the rows
-made : (c : After-can_be_made) → c.can_be_made.result ≡ loadable (meaning (lent c)).characters
+made : (c : After-can_be_made) → c.can_be_made.result ≡ loadable (meaning (let a = c.args in
+    replica_lent a.site a.characters.now a.toggles.now a.n a.pending.now a.w a.heads.now
+    a.links.now)).characters
 made c =
-    let r = lent c in
-    let x = (lent_examined _ _ _ c.requires (sym (form_view (lent c)) ∙ (passed (c.check.ensures ∙ sym (form_view (lent c))) c.if-not-check.false-raw))) in
+    let r = (let a = c.args in
+    replica_lent a.site a.characters.now a.toggles.now a.n a.pending.now a.w a.heads.now
+    a.links.now) in
+    let x = (lent_examined _ _ _ c.requires (sym (form_view (let a = c.args in
+    replica_lent a.site a.characters.now a.toggles.now a.n a.pending.now a.w a.heads.now
+    a.links.now)) ∙ (passed (c.check.ensures ∙ sym (form_view (let a = c.args in
+    replica_lent a.site a.characters.now a.toggles.now a.n a.pending.now a.w a.heads.now
+    a.links.now))) c.if-not-check.false-raw))) in
     c.can_be_made.ensures (columns.meaning (viewed r)).characters (standing (form (viewed r) x).sound)
     (small (viewed r) x) (ids_used (viewed r) x) (previous_used (viewed r) x) (next_used (viewed r) x)
     ∙ sym (ap (λ (s : State). loadable s.characters) (meaning-view r))
 
 pub returns-then-not-check : goal.returns-then-not-check
 returns-then-not-check c =
-    let r = lent c in
+    let r = lent (goal.at.returns-then-not-check c).After-check in
     ap (λ (x : Admitted). x.answer)
     (admitted_unformed r (failed (c.check.ensures ∙ sym (form_view r)) c.if-not-check.true-raw))
 
@@ -60,9 +76,9 @@ can_be_made-requires c =
 pub returns-then-not-can_be_made : goal.returns-then-not-can_be_made
 returns-then-not-can_be_made c =
     ap (λ (x : Admitted). x.answer)
-    (admitted_unreachable (lent c) (formed (goal.at.returns-then-not-can_be_made c).Else-not-check) (failed (made (goal.at.returns-then-not-can_be_made c).After-can_be_made) c.if-not-can_be_made.true-raw))
+    (admitted_unreachable (lent (goal.at.returns-then-not-can_be_made c).After-check) (formed (goal.at.returns-then-not-can_be_made c).Else-not-check) (failed (made (goal.at.returns-then-not-can_be_made c).After-can_be_made) c.if-not-can_be_made.true-raw))
 
 pub returns : goal.returns
 returns c =
     ap (λ (x : Admitted). x.answer)
-    (admitted_done (lent c) (formed (goal.at.returns c).Else-not-check) (passed (made (goal.at.returns c).After-can_be_made) c.if-not-can_be_made.false-raw))
+    (admitted_done (lent (goal.at.returns c).After-check) (formed (goal.at.returns c).Else-not-check) (passed (made (goal.at.returns c).After-can_be_made) c.if-not-can_be_made.false-raw))

@@ -20,14 +20,17 @@ given s =
     replica_as a.site a.characters.now a.toggles.now a.n a.pending.now a.w a.heads.now a.links.now
 
 -- the tests that are passed
-examined : (c : Else-not-check) → Examined (given c)
+examined : (c : Else-not-check) → Examined (let a = c.args in
+    replica_as a.site a.characters.now a.toggles.now a.n a.pending.now a.w a.heads.now a.links.now)
 examined c = lent_examined _ _ _ c.requires (passed c.check.ensures c.if-not-check.false-raw)
 
-shown : (c : Else-count-point) → beyond_visible (meaning (given c)) c.args.point ≡ false
+shown : (c : Else-count-point) → beyond_visible (meaning (let a = c.args in
+    replica_as a.site a.characters.now a.toggles.now a.n a.pending.now a.w a.heads.now a.links.now)) c.args.point ≡ false
 shown c = seen _ _ c.args.count (lent_examined _ _ _ c.requires (passed c.check.ensures c.if-not-check.false-raw)) c.count.ensures c.if-count-point.false
 
 pub returns-then-not-check : goal.returns-then-not-check
-returns-then-not-check c = judged_unformed (given c) _ _ (failed c.check.ensures c.if-not-check.true-raw)
+returns-then-not-check c =
+    judged_unformed (given (goal.at.returns-then-not-check c).Start) _ _ (failed c.check.ensures c.if-not-check.true-raw)
 
 pub count-requires : goal.count-requires
 count-requires c = (fits _ (examined (goal.at.count-requires c).Else-not-check)).toggles

@@ -31,8 +31,12 @@ lentFrom s =
 abbrev lent : After-check → Replica
 lent c = lentFrom c
 
-formed : (c : Else-not-check) → replica_well_formed (lent c) ≡ true
-formed c = passed (c.check.ensures ∙ sym (form_view (lent c))) c.if-not-check.false-raw
+formed : (c : Else-not-check) → replica_well_formed (let a = c.args in
+    replica_lent a.site a.characters.now a.toggles.now a.n a.pending.now a.w a.heads.now
+    a.links.now) ≡ true
+formed c = passed (c.check.ensures ∙ sym (form_view (let a = c.args in
+    replica_lent a.site a.characters.now a.toggles.now a.n a.pending.now a.w a.heads.now
+    a.links.now))) c.if-not-check.false-raw
 
 -- the list was read
 read_so : (c : After-check) → ReadSo c.args.list.now
@@ -40,7 +44,7 @@ read_so c = was_read c.args.list.now (sym c.read-read.ensures.value ∙ c.in-Don
 
 pub returns-then-not-check : goal.returns-then-not-check
 returns-then-not-check c =
-    let r = lent c in
+    let r = lent (goal.at.returns-then-not-check c).After-check in
     let all = answer_unformed r c.args.list.now _ (read_so (goal.at.returns-then-not-check c).After-check)
     (failed (c.check.ensures ∙ sym (form_view r)) c.if-not-check.true-raw) in
     record {
@@ -50,7 +54,7 @@ returns-then-not-check c =
 
 pub put_answer-requires : goal.put_answer-requires
 put_answer-requires c =
-    let r = lent c in
+    let r = lent (goal.at.put_answer-requires c).After-check in
     let f = c.requires in
     let x = seen r f (formed (goal.at.put_answer-requires c).Else-not-check) in
     let n = few (viewed r) x in
@@ -69,7 +73,7 @@ put_answer-requires c =
 
 pub returns-in-Refused : goal.returns-in-Refused
 returns-in-Refused c =
-    let all = answer-refused (lentFrom c) c.args.list.now c.args.out.now
+    let all = answer-refused (lentFrom (goal.at.returns-in-Refused c).Start) c.args.list.now c.args.out.now
     (sym c.read-read.ensures.value ∙ c.in-Refused.is) in
     record {
       value = all.0;
@@ -78,7 +82,7 @@ returns-in-Refused c =
 
 pub returns-else-not-check : goal.returns-else-not-check
 returns-else-not-check c =
-    let r = lent c in
+    let r = lent (goal.at.returns-else-not-check c).After-check in
     let a = c.args in
     let rows = rows_in r.document.characters r.document.toggles r.document.length in
     let q = c.read-read.ensures.by_index _ c.in-Done.is in

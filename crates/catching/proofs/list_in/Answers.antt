@@ -26,12 +26,16 @@ lent c =
     replica_lent a.site a.characters.now a.toggles.now a.n a.pending.now a.w a.heads.now
     a.links.now
 
-formed : (c : Else-not-check) → replica_well_formed (lent c) ≡ true
-formed c = passed (c.check.ensures ∙ sym (form_view (lent c))) c.if-not-check.false-raw
+formed : (c : Else-not-check) → replica_well_formed (let a = c.args in
+    replica_lent a.site a.characters.now a.toggles.now a.n a.pending.now a.w a.heads.now
+    a.links.now) ≡ true
+formed c = passed (c.check.ensures ∙ sym (form_view (let a = c.args in
+    replica_lent a.site a.characters.now a.toggles.now a.n a.pending.now a.w a.heads.now
+    a.links.now))) c.if-not-check.false-raw
 
 pub returns-then-not-check : goal.returns-then-not-check
 returns-then-not-check c =
-    let r = lent c in
+    let r = lent (goal.at.returns-then-not-check c).After-check in
     let all = list_unformed r _ (failed (c.check.ensures ∙ sym (form_view r)) c.if-not-check.true-raw) in
     record {
       value = all.0;
@@ -40,7 +44,7 @@ returns-then-not-check c =
 
 pub put_list-requires : goal.put_list-requires
 put_list-requires c =
-    let r = lent c in
+    let r = lent (goal.at.put_list-requires c).After-check in
     let f = c.requires in
     record {
       characters_len = f.characters;
@@ -51,7 +55,7 @@ put_list-requires c =
 pub returns : goal.returns
 unfolding list_bytes_of
 returns c =
-    let r = lent c in
+    let r = lent (goal.at.returns c).After-check in
     let out = c.args.out.now in
     let w = c.put_list.ensures in
     let l = list-is r c.requires (formed (goal.at.returns c).Else-not-check) in

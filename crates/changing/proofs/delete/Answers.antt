@@ -19,10 +19,10 @@ send_made-requires c =
     let j = c.judge_delete-made.ensures in
     record {
       sized = c.requires;
-      sendable = sendable (lent c) _ _ j;
-      savable = delete_savable (lent c) _ _ j;
+      sendable = sendable (lent (goal.at.send_made-requires c).Start) _ _ j;
+      savable = delete_savable (lent (goal.at.send_made-requires c).Start) _ _ j;
     }
 
 pub returns : goal.returns
 returns c =
-    leaves_by (sent_as _ _ (delete_so (lent c) _ _ c.judge_delete-made.ensures) _ _) c.send_made.ensures
+    leaves_by (sent_as _ _ (delete_so (lent (goal.at.returns c).Start) _ _ c.judge_delete-made.ensures) _ _) c.send_made.ensures

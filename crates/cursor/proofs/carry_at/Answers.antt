@@ -19,9 +19,9 @@ before c =
 
 abbrev after : After-answer-answer → Replica
 after c =
-    let done = c.carry in
-    replica_lent done.result.site done.last.0 done.last.1.0 done.result.length done.last.1.1.0 done.result.waiting
-    done.last.1.1.1.0 done.last.1.1.1.1.0
+    let done = c.carry-carried in
+    replica_lent done.result.site done.new.characters done.new.toggles done.result.length done.new.pending done.result.waiting
+    done.new.heads done.new.links
 
 still : (c : After-answer-answer) → FullArrays (after c).document
 still c =
@@ -40,7 +40,7 @@ carry-carried-requires c =
 pub shift_with-shift-requires : goal.shift_with-shift-requires
 shift_with-shift-requires c =
     let p = c.requires in
-    let few = changed_few (before c) (after c) p.sized (still (goal.at.shift_with-shift-requires c).After-answer-answer) _ _ _ _ _ p.judged_at c.carry-carried.ensures _ c.answer-answer.ensures in
+    let few = changed_few (before (goal.at.shift_with-shift-requires c).After-answer-answer) (after (goal.at.shift_with-shift-requires c).After-answer-answer) p.sized (still (goal.at.shift_with-shift-requires c).After-answer-answer) _ _ _ _ _ p.judged_at c.carry-carried.ensures _ c.answer-answer.ensures in
     record {
       ids_len = (still (goal.at.shift_with-shift-requires c).After-answer-answer).characters;
       toggles_len = (still (goal.at.shift_with-shift-requires c).After-answer-answer).toggles;
@@ -52,5 +52,5 @@ returns c =
     let p = c.requires in
     let told = c.shift_with-shift.ensures in
     let read = to_z-of_z {w = w32} {z = c.shift_with-shift.result} (record { sfits = c.shift_with-shift.type-inv }) in
-    receipt-at_so (before c) (after c) p.sized (still (goal.at.returns c).After-answer-answer) _ _ _ _ _ p.judged_at c.carry-carried.ensures _ c.answer-answer.ensures _
+    receipt-at_so (before (goal.at.returns c).After-answer-answer) (after (goal.at.returns c).After-answer-answer) p.sized (still (goal.at.returns c).After-answer-answer) _ _ _ _ _ p.judged_at c.carry-carried.ensures _ c.answer-answer.ensures _
     (λ e. read ∙ told.value e) (λ e cs k t small. read ∙ told.value_2 e cs k t small)

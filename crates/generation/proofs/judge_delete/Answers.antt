@@ -18,7 +18,8 @@ made s =
     let a = s.args in
     replica_as a.site a.characters.now a.toggles.now a.n a.pending.now a.w a.heads.now a.links.now
 
-examined : (c : Else-not-check) → Examined (made c)
+examined : (c : Else-not-check) → Examined (let a = c.args in
+    replica_as a.site a.characters.now a.toggles.now a.n a.pending.now a.w a.heads.now a.links.now)
 examined c = lent_examined _ _ _ c.requires (passed c.check.ensures c.if-not-check.false-raw)
 
 -- the column that is lent
@@ -26,7 +27,8 @@ rows : (c : Else-not-check) → Ends 1024 c.args.characters.now
 rows c = ends 1024 c.requires.characters
 
 pub returns-then-not-check : goal.returns-then-not-check
-returns-then-not-check c = unformed_delete (made c) _ (failed c.check.ensures c.if-not-check.true-raw)
+returns-then-not-check c =
+    unformed_delete (made (goal.at.returns-then-not-check c).Start) _ (failed c.check.ensures c.if-not-check.true-raw)
 
 pub returns-then-place-eq0 : goal.returns-then-place-eq0
 returns-then-place-eq0 c =

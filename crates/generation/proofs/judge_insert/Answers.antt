@@ -25,10 +25,12 @@ made s =
 coded : (c : Else-not-code_point) → is_code_point c.args.code_point ≡ true
 coded c = passed c.code_point.ensures c.if-not-code_point.false-raw
 
-examined : (c : Else-not-check) → Examined (made c)
+examined : (c : Else-not-check) → Examined (let a = c.args in
+    replica_as a.site a.characters.now a.toggles.now a.n a.pending.now a.w a.heads.now a.links.now)
 examined c = lent_examined _ _ _ c.requires (passed c.check.ensures c.if-not-check.false-raw)
 
-seen : (c : Else-count-point) → beyond_visible (meaning (made c)) c.args.point ≡ false
+seen : (c : Else-count-point) → beyond_visible (meaning (let a = c.args in
+    replica_as a.site a.characters.now a.toggles.now a.n a.pending.now a.w a.heads.now a.links.now)) c.args.point ≡ false
 seen c =
     insert-within _ (lent_examined _ _ _ c.requires (passed c.check.ensures c.if-not-check.false-raw)) _ _ (passed c.code_point.ensures c.if-not-code_point.false-raw) _ c.count.ensures c.if-count-point.false
 
@@ -40,11 +42,12 @@ waits : (c : Else-not-check) → Ends 512 c.args.pending.now
 waits c = ends 512 c.requires.pending
 
 pub returns-then-not-code_point : goal.returns-then-not-code_point
-returns-then-not-code_point c = unranged_insert (made c) _ _ (failed c.code_point.ensures c.if-not-code_point.true-raw)
+returns-then-not-code_point c =
+    unranged_insert (made (goal.at.returns-then-not-code_point c).Start) _ _ (failed c.code_point.ensures c.if-not-code_point.true-raw)
 
 pub returns-then-not-check : goal.returns-then-not-check
 returns-then-not-check c =
-    let r = made c in
+    let r = made (goal.at.returns-then-not-check c).Start in
     unformed_insert r _ _ (coded (goal.at.returns-then-not-check c).Else-not-code_point) (failed c.check.ensures c.if-not-check.true-raw)
 
 pub count-requires : goal.count-requires

@@ -31,7 +31,8 @@ made s =
 ranged : (c : Else-not-character_id) → character_id c.args.id ≡ true
 ranged c = passed c.character_id.ensures c.if-not-character_id.false-raw
 
-examined : (c : Else-not-check) → Examined (made c)
+examined : (c : Else-not-check) → Examined (let a = c.args in
+    replica_as a.site a.characters.now a.toggles.now a.n a.pending.now a.w a.heads.now a.links.now)
 examined c = lent_examined _ _ _ c.requires (passed c.check.ensures c.if-not-check.false-raw)
 
 -- what is found is what is sought
@@ -48,11 +49,12 @@ rows : (c : Else-not-check) → Ends 1024 c.args.characters.now
 rows c = ends 1024 c.requires.characters
 
 pub returns-then-not-character_id : goal.returns-then-not-character_id
-returns-then-not-character_id c = unranged_restore (made c) _ (failed c.character_id.ensures c.if-not-character_id.true-raw)
+returns-then-not-character_id c =
+    unranged_restore (made (goal.at.returns-then-not-character_id c).Start) _ (failed c.character_id.ensures c.if-not-character_id.true-raw)
 
 pub returns-then-not-check : goal.returns-then-not-check
 returns-then-not-check c =
-    let r = made c in
+    let r = made (goal.at.returns-then-not-check c).Start in
     unformed_restore r _ (ranged (goal.at.returns-then-not-check c).Else-not-character_id) (failed c.check.ensures c.if-not-check.true-raw)
 
 pub find_among-requires : goal.find_among-requires

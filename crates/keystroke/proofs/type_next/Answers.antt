@@ -42,35 +42,67 @@ checked s = examined (given s) (slots s) _ _ s.requires.typeable
 
 -- the insert that the rules make
 abbrev ruled : Start → Insert
-ruled s = generated_insert (meaning (given s)) s.args.at.point s.args.code-point
+ruled s = generated_insert (meaning (given s)) s.args.at.point s.args.code_point
 
 -- ---- the insert and its place
 
-inserted-is : (c : After-find_place-placement) → c.make-insert.result ≡ ruled c
+inserted-is : (c : After-find_place-placement) → c.make-insert.result ≡ (generated_insert (meaning (let a = c.args in
+    let t = a.at in
+    replica_as t.site a.characters.now a.toggles.now t.length a.pending.now t.waiting a.heads.now a.links.now)) c.args.at.point c.args.code_point)
 inserted-is c =
-    let x = (examined (given c) (sized_slots c.args.at.length c.args.at.waiting c.requires.sized) _ _ c.requires.typeable) in
-    let m = made (given c) (sized_slots c.args.at.length c.args.at.waiting c.requires.sized) _ _ c.requires.typeable in
-    let site = same-site (given c) (sized_slots c.args.at.length c.args.at.waiting c.requires.sized) _ _ c.requires.typeable in
-    c.make-insert.ensures (meaning (given c)) site (sym (ids_used _ x)) (sym (toggles_used _ x)) m.ranged
+    let x = (examined (let a = c.args in
+    let t = a.at in
+    replica_as t.site a.characters.now a.toggles.now t.length a.pending.now t.waiting a.heads.now a.links.now) (sized_slots c.args.at.length c.args.at.waiting c.requires.sized) _ _ c.requires.typeable) in
+    let m = made (let a = c.args in
+    let t = a.at in
+    replica_as t.site a.characters.now a.toggles.now t.length a.pending.now t.waiting a.heads.now a.links.now) (sized_slots c.args.at.length c.args.at.waiting c.requires.sized) _ _ c.requires.typeable in
+    let site = same-site (let a = c.args in
+    let t = a.at in
+    replica_as t.site a.characters.now a.toggles.now t.length a.pending.now t.waiting a.heads.now a.links.now) (sized_slots c.args.at.length c.args.at.waiting c.requires.sized) _ _ c.requires.typeable in
+    c.make-insert.ensures (meaning (let a = c.args in
+    let t = a.at in
+    replica_as t.site a.characters.now a.toggles.now t.length a.pending.now t.waiting a.heads.now a.links.now)) site (sym (ids_used _ x)) (sym (toggles_used _ x)) m.ranged
 
 placed_at : (c : In-At-2) → let s = from-find c in placement_of (meaning (given s)).characters (ruled s) ≡ Below c.in-At.k
 placed_at c =
     let told = sym c.place_of.ensures ∙ c.in-At.is in
-    found_below (given c) (sized_slots c.args.at.length c.args.at.waiting c.requires.sized) _ _ c.requires.typeable (let x = (examined (given c) (sized_slots c.args.at.length c.args.at.waiting c.requires.sized) _ _ c.requires.typeable) in
-    let m = made (given c) (sized_slots c.args.at.length c.args.at.waiting c.requires.sized) _ _ c.requires.typeable in
-    let site = same-site (given c) (sized_slots c.args.at.length c.args.at.waiting c.requires.sized) _ _ c.requires.typeable in
-    c.make-insert.ensures (meaning (given c)) site (sym (ids_used _ x)) (sym (toggles_used _ x)) m.ranged) _ c.find_place-placement.ensures _ told
+    found_below (let a = c.args in
+    let t = a.at in
+    replica_as t.site a.characters.now a.toggles.now t.length a.pending.now t.waiting a.heads.now a.links.now) (sized_slots c.args.at.length c.args.at.waiting c.requires.sized) _ _ c.requires.typeable (let x = (examined (let a = c.args in
+    let t = a.at in
+    replica_as t.site a.characters.now a.toggles.now t.length a.pending.now t.waiting a.heads.now a.links.now) (sized_slots c.args.at.length c.args.at.waiting c.requires.sized) _ _ c.requires.typeable) in
+    let m = made (let a = c.args in
+    let t = a.at in
+    replica_as t.site a.characters.now a.toggles.now t.length a.pending.now t.waiting a.heads.now a.links.now) (sized_slots c.args.at.length c.args.at.waiting c.requires.sized) _ _ c.requires.typeable in
+    let site = same-site (let a = c.args in
+    let t = a.at in
+    replica_as t.site a.characters.now a.toggles.now t.length a.pending.now t.waiting a.heads.now a.links.now) (sized_slots c.args.at.length c.args.at.waiting c.requires.sized) _ _ c.requires.typeable in
+    c.make-insert.ensures (meaning (let a = c.args in
+    let t = a.at in
+    replica_as t.site a.characters.now a.toggles.now t.length a.pending.now t.waiting a.heads.now a.links.now)) site (sym (ids_used _ x)) (sym (toggles_used _ x)) m.ranged) _ c.find_place-placement.ensures _ told
 
 placed-here : (c : In-At-2) → let s = from-find c in
     let d = (given s).document in
     PlacedAs d c.make-insert.result c.in-At.k (characters_in d) (operations_in d)
 placed-here c =
-    let d = (given c).document in
-    subst (λ (i : Insert). PlacedAs d i c.in-At.k (characters_in d) (operations_in d)) (sym (let x = (examined (given c) (sized_slots c.args.at.length c.args.at.waiting c.requires.sized) _ _ c.requires.typeable) in
-    let m = made (given c) (sized_slots c.args.at.length c.args.at.waiting c.requires.sized) _ _ c.requires.typeable in
-    let site = same-site (given c) (sized_slots c.args.at.length c.args.at.waiting c.requires.sized) _ _ c.requires.typeable in
-    c.make-insert.ensures (meaning (given c)) site (sym (ids_used _ x)) (sym (toggles_used _ x)) m.ranged))
-    (placed-there (given c) (sized_slots c.args.at.length c.args.at.waiting c.requires.sized) _ _ c.requires.typeable _ (placed_at c))
+    let d = (let a = c.args in
+    let t = a.at in
+    replica_as t.site a.characters.now a.toggles.now t.length a.pending.now t.waiting a.heads.now a.links.now).document in
+    subst (λ (i : Insert). PlacedAs d i c.in-At.k (characters_in d) (operations_in d)) (sym (let x = (examined (let a = c.args in
+    let t = a.at in
+    replica_as t.site a.characters.now a.toggles.now t.length a.pending.now t.waiting a.heads.now a.links.now) (sized_slots c.args.at.length c.args.at.waiting c.requires.sized) _ _ c.requires.typeable) in
+    let m = made (let a = c.args in
+    let t = a.at in
+    replica_as t.site a.characters.now a.toggles.now t.length a.pending.now t.waiting a.heads.now a.links.now) (sized_slots c.args.at.length c.args.at.waiting c.requires.sized) _ _ c.requires.typeable in
+    let site = same-site (let a = c.args in
+    let t = a.at in
+    replica_as t.site a.characters.now a.toggles.now t.length a.pending.now t.waiting a.heads.now a.links.now) (sized_slots c.args.at.length c.args.at.waiting c.requires.sized) _ _ c.requires.typeable in
+    c.make-insert.ensures (meaning (let a = c.args in
+    let t = a.at in
+    replica_as t.site a.characters.now a.toggles.now t.length a.pending.now t.waiting a.heads.now a.links.now)) site (sym (ids_used _ x)) (sym (toggles_used _ x)) m.ranged))
+    (placed-there (let a = c.args in
+    let t = a.at in
+    replica_as t.site a.characters.now a.toggles.now t.length a.pending.now t.waiting a.heads.now a.links.now) (sized_slots c.args.at.length c.args.at.waiting c.requires.sized) _ _ c.requires.typeable _ (placed_at c))
 
 -- ---- what is left
 
@@ -83,16 +115,36 @@ worked : (c : After-put_in-done) → let s = start c in
     ≡ finished (integrate_insert (characters_in (given s).document) (ruled s)) (operations_in (given s).document) 1 0
 worked c =
     let d = (given (start c)).document in
-    c.put_in-done.ensures _ _ (let d = (given c).document in
-    subst (λ (i : Insert). PlacedAs d i c.in-At.k (characters_in d) (operations_in d)) (sym (let x = (examined (given c) (sized_slots c.args.at.length c.args.at.waiting c.requires.sized) _ _ c.requires.typeable) in
-    let m = made (given c) (sized_slots c.args.at.length c.args.at.waiting c.requires.sized) _ _ c.requires.typeable in
-    let site = same-site (given c) (sized_slots c.args.at.length c.args.at.waiting c.requires.sized) _ _ c.requires.typeable in
-    c.make-insert.ensures (meaning (given c)) site (sym (ids_used _ x)) (sym (toggles_used _ x)) m.ranged))
-    (placed-there (given c) (sized_slots c.args.at.length c.args.at.waiting c.requires.sized) _ _ c.requires.typeable _ (let told = sym c.place_of.ensures ∙ c.in-At.is in
-    found_below (given c) (sized_slots c.args.at.length c.args.at.waiting c.requires.sized) _ _ c.requires.typeable (let x = (examined (given c) (slots c) _ _ c.requires.typeable) in
-    let m = made (given c) (sized_slots c.args.at.length c.args.at.waiting c.requires.sized) _ _ c.requires.typeable in
-    let site = same-site (given c) (sized_slots c.args.at.length c.args.at.waiting c.requires.sized) _ _ c.requires.typeable in
-    c.make-insert.ensures (meaning (given c)) site (sym (ids_used _ x)) (sym (toggles_used _ x)) m.ranged) _ c.find_place-placement.ensures _ told)))
+    c.put_in-done.ensures _ _ (let d = (let a = c.args in
+    let t = a.at in
+    replica_as t.site a.characters.now a.toggles.now t.length a.pending.now t.waiting a.heads.now a.links.now).document in
+    subst (λ (i : Insert). PlacedAs d i c.in-At.k (characters_in d) (operations_in d)) (sym (let x = (examined (let a = c.args in
+    let t = a.at in
+    replica_as t.site a.characters.now a.toggles.now t.length a.pending.now t.waiting a.heads.now a.links.now) (sized_slots c.args.at.length c.args.at.waiting c.requires.sized) _ _ c.requires.typeable) in
+    let m = made (let a = c.args in
+    let t = a.at in
+    replica_as t.site a.characters.now a.toggles.now t.length a.pending.now t.waiting a.heads.now a.links.now) (sized_slots c.args.at.length c.args.at.waiting c.requires.sized) _ _ c.requires.typeable in
+    let site = same-site (let a = c.args in
+    let t = a.at in
+    replica_as t.site a.characters.now a.toggles.now t.length a.pending.now t.waiting a.heads.now a.links.now) (sized_slots c.args.at.length c.args.at.waiting c.requires.sized) _ _ c.requires.typeable in
+    c.make-insert.ensures (meaning (let a = c.args in
+    let t = a.at in
+    replica_as t.site a.characters.now a.toggles.now t.length a.pending.now t.waiting a.heads.now a.links.now)) site (sym (ids_used _ x)) (sym (toggles_used _ x)) m.ranged))
+    (placed-there (let a = c.args in
+    let t = a.at in
+    replica_as t.site a.characters.now a.toggles.now t.length a.pending.now t.waiting a.heads.now a.links.now) (sized_slots c.args.at.length c.args.at.waiting c.requires.sized) _ _ c.requires.typeable _ (let told = sym c.place_of.ensures ∙ c.in-At.is in
+    found_below (let a = c.args in
+    let t = a.at in
+    replica_as t.site a.characters.now a.toggles.now t.length a.pending.now t.waiting a.heads.now a.links.now) (sized_slots c.args.at.length c.args.at.waiting c.requires.sized) _ _ c.requires.typeable (let x = (examined (given c) (slots c) _ _ c.requires.typeable) in
+    let m = made (let a = c.args in
+    let t = a.at in
+    replica_as t.site a.characters.now a.toggles.now t.length a.pending.now t.waiting a.heads.now a.links.now) (sized_slots c.args.at.length c.args.at.waiting c.requires.sized) _ _ c.requires.typeable in
+    let site = same-site (let a = c.args in
+    let t = a.at in
+    replica_as t.site a.characters.now a.toggles.now t.length a.pending.now t.waiting a.heads.now a.links.now) (sized_slots c.args.at.length c.args.at.waiting c.requires.sized) _ _ c.requires.typeable in
+    c.make-insert.ensures (meaning (let a = c.args in
+    let t = a.at in
+    replica_as t.site a.characters.now a.toggles.now t.length a.pending.now t.waiting a.heads.now a.links.now)) site (sym (ids_used _ x)) (sym (toggles_used _ x)) m.ranged) _ c.find_place-placement.ensures _ told)))
     ∙ ap (λ (i : Insert). finished (integrate_insert (characters_in d) i) (operations_in d) 1 0) (inserted-is (from-k c))
 
 pub make-insert-requires : goal.make-insert-requires
@@ -126,7 +178,7 @@ put_in-done-requires c =
 
 pub visible_through-point-requires : goal.visible_through-point-requires
 visible_through-point-requires c =
-    let s = start c in
+    let s = start (goal.at.visible_through-point-requires c).After-put_in-done in
     let before = (few _ (checked s)).characters in
     let small = few-next (given s) (slots s) _ _ s.pre.1.0 _ (placed_at (goal.at.visible_through-point-requires c).In-At-2) (worked (goal.at.visible_through-point-requires c).After-put_in-done) in
     record {
@@ -136,7 +188,7 @@ visible_through-point-requires c =
 
 pub further-requires : goal.further-requires
 further-requires c =
-    let s = start c in
+    let s = start (goal.at.further-requires c).After-put_in-done in
     let sum = balance_next (given s) (slots s) _ _ s.pre.1.0 _ (placed_at (goal.at.further-requires c).In-At-2) (worked (goal.at.further-requires c).After-put_in-done) in
     record {
       clock_lt_last_clock = low (given s) (slots s) _ _ s.pre.1.0;
@@ -147,7 +199,7 @@ further-requires c =
 pub returns-in-At : goal.returns-in-At
 unfolding OneTyped
 returns-in-At c =
-    let s = start c in
+    let s = start (goal.at.returns-in-At c).After-put_in-done in
     let r = given s in
     let t = s.pre.1.0 in
     let p = placed_at (goal.at.returns-in-At c).In-At-2 in
@@ -185,4 +237,4 @@ pub returns-in-Nothing : goal.returns-in-Nothing
 unfolding OneTyped
 returns-in-Nothing c =
     let told = sym c.place_of.ensures ∙ c.in-Nothing.is in
-    found_nowhere (given c) (slots (goal.at.returns-in-Nothing c).Start) _ _ c.requires.typeable (inserted-is (goal.at.returns-in-Nothing c).After-find_place-placement) _ c.find_place-placement.ensures told
+    found_nowhere (given (goal.at.returns-in-Nothing c).Start) (slots (goal.at.returns-in-Nothing c).Start) _ _ c.requires.typeable (inserted-is (goal.at.returns-in-Nothing c).After-find_place-placement) _ c.find_place-placement.ensures told

@@ -29,7 +29,7 @@ whole s = refl
 
 pub returns-in_default : goal.returns-in_default
 returns-in_default c =
-    let all = front-short (front c) (body c) (bytes c) c.args.out.now (whole (goal.at.returns-in_default c).Start) c.measure_header-front.ensures
+    let all = front-short (front (goal.at.returns-in_default c).Start) (body (goal.at.returns-in_default c).Start) (bytes (goal.at.returns-in_default c).Start) c.args.out.now (whole (goal.at.returns-in_default c).Start) c.measure_header-front.ensures
     c.in_default.is in
     record {
       value = all.0;
@@ -39,7 +39,7 @@ returns-in_default c =
 pub measure_chunks-room-requires : goal.measure_chunks-room-requires
 measure_chunks-room-requires c =
     let fits =
-    front_fits (front c) (body c) (bytes c) c.args.out.now (whole (goal.at.measure_chunks-room-requires c).Start) c.measure_header-front.ensures
+    front_fits (front (goal.at.measure_chunks-room-requires c).Start) (body (goal.at.measure_chunks-room-requires c).Start) (bytes (goal.at.measure_chunks-room-requires c).Start) c.args.out.now (whole (goal.at.measure_chunks-room-requires c).Start) c.measure_header-front.ensures
     c.in-Until.is in
     record {
       n_in_bounds = c.requires.n_in_bounds;
@@ -49,7 +49,7 @@ measure_chunks-room-requires c =
 
 pub returns-in_default-room : goal.returns-in_default-room
 returns-in_default-room c =
-    let all = body-short (front c) (body c) (bytes c) c.args.out.now (whole (goal.at.returns-in_default-room c).Start) c.measure_header-front.ensures
+    let all = body-short (front (goal.at.returns-in_default-room c).Start) (body (goal.at.returns-in_default-room c).Start) (bytes (goal.at.returns-in_default-room c).Start) c.args.out.now (whole (goal.at.returns-in_default-room c).Start) c.measure_header-front.ensures
     c.in-Until.is c.measure_chunks-room.ensures c.in_default-room.is in
     record {
       value = all.0;
@@ -59,7 +59,7 @@ returns-in_default-room c =
 pub put_chunks-requires : goal.put_chunks-requires
 put_chunks-requires c =
     let room =
-    body-room (front c) (body c) (bytes c) c.args.out.now (whole (goal.at.put_chunks-requires c).Start) c.measure_header-front.ensures
+    body-room (front (goal.at.put_chunks-requires c).Start) (body (goal.at.put_chunks-requires c).Start) (bytes (goal.at.put_chunks-requires c).Start) c.args.out.now (whole (goal.at.put_chunks-requires c).Start) c.measure_header-front.ensures
     c.in-Until.is c.measure_chunks-room.ensures c.in-Until-room.is (c.put_header-at.ensures.value, c.put_header-at.ensures.out_after) in
     record {
       n_in_bounds = c.requires.n_in_bounds;
@@ -69,7 +69,7 @@ put_chunks-requires c =
 
 pub returns : goal.returns
 returns c =
-    let all = body-put (front c) (body c) (bytes c) c.args.out.now (whole (goal.at.returns c).Start) c.measure_header-front.ensures
+    let all = body-put (front (goal.at.returns c).Start) (body (goal.at.returns c).Start) (bytes (goal.at.returns c).Start) c.args.out.now (whole (goal.at.returns c).Start) c.measure_header-front.ensures
     c.in-Until.is c.measure_chunks-room.ensures c.in-Until-room.is (c.put_header-at.ensures.value, c.put_header-at.ensures.out_after)
     c.put_chunks.ensures in
     record {

@@ -32,7 +32,7 @@ clear-requires c =
     record {
       characters_len = c.requires.sized.characters;
       pending_len = c.requires.sized.pending;
-      lent = clearable (given c) c.requires.spacious (sized_slots _ _ c.requires.sized);
+      lent = clearable (given (goal.at.clear-requires c).Start) c.requires.spacious (sized_slots _ _ c.requires.sized);
     }
 
 pub type_all-requires : goal.type_all-requires
@@ -42,9 +42,9 @@ type_all-requires c =
     record {
       sized = sized_still c.requires.sized c.clear.auto.characters c.clear.auto.toggles c.clear.auto.pending c.clear.auto.heads c.clear.auto.links;
       typed_len = c.requires.typed_len;
-      count_le_character_slots = some-few (given c) x;
+      count_le_character_slots = some-few (given (goal.at.type_all-requires c).Start) x;
       unwritten = c.requires.unwritten;
-      typeable = cleared_typeable (given c) x c.clear.ensures (counted (goal.at.type_all-requires c).Start) c.requires.typed_value;
+      typeable = cleared_typeable (given (goal.at.type_all-requires c).Start) x c.clear.ensures (counted (goal.at.type_all-requires c).Start) c.requires.typed_value;
     }
 
 pub returns : goal.returns
@@ -55,4 +55,4 @@ returns c =
     (λ (t : State).
     AllTyped t c.args.point (points_in c.args.count c.args.typed.now) c.type_all.new.typed c.type_all.new.characters c.type_all.new.toggles c.type_all.new.pending c.type_all.new.heads
     c.type_all.new.links c.type_all.result)
-    (cleared_meant (given c) x c.clear.ensures) c.type_all.ensures
+    (cleared_meant (given (goal.at.returns c).Start) x c.clear.ensures) c.type_all.ensures

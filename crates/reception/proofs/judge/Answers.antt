@@ -21,15 +21,17 @@ made s =
 ranged : (c : Else-not-in_range) → in_range c.args.operation ≡ true
 ranged c = passed c.in_range.ensures c.if-not-in_range.false-raw
 
-examined : (c : Else-not-check) → Examined (made c)
+examined : (c : Else-not-check) → Examined (let a = c.args in
+    replica_as a.site a.characters.now a.toggles.now a.n a.pending.now a.w a.heads.now a.links.now)
 examined c = lent_examined _ _ _ c.requires (passed c.check.ensures c.if-not-check.false-raw)
 
 pub returns-then-not-in_range : goal.returns-then-not-in_range
-returns-then-not-in_range c = unranged (made c) _ (failed c.in_range.ensures c.if-not-in_range.true-raw)
+returns-then-not-in_range c =
+    unranged (made (goal.at.returns-then-not-in_range c).Start) _ (failed c.in_range.ensures c.if-not-in_range.true-raw)
 
 pub returns-then-not-check : goal.returns-then-not-check
 returns-then-not-check c =
-    let r = made c in
+    let r = made (goal.at.returns-then-not-check c).Start in
     unformed r _ (ranged (goal.at.returns-then-not-check c).Else-not-in_range) (failed c.check.ensures c.if-not-check.true-raw)
 
 pub decide_insert-requires : goal.decide_insert-requires

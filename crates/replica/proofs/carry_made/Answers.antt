@@ -19,7 +19,7 @@ carry-carried-requires c =
     record {
       characters_len = c.requires.sized.characters;
       pending_len = c.requires.sized.pending;
-      feasible = executed_feasible (lent c) _ _ able;
+      feasible = executed_feasible (lent (goal.at.carry-carried-requires c).Start) _ _ able;
     }
 
 pub returns-in-Refused : goal.returns-in-Refused
@@ -33,4 +33,4 @@ returns-in-Send c =
     let done = c.carry-carried in
     let k = done.auto in
     let still = sized_still c.requires.sized done.auto.characters done.auto.toggles done.auto.pending done.auto.heads done.auto.links in
-    rw told (sent_so (lent c) _ c.requires.sized still _ _ _ _ (rw told at c.requires.sendable) done.ensures)
+    rw told (sent_so (lent (goal.at.returns-in-Send c).Start) _ c.requires.sized still _ _ _ _ (rw told at c.requires.sendable) done.ensures)

@@ -8,10 +8,12 @@ use Rattle.replica.proofs.delete.Goals as goal
 
 -- the replica that was passed
 abbrev passedIn : After-judge_delete-made → Replica
-passedIn c = c.before.before.before.before.before.before.before.before.before.before.before.before.before.args.t1
+passedIn c = c.args.replica
 
 pub send-requires : goal.send-requires
-send-requires c = sendable (passedIn c) _ _ c.judge_delete-made.ensures
+send-requires c =
+    sendable (passedIn (goal.at.send-requires c).After-judge_delete-made) _ _ c.judge_delete-made.ensures
 
 pub returns : goal.returns
-returns c = c.send.ensures ∙ delete_so (passedIn c) _ _ c.judge_delete-made.ensures
+returns c =
+    c.send.ensures ∙ delete_so (passedIn (goal.at.returns c).After-judge_delete-made) _ _ c.judge_delete-made.ensures

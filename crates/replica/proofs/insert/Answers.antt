@@ -8,10 +8,12 @@ use Rattle.replica.proofs.insert.Goals as goal
 
 -- the replica that was passed
 abbrev passedIn : After-judge_insert-made → Replica
-passedIn c = c.before.before.before.before.before.before.before.before.before.before.before.before.before.args.t1
+passedIn c = c.args.replica
 
 pub send-requires : goal.send-requires
-send-requires c = sendable (passedIn c) _ _ c.judge_insert-made.ensures
+send-requires c =
+    sendable (passedIn (goal.at.send-requires c).After-judge_insert-made) _ _ c.judge_insert-made.ensures
 
 pub returns : goal.returns
-returns c = c.send.ensures ∙ insert_so (passedIn c) _ _ _ c.judge_insert-made.ensures
+returns c =
+    c.send.ensures ∙ insert_so (passedIn (goal.at.returns c).After-judge_insert-made) _ _ _ c.judge_insert-made.ensures

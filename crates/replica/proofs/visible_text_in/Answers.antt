@@ -20,15 +20,19 @@ lent c =
     let a = c.args in
     replica_lent a.site a.characters.now a.toggles.now a.n a.pending.now a.w a.heads.now a.links.now
 
-formed : (c : Else-not-check) → replica_well_formed (lent c) ≡ true
-formed c = passed (c.check.ensures ∙ sym (form_view (lent c))) c.if-not-check.false-raw
+formed : (c : Else-not-check) → replica_well_formed (let a = c.args in
+    replica_lent a.site a.characters.now a.toggles.now a.n a.pending.now a.w a.heads.now a.links.now) ≡ true
+formed c = passed (c.check.ensures ∙ sym (form_view (let a = c.args in
+    replica_lent a.site a.characters.now a.toggles.now a.n a.pending.now a.w a.heads.now a.links.now))) c.if-not-check.false-raw
 
-examined : (c : Else-not-check) → Examined (viewed (lent c))
-examined c = lent_examined _ _ _ c.requires (sym (form_view (lent c)) ∙ formed c)
+examined : (c : Else-not-check) → Examined (viewed (let a = c.args in
+    replica_lent a.site a.characters.now a.toggles.now a.n a.pending.now a.w a.heads.now a.links.now))
+examined c = lent_examined _ _ _ c.requires (sym (form_view (let a = c.args in
+    replica_lent a.site a.characters.now a.toggles.now a.n a.pending.now a.w a.heads.now a.links.now)) ∙ formed c)
 
 pub returns-then-not-check : goal.returns-then-not-check
 returns-then-not-check c =
-    let r = lent c in
+    let r = lent (goal.at.returns-then-not-check c).After-check in
     let all = unformed_text r _ (failed (c.check.ensures ∙ sym (form_view r)) c.if-not-check.true-raw) in
     record {
       value = all.0;
@@ -46,7 +50,7 @@ write_text-requires c =
 
 pub returns : goal.returns
 returns c =
-    let r = lent c in
+    let r = lent (goal.at.returns c).After-check in
     let x = examined (goal.at.returns c).Else-not-check in
     let t = formed-text r _ (formed (goal.at.returns c).Else-not-check) in
     let w = c.write_text.ensures in

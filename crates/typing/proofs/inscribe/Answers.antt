@@ -41,7 +41,7 @@ abbrev last-part : After-set_number-3 → List ℕ
 last-part c =
     let a = first c in
     let once = a.set-number.last.0 ++ drop 1024 a.args.typed.now in
-    take 1024 (drop 3072 (put_mid 2048 1024 (put_mid 1024 1024 once c.set-number2.new.0) c.set-number3.new.0))
+    take 1024 (drop 3072 (put_mid 2048 1024 (put_mid 1024 1024 once c.set_number-2.new.a) c.set_number-3.new.a))
 
 last-is : (c : After-set_number-3) → last-part c ≡ column 1024 3 (start (first c)).args.typed.now
 last-is c =

@@ -81,7 +81,7 @@ loop-i-smaller c = omega (arith, c.loop-i-test.true)
 -- the state that the loop has come to
 abbrev reached : In-loop-i → State
 reached c =
-    let l = c.before.loop in
+    let l = c.loop-i in
     meaning (replica_as l.at.site l.characters l.toggles l.at.length l.pending l.at.waiting l.heads l.links)
 
 -- ---- at the end
@@ -100,7 +100,7 @@ loop-i-preserved c =
     let l = c.type_next-step.new in
     let k = c.type_next-step.auto in
     let told = c.in-Inserted.is in
-    let t = told-taken (reached c) c.loop-i.at (read (goal.at.loop-i-preserved c).In-loop-i) c.type_next-step.new.characters c.type_next-step.new.toggles c.type_next-step.new.pending c.type_next-step.new.heads c.type_next-step.new.links
+    let t = told-taken (reached (goal.at.loop-i-preserved c).In-loop-i) c.loop-i.at (read (goal.at.loop-i-preserved c).In-loop-i) c.type_next-step.new.characters c.type_next-step.new.toggles c.type_next-step.new.pending c.type_next-step.new.heads c.type_next-step.new.links
     c.type_next-step.ensures told
     in (
       sized_still v.0 c.type_next-step.auto.characters c.type_next-step.auto.toggles c.type_next-step.auto.pending c.type_next-step.auto.heads c.type_next-step.auto.links,

@@ -30,7 +30,7 @@ ended out a e q =
 
 pub returns-in_default : goal.returns-in_default
 returns-in_default c =
-    let all = front-short (front c) (body c) _ c.args.out.now refl c.measure-front.ensures c.in_default.is in
+    let all = front-short (front (goal.at.returns-in_default c).Start) (body (goal.at.returns-in_default c).Start) _ c.args.out.now refl c.measure-front.ensures c.in_default.is in
     record {
       value = all.0;
       out_after = all.1;
@@ -41,13 +41,13 @@ measure-room-requires c =
     record {
       numbers_len = c.requires.toggles_len;
       count_le_character_slots = c.requires.count_le_character_slots;
-      at_le_size = front_fits (front c) (body c) _ c.args.out.now refl c.measure-front.ensures
+      at_le_size = front_fits (front (goal.at.measure-room-requires c).Start) (body (goal.at.measure-room-requires c).Start) _ c.args.out.now refl c.measure-front.ensures
           c.in-Until.is;
     }
 
 pub returns-in_default-room : goal.returns-in_default-room
 returns-in_default-room c =
-    let all = body-short (front c) (body c) _ c.args.out.now refl c.measure-front.ensures
+    let all = body-short (front (goal.at.returns-in_default-room c).Start) (body (goal.at.returns-in_default-room c).Start) _ c.args.out.now refl c.measure-front.ensures
     c.in-Until.is c.measure-room.ensures c.in_default-room.is in
     record {
       value = all.0;
@@ -56,7 +56,7 @@ returns-in_default-room c =
 
 pub put_lines-requires : goal.put_lines-requires
 put_lines-requires c =
-    let t = until_tells (length c.args.out.now) 0 (front c) c.measure-front.ensures
+    let t = until_tells (length c.args.out.now) 0 (front (goal.at.put_lines-requires c).Start) c.measure-front.ensures
     c.in-Until.is in
     record {
       numbers_len = c.requires.inserts_len;
@@ -70,9 +70,9 @@ put_lines-requires-2 c =
     record {
       numbers_len = c.requires.toggles_len;
       count_le_character_slots = c.requires.count_le_character_slots;
-      count_in_bounds = body-room (front c) (body c) _ c.args.out.now refl c.measure-front.ensures f
+      count_in_bounds = body-room (front (goal.at.put_lines-requires-2 c).Start) (body (goal.at.put_lines-requires-2 c).Start) _ c.args.out.now refl c.measure-front.ensures f
           c.measure-room.ensures c.in-Until-room.is (
-            ended c.args.out.now (front c) c.measure-front.ensures f,
+            ended c.args.out.now (front (goal.at.put_lines-requires-2 c).Start) c.measure-front.ensures f,
             c.put_lines.ensures,
           );
     }
@@ -80,9 +80,9 @@ put_lines-requires-2 c =
 pub returns : goal.returns
 returns c =
     let f = c.in-Until.is in
-    let all = body-put (front c) (body c) _ c.args.out.now refl c.measure-front.ensures f
+    let all = body-put (front (goal.at.returns c).Start) (body (goal.at.returns c).Start) _ c.args.out.now refl c.measure-front.ensures f
     c.measure-room.ensures c.in-Until-room.is (
-      ended c.args.out.now (front c) c.measure-front.ensures f,
+      ended c.args.out.now (front (goal.at.returns c).Start) c.measure-front.ensures f,
       c.put_lines.ensures,
     )
     c.put_lines-2.ensures in

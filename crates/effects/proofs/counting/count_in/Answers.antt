@@ -21,12 +21,13 @@ lent s =
     let a = s.args in
     replica_lent a.site a.characters.now a.toggles.now a.n a.pending.now a.w a.heads.now a.links.now
 
-seen : (c : Else-not-check) → Examined (viewed (lent c))
+seen : (c : Else-not-check) → Examined (viewed (let a = c.args in
+    replica_lent a.site a.characters.now a.toggles.now a.n a.pending.now a.w a.heads.now a.links.now))
 seen c = lent_examined _ _ _ c.requires (passed c.check.ensures c.if-not-check.false-raw)
 
 pub returns-then-not-check : goal.returns-then-not-check
 returns-then-not-check c =
-    let r = lent c in
+    let r = lent (goal.at.returns-then-not-check c).Start in
     c.number_of_refusal.ensures ∙ ap number_of (sym (counts_unformed r (failed (c.check.ensures ∙ sym (form_view r)) c.if-not-check.true-raw)))
 
 pub counts_of-requires : goal.counts_of-requires
@@ -36,12 +37,12 @@ counts_of-requires c =
     record {
       n_in_bounds = omega (arith, p.toggles, w.characters);
       w_in_bounds = omega (arith, p.pending, w.pending);
-      own_bound = present-few (lent (goal.at.counts_of-requires c).Else-not-check) (seen (goal.at.counts_of-requires c).Else-not-check);
+      own_bound = present-few (lent (goal.at.counts_of-requires c).Start) (seen (goal.at.counts_of-requires c).Else-not-check);
     }
 
 pub returns : goal.returns
 returns c =
-    let r = lent c in
+    let r = lent (goal.at.returns c).Start in
     let x = seen (goal.at.returns c).Else-not-check in
     c.counts_of.ensures _ (written-toggles r x)
     ∙ ap number_of (counts_told r x)

@@ -20,7 +20,7 @@ chunks s = chunks_in s.args.heads.now s.args.words.now s.args.n
 pub loop-i-init : goal.loop-i-init
 loop-i-init c =
     let many = many_chunks c.args.heads.now c.args.words.now c.args.n in
-    measuring_begun chunk_line (chunks c) c.args.n _ _ (omega (arith, many)) c.requires.at_le_size
+    measuring_begun chunk_line (chunks (goal.at.loop-i-init c).Start) c.args.n _ _ (omega (arith, many)) c.requires.at_le_size
 
 pub bounds-heads-i : goal.bounds-heads-i
 bounds-heads-i c = omega (arith, c.requires.n_in_bounds, c.loop-i-test.true)
@@ -34,7 +34,7 @@ returns-in_default c =
     let h = c.loop-i-test.true in
     let line = line_at a.heads.now a.words.now a.n _ h c.chunk_numbers-numbers.ensures in
     let e = c.measure-room.ensures ∙ ap (room_for _ _) line in
-    measuring_short chunk_line (chunks c) _ _ _ c.loop-i.invariant no_chunk h e c.in_default.is
+    measuring_short chunk_line (chunks (goal.at.returns-in_default c).Start) _ _ _ c.loop-i.invariant no_chunk h e c.in_default.is
     ∙ ap (room_for _ _) (all-chunks a.heads.now a.words.now a.n)
 
 pub loop-i-smaller : goal.loop-i-smaller
@@ -46,9 +46,9 @@ loop-i-preserved c =
     let h = c.loop-i-test.true in
     let line = line_at a.heads.now a.words.now a.n _ h c.chunk_numbers-numbers.ensures in
     let e = c.measure-room.ensures ∙ ap (room_for _ _) line in
-    measuring_more chunk_line (chunks c) _ _ _ c.loop-i.invariant no_chunk h e c.in-Until.is
+    measuring_more chunk_line (chunks (goal.at.loop-i-preserved c).Start) _ _ _ c.loop-i.invariant no_chunk h e c.in-Until.is
 
 pub returns : goal.returns
 returns c =
-    measuring_end chunk_line (chunks c) _ _ _ c.loop-i.invariant c.loop-i-test.false
+    measuring_end chunk_line (chunks (goal.at.returns c).Start) _ _ _ c.loop-i.invariant c.loop-i-test.false
     ∙ ap (room_for _ _) (all-chunks c.args.heads.now c.args.words.now c.args.n)

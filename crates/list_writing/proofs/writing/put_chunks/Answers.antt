@@ -23,7 +23,7 @@ pub loop-i-init : goal.loop-i-init
 loop-i-init c =
     let many = many_chunks c.args.heads.now c.args.words.now c.args.n in
     let all = all-chunks c.args.heads.now c.args.words.now c.args.n in
-    putting_begun chunk_line (chunks c) c.args.n _ _ (omega (arith, many))
+    putting_begun chunk_line (chunks (goal.at.loop-i-init c).Start) c.args.n _ _ (omega (arith, many))
     (omega (arith, c.requires.n_in_bounds_3, ap length all))
 
 pub bounds-heads-i : goal.bounds-heads-i
@@ -40,12 +40,12 @@ loop-i-preserved c =
     let a = c.args in
     let h = c.loop-i-test.true in
     let e = line_at a.heads.now a.words.now a.n _ h c.chunk_numbers-numbers.ensures in
-    putting_more chunk_line (chunks c) _ a.out.now a.at c.loop-i.invariant no_chunk h
+    putting_more chunk_line (chunks (goal.at.loop-i-preserved c).Start) _ a.out.now a.at c.loop-i.invariant no_chunk h
     (c.put_line-end.ensures.value ∙ ap (past _ _) e, c.put_line-end.ensures.out_after ∙ ap (placed _ _) e)
 
 pub returns : goal.returns
 returns c =
-    (putting_end chunk_line (chunks c) _ c.args.out.now c.args.at c.loop-i.invariant c.loop-i-test.false).1
+    (putting_end chunk_line (chunks (goal.at.returns c).Start) _ c.args.out.now c.args.at c.loop-i.invariant c.loop-i-test.false).1
     ∙ ap (placed c.args.out.now c.args.at)
     (all-chunks c.args.heads.now c.args.words.now c.args.n)
 

@@ -19,7 +19,7 @@ returns c =
     let count : c.if-at-lt-CHUNKS.count ≡ min 1024 (a.at.count + 1) =
     ⊎_elim (λ w. omega arith) (λ w. omega arith) c.if-at-lt-CHUNKS.branch in
     λ i. record {
-      laid_out = true;
+      laid_out_lem = true;
       in_range = true;
       total = a.at.total;
       sound = sound i;

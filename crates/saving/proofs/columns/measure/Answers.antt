@@ -32,7 +32,7 @@ whole s =
 
 pub loop-i-init : goal.loop-i-init
 loop-i-init c =
-    (omega arith, measuring_begun (λ l. l) (lines c) _ _ _ (omega (arith, many (goal.at.loop-i-init c).Start)) c.requires.at_le_size)
+    (omega arith, measuring_begun (λ l. l) (lines (goal.at.loop-i-init c).Start) _ _ _ (omega (arith, many (goal.at.loop-i-init c).Start)) c.requires.at_le_size)
 
 pub line-line-requires : goal.line-line-requires
 line-line-requires c =
@@ -48,7 +48,7 @@ pub returns-in_default : goal.returns-in_default
 returns-in_default c =
     let l = c.loop-i in
     let e = c.measure-room.ensures ∙ ap (room_for c.args.size l.end) c.line-line.ensures.result_value in
-    measuring_short (λ l. l) (lines c) _ c.args.size c.args.at l.invariant.1 [] c.loop-i-test.true e
+    measuring_short (λ l. l) (lines (goal.at.returns-in_default c).Start) _ c.args.size c.args.at l.invariant.1 [] c.loop-i-test.true e
     c.in_default.is
     ∙ ap (room_for c.args.size c.args.at) (whole (goal.at.returns-in_default c).Start)
 
@@ -65,11 +65,11 @@ loop-i-preserved c =
     let l = c.loop-i in
     let e = c.measure-room.ensures ∙ ap (room_for c.args.size l.end) c.line-line.ensures.result_value in (
       l.invariant.0,
-      measuring_more (λ l. l) (lines c) _ c.args.size c.args.at l.invariant.1 []
+      measuring_more (λ l. l) (lines (goal.at.loop-i-preserved c).Start) _ c.args.size c.args.at l.invariant.1 []
           c.loop-i-test.true e c.in-Until.is,
     )
 
 pub returns : goal.returns
 returns c =
-    measuring_end (λ l. l) (lines c) _ c.args.size c.args.at c.loop-i.invariant.1 c.loop-i-test.false
+    measuring_end (λ l. l) (lines (goal.at.returns c).Start) _ c.args.size c.args.at c.loop-i.invariant.1 c.loop-i-test.false
     ∙ ap (room_for c.args.size c.args.at) (whole (goal.at.returns c).Start)

@@ -32,7 +32,7 @@ whole s = whole-bytes s.args.rows (site_with s.args.number s.args.clock) (lists 
 
 pub returns-in_default : goal.returns-in_default
 returns-in_default c =
-    let all = front-short (front c) (body c) (bytes c) c.args.out.now (whole (goal.at.returns-in_default c).Start) (rw c.version-version.ensures at c.measure_site_with-front.ensures)
+    let all = front-short (front (goal.at.returns-in_default c).Start) (body (goal.at.returns-in_default c).Start) (bytes (goal.at.returns-in_default c).Start) c.args.out.now (whole (goal.at.returns-in_default c).Start) (rw c.version-version.ensures at c.measure_site_with-front.ensures)
     c.in_default.is in
     record {
       value = all.0;
@@ -43,13 +43,13 @@ pub measure-room-requires : goal.measure-room-requires
 measure-room-requires c =
     record {
       has_slots = c.requires;
-      at_le_size = front_fits (front c) (body c) (bytes c) c.args.out.now (whole (goal.at.measure-room-requires c).Start) (rw c.version-version.ensures at c.measure_site_with-front.ensures)
+      at_le_size = front_fits (front (goal.at.measure-room-requires c).Start) (body (goal.at.measure-room-requires c).Start) (bytes (goal.at.measure-room-requires c).Start) c.args.out.now (whole (goal.at.measure-room-requires c).Start) (rw c.version-version.ensures at c.measure_site_with-front.ensures)
           c.in-Until.is;
     }
 
 pub returns-in_default-room : goal.returns-in_default-room
 returns-in_default-room c =
-    let all = body-short (front c) (body c) (bytes c) c.args.out.now (whole (goal.at.returns-in_default-room c).Start) (rw c.version-version.ensures at c.measure_site_with-front.ensures)
+    let all = body-short (front (goal.at.returns-in_default-room c).Start) (body (goal.at.returns-in_default-room c).Start) (bytes (goal.at.returns-in_default-room c).Start) c.args.out.now (whole (goal.at.returns-in_default-room c).Start) (rw c.version-version.ensures at c.measure_site_with-front.ensures)
     c.in-Until.is c.measure-room.ensures c.in_default-room.is in
     record {
       value = all.0;
@@ -60,14 +60,14 @@ pub put_lines-requires : goal.put_lines-requires
 put_lines-requires c =
     record {
       has_slots = c.requires;
-      w_in_bounds = body-room (front c) (body c) (bytes c) c.args.out.now (whole (goal.at.put_lines-requires c).Start) (rw c.version-version.ensures at c.measure_site_with-front.ensures)
+      w_in_bounds = body-room (front (goal.at.put_lines-requires c).Start) (body (goal.at.put_lines-requires c).Start) (bytes (goal.at.put_lines-requires c).Start) c.args.out.now (whole (goal.at.put_lines-requires c).Start) (rw c.version-version.ensures at c.measure_site_with-front.ensures)
           c.in-Until.is c.measure-room.ensures c.in-Until-room.is
           (rw c.version-version.ensures at (c.put_site_with-at.ensures.value, c.put_site_with-at.ensures.out_after));
     }
 
 pub returns : goal.returns
 returns c =
-    let all = body-put (front c) (body c) (bytes c) c.args.out.now (whole (goal.at.returns c).Start) (rw c.version-version.ensures at c.measure_site_with-front.ensures)
+    let all = body-put (front (goal.at.returns c).Start) (body (goal.at.returns c).Start) (bytes (goal.at.returns c).Start) c.args.out.now (whole (goal.at.returns c).Start) (rw c.version-version.ensures at c.measure_site_with-front.ensures)
     c.in-Until.is c.measure-room.ensures c.in-Until-room.is
     (rw c.version-version.ensures at (c.put_site_with-at.ensures.value, c.put_site_with-at.ensures.out_after)) c.put_lines.ensures in
     record {

@@ -33,7 +33,7 @@ whole s =
 pub loop-i-init : goal.loop-i-init
 loop-i-init c =
     let room = c.requires.w_in_bounds in
-    (omega arith, putting_begun (λ l. l) (lines c) _ _ _ (omega (arith, many (goal.at.loop-i-init c).Start)) (omega (arith, room, ap length (whole (goal.at.loop-i-init c).Start))))
+    (omega arith, putting_begun (λ l. l) (lines (goal.at.loop-i-init c).Start) _ _ _ (omega (arith, many (goal.at.loop-i-init c).Start)) (omega (arith, room, ap length (whole (goal.at.loop-i-init c).Start))))
 
 pub line-line-requires : goal.line-line-requires
 line-line-requires c =
@@ -59,13 +59,13 @@ loop-i-preserved c =
     let p = c.put_numbered-end.ensures in
     let e = c.line-line.ensures.result_value in (
       l.invariant.0,
-      putting_more (λ l. l) (lines c) _ c.args.out.now c.args.at l.invariant.1 []
+      putting_more (λ l. l) (lines (goal.at.loop-i-preserved c).Start) _ c.args.out.now c.args.at l.invariant.1 []
           c.loop-i-test.true (p.value ∙ ap (past _ _) e, p.out_after ∙ ap (placed _ _) e),
     )
 
 pub returns : goal.returns
 returns c =
-    (putting_end (λ l. l) (lines c) _ c.args.out.now c.args.at c.loop-i.invariant.1 c.loop-i-test.false).1
+    (putting_end (λ l. l) (lines (goal.at.returns c).Start) _ c.args.out.now c.args.at c.loop-i.invariant.1 c.loop-i-test.false).1
     ∙ ap (placed c.args.out.now c.args.at) (whole (goal.at.returns c).Start)
 
 pub shape_of-out : goal.shape_of-out

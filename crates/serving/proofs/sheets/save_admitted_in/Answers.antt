@@ -25,11 +25,11 @@ pub returns-then-not-is_change : goal.returns-then-not-is_change
 unfolding silent quiet
 returns-then-not-is_change c =
     let e = failed c.is_change.ensures c.if-not-is_change.true-raw in
-    leaves_by (use_refused (lent c) c.judge-answer.ensures _ e) (c.number_of.ensures, refl, refl)
+    leaves_by (use_refused (lent (goal.at.returns-then-not-is_change c).Start) c.judge-answer.ensures _ e) (c.number_of.ensures, refl, refl)
 
 pub save_noted-requires : goal.save_noted-requires
 save_noted-requires c =
-    let all = storable (lent c) c.requires (use_savable (lent c) c.judge-answer.ensures (passed c.is_change.ensures c.if-not-is_change.false-raw)) in
+    let all = storable (lent (goal.at.save_noted-requires c).Start) c.requires (use_savable (lent (goal.at.save_noted-requires c).Start) c.judge-answer.ensures (passed c.is_change.ensures c.if-not-is_change.false-raw)) in
     record {
       characters_len = all.0;
       n_le_character_slots = all.1.0;
@@ -42,4 +42,4 @@ pub returns : goal.returns
 unfolding writing state_in meaning characters_in operations_in
 returns c =
     let e = passed c.is_change.ensures c.if-not-is_change.false-raw in
-    leaves_by (use_saved (lent c) c.judge-answer.ensures _ e) c.save_noted.ensures
+    leaves_by (use_saved (lent (goal.at.returns c).Start) c.judge-answer.ensures _ e) c.save_noted.ensures
