@@ -15,13 +15,6 @@ use Rattle.gathering.proofs.Gathering.{range-told, no-range-told}
 use borrow.Author.Rules.{rules}
 use Rattle.gathering.proofs.gather_line.Goals as goal
 
--- every refusal but 2, by its tag
-abbrev others : List ℕ
-others = 0 ∷ 2 ∷ 3 ∷ 4 ∷ 5 ∷ 6 ∷ 7 ∷ 8 ∷ 9 ∷ 10 ∷ 11 ∷ 12 ∷ 13 ∷ 14 ∷ 15 ∷ 16 ∷ 17 ∷ 18 ∷ 19 ∷ []
-
-no-range : (r : Refusal) → OneOf others (tag_of the_type r) → r ≡ Range → ⊥
-no-range r k e = miss others 1 tt (subst (λ (q : Refusal). OneOf others (tag_of the_type q)) e k)
-
 pub keep-requires : goal.keep-requires
 keep-requires c =
     let answer = sym c.read_line-read.ensures ∙ c.in-Operation.is in
@@ -61,7 +54,7 @@ pub returns-in_default : goal.returns-in_default
 returns-in_default c =
     let line = c.args.line.now in
     let answer = sym c.read_line-read.ensures ∙ c.in-Refused.is in
-    let w = lacks-layout line _ answer (no-range _ c.in_default.keys2) in
+    let w = lacks-layout line _ answer c.in_default.not-Range in
     record {
       value = no_line line _ w c.ungathered.ensures;
       held = λ e os p h. clash e (no-range-told c.ungathered.ensures);

@@ -36,7 +36,7 @@ examined : (c : Else-not-check) → Examined (let a = c.args in
 examined c = lent_examined _ _ _ c.requires (passed c.check.ensures c.if-not-check.false-raw)
 
 -- what is found is what is sought
-sought : (c : After-find_among) → let a = (start c).args in
+sought : (c : After-find_among) → let a = c.args in
     c.find_among.result ≡ found (key a.id) (take a.n (key_column a.characters.now))
 sought c = rw c.key.ensures.value at c.find_among.ensures
 

@@ -12,13 +12,6 @@ use Rattle.saved_lines.proofs.Judging.{operation_done, operation_range, operatio
 use borrow.Author.Rules.{rules}
 use Rattle.saved_lines.proofs.read_operation.Goals as goal
 
--- every refusal but 2, by its tag
-abbrev others : List ℕ
-others = 0 ∷ 2 ∷ 3 ∷ 4 ∷ 5 ∷ 6 ∷ 7 ∷ 8 ∷ 9 ∷ 10 ∷ 11 ∷ 12 ∷ 13 ∷ 14 ∷ 15 ∷ 16 ∷ 17 ∷ 18 ∷ 19 ∷ []
-
-no-range : (r : Refusal) → OneOf others (tag_of the_type r) → r ≡ Range → ⊥
-no-range r k e = miss others 1 tt (subst (λ (q : Refusal). OneOf others (tag_of the_type q)) e k)
-
 pub returns-in-Operation : goal.returns-in-Operation
 unfolding judgement
 returns-in-Operation c = operation_done _ c.args.line.now _ (sym c.read_pending-read.ensures ∙ c.in-Operation.is)
@@ -29,4 +22,4 @@ returns-in-Range c =
 
 pub returns-in_default : goal.returns-in_default
 returns-in_default c =
-    c.no_operation-in_default.ensures ∙ operation_layout _ c.args.line.now _ (sym c.read_pending-read.ensures ∙ c.in-Refused.is) (no-range _ c.in_default.keys2)
+    c.no_operation-in_default.ensures ∙ operation_layout _ c.args.line.now _ (sym c.read_pending-read.ensures ∙ c.in-Refused.is) c.in_default.not-Range

@@ -9,123 +9,98 @@ use Rattle.memory.proofs.Fullness.{column-length}
 use Rattle.memory.proofs.Replacing.{second-before, third-before, fourth_before, all_replaced, columns-are}
 use Rattle.woot.specs.Memory.{column}
 use borrow.Author.Rules.{rules}
-use Rattle.typing.proofs.inscribe.Goals.{After-set_number, After-set_number-2, After-set_number-3, After-slice_known-5-1, Start}
+use Rattle.typing.proofs.inscribe.Goals.{After-set_number-3}
 use Rattle.typing.proofs.inscribe.Goals as goal
 
-size : (s : Start) → length s.args.typed.now ≡ 4096
-size s = s.requires.typed_len
+-- what each of the first three stores leaves of its part, and what the last part holds before its store
+module _ (c : After-set_number-3) where
+  abbrev xs : List ℕ
+  xs = c.args.typed.now
 
-wide_1 : (c : After-set_number) → length c.set_number.new.a ≡ 1024
-wide_1 c = omega (arith, c.set_number.auto.a, column-length 1024 0 c.args.typed.now (omega (arith, c.requires.typed_len)))
+  size : length xs ≡ 4096
+  size = c.requires.typed_len
 
-wide_2 : (c : After-set_number-2) → length c.set_number-2.new.a ≡ 1024
-wide_2 c =
-    let xs = (start c).args.typed.now in
-    let z = size (start c) in
-    let part = second-before 1024 xs z c.set_number.new.a (omega (arith, c.set_number.auto.a, column-length 1024 0 c.args.typed.now (omega (arith, c.requires.typed_len)))) in
-    omega (arith, c.set_number-2.auto.a, ap length part, column-length 1024 1 xs (omega (arith, z)))
+  wide_1 : length c.set_number.new.a ≡ 1024
+  wide_1 = omega (arith, c.set_number.auto.a, column-length 1024 0 xs (omega (arith, size)))
 
-wide_3 : (c : After-set_number-3) → length c.set_number-3.new.a ≡ 1024
-wide_3 c =
-    let a = first c in
-    let xs = a.args.typed.now in
-    let z = size a in
-    let part = third-before 1024 xs z a.set-number.last.0 (wide_1 a) c.set_number-2.new.a (let xs = (start c).args.typed.now in
-    let z = size (start c) in
-    let part = second-before 1024 xs z c.set_number.new.a (omega (arith, c.set_number.auto.a, column-length 1024 0 c.args.typed.now (omega (arith, c.requires.typed_len)))) in
-    omega (arith, c.set_number-2.auto.a, ap length part, column-length 1024 1 xs (omega (arith, z)))) in
-    omega (arith, c.set_number-3.auto.a, ap length part, column-length 1024 2 xs (omega (arith, z)))
+  wide_2 : length c.set_number-2.new.a ≡ 1024
+  wide_2 =
+      let part = second-before 1024 xs size c.set_number.new.a wide_1 in
+      omega (arith, c.set_number-2.auto.a, ap length part, column-length 1024 1 xs (omega (arith, size)))
 
--- what the last part holds before its store
-abbrev last-part : After-set_number-3 → List ℕ
-last-part c =
-    let a = first c in
-    let once = a.set-number.last.0 ++ drop 1024 a.args.typed.now in
-    take 1024 (drop 3072 (put_mid 2048 1024 (put_mid 1024 1024 once c.set_number-2.new.a) c.set_number-3.new.a))
+  wide_3 : length c.set_number-3.new.a ≡ 1024
+  wide_3 =
+      let part = third-before 1024 xs size c.set_number.new.a wide_1 c.set_number-2.new.a wide_2 in
+      omega (arith, c.set_number-3.auto.a, ap length part, column-length 1024 2 xs (omega (arith, size)))
 
-last-is : (c : After-set_number-3) → last-part c ≡ column 1024 3 (start (first c)).args.typed.now
-last-is c =
-    let a = first c in
-    let z = size a in
-    fourth_before 1024 a.args.typed.now z a.set-number.last.0 (wide_1 a) c.set_number-2.new.a (let xs = (start c).args.typed.now in
-    let z = size (start c) in
-    let part = second-before 1024 xs z c.set_number.new.a (omega (arith, c.set_number.auto.a, column-length 1024 0 c.args.typed.now (omega (arith, c.requires.typed_len)))) in
-    omega (arith, c.set_number-2.auto.a, ap length part, column-length 1024 1 xs (omega (arith, z))))
-    c.set_number-3.new.a (wide_3 c)
+  abbrev last-part : List ℕ
+  last-part =
+      let once = c.set_number.new.a ++ drop 1024 xs in
+      take 1024 (drop 3072 (put_mid 2048 1024 (put_mid 1024 1024 once c.set_number-2.new.a) c.set_number-3.new.a))
 
-last_wide : (c : After-set_number-3) → length (last-part c) ≡ 1024
-last_wide c =
-    let s = start (first c) in
-    ap length (last-is c) ∙ column-length 1024 3 s.args.typed.now (omega (arith, size s))
+  last-is : last-part ≡ column 1024 3 xs
+  last-is = fourth_before 1024 xs size c.set_number.new.a wide_1 c.set_number-2.new.a wide_2 c.set_number-3.new.a wide_3
+
+  last_wide : length last-part ≡ 1024
+  last_wide = ap length last-is ∙ column-length 1024 3 xs (omega (arith, size))
 
 pub slice_bounds-set_number-end-2 : goal.slice_bounds-set_number-end-2
 slice_bounds-set_number-end-2 c =
-    omega (arith, column-length 1024 0 c.args.typed.now (omega (arith, size (goal.at.slice_bounds-set_number-end-2 c).Start)))
+    omega (arith, column-length 1024 0 c.args.typed.now (omega (arith, c.requires.typed_len)))
 
 pub set_number-requires : goal.set_number-requires
 set_number-requires c =
-    omega (arith, c.requires.i_lt_character_slots, column-length 1024 0 c.args.typed.now (omega (arith, size (goal.at.set_number-requires c).Start)))
+    omega (
+      arith,
+      c.requires.i_lt_character_slots,
+      column-length 1024 0 c.args.typed.now (omega (arith, c.requires.typed_len)),
+    )
 
 pub set_number-requires-4 : goal.set_number-requires-4
 set_number-requires-4 c =
-    let a = first c in
-    omega (arith, a.pre.0, last_wide (goal.at.set_number-requires-4 c).After-set_number-3)
-
-wide_4 : (c : After-slice_known-5-1) → length c.set_number-4.new.a ≡ 1024
-wide_4 c =
-    omega (
-      arith,
-      c.set_number-4.auto.a,
-      (let s = start (first c) in
-          ap length (let a = first c in
-          let z = size a in
-          fourth_before 1024 a.args.typed.now z a.set-number.last.0 (wide_1 a) c.set_number-2.new.a (let xs = (start c).args.typed.now in
-          let z = size (start c) in
-          let part = second-before 1024 xs z c.set_number.new.a (omega (arith, c.set_number.auto.a, column-length 1024 0 c.args.typed.now (omega (arith, size c)))) in
-          omega (arith, c.set_number-2.auto.a, ap length part, column-length 1024 1 xs (omega (arith, z))))
-          c.set_number-3.new.a (let a = first c in
-          let xs = a.args.typed.now in
-          let z = size a in
-          let part = third-before 1024 xs z a.set-number.last.0 (wide_1 a) c.set_number-2.new.a (let xs = (start c).args.typed.now in
-          let z = size (start c) in
-          let part = second-before 1024 xs z c.set_number.new.a (wide_1 c) in
-          omega (arith, c.set_number-2.auto.a, ap length part, column-length 1024 1 xs (omega (arith, z)))) in
-          omega (arith, c.set_number-3.auto.a, ap length part, column-length 1024 2 xs (omega (arith, z))))) ∙ column-length 1024 3 s.args.typed.now (omega (arith, size s))),
-    )
+    omega (arith, c.requires.i_lt_character_slots, last_wide (goal.at.set_number-requires-4 c).After-set_number-3)
 
 pub shape_of-typed : goal.shape_of-typed
 shape_of-typed c =
-    let a = first c in
-    let xs = a.args.typed.now in
-    let z = size a in
-    let vs = a.set-number.last.0 in
+    let d = (goal.at.shape_of-typed c).After-set_number-3 in
+    let vs = c.set_number.new.a in
     let bs = c.set_number-2.new.a in
     let cs = c.set_number-3.new.a in
     let ds = c.set_number-4.new.a in
-    let whole = ap (λ (l : List ℕ). length l) (all_replaced 1024 xs z vs (wide_1 a) bs (wide_2 (goal.at.shape_of-typed c).After-set_number-2) cs (wide_3 (goal.at.shape_of-typed c).After-set_number-3) ds) in
-    let sizes = length-append vs (bs ++ (cs ++ ds)) in
-    omega (arith, whole, z, wide_1 a, wide_2 (goal.at.shape_of-typed c).After-set_number-2, wide_3 (goal.at.shape_of-typed c).After-set_number-3, wide_4 (goal.at.shape_of-typed c).After-slice_known-5-1, sizes, length-append bs (cs ++ ds), length-append cs ds)
+    let whole = ap (λ (l : List ℕ). length l) (all_replaced 1024 c.args.typed.now (size d) vs (wide_1 d) bs (wide_2 d) cs (wide_3 d) ds) in
+    omega (
+      arith,
+      whole,
+      size d,
+      wide_1 d,
+      wide_2 d,
+      wide_3 d,
+      c.set_number-4.auto.a,
+      last_wide d,
+      length-append vs (bs ++ (cs ++ ds)),
+      length-append bs (cs ++ ds),
+      length-append cs ds,
+    )
 
 pub returns : goal.returns
 returns c =
-    let a = first c in
-    let s = a in
-    let xs = s.args.typed.now in
-    let z = size s in
-    let vs = a.set-number.last.0 in
+    let d = (goal.at.returns c).After-set_number-3 in
+    let xs = c.args.typed.now in
+    let vs = c.set_number.new.a in
     let bs = c.set_number-2.new.a in
     let cs = c.set_number-3.new.a in
     let ds = c.set_number-4.new.a in
-    let e = columns-are 1024 xs z vs (wide_1 a) bs (wide_2 (goal.at.returns c).After-set_number-2) cs (wide_3 (goal.at.returns c).After-set_number-3) ds (wide_4 (goal.at.returns c).After-slice_known-5-1) in
+    let wide_4 : length ds ≡ 1024 = omega (arith, c.set_number-4.auto.a, last_wide d) in
+    let e = columns-are 1024 xs (size d) vs (wide_1 d) bs (wide_2 d) cs (wide_3 d) ds wide_4 in
     record {
-      ids = e.0 ∙ a.set-number.ensures ∙ ap (λ (x : ℕ). set (column 1024 0 xs) s.args.i x) a.before.key.ensures.0;
+      ids = e.0 ∙ c.set_number.ensures ∙ ap (λ (x : ℕ). set (column 1024 0 xs) c.args.i x) c.key.ensures.value;
       previous =
           e.1 ∙ c.set_number-2.ensures
-          ∙ ap₂ (λ (l : List ℕ) (x : ℕ). set l s.args.i x) (second-before 1024 xs z vs (wide_1 a)) c.key-2.ensures.value;
+          ∙ ap₂ (λ (l : List ℕ) (x : ℕ). set l c.args.i x) (second-before 1024 xs (size d) vs (wide_1 d)) c.key-2.ensures.value;
       next =
           e.2 ∙ c.set_number-3.ensures
-          ∙ ap₂ (λ (l : List ℕ) (x : ℕ). set l s.args.i x) (third-before 1024 xs z vs (wide_1 a) bs (wide_2 (goal.at.returns c).After-set_number-2)) c.key-3.ensures.value;
+          ∙ ap₂ (λ (l : List ℕ) (x : ℕ). set l c.args.i x) (third-before 1024 xs (size d) vs (wide_1 d) bs (wide_2 d)) c.key-3.ensures.value;
       points =
           e.3 ∙ c.set_number-4.ensures
-          ∙ ap (λ (l : List ℕ). set l s.args.i s.args.insert.code_point) (last-is (goal.at.returns c).After-set_number-3);
+          ∙ ap (λ (l : List ℕ). set l c.args.i c.args.insert.code_point) (last-is d);
     }
