@@ -10,7 +10,7 @@ use Rattle.execution.specs.Outcomes.{left_as}
 use Rattle.execution.proofs.Changing.{told, defer-lent, defer-slot, placeable, targeted, no_place, no_target}
 use Rattle.execution.proofs.Changing.{answered_left, deferred_left, integrated_left, toggled-left}
 use borrow.Author.Rules.{rules}
-use Rattle.execution.proofs.carry.Goals.{In-Defer, In-Insert-2, In-Toggle-operation-2-2, Start}
+use Rattle.execution.proofs.carry.Goals.{In-Defer, In-Insert, In-Toggle-operation-2, Start}
 use Rattle.execution.proofs.carry.Goals as goal
 
 -- the replica with the arrays
@@ -25,13 +25,13 @@ defers : (c : In-Defer) → Feasible (let a = c.args in
 defers c = told (let a = c.args in
     replica_as a.site a.characters.now a.toggles.now a.n a.pending.now a.w a.heads.now a.links.now) c.requires.feasible refl c.in-Defer.is
 
-places : (c : In-Insert-2) → let k = c.in-Place.k in
+places : (c : In-Insert) → let k = c.in-Place.k in
     Feasible (let a = c.args in
     replica_as a.site a.characters.now a.toggles.now a.n a.pending.now a.w a.heads.now a.links.now) (insert c.in-Insert.i) (Place k)
 places c = told (let a = c.args in
     replica_as a.site a.characters.now a.toggles.now a.n a.pending.now a.w a.heads.now a.links.now) c.requires.feasible c.in-Insert.is c.in-Place.is
 
-toggles : (c : In-Toggle-operation-2-2) → let k = c.in-Toggle.k in
+toggles : (c : In-Toggle-operation-2) → let k = c.in-Toggle.k in
     Feasible (let a = c.args in
     replica_as a.site a.characters.now a.toggles.now a.n a.pending.now a.w a.heads.now a.links.now) (toggle c.in-Toggle-operation-2.t) (toggleAt k)
 toggles c = told (let a = c.args in
@@ -55,7 +55,7 @@ integrate-done-requires c =
     record {
       characters_len = c.requires.characters_len;
       pending_len = c.requires.pending_len;
-      placed = placeable (made (goal.at.integrate-done-requires c).Start) _ _ (places (goal.at.integrate-done-requires c).In-Insert-2);
+      placed = placeable (made (goal.at.integrate-done-requires c).Start) _ _ (places (goal.at.integrate-done-requires c).In-Insert);
     }
 
 pub toggle-requires : goal.toggle-requires
@@ -63,7 +63,7 @@ toggle-requires c =
     record {
       characters_len = c.requires.characters_len;
       pending_len = c.requires.pending_len;
-      targeted = targeted (made (goal.at.toggle-requires c).Start) _ _ (toggles (goal.at.toggle-requires c).In-Toggle-operation-2-2);
+      targeted = targeted (made (goal.at.toggle-requires c).Start) _ _ (toggles (goal.at.toggle-requires c).In-Toggle-operation-2);
     }
 
 pub returns-in-Answered : goal.returns-in-Answered
@@ -83,7 +83,7 @@ returns-in-Insert c =
     let done = c.integrate-done in
     rw (c.in-Insert.is, c.in-Place.is)
     (ap (left_as done.new.characters _ done.new.pending _ _) c.left-in-Insert.ensures
-    ∙ integrated_left (made (goal.at.returns-in-Insert c).Start) _ _ _ _ _ _ (places (goal.at.returns-in-Insert c).In-Insert-2) c.heard.ensures done.ensures)
+    ∙ integrated_left (made (goal.at.returns-in-Insert c).Start) _ _ _ _ _ _ (places (goal.at.returns-in-Insert c).In-Insert) c.heard.ensures done.ensures)
 
 pub returns-in-Toggle-operation : goal.returns-in-Toggle-operation
 returns-in-Toggle-operation c =

@@ -24,7 +24,7 @@ use Rattle.keystroke.proofs.Taking.{integrated_next, discarded_next, balance_nex
 use borrow.Author.Rules.{rules}
 use Rattle.keystroke.proofs.type_next.Goals.{After-find_place-placement, After-put_in-done}
 use Rattle.index.specs.declared.Found.TheVariants.{At}
-use Rattle.integration.specs.Placements.{place_of}
+use Rattle.delivery.specs.Steps.{place_of}
 use Rattle.keystroke.proofs.type_next.Goals as goal
 
 -- ---- what is given, and the insert with its place

@@ -6,6 +6,7 @@ use mathlib.Core.Bool.{Bool, true, ◌&&◌, not}
 use mathlib.Core.Logic.{⊎_elim}
 use borrow.Author.Rules.{rules}
 use Rattle.listing.specs.Reading.{with_chunk}
+use Rattle.listing.proofs.reading.with_chunk.Goals.{then-at-lt-CHUNKS, else-at-lt-CHUNKS}
 use Rattle.listing.proofs.reading.with_chunk.Goals as goal
 
 pub returns : goal.returns
@@ -17,9 +18,14 @@ returns c =
     ∙ ap₂ (λ (x y : Bool). x && not y) c.both-rising.ensures c.marks_zero.ensures in
     let ones = c.ones_and.ensures in
     let count : c.if-at-lt-CHUNKS.count ≡ min 1024 (a.at.count + 1) =
-    ⊎_elim (λ w. omega arith) (λ w. omega arith) c.if-at-lt-CHUNKS.branch in
+    elim c.if-at-lt-CHUNKS.branch [
+      then-at-lt-CHUNKS w ↦
+      omega arith
+    | else-at-lt-CHUNKS w ↦
+      omega arith
+    ] in
     λ i. record {
-      laid_out_lem = true;
+      laid_out = true;
       in_range = true;
       total = a.at.total;
       sound = sound i;
