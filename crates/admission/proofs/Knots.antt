@@ -43,6 +43,7 @@ among_member left x h =
 
 keep-less : {A : Type 0} (p : A → Bool) (xs : List A) {x : A} → Memᴰ x xs → p x ≡ false
     → length (keep p xs) < length xs
+keep-less {A = A} p [] {x = x} x4 h = elim x4 [ ]
 keep-less p (y ∷ ys) {x} (Memᴰ.head e) h =
     let k : p y ≡ false = sym (ap p e) ∙ h in rw k (omega (arith, keep-length p ys))
 keep-less p (y ∷ ys) {x} (Memᴰ.tail m) h = go (p y) (keep-less p ys m h)

@@ -10,7 +10,7 @@ use lib.IntN.{ℤ, pos, negsuc}
 use lib.Signed.{◌≤ℤ◌}
 use mir.Syntax.{w32}
 use mir.Val.{SFits, to_z, of_z}
-use mir.Facts.{to_z_of_z}
+use mir.Facts.{to_z-of_z}
 use Rattle.lists.specs.Padding.{pad}
 use Rattle.lists.proofs.Padding.{pad-length}
 use Rattle.woot.specs.declared.Identifier.{Identifier}
@@ -91,4 +91,4 @@ small-fits (negsuc n) low high = record { sfits = omega (arith, leb→le n 0 low
 pub shift-read : (r : Replica) (o : Operation) (g : ℕ) {x : ReceiptAt} → x ≡ received_at r o g → to_z w32 (of_z w32 x.shift) ≡ x.shift
 shift-read r o g {x} e =
     let bounds = replica-shift-bounds r o g in
-    to_z_of_z (subst (λ (y : ReceiptAt). SFits w32 y.shift) (sym e) (small-fits (received_at r o g).shift bounds.0 bounds.1))
+    to_z-of_z (subst (λ (y : ReceiptAt). SFits w32 y.shift) (sym e) (small-fits (received_at r o g).shift bounds.0 bounds.1))

@@ -16,6 +16,7 @@ use Rattle.building.specs.Steps.{Among, toggle_at}
 use Rattle.building.proofs.Counting.{none-behind, absent-counted, absent-passed, no-absentees, not-false}
 use borrow.Author.Tests.{not-true}
 use borrow.Author.Rules.{rules}
+use Rattle.building.proofs.count_absent.Goals.{then-is_absent, else-is_absent}
 use Rattle.building.proofs.count_absent.Goals as goal
 
 pub loop-j-init : goal.loop-j-init
@@ -40,20 +41,22 @@ loop-j-preserved c =
     let low = c.loop-j-test.true in
     let told = c.is_absent.ensures in
     let z = toggle_at a.changes.now l.j in
-    ⊎_elim
-    (λ w. (
+    elim c.if-is_absent.branch [
+      then-is_absent w ↦
+      (
       omega (arith, l.invariant.0),
       omega arith,
       λ cs ts k small g.
-          omega (arith, l.invariant.2 cs ts k small g, absent-counted g cs small l.j z low (not-true _ (sym (told cs ts z k small g) ∙ w.0.taken))),
-    ))
-    (λ w. (
+          omega (arith, l.invariant.2 cs ts k small g, absent-counted g cs small l.j z low (not-true _ (sym (told cs ts z k small g) ∙ w.if-is_absent.true))),
+    )
+    | else-is_absent w ↦
+      (
       omega (arith, l.invariant.0),
       omega arith,
       λ cs ts k small g.
-          omega (arith, l.invariant.2 cs ts k small g, absent-passed g cs small l.j z low (not-false _ (sym (told cs ts z k small g) ∙ w.0.left))),
-    ))
-    c.if-is_absent.branch
+          omega (arith, l.invariant.2 cs ts k small g, absent-passed g cs small l.j z low (not-false _ (sym (told cs ts z k small g) ∙ w.if-is_absent.false))),
+    )
+    ]
 
 pub returns : goal.returns
 returns c =

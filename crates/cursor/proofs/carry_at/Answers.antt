@@ -51,6 +51,6 @@ pub returns : goal.returns
 returns c =
     let p = c.requires in
     let told = c.shift_with-shift.ensures in
-    let read = to_z-of_z {w = w32} {z = c.shift_with-shift.result} (record { sfits = c.shift_with-shift.type-inv }) in
+    let read = to_z-of_z {w = w32} {z = c.shift_with-shift.result} (record { sfits = c.shift_with-shift.type_inv }) in
     receipt-at_so (before (goal.at.returns c).After-answer-answer) (after (goal.at.returns c).After-answer-answer) p.sized (still (goal.at.returns c).After-answer-answer) _ _ _ _ _ p.judged_at c.carry-carried.ensures _ c.answer-answer.ensures _
     (λ e. read ∙ told.value e) (λ e cs k t small. read ∙ told.value_2 e cs k t small)

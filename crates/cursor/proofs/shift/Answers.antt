@@ -2,7 +2,7 @@
 use Prim.Native.Nat.{ℕ}
 use mathlib.Core.Path.{ap, ◌∙◌}
 use lib.IntN.{sub_ℕ}
-use mir.Facts.{to_z_of_z}
+use mir.Facts.{to_z-of_z}
 use mir.Syntax.{w32}
 use borrow.Author.Rules.{rules}
 use native.Mathlib.Omega.{arith}
@@ -17,6 +17,6 @@ difference-requires c =
 
 pub returns : goal.returns
 returns c cs k t small =
-    to_z_of_z {w = w32} {z = c.difference.result} (record { sfits = c.difference.type-inv })
+    to_z-of_z {w = w32} {z = c.difference.result} (record { sfits = c.difference.type_inv })
     ∙ c.difference.ensures
     ∙ ap (λ (n : ℕ). sub_ℕ n c.args.point) (c.visible_through.ensures.value cs k t small)

@@ -28,5 +28,5 @@ pub returns : goal.returns
 returns c =
     record {
       value = λ e. clash (passed c.is_change.ensures c.if-not-is_change.false-raw) e;
-      value_2 = λ e cs k t small. to_z-of_z {w = w32} {z = c.shift.result} (record { sfits = c.shift.type-inv }) ∙ c.shift.ensures cs k t small;
+      value_2 = λ e cs k t small. to_z-of_z {w = w32} {z = c.shift.result} (record { sfits = c.shift.type_inv }) ∙ c.shift.ensures cs k t small;
     }
