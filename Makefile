@@ -13,11 +13,12 @@
 # make soak       the library against the plain Rust of tests/native, for SECONDS (60) from SEED (the time of day) on
 # make bench      times receiving and the C calls against Rust, counts what a call copies and, where there is valgrind, its
 #                 instructions, prints a table, and draws docs/receive.svg
-# make test       the gate: it proves every crate from nothing and runs what there is to run
-# make clean      removes all that was built, the proofs too: the next make proves every crate anew
+# make test       the gate: it proves every crate, but for those that passed on this machine as they are, and runs what
+#                 there is to run
+# make clean      removes all that was built here, the proofs too
 #
 # To be set: PREFIX (/usr/local), LIBDIR (PREFIX/lib), DESTDIR (nothing; it goes before both), CC, CFLAGS, SECONDS,
-# SEED, MAINTAINER (of the Debian package), RT_JOBS (how many crates are proved at a time).
+# SEED, MAINTAINER (of the Debian package).
 .DEFAULT_GOAL := all
 .DELETE_ON_ERROR:
 .NOTPARALLEL:
@@ -37,8 +38,8 @@ VERSION := $(shell sed -n 's/^.define WIMTAZE_VERSION "\(.*\)"/\1/p' include/wim
 MAJOR := $(shell sed -n 's/^.define WIMTAZE_VERSION_MAJOR \(.*\)/\1/p' include/wimtaze.h)
 CALLS := $(shell sed -n 's/^uint64_t \(wimtaze_[a-z_]*\).*/\1/p' include/wimtaze.h)
 
-# What is proved and built, the folders among it for the files that come and go.
-SOURCES := crates.txt $(shell find crates -name must-fail -prune -o -print)
+# What is proved and built, the folders among it for the files that come and go. In a crate's out/ rt keeps its work.
+SOURCES := crates.txt $(shell find crates -mindepth 2 \( -name must-fail -o -name out \) -prune -o -print)
 
 # Says where rt is missing: nothing can be proved or built without it.
 define need_rt
@@ -46,11 +47,10 @@ define need_rt
 	"kit, without which nothing can be built here: see README.md." >&2; exit 1; }
 endef
 
-# Runs rt, and says which crate of how many is proved, and after how many seconds.
+# Has a crate proved and built, and says which crate of how many is proved, and after how many seconds.
 define prove
 $(need_rt)
-@echo "rt $(1)"; TARGET=$(lastword $(1)) .ci/progress rt $(1)
-@touch -c $@
+@TARGET=$(1) .ci/progress .ci/build $(1)
 endef
 
 .PHONY: all help library shared hall install uninstall deb native run demo soak bench test clean
@@ -67,13 +67,13 @@ shared: $(SHARED)
 hall: target/bin/hall
 
 target/staticlib/libwimtaze.a: $(SOURCES)
-	$(call prove,staticlib wimtaze)
+	$(call prove,wimtaze)
 
 target/bin/hall: $(SOURCES)
-	$(call prove,check hall)
+	$(call prove,hall)
 
 target/staticlib/libworkload.a: $(SOURCES)
-	$(call prove,staticlib workload)
+	$(call prove,workload)
 
 # The linker makes it of the static library. It stops where code does not run at any address (-z text) or something is
 # missing (-z defs). The map leaves only the calls to be seen from outside.
@@ -167,7 +167,7 @@ test:
 	.ci/progress .ci/run
 
 clean:
-	rm -rf target
+	rm -rf target crates/*/out
 
 # ---- the notepad
 

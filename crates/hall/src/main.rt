@@ -1,36 +1,47 @@
 // The hall program: reads lines of operations from standard input into an empty replica, prints a report on each, and
 // last the visible characters. What it prints is worked out in `transcript`; here it is read and printed.
-ghost use Rattle.std.specs.Prelude.{◌≡◌, true};
+#![tactic(auto)]
+
+ghost use Rattle.std.specs.Prelude.{◌≡◌, ◌≤◌, true, length};
 ghost use Rattle.woot.specs.Memory.{replica_well_formed};
 ghost use Rattle.transcript.specs.Calls.{received_line};
 
+use std::io::{IsTerminal, Read};
 use woot::{Replica, Written};
-
-const STDIN: i32 = 0;
-
-const STDOUT: i32 = 1;
-
-const STDERR: i32 = 2;
 
 // Prints bytes, and answers whether that went well. Where it did not, a message says so, and the caller is to stop:
 // what comes after lost bytes would mislead.
-fn print(bytes: &[u8]) -> bool {
-    if io::write_all(STDOUT, bytes) {
+fn print(rt: &(impl Print + Eprint), bytes: &[u8]) -> bool {
+    if rt.write_all(bytes).is_ok() {
         return true;
     }
-    io::write_all(STDERR, b"hall: cannot write to standard output\n");
+    let _ = rt.eprintln("hall: cannot write to standard output");
     false
 }
 
 // Says what the program waits for, if a person is to type it. The whole input is read before anything is printed, so at
 // a terminal the program would seem to hang. Anywhere else it says nothing: the input comes by itself.
-fn prompt() {
-    if libc::isatty(STDIN) == 1 {
-        io::write_all(
-            STDERR,
-            b"hall: waiting for lines of edits, up to the end of the input (control-D); see man hall\n",
+fn prompt(rt: &impl Eprint, input: &impl IsTerminal) {
+    if input.is_terminal() {
+        let _ = rt.eprintln(
+            "hall: waiting for lines of edits, up to the end of the input (control-D); see man hall",
         );
     }
+}
+
+// Reads until the buffer is full, the input ends or a read fails, and answers how many bytes now stand at the buffer's
+// start.
+fn read_full(input: &mut impl Read, buffer: &mut [u8]) -> usize
+    ensures { result ≤ length buffer.new }
+{
+    let mut done = 0;
+    while done < buffer.len() {
+        match input.read(&mut buffer[done..]) {
+            Ok(0) | Err(_) => break,
+            Ok(n) => done += n,
+        }
+    }
+    done
 }
 
 // A replica after a line of the input, and whether the report on it could be printed.
@@ -41,7 +52,7 @@ struct Printed {
 }
 
 // Takes the first line of the bytes, and prints the report on it.
-fn print_line(replica: Replica, number: u64, bytes: &[u8]) -> Printed
+fn print_line(rt: &(impl Print + Eprint), replica: Replica, number: u64, bytes: &[u8]) -> Printed
     ensures { result.replica ≡ (received_line replica bytes.now).replica }
 {
     let mut line = [0u8; 70];
@@ -51,7 +62,7 @@ fn print_line(replica: Replica, number: u64, bytes: &[u8]) -> Printed
     if let Written::Length(n) = written {
         return Printed {
             replica: left,
-            well: print(&line[..n]),
+            well: print(rt, &line[..n]),
         };
     }
     Printed {
@@ -61,23 +72,23 @@ fn print_line(replica: Replica, number: u64, bytes: &[u8]) -> Printed
 }
 
 // Prints the visible characters of a replica that is well formed, as the program's is from the first line to the last.
-fn print_text(replica: Replica)
+fn print_text(rt: &(impl Print + Eprint), replica: Replica)
     requires { replica_well_formed replica ≡ true }
 {
     let mut line = [0u8; 8199];
     let written = transcript::report::text_line(replica, &mut line);
     if let Written::Length(n) = written {
-        print(&line[..n]);
+        print(rt, &line[..n]);
     }
 }
 
 // Answers the lines of the input one after another, as long as the answers can be printed.
-fn run(input: &[u8]) {
+fn run(rt: &(impl Print + Eprint), input: &[u8]) {
     let mut replica = Replica::empty(16);
     let mut lines = input;
     let mut number = 1;
     while 0 < lines.len() {
-        let printed = print_line(replica, number, lines);
+        let printed = print_line(rt, replica, number, lines);
         if !printed.well {
             return;
         }
@@ -86,12 +97,13 @@ fn run(input: &[u8]) {
         lines = after;
         number += 1;
     }
-    print_text(replica);
+    print_text(rt, replica);
 }
 
-fn main() {
-    prompt();
-    let mut input = io::large_buffer();
-    let n = io::read_full(STDIN, &mut input);
-    run(&input[..n]);
+fn main(rt: HostRuntime) {
+    let mut stdin = rt.stdin();
+    prompt(&rt, &stdin);
+    let mut input = [0u8; 65536];
+    let n = read_full(&mut stdin, &mut input);
+    run(&rt, &input[..n]);
 }

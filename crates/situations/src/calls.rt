@@ -40,11 +40,11 @@ pub(crate) fn receive_silently(r: Replica, i: Insert) -> Replica
 }
 
 // Receives an insert.
-pub(crate) fn receive(label: &[u8], r: Replica, i: Insert) -> Replica {
+pub(crate) fn receive(rt: &impl Print, label: &[u8], r: Replica, i: Insert) -> Replica {
     let clock = i.id.clock;
     let receipt = replica::receive(r, Operation::Insert(i));
     let answer = receipt.answer;
-    print::step(label, clock, answer);
+    print::step(rt, label, clock, answer);
     receipt.replica
 }
 
@@ -66,27 +66,27 @@ fn answer_of(s: Sent) -> Answer
 }
 
 // Erases the first visible character.
-pub(crate) fn erase_first(r: Replica) -> Replica {
+pub(crate) fn erase_first(rt: &impl Print, r: Replica) -> Replica {
     let generated = replica::delete(r, 1);
     let answer = generated.answer;
-    print::step(b"erasing place", 1, answer_of(answer));
+    print::step(rt, b"erasing place", 1, answer_of(answer));
     generated.replica
 }
 
 // Restores a character.
-pub(crate) fn restore(r: Replica, id: Identifier) -> Replica {
+pub(crate) fn restore(rt: &impl Print, r: Replica, id: Identifier) -> Replica {
     let clock = id.clock;
     let generated = replica::restore(r, id);
     let answer = generated.answer;
-    print::step(b"restoring, at clock", clock, answer_of(answer));
+    print::step(rt, b"restoring, at clock", clock, answer_of(answer));
     generated.replica
 }
 
 // Types a character before all others.
-pub(crate) fn type_first(r: Replica) -> Replica {
+pub(crate) fn type_first(rt: &impl Print, r: Replica) -> Replica {
     let clock = r.site.clock;
     let generated = replica::insert(r, 0, 65);
     let answer = generated.answer;
-    print::step(b"typing at clock", clock, answer_of(answer));
+    print::step(rt, b"typing at clock", clock, answer_of(answer));
     generated.replica
 }

@@ -1,10 +1,9 @@
-// What the program prints: a sentence for each situation, and under it a line for each step.
+// What the program prints: a sentence for each situation, and under it a line for each step. A write that fails is not
+// told: whoever compares the output sees what it lacks.
 ghost use Rattle.std.specs.Prelude.{◌≡◌, ◌<◌, take};
 
 use answers::Answer;
 use woot::{Replica, Written};
-
-const STDOUT: i32 = 1;
 
 const TAB: u8 = 9;
 
@@ -29,47 +28,46 @@ pub(crate) fn count(w: Written) -> usize {
 }
 
 // Prints bytes as they are.
-pub(crate) fn text(s: &[u8]) {
-    io::write_all(STDOUT, s);
+pub(crate) fn text(rt: &impl Print, s: &[u8]) {
+    let _ = rt.write_all(s);
 }
 
 // Ends a line.
-fn end_line() {
-    text(b"\n");
+fn end_line(rt: &impl Print) {
+    text(rt, b"\n");
 }
 
 // Prints a number after a tab.
-pub(crate) fn number(n: u64) {
-    text(b"\t");
-    io::print_decimal(STDOUT, n);
+pub(crate) fn number(rt: &impl Print, n: u64) {
+    let _ = print!(rt; "\t{n}");
 }
 
 // Prints the line of a step: what was done, at which clock, the word, carried, thrown, and the refusal's number or 0.
-pub(crate) fn step(label: &[u8], clock: u16, answer: Answer) {
+pub(crate) fn step(rt: &impl Print, label: &[u8], clock: u16, answer: Answer) {
     let mut line = [0u8; 70];
     let n = count(transcript::report::report_line(clock as u64, answer, &mut line));
-    text(label);
-    text(b"\t");
-    text(front(&line, n));
+    text(rt, label);
+    text(rt, b"\t");
+    text(rt, front(&line, n));
 }
 
 // Prints how many characters a replica holds and how many operations wait.
-pub(crate) fn counts(r: Replica) {
+pub(crate) fn counts(rt: &impl Print, r: Replica) {
     let d = r.document;
-    text(b"rows, waiting");
-    number(d.length as u64);
-    number(d.waiting as u64);
-    end_line();
+    text(rt, b"rows, waiting");
+    number(rt, d.length as u64);
+    number(rt, d.waiting as u64);
+    end_line(rt);
 }
 
 // Prints a replica's visible characters, and nothing of one that is not well formed.
-pub(crate) fn text_line(r: Replica) {
+pub(crate) fn text_line(rt: &impl Print, r: Replica) {
     if !replica::well_formed(r) {
         return;
     }
     let mut line = [0u8; 8199];
     let n = count(transcript::report::text_line(r, &mut line));
-    text(front(&line, n));
+    text(rt, front(&line, n));
 }
 
 // The glyph of a hexadecimal digit.
@@ -83,19 +81,19 @@ fn glyph(d: u8) -> u8
 }
 
 // Prints a byte in hexadecimal after another one as it is.
-fn hexadecimal_byte(lead: u8, b: u8) {
+fn hexadecimal_byte(rt: &impl Print, lead: u8, b: u8) {
     let glyphs = [lead, glyph(b / 16), glyph(b % 16)];
-    text(&glyphs);
+    text(rt, &glyphs);
 }
 
 // Prints bytes in hexadecimal, parted by spaces, after a tab, and ends the line.
-pub(crate) fn hexadecimal(s: &[u8]) {
+pub(crate) fn hexadecimal(rt: &impl Print, s: &[u8]) {
     let mut lead = TAB;
     let mut i = 0;
     while i < s.len() {
-        hexadecimal_byte(lead, s[i]);
+        hexadecimal_byte(rt, lead, s[i]);
         lead = SPACE;
         i += 1;
     }
-    end_line();
+    end_line(rt);
 }

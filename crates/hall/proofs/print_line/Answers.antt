@@ -7,17 +7,17 @@ use Rattle.transcript.proofs.Looping.{processed-within}
 use Rattle.hall.proofs.print_line.Goals as goal
 
 pub slice_bounds-line-end : goal.slice_bounds-line-end
-slice_bounds-line-end c =
+slice_bounds-line-end g c =
     let p = c.process_line-processed.ensures in processed-within _ _ _ _ p.value c.in-Length.is p.out_after
 
 pub slice_bounds-print-end : goal.slice_bounds-print-end
-slice_bounds-print-end c =
+slice_bounds-print-end g c =
     let p = c.process_line-processed.ensures in sym (length-take-le _ _ (processed-within _ _ _ _ p.value c.in-Length.is p.out_after))
 
 pub returns-in-Length : goal.returns-in-Length
 unfolding processed
-returns-in-Length c = rw c.process_line-processed.ensures.value
+returns-in-Length g c = rw c.process_line-processed.ensures.value
 
 pub returns : goal.returns
 unfolding processed
-returns c = rw c.process_line-processed.ensures.value
+returns g c = rw c.process_line-processed.ensures.value

@@ -6,12 +6,12 @@ use Rattle.codec.proofs.Answers.{fitted_within}
 use Rattle.hall.proofs.print_text.Goals as goal
 
 pub text_line-written-requires : goal.text_line-written-requires
-text_line-written-requires c = c.requires
+text_line-written-requires g c = c.requires
 
 pub slice_bounds-line-end : goal.slice_bounds-line-end
-slice_bounds-line-end c =
+slice_bounds-line-end g c =
     let p = c.text_line-written.ensures in fitted_within _ _ p.value c.in-Length.is p.out_after
 
 pub slice_bounds-print-end : goal.slice_bounds-print-end
-slice_bounds-print-end c =
+slice_bounds-print-end g c =
     let p = c.text_line-written.ensures in sym (length-take-le _ _ (fitted_within _ _ p.value c.in-Length.is p.out_after))

@@ -13,7 +13,7 @@ use Rattle.hall.proofs.run.Goals.{After-rest-after}
 use Rattle.hall.proofs.run.Goals as goal
 
 pub loop-lines-init : goal.loop-lines-init
-loop-lines-init c = (omega arith, ap replica_well_formed c.empty-replica.ensures ∙ begun-formed)
+loop-lines-init g c = (omega arith, ap replica_well_formed c.empty-replica.ensures ∙ begun-formed)
 
 shorter : (c : After-rest-after) → length c.rest-after.result.now < length c.loop-lines.lines.now
 shorter c =
@@ -21,14 +21,14 @@ shorter c =
     omega (arith, ap length c.rest-after.ensures, rest_shorter s c.loop-lines-test.true)
 
 pub overflow_add-number : goal.overflow_add-number
-overflow_add-number c = omega (arith, shorter (goal.at.overflow_add-number c).After-rest-after)
+overflow_add-number g c = omega (arith, shorter (goal.at.overflow_add-number g c).After-rest-after)
 
 pub loop-lines-smaller : goal.loop-lines-smaller
-loop-lines-smaller c = shorter (goal.at.loop-lines-smaller c).After-rest-after
+loop-lines-smaller g c = shorter (goal.at.loop-lines-smaller g c).After-rest-after
 
 pub loop-lines-preserved : goal.loop-lines-preserved
-loop-lines-preserved c =
-    (omega (arith, shorter (goal.at.loop-lines-preserved c).After-rest-after, c.loop-lines.invariant.0), ap replica_well_formed c.print_line-printed.ensures ∙ received_line_formed _ c.loop-lines.invariant.1 _)
+loop-lines-preserved g c =
+    (omega (arith, shorter (goal.at.loop-lines-preserved g c).After-rest-after, c.loop-lines.invariant.0), ap replica_well_formed c.print_line-printed.ensures ∙ received_line_formed _ c.loop-lines.invariant.1 _)
 
 pub print_text-requires : goal.print_text-requires
-print_text-requires c = c.loop-lines.invariant.1
+print_text-requires g c = c.loop-lines.invariant.1

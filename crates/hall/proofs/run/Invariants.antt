@@ -12,7 +12,7 @@ use Rattle.transcript.proofs.Looping.{received_line_formed, begun-formed}
 use Rattle.hall.proofs.run.Given as goal
 
 abbrev pub invariant-loop-lines : goal.invariant-loop-lines
-invariant-loop-lines l = (l.number + length l.lines ≤ length l.input + 1) × (replica_well_formed l.replica ≡ true)
+invariant-loop-lines g l = (l.number + length l.lines ≤ length l.input + 1) × (replica_well_formed l.replica ≡ true)
 
 abbrev pub decreases-loop-lines : goal.decreases-loop-lines
-decreases-loop-lines l = length l.lines
+decreases-loop-lines g l = length l.lines

@@ -4,4 +4,4 @@ use borrow.Author.Rules.{rules}
 use Rattle.situations.proofs.print.text_line.Goals as goal
 
 pub text_line-requires : goal.text_line-requires
-text_line-requires c = passed c.well_formed-2.ensures c.if-not-well_formed.false-raw
+text_line-requires g c = passed c.well_formed-2.ensures c.if-not-well_formed.false-raw

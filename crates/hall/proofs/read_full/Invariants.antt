@@ -1,0 +1,9 @@
+-- `hall::read_full` is safe and ends: each turn reads at least one byte into the buffer, or is the last.
+use Rattle.std.proofs.Common.{◌-◌, ◌≤◌, length}
+use Rattle.hall.proofs.read_full.Given as goal
+
+abbrev pub invariant-loop-done : goal.invariant-loop-done
+invariant-loop-done g l = l.done ≤ length l.buffer
+
+abbrev pub decreases-loop-done : goal.decreases-loop-done
+decreases-loop-done g l = length l.buffer - l.done
