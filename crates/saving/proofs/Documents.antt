@@ -37,7 +37,7 @@ use Rattle.saving.specs.contracts.numbered.Line as line
 
 -- a line has its nine numbers
 pub full_line : (l : Line) {vs : List Val} → Is line.the_row l vs → length l.numbers ≡ 9
-full_line l g = simp length-map at g.1.1.1.0.1.0.1
+full_line l g = g.1.1.1.0.1.0.1
 
 -- an insert's line is the same in both forms
 pub insert-either : (v : Version) (i : Insert) → operation_line (insert i) ≡ saved_line v (insert i)

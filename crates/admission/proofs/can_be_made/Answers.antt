@@ -14,7 +14,7 @@ columns s = ends 1024 s.requires.characters_len
 pub is_loadable-requires : goal.is_loadable-requires
 is_loadable-requires c =
     record {
-      tabled = simp (length-take, length-drop) c.requires.tabled;
+      tabled = c.requires.tabled;
       ids_in_bounds = simp (length-take, length-drop) (omega arith);
       ids_in_bounds_2 = simp (length-take, length-drop) (omega arith);
     }

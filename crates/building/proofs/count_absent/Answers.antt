@@ -42,20 +42,18 @@ loop-j-preserved c =
     let told = c.is_absent.ensures in
     let z = toggle_at a.changes.now l.j in
     elim c.if-is_absent.branch [
-      then-is_absent w ↦
-      (
-      omega (arith, l.invariant.0),
-      omega arith,
-      λ cs ts k small g.
-          omega (arith, l.invariant.2 cs ts k small g, absent-counted g cs small l.j z low (not-true _ (sym (told cs ts z k small g) ∙ w.if-is_absent.true))),
-    )
-    | else-is_absent w ↦
-      (
-      omega (arith, l.invariant.0),
-      omega arith,
-      λ cs ts k small g.
-          omega (arith, l.invariant.2 cs ts k small g, absent-passed g cs small l.j z low (not-false _ (sym (told cs ts z k small g) ∙ w.if-is_absent.false))),
-    )
+      | then-is_absent w ↦ (
+        omega (arith, l.invariant.0),
+        omega arith,
+        λ cs ts k small g.
+            omega (arith, l.invariant.2 cs ts k small g, absent-counted g cs small l.j z low (not-true _ (sym (told cs ts z k small g) ∙ w.if-is_absent.true))),
+      )
+      | else-is_absent w ↦ (
+        omega (arith, l.invariant.0),
+        omega arith,
+        λ cs ts k small g.
+            omega (arith, l.invariant.2 cs ts k small g, absent-passed g cs small l.j z low (not-false _ (sym (told cs ts z k small g) ∙ w.if-is_absent.false))),
+      )
     ]
 
 pub returns : goal.returns

@@ -6,14 +6,14 @@ pub returns-in-Saved : goal.returns-in-Saved
 returns-in-Saved c =
     record {
       line_value = rw c.in-Saved.is c.read_character_front.ensures.line_value;
-      next_value = rw c.in-Saved.is c.read_character_front.ensures.next_value;
-      next_in_bounds = rw c.in-Saved.is c.read_character_front.ensures.next_in_bounds;
+      next_value = c.read_character_front.ensures.next_value;
+      next_in_bounds = c.read_character_front.ensures.next_in_bounds;
     }
 
 pub returns-in-Archived : goal.returns-in-Archived
 returns-in-Archived c =
     record {
       line_value = rw c.in-Archived.is c.read_placed_front.ensures.line_value;
-      next_value = rw c.in-Archived.is c.read_placed_front.ensures.next_value;
-      next_in_bounds = rw c.in-Archived.is c.read_placed_front.ensures.next_in_bounds;
+      next_value = c.read_placed_front.ensures.next_value;
+      next_in_bounds = c.read_placed_front.ensures.next_in_bounds;
     }

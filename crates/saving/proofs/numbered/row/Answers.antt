@@ -8,7 +8,7 @@ unfolding row_line
 returns-in-Saved c =
     record {
       result_value = rw c.in-Saved.is c.character.ensures.result_value;
-      count_bound = rw c.in-Saved.is c.character.ensures.count_bound;
+      count_bound = c.character.ensures.count_bound;
     }
 
 pub returns-in-Archived : goal.returns-in-Archived
@@ -16,5 +16,5 @@ unfolding row_line
 returns-in-Archived c =
     record {
       result_value = rw c.in-Archived.is c.placed.ensures.result_value;
-      count_bound = rw c.in-Archived.is c.placed.ensures.count_bound;
+      count_bound = c.placed.ensures.count_bound;
     }
