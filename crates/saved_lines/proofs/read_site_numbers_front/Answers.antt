@@ -8,14 +8,14 @@ pub returns-in-First : goal.returns-in-First
 returns-in-First c =
     record {
       numbers_value = rw c.in-First.is (c.read_front.ensures.numbers_value ∙ front-line _ _ _ _);
-      next_value = rw c.in-First.is c.read_front.ensures.next_value;
-      next_in_bounds = rw c.in-First.is c.read_front.ensures.next_in_bounds;
+      next_value = c.read_front.ensures.next_value;
+      next_in_bounds = c.read_front.ensures.next_in_bounds;
     }
 
 pub returns-in-Second : goal.returns-in-Second
 returns-in-Second c =
     record {
       numbers_value = rw c.in-Second.is (c.read_front-in-Second.ensures.numbers_value ∙ front-line _ _ _ _);
-      next_value = rw c.in-Second.is c.read_front-in-Second.ensures.next_value;
-      next_in_bounds = rw c.in-Second.is c.read_front-in-Second.ensures.next_in_bounds;
+      next_value = c.read_front-in-Second.ensures.next_value;
+      next_in_bounds = c.read_front-in-Second.ensures.next_in_bounds;
     }

@@ -10,5 +10,5 @@ returns c =
     let p = c.report_line-written.ensures in
     record {
       value = rw (← c.answer_line-receipt.ensures, p.value) refl;
-      out_after = rw (← c.answer_line-receipt.ensures, p.value) p.out_after;
+      out_after = rw (← c.answer_line-receipt.ensures) p.out_after;
     }

@@ -15,7 +15,6 @@ use Rattle.replica.proofs.Returning.{sized_still}
 use Rattle.typing.specs.Steps.{points_in, AllTyped}
 use Rattle.typing.proofs.Going.{Going, point-read, going_begun, going_typeable, going_stopped, going_again, going_ended, told_nowhere, told-taken}
 use borrow.Author.Rules.{rules}
-use Rattle.typing.proofs.type_all.Invariants.{waiting}
 use Rattle.typing.proofs.type_all.Goals.{In-loop-i, Start}
 use Rattle.typing.proofs.type_all.Goals as goal
 
@@ -29,6 +28,13 @@ counted s =
 
 few : (s : Start) → length (points_in s.args.count s.args.typed.now) ≤ 1024
 few s = omega (arith, counted s, s.requires.count_le_character_slots)
+
+-- the pending operations at the beginning
+waiting : (s : Start) → s.args.w ≤ 512
+waiting s =
+    let a = s.args in
+    let r = replica_as a.site a.characters.now a.toggles.now a.n a.pending.now a.w a.heads.now a.links.now in
+    (counts r (form_counted r s.requires.typeable.form)).pending
 
 short : (c : In-loop-i) → c.loop-i.i < length (points_in c.args.count c.args.typed.now)
 short c = omega (

@@ -17,13 +17,6 @@ use Rattle.typing.proofs.Going.{Going, point-read, going_begun, going_typeable, 
 use borrow.Author.Rules.{rules}
 use Rattle.typing.proofs.type_all.Given as goal
 
--- the pending operations at the beginning
-pub waiting : (s : Start) → s.args.w ≤ 512
-waiting s =
-    let a = s.args in
-    let r = replica_as a.site a.characters.now a.toggles.now a.n a.pending.now a.w a.heads.now a.links.now in
-    (counts r (form_counted r s.requires.typeable.form)).pending
-
 abbrev pub invariant-loop-i : goal.invariant-loop-i
 invariant-loop-i l = Sized l.characters l.toggles l.pending l.heads l.links × (length l.typed ≡ 4096)
     × Going (meaning (replica_as l.initial.at.site l.initial.characters l.initial.toggles l.n l.initial.pending l.w l.initial.heads l.initial.links)) l.point l.w (points_in l.count l.initial.typed)

@@ -62,14 +62,14 @@ put_lines-requires c =
       has_slots = c.requires;
       w_in_bounds = body-room (front (goal.at.put_lines-requires c).Start) (body (goal.at.put_lines-requires c).Start) (bytes (goal.at.put_lines-requires c).Start) c.args.out.now (whole (goal.at.put_lines-requires c).Start) (rw c.version-version.ensures at c.measure_site_with-front.ensures)
           c.in-Until.is c.measure-room.ensures c.in-Until-room.is
-          (rw c.version-version.ensures at (c.put_site_with-at.ensures.value, c.put_site_with-at.ensures.out_after));
+          (rw c.version-version.ensures at c.put_site_with-at.ensures.value, rw c.version-version.ensures at c.put_site_with-at.ensures.out_after);
     }
 
 pub returns : goal.returns
 returns c =
     let all = body-put (front (goal.at.returns c).Start) (body (goal.at.returns c).Start) (bytes (goal.at.returns c).Start) c.args.out.now (whole (goal.at.returns c).Start) (rw c.version-version.ensures at c.measure_site_with-front.ensures)
     c.in-Until.is c.measure-room.ensures c.in-Until-room.is
-    (rw c.version-version.ensures at (c.put_site_with-at.ensures.value, c.put_site_with-at.ensures.out_after)) c.put_lines.ensures in
+    (rw c.version-version.ensures at c.put_site_with-at.ensures.value, rw c.version-version.ensures at c.put_site_with-at.ensures.out_after) c.put_lines.ensures in
     record {
       value = all.0;
       out_after = all.1;

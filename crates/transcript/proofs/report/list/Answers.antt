@@ -10,6 +10,7 @@ use lib.ListN.{length, take, length-set}
 use Rattle.woot.specs.declared.Character.{Character}
 use Rattle.woot.specs.Memory.{code_points_of, toggle_counts}
 use Rattle.transcript.proofs.Listings.{Gathered, gathered_none, gathered-shown, gathered-not, gathered-whole}
+use Rattle.transcript.proofs.report.list.Goals.{then-toggles-i-eq0, else-toggles-i-eq0}
 use Rattle.transcript.proofs.report.list.Goals as goal
 
 pub loop-i-init : goal.loop-i-init
@@ -20,24 +21,26 @@ loop-i-preserved c =
     let a = c.args in
     let l = c.loop-i in
     let s = c.requires in
-    ⊎_elim
-    (λ w. (
+    elim c.if-toggles-i-eq0.branch [
+      then-toggles-i-eq0 w ↦
+      (
       omega arith,
       omega arith,
-      ap length w.3 ∙ length-set l.values _ _ ∙ l.invariant.2,
+      ap length w.values-is ∙ length-set l.values _ _ ∙ l.invariant.2,
       λ cs p t.
-          rw (w.3, w.4, w.2.ensures)
-          (gathered-shown cs a.«code_points».now a.toggles.now a.n l.i p t (omega arith) (omega (arith, s.n_in_bounds)) (omega (arith, s.n_in_bounds_2)) _ _ (l.invariant.3 cs p t) (omega arith) w.0.taken),
-    ))
-    (λ w. (
+          rw (w.values-is, w.count-is, w.wide.ensures)
+          (gathered-shown cs a.«code_points».now a.toggles.now a.n l.i p t (omega arith) (omega (arith, s.n_in_bounds)) (omega (arith, s.n_in_bounds_2)) _ _ (l.invariant.3 cs p t) (omega arith) w.if-toggles-i-eq0.true),
+    )
+    | else-toggles-i-eq0 w ↦
+      (
       omega arith,
       omega arith,
-      ap length w.1 ∙ l.invariant.2,
+      ap length w.values-is ∙ l.invariant.2,
       λ cs p t.
-          rw (w.1, w.2)
-          (gathered-not cs a.«code_points».now a.toggles.now a.n l.i p t (omega arith) (omega (arith, s.n_in_bounds)) (omega (arith, s.n_in_bounds_2)) _ _ (l.invariant.3 cs p t) w.0.left),
-    ))
-    c.if-toggles-i-eq0.branch
+          rw (w.values-is, w.count-is)
+          (gathered-not cs a.«code_points».now a.toggles.now a.n l.i p t (omega arith) (omega (arith, s.n_in_bounds)) (omega (arith, s.n_in_bounds_2)) _ _ (l.invariant.3 cs p t) w.if-toggles-i-eq0.false),
+    )
+    ]
 
 pub returns : goal.returns
 returns c =
