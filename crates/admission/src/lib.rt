@@ -1,5 +1,7 @@
 // Loading for use: whether some sequence of received operations, begun from an empty replica, leaves the rows of one.
 // (Document 02, Req 07.) Two tests say it, both on the places of the rows' neighbours: those of pairs and of cycles.
+#![tactic(auto)]
+
 ghost use Rattle.std.specs.Prelude.{◌≡◌, List, ◌≤◌, length, take};
 ghost use Rattle.woot.specs.declared.Character.{Character};
 ghost use Rattle.bulk.specs.Loading.{loadable};

@@ -1,5 +1,7 @@
 // What the calls answer: the refusals with their numbers and the order in which they are checked, and the answers that
 // document 01 names. The rules are told in these words, so this crate stands below them.
+#![tactic(auto)]
+
 ghost use Rattle.std.specs.Prelude.{◌≡◌};
 ghost use Rattle.answers.specs.Answers.{number, rank, earlier, changes};
 

@@ -1,4 +1,6 @@
 // The archive of a saved replica, its rows by rising identifier, and the way back. (Document 02, Req 10.)
+#![tactic(auto)]
+
 ghost use Rattle.std.specs.Prelude.{◌≡◌, true, [], ◌≤◌, length, take};
 ghost use Rattle.woot.specs.State.{State};
 ghost use Rattle.woot.specs.Form.{all_in_range, well_formed};

@@ -1,5 +1,7 @@
 // What is known of a block of text before a character of it is typed: what a replica's form, its clock and its room say
 // of so many characters more, in the rule's order. (Document 02, Req 11.)
+#![tactic(auto)]
+
 ghost use Rattle.std.specs.Prelude.{◌≡◌, not, ◌+◌, ◌≤◌, eqb, ltb, length, take};
 ghost use Rattle.lists.specs.Lists.{keep};
 ghost use Rattle.woot.specs.Limits.{last_clock, capacity};

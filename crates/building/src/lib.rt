@@ -1,5 +1,7 @@
 // Building the document of a heap of operations: its inserts are placed in passes, then its toggles are carried out,
 // and what is left out is counted. (Document 02, Req 08.)
+#![tactic(auto)]
+
 ghost use Rattle.std.specs.Prelude.{◌≡◌, true, ◌||◌, not, List, ◌+◌, ◌≤◌, ◌<◌, length, take, drop, get_or};
 ghost use Rattle.lists.specs.Lists.{any};
 ghost use Rattle.bulk.specs.Building.{unbuilt};

@@ -1,5 +1,7 @@
 // Catching up: a replica lists the characters that it holds, and another answers with those that are missing and with
 // every count of toggles. (Document 02, Req 09.)
+#![tactic(auto)]
+
 mod answering;
 mod columns;
 mod sending;

@@ -1,4 +1,6 @@
 // The chains of the table of keys: looking up a key, and the table of given keys.
+#![tactic(auto)]
+
 ghost use Rattle.std.specs.Prelude.{◌≡◌, ◌*◌, ◌<◌, ◌≤◌, length, take, replicate};
 ghost use Rattle.woot.specs.Table.{chain_of, slot, lookup, free_slot, entered, table_of, chains};
 ghost use Rattle.woot.specs.Table.{table_links};

@@ -1,5 +1,7 @@
 // What the calls do that change a replica in lent arrays, once nothing that was handed is refused for its layout or
 // range: the rule, and then the bytes of what it leaves.
+#![tactic(auto)]
+
 ghost use Rattle.std.specs.Prelude.{◌≡◌, true, [], ◌≤◌, length};
 ghost use Rattle.answers.specs.declared.Answer.TheVariants.{Done};
 ghost use Rattle.woot.specs.Memory.{replica_well_formed, character_numbers, character_slots, pending_numbers, pending_slots};

@@ -1,5 +1,7 @@
 // The characters of a document, on the arrays that hold them: one put in, one toggled, and the slots behind them
 // cleared. Each array is edited where it lies.
+#![tactic(auto)]
+
 ghost use Rattle.std.specs.Prelude.{◌≡◌, ◌+◌, ◌≤◌, ◌<◌, max, length, take, set, get_or};
 ghost use Rattle.lists.specs.Padding.{pad};
 ghost use Rattle.slots.specs.Slots.{put_at};

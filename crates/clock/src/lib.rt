@@ -1,5 +1,7 @@
 // A site's clock, which follows the inserts that have its number: raised by one that is heard, and by all whose keys
 // lie in lent arrays. (Document 02, Req 04.)
+#![tactic(auto)]
+
 ghost use Rattle.std.specs.Prelude.{◌≡◌, [], ◌∷◌, max, ◌≤◌, length, take};
 ghost use Rattle.woot.specs.Operations.{inserts};
 ghost use Rattle.woot.specs.Clock.{heard, heard_all};

@@ -1,4 +1,6 @@
 // Operations as lines of text: what the lines are, and reading them from bytes; `line_writing` writes them.
+#![tactic(auto)]
+
 ghost use Rattle.std.specs.Prelude.{◌≡◌, true, ◌<◌, ◌%◌, get_or};
 ghost use Rattle.lines.specs.Lines.{rest};
 ghost use Rattle.lines.specs.Fields.{at_most};

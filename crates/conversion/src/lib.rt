@@ -1,4 +1,6 @@
 // Saved replicas from one form to the other: the way forward reads the first form, and the way back writes it.
+#![tactic(auto)]
+
 ghost use Rattle.std.specs.Prelude.{◌≡◌, true, map, ◌≤◌, length, take, get_or};
 ghost use Rattle.lists.specs.Lists.{every, throughout};
 ghost use Rattle.woot.specs.Ranges.{in_range};

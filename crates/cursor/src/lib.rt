@@ -1,6 +1,8 @@
 // Receiving with an editor's cursor, which stands at an insertion point and keeps to what stands on its left: that is
 // taken down as a key before the call, and the visible characters through it are counted afterwards. The steps read the
 // replica's arrays as they lie, with a slot for each of the n characters. (Document 02, Req 02.)
+#![tactic(auto)]
+
 ghost use Rattle.std.specs.Prelude.{◌≡◌, true, false, List, suc, ◌+◌, ◌-◌, ◌≤◌, min, pos, negsuc, ◌≤ℤ◌, ◌<ℤ◌, length, take};
 ghost use Rattle.std.proofs.Math.IntN.{sub_ℕ};
 ghost use Rattle.woot.specs.declared.Character.{Character};

@@ -1,5 +1,7 @@
 // Numbers as text, for lines of fields: digits read as their number, each looked at once, and a number's digits put
 // into a lent slice.
+#![tactic(auto)]
+
 ghost use Rattle.std.specs.Prelude.{◌≡◌, ◌+◌, ◌-◌, ◌*◌, ◌<◌, ◌≤◌, ◌&&◌, eqb, ltb, length, drop};
 ghost use Rattle.output.specs.Output.{placed, past};
 ghost use Rattle.decimal.specs.Numeral.{is_digit, digits};

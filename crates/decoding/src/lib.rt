@@ -1,4 +1,6 @@
 // A text read strictly as UTF-8 (RFC 3629): what it has at an offset, and how many characters it has.
+#![tactic(auto)]
+
 ghost use Rattle.std.specs.Prelude.{◌≡◌, ◌+◌, ◌-◌, ◌<◌, ◌≤◌, length, drop};
 ghost use Rattle.decoding.specs.Decoding.{decoded, continued};
 ghost use Rattle.decoding.specs.Offsets.{answer_at, decoded_at, count_of, tail_at, accepted_at};

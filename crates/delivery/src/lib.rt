@@ -1,6 +1,8 @@
 // Carrying out operations on a document whose arrays are lent: an insert is put in, and then what it released, one by
 // one, until no pending operation is executable; a character is toggled; an operation is put off. Each array is edited
 // where it lies, and what is not in use is cleared before.
+#![tactic(auto)]
+
 ghost use Rattle.std.specs.Prelude.{◌≡◌, List, ◌++◌, ◌∷◌, [], ℕ, ◌+◌, ◌≤◌, ◌<◌, length, take};
 ghost use Rattle.index.specs.declared.Found.TheVariants.{At};
 ghost use Rattle.index.specs.Keys.{AllSmall, found};

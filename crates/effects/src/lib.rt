@@ -1,5 +1,7 @@
 // What the calls do once nothing that was handed is refused for its layout or range: the rule, and then the bytes of
 // what it leaves.
+#![tactic(auto)]
+
 pub mod counting;
 pub mod results;
 

@@ -1,4 +1,6 @@
 // A decision carried out: the arrays of a replica are edited where they lie, and what was received is answered.
+#![tactic(auto)]
+
 ghost use Rattle.std.specs.Prelude.{◌≡◌, length};
 ghost use Rattle.woot.specs.Memory.{character_numbers, pending_numbers};
 ghost use Rattle.memory.specs.Lent.{replica_as};

@@ -1,5 +1,7 @@
 // A heap of operations as lines, in no useful order: read into lent arrays, inserts apart from toggles. The public
 // function is an internal step of `building`. (Document 02, Req 08.)
+#![tactic(auto)]
+
 ghost use Rattle.std.specs.Prelude.{◌≡◌, true, List, [], ◌∷◌, ◌++◌, ◌+◌, ◌^◌, ◌<◌, length, take};
 ghost use Rattle.woot.specs.Memory.{character_slots, character_numbers};
 ghost use Rattle.woot.specs.Ranges.{in_range};

@@ -1,5 +1,7 @@
 // What inserting, deleting and restoring here come to, on lent arrays, before any of them is changed: a refusal, or an
 // operation and where it goes. (Document 01: typing and erasing; document 02, Req 05: restoring.)
+#![tactic(auto)]
+
 ghost use Rattle.std.specs.Prelude.{◌≡◌, ◌+◌, ◌≤◌, ◌<◌, length, take};
 ghost use Rattle.woot.specs.Limits.{last_clock, last_toggles};
 ghost use Rattle.woot.specs.Calls.{next_identifier};

@@ -1,5 +1,7 @@
 // Inserts and toggles of a heap in lent arrays: the four numbers of an insert, put into a slot of their columns,
 // moved and read. The public functions are internal steps of `building`. (Document 02, Req 08.)
+#![tactic(auto)]
+
 ghost use Rattle.std.specs.Prelude.{◌≡◌, true, ◌<◌, length};
 ghost use Rattle.woot.specs.Memory.{character_slots, character_numbers};
 ghost use Rattle.woot.specs.Ranges.{insert_in_range};

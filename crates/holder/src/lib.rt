@@ -1,5 +1,7 @@
 // Who has an identifier, whether a toggle is pending, and what a received insert is beside the one that has its
 // identifier: numbers are compared, and nothing is decoded.
+#![tactic(auto)]
+
 ghost use Rattle.std.specs.Prelude.{◌≡◌, true, ◌*◌, ◌≤◌, ◌<◌, length, take};
 ghost use Rattle.woot.specs.declared.Operation.TheVariants.{Toggle as ofToggle};
 ghost use Rattle.woot.specs.Operations.{origin, same_insert};

@@ -1,5 +1,7 @@
 // Identifiers as numbers, and where a character stands among those whose numbers are lent: by a plain search, and by
 // the table, whose chains are made and walked in `chains`.
+#![tactic(auto)]
+
 pub mod table;
 
 ghost use Rattle.std.specs.Prelude.{◌≡◌, ◌&&◌, ◌||◌, min};

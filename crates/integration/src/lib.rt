@@ -1,5 +1,7 @@
 // Where an insert goes: the place between its neighbours, found in passes over the candidates there. The places of the
 // candidates' own neighbours are sought as a pass comes to them, and of no character outside the interval.
+#![tactic(auto)]
+
 ghost use Rattle.std.specs.Prelude.{◌≡◌, List, map, ◌<◌, ◌≤◌, length, take, get_or};
 ghost use Rattle.woot.specs.declared.Character.{Character};
 ghost use Rattle.woot.specs.Table.{keys as keysOfCharacters};

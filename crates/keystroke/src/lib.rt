@@ -1,6 +1,8 @@
 // One character typed on the arrays of a replica that was checked: it is put in with what it releases, and the next
 // goes just below it. The public function is an internal step: the calls have checked the replica, and that the clock
 // and the room are enough. (Document 02, Req 11.)
+#![tactic(auto)]
+
 ghost use Rattle.std.specs.Prelude.{◌≡◌, true, ◌∷◌, [], ◌+◌, ◌^◌, ◌≤◌, ◌<◌, length, take};
 ghost use Rattle.memory.specs.Columns.{meaning};
 ghost use Rattle.memory.specs.Lent.{replica_as, Sized};

@@ -1,5 +1,7 @@
 // Inserting for a record that is lent: the work, which is `replica::insert`'s, with the record by value. `site_record`
 // reads the lent record and stores the clock.
+#![tactic(auto)]
+
 ghost use Rattle.std.specs.Prelude.{◌≡◌};
 ghost use Rattle.lent.specs.Lent.{returned, site_after, with_clock};
 

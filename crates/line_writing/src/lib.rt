@@ -1,4 +1,6 @@
 // Operations put as lines of text into a lent slice. What the lines are is said in `codec`.
+#![tactic(auto)]
+
 ghost use Rattle.std.specs.Prelude.{◌≡◌, cond, eqb};
 ghost use Rattle.output.specs.Output.{placed, past};
 ghost use Rattle.lines.specs.Room.{room_for};

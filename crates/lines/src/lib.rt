@@ -1,5 +1,7 @@
 // Lines of numbers: a head word, then numerals, each after a tab, and a line feed at the end. One reader serves every
 // such line, whatever its head word and its numbers; `writing` has the writer.
+#![tactic(auto)]
+
 pub mod writing;
 
 ghost use Rattle.std.specs.Prelude.{◌≡◌, cond, [], ◌+◌, ◌≤◌, ltb, length, take, drop};

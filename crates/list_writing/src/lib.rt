@@ -1,4 +1,6 @@
 // The list of what a replica holds, written from lent arrays. What its bytes are is said in `listing`.
+#![tactic(auto)]
+
 mod writing;
 
 ghost use Rattle.std.specs.Prelude.{◌≡◌, [], ◌≤◌, length};

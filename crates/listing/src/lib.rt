@@ -1,5 +1,7 @@
 // The list of what a replica holds, as bytes: its lines, and reading it into lent arrays; `list_writing` writes it.
 // (Document 02, Req 09.)
+#![tactic(auto)]
+
 mod reading;
 
 ghost use Rattle.std.specs.Prelude.{◌≡◌, ℕ, ◌≤◌, length};

@@ -1,4 +1,6 @@
 // Reading saved replicas and archives from bytes: into arrays that the call lends, and as replicas.
+#![tactic(auto)]
+
 mod filling;
 mod reading;
 

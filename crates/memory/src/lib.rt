@@ -1,5 +1,7 @@
 // A replica in memory: what the numbers of its arrays stand for, and the numbers of an operation. The definitions are
 // in the specs of `woot`.
+#![tactic(auto)]
+
 ghost use Rattle.std.specs.Prelude.{◌≡◌, true, ◌<◌};
 ghost use Rattle.woot.specs.Operations.{origin};
 ghost use Rattle.woot.specs.Ranges.{in_range};

@@ -1,5 +1,7 @@
 // Where the neighbours of the rows stand, and the two tests on these places that say whether rows can be made: those of
 // pairs and of cycles. (Document 02, Req 07.)
+#![tactic(auto)]
+
 pub mod cycles;
 pub mod pairs;
 pub mod places;

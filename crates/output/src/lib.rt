@@ -1,4 +1,6 @@
 // Bytes put into a lent slice, one run after another: each call answers the offset at which the next goes on.
+#![tactic(auto)]
+
 ghost use Rattle.std.specs.Prelude.{◌≡◌, List, [], ◌∷◌};
 ghost use Rattle.output.specs.Output.{has_room, placed, past};
 

@@ -1,5 +1,7 @@
 // Placing the inserts of a heap: passes over those that are left, each offered in turn to the characters, until one
 // pass places none. (Document 02, Req 08.)
+#![tactic(auto)]
+
 ghost use Rattle.std.specs.Prelude.{◌≡◌, List, suc, ◌+◌, ◌≤◌, ◌<◌, length, take};
 ghost use Rattle.woot.specs.Table.{keys};
 ghost use Rattle.woot.specs.declared.Character.{Character};

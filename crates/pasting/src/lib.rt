@@ -1,5 +1,7 @@
 // Pasting a block of text in UTF-8 at an insertion point, all of it or none: the whole block is looked at, and then its
 // characters are typed one after another. (Document 02, Req 11.)
+#![tactic(auto)]
+
 ghost use Rattle.std.specs.Prelude.{◌≡◌, true, List, [], ℕ, length};
 ghost use Rattle.std.proofs.Math.Option.{some};
 ghost use Rattle.lists.specs.Lists.{every};

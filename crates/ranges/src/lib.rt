@@ -1,5 +1,7 @@
 // What refusal 2 lets pass: the ranges of the numbers, where a mark may stand, and that an insert does not name itself.
 // The rules are in the specs of `woot`.
+#![tactic(auto)]
+
 ghost use Rattle.std.specs.Prelude.{◌≡◌, ◌||◌};
 ghost use Rattle.woot.specs.Limits.{last_clock};
 ghost use Rattle.woot.specs.Identifiers.{same};

@@ -1,5 +1,7 @@
 // What is decided of a received operation, on lent arrays, before any of them is changed: the answer that changes
 // nothing, or what is to be done and where. The caller then edits each array where it lies.
+#![tactic(auto)]
+
 ghost use Rattle.std.specs.Prelude.{◌≡◌, true, ◌≤◌, length, take};
 ghost use Rattle.woot.specs.declared.Operation.TheVariants.{Insert as ofInsert, Toggle as ofToggle};
 ghost use Rattle.woot.specs.Operations.{sender};

@@ -1,5 +1,7 @@
 // The calls on a replica: receiving, inserting, deleting, restoring, the check of its form and the visible text. What
 // is asked is looked at on the replica's arrays and decided on, and then carried out where they lie.
+#![tactic(auto)]
+
 pub mod copying;
 
 ghost use Rattle.std.specs.Prelude.{◌≡◌, List, [], ◌≤◌, length, take};

@@ -1,5 +1,7 @@
 // Saved replicas and archives: the types and the definitions of their format, and the theorems about it. `loading`
 // reads them, and `saving` writes them.
+#![tactic(auto)]
+
 ghost use Rattle.std.specs.Prelude.{◌≡◌};
 ghost use Rattle.saved.specs.Format.{last_toggle_field, toggle_field};
 ghost use Rattle.saved.specs.Rows.{version_of};

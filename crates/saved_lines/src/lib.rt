@@ -1,5 +1,7 @@
 // Reading one line of a saved replica or of an archive: whether it has the layout of its kind, whether it is in range,
 // and what it says. These are steps of `loading`, and not calls.
+#![tactic(auto)]
+
 ghost use Rattle.std.specs.Prelude.{◌≡◌, true, ◌&&◌, ◌+◌, ◌≤◌, length, drop};
 ghost use Rattle.lines.specs.declared.Verdict.TheVariants.{Malformed};
 ghost use Rattle.lines.specs.Lines.{first_line};

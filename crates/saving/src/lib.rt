@@ -1,4 +1,6 @@
 // Writing saved replicas and archives into a lent slice.
+#![tactic(auto)]
+
 pub mod columns;
 pub mod numbered;
 pub mod operations;

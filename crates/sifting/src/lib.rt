@@ -1,5 +1,7 @@
 // Inserts in lent arrays of which those that are repeated are dropped, and two that disagree found. The public
 // function is an internal step of `building`. (Document 02, Req 08.)
+#![tactic(auto)]
+
 ghost use Rattle.std.specs.Prelude.{◌≡◌, true, List, ◌≤◌, ◌<◌, length, take, get_or};
 ghost use Rattle.lists.specs.Lists.{every};
 ghost use Rattle.woot.specs.declared.Insert.{Insert};

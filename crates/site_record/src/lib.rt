@@ -1,4 +1,6 @@
 // Inserting on a record that is lent: it is read, and its clock stored; the work between is `lent::insert_with`'s.
+#![tactic(auto)]
+
 ghost use Rattle.std.specs.Prelude.{◌≡◌};
 ghost use Rattle.lent.specs.Lent.{returned, site_after};
 

@@ -1,5 +1,7 @@
 // Arrays of numbers, edited in place where they are lent: a list takes the first slots of an array, and whoever lends
 // the array keeps their count. Nothing is copied, so that an edit costs the slots that it moves.
+#![tactic(auto)]
+
 ghost use Rattle.std.specs.Prelude.{◌≡◌, ◌++◌, ◌∷◌, suc, ◌≤◌, ◌<◌, length, take, drop, set};
 ghost use Rattle.lists.specs.Padding.{pad};
 ghost use Rattle.slots.specs.Slots.{put_after, removed};

@@ -1,5 +1,7 @@
 // Writing a replica that was read and then changed in one row: the lines of its other rows are copied as they were
 // read. Each line has one spelling, so they are the bytes that would be written.
+#![tactic(auto)]
+
 ghost use Rattle.std.specs.Prelude.{◌≡◌, cond, [], ◌++◌, ◌+◌, ◌≤◌, ltb, length, get_or};
 ghost use Rattle.output.specs.Output.{placed};
 ghost use Rattle.lines.specs.Room.{room_for};

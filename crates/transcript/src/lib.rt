@@ -1,4 +1,6 @@
 // What the hall program makes of its input: it answers a line, and reports on it by `report`.
+#![tactic(auto)]
+
 pub mod report;
 
 ghost use Rattle.std.specs.Prelude.{◌≡◌};

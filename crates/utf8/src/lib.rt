@@ -1,4 +1,6 @@
 // UTF-8 (RFC 3629): which numbers are code points, and the bytes of one, and their number, put into a lent slice.
+#![tactic(auto)]
+
 ghost use Rattle.std.specs.Prelude.{◌≡◌, ◌+◌, ◌<◌};
 ghost use Rattle.output.specs.Output.{placed, past};
 ghost use Rattle.utf8.specs.CodePoints.{is_code_point};

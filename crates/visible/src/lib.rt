@@ -1,6 +1,8 @@
 // The visible characters of a document on its lent arrays: how many there are, where one of them stands, the keys
 // beside an insertion point, and their text. The public functions are internal steps: the calls lend arrays that have
 // a slot for each of the n characters.
+#![tactic(auto)]
+
 ghost use Rattle.std.specs.Prelude.{◌≡◌, List, ◌++◌, ◌∷◌, [], ◌≤◌, length, take, get_or};
 ghost use Rattle.output.specs.Output.{placed, past};
 ghost use Rattle.woot.specs.declared.Character.{Character};

@@ -1,6 +1,8 @@
 // The check of a replica's form, on lent arrays of numbers. The ranges are checked first; then no character has a
 // mark's key, and what the numbers stand for is what they were made of. Once the replica's table is seen to agree with
 // the keys, no key stands twice, and every other key is found by it.
+#![tactic(auto)]
+
 pub mod clock;
 pub mod numbers;
 pub mod order;

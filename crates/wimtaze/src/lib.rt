@@ -1,6 +1,8 @@
 // The calls for programs in C: numbers and byte runs alone, and a saved replica in place of one in memory. Each returns
 // one number, and the header says how to take it apart. What a call returns and leaves is said in specs/Calls, one case
 // for each; the bodies stand by families in `editing` and `serving`.
+#![tactic(auto)]
+
 ghost use Rattle.std.specs.Prelude.{◌≡◌, []};
 ghost use Rattle.effects.specs.Results.{number_of};
 ghost use Rattle.effects.specs.Effects.{Leaves};

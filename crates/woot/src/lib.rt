@@ -1,5 +1,7 @@
 // The types of the replicated text: identifiers, operations, characters, the document, the replica, and what the calls
 // return. The rules that they live by are in specs/; the crate `convergence` has the theorems about them.
+#![tactic(auto)]
+
 ghost use Rattle.std.specs.Prelude.{◌≡◌};
 ghost use Rattle.woot.specs.Operations.{is_visible};
 ghost use Rattle.woot.specs.State.{initial};

@@ -1,5 +1,7 @@
 // The operations that bench/ times, received on an empty replica: inserts of sixteen sites in turn, and then a delete
 // of each character.
+#![tactic(auto)]
+
 ghost use Rattle.std.specs.Prelude.{◌≡◌, ◌+◌, ◌≤◌, ◌<◌, min};
 ghost use Rattle.workload.specs.Workload.{
   identifier_of,

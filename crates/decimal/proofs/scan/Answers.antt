@@ -60,11 +60,11 @@ loop-digit-preserved c =
     let l = c.loop-digit in
     let there = sym c.digit_at.ensures ∙ c.loop-digit-test.true in
     elim c.if-value-lt-ROOMY.branch [
-      then-value-lt-ROOMY w ↦ rw (w.value-is, w.above-is) (scan-more l.invariant there c.digit_value-digit.ensures)
-    | else-value-lt-ROOMY+then-exceeds w ↦
-      rw (w.value-is, w.above-is)
-      (scan-above l.invariant there c.digit_value-digit.ensures (sym w.exceeds.ensures ∙ w.if-exceeds.true))
-    | else-value-lt-ROOMY+else-exceeds w ↦ rw (w.value-is, w.above-is) (scan-more l.invariant there c.digit_value-digit.ensures)
+      | then-value-lt-ROOMY w ↦ rw (w.value-is, w.above-is) (scan-more l.invariant there c.digit_value-digit.ensures)
+      | else-value-lt-ROOMY+then-exceeds w ↦
+          rw (w.value-is, w.above-is)
+          (scan-above l.invariant there c.digit_value-digit.ensures (sym w.exceeds.ensures ∙ w.if-exceeds.true))
+      | else-value-lt-ROOMY+else-exceeds w ↦ rw (w.value-is, w.above-is) (scan-more l.invariant there c.digit_value-digit.ensures)
     ]
 
 pub bounds-s-from : goal.bounds-s-from

@@ -24,7 +24,6 @@ bounds-inserts-i-4 c =
     let twice = set once (1024 + a.i) a.x in
     omega (
       arith,
-
       length-set a.inserts.now a.i a.w,
       length-set once (1024 + a.i) a.x,
       length-set twice (2048 + a.i) a.y,

@@ -127,12 +127,12 @@ loop-i-preserved c =
     let said = says (goal.at.loop-i-preserved c).After-scan-number _ c.scan-number.ensures in
     let whole = past (goal.at.loop-i-preserved c).After-scan-number ∙ ap (λ (f : List ℕ). l.at + 1 + length f) digits in (
       elim c.match-field.branch [
-        in-Above w ↦
-        rw (w.values-is, w.over-is)
-        (next-above l.invariant.0 test (inside (goal.at.loop-i-preserved c).After-scan-number) (own (goal.at.loop-i-preserved c).After-scan-number) digits whole (sym said ∙ w.in-Above.is))
-      | in-Number w ↦
-        rw (w.values-is, w.over-is)
-        (next-number l.invariant.0 test (inside (goal.at.loop-i-preserved c).After-scan-number) (own (goal.at.loop-i-preserved c).After-scan-number) digits whole (sym said ∙ w.in-Number.is))
+        | in-Above w ↦
+            rw (w.values-is, w.over-is)
+            (next-above l.invariant.0 test (inside (goal.at.loop-i-preserved c).After-scan-number) (own (goal.at.loop-i-preserved c).After-scan-number) digits whole (sym said ∙ w.in-Above.is))
+        | in-Number w ↦
+            rw (w.values-is, w.over-is)
+            (next-number l.invariant.0 test (inside (goal.at.loop-i-preserved c).After-scan-number) (own (goal.at.loop-i-preserved c).After-scan-number) digits whole (sym said ∙ w.in-Number.is))
       ],
       low (goal.at.loop-i-preserved c).After-scan-number,
     )

@@ -73,8 +73,8 @@ loop-i-preserved c =
     let digits = cut (goal.at.loop-i-preserved c).Else-goes_on in
     let said = says _ _ _ _ c.scan-number.ensures in
     elim c.match-field.branch [
-      in-Above w ↦ rw (w.values-is, w.above-is) (next-above l.invariant test some tabbed digits whole (sym said ∙ w.in-Above.is))
-    | in-Number w ↦ rw (w.values-is, w.above-is) (next-number l.invariant test some tabbed digits whole (sym said ∙ w.in-Number.is))
+      | in-Above w ↦ rw (w.values-is, w.above-is) (next-above l.invariant test some tabbed digits whole (sym said ∙ w.in-Above.is))
+      | in-Number w ↦ rw (w.values-is, w.above-is) (next-number l.invariant test some tabbed digits whole (sym said ∙ w.in-Number.is))
     ]
 
 pub returns-then-at-line : goal.returns-then-at-line

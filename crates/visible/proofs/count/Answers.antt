@@ -23,10 +23,10 @@ loop-i-preserved c =
     let ts = a.toggles.now in
     let few : a.n ≤ length ts = omega (arith, c.requires) in
     elim c.if-toggles-i-eq0.branch [
-      then-toggles-i-eq0 w ↦
-      (omega arith, omega arith, omega (arith, ap length (kept_here shown ts a.n l.i 0 (omega arith) few (eq-eqb _ _ w.if-toggles-i-eq0.true))))
-    | else-toggles-i-eq0 w ↦
-      (omega arith, omega arith, omega (arith, ap length (kept-not shown ts a.n l.i 0 (omega arith) few (ne_eqb _ _ w.if-toggles-i-eq0.false))))
+      | then-toggles-i-eq0 w ↦
+          (omega arith, omega arith, omega (arith, ap length (kept_here shown ts a.n l.i 0 (omega arith) few (eq-eqb _ _ w.if-toggles-i-eq0.true))))
+      | else-toggles-i-eq0 w ↦
+          (omega arith, omega arith, omega (arith, ap length (kept-not shown ts a.n l.i 0 (omega arith) few (ne_eqb _ _ w.if-toggles-i-eq0.false))))
     ]
 
 pub returns : goal.returns

@@ -31,14 +31,13 @@ loop-i-preserved c =
     let ts = a.toggles.now in
     let few : a.n ≤ length ts = omega (arith, c.requires) in
     elim c.if-toggles-i-eq0.branch [
-      then-toggles-i-eq0+else-rest-eq0 w ↦
-      (
-      omega arith,
-      rw w.rest-is (sym (nth-counted shown ts a.n l.i 0 (omega arith) few l.rest (eq-eqb _ _ w.if-toggles-i-eq0.true) w.if-rest-eq0.false)
-          ∙ l.invariant.1),
-    )
-    | else-toggles-i-eq0 w ↦
-      (omega arith, rw w.rest-is (sym (nth-passed shown ts a.n l.i 0 (omega arith) few l.rest (ne_eqb _ _ w.if-toggles-i-eq0.false)) ∙ l.invariant.1))
+      | then-toggles-i-eq0+else-rest-eq0 w ↦ (
+        omega arith,
+        rw w.rest-is (sym (nth-counted shown ts a.n l.i 0 (omega arith) few l.rest (eq-eqb _ _ w.if-toggles-i-eq0.true) w.if-rest-eq0.false)
+            ∙ l.invariant.1),
+      )
+      | else-toggles-i-eq0 w ↦
+          (omega arith, rw w.rest-is (sym (nth-passed shown ts a.n l.i 0 (omega arith) few l.rest (ne_eqb _ _ w.if-toggles-i-eq0.false)) ∙ l.invariant.1))
     ]
 
 pub returns : goal.returns

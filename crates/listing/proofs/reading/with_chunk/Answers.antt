@@ -19,10 +19,10 @@ returns c =
     let ones = c.ones_and.ensures in
     let count : c.if-at-lt-CHUNKS.count ≡ min 1024 (a.at.count + 1) =
     elim c.if-at-lt-CHUNKS.branch [
-      then-at-lt-CHUNKS w ↦
-      omega arith
-    | else-at-lt-CHUNKS w ↦
-      omega arith
+      | then-at-lt-CHUNKS w ↦
+          omega arith
+      | else-at-lt-CHUNKS w ↦
+          omega arith
     ] in
     λ i. record {
       laid_out = true;

@@ -70,8 +70,8 @@ loop-j-preserved c =
       omega arith,
       throughout-more (pair_at a.ids.now a.below.now a.above a.k) l.j l.invariant.1
           (elim c.if-k-place.branch [
-            then-k-place+else-key-ids w ↦ right_key a.ids.now a.below.now a.above a.k l.j w.if-key-ids.false
-          | else-k-place w ↦ right-place a.ids.now a.below.now a.above a.k l.j p w.if-k-place.false
+            | then-k-place+else-key-ids w ↦ right_key a.ids.now a.below.now a.above a.k l.j w.if-key-ids.false
+            | else-k-place w ↦ right-place a.ids.now a.below.now a.above a.k l.j p w.if-k-place.false
           ]),
     )
 

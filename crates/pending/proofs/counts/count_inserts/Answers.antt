@@ -17,10 +17,10 @@ loop-i-preserved c =
     let l = c.loop-i in
     let p : ℕ → Bool = λ k. not (eqb k 0) in
     elim c.if-own-i-ne0.branch [
-      then-own-i-ne0 w ↦
-      (omega arith, omega arith, omega (arith, left-counted p a.own.now l.i 0 (omega arith) (rw (ne_eqb _ _ w.if-own-i-ne0.true))))
-    | else-own-i-ne0 w ↦
-      (omega arith, omega arith, omega (arith, left_passed p a.own.now l.i 0 (omega arith) (rw (eq-eqb _ _ w.if-own-i-ne0.false))))
+      | then-own-i-ne0 w ↦
+          (omega arith, omega arith, omega (arith, left-counted p a.own.now l.i 0 (omega arith) (rw (ne_eqb _ _ w.if-own-i-ne0.true))))
+      | else-own-i-ne0 w ↦
+          (omega arith, omega arith, omega (arith, left_passed p a.own.now l.i 0 (omega arith) (rw (eq-eqb _ _ w.if-own-i-ne0.false))))
     ]
 
 pub returns : goal.returns

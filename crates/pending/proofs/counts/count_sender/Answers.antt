@@ -18,22 +18,20 @@ loop-i-preserved c =
     let l = c.loop-i in
     let e = c.sender_of.ensures in
     elim c.if-sender_of-sender.branch [
-      then-sender_of-sender w ↦
-      (
-      omega arith,
-      l.invariant.1,
-      omega arith,
-      omega
-          (arith, sent-counted a.own.now a.values.now l.i _ a.sender (omega arith) (omega arith) e (omega (arith, w.if-sender_of-sender.true))),
-    )
-    | else-sender_of-sender w ↦
-      (
-      omega arith,
-      l.invariant.1,
-      omega arith,
-      omega
-          (arith, sent-passed a.own.now a.values.now l.i _ a.sender (omega arith) (omega arith) e (λ h. omega (arith, w.if-sender_of-sender.false, h))),
-    )
+      | then-sender_of-sender w ↦ (
+        omega arith,
+        l.invariant.1,
+        omega arith,
+        omega
+            (arith, sent-counted a.own.now a.values.now l.i _ a.sender (omega arith) (omega arith) e (omega (arith, w.if-sender_of-sender.true))),
+      )
+      | else-sender_of-sender w ↦ (
+        omega arith,
+        l.invariant.1,
+        omega arith,
+        omega
+            (arith, sent-passed a.own.now a.values.now l.i _ a.sender (omega arith) (omega arith) e (λ h. omega (arith, w.if-sender_of-sender.false, h))),
+      )
     ]
 
 pub returns : goal.returns

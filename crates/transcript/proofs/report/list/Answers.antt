@@ -22,24 +22,22 @@ loop-i-preserved c =
     let l = c.loop-i in
     let s = c.requires in
     elim c.if-toggles-i-eq0.branch [
-      then-toggles-i-eq0 w ↦
-      (
-      omega arith,
-      omega arith,
-      ap length w.values-is ∙ length-set l.values _ _ ∙ l.invariant.2,
-      λ cs p t.
-          rw (w.values-is, w.count-is, w.wide.ensures)
-          (gathered-shown cs a.«code_points».now a.toggles.now a.n l.i p t (omega arith) (omega (arith, s.n_in_bounds)) (omega (arith, s.n_in_bounds_2)) _ _ (l.invariant.3 cs p t) (omega arith) w.if-toggles-i-eq0.true),
-    )
-    | else-toggles-i-eq0 w ↦
-      (
-      omega arith,
-      omega arith,
-      ap length w.values-is ∙ l.invariant.2,
-      λ cs p t.
-          rw (w.values-is, w.count-is)
-          (gathered-not cs a.«code_points».now a.toggles.now a.n l.i p t (omega arith) (omega (arith, s.n_in_bounds)) (omega (arith, s.n_in_bounds_2)) _ _ (l.invariant.3 cs p t) w.if-toggles-i-eq0.false),
-    )
+      | then-toggles-i-eq0 w ↦ (
+        omega arith,
+        omega arith,
+        ap length w.values-is ∙ length-set l.values _ _ ∙ l.invariant.2,
+        λ cs p t.
+            rw (w.values-is, w.count-is, w.wide.ensures)
+            (gathered-shown cs a.«code_points».now a.toggles.now a.n l.i p t (omega arith) (omega (arith, s.n_in_bounds)) (omega (arith, s.n_in_bounds_2)) _ _ (l.invariant.3 cs p t) (omega arith) w.if-toggles-i-eq0.true),
+      )
+      | else-toggles-i-eq0 w ↦ (
+        omega arith,
+        omega arith,
+        ap length w.values-is ∙ l.invariant.2,
+        λ cs p t.
+            rw (w.values-is, w.count-is)
+            (gathered-not cs a.«code_points».now a.toggles.now a.n l.i p t (omega arith) (omega (arith, s.n_in_bounds)) (omega (arith, s.n_in_bounds_2)) _ _ (l.invariant.3 cs p t) w.if-toggles-i-eq0.false),
+      )
     ]
 
 pub returns : goal.returns
