@@ -11,15 +11,10 @@ use borrow.Author.Rules.{rules}
 use native.Mathlib.Omega.{arith}
 use Rattle.conversion.specs.Columns.{numbers_within}
 use Rattle.conversion.proofs.pending_within.Invariants.{within}
-use Rattle.conversion.proofs.pending_within.Tie as tie
 use Rattle.conversion.proofs.pending_within.Goals as goal
 
 pub loop-j-init : goal.loop-j-init
 loop-j-init c = (omega arith, refl)
-
-shared-slice-read-operation-within-2 :
-    tie.Need-shared-slice-read-operation-within-2 invariant-loop decreases-loop
-shared-slice-read-operation-within-2 c = omega arith
 
 pub returns-then-not-operation_within : goal.returns-then-not-operation_within
 returns-then-not-operation_within c =
@@ -41,6 +36,3 @@ returns c =
     let l = c.loop-j in
     let done : l.j ≡ a.w = omega arith in
     rw (← done) (sym l.invariant.1)
-
-pub bounds-values-j : goal.bounds-values-j
-bounds-values-j c = shared-slice-read-operation-within-2 c

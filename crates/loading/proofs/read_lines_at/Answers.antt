@@ -54,8 +54,13 @@ module _ (p : After-read_operations-back) where
   abbrev later : List ℕ
   later = part_from body p.read_rows_at-ahead.result.end
 
+  first-told : p.read_site_front-first.result.line ≡ site_read (version_of k) (get_or (lines s) 0 [])
+  first-told =
+      p.read_site_front-first.ensures.line_value
+      ∙ ap (λ (v : Version). site_read v (get_or (lines s) 0 [])) p.version-version.ensures
+
   site_laid : p.read_site_front-first.result.line.judged.laid_out ≡ true
-  site_laid = not-false _ p.if-not-head.false
+  site_laid = (not-false _ p.if-not-head.false)
 
   body_is : body ≡ rest s
   body_is = part-is s p.read_site_front-first.result.next ∙ past-front s (p.read_site_front-first.ensures.next_value site_laid)
@@ -69,7 +74,7 @@ module _ (p : After-read_operations-back) where
   operations-read = subst (Told p.read_operations-back.result later p.read_operations-back.new.pending) p.version-version.ensures (p.read_operations-back.ensures.value, (p.read_operations-back.ensures.pending_len, p.read_operations-back.ensures.pending_after))
 
   lacks : p.read_operations-back.result.laid_out ≡ false → Refused Layout ≡ rows_answer k s
-  lacks = no-later k s _ (first_read p) site_laid body_is _ p.read_rows_at-ahead.ensures.front_value _ later-is _ operations-read.0
+  lacks = no-later k s _ first-told site_laid body_is _ p.read_rows_at-ahead.ensures.front_value _ later-is _ operations-read.0
 
   -- the three ranges together
   abbrev ranged : Bool
@@ -77,7 +82,7 @@ module _ (p : After-read_operations-back) where
 
   module _ (l : p.read_operations-back.result.laid_out ≡ true) where
     out : ranged ≡ false → Refused Range ≡ rows_answer k s
-    out = out_of_range_lem k s _ (first_read p) site_laid body_is _ p.read_rows_at-ahead.ensures.front_value _ later-is _ operations-read.0 l
+    out = out_of_range_lem k s _ first-told site_laid body_is _ p.read_rows_at-ahead.ensures.front_value _ later-is _ operations-read.0 l
 
     module _ (e : ranged ≡ true) where
       each : (p.read_site_front-first.result.line.judged.in_range ≡ true) × (p.read_rows_at-ahead.result.front.in_range ≡ true)
@@ -86,7 +91,7 @@ module _ (p : After-read_operations-back) where
 
       done : Done ≡ rows_answer k s
       done =
-          answer-is k s _ (first_read p) site_laid body_is _ p.read_rows_at-ahead.ensures.front_value _ later-is _
+          answer-is k s _ first-told site_laid body_is _ p.read_rows_at-ahead.ensures.front_value _ later-is _
           operations-read.0 l each.0 each.1 each.2
 
       held :
@@ -94,18 +99,18 @@ module _ (p : After-read_operations-back) where
           p.read_rows_at-ahead.new.toggles p.read_rows_at-ahead.result.front.count p.read_operations-back.new.pending p.read_operations-back.result.count
       held =
           let i = p.read_rows_at-ahead.ensures in
-          all_held k s _ (first_read p) site_laid body_is _ i.front_value _ later-is _ operations-read.0 l each.0 each.1 each.2
+          all_held k s _ first-told site_laid body_is _ i.front_value _ later-is _ operations-read.0 l each.0 each.1 each.2
           (length p.args.places.now) i.places_after i.characters_after i.toggles_after
-          (operations-read.1.1 (later_laid k s _ (first_read p) site_laid body_is _ i.front_value _ later-is _ operations-read.0 l))
+          (operations-read.1.1 (later_laid k s _ first-told site_laid body_is _ i.front_value _ later-is _ operations-read.0 l))
 
   begun : RowsNoted k s p.read_site_front-first.result.next (length p.args.starts.now) p.read_rows_at-ahead.new.starts
   unfolding head_line
   begun = record {
-    first = p.read_site_front-first.ensures.next_value site_laid ∙ ap (λ (l : List ℕ). length l + 1) (first-line k s _ (first_read p) site_laid);
+    first = p.read_site_front-first.ensures.next_value site_laid ∙ ap (λ (l : List ℕ). length l + 1) (first-line k s _ first-told site_laid);
     begins =
         p.read_rows_at-ahead.ensures.starts_after
         ∙ ap (λ (ls : List (List ℕ)). pad (length p.args.starts.now) 0 (take (length p.args.starts.now) (starts_from 0 ls)))
-        (rows_are k s _ (first_read p) site_laid body_is _ p.read_rows_at-ahead.ensures.front_value);
+        (rows_are k s _ first-told site_laid body_is _ p.read_rows_at-ahead.ensures.front_value);
   }
 
 -- the three ranges, as the code goes through them
@@ -152,7 +157,7 @@ returns-then-not-back c =
     let z = c.requires in
     record {
       answer_value = c.refuse_into-then-not-back.ensures ∙ lacks (goal.at.returns-then-not-back c).After-read_operations-back (not-true _ c.if-not-back.true);
-      places_len_unchanged = shape_of-places-then-not-back (goal.at.returns-then-not-back c).After-read_operations-back;
+      places_len_unchanged = shape_of-places-then-not-back c;
       characters_len = shape_of-characters-then-not-back c ∙ ap length z.characters_value ∙ characters-length [];
       toggles_len = shape_of-toggles-then-not-back c ∙ ap length z.toggles_value ∙ toggles-length [];
       pending_len = (operations-read (goal.at.returns-then-not-back c).After-read_operations-back).1.0;
@@ -177,7 +182,7 @@ returns-then-not-both c =
     c.both.ensures c.both-2.ensures c.if-not-both.true in
     record {
       answer_value = c.refuse_into-then-not-both.ensures ∙ out (goal.at.returns-then-not-both c).After-read_operations-back (not-false _ c.if-not-back.false) e;
-      places_len_unchanged = shape_of-places-then-not-both (goal.at.returns-then-not-both c).After-read_operations-back;
+      places_len_unchanged = shape_of-places-then-not-both c;
       characters_len = shape_of-characters-then-not-both c ∙ ap length z.characters_value ∙ characters-length [];
       toggles_len = shape_of-toggles-then-not-both c ∙ ap length z.toggles_value ∙ toggles-length [];
       pending_len = (operations-read (goal.at.returns-then-not-both c).After-read_operations-back).1.0;
@@ -197,13 +202,13 @@ shape_of-toggles c = search rules
 pub returns : goal.returns
 returns c =
     let z = c.requires in
-    let l = not-false _ c.if-not-back.false in
+    let l = (not-false _ c.if-not-back.false) in
     let e =
     judged c.read_site_front-first.result.line.judged.in_range c.read_rows_at-ahead.result.front.in_range c.read_operations-back.result.in_range
     c.both.ensures c.both-2.ensures c.if-not-both.false in
     record {
       answer_value = done (goal.at.returns c).After-read_operations-back l e;
-      places_len_unchanged = shape_of-places (goal.at.returns c).After-read_operations-back;
+      places_len_unchanged = shape_of-places c;
       characters_len = shape_of-characters c ∙ ap length z.characters_value ∙ characters-length [];
       toggles_len = shape_of-toggles c ∙ ap length z.toggles_value ∙ toggles-length [];
       pending_len = (operations-read (goal.at.returns c).After-read_operations-back).1.0;

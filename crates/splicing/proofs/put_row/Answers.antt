@@ -3,7 +3,9 @@ use native.Mathlib.Omega.{arith}
 use mathlib.Core.Path.{◌≡◌, sym, ap, ap₂, ◌∙◌}
 use mathlib.Core.List.{List, [], ◌++◌}
 use Prim.Native.Nat.{ℕ, ◌+◌, ◌-◌, ◌<◌, ◌≤◌}
-use lib.ListN.{length, take, drop}
+use mathlib.Core.Bool.{cond}
+use lib.Dec.{ltb}
+use lib.ListN.{length, take, drop, get_or}
 use lib.Seq.{length-take-le}
 use Rattle.woot.specs.Writing.{written_as, output_after}
 use Rattle.saved.specs.declared.Version.TheVariants.{Second}
@@ -12,7 +14,7 @@ use Rattle.saving.specs.Documents.{line_bytes, state_in}
 use Rattle.splicing.specs.Splicing.{between, row_bytes, Spliced}
 use Rattle.splicing.proofs.Splices.{start_is, start-le, all-bytes, rows-held, row-there, row_written}
 use borrow.Author.Rules.{rules}
-use Rattle.splicing.proofs.put_row.Goals.{After-put_file-arg-1, After-start_of-from, After-start_of-to, Start}
+use Rattle.splicing.proofs.put_row.Goals.{Start}
 use Rattle.splicing.proofs.put_row.Goals as goal
 
 -- what is known of the replica
@@ -29,13 +31,19 @@ module _ (s : Start) where
   all_held : s.args.n - 1 + s.args.skip ≡ length known.old
   all_held = omega (arith, held-is, there)
 
--- where the row begins, and where those after it do
-from_is : (c : After-start_of-from) → c.start_of-from.result ≡ length (row_bytes (take c.args.k (known c).old))
-from_is c = c.start_of-from.ensures ∙ start_is (known c).spelled c.args.k _ (all_held c) (omega (arith, all_held c, (known c).place))
+  -- where a row begins, from what the search for it answers
+  begins : (row from : ℕ) → from ≡ cond (ltb row (s.args.n - 1 + s.args.skip)) (get_or s.args.starts.now row 0) (length s.args.body.now)
+      → row ≤ s.args.n - 1 + s.args.skip → from ≡ length (row_bytes (take row known.old))
+  begins row from e h = e ∙ start_is known.spelled row _ all_held h
 
-to_is : (c : After-start_of-to) → c.start_of-to.result ≡ length (row_bytes (take (c.args.k + c.args.skip) (known c).old))
-to_is c =
-    c.start_of-to.ensures ∙ start_is (known c).spelled (c.args.k + c.args.skip) _ (all_held c) (omega (arith, all_held c, (known c).place))
+  from_is : (from : ℕ) → from ≡ cond (ltb s.args.k (s.args.n - 1 + s.args.skip)) (get_or s.args.starts.now s.args.k 0) (length s.args.body.now)
+      → from ≡ length (row_bytes (take s.args.k known.old))
+  from_is from e = begins s.args.k from e (omega (arith, all_held, known.place))
+
+  to_is : (to : ℕ)
+      → to ≡ cond (ltb (s.args.k + s.args.skip) (s.args.n - 1 + s.args.skip)) (get_or s.args.starts.now (s.args.k + s.args.skip) 0) (length s.args.body.now)
+      → to ≡ length (row_bytes (take (s.args.k + s.args.skip) known.old))
+  to_is to e = begins (s.args.k + s.args.skip) to e (omega (arith, all_held, known.place))
 
 pub line-line-requires : goal.line-line-requires
 line-line-requires c =
@@ -55,11 +63,12 @@ line-line-requires c =
 
 pub slice_bounds-put_file-end : goal.slice_bounds-put_file-end
 slice_bounds-put_file-end c =
-    sym (length-take-le _ c.args.body.now (start-le (known (goal.at.slice_bounds-put_file-end c).Start).spelled c.args.k (from_is (goal.at.slice_bounds-put_file-end c).After-start_of-from)))
+    let s = (goal.at.slice_bounds-put_file-end c).Start in
+    sym (length-take-le _ c.args.body.now (start-le (known s).spelled c.args.k (from_is s _ c.start_of-from.ensures)))
 
 -- the rows after it begin in the bytes
-to_le : (c : After-put_file-arg-1) → c.start_of-to.result ≤ length c.args.body.now
-to_le c = start-le (known c).spelled (c.args.k + c.args.skip) (c.start_of-to.ensures ∙ start_is (known c).spelled (c.args.k + c.args.skip) _ (all_held c) (omega (arith, all_held c, (known c).place)))
+to_le : (s : Start) (to : ℕ) → to ≡ length (row_bytes (take (s.args.k + s.args.skip) (known s).old)) → to ≤ length s.args.body.now
+to_le s to e = start-le (known s).spelled (s.args.k + s.args.skip) e
 
 pub returns : goal.returns
 unfolding state_in
@@ -68,14 +77,15 @@ returns c =
     let told = c.line-line.ensures.result_value ∙ row_written c.args.site c.args.characters.now c.args.toggles.now c.args.n c.args.pending.now c.args.w (known (goal.at.returns c).Start) c.requires.skip_bound in
     let all =
     ap (λ (bs : List ℕ). site_line Second c.args.site ++ between (take c.start_of-from.result c.args.body.now) bs (take (length c.args.body.now - c.start_of-to.result) (drop c.start_of-to.result c.args.body.now))) told
-    ∙ all-bytes (known (goal.at.returns c).Start) (from_is (goal.at.returns c).After-start_of-from) (to_is (goal.at.returns c).After-start_of-to) in
+    ∙ all-bytes (known (goal.at.returns c).Start) (from_is (goal.at.returns c).Start _ c.start_of-from.ensures) (to_is (goal.at.returns c).Start _ c.start_of-to.ensures) in
     record {
       value = r.value ∙ ap (λ bs. written_as [] bs c.args.out.now) all;
       out_after = r.out_after ∙ ap (λ bs. output_after [] bs c.args.out.now) all;
     }
 
 pub slice_bounds-put_file-count : goal.slice_bounds-put_file-count
-slice_bounds-put_file-count c = to_le c
+slice_bounds-put_file-count c =
+    let s = (goal.at.slice_bounds-put_file-count c).Start in to_le s _ (to_is s _ c.start_of-to.ensures)
 
 pub overflow_sub-held : goal.overflow_sub-held
 overflow_sub-held c = omega (arith, there (goal.at.overflow_sub-held c).Start)
@@ -93,7 +103,8 @@ pub start_of-to-requires : goal.start_of-to-requires
 start_of-to-requires c = omega (arith, all_held (goal.at.start_of-to-requires c).Start, (known (goal.at.start_of-to-requires c).Start).spelled.slots)
 
 pub slice_bounds-put_file-start : goal.slice_bounds-put_file-start
-slice_bounds-put_file-start c = omega (arith, to_le c)
+slice_bounds-put_file-start c =
+    let s = (goal.at.slice_bounds-put_file-start c).Start in omega (arith, to_le s _ (to_is s _ c.start_of-to.ensures))
 
 pub put_file-requires : goal.put_file-requires
 put_file-requires c = c.line-line.ensures.count_bound
