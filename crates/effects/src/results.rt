@@ -1,7 +1,7 @@
 // The number that a call returns: a reply and two lengths, or a length and a shift, in the bits of one `u64`.
 ghost use Rattle.std.specs.Prelude.{◌≡◌};
 ghost use Rattle.answers.specs.declared.Answer.TheVariants.{Refused};
-ghost use Rattle.effects.specs.Results.{in_bits, result, number_of, silent};
+ghost use Rattle.effects.specs.Results.{in_bits, result as result_of, number_of, silent};
 
 use answers::{Answer, Refusal};
 
@@ -14,7 +14,7 @@ fn join(
     written: usize,
     line: usize,
 ) -> u64
-    ensures* { λ r. ⌜ r ≡ in_bits word refusal integrated discarded written line ⌝ }
+    ensures { result ≡ in_bits word refusal integrated discarded written line }
 {
     let low = word % 4 + refusal % 64 * 4;
     let counts = (integrated as u64) % 4096 * 256 + (discarded as u64) % 4096 * 1048576;
@@ -24,7 +24,7 @@ fn join(
 
 // What a call returns that answers so and has written so many bytes.
 pub fn number_of(answer: Answer, written: usize, line: usize) -> u64
-    ensures* { λ r. ⌜ r ≡ number_of (result answer written line) ⌝ }
+    ensures { result ≡ number_of (result_of answer written line) }
 {
     match answer {
         Answer::Done {
@@ -39,7 +39,7 @@ pub fn number_of(answer: Answer, written: usize, line: usize) -> u64
 
 // A refusal, with nothing written.
 pub fn number_of_refusal(refusal: Refusal) -> u64
-    ensures* { λ r. ⌜ r ≡ number_of (silent (Refused refusal)) ⌝ }
+    ensures { result ≡ number_of (silent (Refused refusal)) }
 {
     number_of(Answer::Refused(refusal), 0, 0)
 }
