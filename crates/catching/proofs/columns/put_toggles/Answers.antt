@@ -5,6 +5,7 @@ use mathlib.Core.Path.{◌≡◌, refl, sym, ◌∙◌, subst}
 use mathlib.Core.Logic.{⊎_elim}
 use Rattle.catching.specs.Columns.{TogglesOf}
 use Rattle.catching.proofs.Operations.{no-toggles, not-toggled, one_toggle}
+use Rattle.catching.proofs.columns.put_toggles.Goals.{then-turns-ne0, else-turns-ne0}
 use Rattle.catching.proofs.columns.put_toggles.Goals as goal
 
 pub loop-i-init : goal.loop-i-init
@@ -37,10 +38,13 @@ pub loop-i-preserved : goal.loop-i-preserved
 loop-i-preserved c =
     let l = c.loop-i in (
       omega arith,
-      ⊎_elim
-          (λ v. one_toggle _ _ _ l.invariant.1 (λ z. omega (arith, z, v.0.taken)) (omega (arith, c.type_inv.toggles l.i))
-          (omega (arith, l.invariant.1.few, c.requires.n_le_character_slots)) refl v.3.ensures v.7 v.6)
-          (λ v. not-toggled _ _ _ l.invariant.1 (omega (arith, v.0.left)) v.2 v.1) c.if-turns-ne0.branch,
+      elim c.if-turns-ne0.branch [
+      then-turns-ne0 w ↦
+      one_toggle _ _ _ l.invariant.1 (λ z. omega (arith, z, w.if-turns-ne0.true)) (omega (arith, c.type_inv.toggles l.i))
+          (omega (arith, l.invariant.1.few, c.requires.n_le_character_slots)) refl w.count-is.ensures w.7 w.6
+    | else-turns-ne0 w ↦
+      not-toggled _ _ _ l.invariant.1 (omega (arith, w.if-turns-ne0.false)) w.count-is w.numbers-is
+    ],
     )
 
 pub shape_of-numbers : goal.shape_of-numbers

@@ -8,6 +8,7 @@ use Rattle.lists.proofs.Tests.{failed, passed}
 use Rattle.chunks.specs.Columns.{chunks_in}
 use Rattle.catching.specs.Sending.{FlagsUnlisted}
 use Rattle.catching.proofs.Flagging.{none_flagged, one-listed, one-unlisted}
+use Rattle.catching.proofs.sending.flag_unlisted.Goals.{then-not-listed, else-not-listed}
 use Rattle.catching.proofs.sending.flag_unlisted.Goals as goal
 
 pub loop-i-init : goal.loop-i-init
@@ -30,10 +31,13 @@ pub loop-i-preserved : goal.loop-i-preserved
 loop-i-preserved c =
     let l = c.loop-i in (
       omega arith,
-      ⊎_elim
-          (λ v. one-unlisted _ _ _ l.invariant.1 (omega (arith, c.requires.ids_in_bounds))
-          (failed c.listed.ensures v.0.taken) v.1)
-          (λ v. one-listed _ _ _ l.invariant.1 (passed c.listed.ensures v.0.left) v.1) c.if-not-listed.branch,
+      elim c.if-not-listed.branch [
+      then-not-listed w ↦
+      one-unlisted _ _ _ l.invariant.1 (omega (arith, c.requires.ids_in_bounds))
+          (failed c.listed.ensures w.if-not-listed.true) w.left-is
+    | else-not-listed w ↦
+      one-listed _ _ _ l.invariant.1 (passed c.listed.ensures w.if-not-listed.false) w.left-is
+    ],
     )
 
 pub shape_of-left : goal.shape_of-left
