@@ -31,7 +31,7 @@ build_tells = refl
 answered : BuildOutcome → Reply × ℕ
 answered w = (reply w.answer, length w.state.characters)
 
-chain-built : answered (build 1 (chain 34)) ≡ (Done 0 0, 34)
+chain-built : answered (build 1 (chain 40)) ≡ (Done 0 0, 40)
 unfolding within is_code_point same below character with_toggles toggled_by same_insert same_toggle same_operation site_number character_id previous_id next_id
     insert_in_range toggle_in_range in_range initial sequence index_of place_of held above adjacent candidate candidates narrowed search position between
     insert_at integrate_insert integrate_toggle executable crossed unplaceable integrate earliest and_integrated and_discarded drained drain_steps drain

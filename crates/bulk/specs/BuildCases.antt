@@ -93,10 +93,10 @@ chain zero = []
 chain (suc zero) = ins (2 at 1) begin end ∷ []
 chain (suc (suc n)) = ins (2 at suc (suc n)) (2 at suc n) end ∷ chain (suc n)
 
--- the limit of 32 waiting, since 33 stand before the one that they wait for; or one walk down the heap
+-- the limit of 32 waiting, or one walk down the heap
 abbrev pub BuildWaitsTells : Type 0
 BuildWaitsTells =
-    (reply (build 1 (chain 34)).answer ≡ Done 0 0) × (length (build 1 (chain 34)).state.characters ≡ 34)
+    (reply (build 1 (chain 40)).answer ≡ Done 0 0) × (length (build 1 (chain 40)).state.characters ≡ 40)
 
 -- 17 with repeats counted once, with both kinds counted together, or one too early; and for one kind alone
 abbrev pub BuildFullTells : Type 0

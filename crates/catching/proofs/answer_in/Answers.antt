@@ -29,7 +29,9 @@ lentFrom s =
     a.links.now
 
 abbrev lent : After-check → Replica
-lent c = lentFrom c
+lent c =
+    let a = c.args in
+    replica_lent a.site a.characters.now a.toggles.now a.n a.pending.now a.w a.heads.now a.links.now
 
 formed : (c : Else-not-check) → replica_well_formed (let a = c.args in
     replica_lent a.site a.characters.now a.toggles.now a.n a.pending.now a.w a.heads.now

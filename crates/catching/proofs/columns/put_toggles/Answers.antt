@@ -39,12 +39,12 @@ loop-i-preserved c =
     let l = c.loop-i in (
       omega arith,
       elim c.if-turns-ne0.branch [
-      then-turns-ne0 w ↦
-      one_toggle _ _ _ l.invariant.1 (λ z. omega (arith, z, w.if-turns-ne0.true)) (omega (arith, c.type_inv.toggles l.i))
-          (omega (arith, l.invariant.1.few, c.requires.n_le_character_slots)) refl w.count-is.ensures w.7 w.6
-    | else-turns-ne0 w ↦
-      not-toggled _ _ _ l.invariant.1 (omega (arith, w.if-turns-ne0.false)) w.count-is w.numbers-is
-    ],
+        | then-turns-ne0 w ↦
+            one_toggle _ _ _ l.invariant.1 (λ z. omega (arith, z, w.if-turns-ne0.true)) (omega (arith, c.type_inv.toggles l.i))
+            (omega (arith, l.invariant.1.few, c.requires.n_le_character_slots)) refl w.put_at.ensures w.count-is w.numbers-is
+        | else-turns-ne0 w ↦
+            not-toggled _ _ _ l.invariant.1 (omega (arith, w.if-turns-ne0.false)) w.count-is w.numbers-is
+      ],
     )
 
 pub shape_of-numbers : goal.shape_of-numbers

@@ -32,12 +32,12 @@ loop-i-preserved c =
     let l = c.loop-i in (
       omega arith,
       elim c.if-not-listed.branch [
-      then-not-listed w ↦
-      one-unlisted _ _ _ l.invariant.1 (omega (arith, c.requires.ids_in_bounds))
-          (failed c.listed.ensures w.if-not-listed.true) w.left-is
-    | else-not-listed w ↦
-      one-listed _ _ _ l.invariant.1 (passed c.listed.ensures w.if-not-listed.false) w.left-is
-    ],
+        | then-not-listed w ↦
+            one-unlisted _ _ _ l.invariant.1 (omega (arith, c.requires.ids_in_bounds))
+            (failed c.listed.ensures w.if-not-listed.true-raw) w.left-is
+        | else-not-listed w ↦
+            one-listed _ _ _ l.invariant.1 (passed c.listed.ensures w.if-not-listed.false-raw) w.left-is
+      ],
     )
 
 pub shape_of-left : goal.shape_of-left
