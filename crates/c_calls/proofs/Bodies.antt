@@ -187,6 +187,8 @@ module _ (bytes out : List ℕ) where
 
 pub turned-still : (a : Answer) → Turned a → changes a ≡ false
 unfolding changes
+turned-still (Done _ _) t = elim t [ ]
+turned-still Deferred t = elim t [ ]
 turned-still Duplicate t = refl
 turned-still (Refused q) t = refl
 
@@ -324,6 +326,7 @@ module _ (s : State) (o : Operation) (out line : List ℕ) where
       goal m = decided (quiet out line) m (delivered (replica_and_line w o) out line) ≡ sending w.state w.answer out line
 
       away : (a : Sent) → Refusing a → w ≡ unchanged s a → goal (some (answer_of a))
+      away (sentDone _ _ _) t f = elim t [ ]
       away (sentRefused q) t f = sent-away w q (ap (λ (v : Outcome Sent). v.answer) f)
 
       go : (m : Option Sent) → first rs ≡ m → goal (first (answering rs ++ (wants w ⇒ Refused Output) ∷ []))

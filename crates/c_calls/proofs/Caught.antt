@@ -236,6 +236,7 @@ module _ (bytes list out : List ℕ) where
       wrong : (m f : Bool) {c : Bool} →
           Reported (Refused Mislisted) ((m ⇒ Refused Mislisted) ∷ (not f ⇒ Refused Form) ∷ (c ⇒ Refused Output) ∷ []) →
           m ≡ true
+      wrong m f {c = c} (later h (later j (later _ x12))) = elim x12 [ ]
       wrong m f (here h e) = h
       wrong m f (later h (here k e)) = absurd (other (λ z. omega arith) e)
       wrong m f (later h (later j (here k e))) = absurd (other (λ z. omega arith) e)

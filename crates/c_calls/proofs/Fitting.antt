@@ -38,6 +38,8 @@ use Rattle.c_calls.proofs.Products.{Saved, Sound, counts_within, counts_formed, 
 
 quiet-fits : (b : Bounds) (a : Answer) → Turned a → Fits b (silent a)
 unfolding silent result reply
+quiet-fits b (Done _ _) t = elim t [ ]
+quiet-fits b Deferred t = elim t [ ]
 quiet-fits b Duplicate t =
     record {
       refusal-fits = omega arith;

@@ -408,6 +408,7 @@ module _ (c : CCall) (bytes out line : List ℕ) where
   reported_quiet a r = rw (reported_first (call_checks c bytes out line) a r)
 
   reported_before : (cs : List (Check Answer)) (x : Check Answer) (a : Answer) → Reported a cs → Reported a (cs ++ x ∷ [])
+  reported_before [] x a x3 = elim x3 [ ]
   reported_before (d ∷ cs) x a (here h e) = here h e
   reported_before (d ∷ cs) x a (later h r) = later h (reported_before cs x a r)
 

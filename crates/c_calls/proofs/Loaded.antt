@@ -142,6 +142,7 @@ module _ (bytes out : List ℕ) where
   -- it is the fourth of the conditions, and no other answers it
   last_reported : (b : Bool) {c : Bool} →
       Reported (Refused Unreachable) ((not b ⇒ Refused Unreachable) ∷ (c ⇒ Refused Output) ∷ []) → b ≡ false
+  last_reported true {c = c} (later h (later _ x9)) = elim x9 [ ]
   last_reported false r = refl
   last_reported true (here h e) = absurd (false≢true h)
   last_reported true (later h (here k e)) = absurd (other (λ z. omega arith) e)

@@ -50,6 +50,8 @@ Tells s o g e = shift_read e.result.line ≡ shift_given s o g e.result.reply.wo
 module _ (s : State) (o : Operation) (g : ℕ) where
   quiet_tells : (out line : List ℕ) (a : Answer) → Turned a → Tells s o g (quiet out line a)
   unfolding Tells quiet silent result reply shift_read
+  quiet_tells out line (Done _ _) t = elim t [ ]
+  quiet_tells out line Deferred t = elim t [ ]
   quiet_tells out line Duplicate t = refl
   quiet_tells out line (Refused q) t = refl
 

@@ -67,6 +67,7 @@ refusals_met c bytes out line =
 -- a refusal that is reported of the answers is reported of what is sent
 pub unanswered : (q : Refusal) (cs : List (Check Sent)) (last : Check Answer) → (last.answer ≡ Refused q → ⊥) →
     Reported (Refused q) (answering cs ++ last ∷ []) → Reported (sentRefused q) cs
+unanswered q [] last apart (later h r) = elim r [ ]
 unanswered q [] last apart (here h e) = absurd (apart e)
 unanswered q (c ∷ cs) last apart (here h e) = here h (answer-refused c.answer q e)
 unanswered q (c ∷ cs) last apart (later h r) = later h (unanswered q cs last apart r)
