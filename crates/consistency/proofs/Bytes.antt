@@ -95,6 +95,8 @@ made_word x m b new rs = go x.word m.unknown m.untold
 quiet_word : (a : Answer) → Turned a → (b new : List ℕ) (rs : List RuleCall) →
     (bytes_after (reply a).word b new ≡ b) × (when_made (reply a).word rs ≡ [])
 unfolding bytes_after when_made reply
+quiet_word (Done _ _) t b new rs = elim t [ ]
+quiet_word Deferred t b new rs = elim t [ ]
 quiet_word Duplicate t b new rs = (refl, refl)
 quiet_word (Refused q) t b new rs = (refl, refl)
 

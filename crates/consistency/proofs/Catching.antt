@@ -100,6 +100,8 @@ AsRuled room l o s p =
 -- done or known
 takes : (a : Answer) → DoneOrKnown a → Takes (reply a).word
 unfolding reply
+takes Deferred k = elim k [ ]
+takes (Refused _) k = elim k [ ]
 takes (Done n m) k = tt
 takes Duplicate k = tt
 
@@ -182,7 +184,7 @@ all-handed {s} {p} h f (l ∷ hs) (o ∷ os) k =
     let here : AsRuled l.room l.line o s p =
     subst (λ (m : List ℕ). AsRuled l.room m o s p) (sym (head-eq_of_cons-eq k.same_lines))
     (one-handed l.room k.long.0 o ranged h f) in
-    let others = all-handed here.0 (form_after s f o) hs os (behind l hs o os k) in
+    let others = all-handed {s = (receive s o).state} here.0 (form_after s f o) hs os (behind l hs o os k) in
     (others.0, λ w. (subst Takes (sym here.1) (takes (receive s o).answer w.0), others.1 w.1))
 
 -- the first of them are the lines of the first operations

@@ -85,12 +85,12 @@ integrated_on s (x ∷ xs) ys =
 
 pub follow_holds : {s : State} {p : Copy} → Holds s p → (cs : List Call) → Holds (run s (rules_by p cs)) (ran p cs)
 follow_holds h [] = h
-follow_holds {s} {p} h (c ∷ cs) = rw (run_on s (step_on p c).rules (rules_by (step_on p c).copy cs)) (follow_holds (step h c) cs)
+follow_holds {s} {p} h (c ∷ cs) = rw (run_on s (step_on p c).rules (rules_by (step_on p c).copy cs)) (follow_holds {s = run s (step_on p c).rules} {p = (step_on p c).copy} (step h c) cs)
 
 follow_carries : {s : State} {p : Copy} → Holds s p → (cs : List Call) → carried_by p cs ≡ integrated_by s (rules_by p cs)
 follow_carries h [] = refl
 follow_carries {s} {p} h (c ∷ cs) =
-    ap₂ ◌++◌ (ap (λ (t : State). integrated_by t (step_on p c).rules) (works h)) (follow_carries (step h c) cs)
+    ap₂ ◌++◌ (ap (λ (t : State). integrated_by t (step_on p c).rules) (works h)) (follow_carries {s = run s (step_on p c).rules} {p = (step_on p c).copy} (step h c) cs)
     ∙ sym (integrated_on s (step_on p c).rules (rules_by (step_on p c).copy cs))
 
 -- ---- from the starts
@@ -99,6 +99,8 @@ follow_carries {s} {p} h (c ∷ cs) =
 quiet-begun : (b : Begun) (a : Answer) → Turned a → (out : List ℕ) →
     Holds (start_of (begun_as (reply a).word b)) (as_bytes (kept [] (quiet out [] a)))
 unfolding quiet silent result reply bytes_after
+quiet-begun b (Done _ _) t out = elim t [ ]
+quiet-begun b Rattle.answers.specs.declared.Answer.TheVariants.Deferred t out = elim t [ ]
 quiet-begun b Duplicate t out = nothing
 quiet-begun b (Refused q) t out = nothing
 
@@ -131,6 +133,8 @@ module _ (n : ℕ) (heap : List ℕ) where
   ruled_held : {w : BuildOutcome} → Verdict n (heap_said heap) w → build n (heap_said heap) ≡ w →
       Holds (start_of (begun_as (reply w.answer).word heap_begun)) (in_memory (stored w.state))
   unfolding unbuilt reply
+  ruled_held (rejected (Done _ _) t) e = elim t [ ]
+  ruled_held (rejected Rattle.answers.specs.declared.Answer.TheVariants.Deferred t) e = elim t [ ]
   ruled_held (rejected Duplicate t) e = stored-held (initial 0) (initial-within 0)
   ruled_held (rejected (Refused q) t) e = stored-held (initial 0) (initial-within 0)
   ruled_held (accepted a) e =
@@ -141,6 +145,8 @@ module _ (n : ℕ) (heap : List ℕ) where
   ruled_before : {w : BuildOutcome} → Verdict n (heap_said heap) w → build n (heap_said heap) ≡ w →
       w.integrated ≡ beforehand (begun_as (reply w.answer).word heap_begun)
   unfolding unbuilt reply
+  ruled_before (rejected (Done _ _) t) e = elim t [ ]
+  ruled_before (rejected Rattle.answers.specs.declared.Answer.TheVariants.Deferred t) e = elim t [ ]
   ruled_before (rejected Duplicate t) e = refl
   ruled_before (rejected (Refused q) t) e = refl
   ruled_before (accepted a) e = ap (λ (b : BuildOutcome). b.integrated) (sym e)

@@ -78,6 +78,8 @@ made_none refused = refl
 -- only a state in form is changed
 changes-formed : (s : State) {r : Outcome Answer} → RuleStep s r → changes r.answer ≡ true → well_formed s ≡ true
 unfolding changes unchanged
+changes-formed s (turned (Done _ _) w) h = elim w [ ]
+changes-formed s (turned Deferred w) h = elim w [ ]
 changes-formed s (turned Duplicate w) h = absurd (false≢true h)
 changes-formed s (turned (Refused q) w) h = absurd (false≢true h)
 changes-formed s (adds i a) h = reformed s a.formed

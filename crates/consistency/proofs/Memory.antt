@@ -154,6 +154,9 @@ module _ (r : Replica) (s : State) (m : Means r s) (g : ℕ) (block : List ℕ) 
 
   unpasted-step : (a : Answer) → Refusing a → first checks ≡ some a → Steps s (in_memory r) (memory_call (on_block g block))
   unfolding step_on on_memory when_made pasted_by pasted_with paste_when decided unpasted reply after_typing
+  unpasted-step (Done _ _) t f = elim t [ ]
+  unpasted-step Deferred t f = elim t [ ]
+  unpasted-step Duplicate t f = elim t [ ]
   unpasted-step (Refused q) t f = rw f (memory r s m)
 
   block_step : Steps s (in_memory r) (memory_call (on_block g block))

@@ -138,6 +138,7 @@ module _ (r : Replica) (s : State) (m : Means r s) (free : Free s) where
 -- what is reported and not by the last is reported before it
 without-last : (q : Refusal) (cs : List (Check Answer)) (last : Check Answer) → (last.answer ≡ Refused q → ⊥) →
     Reported (Refused q) (cs ++ last ∷ []) → Reported (Refused q) cs
+without-last q [] last apart (later h r) = elim r [ ]
 without-last q [] last apart (here h e) = absurd (apart e)
 without-last q (c ∷ cs) last apart (here h e) = here h e
 without-last q (c ∷ cs) last apart (later h r) = later h (without-last q cs last apart r)
