@@ -17,8 +17,8 @@ use Rattle.woot.specs.State.{State, initial}
 use Rattle.woot.specs.Form.{well_formed}
 use Rattle.answers.specs.Answers.{Check, ◌⇒◌, first, decided}
 use Rattle.woot.specs.Sending.{answer_of}
-use Rattle.woot.specs.Calls.{Outcome, receive_checks, receive, insert_checks, generated_insert, local_insert, delete_checks}
-use Rattle.woot.specs.Calls.{generated_delete, local_delete, restore_checks, generated_toggle, local_restore}
+use Rattle.woot.specs.Calls.{Outcome, receive_checks, receive, insert_checks, generated_insert, local_insert}
+use Rattle.woot.specs.Calls.{delete_checks, generated_delete, local_delete, restore_checks, generated_toggle, local_restore}
 use Rattle.woot.specs.Cursor.{receive_at_checks, receive_at, shift_at}
 use Rattle.bulk.specs.Pasting.{PasteOutcome, paste_checks, paste}
 use Rattle.bulk.specs.Building.{BuildOutcome, build_checks, build}

@@ -71,8 +71,8 @@ receiving_line bytes line out =
 unfoldable pub receiving_line_at : List ℕ → List ℕ → ℕ → List ℕ → Effect
 receiving_line_at bytes line gap out =
     decided (turned out []) (first (input_checks bytes (one_line line) (in_range (said_by line))))
-    (after_receiving_at (receive_at (loaded_state bytes) (said_by line) gap) (shift_at (loaded_state bytes) (said_by line) gap)
-    out)
+    (after_receiving_at (receive_at (loaded_state bytes) (said_by line) gap)
+    (shift_at (loaded_state bytes) (said_by line) gap) out)
 
 -- `wimtaze_type`
 unfoldable pub inserting_here : List ℕ → ℕ → ℕ → List ℕ → List ℕ → Effect
@@ -142,4 +142,5 @@ unarchiving_here archive out =
 
 -- `wimtaze_counts`
 unfoldable pub counting : List ℕ → Result
-counting bytes = decided (λ q. silent (Refused q)) (first (input_checks bytes true true)) (counts_of (loaded_state bytes))
+counting bytes =
+    decided (λ q. silent (Refused q)) (first (input_checks bytes true true)) (counts_of (loaded_state bytes))

@@ -1,6 +1,7 @@
 -- The promises about what the calls return and leave, over the one list of calls, each proved in proofs/ under its name
 -- in small letters.
-use Rattle.std.specs.Prelude.{ℕ, ◌+◌, ◌%◌, ◌/◌, ◌^◌, ◌≤◌, ◌≡◌, Bool, true, false, cond, ◌↔◌, List, [], ◌∷◌, ◌++◌, map, eqb, length, take, ℤ, pos, negsuc, ◌≤ℤ◌}
+use Rattle.std.specs.Prelude.{ℕ, ◌+◌, ◌%◌, ◌/◌, ◌^◌, ◌≤◌, ◌≡◌, Bool, true, false, cond, ◌↔◌, List, [], ◌∷◌, ◌++◌}
+use Rattle.std.specs.Prelude.{map, eqb, length, take, ℤ, pos, negsuc, ◌≤ℤ◌}
 use Rattle.woot.specs.declared.Operation.{Operation}
 use Rattle.woot.specs.declared.Written.{Written}
 use Rattle.answers.specs.declared.Refusal.{Refusal}
@@ -41,8 +42,8 @@ use Rattle.saved.specs.declared.Version.TheVariants.{First, Second}
 use Rattle.saved.specs.Format.{site_line, saved_laid_out, saved_in_range, saved_state, saved_bytes}
 use Rattle.saved.specs.Calls.{loaded_as, raising_as, needs_raising, loaded, loaded_state}
 use Rattle.saved.specs.Conversion.{converted, converted_out, first_most}
-use Rattle.saved.specs.Archive.{archive_laid_out, archive_said, archive_bytes, archive_written, archive_out, unarchive_written}
-use Rattle.saved.specs.Archive.{unarchive_out}
+use Rattle.saved.specs.Archive.{archive_laid_out, archive_said, archive_bytes, archive_written, archive_out}
+use Rattle.saved.specs.Archive.{unarchive_written, unarchive_out}
 use Rattle.saved.specs.Archives.{Archives, Unarchives, archive_most}
 use Rattle.saved.specs.Theorems.{saved_most}
 use Rattle.effects.specs.Results.{Result, word_number, in_bits, number_of}
@@ -185,7 +186,8 @@ bounds_of (wimtaze_empty n) = bounds_of_bytes saved_most
 bounds_of (wimtaze_build n heap) =
     record { integrated = 0; discarded = heap_lines; written = saved_most; line = 0 }
 bounds_of wimtaze_load = bounds_of_bytes saved_most
-bounds_of (wimtaze_receive line) = record { integrated = 513; discarded = pending_slots; written = saved_most; line = 0 }
+bounds_of (wimtaze_receive line) =
+    record { integrated = 513; discarded = pending_slots; written = saved_most; line = 0 }
 bounds_of (wimtaze_receive_at line gap) =
     record { integrated = 513; discarded = pending_slots; written = saved_most; line = 65535 }
 bounds_of (wimtaze_type gap n) =
@@ -428,7 +430,8 @@ other Second = First
 
 -- what a way returns and writes is what the conversion does, whose refusals `ConversionNumbers` has by number
 pub record Converting (v : Version) (bytes out : List ℕ) : Type 0 where
-  pub refusal-told : (converted_from v bytes out).result.reply.refusal ≡ written_number (converted v (other v) bytes out)
+  pub refusal-told :
+      (converted_from v bytes out).result.reply.refusal ≡ written_number (converted v (other v) bytes out)
   pub written-told : (converted_from v bytes out).result.written ≡ written_length (converted v (other v) bytes out)
   pub output-told : (converted_from v bytes out).output ≡ converted_out v (other v) bytes out
 

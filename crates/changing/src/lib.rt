@@ -4,7 +4,8 @@
 
 ghost use Rattle.std.specs.Prelude.{◌≡◌, true, [], ◌≤◌, length};
 ghost use Rattle.answers.specs.declared.Answer.TheVariants.{Done};
-ghost use Rattle.woot.specs.Memory.{replica_well_formed, character_numbers, character_slots, pending_numbers, pending_slots};
+ghost use Rattle.woot.specs.Memory.{replica_well_formed, character_numbers, character_slots};
+ghost use Rattle.woot.specs.Memory.{pending_numbers, pending_slots};
 ghost use Rattle.woot.specs.Replicas.{received_at, inserted, deleted, restored};
 ghost use Rattle.memory.specs.Lent.{replica_as, Sized};
 ghost use Rattle.replica.specs.Outcomes.{replica_lent, Sendable, sent_by};

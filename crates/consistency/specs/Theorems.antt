@@ -62,7 +62,8 @@ received_in_c m out ls = ran (begun (empty_bytes m out)) (map (receiving_line ou
 abbrev pub each_ready_on : Copy → List ℕ → List (List ℕ) → Bool
 each_ready_on p out [] = true
 each_ready_on p out (l ∷ ls) =
-    one_line l && executable (characters_of p) (said_by l) && each_ready_on (step_on p (receiving_line out l)).copy out ls
+    one_line l && executable (characters_of p) (said_by l)
+    && each_ready_on (step_on p (receiving_line out l)).copy out ls
 
 -- such a sequence of a heap's operations: none but those, repeated or not, and all but what is left out
 pub record InSequence (heap : List ℕ) (m : ℕ) (out : List ℕ) (ls : List (List ℕ)) : Type 0 where

@@ -30,7 +30,9 @@ front w out = take (written_length w) out
 module _ (out last : List ℕ) where
   -- what is printed of the text, with `last` lent
   unfoldable pub text_front : Replica → List ℕ
-  text_front r = let text = text_line (meaning r).characters in front (written_as [] text last) (output_after [] text last)
+  text_front r =
+      let text = text_line (meaning r).characters in
+      front (written_as [] text last) (output_after [] text last)
 
   -- what is printed from the line n on, with `out` lent for each line; the first number is the most lines there can be
   unfoldable pub loop_from : ℕ → ℕ → Replica → List ℕ → List ℕ
