@@ -12,13 +12,12 @@ ghost use Rattle.woot.specs.Table.{keys};
 ghost use Rattle.convergence.specs.Agreement.{Standing};
 ghost use Rattle.index.specs.Keys.{AllSmall};
 ghost use Rattle.index.specs.Tabled.{Tabled};
-ghost use Rattle.memory.specs.Lent.{Sized};
-ghost use Rattle.replica.specs.Outcomes.{replica_lent};
+ghost use Rattle.memory.specs.Lent.{Full};
 ghost use Rattle.admission.specs.Calls.{admitted_by};
 
 use answers::{Answer, Refusal};
 use neighbours::{cycles, pairs, places};
-use woot::{CHARACTERS, CODE_POINTS, NEXT_KEYS, PREVIOUS_KEYS, Replica, Site};
+use woot::{CHARACTERS, CODE_POINTS, NEXT_KEYS, PREVIOUS_KEYS, Replica, Table};
 
 // What loading for use gives: the answer, and the very replica, or beside a refusal one that no site has.
 #[derive(Clone, Copy)]
@@ -28,24 +27,18 @@ pub struct Admitted {
 }
 
 // Internal step: whether the rows with these keys and neighbours can be made. The call has checked the form.
-fn is_loadable<'a>(
-    heads: &'a [u16],
-    links: &'a [u16],
-    ids: &'a [u32],
-    previous: &'a [u32],
-    next: &'a [u32],
-) -> bool
-    requires tabled { Tabled (record { heads = heads.now; links = links.now }) ids.now }
+fn is_loadable<'a>(table: &'a Table, ids: &'a [u32], previous: &'a [u32], next: &'a [u32]) -> bool
+    requires tabled { Tabled table.now ids.now }
     requires ids_in_bounds { length ids.now ≤ length previous.now }
     requires ids_in_bounds_2 { length ids.now ≤ length next.now }
     ensures { (cs : List Character) → Standing cs → AllSmall cs → ids.now ≡ keys cs
         → previous.now ≡ previous_keys cs → next.now ≡ next_keys cs → result ≡ loadable cs }
 {
-    let end = index::place_of(heads, links, ids, 1);
+    let end = index::place_of(table, ids, 1);
     let mut above = [0u16; CHARACTERS];
-    places::find_places(heads, links, ids, previous, end, 0, &mut above);
+    places::find_places(table, ids, previous, end, 0, &mut above);
     let mut below = [0u16; CHARACTERS];
-    places::find_places(heads, links, ids, next, end, 2, &mut below);
+    places::find_places(table, ids, next, end, 2, &mut below);
     if !pairs::ordered(ids, &above, &below) {
         return false;
     }
@@ -53,10 +46,10 @@ fn is_loadable<'a>(
 }
 
 // The same of the first n rows in a replica's arrays, whose columns are parts of one.
-fn can_be_made<'a>(heads: &'a [u16], links: &'a [u16], characters: &'a [u32], n: usize) -> bool
+fn can_be_made<'a>(table: &'a Table, characters: &'a [u32], n: usize) -> bool
     requires characters_len { length characters.now ≡ character_numbers }
     requires n_le_character_slots { n ≤ character_slots }
-    requires tabled { Tabled (record { heads = heads.now; links = links.now }) (take n (key_column characters.now)) }
+    requires tabled { Tabled table.now (take n (key_column characters.now)) }
     ensures { (cs : List Character) → Standing cs → AllSmall cs
         → take n (key_column characters.now) ≡ keys cs
         → take n (previous_column characters.now) ≡ previous_keys cs
@@ -65,29 +58,19 @@ fn can_be_made<'a>(heads: &'a [u16], links: &'a [u16], characters: &'a [u32], n:
     let ids = &characters[0..CHARACTERS];
     let previous = &characters[PREVIOUS_KEYS..NEXT_KEYS];
     let next = &characters[NEXT_KEYS..CODE_POINTS];
-    is_loadable(heads, links, &ids[..n], &previous[..n], &next[..n])
+    is_loadable(table, &ids[..n], &previous[..n], &next[..n])
 }
 
-// Internal step: whether the replica in lent arrays may be used: the form is looked at first, and then the rows. The
-// calls lend arrays of these sizes.
-pub fn judge<'a>(
-    site: Site,
-    characters: &'a [u32],
-    toggles: &'a [u8],
-    n: usize,
-    pending: &'a [u32],
-    w: usize,
-    heads: &'a [u16],
-    links: &'a [u16],
-) -> Answer
-    requires { Sized characters.now toggles.now pending.now heads.now links.now }
-    ensures { result ≡ (admitted_by (replica_lent site characters.now toggles.now n
-        pending.now w heads.now links.now)).answer }
+// Internal step: whether a replica may be used: the form is looked at first, and then the rows.
+pub fn judge(replica: &Replica) -> Answer
+    requires { Full replica.now }
+    ensures { result ≡ (admitted_by replica.now).answer }
 {
-    if !well_formed::check(site, characters, toggles, n, pending, w, heads, links) {
+    if !well_formed::is_well_formed(replica) {
         return Answer::Refused(Refusal::Form);
     }
-    if !can_be_made(heads, links, characters, n) {
+    let document = &replica.document;
+    if !can_be_made(&document.table, &document.characters, document.length) {
         return Answer::Refused(Refusal::Unreachable);
     }
     Answer::Done {
@@ -109,16 +92,7 @@ fn refused(refusal: Refusal) -> Admitted
 pub fn admit(replica: Replica) -> Admitted
     ensures { result ≡ admitted_by replica }
 {
-    let answer = judge(
-        replica.site,
-        &replica.document.characters,
-        &replica.document.toggles,
-        replica.document.length,
-        &replica.document.pending,
-        replica.document.waiting,
-        &replica.document.table.heads,
-        &replica.document.table.links,
-    );
+    let answer = judge(&replica);
     match answer {
         Answer::Refused(refusal) => refused(refusal),
         Answer::Done {

@@ -50,8 +50,8 @@ module _ {s : State} {site : Site} {characters toggles : List ℕ} {n : ℕ} {pe
   keys-there : take (min n character_slots) characters ≡ keys (take character_slots s.characters)
   keys-there = rw (held.characters-held, held.characters-counted) (keys_used s.characters)
 
-  pub form_held : {heads links : List ℕ} → ◌≡◌ {A = Table} (record { heads = heads; links = links }) (table_of (take (min n character_slots) characters))
-      → all_in_range s ≡ true → columns.replica_well_formed (replica_as site characters toggles n pending w heads links) ≡ well_formed s
+  pub form_held : {table : Table} → table ≡ table_of (take (min n character_slots) characters)
+      → all_in_range s ≡ true → columns.replica_well_formed (replica_as site characters toggles n pending w table.heads table.links) ≡ well_formed s
   unfolding in_arrays fitting document_of characters_held pending_held
   form_held e ranged =
       let t = e ∙ ap table_of keys-there in

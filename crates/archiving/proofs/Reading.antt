@@ -1,4 +1,5 @@
 -- What was read decides: a refusal is that of the call, and else the arrays hold what the bytes say.
+use Rattle.std.proofs.Common.{Err, Ok}
 use Prim.Native.Nat.{ℕ}
 use native.Mathlib.Omega.{arith}
 use mathlib.Core.Path.{◌≡◌, refl, sym, ap, ◌∙◌, subst}
@@ -20,15 +21,13 @@ use Rattle.answers.specs.declared.Refusal.TheVariants.{Layout, Range, Misarrange
 use Rattle.answers.specs.Answers.{decided}
 use Rattle.woot.specs.declared.Site.{Site}
 use Rattle.woot.specs.declared.Character.{Character}
-use Rattle.woot.specs.declared.Written.{Written}
-use Rattle.woot.specs.declared.Written.TheVariants.{Refused as writtenRefused}
+use Rattle.woot.specs.Writing.{Written}
 use Rattle.woot.specs.Form.{all_in_range, well_formed}
 use Rattle.woot.specs.Memory.{character_slots}
 use Rattle.woot.specs.Ranges.{site_in_range, character_in_range, in_range}
 use Rattle.woot.specs.State.{State}
 use Rattle.woot.specs.Writing.{written_as, output_after}
 use Rattle.bulk.specs.Archiving.{Placed, Archive, places_of, characters_of, by_place, unarchived, state_from, place_in_range, archive_in_range, arranged}
-use Rattle.saved.specs.declared.LoadAnswer.TheVariants.{Done, Refused}
 use Rattle.saved.specs.declared.Rows.{Rows}
 use Rattle.saved.specs.declared.Rows.TheVariants.{Saved, Archived}
 use Rattle.saved.specs.declared.Version.TheVariants.{Second}
@@ -45,29 +44,29 @@ use Rattle.archiving.proofs.Holding.{keys-held}
 -- ---- the answer
 
 module _ (k : Rows) (b : List ℕ) where
-  answer-layout : rows_laid_out k b ≡ false → rows_answer k b ≡ Refused Layout
+  answer-layout : rows_laid_out k b ≡ false → rows_answer k b ≡ Err Layout
   unfolding rows_answer rows_checks decided
   answer-layout l = rw l
 
-  answer-range : rows_laid_out k b ≡ true → rows_in_range k b ≡ false → rows_answer k b ≡ Refused Range
+  answer-range : rows_laid_out k b ≡ true → rows_in_range k b ≡ false → rows_answer k b ≡ Err Range
   unfolding rows_answer rows_checks decided
   answer-range l i = rw (l, i)
 
-  answer-done : rows_laid_out k b ≡ true → rows_in_range k b ≡ true → rows_answer k b ≡ Done
+  answer-done : rows_laid_out k b ≡ true → rows_in_range k b ≡ true → rows_answer k b ≡ Ok tt
   unfolding rows_answer rows_checks decided
   answer-done l i = rw (l, i)
 
-  because : (q : Refusal) → rows_answer k b ≡ Refused q
+  because : (q : Refusal) → rows_answer k b ≡ Err q
       → ((rows_laid_out k b ≡ false) × (q ≡ Layout)) ⊎ ((rows_laid_out k b ≡ true) × (rows_in_range k b ≡ false) × (q ≡ Range))
   because q h = go (rows_laid_out k b) (rows_in_range k b) refl refl
     where
       go : (c d : Bool) → rows_laid_out k b ≡ c → rows_in_range k b ≡ d
           → ((rows_laid_out k b ≡ false) × (q ≡ Layout)) ⊎ ((rows_laid_out k b ≡ true) × (rows_in_range k b ≡ false) × (q ≡ Range))
-      go false d l i = let z : Refused Layout ≡ Refused q = sym (answer-layout l) ∙ h in inl (l, cc)
-      go true false l i = let z : Refused Range ≡ Refused q = sym (answer-range l i) ∙ h in inr (l, i, cc)
+      go false d l i = let z : Err Layout ≡ Err q = sym (answer-layout l) ∙ h in inl (l, cc)
+      go true false l i = let z : Err Range ≡ Err q = sym (answer-range l i) ∙ h in inr (l, i, cc)
       go true true l i = absurd (never_done q (sym (answer-done l i) ∙ h))
 
-  both : rows_answer k b ≡ Done → (rows_laid_out k b ≡ true) × (rows_in_range k b ≡ true)
+  both : rows_answer k b ≡ Ok tt → (rows_laid_out k b ≡ true) × (rows_in_range k b ≡ true)
   both h = go (rows_laid_out k b) (rows_in_range k b) refl refl
     where
       go : (c d : Bool) → rows_laid_out k b ≡ c → rows_in_range k b ≡ d → (rows_laid_out k b ≡ true) × (rows_in_range k b ≡ true)
@@ -96,13 +95,13 @@ held-read a h =
 -- ---- a saved replica
 
 module _ (b out : List ℕ) where
-  pub archive_unread : (q : Refusal) → rows_answer (Saved Second) b ≡ Refused q → (writtenRefused q ≡ archive_written b out) × (out ≡ archive_out b out)
+  pub archive_unread : (q : Refusal) → rows_answer (Saved Second) b ≡ Err q → (Err q ≡ archive_written b out) × (out ≡ archive_out b out)
   archive_unread q h =
       ⊎_elim (λ r. rw r.1 (archive_layout b out (sym (saved-laid-out Second b) ∙ r.0)))
       (λ r. rw r.2 (archive_range b out (sym (saved-laid-out Second b) ∙ r.0) (sym (saved-in-range Second b) ∙ r.1)))
       (because (Saved Second) b q h)
 
-  module _ (h : rows_answer (Saved Second) b ≡ Done) where
+  module _ (h : rows_answer (Saved Second) b ≡ Ok tt) where
     pub saved_laid : saved_laid_out b ≡ true
     saved_laid = sym (saved-laid-out Second b) ∙ (both (Saved Second) b h).0
 
@@ -153,13 +152,13 @@ back_ranged a ranged =
     rest.2
 
 module _ (b out : List ℕ) where
-  pub unarchive_unread : (q : Refusal) → rows_answer Archived b ≡ Refused q → (writtenRefused q ≡ unarchive_written b out) × (out ≡ unarchive_out b out)
+  pub unarchive_unread : (q : Refusal) → rows_answer Archived b ≡ Err q → (Err q ≡ unarchive_written b out) × (out ≡ unarchive_out b out)
   unarchive_unread q h =
       ⊎_elim (λ r. rw r.1 (unarchive_layout b out (sym (archived_laid_out b) ∙ r.0)))
       (λ r. rw r.2 (unarchive_range b out (sym (archived_laid_out b) ∙ r.0) (sym (archived_in_range b) ∙ r.1)))
       (because Archived b q h)
 
-  module _ (h : rows_answer Archived b ≡ Done) {site : Site} {places characters toggles : List ℕ} {n : ℕ} {pending : List ℕ} {w : ℕ}
+  module _ (h : rows_answer Archived b ≡ Ok tt) {site : Site} {places characters toggles : List ℕ} {n : ℕ} {pending : List ℕ} {w : ℕ}
       (g : Held (rows_said Archived b) site places characters toggles n pending w) where
     laid : archive_laid_out b ≡ true
     laid = sym (archived_laid_out b) ∙ (both Archived b h).0
@@ -176,7 +175,7 @@ module _ (b out : List ℕ) where
     pub archive_held : StateHeld (as_read (archive_said b)) site characters toggles n pending w
     archive_held = held-read (archive_said b) said
 
-    pub misarranged : arranged (archive_said b).rows ≡ false → (writtenRefused Misarranged ≡ unarchive_written b out) × (out ≡ unarchive_out b out)
+    pub misarranged : arranged (archive_said b).rows ≡ false → (Err Misarranged ≡ unarchive_written b out) × (out ≡ unarchive_out b out)
     misarranged e = unarchive_misarranged b out laid ranges e
 
     -- the rows at their places

@@ -1,10 +1,9 @@
 -- For the proofs of the code alone: a state in lent arrays, and what is answered of it.
-use Rattle.std.specs.Prelude.{ℕ, ◌≡◌, true, false, List, [], length, take}
+use Rattle.std.specs.Prelude.{ℕ, ◌≡◌, true, false, List, [], length, take, Err}
 use Rattle.lists.specs.Padding.{pad}
 use Rattle.answers.specs.declared.Refusal.TheVariants.{Form}
 use Rattle.woot.specs.declared.Site.{Site}
-use Rattle.woot.specs.declared.Written.{Written}
-use Rattle.woot.specs.declared.Written.TheVariants.{Refused}
+use Rattle.woot.specs.Writing.{Written}
 use Rattle.woot.specs.State.{State}
 use Rattle.woot.specs.Form.{well_formed}
 use Rattle.woot.specs.Memory.{character_slots, pending_slots, toggle_counts}
@@ -29,6 +28,6 @@ led s order = record { site = s.site; characters = characters_led s.characters o
 
 -- refusal 3 where a state is not in form, with every byte as it was, and else its saved replica or 12
 pub record Answered (s : State) (out : List ℕ) (r : Written) (after : List ℕ) : Type 0 where
-  pub unformed : well_formed s ≡ false → (r ≡ Refused Form) × (after ≡ out)
+  pub unformed : well_formed s ≡ false → (r ≡ Err Form) × (after ≡ out)
   pub written : well_formed s ≡ true →
       (r ≡ written_as [] (saved_bytes s) out) × (after ≡ output_after [] (saved_bytes s) out)

@@ -12,8 +12,8 @@ ghost use Rattle.arranging.specs.Order.{Leads};
 ghost use Rattle.archiving.specs.Holding.{StateHeld, led, Answered};
 
 use answers::Refusal;
-use saved::{LoadAnswer, Rows, Version};
-use woot::{CHAINS, CHARACTER_NUMBERS, CHARACTERS, LINKS, PENDING_NUMBERS, Site, Written};
+use saved::{Rows, Version};
+use woot::{CHAINS, CHARACTER_NUMBERS, CHARACTERS, LINKS, PENDING_NUMBERS, Site, Table};
 
 // Whether the state that the arrays hold is in form. One that has more than they hold is not.
 fn has_form<'a>(
@@ -32,15 +32,12 @@ fn has_form<'a>(
     ensures n_le_character_slots { result ≡ true → n ≤ character_slots }
     ensures w_le_pending_slots { result ≡ true → w ≤ pending_slots }
 {
-    let mut heads = [0u16; CHAINS];
-    let mut links = [0u16; LINKS];
-    chains::enter_all(
-        characters,
-        index::lesser(n, CHARACTERS),
-        &mut heads,
-        &mut links,
-    );
-    well_formed::check(site, characters, toggles, n, pending, w, &heads, &links)
+    let mut table = Table {
+        heads: [0; CHAINS],
+        links: [0; LINKS],
+    };
+    chains::enter_all(characters, index::lesser(n, CHARACTERS), &mut table);
+    well_formed::check(site, characters, toggles, n, pending, w, &table)
 }
 
 // Writes the archive of the state that the arrays hold, which is in form.
@@ -52,7 +49,7 @@ fn put_archived<'a>(
     pending: &'a [u32],
     w: usize,
     out: &mut [u8],
-) -> Written
+) -> Result<usize, Refusal>
     requires characters_len { length characters.now ≡ character_numbers }
     requires toggles_len { length toggles.now ≡ character_slots }
     requires n_le_character_slots { n ≤ character_slots }
@@ -90,7 +87,7 @@ fn put_back<'a>(
     pending: &'a [u32],
     w: usize,
     out: &mut [u8],
-) -> Written
+) -> Result<usize, Refusal>
     requires characters_len { length characters.now ≡ character_numbers }
     requires toggles_len { length toggles.now ≡ character_slots }
     requires n_in_bounds { n ≤ length order.now }
@@ -112,7 +109,7 @@ fn put_back<'a>(
         &mut moved_toggles,
     );
     if !has_form(site, &moved, &moved_toggles, n, pending, w) {
-        return Written::Refused(Refusal::Form);
+        return Err(Refusal::Form);
     }
     saving::put_replica(
         Version::Second,
@@ -127,7 +124,7 @@ fn put_back<'a>(
 }
 
 // Writes the archive of a saved replica, its clock as it was read. A refused call leaves every byte as it was.
-pub fn archive(bytes: &[u8], out: &mut [u8]) -> Written
+pub fn archive(bytes: &[u8], out: &mut [u8]) -> Result<usize, Refusal>
     ensures value { result ≡ archive_written bytes.now out.old }
     ensures out_after { out.new ≡ archive_out bytes.now out.old }
 {
@@ -144,21 +141,21 @@ pub fn archive(bytes: &[u8], out: &mut [u8]) -> Written
         &mut pending,
     );
     let answer = found.answer;
-    if let LoadAnswer::Refused(reason) = answer {
-        return Written::Refused(reason);
+    if let Err(reason) = answer {
+        return Err(reason);
     }
     let site = found.site;
     let n = found.length;
     let w = found.waiting;
     if !has_form(site, &characters, &toggles, n, &pending, w) {
-        return Written::Refused(Refusal::Form);
+        return Err(Refusal::Form);
     }
     put_archived(site, &characters, &toggles, n, &pending, w, out)
 }
 
 // Writes the saved replica of an archive. Its rows are at their places before their form is looked at. A refused call
 // leaves every byte as it was.
-pub fn unarchive(bytes: &[u8], out: &mut [u8]) -> Written
+pub fn unarchive(bytes: &[u8], out: &mut [u8]) -> Result<usize, Refusal>
     ensures value { result ≡ unarchive_written bytes.now out.old }
     ensures out_after { out.new ≡ unarchive_out bytes.now out.old }
 {
@@ -175,14 +172,14 @@ pub fn unarchive(bytes: &[u8], out: &mut [u8]) -> Written
         &mut pending,
     );
     let answer = found.answer;
-    if let LoadAnswer::Refused(reason) = answer {
-        return Written::Refused(reason);
+    if let Err(reason) = answer {
+        return Err(reason);
     }
     let site = found.site;
     let n = found.length;
     let mut order = [0u32; CHARACTERS];
     if !arranging::is_arranged(&characters, &places, n, &mut order) {
-        return Written::Refused(Refusal::Misarranged);
+        return Err(Refusal::Misarranged);
     }
     put_back(
         site,

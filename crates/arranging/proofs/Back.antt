@@ -17,7 +17,7 @@ use Rattle.woot.specs.Limits.{capacity}
 use Rattle.woot.specs.Memory.{character_slots}
 use Rattle.woot.specs.Ranges.{character_in_range}
 use Rattle.woot.specs.State.{blank_character}
-use Rattle.woot.specs.Table.{key, keys}
+use Rattle.woot.specs.Table.{keys}
 use Rattle.bulk.specs.Archiving.{Placed, placed_from, places_of, characters_of, by_identifier, archived, unarchived, place_in_range, each_once, places_kept}
 use Rattle.bulk.specs.Archiving.{identifiers_rise, arranged}
 use Rattle.convergence.proofs.Archiving.{row_at, at_places, places-bound, places_exactly}

@@ -9,7 +9,7 @@ use lib.Dec.{eqb, ltb}
 use lib.ListN.{length, get_or, set, drop, replicate, length-set, length-drop, length-replicate, get_or-replicate}
 use lib.Seq.{get_or-set_same, get_or-set_other, drop-cons}
 use borrow.Author.Tests.{eqb-true, eqb-false, eq-eqb, lt-ltb, le-ltb, not-true}
-use Rattle.lists.specs.Lists.{any, every, distinct}
+use Rattle.lists.specs.Lists.{any, distinct}
 use Rattle.lists.specs.Sorting.{rises_by}
 use Rattle.lists.proofs.Tests.{either, side, clash, fails, and_left_lem, and_right, and_intro, not-intro}
 use Rattle.lists.proofs.Members.{get_member, every_member, member_every, any_none, none_any}
@@ -152,11 +152,11 @@ module _ (ks : List ℕ) (i : ℕ) where
   next : i + 1 < length ks → drop (i + 1) ks ≡ get_or ks (i + 1) 0 ∷ drop (i + 2) ks
   next h = let f : suc (i + 1) ≡ i + 2 = omega arith in drop-cons ks (i + 1) 0 h ∙ ap (λ (n : ℕ). get_or ks (i + 1) 0 ∷ drop n ks) f
 
-  pub rises-on : i + 1 < length ks → get_or ks i 0 < get_or ks (i + 1) 0 → rises_by ltb (drop i ks) ≡ rises_by ltb (drop (i + 1) ks)
-  rises-on h l = rw (two h, next h, lt-ltb (get_or ks i 0) (get_or ks (i + 1) 0) l)
+  pub rises-on : (n : ℕ) → n ≡ i + 1 → n < length ks → get_or ks i 0 < get_or ks n 0 → rises_by ltb (drop i ks) ≡ rises_by ltb (drop n ks)
+  rises-on n e h l = rw (e, two (rw e at h), next (rw e at h), lt-ltb (get_or ks i 0) (get_or ks (i + 1) 0) (rw e at l))
 
-  pub rises-not : i + 1 < length ks → get_or ks (i + 1) 0 ≤ get_or ks i 0 → rises_by ltb (drop i ks) ≡ false
-  rises-not h l = rw (two h, le-ltb (get_or ks i 0) (get_or ks (i + 1) 0) l)
+  pub rises-not : (n : ℕ) → n ≡ i + 1 → n < length ks → get_or ks n 0 ≤ get_or ks i 0 → rises_by ltb (drop i ks) ≡ false
+  rises-not n e h l = rw (two (rw e at h), le-ltb (get_or ks i 0) (get_or ks (i + 1) 0) (rw e at l))
 
   pub rises-end : length ks ≤ i + 1 → rises_by ltb (drop i ks) ≡ true
   rises-end h = short (drop i ks) (omega (arith, length-drop i ks))

@@ -6,14 +6,15 @@ ghost use Rattle.std.specs.Prelude.{◌≡◌, not, ◌+◌, ◌≤◌, eqb, ltb
 ghost use Rattle.lists.specs.Lists.{keep};
 ghost use Rattle.woot.specs.Limits.{last_clock, capacity};
 ghost use Rattle.woot.specs.Memory.{character_slots, pending_slots};
-ghost use Rattle.memory.specs.Lent.{replica_as, Sized};
+ghost use Rattle.memory.specs.Lent.{viewed, Full};
 ghost use Rattle.block_judging.specs.Steps.{BlockJudged};
 
 use answers::{Answer, Refusal};
 use pending::counts;
-use woot::{CHARACTERS, PENDING, Site};
+use woot::{CHARACTERS, PENDING, Replica, Site};
 
-// What is known of a block before a character of it is typed.
+// What is known of a block before a character of it is typed. It stays an enum: an empty block is answered well, so that
+// a Result would call that an error.
 #[derive(Clone, Copy)]
 pub enum Judged {
     // It is refused, or empty.
@@ -44,34 +45,27 @@ fn overfull(n: usize, own: &[u32], w: usize, count: usize) -> bool
     CHARACTERS < n + counts::count_inserts(&own[..w]) + count
 }
 
-// Internal step: what is known of a block of so many characters, by the replica on lent arrays. The calls' arrays
-// have these lengths.
-pub fn judge<'a>(
-    site: Site,
-    characters: &'a [u32],
-    toggles: &'a [u8],
-    n: usize,
-    pending: &'a [u32],
-    w: usize,
-    heads: &'a [u16],
-    links: &'a [u16],
-    point: usize,
-    count: usize,
-) -> Judged
-    requires { Sized characters.now toggles.now pending.now heads.now links.now }
-    ensures { BlockJudged (replica_as site characters.now toggles.now n
-        pending.now w heads.now links.now) point count result }
+// Internal step: what is known of a block of so many characters, by the replica.
+pub fn judge(replica: &Replica, point: usize, count: usize) -> Judged
+    requires { Full replica.now }
+    ensures { BlockJudged (viewed replica.now) point count result }
 {
-    if !well_formed::check(site, characters, toggles, n, pending, w, heads, links) {
+    if !well_formed::is_well_formed(replica) {
         return Judged::Answered(Answer::Refused(Refusal::Form));
     }
-    if visible::count(toggles, n) < point {
+    let document = &replica.document;
+    if visible::count(&document.toggles, document.length) < point {
         return Judged::Answered(Answer::Refused(Refusal::Position));
     }
-    if clock_short(site, count) {
+    if clock_short(replica.site, count) {
         return Judged::Answered(Answer::Refused(Refusal::Clock));
     }
-    if overfull(n, &pending[0..PENDING], w, count) {
+    if overfull(
+        document.length,
+        &document.pending[0..PENDING],
+        document.waiting,
+        count,
+    ) {
         return Judged::Answered(Answer::Refused(Refusal::DocumentFull));
     }
     if count == 0 {

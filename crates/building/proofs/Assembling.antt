@@ -39,8 +39,7 @@ use Rattle.memory.proofs.Characters.{identifier-key}
 use Rattle.memory.proofs.Operations.{range_keyed}
 use Rattle.clock.specs.Hearing.{heard_id, heard_keys}
 use Rattle.clock.proofs.Hearing.{heard-id}
-use Rattle.sifting.specs.declared.Kept.{Kept}
-use Rattle.sifting.specs.Keeping.{KeptOnce}
+use Rattle.sifting.specs.Keeping.{KeptFirsts}
 use Rattle.passes.specs.Steps.{laid_as, Laid, Offers}
 use Rattle.passes.proofs.Repeating.{pass_balanced}
 use Rattle.building.specs.declared.Built.{Built}
@@ -145,10 +144,10 @@ module _ {xs : List ℕ} {m : ℕ} {ys : List ℕ} {l : ℕ} (g : Gathers xs m y
 
 -- the arrays of an empty replica hold no characters
 module _ (k : ℕ) (r : Replica) (e : r ≡ stored (initial k)) where
-  pub empty_laid : laid_as r.document.characters r.document.toggles 0 r.document.table.heads r.document.table.links ≡ columns.document_of [] []
+  pub empty_laid : laid_as r.document.characters r.document.toggles 0 r.document.table ≡ columns.document_of [] []
   unfolding stored initial document_of
   empty_laid =
-      ap (λ (x : Replica). laid_as x.document.characters x.document.toggles 0 x.document.table.heads x.document.table.links) e
+      ap (λ (x : Replica). laid_as x.document.characters x.document.toggles 0 x.document.table) e
       ∙ view-stored [] [] (omega arith) (omega arith)
 
   pub empty-size : length r.document.characters ≡ 4096
@@ -164,7 +163,7 @@ module _ (k : ℕ) (r : Replica) (e : r ≡ stored (initial k)) where
   empty-pending-size = ap length empty-pending
 
   abbrev pub empty_offers : {xs : List ℕ} {m : ℕ} {ys : List ℕ} {l : ℕ} → Assembles xs m ys l
-      → Offers (laid_as r.document.characters r.document.toggles 0 r.document.table.heads r.document.table.links) xs m
+      → Offers (laid_as r.document.characters r.document.toggles 0 r.document.table) xs m
   empty_offers a =
       record {
         characters = [];
@@ -175,14 +174,14 @@ module _ (k : ℕ) (r : Replica) (e : r ≡ stored (initial k)) where
 abbrev pub toggles-on : {d : columns.Document} {xs : List ℕ} {m : ℕ} {cs : List Character} {ts : List Toggle} → Laid d cs → Among xs m ts → Toggles d xs m
 toggles-on {cs = cs} {ts} l a = record { characters = cs; toggles = ts; laid = l; among = a }
 
-abbrev pub kept_assembles : {xs : List ℕ} {m : ℕ} {ys : List ℕ} {l : ℕ} (g : Gathers xs m ys l) {zs : List ℕ} {r : Kept}
-    → KeptOnce (inserts g.operations) zs r → disagreeing (inserts g.operations) ≡ false → Assembles zs r.count ys l
-kept_assembles g k e =
+abbrev pub kept_assembles : {xs : List ℕ} {m : ℕ} {ys : List ℕ} {l : ℕ} (g : Gathers xs m ys l) {zs : List ℕ} {n : ℕ}
+    → KeptFirsts (inserts g.operations) zs n → Assembles zs n ys l
+kept_assembles g k =
     record {
       inserts = firsts (inserts g.operations);
       toggles = toggles_among g.operations;
-      held = k.kept e;
-      many = k.count e;
-      offered = firsts_offered (inserts g.operations) (gathers_ranged g) (k.kept e).few;
+      held = k.kept;
+      many = k.count;
+      offered = firsts_offered (inserts g.operations) (gathers_ranged g) k.kept.few;
       among = g.among;
     }

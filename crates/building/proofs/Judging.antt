@@ -8,9 +8,11 @@ use borrow.Author.Tests.{ltb-false}
 use lib.Dec.{ltb}
 use lib.ListN.{length, take}
 use lib.Seq.{take_all}
+use Rattle.std.proofs.Common.{Result, Ok, Err}
 use Rattle.lists.specs.Lists.{every}
 use Rattle.lists.proofs.Tests.{and_left_lem, and_right, or-false-left, or-false-right}
 use Rattle.woot.specs.declared.Operation.{Operation}
+use Rattle.answers.specs.declared.Refusal.{Refusal}
 use Rattle.answers.specs.declared.Answer.TheVariants.{Refused}
 use Rattle.woot.specs.Operations.{inserts, toggles_among}
 use Rattle.woot.specs.Ranges.{site_number, in_range}
@@ -21,8 +23,6 @@ use Rattle.heap.specs.Format.{heap_laid_out, heap_said}
 use Rattle.heap.specs.Columns.{InsertsIn, TogglesIn}
 use Rattle.gathering.specs.declared.Gathered.{Gathered}
 use Rattle.gathering.specs.Gathering.{ungathered, gathered_of, gathered, Held}
-use Rattle.building.specs.declared.Judged.{Judged}
-use Rattle.building.specs.declared.Judged.TheVariants.{Refused as refused, Fits}
 use Rattle.building.specs.Calls.{built_outcome, built_by}
 use Rattle.building.specs.Assembly.{judged, Gathers, outcome_of, returned}
 use Rattle.building.specs.Steps.{Among}
@@ -40,9 +40,9 @@ module _ (n : ℕ) (bytes : List ℕ) where
     pub few-toggles : length (toggles_among os) ≤ 1024
     pub comes : returned (outcome_of n os) ≡ built_by n bytes
 
-  abbrev Told : Judged → Type 0
-  Told (refused r) = returned (unbuilt (Refused r)) ≡ built_by n bytes
-  Told Fits = Fitting
+  abbrev Told : Result (Unit {0}) Refusal → Type 0
+  Told (Err r) = returned (unbuilt (Refused r)) ≡ built_by n bytes
+  Told (Ok x) = Fitting
 
   go : (l : Bool) → heap_laid_out bytes ≡ l → (a : Bool) → site_number n && every in_range os ≡ a → (f : Bool) → heap_full os ≡ f
       → Told (judged n (gathered bytes))
@@ -61,7 +61,7 @@ module _ (n : ℕ) (bytes : List ℕ) where
         comes = rw (e, g, h);
       })
 
-  pub judged-told : {g : Gathered} → g ≡ gathered bytes → {j : Judged} → j ≡ judged n g → Told j
+  pub judged-told : {g : Gathered} → g ≡ gathered bytes → {j : Result (Unit {0}) Refusal} → j ≡ judged n g → Told j
   judged-told e {j} f = subst Told (sym (f ∙ ap (judged n) e)) (go (heap_laid_out bytes) refl (site_number n && every in_range os) refl (heap_full os) refl)
 
 module _ (n : ℕ) (bytes : List ℕ) (f : Fitting n bytes) {g : Gathered} (e : g ≡ gathered bytes) where

@@ -10,6 +10,7 @@ use lib.Dec.{eqb}
 use lib.ListN.{length, take, drop, get_or, drop_of_length-le}
 use lib.Seq.{drop-cons, get_or-take}
 use Rattle.lists.proofs.Members.{every_member, get_member}
+use Rattle.woot.specs.declared.Table.{Table}
 use Rattle.woot.specs.declared.Toggle.{Toggle}
 use Rattle.woot.specs.declared.Character.{Character}
 use Rattle.woot.specs.declared.Operation.TheVariants.{Toggle as toggle}
@@ -56,9 +57,9 @@ pub keyed : (x : Toggle) → toggle_in_range x ≡ true → Keyed (toggle x)
 unfolding in_range
 keyed x r = range_keyed (toggle x) r
 
-module _ (characters toggles : List ℕ) (n : ℕ) (heads links : List ℕ) {cs : List Character} (l : Laid (laid_as characters toggles n heads links) cs) (x : Toggle) (r : toggle_in_range x ≡ true) where
+module _ (characters toggles : List ℕ) (n : ℕ) (table : Table) {cs : List Character} (l : Laid (laid_as characters toggles n table) cs) (x : Toggle) (r : toggle_in_range x ≡ true) where
   abbrev d : Document
-  d = laid_as characters toggles n heads links
+  d = laid_as characters toggles n table
 
   target_found : found (key x.target) (take d.length d.ids) ≡ first_index (targeted x) cs
   unfolding found
@@ -68,7 +69,7 @@ module _ (characters toggles : List ℕ) (n : ℕ) (heads links : List ℕ) {cs 
       ∙ first_targeted x (keyed x r).0 cs l.small)
 
   pub toggled_laid : (ts : List ℕ) → ts ≡ toggled_at (found (key x.target) (take d.length d.ids)) x.toggles toggles
-      → Laid (laid_as characters ts n heads links) (integrate_toggle cs x)
+      → Laid (laid_as characters ts n table) (integrate_toggle cs x)
   toggled_laid ts e =
       record {
         tidy = document-path (found-parts (laid_parts l) x _ (sym target_found) l.apart e);
@@ -146,17 +147,17 @@ module _ {xs : List ℕ} {m : ℕ} {ts : List Toggle} (g : Among xs m ts) where
     read_ranged = ap toggle_in_range here-read ∙ here_ranged
 
     -- x is the toggle that was read
-    pub changing_again : (characters toggles : List ℕ) (n : ℕ) (heads links : List ℕ) {cs : List Character}
-        → Changing (laid_as characters toggles n heads links) j cs ts
+    pub changing_again : (characters toggles : List ℕ) (n : ℕ) (table : Table) {cs : List Character}
+        → Changing (laid_as characters toggles n table) j cs ts
         → (x : Toggle) → x ≡ toggle_at xs j
-        → (us : List ℕ) → us ≡ toggled_at (found (key x.target) (take n (laid_as characters toggles n heads links).ids)) x.toggles toggles
-        → Changing (laid_as characters us n heads links) (j + 1) cs ts
-    changing_again characters toggles n heads links c x is us e =
+        → (us : List ℕ) → us ≡ toggled_at (found (key x.target) (take n (laid_as characters toggles n table).ids)) x.toggles toggles
+        → Changing (laid_as characters us n table) (j + 1) cs ts
+    changing_again characters toggles n table c x is us e =
         let split : drop j ts ≡ x ∷ drop (suc j) ts =
         drop-cons ts j (toggle_at xs j) inner ∙ ap (λ (y : Toggle). y ∷ drop (suc j) ts) (sym (is ∙ here-read))
         in
         record {
           characters = integrate_toggle c.characters x;
-          laid = toggled_laid characters toggles n heads links c.laid x (ap toggle_in_range is ∙ read_ranged) us e;
+          laid = toggled_laid characters toggles n table c.laid x (ap toggle_in_range is ∙ read_ranged) us e;
           comes = rw (add-one j) (ap (toggled_all c.characters) (sym split) ∙ c.comes);
         }

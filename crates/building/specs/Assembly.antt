@@ -1,10 +1,12 @@
 -- For the proofs of the code alone: what is built of inserts and toggles in lent arrays, and what is refused before.
 use Rattle.std.specs.Prelude.{ℕ, ◌+◌, ◌-◌, ◌≡◌, true, ◌&&◌, ◌||◌, not, cond, List, [], ◌∷◌, ltb, length}
+use Rattle.std.specs.Prelude.{Result, Ok, Err}
 use Rattle.lists.specs.Lists.{every}
 use Rattle.woot.specs.declared.Site.{Site}
 use Rattle.woot.specs.declared.Insert.{Insert}
 use Rattle.woot.specs.declared.Toggle.{Toggle}
 use Rattle.woot.specs.declared.Operation.{Operation}
+use Rattle.answers.specs.declared.Refusal.{Refusal}
 use Rattle.answers.specs.declared.Refusal.TheVariants.{Layout, Range, HeapFull, Conflict}
 use Rattle.answers.specs.declared.Answer.TheVariants.{Done, Refused}
 use Rattle.woot.specs.Limits.{capacity}
@@ -18,17 +20,15 @@ use Rattle.gathering.specs.declared.Gathered.{Gathered}
 use Rattle.heap.specs.Columns.{InsertsIn}
 use Rattle.passes.specs.Steps.{Offered}
 use Rattle.building.specs.declared.Built.{Built}
-use Rattle.building.specs.declared.Judged.{Judged}
-use Rattle.building.specs.declared.Judged.TheVariants.{Refused as refused, Fits}
 use Rattle.building.specs.Steps.{Among}
 
 -- ---- the refusals before 7
 
-unfoldable pub judged : ℕ → Gathered → Judged
+unfoldable pub judged : ℕ → Gathered → Result (Unit {0}) Refusal
 judged n g =
-    cond (not g.laid_out) (refused Layout)
-    (cond (not (site_number n && g.in_range)) (refused Range)
-    (cond (ltb capacity g.inserts || ltb capacity g.toggles) (refused HeapFull) Fits))
+    cond (not g.laid_out) (Err Layout)
+    (cond (not (site_number n && g.in_range)) (Err Range)
+    (cond (ltb capacity g.inserts || ltb capacity g.toggles) (Err HeapFull) (Ok tt)))
 
 -- ---- inserts, no identifier twice, and toggles
 

@@ -34,14 +34,6 @@ pub struct Built {
     pub replica: Replica,
 }
 
-// What is known of a heap once it is read.
-#[derive(Clone, Copy)]
-pub enum Judged {
-    Refused(Refusal),
-    // Its operations are in range, and the arrays have slots for them.
-    Fits,
-}
-
 // The toggle in slot j.
 fn toggle_at(changes: &[u32], j: usize) -> Toggle
     requires changes_len { length changes.now ≡ toggle_numbers }
@@ -60,8 +52,7 @@ fn toggle_at(changes: &[u32], j: usize) -> Toggle
 
 // Carries out each of the first m toggles in turn on the first n characters.
 fn toggle_all<'a>(
-    heads: &'a [u16],
-    links: &'a [u16],
+    table: &'a Table,
     characters: &'a [u32],
     toggles: &mut [u8],
     n: usize,
@@ -69,17 +60,14 @@ fn toggle_all<'a>(
     m: usize,
 )
     requires characters_len { length characters.now ≡ character_numbers }
-    requires toggles { Toggles (laid_as characters.now toggles.old n heads.now links.now) changes.now m }
-    ensures { (g : Toggles (laid_as characters.now toggles.old n heads.now
-        links.now) changes.now m)
-        → Laid (laid_as characters.now toggles.new n heads.now links.now)
+    requires toggles { Toggles (laid_as characters.now toggles.old n table.now) changes.now m }
+    ensures { (g : Toggles (laid_as characters.now toggles.old n table.now) changes.now m)
+        → Laid (laid_as characters.now toggles.new n table.now)
         (toggled_all g.characters g.toggles) }
 {
-    let mut j = 0;
-    while j < m {
+    for j in 0..m {
         let toggle = toggle_at(changes, j);
-        delivery::carry_toggle(heads, links, characters, toggles, n, toggle);
-        j += 1;
+        delivery::carry_toggle(table, characters, toggles, n, toggle);
     }
 }
 
@@ -93,12 +81,10 @@ fn seen_later(changes: &[u32], m: usize, j: usize) -> bool
 {
     let target = changes[j];
     let stamp = changes[STAMPS + j];
-    let mut i = j + 1;
-    while i < m {
+    for i in j + 1..m {
         if index::both(stamp == changes[STAMPS + i], target == changes[i]) {
             return true;
         }
-        i += 1;
     }
     false
 }
@@ -106,8 +92,7 @@ fn seen_later(changes: &[u32], m: usize, j: usize) -> bool
 // Whether the target of the toggle in slot j is not among the first n characters, and no later toggle is the same: of
 // repeats the last is counted.
 fn is_absent<'a>(
-    heads: &'a [u16],
-    links: &'a [u16],
+    table: &'a Table,
     characters: &'a [u32],
     n: usize,
     changes: &'a [u32],
@@ -116,7 +101,7 @@ fn is_absent<'a>(
 ) -> bool
     requires n_le_character_slots { n ≤ character_slots }
     requires characters_len { length characters.now ≡ character_numbers }
-    requires tabled { Tabled (record { heads = heads.now; links = links.now }) (take n (key_column characters.now)) }
+    requires tabled { Tabled table.now (take n (key_column characters.now)) }
     requires changes_len { length changes.now ≡ toggle_numbers }
     requires m_le_character_slots { m ≤ character_slots }
     requires j_lt_m { j < m }
@@ -124,7 +109,7 @@ fn is_absent<'a>(
         → take n (key_column characters.now) ≡ keys cs → AllSmall cs → Among changes.now m ts
         → result ≡ not (held cs (get_or ts j t).target || any (same_toggle (get_or ts j t)) (drop (j + 1) ts)) }
 {
-    if ready::is_held(heads, links, &characters[..n], changes[j]) {
+    if ready::is_held(table, &characters[..n], changes[j]) {
         return false;
     }
     !seen_later(changes, m, j)
@@ -132,8 +117,7 @@ fn is_absent<'a>(
 
 // How many of the first m toggles have no target among the first n characters, repeats counted once.
 fn count_absent<'a>(
-    heads: &'a [u16],
-    links: &'a [u16],
+    table: &'a Table,
     characters: &'a [u32],
     n: usize,
     changes: &'a [u32],
@@ -141,7 +125,7 @@ fn count_absent<'a>(
 ) -> usize
     requires n_le_character_slots { n ≤ character_slots }
     requires characters_len { length characters.now ≡ character_numbers }
-    requires tabled { Tabled (record { heads = heads.now; links = links.now }) (take n (key_column characters.now)) }
+    requires tabled { Tabled table.now (take n (key_column characters.now)) }
     requires changes_len { length changes.now ≡ toggle_numbers }
     requires m_le_character_slots { m ≤ character_slots }
     ensures value { (cs : List Character) (ts : List Toggle) → take n (key_column characters.now) ≡ keys cs
@@ -149,12 +133,10 @@ fn count_absent<'a>(
     ensures upper_bound { result ≤ m }
 {
     let mut absent = 0;
-    let mut j = 0;
-    while j < m {
-        if is_absent(heads, links, characters, n, changes, m, j) {
+    for j in 0..m {
+        if is_absent(table, characters, n, changes, m, j) {
             absent += 1;
         }
-        j += 1;
     }
     absent
 }
@@ -178,19 +160,10 @@ fn assemble(site: Site, inserts: &mut [u32], m: usize, changes: &[u32], l: usize
     let mut replica = Replica::empty(site.number);
     let mut characters = replica.document.characters;
     let mut toggles = replica.document.toggles;
-    let mut heads = replica.document.table.heads;
-    let mut links = replica.document.table.links;
-    let n = passes::place_all(
-        &mut characters,
-        &mut toggles,
-        &mut heads,
-        &mut links,
-        inserts,
-        0,
-        m,
-    );
-    let absent = count_absent(&heads, &links, &characters, n, changes, l);
-    toggle_all(&heads, &links, &characters, &mut toggles, n, changes, l);
+    let mut table = replica.document.table;
+    let n = passes::place_all(&mut characters, &mut toggles, &mut table, inserts, 0, m);
+    let absent = count_absent(&table, &characters, n, changes, l);
+    toggle_all(&table, &characters, &mut toggles, n, changes, l);
     let answer = Answer::Done {
         integrated: 0,
         discarded: m - n + absent,
@@ -202,7 +175,7 @@ fn assemble(site: Site, inserts: &mut [u32], m: usize, changes: &[u32], l: usize
         length: n,
         pending,
         waiting: 0,
-        table: Table { heads, links },
+        table,
     };
     replica.site = site;
     replica.document = document;
@@ -217,39 +190,39 @@ fn build_gathered(number: u8, inserts: &mut [u32], m: usize, changes: &[u32], l:
         → result ≡ returned (outcome_of number g.operations) }
 {
     let site = clock::heard_keys(Site { number, clock: 0 }, inserts, m);
-    let mut heads = [0u16; CHAINS];
-    let mut links = [0u16; LINKS];
-    let kept = sifting::keep_once(inserts, m, &mut heads, &mut links);
-    if !kept.agreeing {
-        return refused(Refusal::Conflict);
+    let mut table = Table {
+        heads: [0; CHAINS],
+        links: [0; LINKS],
+    };
+    match sifting::keep_once(inserts, m, &mut table) {
+        Some(count) => assemble(site, inserts, count, changes, l),
+        None => refused(Refusal::Conflict),
     }
-    assemble(site, inserts, kept.count, changes, l)
 }
 
 // Whether a number is one of a site.
 fn is_site(number: u64) -> bool
     ensures { result ≡ site_number number }
 {
-    if number < 1 {
-        return false;
-    }
-    number <= 16
+    matches!(number, 1..=16)
 }
 
-// What is known of a heap once it is read.
-fn judge(number: u64, gathered: Gathered) -> Judged
+// What is known of a heap once it is read: why it is refused, or that its operations are in range and the arrays have
+// slots for them.
+#[tactic(auto, unfolding(crate::specs::Assembly::judged))]
+fn judge(number: u64, gathered: Gathered) -> Result<(), Refusal>
     ensures { result ≡ judged number gathered }
 {
     if !gathered.laid_out {
-        return Judged::Refused(Refusal::Layout);
+        return Err(Refusal::Layout);
     }
-    if !index::both(is_site(number), gathered.in_range) {
-        return Judged::Refused(Refusal::Range);
+    if !is_site(number) || !gathered.in_range {
+        return Err(Refusal::Range);
     }
-    if index::either(CHARACTERS < gathered.inserts, CHARACTERS < gathered.toggles) {
-        return Judged::Refused(Refusal::HeapFull);
+    if CHARACTERS < gathered.inserts || CHARACTERS < gathered.toggles {
+        return Err(Refusal::HeapFull);
     }
-    Judged::Fits
+    Ok(())
 }
 
 // Builds a replica from a heap of operations, as lines in any order, and a number. (Document 02, Req 08: building the
@@ -261,8 +234,8 @@ pub fn build(number: u64, heap: &[u8]) -> Built
     let mut changes = [0u32; TOGGLE_NUMBERS];
     let gathered = gathering::gather(heap, &mut inserts, &mut changes);
     match judge(number, gathered) {
-        Judged::Refused(refusal) => refused(refusal),
-        Judged::Fits => build_gathered(
+        Err(refusal) => refused(refusal),
+        Ok(()) => build_gathered(
             number as u8,
             &mut inserts,
             gathered.inserts,

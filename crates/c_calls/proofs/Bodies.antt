@@ -19,8 +19,6 @@ use Rattle.answers.specs.declared.Refusal.{Refusal}
 use Rattle.answers.specs.declared.Refusal.TheVariants.{Output}
 use Rattle.answers.specs.declared.Answer.{Answer}
 use Rattle.answers.specs.declared.Answer.TheVariants.{Done, Deferred, Duplicate, Refused}
-use Rattle.woot.specs.declared.Sent.{Sent}
-use Rattle.woot.specs.declared.Sent.TheVariants.{Done as sentDone, Refused as sentRefused}
 use Rattle.woot.specs.Ranges.{is_code_point, character_id, in_range}
 use Rattle.woot.specs.State.{State, initial}
 use Rattle.woot.specs.Form.{well_formed}
@@ -62,6 +60,8 @@ use Rattle.effects.specs.Counts.{counts_of}
 use Rattle.c_calls.specs.Steps.{beginning, receiving_line, receiving_line_at, inserting_here, deleting_here, restoring_here, pasting_here, showing_text, counting, converting, upgrading, downgrading}
 use Rattle.c_calls.proofs.Listing.{first-behind}
 use Rattle.c_calls.proofs.Blocks.{own-some}
+use Rattle.std.proofs.Common.{Ok, Err}
+use Rattle.woot.specs.Sent.{Sending, sends}
 
 -- ---- what is handed is looked at first
 
@@ -283,7 +283,7 @@ module _ (bytes out : List ℕ) where
 
 -- ---- sending
 
-first-answering : (rs : List (Check Sent)) (m : Option Sent) → first rs ≡ m → first (answering rs) ≡ elim m [ none ↦ none | some a ↦ some (answer_of a) ]
+first-answering : (rs : List (Check Sending)) (m : Option Sending) → first rs ≡ m → first (answering rs) ≡ elim m [ none ↦ none | some a ↦ some (answer_of a) ]
 first-answering [] m e = rw (← e)
 first-answering (r ∷ rs) m e = go r.holds refl (first-answering rs m)
   where
@@ -295,28 +295,28 @@ first-answering (r ∷ rs) m e = go r.holds refl (first-answering rs m)
     go false f k = k (rw f at e)
 
 -- what is carried out is answered with its counts
-carried_answer : (s : State) (o : Operation) → (n : ℕ) × (m : ℕ) × ((carry_out (sentDone o) s o).answer ≡ sentDone o n m)
+carried_answer : (s : State) (o : Operation) → (n : ℕ) × (m : ℕ) × ((carry_out (sends o) s o).answer ≡ sends o n m)
 unfolding carry_out
 carried_answer s (insert i) = (_, _, refl)
 carried_answer s (toggle t) = (1, 0, refl)
 
 module _ (s : State) (o : Operation) (out line : List ℕ) where
-  abbrev wants : Outcome Sent → Bool
+  abbrev wants : Outcome Sending → Bool
   wants w = short (replica_and_line w o) out line
 
-  sent-done : (w : Outcome Sent) (n m : ℕ) → w.answer ≡ sentDone o n m →
+  sent-done : (w : Outcome Sending) (n m : ℕ) → w.answer ≡ sends o n m →
       decided (quiet out line) (cond (wants w) (some (Refused Output)) none) (delivered (replica_and_line w o) out line)
       ≡ sending w.state w.answer out line
   unfolding sending answer_of
   sent-done w n m f = rw f (both (Done n m) (saved_bytes w.state) (operation_line o) out line)
 
-  sent-away : (w : Outcome Sent) (q : Refusal) → w.answer ≡ sentRefused q →
+  sent-away : (w : Outcome Sending) (q : Refusal) → w.answer ≡ Err q →
       decided (quiet out line) (some (Refused q)) (delivered (replica_and_line w o) out line) ≡ sending w.state w.answer out line
   unfolding sending turned decided
   sent-away w q f = rw f
 
   -- by the rule's own conditions, of which each answers a refusal
-  sent-body : (w : Outcome Sent) (rs : List (Check Sent)) → All Refusing rs → w ≡ decided (unchanged s) (first rs) (carry_out (sentDone o) s o) →
+  sent-body : (w : Outcome Sending) (rs : List (Check Sending)) → All Refusing rs → w ≡ decided (unchanged s) (first rs) (carry_out (sends o) s o) →
       decided (quiet out line) (first (answering rs ++ (wants w ⇒ Refused Output) ∷ [])) (delivered (replica_and_line w o) out line)
       ≡ sending w.state w.answer out line
   unfolding decided unchanged answer_of
@@ -325,15 +325,15 @@ module _ (s : State) (o : Operation) (out line : List ℕ) where
       goal : Option Answer → Type 0
       goal m = decided (quiet out line) m (delivered (replica_and_line w o) out line) ≡ sending w.state w.answer out line
 
-      away : (a : Sent) → Refusing a → w ≡ unchanged s a → goal (some (answer_of a))
-      away (sentDone _ _ _) t f = elim t [ ]
-      away (sentRefused q) t f = sent-away w q (ap (λ (v : Outcome Sent). v.answer) f)
+      away : (a : Sending) → Refusing a → w ≡ unchanged s a → goal (some (answer_of a))
+      away (Ok x) t f = elim t [ ]
+      away (Err q) t f = sent-away w q (ap (λ (v : Outcome Sending). v.answer) f)
 
-      go : (m : Option Sent) → first rs ≡ m → goal (first (answering rs ++ (wants w ⇒ Refused Output) ∷ []))
+      go : (m : Option Sending) → first rs ≡ m → goal (first (answering rs ++ (wants w ⇒ Refused Output) ∷ []))
       go none h =
           let k = carried_answer s o in
           rw (first-behind (answering rs) (wants w) (Refused Output) none (first-answering rs none h))
-          (sent-done w k.0 k.1 (ap (λ (v : Outcome Sent). v.answer) (rw h at e) ∙ k.2))
+          (sent-done w k.0 k.1 (ap (λ (v : Outcome Sending). v.answer) (rw h at e) ∙ k.2))
       go (some a) h =
           rw (first-behind (answering rs) (wants w) (Refused Output) (some (answer_of a)) (first-answering rs (some a) h))
           (away a (first_some Refusing rs turns a h) (rw h at e))

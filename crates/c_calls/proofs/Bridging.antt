@@ -1,5 +1,6 @@
 -- The rule on the state that the bytes say is the call on the replica that was read: where the state is in form the
 -- replica means it, and where it is not, refusal 3 is all that either answers.
+use Rattle.std.proofs.Common.{Ok, Err}
 use Prim.Native.Nat.{ℕ, ◌≤◌}
 use native.Mathlib.Omega.{arith}
 use mathlib.Core.Path.{◌≡◌, refl, sym, ap, ◌∙◌}
@@ -19,8 +20,6 @@ use Rattle.answers.specs.declared.Refusal.{Refusal}
 use Rattle.answers.specs.declared.Refusal.TheVariants.{NotUtf8, Form}
 use Rattle.answers.specs.declared.Answer.{Answer}
 use Rattle.answers.specs.declared.Answer.TheVariants.{Done, Deferred, Duplicate, Refused}
-use Rattle.woot.specs.declared.Sent.{Sent}
-use Rattle.woot.specs.declared.Sent.TheVariants.{Done as sentDone, Refused as sentRefused}
 use Rattle.woot.specs.declared.ReceiptAt.{ReceiptAt}
 use Rattle.woot.specs.declared.Generated.{Generated}
 use Rattle.woot.specs.Operations.{character, inserts}
@@ -29,8 +28,7 @@ use Rattle.woot.specs.Table.{key, keys}
 use Rattle.woot.specs.State.{State}
 use Rattle.woot.specs.Memory.{character_slots, character_numbers, previous_keys, next_keys, code_points_of, stored, meaning, replica_well_formed}
 use Rattle.woot.specs.Form.{well_formed}
-use Rattle.woot.specs.declared.Written.{Written}
-use Rattle.woot.specs.declared.Written.TheVariants.{Length, Refused as writtenRefused}
+use Rattle.woot.specs.Writing.{Written}
 use Rattle.answers.specs.Answers.{reply, changes, Check, ◌⇒◌, first, decided, NoneHolds}
 use Rattle.woot.specs.Writing.{written_number, written_length}
 use Rattle.woot.specs.Calls.{Outcome, unchanged, insert_checks, local_insert_when, local_insert, delete_checks, local_delete_when, local_delete, restore_checks, local_restore_when, local_restore}
@@ -68,6 +66,7 @@ use Rattle.pasting.specs.Replicas.{after_typing, pasted_with, pasted_by}
 use Rattle.effects.proofs.Saving.{columns-length}
 use Rattle.effects.specs.Counts.{counts_of}
 use Rattle.effects.specs.Counting.{counts_left}
+use Rattle.woot.specs.Sent.{Sending}
 
 -- the form first, and then the rest
 abbrev pub formed-first : State → List ℕ → List ℕ → Effect → Effect
@@ -101,13 +100,13 @@ receipt-at-saved r g w out f = go w.answer
     go Duplicate = refl
     go (Refused q) = refl
 
-sent-saved : (r : Replica) (w : Outcome Sent) (out line : List ℕ) → well_formed w.state ≡ true → generated_left (generated r w) out line ≡ after_sending w out line
+sent-saved : (r : Replica) (w : Outcome Sending) (out line : List ℕ) → well_formed w.state ≡ true → generated_left (generated r w) out line ≡ after_sending w out line
 unfolding generated_left generated after_sending sent_left sending after_sent
 sent-saved r w out line f = go w.answer
   where
-    go : (a : Sent) → sent_left a (after_sent r w.state a) out line ≡ sending w.state a out line
-    go (sentDone o n m) = ap (λ (bytes : List ℕ). writing_both (Done n m) bytes (operation_line o) out line) (stored_bytes w.state (formed-within w.state f))
-    go (sentRefused q) = refl
+    go : (a : Sending) → sent_left a (after_sent r w.state a) out line ≡ sending w.state a out line
+    go (Ok x) = ap (λ (bytes : List ℕ). writing_both (Done x.integrated x.discarded) bytes (operation_line x.operation) out line) (stored_bytes w.state (formed-within w.state f))
+    go (Err q) = refl
 
 -- ---- the form
 
@@ -143,15 +142,15 @@ module _ (r : Replica) (f : replica_well_formed r ≡ false) where
   unfolding received_at receipt_at receive_at_when receive_at_checks decided unchanged receipt_at_left changes turned
   received-off o g out ranged = rw (ranged, f)
 
-  inserted-off : (g n : ℕ) → is_code_point n ≡ true → inserted r g n ≡ record { answer = sentRefused Form; replica = r }
+  inserted-off : (g n : ℕ) → is_code_point n ≡ true → inserted r g n ≡ record { answer = Err Form; replica = r }
   unfolding inserted generated local_insert_when insert_checks decided unchanged after_sent
   inserted-off g n ranged = rw (ranged, f)
 
-  deleted-off : (p : ℕ) → deleted r p ≡ record { answer = sentRefused Form; replica = r }
+  deleted-off : (p : ℕ) → deleted r p ≡ record { answer = Err Form; replica = r }
   unfolding deleted generated local_delete_when delete_checks decided unchanged after_sent
   deleted-off p = rw f
 
-  restored-off : (x : Identifier) → character_id x ≡ true → restored r x ≡ record { answer = sentRefused Form; replica = r }
+  restored-off : (x : Identifier) → character_id x ≡ true → restored r x ≡ record { answer = Err Form; replica = r }
   unfolding restored generated local_restore_when restore_checks decided unchanged after_sent
   restored-off x ranged = rw (ranged, f)
 
@@ -184,8 +183,8 @@ module _ (r : Replica) (s : State) (read : Reads r s) (out : List ℕ) where
 
   module _ (line : List ℕ) where
     -- a call that sends goes on as its rule does, and is refused with 3 where the form lacks
-    bridge : (w : Outcome Sent) (x : Generated) → (well_formed s ≡ true → well_formed w.state ≡ true) → (well_formed s ≡ true → x ≡ generated r w)
-        → (well_formed s ≡ false → x ≡ record { answer = sentRefused Form; replica = r })
+    bridge : (w : Outcome Sending) (x : Generated) → (well_formed s ≡ true → well_formed w.state ≡ true) → (well_formed s ≡ true → x ≡ generated r w)
+        → (well_formed s ≡ false → x ≡ record { answer = Err Form; replica = r })
         → formed-first s out line (after_sending w out line) ≡ generated_left x out line
     unfolding generated_left sent_left
     bridge w x kept on off = go (well_formed s) refl
@@ -317,8 +316,8 @@ conversion_bridge v w bytes out = checked-written (conversion_refusals v w bytes
 pub answer-told : (w : Written) →
     ((after_writing (Done 0 0) w).reply.refusal ≡ written_number w) × ((after_writing (Done 0 0) w).written ≡ written_length w)
 unfolding after_writing after_noting silent result reply written_number written_length
-answer-told (Length n) = (refl, refl)
-answer-told (writtenRefused q) = (refl, refl)
+answer-told (Ok n) = (refl, refl)
+answer-told (Err q) = (refl, refl)
 
 pub converting_tells : (v w : Version) (bytes out : List ℕ) →
     ((converting v w bytes out).result.reply.refusal ≡ written_number (converted v w bytes out))

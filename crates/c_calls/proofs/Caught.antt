@@ -25,14 +25,13 @@ use Rattle.lines.specs.Lines.{concatenated}
 use Rattle.codec.specs.Operations.{operation_line}
 use Rattle.heap.specs.Format.{heap_laid_out, heap_said}
 use Rattle.heap.proofs.Heaps.{heap_reads-back}
-use Rattle.listing.specs.declared.ListRead.TheVariants.{Done as listDone, Refused as listRefused}
+use Rattle.std.proofs.Common.{Ok, Err}
 use Rattle.listing.specs.Format.{list_bytes, list_laid_out, list_said}
 use Rattle.listing.specs.Calls.{list_read_checks, list_read}
 use Rattle.listing.specs.Theorems.{list_most}
 use Rattle.listing.proofs.Sizes.{list-fits}
 use Rattle.listing.proofs.Trips.{list-reads-back}
-use Rattle.saved.specs.declared.LoadAnswer.{LoadAnswer}
-use Rattle.saved.specs.declared.LoadAnswer.TheVariants.{Done as loadDone, Refused as loadRefused}
+use Rattle.saved.specs.LoadAnswer.{LoadAnswer}
 use Rattle.saved.specs.declared.Version.TheVariants.{Second}
 use Rattle.saved.specs.Format.{saved_laid_out, saved_in_range, saved_state}
 use Rattle.saved.specs.Calls.{loaded_state, unread, reading_checks, saved_read}
@@ -114,13 +113,13 @@ module _ (bytes : List ℕ) {a : LoadAnswer} (e : a ≡ read_answer Second bytes
   said_so : a ≡ (saved_read Second bytes).answer
   said_so = e ∙ answer-read Second bytes
 
-  pub answer-passed : a ≡ loadDone → first (handed_checks (wimtaze_answer list) bytes)
+  pub answer-passed : a ≡ Ok tt → first (handed_checks (wimtaze_answer list) bytes)
       ≡ first ((not (list_laid_out list) ⇒ Layout) ∷ answer_checks (well_formed (loaded_state bytes)) (list_said list))
   unfolding handed_checks answer_checks
   answer-passed h = let d = both Second bytes (saved_read Second bytes) refl (sym said_so ∙ h) in rw (d.0, d.1)
 
   -- and one that is refused is refused with the earlier of its refusal and the list's
-  pub answer-refused : (q : Refusal) → a ≡ loadRefused q →
+  pub answer-refused : (q : Refusal) → a ≡ Err q →
       first (handed_checks (wimtaze_answer list) bytes) ≡ some (first_beside q (list_read list))
   unfolding handed_checks saved_read reading_checks list_read list_read_checks decided unread first_beside earlier
   answer-refused q h =
@@ -128,11 +127,11 @@ module _ (bytes : List ℕ) {a : LoadAnswer} (e : a ≡ read_answer Second bytes
       (list_laid_out list) (listing_in_range (list_said list)) (mislisted (list_said list)) q
       (sym said_so ∙ h)
     where
-      judged : (a b f : Bool) (s : State) (la lr m : Bool) (p : Refusal) → (answering a b s).answer ≡ loadRefused p →
+      judged : (a b f : Bool) (s : State) (la lr m : Bool) (p : Refusal) → (answering a b s).answer ≡ Err p →
           first ((not (a && la) ⇒ Layout) ∷ (not (b && lr) ⇒ Range) ∷ (m ⇒ Mislisted) ∷ (not f ⇒ Form) ∷ [])
-          ≡ some (first_beside p (decided listRefused
+          ≡ some (first_beside p (decided Err
           (first ((not la ⇒ Layout) ∷ (not lr ⇒ Range) ∷ (m ⇒ Mislisted) ∷ []))
-          (listDone (length (list_said list).chunks))))
+          (Ok (length (list_said list).chunks))))
       judged true true f s la lr m p k = cc
       judged true false f s false lr m p k = let z : Range ≡ p = cc in rw (← z)
       judged true false f s true false m p k = let z : Range ≡ p = cc in rw (← z)

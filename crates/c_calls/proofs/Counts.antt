@@ -16,8 +16,6 @@ use Rattle.woot.specs.declared.Operation.TheVariants.{Insert as insert, Toggle a
 use Rattle.answers.specs.declared.Refusal.{Refusal}
 use Rattle.answers.specs.declared.Answer.{Answer}
 use Rattle.answers.specs.declared.Answer.TheVariants.{Done, Deferred, Duplicate, Refused}
-use Rattle.woot.specs.declared.Sent.{Sent}
-use Rattle.woot.specs.declared.Sent.TheVariants.{Done as sentDone, Refused as sentRefused}
 use Rattle.woot.specs.Ranges.{is_code_point, in_range}
 use Rattle.woot.specs.State.{State}
 use Rattle.woot.specs.Form.{well_formed}
@@ -34,6 +32,8 @@ use Rattle.convergence.proofs.Steps.{after-insert}
 use Rattle.codec.specs.Operations.{operation_line}
 use Rattle.codec.proofs.Sizes.{line_lengths}
 use Rattle.codec.specs.Theorems.{insert_most, toggle_most}
+use Rattle.std.proofs.Common.{Ok, Err}
+use Rattle.woot.specs.Sent.{Sending}
 
 -- the refusal is not the one of a short output
 abbrev pub Other : Refusal → Type 0
@@ -47,9 +47,9 @@ Fine Duplicate = Unit
 Fine (Refused q) = Other q
 
 -- of a call that sends, also that the line to be sent has at most m bytes
-abbrev pub Sends : ℕ → Sent → Type 0
-Sends m (sentDone o n k) = Fine (Done n k) × (length (operation_line o) ≤ m)
-Sends m (sentRefused q) = Other q
+abbrev pub Sends : ℕ → Sending → Type 0
+Sends m (Ok x) = Fine (Done x.integrated x.discarded) × (length (operation_line x.operation) ≤ m)
+Sends m (Err q) = Other q
 
 insert_fine : (s : State) (i : Insert) → well_formed s ≡ true
     → Fine (Done (suc (length (insert_carried s i).integrated)) (length (insert_carried s i).discarded))

@@ -16,7 +16,6 @@ use Rattle.answers.specs.declared.Refusal.TheVariants.{HeapFull, Mislisted, Misa
 use Rattle.answers.specs.declared.Refusal.TheVariants.{Layout, Range, NotUtf8, Form, Unrepresentable, Position, NotHidden, LastToggle, Clock, Taken, Conflict, Crossed, Unplaceable, SenderFull, DocumentFull, Output}
 use Rattle.answers.specs.declared.Answer.{Answer}
 use Rattle.answers.specs.declared.Answer.TheVariants.{Done, Deferred, Duplicate, Refused}
-use Rattle.woot.specs.declared.Sent.{Sent}
 use Rattle.woot.specs.Ranges.{is_code_point, character_id, in_range}
 use Rattle.woot.specs.State.{State}
 use Rattle.woot.specs.Form.{well_formed}
@@ -47,6 +46,7 @@ use Rattle.c_calls.specs.Calls.{CCall, wimtaze_empty, wimtaze_receive, wimtaze_r
 use Rattle.c_calls.specs.Calls.{wimtaze_build, wimtaze_load, wimtaze_list, wimtaze_answer}
 use Rattle.c_calls.specs.Calls.{wimtaze_archive, wimtaze_unarchive}
 use Rattle.c_calls.specs.Theorems.{CallsMeet, CallsRise, CallsRefuse, CallsKnow, Untouched, TurnedUntouched}
+use Rattle.woot.specs.Sent.{Sending}
 
 -- ---- the lists
 
@@ -214,7 +214,7 @@ all-earlier wimtaze_unarchive bytes =
 
 -- ---- where no condition holds
 
-none-sent : (cs : List (Check Sent)) → NoneHolds (answering cs) → NoneHolds cs
+none-sent : (cs : List (Check Sending)) → NoneHolds (answering cs) → NoneHolds cs
 none-sent [] w = tt
 none-sent (c ∷ cs) w = (w.0, none-sent cs w.1)
 
@@ -247,7 +247,7 @@ module _ (bytes : List ℕ) where
   type_taken g n w =
       let f = not-false (well_formed said) w.1.1.0 in
       let r = and_right (saved_in_range bytes) (is_code_point n) (not-false _ w.1.0) in
-      let cs : List (Check Sent) = drop 2 (insert_checks true said g n) in
+      let cs : List (Check Sending) = drop 2 (insert_checks true said g n) in
       let k = none-sent cs w.1.1.1 in
       (f, rw (f, none_first (insert_checks true said g n) (ap not r, (refl, k))))
 
@@ -256,7 +256,7 @@ module _ (bytes : List ℕ) where
   unfolding handed_checks rule_checks input_checks delete_checks local_delete local_delete_when decided
   erase-taken p w =
       let f = not-false (well_formed said) w.1.1.0 in
-      let cs : List (Check Sent) = drop 1 (delete_checks true said p) in
+      let cs : List (Check Sending) = drop 1 (delete_checks true said p) in
       let k = none-sent cs w.1.1.1 in
       (f, rw (f, none_first (delete_checks true said p) (refl, k)))
 
@@ -266,7 +266,7 @@ module _ (bytes : List ℕ) where
   restore_taken n t w =
       let f = not-false (well_formed said) w.1.1.0 in
       let r = and_right (saved_in_range bytes) (character_id (named n t)) (not-false _ w.1.0) in
-      let cs : List (Check Sent) = drop 2 (restore_checks true said (named n t)) in
+      let cs : List (Check Sending) = drop 2 (restore_checks true said (named n t)) in
       let k = none-sent cs w.1.1.1 in
       (f, rw (f, none_first (restore_checks true said (named n t)) (ap not r, (refl, k))))
 

@@ -14,8 +14,6 @@ use Rattle.woot.specs.declared.Operation.{Operation}
 use Rattle.woot.specs.declared.Operation.TheVariants.{Insert as insert, Toggle as toggle}
 use Rattle.answers.specs.declared.Answer.{Answer}
 use Rattle.answers.specs.declared.Answer.TheVariants.{Done, Deferred, Duplicate, Refused}
-use Rattle.woot.specs.declared.Sent.{Sent}
-use Rattle.woot.specs.declared.Sent.TheVariants.{Done as sentDone}
 use Rattle.woot.specs.Ranges.{is_code_point, character_id, in_range}
 use Rattle.woot.specs.State.{State}
 use Rattle.woot.specs.Form.{well_formed}
@@ -44,6 +42,7 @@ use Rattle.c_calls.specs.Theorems.{bytes_written, line_written, sends, received_
 use Rattle.c_calls.proofs.Listing.{Went, away, lacking, through, went, type_taken, erase-taken, restore_taken}
 use Rattle.c_calls.proofs.Fitting.{front}
 use Rattle.c_calls.proofs.Bodies.{receive-at-body}
+use Rattle.woot.specs.Sent.{Sending, sends as sends_on}
 
 -- a line that was written is one line, in range, and says its operation
 pub line-back : (o : Operation) → in_range o ≡ true → (one_line (operation_line o) ≡ true) × (said_by (operation_line o) ≡ o)
@@ -55,21 +54,21 @@ line-back o r =
 
 -- what a call that sends answers, once it is carried out
 pub insert-sent : (s : State) (g n : ℕ) → local_insert s g n ≡ send_insert s (generated_insert s g n) →
-    (i : ℕ) × (j : ℕ) × ((local_insert s g n).answer ≡ sentDone (insert (generated_insert s g n)) i j)
+    (i : ℕ) × (j : ℕ) × ((local_insert s g n).answer ≡ sends_on (insert (generated_insert s g n)) i j)
 unfolding send_insert carry_out
-insert-sent s g n e = (_, _, ap (λ (v : Outcome Sent). v.answer) e)
+insert-sent s g n e = (_, _, ap (λ (v : Outcome Sending). v.answer) e)
 
 delete_sent : (s : State) (p : ℕ) → local_delete s p ≡ send_toggle s (generated_delete s p) →
-    (local_delete s p).answer ≡ sentDone (toggle (generated_delete s p)) 1 0
+    (local_delete s p).answer ≡ sends_on (toggle (generated_delete s p)) 1 0
 unfolding send_toggle carry_out
-delete_sent s p e = ap (λ (v : Outcome Sent). v.answer) e
+delete_sent s p e = ap (λ (v : Outcome Sending). v.answer) e
 
 restore_sent : (s : State) (x : Identifier) → local_restore s x ≡ send_toggle s (generated_toggle s x) →
-    (local_restore s x).answer ≡ sentDone (toggle (generated_toggle s x)) 1 0
+    (local_restore s x).answer ≡ sends_on (toggle (generated_toggle s x)) 1 0
 unfolding send_toggle carry_out
-restore_sent s x e = ap (λ (v : Outcome Sent). v.answer) e
+restore_sent s x e = ap (λ (v : Outcome Sending). v.answer) e
 
-pub sent-told : {a : Sent} {o : Operation} {i j : ℕ} → a ≡ sentDone o i j → sent_operation a ≡ some o
+pub sent-told : {a : Sending} {o : Operation} {i j : ℕ} → a ≡ sends_on o i j → sent_operation a ≡ some o
 unfolding sent_operation
 sent-told e = rw e
 
@@ -122,7 +121,7 @@ module _ (bytes : List ℕ) (gap : ℕ) where
       (refl, front again new room)
 
   module _ (out line again : List ℕ) where
-    sent-own : Passed → (w : Outcome Sent) (o : Operation) (r : RuleCall) (n m : ℕ) → w.answer ≡ sentDone o n m →
+    sent-own : Passed → (w : Outcome Sending) (o : Operation) (r : RuleCall) (n m : ℕ) → w.answer ≡ sends_on o n m →
         outcome said r ≡ with_answer answer_of w → DoesAs said r o → in_range o ≡ true → beyond_visible said gap ≡ false →
         short (replica_and_line w o) out line ≡ false → length (saved_bytes w.state) ≤ length again →
         SavesAs (delivered (replica_and_line w o) out line) (received_at_by bytes (line_written (delivered (replica_and_line w o) out line)) gap again)

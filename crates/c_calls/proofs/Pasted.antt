@@ -16,8 +16,6 @@ use Rattle.woot.specs.declared.Operation.{Operation}
 use Rattle.woot.specs.declared.Operation.TheVariants.{Insert as insert}
 use Rattle.answers.specs.declared.Answer.{Answer}
 use Rattle.answers.specs.declared.Answer.TheVariants.{Done, Deferred, Duplicate, Refused}
-use Rattle.woot.specs.declared.Sent.{Sent}
-use Rattle.woot.specs.declared.Sent.TheVariants.{Done as sentDone}
 use Rattle.woot.specs.Ranges.{is_code_point}
 use Rattle.woot.specs.State.{State}
 use Rattle.woot.specs.Form.{well_formed}
@@ -52,6 +50,7 @@ use Rattle.c_calls.proofs.Blocks.{line-few, pasting_done}
 use Rattle.c_calls.proofs.Fitting.{front}
 use Rattle.c_calls.proofs.Bodies.{type_body, paste-body}
 use Rattle.c_calls.proofs.Own.{insert-sent, sent-told}
+use Rattle.woot.specs.Sent.{Sending, sends}
 
 -- ---- one typing call
 
@@ -98,7 +97,7 @@ module _ (out line : List ℕ) (room : saved_most ≤ length out) (room-line : i
         let o : Operation = insert (generated_insert said g n) in
         omega (arith, line-few o (sent_in_range.0 said g n o (sent-told (insert-sent said g n made).2)), room-line)
 
-    type_writes : (i j : ℕ) → (local_insert said g n).answer ≡ sentDone (insert (generated_insert said g n)) i j →
+    type_writes : (i j : ℕ) → (local_insert said g n).answer ≡ sends (insert (generated_insert said g n)) i j →
         effect_of (wimtaze_type g n) bytes out line
         ≡ record { result = result (Done i j) (length new) (length sent); output = placed out 0 new; line = placed line 0 sent }
     unfolding inserting_here input_checks decided after_sending sending writing_both
@@ -112,11 +111,11 @@ module _ (out line : List ℕ) (room : saved_most ≤ length out) (room-line : i
         let k = insert-sent said g n made in
         let e = type_writes k.0 k.1 k.2 in
         record {
-          same-reply = ap (λ (x : Effect). x.result.reply) e ∙ ap (λ (a : Sent). reply (answer_of a)) (sym k.2);
+          same-reply = ap (λ (x : Effect). x.result.reply) e ∙ ap (λ (a : Sending). reply (answer_of a)) (sym k.2);
           same_bytes = ap bytes_written e ∙ front out new new-fits;
           same_line =
               ap line_written e ∙ front line sent sent-fits ∙ sym (append-nil sent)
-              ∙ ap (λ (w : Outcome Sent). concatenated operation_line w.own) (sym made);
+              ∙ ap (λ (w : Outcome Sending). concatenated operation_line w.own) (sym made);
         }
 
   -- ---- all of them

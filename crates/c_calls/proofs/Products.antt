@@ -12,8 +12,6 @@ use Rattle.woot.specs.declared.Operation.{Operation}
 use Rattle.woot.specs.declared.Character.{Character}
 use Rattle.answers.specs.declared.Answer.{Answer}
 use Rattle.answers.specs.declared.Answer.TheVariants.{Done, Deferred, Duplicate, Refused}
-use Rattle.woot.specs.declared.Sent.{Sent}
-use Rattle.woot.specs.declared.Sent.TheVariants.{Done as sentDone}
 use Rattle.woot.specs.Ranges.{site_number}
 use Rattle.woot.specs.Operations.{is_visible}
 use Rattle.woot.specs.State.{State, initial}
@@ -60,6 +58,7 @@ use Rattle.c_calls.proofs.Listing.{receive-taken, receive-at-taken, type_taken, 
 use Rattle.c_calls.proofs.Listing.{build-passed, build-taken}
 use Rattle.c_calls.proofs.Blocks.{lines-short}
 use Rattle.c_calls.proofs.Answers.{answer-short}
+use Rattle.woot.specs.Sent.{Sending, sends}
 
 -- the first output is the bytes of a state in form, all of them
 pub record Saved (p : Product) : Type 0 where
@@ -100,7 +99,7 @@ counts_within s h =
     }
 
 -- a call that sends answers with its counts, and its line is the one of what it sends
-sent-sound : (c : CCall) (w : Outcome Sent) (o : Operation) (n m : ℕ) → w.answer ≡ sentDone o n m → well_formed w.state ≡ true →
+sent-sound : (c : CCall) (w : Outcome Sending) (o : Operation) (n m : ℕ) → w.answer ≡ sends o n m → well_formed w.state ≡ true →
     n ≤ (bounds_of c).integrated → m ≤ (bounds_of c).discarded → length (operation_line o) ≤ (bounds_of c).line →
     (bounds_of c).line ≤ (room_of c).line → saved_most ≤ (bounds_of c).written → saved_most ≤ (room_of c).output → Sound c (replica_and_line w o)
 unfolding result reply answer_of
@@ -197,7 +196,7 @@ module _ (bytes : List ℕ) where
   type_sound g n w =
       let t = type_taken bytes g n w in
       let b = rw t.1 at (insert-sends said t.0 g n) in
-      sent-sound (wimtaze_type g n) (local_insert said g n) _ _ _ (ap (λ (v : Outcome Sent). v.answer) t.1) (form_kept said (inserting g n) t.0)
+      sent-sound (wimtaze_type g n) (local_insert said g n) _ _ _ (ap (λ (v : Outcome Sending). v.answer) t.1) (form_kept said (inserting g n) t.0)
       b.0.0 b.0.1 b.1 (omega arith) (omega arith) (omega arith)
 
   erase-sound : (p : ℕ) → NoneHolds (earlier_checks (wimtaze_erase p) bytes) → Sound (wimtaze_erase p) (product_of (wimtaze_erase p) bytes)
@@ -205,7 +204,7 @@ module _ (bytes : List ℕ) where
   erase-sound p w =
       let t = erase-taken bytes p w in
       let b = rw t.1 at (delete_sends said t.0 p) in
-      sent-sound (wimtaze_erase p) (local_delete said p) _ 1 0 (ap (λ (v : Outcome Sent). v.answer) t.1) (form_kept said (deleting p) t.0)
+      sent-sound (wimtaze_erase p) (local_delete said p) _ 1 0 (ap (λ (v : Outcome Sending). v.answer) t.1) (form_kept said (deleting p) t.0)
       (omega arith) (omega arith) b.1 (omega arith) (omega arith) (omega arith)
 
   restore_sound : (n t : ℕ) → NoneHolds (earlier_checks (wimtaze_restore n t) bytes) → Sound (wimtaze_restore n t) (product_of (wimtaze_restore n t) bytes)
@@ -214,7 +213,7 @@ module _ (bytes : List ℕ) where
       let x = named n t in
       let e = restore_taken bytes n t w in
       let b = rw e.1 at (restore_sends said e.0 x) in
-      sent-sound (wimtaze_restore n t) (local_restore said x) _ 1 0 (ap (λ (v : Outcome Sent). v.answer) e.1) (form_kept said (restoring x) e.0)
+      sent-sound (wimtaze_restore n t) (local_restore said x) _ 1 0 (ap (λ (v : Outcome Sending). v.answer) e.1) (form_kept said (restoring x) e.0)
       (omega arith) (omega arith) b.1 (omega arith) (omega arith) (omega arith)
 
   nothing-sound : (g : ℕ) → NoneHolds (earlier_checks (wimtaze_paste g []) bytes) → Sound (wimtaze_paste g []) (product_of (wimtaze_paste g []) bytes)

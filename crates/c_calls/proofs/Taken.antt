@@ -13,8 +13,6 @@ use Rattle.answers.specs.declared.Refusal.{Refusal}
 use Rattle.answers.specs.declared.Refusal.TheVariants.{Taken, Output}
 use Rattle.answers.specs.declared.Answer.{Answer}
 use Rattle.answers.specs.declared.Answer.TheVariants.{Refused}
-use Rattle.woot.specs.declared.Sent.{Sent}
-use Rattle.woot.specs.declared.Sent.TheVariants.{Refused as sentRefused}
 use Rattle.woot.specs.Ranges.{is_code_point}
 use Rattle.woot.specs.Form.{well_formed}
 use Rattle.woot.specs.State.{State}
@@ -34,6 +32,8 @@ use Rattle.c_calls.specs.Calls.{wimtaze_build, wimtaze_load, wimtaze_list, wimta
 use Rattle.c_calls.specs.Calls.{wimtaze_archive, wimtaze_unarchive}
 use Rattle.c_calls.specs.Theorems.{meets, RefusalsMet, CallsNeverTaken}
 use Rattle.c_calls.proofs.Listing.{Went, away, lacking, through, went, earlier_reported, output_reported, product_made, calls_meet, calls_refuse}
+use Rattle.std.proofs.Common.{Err}
+use Rattle.woot.specs.Sent.{Sending}
 
 -- what is reported is among the numbers of the list
 met : {a : Answer} {cs : List (Check Answer)} → Reported a cs → any (eqb (reply a).refusal) (numbers_of cs) ≡ true
@@ -65,8 +65,8 @@ refusals_met c bytes out line =
     ∙ went-met c bytes out line (went c bytes out line)
 
 -- a refusal that is reported of the answers is reported of what is sent
-pub unanswered : (q : Refusal) (cs : List (Check Sent)) (last : Check Answer) → (last.answer ≡ Refused q → ⊥) →
-    Reported (Refused q) (answering cs ++ last ∷ []) → Reported (sentRefused q) cs
+pub unanswered : (q : Refusal) (cs : List (Check Sending)) (last : Check Answer) → (last.answer ≡ Refused q → ⊥) →
+    Reported (Refused q) (answering cs ++ last ∷ []) → Reported (Err q) cs
 unanswered q [] last apart (later h r) = elim r [ ]
 unanswered q [] last apart (here h e) = absurd (apart e)
 unanswered q (c ∷ cs) last apart (here h e) = here h (answer-refused c.answer q e)

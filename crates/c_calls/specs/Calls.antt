@@ -11,7 +11,6 @@ use Rattle.answers.specs.declared.Refusal.{Refusal}
 use Rattle.answers.specs.declared.Refusal.TheVariants.{Layout, Range, NotUtf8, Mislisted, Form, Output}
 use Rattle.answers.specs.declared.Answer.{Answer}
 use Rattle.answers.specs.declared.Answer.TheVariants.{Done, Refused}
-use Rattle.woot.specs.declared.Sent.{Sent}
 use Rattle.woot.specs.Ranges.{site_number, is_code_point, character_id, in_range}
 use Rattle.woot.specs.State.{State, initial}
 use Rattle.woot.specs.Form.{well_formed}
@@ -39,6 +38,7 @@ use Rattle.saved.specs.Archive.{archiving, archiving_refusals, unarchiving, unar
 use Rattle.effects.specs.Results.{Result, result}
 use Rattle.effects.specs.Effects.{Effect, quiet}
 use Rattle.effects.specs.Counts.{counts_of}
+use Rattle.woot.specs.Sent.{Sending}
 
 -- each call under its name in C, with the numbers and the line that it is handed beside a saved replica
 pub data CCall : Type 0 where
@@ -123,7 +123,7 @@ handed_checks wimtaze_unarchive bytes = unarchiving_refusals bytes
 -- ---- conditions of the rules
 
 -- those of a call that sends, by their answers
-abbrev pub answering : List (Check Sent) → List (Check Answer)
+abbrev pub answering : List (Check Sending) → List (Check Answer)
 answering cs = map (λ c. c.holds ⇒ answer_of c.answer) cs
 
 -- what the rule turns away, or knows, on the state that loading makes of the saved bytes: all its conditions but 2, 18,
@@ -173,7 +173,7 @@ abbrev pub replica_built : BuildOutcome → Product
 replica_built w = replica_noted w.answer w.state 0
 
 -- the saved replica that typing, erasing or restoring leaves, and the line of the operation to be sent
-abbrev pub replica_and_line : Outcome Sent → Operation → Product
+abbrev pub replica_and_line : Outcome Sending → Operation → Product
 replica_and_line w o =
     record {
       result = result (answer_of w.answer) (length (saved_bytes w.state)) (length (operation_line o));

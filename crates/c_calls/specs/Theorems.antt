@@ -1,9 +1,9 @@
 -- The promises about what the calls return and leave, over the one list of calls, each proved in proofs/ under its name
 -- in small letters.
-use Rattle.std.specs.Prelude.{ℕ, ◌+◌, ◌%◌, ◌/◌, ◌^◌, ◌≤◌, ◌≡◌, Bool, true, false, cond, ◌↔◌, List, [], ◌∷◌, ◌++◌}
+use Rattle.std.specs.Prelude.{ℕ, ◌+◌, ◌%◌, ◌/◌, ◌^◌, ◌≤◌, ◌≡◌, Bool, true, false, cond, ◌↔◌, List, [], ◌∷◌, ◌++◌, Ok}
 use Rattle.std.specs.Prelude.{map, eqb, length, take, ℤ, pos, negsuc, ◌≤ℤ◌}
 use Rattle.woot.specs.declared.Operation.{Operation}
-use Rattle.woot.specs.declared.Written.{Written}
+use Rattle.woot.specs.Writing.{Written}
 use Rattle.answers.specs.declared.Refusal.{Refusal}
 use Rattle.answers.specs.declared.Refusal.TheVariants.{Taken, Unplaceable, DocumentFull}
 use Rattle.answers.specs.declared.Answer.{Answer}
@@ -36,7 +36,6 @@ use Rattle.heap.specs.Format.{heap_laid_out, heap_said}
 use Rattle.listing.specs.Format.{list_bytes, list_laid_out, list_said}
 use Rattle.listing.specs.Theorems.{list_most}
 use Rattle.building.specs.Calls.{built_by}
-use Rattle.saved.specs.declared.LoadAnswer.TheVariants.{Done as loadDone}
 use Rattle.saved.specs.declared.Version.{Version}
 use Rattle.saved.specs.declared.Version.TheVariants.{First, Second}
 use Rattle.saved.specs.Format.{site_line, saved_laid_out, saved_in_range, saved_state, saved_bytes}
@@ -296,7 +295,7 @@ bytes_written e = take e.result.written e.output
 
 -- these bytes are a saved replica in form: they are loaded, and their clock needs no raising
 pub record Formed (bytes : List ℕ) : Type 0 where
-  pub loads : (loaded bytes).answer ≡ loadDone
+  pub loads : (loaded bytes).answer ≡ Ok tt
   pub unraised : needs_raising bytes ≡ false
 
 -- whether the first output is a saved replica; pasting an empty block "writes nothing"

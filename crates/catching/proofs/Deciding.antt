@@ -1,4 +1,5 @@
 -- What listing and answering answer, by their conditions.
+use Rattle.std.proofs.Common.{Err}
 use Prim.Native.Nat.{ℕ}
 use native.Mathlib.Omega.{arith}
 use mathlib.Core.Path.{◌≡◌, refl, sym}
@@ -14,13 +15,12 @@ use Rattle.answers.specs.declared.Refusal.{Refusal}
 use Rattle.answers.specs.declared.Refusal.TheVariants.{Layout, Range, Mislisted, Form}
 use Rattle.answers.specs.Answers.{◌⇒◌, first, decided}
 use Rattle.woot.specs.declared.Replica.{Replica}
-use Rattle.woot.specs.declared.Written.TheVariants.{Refused as writtenRefused}
 use Rattle.woot.specs.Memory.{replica_well_formed}
 use Rattle.woot.specs.Writing.{refusing, written_as, output_after}
 use Rattle.bulk.specs.Catching.{ones_in, in_sequence, listing_in_range, marks_zero, mislisted, list_checks}
 use Rattle.bulk.specs.Catching.{answer_checks}
 use Rattle.convergence.proofs.Writing.{own_first, own-none}
-use Rattle.listing.specs.declared.ListRead.TheVariants.{Done, Refused}
+use Rattle.std.proofs.Common.{Ok, Err}
 use Rattle.listing.specs.Format.{list_laid_out, list_said}
 use Rattle.listing.specs.Calls.{list_read_checks, list_read}
 use Rattle.catching.specs.Calls.{list_bytes_of, list_written, list_out, answering_checks, answer_bytes_of}
@@ -29,10 +29,10 @@ use Rattle.catching.specs.Calls.{answer_written, answer_out}
 -- ---- listing
 
 module _ (r : Replica) (out : List ℕ) where
-  pub list_unformed : replica_well_formed r ≡ false → (writtenRefused Form ≡ list_written r out) × (out ≡ list_out r out)
+  pub list_unformed : replica_well_formed r ≡ false → (Err Form ≡ list_written r out) × (out ≡ list_out r out)
   unfolding list_written list_out list_checks
   list_unformed e =
-      let w = own_first (refusing (list_checks (replica_well_formed r))) (writtenRefused Form) (list_bytes_of r) out (rw e)
+      let w = own_first (refusing (list_checks (replica_well_formed r))) (Err Form) (list_bytes_of r) out (rw e)
       in
       (sym w.0, sym w.1)
 
@@ -45,8 +45,8 @@ module _ (r : Replica) (out : List ℕ) where
 
 -- the three conditions of reading a list, and the form behind them
 refused_so : (a b c d : Bool) (n : ℕ) (q : Refusal)
-    → decided Refused (first ((a ⇒ Layout) ∷ (b ⇒ Range) ∷ (c ⇒ Mislisted) ∷ [])) (Done n) ≡ Refused q
-    → first (refusing ((a ⇒ Layout) ∷ (b ⇒ Range) ∷ (c ⇒ Mislisted) ∷ (d ⇒ Form) ∷ [])) ≡ some (writtenRefused q)
+    → decided Err (first ((a ⇒ Layout) ∷ (b ⇒ Range) ∷ (c ⇒ Mislisted) ∷ [])) (Ok n) ≡ Err q
+    → first (refusing ((a ⇒ Layout) ∷ (b ⇒ Range) ∷ (c ⇒ Mislisted) ∷ (d ⇒ Form) ∷ [])) ≡ some (Err q)
 unfolding decided
 refused_so true b c d n q e = cc
 refused_so false true c d n q e = cc
@@ -54,7 +54,7 @@ refused_so false false true d n q e = cc
 refused_so false false false d n q e = let z : ◌≡◌ {A = ℕ} 0 1 = cc in absurd (omega arith)
 
 read_so : (a b c : Bool) (m n : ℕ)
-    → decided Refused (first ((a ⇒ Layout) ∷ (b ⇒ Range) ∷ (c ⇒ Mislisted) ∷ [])) (Done m) ≡ Done n
+    → decided Err (first ((a ⇒ Layout) ∷ (b ⇒ Range) ∷ (c ⇒ Mislisted) ∷ [])) (Ok m) ≡ Ok n
     → (a ≡ false) × (b ≡ false) × (c ≡ false)
 unfolding decided
 read_so true b c m n e = let z : ◌≡◌ {A = ℕ} 0 1 = cc in absurd (omega arith)
@@ -68,7 +68,7 @@ pub record ReadSo (list : List ℕ) : Type 0 where
   pub in-range : not (listing_in_range (list_said list)) ≡ false
   pub well-listed : mislisted (list_said list) ≡ false
 
-pub was_read : (list : List ℕ) {n : ℕ} → list_read list ≡ Done n → ReadSo list
+pub was_read : (list : List ℕ) {n : ℕ} → list_read list ≡ Ok n → ReadSo list
 unfolding list_read list_read_checks
 was_read list {n} e =
     let w = read_so (not (list_laid_out list)) (not (listing_in_range (list_said list))) (mislisted (list_said list))
@@ -85,21 +85,21 @@ read-sequence list w =
     w.well-listed)
 
 module _ (r : Replica) (list out : List ℕ) where
-  pub answer-refused : {q : Refusal} → list_read list ≡ Refused q
-      → (writtenRefused q ≡ answer_written r list out) × (out ≡ answer_out r list out)
+  pub answer-refused : {q : Refusal} → list_read list ≡ Err q
+      → (Err q ≡ answer_written r list out) × (out ≡ answer_out r list out)
   unfolding list_read list_read_checks answer_written answer_out answering_checks answer_checks
   answer-refused {q} e =
-      let w = own_first (refusing (answering_checks r list)) (writtenRefused q) (answer_bytes_of r list) out
+      let w = own_first (refusing (answering_checks r list)) (Err q) (answer_bytes_of r list) out
       (refused_so (not (list_laid_out list)) (not (listing_in_range (list_said list))) (mislisted (list_said list))
       (not (replica_well_formed r)) (length (list_said list).chunks) q e) in
       (sym w.0, sym w.1)
 
   module _ (w : ReadSo list) where
     pub answer_unformed : replica_well_formed r ≡ false
-        → (writtenRefused Form ≡ answer_written r list out) × (out ≡ answer_out r list out)
+        → (Err Form ≡ answer_written r list out) × (out ≡ answer_out r list out)
     unfolding answer_written answer_out answering_checks answer_checks
     answer_unformed e =
-        let v = own_first (refusing (answering_checks r list)) (writtenRefused Form) (answer_bytes_of r list) out
+        let v = own_first (refusing (answering_checks r list)) (Err Form) (answer_bytes_of r list) out
         (rw (w.laid_out, w.in-range, w.well-listed, e)) in
         (sym v.0, sym v.1)
 

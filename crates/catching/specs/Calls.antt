@@ -6,7 +6,7 @@ use Rattle.answers.specs.declared.Refusal.{Refusal}
 use Rattle.answers.specs.declared.Refusal.TheVariants.{Layout}
 use Rattle.answers.specs.Answers.{Check, ◌⇒◌}
 use Rattle.woot.specs.declared.Replica.{Replica}
-use Rattle.woot.specs.declared.Written.{Written}
+use Rattle.woot.specs.Writing.{Written}
 use Rattle.woot.specs.Memory.{meaning, replica_well_formed}
 use Rattle.woot.specs.Writing.{refusing, written_as, output_after}
 use Rattle.bulk.specs.Catching.{listing, answer_for, list_checks, answer_checks}

@@ -12,9 +12,8 @@ ghost use Rattle.catching.specs.Sending.{rows_in, answer_lines};
 
 use crate::{columns, sending};
 use answers::Refusal;
-use lines::writing::Room;
 use saving::operations;
-use woot::{CHARACTER_NUMBERS, CHARACTERS, Written};
+use woot::{CHARACTER_NUMBERS, CHARACTERS, Table};
 
 // Writes the lines of the operations in two arrays of columns, one after another, at the front of the slice, or none.
 fn put_both<'a>(
@@ -23,7 +22,7 @@ fn put_both<'a>(
     toggles: &'a [u32],
     count: usize,
     out: &mut [u8],
-) -> Written
+) -> Result<usize, Refusal>
     requires inserts_len { length inserts.now ≡ character_numbers }
     requires sent_le_character_slots { sent ≤ character_slots }
     requires toggles_len { length toggles.now ≡ character_numbers }
@@ -37,16 +36,16 @@ fn put_both<'a>(
 {
     let size = out.len();
     let front = operations::measure(inserts, sent, size, 0);
-    let Room::Until(start) = front else {
-        return Written::Refused(Refusal::Output);
+    let Some(start) = front else {
+        return Err(Refusal::Output);
     };
     let room = operations::measure(toggles, count, size, start);
-    let Room::Until(length) = room else {
-        return Written::Refused(Refusal::Output);
+    let Some(length) = room else {
+        return Err(Refusal::Output);
     };
     operations::put_lines(inserts, sent, out, 0);
     operations::put_lines(toggles, count, out, start);
-    Written::Length(length)
+    Ok(length)
 }
 
 // Writes the answer of the first n rows to who has listed the chunks.
@@ -55,18 +54,16 @@ pub(crate) fn put_answer<'a>(
     characters: &'a [u32],
     toggles: &'a [u8],
     n: usize,
-    table_heads: &'a [u16],
-    links: &'a [u16],
+    table: &'a Table,
     heads: &'a [u32],
     words: &'a [u64],
     count: usize,
     out: &mut [u8],
-) -> Written
+) -> Result<usize, Refusal>
     requires characters_len { length characters.now ≡ character_numbers }
     requires n_le_character_slots { n ≤ character_slots }
     requires n_in_bounds { n ≤ length toggles.now }
-    requires tabled { Tabled (record { heads = table_heads.now; links = links.now })
-        (take n (key_column characters.now)) }
+    requires tabled { Tabled table.now (take n (key_column characters.now)) }
     requires keys_low { KeysLow (take n (key_column characters.now)) }
     requires standing { Standing (rows_in characters.now toggles.now n) }
     requires count_in_bounds { count ≤ length heads.now }
@@ -80,16 +77,7 @@ pub(crate) fn put_answer<'a>(
         (chunks_in heads.now words.now count)) out.old }
 {
     let mut inserts = [0u32; CHARACTER_NUMBERS];
-    let sent = sending::put_sent(
-        characters,
-        n,
-        table_heads,
-        links,
-        heads,
-        words,
-        count,
-        &mut inserts,
-    );
+    let sent = sending::put_sent(characters, n, table, heads, words, count, &mut inserts);
     let mut turned = [0u32; CHARACTER_NUMBERS];
     let turns = columns::put_toggles(&characters[..CHARACTERS], toggles, n, sender, &mut turned);
     put_both(&inserts, sent, &turned, turns, out)

@@ -19,8 +19,7 @@ pub(crate) fn put_inserts<'a>(
     ensures { InsertsOf ids.now previous.now next.now
         code_points.now order.now count numbers.new }
 {
-    let mut i = 0;
-    while i < count {
+    for i in 0..count {
         let row = order[i] as usize;
         heap::put_at(
             numbers,
@@ -30,7 +29,6 @@ pub(crate) fn put_inserts<'a>(
             next[row],
             code_points[row],
         );
-        i += 1;
     }
 }
 
@@ -50,14 +48,12 @@ pub(crate) fn put_toggles<'a>(
 {
     let stamp = sender as u32 * 256;
     let mut count = 0;
-    let mut i = 0;
-    while i < n {
+    for i in 0..n {
         let turns = toggles[i];
         if turns != 0 {
             heap::put_at(numbers, count, 0, ids[i], 0, stamp + turns as u32);
             count += 1;
         }
-        i += 1;
     }
     count
 }

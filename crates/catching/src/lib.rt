@@ -11,19 +11,17 @@ ghost use Rattle.lists.specs.Lists.{every};
 ghost use Rattle.woot.specs.Memory.{character_numbers, character_slots, identifier, key_column};
 ghost use Rattle.woot.specs.Ranges.{character_id};
 ghost use Rattle.woot.specs.Writing.{written_as, output_after};
-ghost use Rattle.memory.specs.Lent.{Sized};
-ghost use Rattle.replica.specs.Outcomes.{replica_lent};
+ghost use Rattle.memory.specs.Lent.{Full};
 ghost use Rattle.listing.specs.Format.{list_bytes};
 ghost use Rattle.catching.specs.Calls.{list_written, list_out, answer_written, answer_out};
 ghost use Rattle.catching.specs.Sending.{list_of};
 
 use answers::Refusal;
 use chunks::CHUNKS;
-use listing::ListRead;
-use woot::{CHARACTERS, Replica, Site, Written};
+use woot::{CHARACTERS, Replica};
 
 // Writes the list of the first n rows.
-fn put_list(number: u8, characters: &[u32], n: usize, out: &mut [u8]) -> Written
+fn put_list(number: u8, characters: &[u32], n: usize, out: &mut [u8]) -> Result<usize, Refusal>
     requires characters_len { length characters.now ≡ character_numbers }
     requires n_le_character_slots { n ≤ character_slots }
     requires characters_value { every character_id (map identifier (take n (key_column characters.now))) ≡ true }
@@ -37,87 +35,55 @@ fn put_list(number: u8, characters: &[u32], n: usize, out: &mut [u8]) -> Written
     list_writing::put(number, n, &heads, &words, count, out)
 }
 
-// Internal step: writes the list of the characters that the replica in lent arrays holds. The calls lend arrays of
-// these sizes.
-pub fn list_in<'a>(
-    site: Site,
-    characters: &'a [u32],
-    toggles: &'a [u8],
-    n: usize,
-    pending: &'a [u32],
-    w: usize,
-    heads: &'a [u16],
-    links: &'a [u16],
-    out: &mut [u8],
-) -> Written
-    requires { Sized characters.now toggles.now pending.now heads.now links.now }
-    ensures value { result ≡ list_written (replica_lent site characters.now toggles.now n
-        pending.now w heads.now links.now) out.old }
-    ensures out_after { out.new ≡ list_out (replica_lent site characters.now toggles.now n
-        pending.now w heads.now links.now) out.old }
+// Internal step: writes the list of the characters that a replica holds.
+pub fn list_in(replica: &Replica, out: &mut [u8]) -> Result<usize, Refusal>
+    requires { Full replica.now }
+    ensures value { result ≡ list_written replica.now out.old }
+    ensures out_after { out.new ≡ list_out replica.now out.old }
 {
-    if !well_formed::check(site, characters, toggles, n, pending, w, heads, links) {
-        return Written::Refused(Refusal::Form);
+    if !well_formed::is_well_formed(replica) {
+        return Err(Refusal::Form);
     }
-    put_list(site.number, characters, n, out)
-}
-
-// Writes the list of the characters that a replica holds at the front of the slice. A refused call leaves every byte as
-// it was.
-pub fn list(replica: Replica, out: &mut [u8]) -> Written
-    ensures value { result ≡ list_written replica out.old }
-    ensures out_after { out.new ≡ list_out replica out.old }
-{
-    list_in(
-        replica.site,
-        &replica.document.characters,
-        &replica.document.toggles,
-        replica.document.length,
-        &replica.document.pending,
-        replica.document.waiting,
-        &replica.document.table.heads,
-        &replica.document.table.links,
+    let document = &replica.document;
+    put_list(
+        replica.site.number,
+        &document.characters,
+        document.length,
         out,
     )
 }
 
-// Internal step: writes the answer of the replica in lent arrays to a list.
-pub fn answer_in<'a>(
-    site: Site,
-    characters: &'a [u32],
-    toggles: &'a [u8],
-    n: usize,
-    pending: &'a [u32],
-    w: usize,
-    heads: &'a [u16],
-    links: &'a [u16],
-    list: &'a [u8],
-    out: &mut [u8],
-) -> Written
-    requires { Sized characters.now toggles.now pending.now heads.now links.now }
-    ensures value { result ≡ answer_written (replica_lent site characters.now toggles.now n
-        pending.now w heads.now links.now)
-        list.now out.old }
-    ensures out_after { out.new ≡ answer_out (replica_lent site characters.now toggles.now n
-        pending.now w heads.now links.now)
-        list.now out.old }
+// Writes the list of the characters that a replica holds at the front of the slice. A refused call leaves every byte as
+// it was.
+pub fn list(replica: Replica, out: &mut [u8]) -> Result<usize, Refusal>
+    ensures value { result ≡ list_written replica out.old }
+    ensures out_after { out.new ≡ list_out replica out.old }
+{
+    list_in(&replica, out)
+}
+
+// Internal step: writes the answer of a replica to a list.
+pub fn answer_in<'a>(replica: &'a Replica, list: &'a [u8], out: &mut [u8]) -> Result<usize, Refusal>
+    requires { Full replica.now }
+    ensures value { result ≡ answer_written replica.now list.now out.old }
+    ensures out_after { out.new ≡ answer_out replica.now list.now out.old }
 {
     let mut firsts = [0u32; CHUNKS];
     let mut words = [0u64; CHUNKS];
     let read = listing::read(list, &mut firsts, &mut words);
     match read {
-        ListRead::Refused(refusal) => Written::Refused(refusal),
-        ListRead::Done(count) => {
-            if !well_formed::check(site, characters, toggles, n, pending, w, heads, links) {
-                return Written::Refused(Refusal::Form);
+        Err(refusal) => Err(refusal),
+        Ok(count) => {
+            if !well_formed::is_well_formed(replica) {
+                return Err(Refusal::Form);
             }
+            let document = &replica.document;
             answering::put_answer(
-                site.number,
-                characters,
-                toggles,
-                n,
-                heads,
-                links,
+                replica.site.number,
+                &document.characters,
+                &document.toggles,
+                document.length,
+                &document.table,
                 &firsts,
                 &words,
                 count,
@@ -129,20 +95,9 @@ pub fn answer_in<'a>(
 
 // Writes the answer to a list at the front of the slice: the lines of the inserts that it lacks, in the sequence in
 // which they are to be received, and those of the toggles. A refused call leaves every byte as it was.
-pub fn answer(replica: Replica, list: &[u8], out: &mut [u8]) -> Written
+pub fn answer(replica: Replica, list: &[u8], out: &mut [u8]) -> Result<usize, Refusal>
     ensures value { result ≡ answer_written replica list.now out.old }
     ensures out_after { out.new ≡ answer_out replica list.now out.old }
 {
-    answer_in(
-        replica.site,
-        &replica.document.characters,
-        &replica.document.toggles,
-        replica.document.length,
-        &replica.document.pending,
-        replica.document.waiting,
-        &replica.document.table.heads,
-        &replica.document.table.links,
-        list,
-        out,
-    )
+    answer_in(&replica, list, out)
 }

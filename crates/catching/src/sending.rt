@@ -8,7 +8,7 @@ ghost use Rattle.sequencing.specs.Steps.{left_at, KeysLow};
 ghost use Rattle.catching.specs.Sending.{FlagsUnlisted, SentIn};
 
 use crate::columns;
-use woot::{CHARACTER_NUMBERS, CHARACTERS, CODE_POINTS, NEXT_KEYS, PREVIOUS_KEYS};
+use woot::{CHARACTER_NUMBERS, CHARACTERS, CODE_POINTS, NEXT_KEYS, PREVIOUS_KEYS, Table};
 
 // How many places have a flag: those of the rows, of both marks, and one for what is not there.
 const FLAGS: usize = 1027;
@@ -29,12 +29,10 @@ fn flag_unlisted<'a>(
     ensures { FlagsUnlisted ids.now (chunks_in heads.now words.now count)
         (length left.old) (length ids.now) left.new }
 {
-    let mut i = 0;
-    while i < ids.len() {
-        if !chunks::listed(heads, words, count, ids[i]) {
+    for (i, &id) in ids.iter().enumerate() {
+        if !chunks::listed(heads, words, count, id) {
             left[i + 1] = 1;
         }
-        i += 1;
     }
 }
 
@@ -42,8 +40,7 @@ fn flag_unlisted<'a>(
 pub(crate) fn put_sent<'a>(
     characters: &'a [u32],
     n: usize,
-    table_heads: &'a [u16],
-    links: &'a [u16],
+    table: &'a Table,
     heads: &'a [u32],
     words: &'a [u64],
     count: usize,
@@ -51,8 +48,7 @@ pub(crate) fn put_sent<'a>(
 ) -> usize
     requires characters_len { length characters.now ≡ character_numbers }
     requires n_le_character_slots { n ≤ character_slots }
-    requires tabled { Tabled (record { heads = table_heads.now; links = links.now })
-        (take n (key_column characters.now)) }
+    requires tabled { Tabled table.now (take n (key_column characters.now)) }
     requires keys_low { KeysLow (take n (key_column characters.now)) }
     requires count_in_bounds { count ≤ length heads.now }
     requires count_in_bounds_2 { count ≤ length words.now }
@@ -69,8 +65,7 @@ pub(crate) fn put_sent<'a>(
     flag_unlisted(&ids[..n], heads, words, count, &mut left);
     let mut order = [0u16; CHARACTERS];
     let sent = sequencing::sequence(
-        table_heads,
-        links,
+        table,
         &ids[..n],
         &previous[..n],
         &next[..n],

@@ -11,6 +11,7 @@ use lib.ListN.{length, take, get_or, set, length-set, length-replicate}
 use lib.Seq.{take-suc, length-take-le}
 use Rattle.lists.proofs.Tests.{either}
 use Rattle.woot.specs.declared.Table.{Table}
+use Rattle.chains.specs.Sizes.{Sized}
 use Rattle.woot.specs.Table.{chain_of, leads, free_slot, no_table, entered, entered_all, table_of}
 
 -- ---- a key entered
@@ -50,10 +51,7 @@ table_more ks i h =
 pub enter : (ks : List ℕ) (i : ℕ) {t r : Table} → i < length ks → t ≡ table_of (take i ks) → entered t i (get_or ks i 0) ≡ r → r ≡ table_of (take (i + 1) ks)
 enter ks i h f e = rw (add-one i) (sym e ∙ ap (λ (t : Table). entered t i (get_or ks i 0)) f ∙ sym (table_more ks i h))
 
--- the arrays of a table have their sizes
-pub record Sized (t : Table) : Type 0 where
-  pub heads : length t.heads ≡ 1024
-  pub links : length t.links ≡ 2048
+-- ---- its arrays have their sizes
 
 entered_sized : (t : Table) (i k : ℕ) → Sized t → Sized (entered t i k)
 entered_sized t i k s =

@@ -1,11 +1,13 @@
 // The chains of the table of keys: looking up a key, and the table of given keys.
 #![tactic(auto)]
 
-ghost use Rattle.std.specs.Prelude.{◌≡◌, ◌*◌, ◌<◌, ◌≤◌, length, take, replicate};
+ghost use Rattle.std.specs.Prelude.{◌≡◌, ◌*◌, ◌<◌, ◌≤◌, length, take};
 ghost use Rattle.woot.specs.Table.{chain_of, slot, lookup, free_slot, entered, table_of, chains};
-ghost use Rattle.woot.specs.Table.{table_links};
 ghost use Rattle.woot.specs.Memory.{character_slots};
 ghost use Rattle.chains.specs.Places.{place_found};
+ghost use Rattle.chains.specs.Sizes.{Sized};
+
+use woot::Table;
 
 // The chain of a key.
 pub fn chain(key: u32) -> usize
@@ -28,23 +30,22 @@ pub fn slot(at: usize, rest: u32) -> usize
 
 // Internal step: the place of a key, where the walk down its chain comes to it, and 0 where it does not. A place is
 // believed only where the key stands there, and a link only where it leads to a later one, so that any table will do.
-// The calls lend arrays of these sizes.
-pub fn lookup<'a>(heads: &'a [u16], links: &'a [u16], keys: &'a [u32], key: u32) -> usize
-    requires heads_len { length heads.now ≡ chains }
-    requires keys_in_bounds { 2 * length keys.now ≤ length links.now }
-    ensures { result
-        ≡ place_found (lookup (record { heads = heads.entry.now; links = links.now })
-        keys.now key) }
+// The calls have no more keys than a table has places.
+pub fn lookup<'a>(table: &'a Table, keys: &'a [u32], key: u32) -> usize
+    requires sized { Sized table.now }
+    requires few { length keys.now ≤ character_slots }
+    ensures { result ≡ place_found (lookup table.now keys.now key) }
 {
     let mut rest = key;
     let mut at = 0;
-    let mut next = heads[chain(key)] as usize;
+    let mut next = place(table.heads[chain(key)]);
+    // It stays a while: it follows the links of a chain, and counts no index.
     while at < next && next <= keys.len() {
         if keys[next - 1] == key {
             return next;
         }
         at = next;
-        next = links[slot(at, rest)] as usize;
+        next = place(table.links[slot(at, rest)]);
         rest /= 2;
     }
     0
@@ -72,6 +73,7 @@ fn free_slot(links: &[u16], n: usize, head: usize, key: u32) -> usize
     let mut at = head;
     let mut free = slot(at, rest);
     let mut next = links[free] as usize;
+    // It stays a while: it follows the links of a chain, and counts no index.
     while at < next && next <= n {
         at = next;
         rest /= 2;
@@ -81,51 +83,34 @@ fn free_slot(links: &[u16], n: usize, head: usize, key: u32) -> usize
     free
 }
 
-// No place in any slot.
-fn clear(slots: &mut [u16])
-    ensures { slots.new ≡ replicate (length slots.old) 0 }
-{
-    let mut i = 0;
-    while i < slots.len() {
-        slots[i] = 0;
-        i += 1;
-    }
-}
-
-// Internal step: enters the key with the index i in a table of the keys before it. The calls lend arrays of these
-// sizes, and have no more keys than a table has places.
-pub fn enter(i: usize, key: u32, heads: &mut [u16], links: &mut [u16])
+// Internal step: enters the key with the index i in a table of the keys before it. The calls have no more
+// keys than a table has places.
+pub fn enter(i: usize, key: u32, table: &mut Table)
     requires i_lt_character_slots { i < character_slots }
-    requires heads_len { length heads.old ≡ chains }
-    requires links_len { length links.old ≡ table_links }
-    ensures { (record { heads = heads.exit.now; links = links.new })
-        ≡ entered (record { heads = heads.entry.now; links = links.old }) i key }
+    requires sized { Sized table.old }
+    ensures { table.new ≡ entered table.old i key }
 {
     let c = chain(key);
-    let head = place(heads[c]);
+    let head = place(table.heads[c]);
     if 0 < head && head <= i {
-        let free = free_slot(links, i, head, key);
-        links[free] = (i + 1) as u16;
+        let free = free_slot(&table.links, i, head, key);
+        table.links[free] = (i + 1) as u16;
     } else {
-        heads[c] = (i + 1) as u16;
+        table.heads[c] = (i + 1) as u16;
     }
 }
 
-// Internal step: makes the table of the first n keys in the two arrays, each key entered in its turn. What was in the
-// arrays does not matter.
-pub fn enter_all(keys: &[u32], n: usize, heads: &mut [u16], links: &mut [u16])
+// Internal step: makes the table of the first n keys, each key entered in its turn. What was in the table does not
+// matter.
+pub fn enter_all(keys: &[u32], n: usize, table: &mut Table)
     requires n_in_bounds { n ≤ length keys.now }
     requires n_le_character_slots { n ≤ character_slots }
-    requires heads_len { length heads.old ≡ chains }
-    requires links_len { length links.old ≡ table_links }
-    ensures { (record { heads = heads.exit.now; links = links.new })
-        ≡ table_of (take n keys.now) }
+    requires sized { Sized table.old }
+    ensures { table.new ≡ table_of (take n keys.now) }
 {
-    clear(heads);
-    clear(links);
-    let mut i = 0;
-    while i < n {
-        enter(i, keys[i], heads, links);
-        i += 1;
+    table.heads.fill(0);
+    table.links.fill(0);
+    for (i, key) in keys[..n].iter().enumerate() {
+        enter(i, *key, table);
     }
 }

@@ -25,8 +25,7 @@ use Rattle.woot.specs.Table.{key, keys}
 use Rattle.woot.specs.Memory.{toggle_counts}
 use Rattle.convergence.proofs.Identifiers.{same-eq}
 use Rattle.convergence.proofs.Toggling.{toggle_map, toggled-toggles}
-use Rattle.index.specs.declared.Found.{Found}
-use Rattle.index.specs.declared.Found.TheVariants.{At, Nothing}
+use Rattle.std.proofs.Common.{Option, Some, None}
 use Rattle.index.specs.Keys.{further, first_index}
 
 -- ---- a character put in
@@ -49,7 +48,7 @@ column-put m f k c cs n e size room =
 
 -- ---- a character toggled
 
-no_place : {k : ℕ} {A : Type 0} → Nothing ≡ At k → A
+no_place : {k : ℕ} {A : Type 0} → None ≡ Some k → A
 no_place e = absurd (let z : ◌≡◌ {A = ℕ} 0 1 = cc in omega arith)
 
 module _ (x : Toggle) where
@@ -74,7 +73,7 @@ module _ (x : Toggle) where
   column_untoggled cs e = none-toggled cs (sym (targeted_ids cs) ∙ e)
 
   -- the count in the target's slot is the larger one
-  pub column-toggled : (cs : List Character) → distinct same (identifiers cs) ≡ true → (k : ℕ) → first_index targeted cs ≡ At k
+  pub column-toggled : (cs : List Character) → distinct same (identifiers cs) ≡ true → (k : ℕ) → first_index targeted cs ≡ Some k
       → toggle_counts (integrate_toggle cs x) ≡ set (toggle_counts cs) k (max (get_or (toggle_counts cs) k 0) x.toggles)
   unfolding integrate_toggle first_index
   column-toggled [] d k e = no_place e
@@ -86,13 +85,13 @@ module _ (x : Toggle) where
       Toggled : List Character → ℕ → Type 0
       Toggled ds i = toggle_counts (integrate_toggle ds x) ≡ set (toggle_counts ds) i (max (get_or (toggle_counts ds) i 0) x.toggles)
 
-      later : (r : Found) → further 1 r ≡ At k → targeted c ≡ false → ((i : ℕ) → r ≡ At i → Toggled cs i) → Toggled (c ∷ cs) k
-      later Nothing g t others = no_place g
-      later (At j) g t others =
+      later : (r : Option ℕ) → further 1 r ≡ Some k → targeted c ≡ false → ((i : ℕ) → r ≡ Some i → Toggled cs i) → Toggled (c ∷ cs) k
+      later None g t others = no_place g
+      later (Some j) g t others =
           let next : 1 + j ≡ k = cc in
           rw (← next, one-add j) (ap₂ (λ (n : ℕ) (ns : List ℕ). n ∷ ns) (toggled-toggles x c ∙ rw t) (others j refl))
 
-      go : (b : Bool) → targeted c ≡ b → cond b (At 0) (further 1 (first_index targeted cs)) ≡ At k → ((i : ℕ) → first_index targeted cs ≡ At i → Toggled cs i) → Toggled (c ∷ cs) k
+      go : (b : Bool) → targeted c ≡ b → cond b (Some 0) (further 1 (first_index targeted cs)) ≡ Some k → ((i : ℕ) → first_index targeted cs ≡ Some i → Toggled cs i) → Toggled (c ∷ cs) k
       go true t f others =
           let first : 0 ≡ k = cc in
           let is : x.target ≡ c.id = same-eq x.target c.id t in

@@ -5,11 +5,12 @@
 ghost use Rattle.std.specs.Prelude.{◌≡◌, ◌+◌, ◌≤◌, ◌<◌, max, length, take, set, get_or};
 ghost use Rattle.lists.specs.Padding.{pad};
 ghost use Rattle.slots.specs.Slots.{put_at};
-ghost use Rattle.woot.specs.Table.{key, table_of, chains, table_links};
+ghost use Rattle.woot.specs.Table.{key, table_of};
+ghost use Rattle.chains.specs.Sizes.{Sized};
 ghost use Rattle.woot.specs.Memory.{column, character_numbers, character_slots, code_point_column, key_column, next_column};
 ghost use Rattle.woot.specs.Memory.{previous_column};
 
-use woot::{CHARACTER_NUMBERS, CHARACTERS, CODE_POINTS, Insert, NEXT_KEYS, PREVIOUS_KEYS};
+use woot::{CHARACTER_NUMBERS, CHARACTERS, CODE_POINTS, Insert, NEXT_KEYS, PREVIOUS_KEYS, Table};
 
 // Puts four numbers in after the first k of the first n, one into each column.
 fn put_numbers(
@@ -32,10 +33,10 @@ fn put_numbers(
     ensures characters_after_4 { code_point_column characters.new
         ≡ put_at n k code_point (code_point_column characters.old) }
 {
-    slots::put_number(&mut characters[..CHARACTERS], n, k, id);
-    slots::put_number(&mut characters[PREVIOUS_KEYS..NEXT_KEYS], n, k, previous);
-    slots::put_number(&mut characters[NEXT_KEYS..CODE_POINTS], n, k, next);
-    slots::put_number(
+    slots::put(&mut characters[..CHARACTERS], n, k, id);
+    slots::put(&mut characters[PREVIOUS_KEYS..NEXT_KEYS], n, k, previous);
+    slots::put(&mut characters[NEXT_KEYS..CODE_POINTS], n, k, next);
+    slots::put(
         &mut characters[CODE_POINTS..CHARACTER_NUMBERS],
         n,
         k,
@@ -48,8 +49,7 @@ fn put_numbers(
 pub fn put_in(
     characters: &mut [u32],
     toggles: &mut [u8],
-    heads: &mut [u16],
-    links: &mut [u16],
+    table: &mut Table,
     n: usize,
     k: usize,
     insert: Insert,
@@ -58,8 +58,7 @@ pub fn put_in(
     requires n_lt_character_slots { n < character_slots }
     requires characters_len { length characters.old ≡ character_numbers }
     requires toggles_len { length toggles.old ≡ character_slots }
-    requires heads_len { length heads.old ≡ chains }
-    requires links_len { length links.old ≡ table_links }
+    requires sized { Sized table.old }
     ensures characters_after { key_column characters.new
         ≡ put_at n k (key insert.id) (key_column characters.old) }
     ensures characters_after_2 { previous_column characters.new
@@ -69,8 +68,7 @@ pub fn put_in(
     ensures characters_after_4 { code_point_column characters.new
         ≡ put_at n k insert.code_point (code_point_column characters.old) }
     ensures toggles_after { toggles.new ≡ put_at n k 0 toggles.old }
-    ensures links_after { (record { heads = heads.exit.now; links = links.new })
-        ≡ table_of (take (n + 1) (key_column characters.new)) }
+    ensures table_after { table.new ≡ table_of (take (n + 1) (key_column characters.new)) }
 {
     let id = insert.id;
     let previous = insert.previous;
@@ -84,8 +82,8 @@ pub fn put_in(
         index::key(next),
         insert.code_point,
     );
-    slots::put_byte(toggles, n, k, 0);
-    chains::enter_all(characters, n + 1, heads, links);
+    slots::put(toggles, n, k, 0);
+    chains::enter_all(characters, n + 1, table);
 }
 
 // The larger of two counts of toggles.
@@ -118,10 +116,10 @@ fn clear_columns(characters: &mut [u32], n: usize)
     ensures characters_after_4 { code_point_column characters.new
         ≡ pad character_slots 0 (take n (code_point_column characters.old)) }
 {
-    slots::clear_numbers(&mut characters[..CHARACTERS], n);
-    slots::clear_numbers(&mut characters[PREVIOUS_KEYS..NEXT_KEYS], n);
-    slots::clear_numbers(&mut characters[NEXT_KEYS..CODE_POINTS], n);
-    slots::clear_numbers(&mut characters[CODE_POINTS..CHARACTER_NUMBERS], n);
+    slots::clear(&mut characters[..CHARACTERS], n, 0);
+    slots::clear(&mut characters[PREVIOUS_KEYS..NEXT_KEYS], n, 0);
+    slots::clear(&mut characters[NEXT_KEYS..CODE_POINTS], n, 0);
+    slots::clear(&mut characters[CODE_POINTS..CHARACTER_NUMBERS], n, 0);
 }
 
 // Internal step: the first n stay, and every slot behind them is 0. The calls have compared the count.
@@ -140,5 +138,5 @@ pub fn clear(characters: &mut [u32], toggles: &mut [u8], n: usize)
     ensures toggles_after { toggles.new ≡ pad character_slots 0 (take n toggles.old) }
 {
     clear_columns(characters, n);
-    slots::clear_bytes(toggles, n);
+    slots::clear(toggles, n, 0);
 }

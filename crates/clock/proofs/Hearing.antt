@@ -1,5 +1,4 @@
 -- Inserts are heard one after another: those of a list with one more at its end are the list's, and then that one.
-use Prim.Native.Nat.{◌+◌}
 use mathlib.Core.Path.{◌≡◌, refl}
 use mathlib.Core.List.{List, [], ◌∷◌, ◌++◌}
 use Rattle.woot.specs.declared.Site.{Site}

@@ -2,7 +2,7 @@
 // lie in lent arrays. (Document 02, Req 04.)
 #![tactic(auto)]
 
-ghost use Rattle.std.specs.Prelude.{◌≡◌, [], ◌∷◌, max, ◌≤◌, length, take};
+ghost use Rattle.std.specs.Prelude.{◌≡◌, [], ◌∷◌, ◌≤◌, length, take};
 ghost use Rattle.woot.specs.Operations.{inserts};
 ghost use Rattle.woot.specs.Clock.{heard, heard_all};
 ghost use Rattle.woot.specs.Memory.{identifier};
@@ -10,14 +10,8 @@ ghost use Rattle.clock.specs.Hearing.{heard_id, heard_keys};
 
 use woot::{Identifier, Insert, Operation, Site};
 
-// The larger of two clocks.
-fn larger(a: u16, b: u16) -> u16
-    ensures { result ≡ max a b }
-{
-    if a <= b { b } else { a }
-}
-
 // The site that has heard of an identifier.
+#[tactic(auto, unfolding(crate::specs::Hearing::heard_id))]
 fn heard_id(site: Site, id: Identifier) -> Site
     ensures { result ≡ heard_id site id }
 {
@@ -26,7 +20,7 @@ fn heard_id(site: Site, id: Identifier) -> Site
     }
     Site {
         number: site.number,
-        clock: larger(site.clock, id.clock),
+        clock: site.clock.max(id.clock),
     }
 }
 
@@ -49,6 +43,7 @@ pub fn heard_operation(site: Site, operation: Operation) -> Site
 }
 
 // The site that has heard of the identifier with a key. The own key of a toggle, 0, raises nothing.
+#[tactic(auto, unfolding(crate::specs::Hearing::heard_id, woot::specs::Memory::identifier))]
 pub fn heard_key(site: Site, key: u32) -> Site
     ensures { result ≡ heard_id site (identifier key) }
 {
@@ -57,7 +52,7 @@ pub fn heard_key(site: Site, key: u32) -> Site
     }
     Site {
         number: site.number,
-        clock: larger(site.clock, (key % 65536) as u16),
+        clock: site.clock.max((key % 65536) as u16),
     }
 }
 
@@ -68,10 +63,8 @@ pub fn heard_keys(site: Site, keys: &[u32], n: usize) -> Site
     ensures { result ≡ heard_keys site (take n keys.now) }
 {
     let mut raised = site;
-    let mut i = 0;
-    while i < n {
-        raised = heard_key(raised, keys[i]);
-        i += 1;
+    for key in &keys[..n] {
+        raised = heard_key(raised, *key);
     }
     raised
 }

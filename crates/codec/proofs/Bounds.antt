@@ -10,7 +10,6 @@ use borrow.Author.Tests.{leb-true}
 use Rattle.woot.specs.declared.Identifier.{Identifier}
 use Rattle.woot.specs.declared.Insert.{Insert}
 use Rattle.woot.specs.declared.Toggle.{Toggle}
-use Rattle.woot.specs.declared.Operation.TheVariants.{Insert as insert, Toggle as toggle}
 use Rattle.woot.specs.Limits.{last_site, last_clock, last_code_point, first_surrogate, last_surrogate, last_toggles}
 use Rattle.woot.specs.Identifiers.{begin, end, same}
 use Rattle.woot.specs.Ranges.{within, site_number, is_code_point, character_id, previous_id, next_id, insert_in_range, toggle_in_range, in_range}

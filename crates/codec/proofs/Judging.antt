@@ -1,4 +1,6 @@
--- From the verdict on the numbers of a line to what the line is read as: one argument for every kind of line.
+-- From the numbers of a line, or their fault, to what the line is read as: one argument for every kind of line.
+use Rattle.std.proofs.Common.{Ok, Err}
+use Rattle.std.specs.Prelude.{IfOk}
 use mathlib.Core.Path.{◌≡◌, refl, sym, ap, ◌∙◌}
 use mathlib.Core.List.{List, ◌++◌}
 use mathlib.Core.Bool.{Bool, true, false, cond}
@@ -11,15 +13,13 @@ use Rattle.answers.specs.Answers.{decided}
 use Rattle.woot.specs.Ranges.{in_range}
 use Rattle.lists.proofs.Tests.{fails, clash}
 use Rattle.convergence.proofs.Identifiers.{identifier-path}
-use Rattle.lines.specs.declared.Numbers.{Numbers}
 use Rattle.lines.specs.Fields.{fields, values_of, at_most}
-use Rattle.lines.specs.Answers.{numbers_of, by_verdict}
+use Rattle.lines.specs.Answers.{Numbers, numbers_of, by_numbers}
 use Rattle.lines.proofs.Values.{at-padded}
 use Rattle.lines.proofs.Verdicts.{values-at_most, verdict_says}
 use Rattle.codec.specs.declared.Kind.{Kind}
 use Rattle.codec.specs.declared.Kind.TheVariants.{Insert as Inserted, Toggle as Toggled, Delete as Deleted}
-use Rattle.codec.specs.declared.Read.{Read}
-use Rattle.codec.specs.declared.Read.TheVariants.{Operation as readsAs, Refused as readRefused}
+use Rattle.codec.specs.Calls.{Read}
 use Rattle.codec.specs.Operations.{identifier_at, insert_of, toggle_of, delete_of}
 use Rattle.codec.specs.Calls.{read_checks, read_as}
 use Rattle.codec.specs.Kinds.{head_of, limits_of, said_as, laid_out_as, read_kind}
@@ -27,27 +27,27 @@ use Rattle.codec.proofs.Bounds.{said_at_most}
 
 -- ---- the answers, by their conditions
 
-pub read-layout : (o : Operation) → read_as false o ≡ readRefused Layout
+pub read-layout : (o : Operation) → read_as false o ≡ Err Layout
 unfolding read_as read_checks decided
 read-layout o = refl
 
-pub read-range : (o : Operation) → in_range o ≡ false → read_as true o ≡ readRefused Range
+pub read-range : (o : Operation) → in_range o ≡ false → read_as true o ≡ Err Range
 unfolding read_as read_checks decided
 read-range o e = rw e
 
-pub read-operation : (o : Operation) → in_range o ≡ true → read_as true o ≡ readsAs o
+pub read-operation : (o : Operation) → in_range o ≡ true → read_as true o ≡ Ok o
 unfolding read_as read_checks decided
 read-operation o e = rw e
 
 -- the same of an operation that is made as the line says it
 module _ {o p : Operation} (said : o ≡ p) where
-  pub made_range : in_range o ≡ false → readRefused Range ≡ read_as true p
+  pub made_range : in_range o ≡ false → Err Range ≡ read_as true p
   made_range e = sym (read-range o e) ∙ ap (read_as true) said
 
-  pub made_operation : in_range o ≡ true → readsAs o ≡ read_as true p
+  pub made_operation : in_range o ≡ true → Ok o ≡ read_as true p
   made_operation e = sym (read-operation o e) ∙ ap (read_as true) said
 
-by_layout : (laid : Bool) (o : Operation) → cond laid (read_as true o) (readRefused Layout) ≡ read_as laid o
+by_layout : (laid : Bool) (o : Operation) → cond laid (read_as true o) (Err Layout) ≡ read_as laid o
 by_layout true o = refl
 by_layout false o = sym (read-layout o)
 
@@ -73,21 +73,21 @@ said_padded Inserted m ns = λ j. insert (record {
 said_padded Toggled m ns = λ j. toggle (record { sender = at-padded m ns 0 j; target = identifier-padded 1 m ns j; toggles = at-padded m ns 3 j })
 said_padded Deleted m ns = λ j. toggle (record { sender = at-padded m ns 0 j; target = identifier-padded 1 m ns j; toggles = 1 })
 
--- ---- by the verdict on the numbers
+-- ---- by the numbers, or by their fault
 
 -- the arm of the code knows the kind
 module _ {k l : Kind} (told : k ≡ l) (line : List ℕ) (r : Numbers) (e : r ≡ numbers_of (head_of l) (limits_of l) (fields line)) where
-  pub kind_fits : at_most (limits_of k) r.values ≡ true
+  pub kind_fits : IfOk r (λ values. at_most (limits_of k) values ≡ true)
   unfolding numbers_of
   kind_fits = rw told (values-at_most _ (limits_of l) _ r e)
 
   pub kind_read : {x : Read}
-      → x ≡ by_verdict r.verdict (readRefused Layout) (readRefused Range) (read_as true (said_as k r.values)) → x ≡ read_kind k line
+      → x ≡ by_numbers r (Err Layout) (Err Range) (λ values. read_as true (said_as k values)) → x ≡ read_kind k line
   unfolding numbers_of read_kind laid_out_as
   kind_read w =
       let ns = values_of (fields line) in
-      let large : at_most (limits_of l) ns ≡ false → readRefused Range ≡ read_as true (said_as l ns) =
+      let large : at_most (limits_of l) ns ≡ false → Err Range ≡ read_as true (said_as l ns) =
       λ h. sym (read-range _ (fails (in_range (said_as l ns)) (λ p. clash (said_at_most l ns p) h))) in
       rw told
-      ((rw told at w) ∙ verdict_says _ (limits_of l) ns r e (said_as l) (read_as true) (readRefused Layout) (readRefused Range) (said_padded l) large
+      ((rw told at w) ∙ verdict_says _ (limits_of l) ns r e (said_as l) (read_as true) (Err Layout) (Err Range) (said_padded l) large
       ∙ by_layout _ (said_as l ns))

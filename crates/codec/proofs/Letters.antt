@@ -1,6 +1,7 @@
 -- A line goes by its first byte: only a line that begins with a head word of one letter can have that layout.
+use Rattle.std.proofs.Common.{Err}
 use mathlib.Core.Path.{◌≡◌, refl, sym, ap, ◌∙◌}
-use mathlib.Core.List.{List, [], ◌∷◌}
+use mathlib.Core.List.{List, []}
 use mathlib.Core.Bool.{Bool, true, false, ◌&&◌, ◌||◌, cond}
 use Prim.Native.Nat.{ℕ}
 use lib.ListN.{get_or}
@@ -11,13 +12,12 @@ use Rattle.lines.specs.Lines.{ended, first_line}
 use Rattle.lines.specs.Fields.{fields, has_layout, values_of}
 use Rattle.lines.proofs.Spelling.{spelled, other-letter}
 use Rattle.codec.specs.declared.Kind.TheVariants.{Insert as Inserted, Toggle as Toggled, Delete as Deleted}
-use Rattle.codec.specs.declared.Read.TheVariants.{Refused as readRefused}
 use Rattle.codec.specs.Operations.{delete_head, insert_of, delete_of, is_insert, is_toggle, is_delete, operation_of}
 use Rattle.codec.specs.Calls.{as_written, as_written_first, line_laid_out, laid_out, read_as, said_by, read_written, read_written_first, read_line, read_operation}
 use Rattle.codec.specs.Kinds.{laid_out_as, read_kind}
 use Rattle.codec.proofs.Judging.{read-layout, read_same}
 
-empty_line : read_line [] ≡ readRefused Layout
+empty_line : read_line [] ≡ Err Layout
 unfolding read_line line_laid_out as_written is_insert is_toggle is_delete has_layout
 empty_line = read-layout _
 

@@ -1,4 +1,5 @@
 -- A refusal is answered exactly when its condition is the first to hold.
+use Rattle.std.proofs.Common.{Ok, Err}
 use mathlib.Core.Path.{◌≡◌, refl, sym, ap, ◌∙◌}
 use mathlib.Core.List.{List, [], ◌∷◌}
 use mathlib.Core.Logic.{◌↔◌, ◌⊎◌, inl, inr}
@@ -10,8 +11,7 @@ use lib.ListN.{length}
 use Rattle.woot.specs.declared.Operation.{Operation}
 use Rattle.answers.specs.declared.Refusal.{Refusal}
 use Rattle.answers.specs.declared.Refusal.TheVariants.{Layout, Range, Output}
-use Rattle.woot.specs.declared.Written.{Written}
-use Rattle.woot.specs.declared.Written.TheVariants.{Length, Refused as writtenRefused}
+use Rattle.woot.specs.Writing.{Written}
 use Rattle.answers.specs.Answers.{◌⇒◌, number}
 use Rattle.woot.specs.Ranges.{in_range}
 use Rattle.woot.specs.Writing.{written_as, written_number, written_length}
@@ -19,7 +19,6 @@ use Rattle.lists.proofs.Tests.{some-eq, no-some, side}
 use Rattle.convergence.proofs.Refusals.{decided_exactly}
 use Rattle.convergence.proofs.Replies.{positive}
 use Rattle.convergence.proofs.Writing.{writing_refuses, own_first, too_short, has_room_lem}
-use Rattle.codec.specs.declared.Read.TheVariants.{Operation as readsAs, Refused as readRefused}
 use Rattle.codec.specs.Operations.{operation_line}
 use Rattle.codec.specs.Calls.{laid_out, said_by, read_checks, read_as, read_operation, read_number, read_value, write_checks, written, written_out}
 use Rattle.codec.specs.Theorems.{ReadRefuses, ReadNumbers, WriteRefuses, WriteNumbers}
@@ -28,13 +27,13 @@ use Rattle.codec.proofs.Sizes.{operation_some}
 
 -- ---- reading
 
-read-never : (o : Operation) (r : Refusal) → readsAs o ≡ readRefused r → ⊥
+read-never : (o : Operation) (r : Refusal) → Ok o ≡ Err r → ⊥
 read-never o r e = let z : ◌≡◌ {A = ℕ} 0 1 = cc in omega arith
 
 pub read_refuses : ReadRefuses
 unfolding read_operation read_as
 read_refuses s r =
-    decided_exactly (λ a. a) (λ a. a) (λ a. refl) (read_checks (laid_out s) (said_by s)) (readsAs (said_by s)) (readRefused r) (read-never (said_by s) r)
+    decided_exactly (λ a. a) (λ a. a) (λ a. refl) (read_checks (laid_out s) (said_by s)) (Ok (said_by s)) (Err r) (read-never (said_by s) r)
 
 -- by the two tests
 numbers_by : (o : Operation) (laid ranged : Bool) → in_range o ≡ ranged
@@ -44,7 +43,7 @@ numbers_by : (o : Operation) (laid ranged : Bool) → in_range o ≡ ranged
     × ((p : Operation) → (read_value (read_as laid o) ≡ some p) ↔ ((laid ≡ true) × (ranged ≡ true) × (o ≡ p)))
 unfolding read_number read_value
 numbers_by o false ranged h =
-    let a : read_as false o ≡ readRefused Layout = read-layout o in
+    let a : read_as false o ≡ Err Layout = read-layout o in
     let n : read_number (read_as false o) ≡ 1 = ap read_number a in (
       (λ e. refl, λ e. n),
       (λ e. absurd (omega arith), λ w. absurd (false≢true w.0)),
@@ -52,7 +51,7 @@ numbers_by o false ranged h =
       λ p. (λ e. no-some (sym (ap read_value a) ∙ e), λ w. absurd (false≢true w.0)),
     )
 numbers_by o true false h =
-    let a : read_as true o ≡ readRefused Range = read-range o h in
+    let a : read_as true o ≡ Err Range = read-range o h in
     let n : read_number (read_as true o) ≡ 2 = ap read_number a in (
       (λ e. absurd (omega arith), λ e. absurd (true≢false e)),
       (λ e. (refl, refl), λ w. n),
@@ -60,7 +59,7 @@ numbers_by o true false h =
       λ p. (λ e. no-some (sym (ap read_value a) ∙ e), λ w. absurd (false≢true w.1)),
     )
 numbers_by o true true h =
-    let a : read_as true o ≡ readsAs o = read-operation o h in
+    let a : read_as true o ≡ Ok o = read-operation o h in
     let n : read_number (read_as true o) ≡ 0 = ap read_number a in (
       (λ e. absurd (omega arith), λ e. absurd (true≢false e)),
       (λ e. absurd (omega arith), λ w. absurd (true≢false w.1)),
@@ -81,7 +80,7 @@ write_refuses o out r = let w = writing_refuses (write_checks o) (operation_line
 -- a writer of some bytes with one condition of its own, that a test fails
 module _ (q : Refusal) (other : number q ≡ 12 → ⊥) (bytes out : List ℕ) (long : 1 ≤ length bytes) where
   abbrev answer : Bool → Written
-  answer a = written_as ((not a ⇒ writtenRefused q) ∷ []) bytes out
+  answer a = written_as ((not a ⇒ Err q) ∷ []) bytes out
 
   pub by-test : (a : Bool)
       → ((written_number (answer a) ≡ number q) ↔ (a ≡ false))
@@ -90,7 +89,7 @@ module _ (q : Refusal) (other : number q ≡ 12 → ⊥) (bytes out : List ℕ) 
       × ((written_length (answer a) ≡ length bytes) ↔ ((a ≡ true) × (length bytes ≤ length out)))
   unfolding written_number written_length
   by-test false =
-      let e : answer false ≡ writtenRefused q = (own_first ((true ⇒ writtenRefused q) ∷ []) (writtenRefused q) bytes out refl).0 in
+      let e : answer false ≡ Err q = (own_first ((true ⇒ Err q) ∷ []) (Err q) bytes out refl).0 in
       let n : written_number (answer false) ≡ number q = ap written_number e in
       let l : written_length (answer false) ≡ 0 = ap written_length e in (
         (λ h. refl, λ h. n),
@@ -106,7 +105,7 @@ module _ (q : Refusal) (other : number q ≡ 12 → ⊥) (bytes out : List ℕ) 
           × ((written_number (answer true) ≡ 0) ↔ ((true ≡ true) × (length bytes ≤ length out)))
           × ((written_length (answer true) ≡ length bytes) ↔ ((true ≡ true) × (length bytes ≤ length out)))
       go (inr short) =
-          let e : answer true ≡ writtenRefused Output = (too_short ((false ⇒ writtenRefused q) ∷ []) bytes out refl short).0 in
+          let e : answer true ≡ Err Output = (too_short ((false ⇒ Err q) ∷ []) bytes out refl short).0 in
           let n : written_number (answer true) ≡ 12 = ap written_number e in
           let l : written_length (answer true) ≡ 0 = ap written_length e in (
             (λ h. absurd (other (sym h ∙ n)), λ h. absurd (true≢false h)),
@@ -115,7 +114,7 @@ module _ (q : Refusal) (other : number q ≡ 12 → ⊥) (bytes out : List ℕ) 
             (λ h. absurd (omega arith), λ w. absurd (omega (arith, w.1))),
           )
       go (inl room) =
-          let e : answer true ≡ Length (length bytes) = (has_room_lem ((false ⇒ writtenRefused q) ∷ []) bytes out refl room).0 in
+          let e : answer true ≡ Ok (length bytes) = (has_room_lem ((false ⇒ Err q) ∷ []) bytes out refl room).0 in
           let n : written_number (answer true) ≡ 0 = ap written_number e in (
             (λ h. absurd (positive q (sym n ∙ h)), λ h. absurd (true≢false h)),
             (λ h. absurd (omega arith), λ w. absurd (omega (arith, w.1))),

@@ -1,4 +1,5 @@
 -- The round trips: a written line is read as its operation, and a line that is read was written so.
+use Rattle.std.proofs.Common.{Ok, Err}
 use mathlib.Core.Path.{◌≡◌, refl, sym, ap, ◌∙◌}
 use mathlib.Core.List.{List, [], ◌∷◌, ◌++◌}
 use mathlib.Core.Logic.{◌⊎◌, inl, inr, ⊎_elim}
@@ -15,7 +16,6 @@ use Rattle.woot.specs.declared.Operation.TheVariants.{Insert as insert, Toggle a
 use Rattle.answers.specs.declared.Refusal.TheVariants.{Layout, Range}
 use Rattle.woot.specs.Ranges.{in_range}
 use Rattle.lists.proofs.Tests.{either, clash, and_left_lem, and_right, or_cases}
-use Rattle.codec.specs.declared.Read.TheVariants.{Operation as readsAs, Refused as readRefused}
 use Rattle.lines.specs.Lines.{ended, first_line, rest}
 use Rattle.lines.specs.Fields.{fields, values_of, columns, line_of}
 use Rattle.codec.specs.Operations.{insert_head, toggle_head, delete_head, insert_numbers, toggle_numbers, delete_numbers, identifier_at, insert_of, toggle_of, delete_of, is_insert, is_toggle, is_delete, operation_of, operation_line}
@@ -102,15 +102,15 @@ delete_numbers_back ns e =
     (from_place ns 1 (omega arith) (from_place ns 2 (omega arith) (drop_of_length-le ns {i = 3} (omega arith)))))
 
 -- an operation that was read was laid out, is the one that the line says, and is in range
-pub was_read : (s : List ℕ) (o : Operation) → read_operation s ≡ readsAs o → (laid_out s ≡ true) × (said_by s ≡ o) × (in_range (said_by s) ≡ true)
+pub was_read : (s : List ℕ) (o : Operation) → read_operation s ≡ Ok o → (laid_out s ≡ true) × (said_by s ≡ o) × (in_range (said_by s) ≡ true)
 unfolding read_operation
 was_read s o e = go (either (laid_out s)) (either (in_range (said_by s)))
   where
     go : (laid_out s ≡ true) ⊎ (laid_out s ≡ false) → (in_range (said_by s) ≡ true) ⊎ (in_range (said_by s) ≡ false)
         → (laid_out s ≡ true) × (said_by s ≡ o) × (in_range (said_by s) ≡ true)
-    go (inr p) r = let q : readRefused Layout ≡ readsAs o = sym (read-layout (said_by s)) ∙ rw p at e in (cc, cc, cc)
-    go (inl p) (inr r) = let q : readRefused Range ≡ readsAs o = sym (read-range (said_by s) r) ∙ rw p at e in (cc, cc, cc)
-    go (inl p) (inl r) = let q : readsAs (said_by s) ≡ readsAs o = sym (read-operation (said_by s) r) ∙ rw p at e in (p, cc, r)
+    go (inr p) r = let q : Err Layout ≡ Ok o = sym (read-layout (said_by s)) ∙ rw p at e in (cc, cc, cc)
+    go (inl p) (inr r) = let q : Err Range ≡ Ok o = sym (read-range (said_by s) r) ∙ rw p at e in (cc, cc, cc)
+    go (inl p) (inl r) = let q : Ok (said_by s) ≡ Ok o = sym (read-operation (said_by s) r) ∙ rw p at e in (p, cc, r)
 
 module _ (s : List ℕ) (e : ended s ≡ true) where
   as_insert : is_insert (fields (first_line s)) ≡ true → s ≡ operation_line (said_by s) ++ rest s

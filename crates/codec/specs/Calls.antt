@@ -1,19 +1,21 @@
 -- The calls on operation lines: reading the first line of the bytes, and writing a line into a lent slice. Each has its
 -- conditions in checking order; where none holds, what is done stands below them.
-use Rattle.std.specs.Prelude.{ℕ, List, [], ◌∷◌, Bool, ◌&&◌, ◌||◌, not}
+use Rattle.std.specs.Prelude.{ℕ, List, [], ◌∷◌, Bool, ◌&&◌, ◌||◌, not, Ok, Err, Result}
 use Rattle.std.proofs.Math.Option.{Option, none, some}
 use Rattle.woot.specs.declared.Operation.{Operation}
+use Rattle.answers.specs.declared.Refusal.{Refusal}
 use Rattle.answers.specs.declared.Refusal.TheVariants.{Layout, Range}
 use Rattle.answers.specs.Answers.{Check, ◌⇒◌, first, decided, number}
 use Rattle.woot.specs.Writing.{written_as, output_after}
 use Rattle.woot.specs.Ranges.{in_range}
-use Rattle.codec.specs.declared.Read.{Read}
-use Rattle.codec.specs.declared.Read.TheVariants.{Operation as readsAs, Refused as readRefused}
-use Rattle.woot.specs.declared.Written.{Written}
-use Rattle.woot.specs.declared.Written.TheVariants.{Refused as writtenRefused}
+use Rattle.woot.specs.Writing.{Written}
 use Rattle.lines.specs.Lines.{ended, first_line}
 use Rattle.lines.specs.Fields.{fields}
 use Rattle.codec.specs.Operations.{is_insert, is_toggle, is_delete, operation_of, operation_line}
+
+-- what the reader answers: an operation, or why there is none ("the reader's reply")
+abbrev pub Read : Type 0
+Read = Result Operation Refusal
 
 -- ---- reading
 
@@ -35,10 +37,10 @@ laid_out s = ended s && line_laid_out (first_line s)
 
 -- conditions 1 and 2
 unfoldable pub read_checks : Bool → Operation → List (Check Read)
-read_checks laid o = (not laid ⇒ readRefused Layout) ∷ (not (in_range o) ⇒ readRefused Range) ∷ []
+read_checks laid o = (not laid ⇒ Err Layout) ∷ (not (in_range o) ⇒ Err Range) ∷ []
 
 unfoldable pub read_as : Bool → Operation → Read
-read_as laid o = decided (λ a. a) (first (read_checks laid o)) (readsAs o)
+read_as laid o = decided (λ a. a) (first (read_checks laid o)) (Ok o)
 
 -- what a line without its line feed is read as
 unfoldable pub read_line : List ℕ → Read
@@ -62,19 +64,19 @@ read_operation s = read_as (laid_out s) (said_by s)
 
 -- the refusal's number, or 0
 unfoldable pub read_number : Read → ℕ
-read_number (readsAs o) = 0
-read_number (readRefused r) = number r
+read_number (Ok o) = 0
+read_number (Err r) = number r
 
 -- the operation, none with a refusal
 unfoldable pub read_value : Read → Option Operation
-read_value (readsAs o) = some o
-read_value (readRefused r) = none
+read_value (Ok o) = some o
+read_value (Err r) = none
 
 -- ---- writing
 
 -- condition 2; 12 comes after it
 unfoldable pub write_checks : Operation → List (Check Written)
-write_checks o = (not (in_range o) ⇒ writtenRefused Range) ∷ []
+write_checks o = (not (in_range o) ⇒ Err Range) ∷ []
 
 -- the length of the line, or a refusal
 unfoldable pub written : Operation → List ℕ → Written

@@ -5,12 +5,20 @@ use Rattle.woot.specs.declared.Toggle.{Toggle}
 use Rattle.woot.specs.declared.Operation.{Operation}
 use Rattle.woot.specs.declared.Operation.TheVariants.{Insert as insert, Toggle as toggle}
 use Rattle.lines.specs.Fields.{fields, has_layout, values_of}
+use Rattle.answers.specs.declared.Refusal.{Refusal}
+use Rattle.answers.specs.declared.Refusal.TheVariants.{Layout, Range}
+use Rattle.decimal.specs.declared.Fault.{Fault}
+use Rattle.decimal.specs.declared.Fault.TheVariants.{Above, Malformed}
 use Rattle.codec.specs.declared.Kind.{Kind}
 use Rattle.codec.specs.declared.Kind.TheVariants.{Insert as Inserted, Toggle as Toggled, Delete as Deleted}
-use Rattle.codec.specs.declared.Read.{Read}
 use Rattle.codec.specs.Operations.{insert_head, toggle_head, delete_head, insert_limits, toggle_limits, delete_limits}
 use Rattle.codec.specs.Operations.{identifier_at, insert_of, toggle_of, delete_of}
-use Rattle.codec.specs.Calls.{read_as}
+use Rattle.codec.specs.Calls.{Read, read_as}
+
+-- why a line is refused whose numbers are not taken
+abbrev pub refusal_of : Fault → Refusal
+refusal_of Malformed = Layout
+refusal_of Above = Range
 
 abbrev pub head_of : Kind → List ℕ
 head_of Inserted = insert_head

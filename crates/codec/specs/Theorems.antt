@@ -1,5 +1,5 @@
 -- The promises about operation lines, each proved in proofs/ under its name in small letters.
-use Rattle.std.specs.Prelude.{ℕ, suc, ◌≤◌, ◌<◌, ◌≡◌, ◌↔◌, true, false, List, [], ◌∷◌, ◌++◌, length, get_or}
+use Rattle.std.specs.Prelude.{ℕ, suc, ◌≤◌, ◌<◌, ◌≡◌, ◌↔◌, true, false, List, [], ◌∷◌, ◌++◌, length, get_or, Ok, Err}
 use Rattle.std.proofs.Math.Option.{some}
 use Rattle.woot.specs.declared.Identifier.{Identifier}
 use Rattle.woot.specs.declared.Insert.{Insert}
@@ -10,8 +10,6 @@ use Rattle.answers.specs.declared.Refusal.{Refusal}
 use Rattle.answers.specs.Answers.{Reported}
 use Rattle.woot.specs.Ranges.{in_range}
 use Rattle.woot.specs.Writing.{writing_checks, written_number, written_length}
-use Rattle.codec.specs.declared.Read.TheVariants.{Operation as readsAs, Refused as readRefused}
-use Rattle.woot.specs.declared.Written.TheVariants.{Refused as writtenRefused}
 use Rattle.lines.specs.Lines.{line_feed, first_line, rest}
 use Rattle.lines.specs.Fields.{fields, line_of}
 use Rattle.codec.specs.Operations.{delete_head, is_delete, operation_line}
@@ -35,13 +33,13 @@ DeleteSays =
 abbrev pub WrittenReadsBack : Type 0
 WrittenReadsBack =
     (o : Operation) → in_range o ≡ true → (bytes : List ℕ) →
-    (read_operation (operation_line o ++ bytes) ≡ readsAs o) × (rest (operation_line o ++ bytes) ≡ bytes)
+    (read_operation (operation_line o ++ bytes) ≡ Ok o) × (rest (operation_line o ++ bytes) ≡ bytes)
 
 -- and what is read was written so: the first line with its line feed is the operation's. A `D` line "is written no
 -- more, so the same-bytes claim leaves it out"
 abbrev pub ReadWritesBack : Type 0
 ReadWritesBack =
-    (s : List ℕ) (o : Operation) → read_operation s ≡ readsAs o → is_delete (fields (first_line s)) ≡ false →
+    (s : List ℕ) (o : Operation) → read_operation s ≡ Ok o → is_delete (fields (first_line s)) ≡ false →
     s ≡ operation_line o ++ rest s
 
 -- ---- one line of each kind, with fields that all differ, so that letters and order show
@@ -75,10 +73,10 @@ example_delete_bytes = 68 ∷ 9 ∷ 54 ∷ 9 ∷ 52 ∷ 9 ∷ 57 ∷ 10 ∷ []
 -- `I` and `E` are written and read so, and "a `D` line is read as turn 1"
 abbrev pub LinesExample : Type 0
 LinesExample =
-    (operation_line example_insert ≡ example_insert_bytes) × (read_operation example_insert_bytes ≡ readsAs example_insert)
+    (operation_line example_insert ≡ example_insert_bytes) × (read_operation example_insert_bytes ≡ Ok example_insert)
     × (operation_line (example_toggle 5) ≡ example_toggle_bytes)
-    × (read_operation example_toggle_bytes ≡ readsAs (example_toggle 5))
-    × (read_operation example_delete_bytes ≡ readsAs (example_toggle 1))
+    × (read_operation example_toggle_bytes ≡ Ok (example_toggle 5))
+    × (read_operation example_delete_bytes ≡ Ok (example_toggle 1))
 
 -- ---- sizes
 
@@ -121,7 +119,7 @@ LongestLines =
 -- a `D` line is read, "and is written no more": with its line feed none that is read is longer
 abbrev pub DeleteLengths : Type 0
 DeleteLengths =
-    (s : List ℕ) (o : Operation) → read_operation s ≡ readsAs o → is_delete (fields (first_line s)) ≡ true →
+    (s : List ℕ) (o : Operation) → read_operation s ≡ Ok o → is_delete (fields (first_line s)) ≡ true →
     suc (length (first_line s)) ≤ delete_most
 
 -- and `D 16 16 65535` has that many
@@ -132,7 +130,7 @@ abbrev pub LongestDelete : Type 0
 LongestDelete =
     (length longest_delete_bytes ≡ delete_most)
     × (read_operation longest_delete_bytes
-    ≡ readsAs (toggle (record { sender = 16; target = record { site = 16; clock = 65535 }; toggles = 1 })))
+    ≡ Ok (toggle (record { sender = 16; target = record { site = 16; clock = 65535 }; toggles = 1 })))
 
 -- each byte is a byte, and the last alone is a line feed
 abbrev pub LineBytes : Type 0
@@ -146,7 +144,7 @@ LineBytes =
 abbrev pub ReadRefuses : Type 0
 ReadRefuses =
     (s : List ℕ) (r : Refusal) →
-    (read_operation s ≡ readRefused r) ↔ Reported (readRefused r) (read_checks (laid_out s) (said_by s))
+    (read_operation s ≡ Err r) ↔ Reported (Err r) (read_checks (laid_out s) (said_by s))
 
 -- by number: 1 where the layout lacks, 2 where it does not and the operation is out of range, else 0 and the
 -- operation that the line says
@@ -163,9 +161,9 @@ ReadNumbers =
 abbrev pub WriteRefuses : Type 0
 WriteRefuses =
     (o : Operation) (out : List ℕ) (r : Refusal) →
-    ((written o out ≡ writtenRefused r)
-    ↔ Reported (writtenRefused r) (writing_checks (write_checks o) (operation_line o) out))
-    × (written o out ≡ writtenRefused r → written_out o out ≡ out)
+    ((written o out ≡ Err r)
+    ↔ Reported (Err r) (writing_checks (write_checks o) (operation_line o) out))
+    × (written o out ≡ Err r → written_out o out ≡ out)
 
 -- by number: 2 where the operation is out of range, 12 where it is not and the slice is shorter than the line, else 0
 -- and the line's length

@@ -1,16 +1,16 @@
 // Operations as lines of text: what the lines are, and reading them from bytes; `line_writing` writes them.
 #![tactic(auto)]
 
-ghost use Rattle.std.specs.Prelude.{◌≡◌, true, ◌<◌, ◌%◌, get_or};
+ghost use Rattle.std.specs.Prelude.{◌≡◌, true, [], ◌∷◌, ◌<◌, ◌%◌, get_or, IfOk, Err};
 ghost use Rattle.lines.specs.Lines.{rest};
 ghost use Rattle.lines.specs.Fields.{at_most};
-ghost use Rattle.lines.specs.Answers.{by_verdict};
+ghost use Rattle.lines.specs.Answers.{by_numbers};
 ghost use Rattle.codec.specs.Operations.{insert_limits, insert_of};
-ghost use Rattle.codec.specs.Kinds.{toggles_of, limits_of, said_as, read_kind};
+ghost use Rattle.codec.specs.Kinds.{refusal_of, head_of, toggles_of, limits_of, said_as, read_kind};
 ghost use Rattle.codec.specs.Calls.{read_as, read_written, read_written_first, read_line, read_operation};
 
 use answers::Refusal;
-use lines::{Numbers, Verdict};
+use decimal::Fault;
 use woot::{Identifier, Insert, Operation, Toggle};
 
 // The head words of the lines.
@@ -28,11 +28,38 @@ enum Kind {
     Delete,
 }
 
-// What the reader answers. (Document 01: the reader's reply.)
-#[derive(Clone, Copy)]
-pub enum Read {
-    Operation(Operation),
-    Refused(Refusal),
+impl Kind {
+    // The head word of its lines.
+    fn head(self) -> u8
+        ensures { result ∷ [] ≡ head_of self }
+    {
+        match self {
+            Kind::Insert => INSERT,
+            Kind::Toggle => TOGGLE,
+            Kind::Delete => DELETE,
+        }
+    }
+
+    // The limits of the numbers on them.
+    fn limits(self) -> &'static [u64]
+        ensures { result.now ≡ limits_of self }
+    {
+        match self {
+            Kind::Insert => &[16, 65535, 1114111, 16, 65535, 16, 65535],
+            Kind::Toggle => &[16, 16, 65535, 255],
+            Kind::Delete => &[16, 16, 65535],
+        }
+    }
+}
+
+// Why a line is refused whose numbers are not taken.
+fn refusal_of(fault: Fault) -> Refusal
+    ensures { result ≡ refusal_of fault }
+{
+    match fault {
+        Fault::Malformed => Refusal::Layout,
+        Fault::Above => Refusal::Range,
+    }
 }
 
 // The identifier of the low bits of two numbers, which are the numbers where these fit it.
@@ -79,64 +106,39 @@ fn operation_of(kind: Kind, values: [u64; 9]) -> Operation
     }
 }
 
-// What a line is read as by the verdict on its numbers and the operation that they say.
-fn judged(kind: Kind, numbers: Numbers) -> Read
-    requires { at_most (limits_of kind) numbers.values ≡ true }
+// What a line is read as by its numbers, or by their fault.
+fn judged(kind: Kind, numbers: Result<[u64; 9], Fault>) -> Result<Operation, Refusal>
+    requires { IfOk numbers (λ values. at_most (limits_of kind) values ≡ true) }
     ensures { result
-        ≡ by_verdict numbers.verdict (Read.Refused Refusal.Layout) (Read.Refused Refusal.Range)
-        (read_as true (said_as kind numbers.values)) }
+        ≡ by_numbers numbers (Err Refusal.Layout) (Err Refusal.Range)
+        (λ values. read_as true (said_as kind values)) }
 {
-    let verdict = numbers.verdict;
-    let values = numbers.values;
-    match verdict {
-        Verdict::Malformed => Read::Refused(Refusal::Layout),
-        Verdict::Above => Read::Refused(Refusal::Range),
-        Verdict::Within => {
-            let operation = operation_of(kind, values);
-            if ranges::in_range(operation) {
-                return Read::Operation(operation);
-            }
-            Read::Refused(Refusal::Range)
-        }
+    let values = numbers.map_err(refusal_of)?;
+    let operation = operation_of(kind, values);
+    if ranges::in_range(operation) {
+        return Ok(operation);
     }
+    Err(Refusal::Range)
 }
 
 // Reads a line as one of the given kind.
-fn read_as(kind: Kind, line: &[u8]) -> Read
+fn read_as(kind: Kind, line: &[u8]) -> Result<Operation, Refusal>
     ensures { result ≡ read_kind kind line.now }
 {
-    match kind {
-        Kind::Insert => {
-            let head = [INSERT];
-            let limits = [16u64, 65535, 1114111, 16, 65535, 16, 65535];
-            judged(kind, lines::read(line, &head, &limits))
-        }
-        Kind::Toggle => {
-            let head = [TOGGLE];
-            let limits = [16u64, 16, 65535, 255];
-            judged(kind, lines::read(line, &head, &limits))
-        }
-        Kind::Delete => {
-            let head = [DELETE];
-            let limits = [16u64, 16, 65535];
-            judged(kind, lines::read(line, &head, &limits))
-        }
-    }
+    let head = [kind.head()];
+    judged(kind, lines::read(line, &head, kind.limits()))
 }
 
 // The first byte of a line; of an empty one 0, which is no head word.
 pub fn first_byte(line: &[u8]) -> u8
     ensures { result ≡ get_or line.now 0 0 }
 {
-    if line.len() == 0 {
-        return 0;
-    }
-    line[0]
+    line.first().copied().unwrap_or(0)
 }
 
 // Reads a line that is without its line feed, as operations are written: a delete's line, which is written no more,
 // lacks the layout.
-pub fn read_written(line: &[u8]) -> Read
+pub fn read_written(line: &[u8]) -> Result<Operation, Refusal>
     ensures { result ≡ read_written line.now }
 {
     if first_byte(line) == INSERT {
@@ -146,7 +148,7 @@ pub fn read_written(line: &[u8]) -> Read
 }
 
 // The same, as operations were written first: a toggle's line lacks the layout.
-pub fn read_written_first(line: &[u8]) -> Read
+pub fn read_written_first(line: &[u8]) -> Result<Operation, Refusal>
     ensures { result ≡ read_written_first line.now }
 {
     if first_byte(line) == INSERT {
@@ -156,7 +158,7 @@ pub fn read_written_first(line: &[u8]) -> Read
 }
 
 // Reads a line that is without its line feed.
-pub fn read_line(line: &[u8]) -> Read
+pub fn read_line(line: &[u8]) -> Result<Operation, Refusal>
     ensures { result ≡ read_line line.now }
 {
     if first_byte(line) == DELETE {
@@ -166,7 +168,7 @@ pub fn read_line(line: &[u8]) -> Read
 }
 
 // Reads the first line of the bytes as an operation. What follows the line feed is left to `rest`.
-pub fn read_operation(bytes: &[u8]) -> Read
+pub fn read_operation(bytes: &[u8]) -> Result<Operation, Refusal>
     ensures { result ≡ read_operation bytes.now }
 {
     read_line(lines::first_line(bytes))

@@ -8,7 +8,7 @@ use Rattle.consistency.specs.Copies.{bytes_after, word_read, written_read, word_
 use Rattle.cursor.specs.Bits.{shift_bits}
 use Rattle.decimal.specs.Numeral.{is_digit, leading_zero, is_numeral, value_of, digits_in, digits}
 use Rattle.effects.specs.Effects.{quiet}
-use Rattle.lines.specs.Answers.{holding, verdict_on, numbers_of, goes_on, numbers_after}
+use Rattle.lines.specs.Answers.{verdict_on, numbers_of, goes_on, numbers_after}
 use Rattle.lines.specs.Fields.{numerals, has_layout, values_of, line_of}
 use Rattle.lines.specs.Lines.{ended, first_line, rest, closed}
 use Rattle.output.specs.Output.{has_room, placed}
@@ -63,7 +63,7 @@ use Rattle.consistency.specs.Examples.{CallsExample, BuiltExample, LoadedExample
 pub calls-example : CallsExample
 unfolding as_written line_laid_out laid_out said_by insert_numbers toggle_numbers identifier_at insert_of toggle_of delete_of is_insert is_toggle is_delete
     operation_of operation_line bytes_after word_read written_read word_of kept_bytes when_made rules_of renews on_bytes step_on begun shift_bits is_digit
-    leading_zero is_numeral value_of digits_in digits quiet holding verdict_on numbers_of goes_on numbers_after numerals has_layout values_of line_of ended
+    leading_zero is_numeral value_of digits_in digits quiet verdict_on numbers_of goes_on numbers_after numerals has_layout values_of line_of ended
     first_line rest closed has_room placed result silent in_bits number_of loaded_as site_numbers site_of is_site site_said site_line toggle_field
     character_numbers character_of is_character character_said character_line is_operation operation_said saved_line head_line row_lines operation_lines
     laid_out_with state_as character_within operation_within in_range_as bytes_with input_checks one_line handed_checks rule_checks product_of call_checks effect_of
@@ -85,7 +85,7 @@ starts-example : BuiltExample × LoadedExample
 unfolding as_written line_laid_out laid_out said_by insert_numbers toggle_numbers identifier_at insert_of toggle_of
     delete_of is_insert is_toggle is_delete operation_of operation_line bytes_after word_read written_read word_of
     kept_bytes when_made rules_of renews on_bytes step_on begun is_digit leading_zero is_numeral value_of digits_in digits
-    quiet holding verdict_on numbers_of goes_on numbers_after numerals has_layout values_of line_of ended first_line
+    quiet verdict_on numbers_of goes_on numbers_after numerals has_layout values_of line_of ended first_line
     rest closed has_room placed result silent in_bits number_of loaded_as site_numbers site_of is_site site_said
     site_line toggle_field character_numbers character_of is_character character_said character_line is_operation
     operation_said saved_line head_line row_lines operation_lines laid_out_with state_as character_within operation_within
@@ -134,7 +134,7 @@ loaded-example = starts-example.1
 pub caught_example : CaughtExample
 unfolding as_written line_laid_out laid_out said_by insert_numbers toggle_numbers identifier_at insert_of toggle_of delete_of
     is_insert is_toggle is_delete operation_of operation_line bytes_after word_read written_read word_of kept_bytes renews
-    on_bytes step_on is_digit leading_zero is_numeral value_of digits_in digits quiet holding verdict_on numbers_of goes_on
+    on_bytes step_on is_digit leading_zero is_numeral value_of digits_in digits quiet verdict_on numbers_of goes_on
     numbers_after numerals has_layout values_of line_of ended first_line rest closed has_room placed result silent in_bits
     number_of loaded_as site_numbers site_of is_site site_said site_line toggle_field character_numbers character_of is_character
     character_said character_line is_operation operation_said saved_line head_line row_lines operation_lines laid_out_with
@@ -166,7 +166,7 @@ caught_example =
 pub archived-example : ArchivedExample
 unfolding as_written line_laid_out laid_out said_by insert_numbers toggle_numbers identifier_at insert_of toggle_of delete_of
     is_insert is_toggle is_delete operation_of operation_line bytes_after word_read written_read word_of kept_bytes when_made
-    rules_of renews on_bytes step_on is_digit leading_zero is_numeral value_of digits_in digits quiet holding verdict_on
+    rules_of renews on_bytes step_on is_digit leading_zero is_numeral value_of digits_in digits quiet verdict_on
     numbers_of goes_on numbers_after numerals has_layout values_of line_of ended first_line rest closed has_room placed result
     silent in_bits number_of loaded_as site_numbers site_of is_site site_said site_line toggle_field character_numbers
     character_of is_character character_said character_line is_operation operation_said saved_line head_line row_lines

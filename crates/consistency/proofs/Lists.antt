@@ -1,5 +1,6 @@
 -- A copy that holds a state lists what the rule lists of it, and answers what the rule answers; where it does, the
 -- state is in form.
+use Rattle.std.proofs.Common.{Err}
 use Prim.Native.Nat.{ℕ, ◌≤◌, ◌<◌}
 use native.Mathlib.Omega.{arith}
 use mathlib.Core.Path.{◌≡◌, refl, sym, ap, ◌∙◌}
@@ -13,7 +14,6 @@ use Rattle.lists.proofs.Tests.{some-eq, no-some, side}
 use Rattle.answers.specs.declared.Refusal.{Refusal}
 use Rattle.answers.specs.Answers.{Word, done, waits, known, refused, Check, first, NoneHolds}
 use Rattle.woot.specs.declared.Replica.{Replica}
-use Rattle.woot.specs.declared.Written.TheVariants.{Refused}
 use Rattle.woot.specs.State.{State}
 use Rattle.woot.specs.Ranges.{within, site_number}
 use Rattle.woot.specs.Form.{well_formed}
@@ -50,12 +50,12 @@ use Rattle.consistency.proofs.Bytes.{no_bytes}
 -- ---- what a writer left
 
 -- the first condition that holds refuses, or none does
-how_first : (cs : List (Check Refusal)) → NoneHolds cs ⊎ ((q : Refusal) × (first (refusing cs) ≡ some (Refused q)))
+how_first : (cs : List (Check Refusal)) → NoneHolds cs ⊎ ((q : Refusal) × (first (refusing cs) ≡ some (Err q)))
 how_first [] = inl tt
 how_first (c ∷ cs) = go c.holds refl (how_first cs)
   where
-    go : (b : Bool) → c.holds ≡ b → NoneHolds cs ⊎ ((q : Refusal) × (first (refusing cs) ≡ some (Refused q))) →
-        NoneHolds (c ∷ cs) ⊎ ((q : Refusal) × (first (refusing (c ∷ cs)) ≡ some (Refused q)))
+    go : (b : Bool) → c.holds ≡ b → NoneHolds cs ⊎ ((q : Refusal) × (first (refusing cs) ≡ some (Err q))) →
+        NoneHolds (c ∷ cs) ⊎ ((q : Refusal) × (first (refusing (c ∷ cs)) ≡ some (Err q)))
     go true e r = inr (c.answer, rw e)
     go false e (inl w) = inl (e, w)
     go false e (inr w) = inr (w.0, rw e w.1)
@@ -76,8 +76,8 @@ module _ (cs : List (Check Refusal)) (bytes out : List ℕ) where
   some_written : {made : List ℕ} → left ≡ some made → NoneHolds cs × (made ≡ bytes)
   some_written {made} h = ⊎_elim none-held away (how_first cs)
     where
-      away : (q : Refusal) × (first (refusing cs) ≡ some (Refused q)) → NoneHolds cs × (made ≡ bytes)
-      away w = no-some (rw (own_first (refusing cs) (Refused w.0) bytes out w.1).0 at h)
+      away : (q : Refusal) × (first (refusing cs) ≡ some (Err q)) → NoneHolds cs × (made ≡ bytes)
+      away w = no-some (rw (own_first (refusing cs) (Err w.0) bytes out w.1).0 at h)
 
       none-held : NoneHolds cs → NoneHolds cs × (made ≡ bytes)
       none-held w = go (side (length bytes) (length out))

@@ -10,8 +10,6 @@ use Rattle.woot.specs.declared.Operation.{Operation}
 use Rattle.woot.specs.declared.Replica.{Replica}
 use Rattle.answers.specs.declared.Answer.{Answer}
 use Rattle.answers.specs.declared.Answer.TheVariants.{Done, Deferred, Duplicate, Refused}
-use Rattle.woot.specs.declared.Sent.{Sent}
-use Rattle.woot.specs.declared.Sent.TheVariants.{Done as sentDone, Refused as sentRefused}
 use Rattle.woot.specs.Ranges.{in_range}
 use Rattle.woot.specs.State.{State}
 use Rattle.woot.specs.Memory.{meaning, stored, replica_well_formed}
@@ -41,6 +39,8 @@ use Rattle.transcript.specs.Calls.{received_as, received_line}
 use Rattle.consistency.specs.Copies.{MemoryCall, on_replica, on_record, on_block, on_line, admit, save, memory_call, in_memory, after_record, after_admitting, after_saving, when_made, on_memory, step_on}
 use Rattle.consistency.proofs.Holding.{Means, stored-means, Holds, memory, bytes, stored-held, Steps, changed_formed}
 use Rattle.consistency.proofs.Saving.{Saving, fits, refuses, saving}
+use Rattle.std.proofs.Common.{Ok, Err}
+use Rattle.woot.specs.Sent.{Sending}
 
 -- an answer that refuses
 abbrev Refusing : Answer → Type 0
@@ -73,10 +73,10 @@ module _ (r : Replica) (s : State) (m : Means r s) where
   restored_meant x = rw (m.form, m.meant)
 
 -- the replica depends on the answer alone, whatever was sent
-sent-answer : (r : Replica) (s : State) (a : Sent) → after_sent r s a ≡ after_answer r s (answer_of a)
+sent-answer : (r : Replica) (s : State) (a : Sending) → after_sent r s a ≡ after_answer r s (answer_of a)
 unfolding after_sent after_answer answer_of
-sent-answer r s (sentDone o n m) = refl
-sent-answer r s (sentRefused q) = refl
+sent-answer r s (Ok x) = refl
+sent-answer r s (Err q) = refl
 
 module _ (r : Replica) (s : State) (m : Means r s) where
   pub called_meant : (c : RuleCall) →

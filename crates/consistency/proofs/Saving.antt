@@ -1,4 +1,5 @@
 -- Saving what means a state writes the bytes of that state at the front of the slice, or refuses.
+use Rattle.std.proofs.Common.{Ok, Err}
 use Prim.Native.Nat.{ℕ, ◌≤◌, ◌<◌}
 use mathlib.Core.Path.{◌≡◌, refl, sym, ap, ◌∙◌}
 use mathlib.Core.Bool.{Bool, true, false}
@@ -7,7 +8,6 @@ use mathlib.Core.List.{List, []}
 use lib.ListN.{length, take}
 use Rattle.answers.specs.declared.Refusal.{Refusal}
 use Rattle.answers.specs.declared.Refusal.TheVariants.{Output}
-use Rattle.woot.specs.declared.Written.TheVariants.{Length, Refused}
 use Rattle.woot.specs.State.{State}
 use Rattle.woot.specs.declared.Replica.{Replica}
 use Rattle.woot.specs.Form.{well_formed}
@@ -21,9 +21,9 @@ use Rattle.consistency.proofs.Holding.{Means}
 
 -- what saving comes to
 pub data Saving (r : Replica) (s : State) (out : List ℕ) : Type 0 where
-  fits : {n : ℕ} → well_formed s ≡ true → saved r out ≡ Length n →
+  fits : {n : ℕ} → well_formed s ≡ true → saved r out ≡ Ok n →
       take n (saved_out r out) ≡ saved_bytes s → Saving r s out
-  refuses : {q : Refusal} → saved r out ≡ Refused q → Saving r s out
+  refuses : {q : Refusal} → saved r out ≡ Err q → Saving r s out
 
 pub saving : (r : Replica) (s : State) → Means r s → (out : List ℕ) → Saving r s out
 saving r s m out = go (well_formed s) refl (side (length (bytes_of r)) (length out))

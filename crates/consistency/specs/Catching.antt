@@ -1,10 +1,9 @@
 -- Document 02, Req 09, of what runs: a copy lists, another answers, and the lines of the answer are handed one by one.
 -- Over copies in memory and as bytes, and every kind of call that there is; proved in proofs/ under the names in small
 -- letters.
-use Rattle.std.specs.Prelude.{ℕ, ◌+◌, ◌≤◌, ◌≡◌, true, List, [], ◌∷◌, ◌++◌, map, length, take}
+use Rattle.std.specs.Prelude.{ℕ, ◌+◌, ◌≤◌, ◌≡◌, true, List, [], ◌∷◌, ◌++◌, map, length, take, Ok, Err}
 use Rattle.std.proofs.Math.Option.{Option, none, some}
-use Rattle.woot.specs.declared.Written.{Written}
-use Rattle.woot.specs.declared.Written.TheVariants.{Length, Refused}
+use Rattle.woot.specs.Writing.{Written}
 use Rattle.woot.specs.Limits.{capacity}
 use Rattle.woot.specs.Operations.{inserts}
 use Rattle.woot.specs.Form.{present_inserts, well_formed}
@@ -28,8 +27,8 @@ use Rattle.consistency.specs.Theorems.{receiving_line}
 
 -- the bytes at the front of a lent slice; none with a refusal
 abbrev pub front_of : Written → List ℕ → Option (List ℕ)
-front_of (Length n) out = some (take n out)
-front_of (Refused q) out = none
+front_of (Ok n) out = some (take n out)
+front_of (Err q) out = none
 
 -- the same, as a C program reads it off the returned number
 abbrev pub front_with : Word → ℕ → List ℕ → Option (List ℕ)

@@ -1,11 +1,10 @@
 -- A copy of the document as a program holds it, in memory or saved as bytes, and every kind of call that may change it:
 -- the copy that the next call gets, and the calls of the rules that were made on it.
-use Rattle.std.specs.Prelude.{ℕ, ◌/◌, ◌%◌, ◌^◌, Bool, true, false, cond, List, [], ◌∷◌, ◌++◌, eqb, take}
+use Rattle.std.specs.Prelude.{ℕ, ◌/◌, ◌%◌, ◌^◌, Bool, true, false, cond, List, [], ◌∷◌, ◌++◌, eqb, take, Ok, Err}
 use Rattle.woot.specs.declared.Operation.{Operation}
 use Rattle.woot.specs.declared.Character.{Character}
 use Rattle.woot.specs.declared.Replica.{Replica}
-use Rattle.woot.specs.declared.Written.{Written}
-use Rattle.woot.specs.declared.Written.TheVariants.{Length, Refused as writtenRefused}
+use Rattle.woot.specs.Writing.{Written}
 use Rattle.woot.specs.State.{State, initial}
 use Rattle.woot.specs.Memory.{meaning, stored}
 use Rattle.answers.specs.Answers.{Word, done, waits, known, refused, reply, changes}
@@ -27,8 +26,7 @@ use Rattle.codec.specs.Calls.{said_by}
 use Rattle.heap.specs.Format.{heap_said}
 use Rattle.building.specs.Calls.{built_outcome, built_by}
 use Rattle.transcript.specs.Calls.{received_line}
-use Rattle.saved.specs.declared.LoadAnswer.{LoadAnswer}
-use Rattle.saved.specs.declared.LoadAnswer.TheVariants.{Done as loadDone, Refused as loadRefused}
+use Rattle.saved.specs.LoadAnswer.{LoadAnswer}
 use Rattle.saved.specs.Format.{saved_state}
 use Rattle.saved.specs.Calls.{loaded_state, loaded, load_number, saved, saved_out}
 use Rattle.effects.specs.Results.{number_of}
@@ -114,12 +112,12 @@ after_admitting r = cond (changes (admitted_by r).answer) (admitted_by r).replic
 
 -- saved, the copy is the bytes at the front of the slice
 unfoldable pub after_saving : Replica → List ℕ → Written → Copy
-after_saving r out (Length n) = as_bytes (take n out)
-after_saving r out (writtenRefused q) = in_memory r
+after_saving r out (Ok n) = as_bytes (take n out)
+after_saving r out (Err q) = in_memory r
 
 unfoldable pub after_loading : List ℕ → Replica → LoadAnswer → Copy
-after_loading bytes r loadDone = in_memory r
-after_loading bytes r (loadRefused q) = as_bytes bytes
+after_loading bytes r (Ok _) = in_memory r
+after_loading bytes r (Err q) = as_bytes bytes
 
 -- what a copy says, and what a call on it works with: of saved bytes the state that loading makes of them
 unfoldable pub state_of : Copy → State

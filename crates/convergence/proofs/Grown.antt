@@ -13,7 +13,6 @@ use Rattle.woot.specs.declared.Character.{Character}
 use Rattle.answers.specs.declared.Refusal.TheVariants.{Position, Unplaceable}
 use Rattle.answers.specs.declared.Answer.{Answer}
 use Rattle.answers.specs.declared.Answer.TheVariants.{Refused}
-use Rattle.woot.specs.declared.Sent.TheVariants.{Refused as sentRefused}
 use Rattle.woot.specs.State.{State, initial}
 use Rattle.woot.specs.Pending.{executable, crossed, unplaceable}
 use Rattle.woot.specs.Form.{well_formed}
@@ -34,6 +33,7 @@ use Rattle.convergence.proofs.Heaped.{heaped-grown}
 use Rattle.convergence.proofs.Used.{used_grown}
 use Rattle.convergence.proofs.Pointing.{receive-at_else}
 use Rattle.convergence.proofs.Refusals.{skipped, held-there, never, unreported, other, other-sent, receive_refuses, insert_refuses, delete_refuses, restore_refuses, answer-refused}
+use Rattle.std.proofs.Common.{Err}
 
 grown-step : (s : State) {r : Outcome Answer} → Step s r → Grown s.characters → Grown r.state.characters
 unfolding unchanged carry_out defer with_characters with_pending
@@ -78,7 +78,7 @@ receive_placeable s o g r =
     operation_placeable s.characters o g r5.0
     (held-there (λ q. never (skipped (other (λ h. omega arith)) (skipped (other (λ h. omega arith)) q).1).1) r5.1)
 
-insert_placeable : (s : State) (g n : ℕ) → Grown s.characters → Reported (sentRefused Unplaceable) (insert_checks (well_formed s) s g n) → ⊥
+insert_placeable : (s : State) (g n : ℕ) → Grown s.characters → Reported (Err Unplaceable) (insert_checks (well_formed s) s g n) → ⊥
 unfolding insert_checks
 insert_placeable s g n w r =
     let r1 = skipped (other-sent (λ h. omega arith)) r in
@@ -89,11 +89,11 @@ insert_placeable s g n w r =
     operation_placeable s.characters (insert (generated_insert s g n)) w (generated_uncrossed s g n (formed s (not-false (well_formed s) r2.0)) r3.0)
     (held-there (λ q. never (skipped (other-sent (λ h. omega arith)) q).1) r5.1)
 
-delete_placeable : (s : State) (p : ℕ) → Reported (sentRefused Unplaceable) (delete_checks (well_formed s) s p) → ⊥
+delete_placeable : (s : State) (p : ℕ) → Reported (Err Unplaceable) (delete_checks (well_formed s) s p) → ⊥
 unfolding delete_checks
 delete_placeable s p = unreported (delete_checks (well_formed s) s p) (other-sent (λ h. omega arith), (other-sent (λ h. omega arith), tt))
 
-restore_placeable : (s : State) (x : Identifier) → Reported (sentRefused Unplaceable) (restore_checks (well_formed s) s x) → ⊥
+restore_placeable : (s : State) (x : Identifier) → Reported (Err Unplaceable) (restore_checks (well_formed s) s x) → ⊥
 unfolding restore_checks
 restore_placeable s x = unreported (restore_checks (well_formed s) s x) (other-sent (λ h. omega arith), (other-sent (λ h. omega arith), (other-sent (λ h. omega arith), (other-sent (λ h. omega arith), tt))))
 

@@ -17,8 +17,6 @@ use Rattle.woot.specs.declared.Character.{Character}
 use Rattle.answers.specs.declared.Refusal.TheVariants.{Position, Taken}
 use Rattle.answers.specs.declared.Answer.{Answer}
 use Rattle.answers.specs.declared.Answer.TheVariants.{Done, Duplicate, Refused}
-use Rattle.woot.specs.declared.Sent.{Sent}
-use Rattle.woot.specs.declared.Sent.TheVariants.{Refused as sentRefused}
 use Rattle.woot.specs.Operations.{inserts, origin}
 use Rattle.woot.specs.Ranges.{site_in_range, insert_in_range, character_in_range, in_range}
 use Rattle.woot.specs.State.{State}
@@ -42,11 +40,13 @@ use Rattle.convergence.proofs.Replies.{none_first, insert_does}
 use Rattle.convergence.proofs.Pointing.{receive-at_else}
 use Rattle.convergence.proofs.Refusals.{skipped, held-there, never, unreported, other, other-sent, receive_refuses, insert_refuses, delete_refuses, restore_refuses, answer-refused}
 use Rattle.convergence.proofs.Ranges.{origin_ranged}
+use Rattle.std.proofs.Common.{Err}
+use Rattle.woot.specs.Sent.{Sending}
 
 -- ---- refusal 6
 
 -- also where something else than `wellFormed` says that the state is in form
-pub insert_untaken : (known : Bool) (s : State) (g n : ℕ) → (known ≡ true → Formed s) → Reported (sentRefused Taken) (insert_checks known s g n) → ⊥
+pub insert_untaken : (known : Bool) (s : State) (g n : ℕ) → (known ≡ true → Formed s) → Reported (Err Taken) (insert_checks known s g n) → ⊥
 unfolding insert_checks
 insert_untaken known s g n form r =
     let r1 = skipped (other-sent (λ h. omega arith)) r in
@@ -57,11 +57,11 @@ insert_untaken known s g n form r =
     (held-there (λ q. never (skipped (other-sent (λ h. omega arith)) (skipped (other-sent (λ h. omega arith)) q).1).1) r4.1)
     (formed_untaken s (form (not-false known r2.0)))
 
-delete_untaken : (s : State) (p : ℕ) → Reported (sentRefused Taken) (delete_checks (well_formed s) s p) → ⊥
+delete_untaken : (s : State) (p : ℕ) → Reported (Err Taken) (delete_checks (well_formed s) s p) → ⊥
 unfolding delete_checks
 delete_untaken s p = unreported (delete_checks (well_formed s) s p) (other-sent (λ h. omega arith), (other-sent (λ h. omega arith), tt))
 
-restore_untaken : (s : State) (x : Identifier) → Reported (sentRefused Taken) (restore_checks (well_formed s) s x) → ⊥
+restore_untaken : (s : State) (x : Identifier) → Reported (Err Taken) (restore_checks (well_formed s) s x) → ⊥
 unfolding restore_checks
 restore_untaken s x = unreported (restore_checks (well_formed s) s x) (other-sent (λ h. omega arith), (other-sent (λ h. omega arith), (other-sent (λ h. omega arith), (other-sent (λ h. omega arith), tt))))
 
@@ -133,17 +133,17 @@ unfolding decided
 receive_follows s o none e = accept_follows s o
 receive_follows s o (some a) e = turned_follows s (receiving o) a (first_some Turned (receive_checks (well_formed s) s o) (receive-turned (well_formed s) s o) a e)
 
-insert_follows : (s : State) (g n : ℕ) (m : Option Sent) → Follows s (inserting g n) (with_answer answer_of (decided (unchanged s) m (send_insert s (generated_insert s g n))))
+insert_follows : (s : State) (g n : ℕ) (m : Option Sending) → Follows s (inserting g n) (with_answer answer_of (decided (unchanged s) m (send_insert s (generated_insert s g n))))
 unfolding decided unchanged send_insert carry_out after_drain all_integrated
 insert_follows s g n none = refl
 insert_follows s g n (some a) = refl
 
-delete_follows : (s : State) (p : ℕ) (m : Option Sent) → Follows s (deleting p) (with_answer answer_of (decided (unchanged s) m (send_toggle s (generated_delete s p))))
+delete_follows : (s : State) (p : ℕ) (m : Option Sending) → Follows s (deleting p) (with_answer answer_of (decided (unchanged s) m (send_toggle s (generated_delete s p))))
 unfolding decided unchanged send_toggle carry_out with_characters all_integrated
 delete_follows s p none = refl
 delete_follows s p (some a) = refl
 
-restore_follows : (s : State) (x : Identifier) (m : Option Sent) → Follows s (restoring x) (with_answer answer_of (decided (unchanged s) m (send_toggle s (generated_toggle s x))))
+restore_follows : (s : State) (x : Identifier) (m : Option Sending) → Follows s (restoring x) (with_answer answer_of (decided (unchanged s) m (send_toggle s (generated_toggle s x))))
 unfolding decided unchanged send_toggle carry_out with_characters all_integrated
 restore_follows s x none = refl
 restore_follows s x (some a) = refl

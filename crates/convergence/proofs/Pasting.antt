@@ -26,8 +26,6 @@ use Rattle.answers.specs.declared.Refusal.{Refusal}
 use Rattle.answers.specs.declared.Refusal.TheVariants.{NotUtf8, Unplaceable}
 use Rattle.answers.specs.declared.Answer.{Answer}
 use Rattle.answers.specs.declared.Answer.TheVariants.{Done, Duplicate, Refused}
-use Rattle.woot.specs.declared.Sent.{Sent}
-use Rattle.woot.specs.declared.Sent.TheVariants.{Done as sentDone, Refused as sentRefused}
 use Rattle.woot.specs.Limits.{last_clock, capacity}
 use Rattle.woot.specs.Operations.{character, inserts}
 use Rattle.woot.specs.Ranges.{within, site_number, site_in_range}
@@ -63,6 +61,8 @@ use Rattle.convergence.proofs.Own.{typed_carried}
 use Rattle.convergence.proofs.Typing.{typing_moves}
 use Rattle.convergence.proofs.Grown.{grown-run, grown-throughout, placeable}
 use Rattle.convergence.proofs.Typings.{Ready, state_after, gap_then, ready_typings, run-append, integrated_append}
+use Rattle.std.proofs.Common.{Ok, Err}
+use Rattle.woot.specs.Sent.{Sending}
 
 -- ---- the answer
 
@@ -266,9 +266,9 @@ unfolding outcome answer_of
 typings_wait_not s g [] = refl
 typings_wait_not s g (n ∷ ns) = rw (sent (local_insert s g n).answer, zero-add) (typings_wait_not (state_after s g n) (gap_then s g n) ns)
   where
-    sent : (a : Sent) → is_deferred (answer_of a) ≡ 0
-    sent (sentDone o n m) = refl
-    sent (sentRefused r) = refl
+    sent : (a : Sending) → is_deferred (answer_of a) ≡ 0
+    sent (Ok x) = refl
+    sent (Err r) = refl
 
 integrated_parts : (s : State) (cs : List Call) → length (integrated_by s cs) ≡ length (own_by s cs) + length (drained_by s cs)
 unfolding all_integrated

@@ -12,8 +12,6 @@ use Rattle.woot.specs.declared.Operation.TheVariants.{Insert as insert, Toggle a
 use Rattle.answers.specs.declared.Refusal.{Refusal}
 use Rattle.answers.specs.declared.Answer.{Answer}
 use Rattle.answers.specs.declared.Answer.TheVariants.{Done, Deferred, Duplicate, Refused}
-use Rattle.woot.specs.declared.Sent.{Sent}
-use Rattle.woot.specs.declared.Sent.TheVariants.{Done as sentDone, Refused as sentRefused}
 use Rattle.woot.specs.State.{State}
 use Rattle.woot.specs.Pending.{executable}
 use Rattle.woot.specs.Form.{well_formed}
@@ -26,6 +24,8 @@ use Rattle.lists.proofs.Tests.{some-eq, no-some}
 use Rattle.convergence.proofs.Steps.{All}
 use Rattle.convergence.specs.Theorems.{ReceiveRefuses, ReceiveKnows, InsertRefuses, DeleteRefuses, RestoreRefuses, RefusedUnchanged, KnownUnchanged}
 use Rattle.convergence.specs.Cursors.{ReceiveAtRefuses, ReceiveAtKnows}
+use Rattle.std.proofs.Common.{Ok, Err}
+use Rattle.woot.specs.Sent.{Sending, sends}
 
 module _ {A : Type 0} where
   pub first_reported : (cs : List (Check A)) (a : A) → first cs ≡ some a → Reported a cs
@@ -88,7 +88,7 @@ module _ {A : Type 0} {a : A} where
 pub other : {r q : Refusal} → (number r ≡ number q → ⊥) → Refused r ≡ Refused q → ⊥
 other {r} {q} f e = f (ap number {x = r} {y = q} (let k = e in cc))
 
-pub other-sent : {r q : Refusal} → (number r ≡ number q → ⊥) → sentRefused r ≡ sentRefused q → ⊥
+pub other-sent : {r q : Refusal} → (number r ≡ number q → ⊥) → ◌≡◌ {A = Sending} (Err r) (Err q) → ⊥
 other-sent {r} {q} f e = f (ap number {x = r} {y = q} (let k = e in cc))
 
 -- what is done where no condition holds answers done or waits
@@ -116,7 +116,7 @@ unfolding Accepted
 accept-never-known s o e = subst Accepted e (accept-accepted s o)
 
 -- a call that sends answers no refusal where it is done
-sent-never-refused : {o : Operation} {n m : ℕ} (r : Refusal) → sentDone o n m ≡ sentRefused r → ⊥
+sent-never-refused : {o : Operation} {n m : ℕ} (r : Refusal) → sends o n m ≡ Err r → ⊥
 sent-never-refused r e = let z : ◌≡◌ {A = ℕ} 0 1 = cc in omega arith
 
 pub receive_refuses : ReceiveRefuses
@@ -137,35 +137,35 @@ receive-at-knows formed s o g = answered_exactly s (receive_at_checks formed s o
 
 pub insert_refuses : InsertRefuses
 unfolding local_insert_when send_insert carry_out
-insert_refuses formed s g n r = answered_exactly s (insert_checks formed s g n) (send_insert s (generated_insert s g n)) (sentRefused r) (sent-never-refused r)
+insert_refuses formed s g n r = answered_exactly s (insert_checks formed s g n) (send_insert s (generated_insert s g n)) (Err r) (sent-never-refused r)
 
 pub delete_refuses : DeleteRefuses
 unfolding local_delete_when send_toggle carry_out
-delete_refuses formed s p r = answered_exactly s (delete_checks formed s p) (send_toggle s (generated_delete s p)) (sentRefused r) (sent-never-refused r)
+delete_refuses formed s p r = answered_exactly s (delete_checks formed s p) (send_toggle s (generated_delete s p)) (Err r) (sent-never-refused r)
 
 pub restore_refuses : RestoreRefuses
 unfolding local_restore_when send_toggle carry_out
-restore_refuses formed s x r = answered_exactly s (restore_checks formed s x) (send_toggle s (generated_toggle s x)) (sentRefused r) (sent-never-refused r)
+restore_refuses formed s x r = answered_exactly s (restore_checks formed s x) (send_toggle s (generated_toggle s x)) (Err r) (sent-never-refused r)
 
 -- an answer without its operation is a refusal only of that refusal, and never known
-pub answer-refused : (a : Sent) (r : Refusal) → answer_of a ≡ Refused r → a ≡ sentRefused r
+pub answer-refused : (a : Sending) (r : Refusal) → answer_of a ≡ Refused r → a ≡ Err r
 unfolding answer_of
-answer-refused (sentDone o n m) r e = absurd (let z : ◌≡◌ {A = ℕ} 0 1 = cc in omega arith)
-answer-refused (sentRefused q) r e = cc
+answer-refused (Ok x) r e = absurd (let z : ◌≡◌ {A = ℕ} 0 1 = cc in omega arith)
+answer-refused (Err q) r e = cc
 
-answer-known : (a : Sent) → answer_of a ≡ Duplicate → ⊥
+answer-known : (a : Sending) → answer_of a ≡ Duplicate → ⊥
 unfolding answer_of
-answer-known (sentDone o n m) e = let z : ◌≡◌ {A = ℕ} 0 1 = cc in omega arith
-answer-known (sentRefused q) e = let z : ◌≡◌ {A = ℕ} 0 1 = cc in omega arith
+answer-known (Ok x) e = let z : ◌≡◌ {A = ℕ} 0 1 = cc in omega arith
+answer-known (Err q) e = let z : ◌≡◌ {A = ℕ} 0 1 = cc in omega arith
 
 pub refused-unchanged : RefusedUnchanged
 unfolding outcome local_insert local_insert_when send_insert carry_out local_delete local_delete_when local_restore local_restore_when send_toggle receive receive_when receive_at receive_at_when answer_of unchanged
 refused-unchanged s (inserting g n) r e =
-    ap (with_answer answer_of) (decided-unchanged s (first (insert_checks (well_formed s) s g n)) (send_insert s (generated_insert s g n)) (sentRefused r) (sent-never-refused r) (answer-refused _ r e))
+    ap (with_answer answer_of) (decided-unchanged s (first (insert_checks (well_formed s) s g n)) (send_insert s (generated_insert s g n)) (Err r) (sent-never-refused r) (answer-refused _ r e))
 refused-unchanged s (deleting p) r e =
-    ap (with_answer answer_of) (decided-unchanged s (first (delete_checks (well_formed s) s p)) (send_toggle s (generated_delete s p)) (sentRefused r) (sent-never-refused r) (answer-refused _ r e))
+    ap (with_answer answer_of) (decided-unchanged s (first (delete_checks (well_formed s) s p)) (send_toggle s (generated_delete s p)) (Err r) (sent-never-refused r) (answer-refused _ r e))
 refused-unchanged s (restoring x) r e =
-    ap (with_answer answer_of) (decided-unchanged s (first (restore_checks (well_formed s) s x)) (send_toggle s (generated_toggle s x)) (sentRefused r) (sent-never-refused r) (answer-refused _ r e))
+    ap (with_answer answer_of) (decided-unchanged s (first (restore_checks (well_formed s) s x)) (send_toggle s (generated_toggle s x)) (Err r) (sent-never-refused r) (answer-refused _ r e))
 refused-unchanged s (receiving o) r e =
     decided-unchanged s (first (receive_checks (well_formed s) s o)) (accept s o) (Refused r) (accept-never-refused s o r) e
 refused-unchanged s (receiving_at o g) r e =

@@ -16,8 +16,6 @@ use Rattle.answers.specs.declared.Refusal.TheVariants.{Position, NotHidden, Last
 use Rattle.answers.specs.declared.Refusal.TheVariants.{DocumentFull, Output}
 use Rattle.answers.specs.declared.Answer.{Answer}
 use Rattle.answers.specs.declared.Answer.TheVariants.{Done, Deferred, Duplicate, Refused}
-use Rattle.woot.specs.declared.Sent.{Sent}
-use Rattle.woot.specs.declared.Sent.TheVariants.{Done as sentDone, Refused as sentRefused}
 use Rattle.woot.specs.State.{State}
 use Rattle.woot.specs.Pending.{executable}
 use Rattle.answers.specs.Answers.{number, highest_refusal, Word, done, waits, known, refused, reply, Check, first, NoneHolds, decided}
@@ -33,6 +31,8 @@ use Rattle.convergence.specs.Cursors.{ReceiveAtNumbers, ReceiveAtDoes, ReceiveAt
 use Rattle.convergence.proofs.Refusals.{receive_refuses, receive-at_refuses, insert_refuses, delete_refuses, restore_refuses, answer-refused}
 use Rattle.convergence.proofs.Steps.{first-none, All, first_some, Turned, receive-turned, receive-at-turned, Refusing, insert-turned}
 use Rattle.convergence.proofs.Steps.{delete_turned, restore_turned}
+use Rattle.std.proofs.Common.{Ok, Err}
+use Rattle.woot.specs.Sent.{Sending, sends}
 
 -- ---- by number
 
@@ -137,7 +137,7 @@ answer-number a r = (to a, λ e. rw e)
     to (Refused q) e = ap Refused (numbers_differ q r e)
 
 -- so has a sending call's
-sent-number : (a : Sent) (r : Refusal) → ((reply (answer_of a)).refusal ≡ number r) ↔ (a ≡ sentRefused r)
+sent-number : (a : Sending) (r : Refusal) → ((reply (answer_of a)).refusal ≡ number r) ↔ (a ≡ Err r)
 unfolding answer_of
 sent-number a r = (λ e. answer-refused a r ((answer-number (answer_of a) r).0 e), λ e. (answer-number (answer_of a) r).1 (ap answer_of e))
 
@@ -152,7 +152,7 @@ pub receive-at_numbers : ReceiveAtNumbers
 receive-at_numbers formed s o g r = answer_numbers (receive_at_when formed s o g).answer r (receive-at_refuses formed s o g r)
 
 -- and so of a sending call
-sent_numbers : {C : Type 0} (a : Sent) (r : Refusal) → ((a ≡ sentRefused r) ↔ C) → ((reply (answer_of a)).refusal ≡ number r) ↔ C
+sent_numbers : {C : Type 0} (a : Sending) (r : Refusal) → ((a ≡ Err r) ↔ C) → ((reply (answer_of a)).refusal ≡ number r) ↔ C
 sent_numbers a r b = let n = sent-number a r in (λ h. b.0 (n.0 h), λ h. n.1 (b.1 h))
 
 pub insert-numbers : InsertNumbers
@@ -253,51 +253,51 @@ receive-at-waits formed s o g = received-waits s o (receive_at_checks formed s o
 
 -- ---- the calls that send
 
-abbrev word_sent : Sent → Word
+abbrev word_sent : Sending → Word
 word_sent a = word_of (answer_of a)
 
 -- what no refusal has no check answers
-module _ {B : Type 0} (view : Sent → B) (v : B) (never : (r : Refusal) → view (sentRefused r) ≡ v → ⊥) where
-  all-refusing : (cs : List (Check Sent)) → All Refusing cs → All (λ a. view a ≡ v → ⊥) cs
+module _ {B : Type 0} (view : Sending → B) (v : B) (never : (r : Refusal) → view (Err r) ≡ v → ⊥) where
+  all-refusing : (cs : List (Check Sending)) → All Refusing cs → All (λ a. view a ≡ v → ⊥) cs
   all-refusing [] t = tt
   all-refusing (c ∷ cs) t = (refusing c.answer t.0, all-refusing cs t.1)
     where
-      refusing : (a : Sent) → Refusing a → view a ≡ v → ⊥
-      refusing (sentDone o n m) t e = t
-      refusing (sentRefused r) t e = never r e
+      refusing : (a : Sending) → Refusing a → view a ≡ v → ⊥
+      refusing (Ok x) t e = t
+      refusing (Err r) t e = never r e
 
-not_done : (r : Refusal) → word_sent (sentRefused r) ≡ done → ⊥
+not_done : (r : Refusal) → word_sent (Err r) ≡ done → ⊥
 unfolding answer_of reply
 not_done r e = let z : ◌≡◌ {A = ℕ} 0 1 = cc in omega arith
 
-not-sent : (o : Operation) (r : Refusal) → sent_operation (sentRefused r) ≡ some o → ⊥
+not-sent : (o : Operation) (r : Refusal) → sent_operation (Err r) ≡ some o → ⊥
 unfolding sent_operation
 not-sent o r e = no-some e
 
 -- what is sent is done, and is what was made
-sent-done : (s : State) (o : Operation) → word_sent (carry_out (sentDone o) s o).answer ≡ done
+sent-done : (s : State) (o : Operation) → word_sent (carry_out (sends o) s o).answer ≡ done
 unfolding carry_out answer_of reply
 sent-done s (insert i) = refl
 sent-done s (toggle d) = refl
 
-sent-itself : (s : State) (o : Operation) → sent_operation (carry_out (sentDone o) s o).answer ≡ some o
+sent-itself : (s : State) (o : Operation) → sent_operation (carry_out (sends o) s o).answer ≡ some o
 unfolding carry_out sent_operation
 sent-itself s (insert i) = refl
 sent-itself s (toggle d) = refl
 
 -- a call that sends o where none of its conditions holds
-module _ (s : State) (checks : List (Check Sent)) (refusing : All Refusing checks) (o : Operation) where
-  abbrev sending : Outcome Sent
-  sending = decided (unchanged s) (first checks) (carry_out (sentDone o) s o)
+module _ (s : State) (checks : List (Check Sending)) (refusing : All Refusing checks) (o : Operation) where
+  abbrev sending : Outcome Sending
+  sending = decided (unchanged s) (first checks) (carry_out (sends o) s o)
 
   sent_does : (word_sent sending.answer ≡ done) ↔ NoneHolds checks
   sent_does =
-      let w = done_exactly word_sent done s checks (carry_out (sentDone o) s o) (all-refusing word_sent done not_done checks refusing) in
+      let w = done_exactly word_sent done s checks (carry_out (sends o) s o) (all-refusing word_sent done not_done checks refusing) in
       (λ h. (w.0 h).0, λ h. w.1 (h, sent-done s o))
 
   sent-sends : (p : Operation) → (sent_operation sending.answer ≡ some p) ↔ (NoneHolds checks × (o ≡ p))
   sent-sends p =
-      let w = done_exactly sent_operation (some p) s checks (carry_out (sentDone o) s o) (all-refusing sent_operation (some p) (not-sent p) checks refusing) in
+      let w = done_exactly sent_operation (some p) s checks (carry_out (sends o) s o) (all-refusing sent_operation (some p) (not-sent p) checks refusing) in
       (λ h. ((w.0 h).0, some-eq (sym (sent-itself s o) ∙ (w.0 h).1)), λ h. w.1 (h.0, sent-itself s o ∙ ap some h.1))
 
 pub insert_does : InsertDoes

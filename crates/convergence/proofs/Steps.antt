@@ -21,8 +21,6 @@ use Rattle.woot.specs.declared.Character.{Character}
 use Rattle.answers.specs.declared.Refusal.TheVariants.{Position}
 use Rattle.answers.specs.declared.Answer.{Answer}
 use Rattle.answers.specs.declared.Answer.TheVariants.{Done, Deferred, Duplicate, Refused}
-use Rattle.woot.specs.declared.Sent.{Sent}
-use Rattle.woot.specs.declared.Sent.TheVariants.{Done as sentDone, Refused as sentRefused}
 use Rattle.woot.specs.Limits.{last_clock, capacity, share}
 use Rattle.woot.specs.Identifiers.{begin, end, same}
 use Rattle.woot.specs.Operations.{sender, origin, inserts, toggles_among, same_insert, same_toggle, same_operation}
@@ -54,6 +52,8 @@ use Rattle.convergence.proofs.Drains.{Draining, draining}
 use Rattle.convergence.proofs.Draining.{in_every, integrated_every}
 use Rattle.convergence.proofs.Soundness.{Unused, standing, any_left}
 use Rattle.convergence.proofs.Pointing.{receive-at_else}
+use Rattle.std.proofs.Common.{Ok, Err}
+use Rattle.woot.specs.Sent.{Sending}
 
 -- an answer by which nothing is changed
 abbrev pub Turned : Answer → Type 0
@@ -248,14 +248,14 @@ receive-at-turned formed s o g = (tt, (tt, (tt, (tt, (tt, (tt, (tt, (tt, (tt, tt
 -- ---- typing
 
 -- the answer of a refused call that sends
-abbrev pub Refusing : Sent → Type 0
-Refusing (sentDone o n m) = ⊥
-Refusing (sentRefused r) = Unit
+abbrev pub Refusing : Sending → Type 0
+Refusing (Ok x) = ⊥
+Refusing (Err r) = Unit
 
-refusing-turned : (a : Sent) → Refusing a → Turned (answer_of a)
+refusing-turned : (a : Sending) → Refusing a → Turned (answer_of a)
 unfolding answer_of
-refusing-turned (sentDone _ _ _) w = elim w [ ]
-refusing-turned (sentRefused r) w = tt
+refusing-turned (Ok x) w = elim w [ ]
+refusing-turned (Err r) w = tt
 
 pub insert-turned : (formed : Bool) (s : State) (g n : ℕ) → All Refusing (insert_checks formed s g n)
 unfolding insert_checks
@@ -385,12 +385,12 @@ generated-step s g n w = generated_addable (well_formed s) s g n (formed s (not-
 
 -- ---- every call
 
-insert-step : (s : State) (g n : ℕ) (m : Option Sent) → first (insert_checks (well_formed s) s g n) ≡ m → Step s (with_answer answer_of (decided (unchanged s) m (send_insert s (generated_insert s g n))))
+insert-step : (s : State) (g n : ℕ) (m : Option Sending) → first (insert_checks (well_formed s) s g n) ≡ m → Step s (with_answer answer_of (decided (unchanged s) m (send_insert s (generated_insert s g n))))
 unfolding decided unchanged send_insert carry_out insert_carried answer_of after_drain
 insert-step s g n none e = drained_added s (generated_insert s g n) (generated-step s g n (first-none (insert_checks (well_formed s) s g n) e))
 insert-step s g n (some a) e = turned (answer_of a) (refusing-turned a (first_some Refusing (insert_checks (well_formed s) s g n) (insert-turned (well_formed s) s g n) a e))
 
-delete_step : (s : State) (p : ℕ) (m : Option Sent) → first (delete_checks (well_formed s) s p) ≡ m → Step s (with_answer answer_of (decided (unchanged s) m (send_toggle s (generated_delete s p))))
+delete_step : (s : State) (p : ℕ) (m : Option Sending) → first (delete_checks (well_formed s) s p) ≡ m → Step s (with_answer answer_of (decided (unchanged s) m (send_toggle s (generated_delete s p))))
 unfolding decided unchanged send_toggle answer_of carry_out delete_checks
 delete_step s p none e =
     let w = first-none (delete_checks (well_formed s) s p) e in
@@ -398,7 +398,7 @@ delete_step s p none e =
     raises (generated_delete s p) (record { formed = form; ranged = delete_ranged s form p w.1.0; ready = delete_ready s form p w.1.0 })
 delete_step s p (some a) e = turned (answer_of a) (refusing-turned a (first_some Refusing (delete_checks (well_formed s) s p) (delete_turned (well_formed s) s p) a e))
 
-restore_step : (s : State) (x : Identifier) (m : Option Sent) → first (restore_checks (well_formed s) s x) ≡ m → Step s (with_answer answer_of (decided (unchanged s) m (send_toggle s (generated_toggle s x))))
+restore_step : (s : State) (x : Identifier) (m : Option Sending) → first (restore_checks (well_formed s) s x) ≡ m → Step s (with_answer answer_of (decided (unchanged s) m (send_toggle s (generated_toggle s x))))
 unfolding decided unchanged send_toggle answer_of carry_out restore_checks
 restore_step s x none e =
     let w = first-none (restore_checks (well_formed s) s x) e in

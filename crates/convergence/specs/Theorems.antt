@@ -1,5 +1,5 @@
 -- The promises about the rules, each proved in proofs/ under its name in small letters.
-use Rattle.std.specs.Prelude.{ℕ, ◌+◌, ◌≤◌, ◌≡◌, Bool, true, false, ◌||◌, cond, ◌↔◌, ◌⊎◌, length}
+use Rattle.std.specs.Prelude.{ℕ, ◌+◌, ◌≤◌, ◌≡◌, Bool, true, false, ◌||◌, cond, ◌↔◌, ◌⊎◌, length, Ok, Err}
 use Rattle.std.proofs.Math.Option.{Option, none, some}
 use mathlib.Core.List.{List, [], ◌∷◌, map, Memᴰ}
 use Rattle.woot.specs.declared.Identifier.{Identifier}
@@ -11,9 +11,7 @@ use Rattle.woot.specs.declared.Character.{Character}
 use Rattle.answers.specs.declared.Refusal.{Refusal}
 use Rattle.answers.specs.declared.Refusal.TheVariants.{Unplaceable, SenderFull, DocumentFull}
 use Rattle.answers.specs.declared.Answer.TheVariants.{Deferred, Duplicate, Refused}
-use Rattle.woot.specs.declared.Sent.TheVariants.{Refused as sentRefused}
-use Rattle.woot.specs.declared.Written.{Written}
-use Rattle.woot.specs.declared.Written.TheVariants.{Length, Refused as writtenRefused}
+use Rattle.woot.specs.Writing.{Written}
 use Rattle.output.specs.Output.{placed}
 use Rattle.woot.specs.Identifiers.{same}
 use Rattle.woot.specs.Operations.{sender, origin, with_toggles, inserts}
@@ -80,17 +78,17 @@ ReceiveKnows =
 abbrev pub InsertRefuses : Type 0
 InsertRefuses =
     (formed : Bool) (s : State) (g n : ℕ) (r : Refusal) →
-    ((local_insert_when formed s g n).answer ≡ sentRefused r) ↔ Reported (sentRefused r) (insert_checks formed s g n)
+    ((local_insert_when formed s g n).answer ≡ Err r) ↔ Reported (Err r) (insert_checks formed s g n)
 
 abbrev pub DeleteRefuses : Type 0
 DeleteRefuses =
     (formed : Bool) (s : State) (p : ℕ) (r : Refusal) →
-    ((local_delete_when formed s p).answer ≡ sentRefused r) ↔ Reported (sentRefused r) (delete_checks formed s p)
+    ((local_delete_when formed s p).answer ≡ Err r) ↔ Reported (Err r) (delete_checks formed s p)
 
 abbrev pub RestoreRefuses : Type 0
 RestoreRefuses =
     (formed : Bool) (s : State) (x : Identifier) (r : Refusal) →
-    ((local_restore_when formed s x).answer ≡ sentRefused r) ↔ Reported (sentRefused r) (restore_checks formed s x)
+    ((local_restore_when formed s x).answer ≡ Err r) ↔ Reported (Err r) (restore_checks formed s x)
 
 -- no two refusals have one number
 abbrev pub NumbersDiffer : Type 0
@@ -106,19 +104,19 @@ abbrev pub InsertNumbers : Type 0
 InsertNumbers =
     (formed : Bool) (s : State) (g n : ℕ) (r : Refusal) →
     ((reply (answer_of (local_insert_when formed s g n).answer)).refusal ≡ number r)
-    ↔ Reported (sentRefused r) (insert_checks formed s g n)
+    ↔ Reported (Err r) (insert_checks formed s g n)
 
 abbrev pub DeleteNumbers : Type 0
 DeleteNumbers =
     (formed : Bool) (s : State) (p : ℕ) (r : Refusal) →
     ((reply (answer_of (local_delete_when formed s p).answer)).refusal ≡ number r)
-    ↔ Reported (sentRefused r) (delete_checks formed s p)
+    ↔ Reported (Err r) (delete_checks formed s p)
 
 abbrev pub RestoreNumbers : Type 0
 RestoreNumbers =
     (formed : Bool) (s : State) (x : Identifier) (r : Refusal) →
     ((reply (answer_of (local_restore_when formed s x).answer)).refusal ≡ number r)
-    ↔ Reported (sentRefused r) (restore_checks formed s x)
+    ↔ Reported (Err r) (restore_checks formed s x)
 
 -- receiving answers done exactly when no condition holds and everything needed is held
 abbrev pub ReceiveDoes : Type 0
@@ -206,15 +204,15 @@ KnownUnchanged = (s : State) (c : Call) → (outcome s c).answer ≡ Duplicate �
 abbrev pub WritingRefuses : Type 0
 WritingRefuses =
     (own : List (Check Written)) (bytes out : List ℕ) (r : Refusal) →
-    ((written_as own bytes out ≡ writtenRefused r) ↔ Reported (writtenRefused r) (writing_checks own bytes out))
-    × ((written_number (written_as own bytes out) ≡ number r) ↔ Reported (writtenRefused r) (writing_checks own bytes out))
-    × (written_as own bytes out ≡ writtenRefused r → output_after own bytes out ≡ out)
+    ((written_as own bytes out ≡ Err r) ↔ Reported (Err r) (writing_checks own bytes out))
+    × ((written_number (written_as own bytes out) ≡ number r) ↔ Reported (Err r) (writing_checks own bytes out))
+    × (written_as own bytes out ≡ Err r → output_after own bytes out ≡ out)
 
 -- and writes, and answers the length, where no condition holds
 abbrev pub WritingWrites : Type 0
 WritingWrites =
     (own : List (Check Written)) (bytes out : List ℕ) → NoneHolds (writing_checks own bytes out) →
-    (written_as own bytes out ≡ Length (length bytes)) × (output_after own bytes out ≡ placed out 0 bytes)
+    (written_as own bytes out ≡ Ok (length bytes)) × (output_after own bytes out ≡ placed out 0 bytes)
 
 -- ---- the form, on any state in form
 

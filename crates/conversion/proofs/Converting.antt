@@ -1,4 +1,5 @@
 -- What was read decides, in the order of the conditions; in form, the replica that was read means the state that is written.
+use Rattle.std.proofs.Common.{Err, Ok}
 use mathlib.Core.Path.{◌≡◌, sym, ap, ◌∙◌}
 use mathlib.Core.List.{List, [], map}
 use mathlib.Core.Bool.{Bool, true, false}
@@ -6,11 +7,9 @@ use mathlib.Core.Logic.{⊎_elim}
 use Prim.Native.Nat.{ℕ}
 use Rattle.answers.specs.declared.Refusal.{Refusal}
 use Rattle.answers.specs.declared.Refusal.TheVariants.{Form, Unrepresentable}
-use Rattle.woot.specs.declared.Written.TheVariants.{Refused as writtenRefused}
 use Rattle.woot.specs.Memory.{meaning, replica_well_formed, toggle_counts, own_key, value_of}
 use Rattle.woot.specs.Form.{well_formed}
 use Rattle.woot.specs.Writing.{written_as, output_after}
-use Rattle.saved.specs.declared.LoadAnswer.TheVariants.{Done, Refused}
 use Rattle.saved.specs.declared.Loaded.{Loaded}
 use Rattle.saved.specs.declared.Version.{Version}
 use Rattle.saved.specs.Format.{representable, bytes_as}
@@ -34,18 +33,18 @@ use Rattle.memory.specs.Columns as columns
 module _ (v w : Version) (s out : List ℕ) where
   -- an answer that leaves the slice, and one that fills it
   abbrev Turned : Refusal → Type 0
-  Turned q = (writtenRefused q ≡ converted v w s out) × (out ≡ converted_out v w s out)
+  Turned q = (Err q ≡ converted v w s out) × (out ≡ converted_out v w s out)
 
   abbrev Filled : List ℕ → Type 0
   Filled bytes = (written_as [] bytes out ≡ converted v w s out) × (output_after [] bytes out ≡ converted_out v w s out)
 
   module _ (x : Loaded) (e : x ≡ saved_read v s) where
-    pub not-read : (q : Refusal) → x.answer ≡ Refused q → Turned q
+    pub not-read : (q : Refusal) → x.answer ≡ Err q → Turned q
     not-read q h =
         ⊎_elim (λ r. rw r.1 (lacks-layout v w s out r.0)) (λ r. rw r.2 (out_of_range_lem v w s out r.0 r.1))
         (refused_for v s x e q h)
 
-    module _ (h : x.answer ≡ Done) where
+    module _ (h : x.answer ≡ Ok tt) where
       pub not-formed : replica_well_formed x.replica ≡ false → Turned Form
       not-formed p =
           let b = both v s x e h in

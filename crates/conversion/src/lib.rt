@@ -12,20 +12,18 @@ ghost use Rattle.saved.specs.Conversion.{converted, converted_out, upgraded, upg
 ghost use Rattle.conversion.specs.Columns.{count_within, numbers_within};
 
 use answers::Refusal;
-use saved::{LoadAnswer, Version};
-use woot::{PENDING, PENDING_NUMBERS, VALUES, Written};
+use saved::Version;
+use woot::{PENDING, PENDING_NUMBERS, VALUES};
 
 // Whether no count of the first n is above 1.
 fn characters_within(toggles: &[u8], n: usize) -> bool
     requires { n ≤ length toggles.now }
     ensures { result ≡ throughout (λ i. count_within (get_or toggles.now i 0)) n }
 {
-    let mut i = 0;
-    while i < n {
+    for i in 0..n {
         if 1 < toggles[i] {
             return false;
         }
-        i += 1;
     }
     true
 }
@@ -35,10 +33,7 @@ fn characters_within(toggles: &[u8], n: usize) -> bool
 fn operation_within(own: u32, value: u32) -> bool
     ensures { result ≡ numbers_within own value }
 {
-    if own != 0 {
-        return true;
-    }
-    value % 256 <= 1
+    own != 0 || value % 256 <= 1
 }
 
 // Whether it can say each of the first w.
@@ -48,12 +43,10 @@ fn pending_within<'a>(own: &'a [u32], values: &'a [u32], w: usize) -> bool
     ensures { result
         ≡ throughout (λ j. numbers_within (get_or own.now j 0) (get_or values.now j 0)) w }
 {
-    let mut j = 0;
-    while j < w {
+    for j in 0..w {
         if !operation_within(own[j], values[j]) {
             return false;
         }
-        j += 1;
     }
     true
 }
@@ -68,10 +61,8 @@ fn within_first<'a>(toggles: &'a [u8], n: usize, pending: &'a [u32], w: usize) -
         → map value_of s.pending ≡ take w (value_column pending.now)
         → every in_range s.pending ≡ true → result ≡ representable Version.First s }
 {
-    if !characters_within(toggles, n) {
-        return false;
-    }
-    pending_within(&pending[..PENDING], &pending[VALUES..PENDING_NUMBERS], w)
+    characters_within(toggles, n)
+        && pending_within(&pending[..PENDING], &pending[VALUES..PENDING_NUMBERS], w)
 }
 
 // Whether a form can say a document, of its lent arrays.
@@ -97,51 +88,34 @@ fn is_representable<'a>(
 }
 
 // Reads a saved replica in one form and writes it in the other. A refused call leaves every byte as it was.
-fn convert(from: Version, to: Version, bytes: &[u8], out: &mut [u8]) -> Written
+fn convert(from: Version, to: Version, bytes: &[u8], out: &mut [u8]) -> Result<usize, Refusal>
     ensures value { result ≡ converted from to bytes.now out.old }
     ensures out_after { out.new ≡ converted_out from to bytes.now out.old }
 {
     let found = loading::read_as(from, bytes);
     let answer = found.answer;
-    if let LoadAnswer::Refused(reason) = answer {
-        return Written::Refused(reason);
+    if let Err(reason) = answer {
+        return Err(reason);
     }
     let replica = found.replica;
-    if !well_formed::check(
-        replica.site,
-        &replica.document.characters,
-        &replica.document.toggles,
-        replica.document.length,
-        &replica.document.pending,
-        replica.document.waiting,
-        &replica.document.table.heads,
-        &replica.document.table.links,
-    ) {
-        return Written::Refused(Refusal::Form);
+    if !well_formed::is_well_formed(&replica) {
+        return Err(Refusal::Form);
     }
+    let document = &replica.document;
     if !is_representable(
         to,
-        &replica.document.toggles,
-        replica.document.length,
-        &replica.document.pending,
-        replica.document.waiting,
+        &document.toggles,
+        document.length,
+        &document.pending,
+        document.waiting,
     ) {
-        return Written::Refused(Refusal::Unrepresentable);
+        return Err(Refusal::Unrepresentable);
     }
-    saving::put_replica(
-        to,
-        replica.site,
-        &replica.document.characters,
-        &replica.document.toggles,
-        replica.document.length,
-        &replica.document.pending,
-        replica.document.waiting,
-        out,
-    )
+    saving::write_replica(to, &replica, out)
 }
 
 // Writes in the second form what is saved in the first, its clock raised as in loading.
-pub fn upgrade(bytes: &[u8], out: &mut [u8]) -> Written
+pub fn upgrade(bytes: &[u8], out: &mut [u8]) -> Result<usize, Refusal>
     ensures value { result ≡ upgraded bytes.now out.old }
     ensures out_after { out.new ≡ upgraded_out bytes.now out.old }
 {
@@ -149,7 +123,7 @@ pub fn upgrade(bytes: &[u8], out: &mut [u8]) -> Written
 }
 
 // Writes in the first form what is saved in the second, its clock raised as in loading.
-pub fn downgrade(bytes: &[u8], out: &mut [u8]) -> Written
+pub fn downgrade(bytes: &[u8], out: &mut [u8]) -> Result<usize, Refusal>
     ensures value { result ≡ downgraded bytes.now out.old }
     ensures out_after { out.new ≡ downgraded_out bytes.now out.old }
 {

@@ -20,7 +20,7 @@ use Rattle.woot.specs.Cursor.{left_of, through, visible_through}
 use Rattle.woot.specs.Table.{key, keys}
 use Rattle.woot.specs.Memory.{identifier, characters_of, toggle_counts}
 use Rattle.memory.proofs.Characters.{key-identifier, identifier-small, rows-length, rows-toggles}
-use Rattle.index.specs.declared.Found.TheVariants.{At, Nothing}
+use Rattle.std.proofs.Common.{Some, None}
 use Rattle.index.specs.Keys.{AllSmall, found, place_in}
 use Rattle.index.proofs.Keys.{key-begin}
 use Rattle.index.proofs.Indices.{place-keys}
@@ -41,13 +41,13 @@ module _ (cs : List Character) (g : ℕ) where
   top_anchor e = anchor 0 (rw e (sym key-begin)) (sym (le-ltb (length (visibles cs)) g (omega (arith, e))))
 
   module _ (some : g ≡ 0 → ⊥) where
-    pub found_anchor : (ids : List ℕ) (n i : ℕ) → keys cs ≡ take n ids → nth_index is_visible cs (g - 1) ≡ At i → i < n
+    pub found_anchor : (ids : List ℕ) (n i : ℕ) → keys cs ≡ take n ids → nth_index is_visible cs (g - 1) ≡ Some i → i < n
         → record { left = get_or ids i 0; beyond = false } ≡ anchor_of cs g
     found_anchor ids n i e f h =
         anchor (get_or ids i 0) (slot-key cs ids n (g - 1) i 0 e f h ∙ left_key (visibles cs) g some)
         (sym (le-ltb (length (visibles cs)) g (omega (arith, (nth-says is_visible cs (g - 1) f).counted, visibles-length cs))))
 
-    pub no_anchor : nth_index is_visible cs (g - 1) ≡ Nothing → record { left = 0; beyond = true } ≡ anchor_of cs g
+    pub no_anchor : nth_index is_visible cs (g - 1) ≡ None → record { left = 0; beyond = true } ≡ anchor_of cs g
     no_anchor f =
         anchor 0 (key-none cs (g - 1) 0 f ∙ left_key (visibles cs) g some)
         (sym (lt-ltb (length (visibles cs)) g (omega (arith, nth-says is_visible cs (g - 1) f, visibles-length cs, some))))
@@ -60,11 +60,11 @@ module _ (ks : List ℕ) (k : ℕ) {n : ℕ} (many : length ks ≡ n) where
   through-begin e = omega (arith, begin-place ks k e)
 
   module _ (some : k ≡ 0 → ⊥) where
-    pub through-found : (i : ℕ) → found k ks ≡ At i → i + 1 ≡ min (place_in ks k) n
+    pub through-found : (i : ℕ) → found k ks ≡ Some i → i + 1 ≡ min (place_in ks k) n
     unfolding found
     through-found i e = omega (arith, later-place ks k some e, (first_says (λ x. eqb k x) ks e).within, many)
 
-    pub through-all : found k ks ≡ Nothing → n ≡ min (place_in ks k) n
+    pub through-all : found k ks ≡ None → n ≡ min (place_in ks k) n
     through-all e = omega (arith, later-place ks k some e, many)
 
 -- so many are visible

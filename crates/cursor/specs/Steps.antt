@@ -16,9 +16,9 @@ use Rattle.reception.specs.declared.Decision.{Decision}
 use Rattle.reception.specs.declared.Decision.TheVariants.{Answered, Defer, Place, Toggle as toggleAt}
 use Rattle.reception.specs.Decisions.{outcome_of, Feasible}
 use Rattle.cursor.specs.declared.Anchor.{Anchor}
-use Rattle.replica.specs.Outcomes.{replica_lent}
 use Rattle.cursor.specs.declared.Judgement.{Judgement}
 use Rattle.cursor.specs.declared.ReceivedAt.{ReceivedAt}
+use Rattle.woot.specs.declared.Replica.{Replica as InMemory}
 
 -- the key of what stands on the left of gap g, and whether the gap is beyond the visible characters
 unfoldable pub anchor_of : List Character → ℕ → Anchor
@@ -50,11 +50,6 @@ pub record JudgedAt (r : Replica) (o : Operation) (g : ℕ) (j : Judgement) : Ty
   pub feasible : Feasible r o j.decision
   pub left : replica_well_formed r ≡ true → j.left ≡ key (left_of (meaning r).characters g)
 
--- what lies in lent arrays and beside them once an operation was received
-abbrev pub receipt_in : List ℕ → List ℕ → List ℕ → List ℕ → List ℕ → ReceivedAt → ReceiptAt
-receipt_in characters toggles pending heads links x =
-    record {
-      answer = x.answer;
-      replica = replica_lent x.site characters toggles x.length pending x.waiting heads links;
-      shift = x.shift;
-    }
+-- what receiving with a cursor answers, with the replica that is left
+abbrev pub receipt_in : InMemory → ReceivedAt → ReceiptAt
+receipt_in r x = record { answer = x.answer; replica = r; shift = x.shift }

@@ -12,18 +12,16 @@ ghost use Rattle.woot.specs.Table.{keys};
 ghost use Rattle.woot.specs.Memory.{identifier, toggle_counts, character_numbers, character_slots};
 ghost use Rattle.woot.specs.Replicas.{received_at};
 ghost use Rattle.index.specs.Keys.{AllSmall, place_in};
-ghost use Rattle.memory.specs.Lent.{replica_as, Sized};
+ghost use Rattle.memory.specs.Lent.{viewed, Full};
 ghost use Rattle.cursor.specs.Bits.{shift_bits};
-ghost use Rattle.replica.specs.Outcomes.{replica_lent};
 ghost use Rattle.cursor.specs.Steps.{anchor_of, answer_at, overruled, JudgedAt, receipt_in};
 
 use answers::{Answer, Refusal};
-use index::Found;
 use reception::Decision;
-use woot::{CHARACTERS, Document, Operation, ReceiptAt, Replica, Site, Table};
+use woot::{CHARACTERS, Operation, ReceiptAt, Replica};
 
 // What a cursor keeps to: the key of the visible character on its left, or of the begin mark. And whether there is such
-// an insertion point at all.
+// an insertion point at all. It stays a struct: `anchor_of` promises the key of a point that is beyond, too.
 #[derive(Clone, Copy)]
 pub struct Anchor {
     pub left: u32,
@@ -44,11 +42,11 @@ fn anchored<'a>(ids: &'a [u32], toggles: &'a [u8], n: usize, point: usize) -> An
         };
     }
     match visible::nth(toggles, n, point - 1) {
-        Found::At(i) => Anchor {
+        Some(i) => Anchor {
             left: ids[i],
             beyond: false,
         },
-        Found::Nothing => Anchor {
+        None => Anchor {
             left: 0,
             beyond: true,
         },
@@ -96,28 +94,15 @@ pub struct Judgement {
     pub left: u32,
 }
 
-// Internal step: what is to be done with an operation that is received with a cursor at the insertion point. The calls
-// lend arrays of these sizes.
-pub fn judge_at<'a>(
-    site: Site,
-    characters: &'a [u32],
-    toggles: &'a [u8],
-    n: usize,
-    pending: &'a [u32],
-    w: usize,
-    heads: &'a [u16],
-    links: &'a [u16],
-    operation: Operation,
-    point: usize,
-) -> Judgement
-    requires { Sized characters.now toggles.now pending.now heads.now links.now }
-    ensures { JudgedAt (replica_as site characters.now toggles.now n
-        pending.now w heads.now links.now) operation point result }
+// Internal step: what is to be done with an operation that a replica receives with a cursor at the insertion point.
+pub fn judge_at(replica: &Replica, operation: Operation, point: usize) -> Judgement
+    requires { Full replica.now }
+    ensures { JudgedAt (viewed replica.now) operation point result }
 {
-    let judged = reception::judge(
-        site, characters, toggles, n, pending, w, heads, links, operation,
-    );
-    let anchor = anchored(characters, toggles, index::lesser(n, CHARACTERS), point);
+    let judged = reception::decide(replica, operation);
+    let document = &replica.document;
+    let n = index::lesser(document.length, CHARACTERS);
+    let anchor = anchored(&document.characters, &document.toggles, n, point);
     Judgement {
         decision: overrule(judged, anchor.beyond),
         left: anchor.left,
@@ -135,8 +120,8 @@ fn through(ids: &[u32], n: usize, key: u32) -> usize
     }
     let held = &ids[..n];
     match index::find(held, key) {
-        Found::At(i) => i + 1,
-        Found::Nothing => n,
+        Some(i) => i + 1,
+        None => n,
     }
 }
 
@@ -201,112 +186,50 @@ fn shift_with<'a>(
     shift(ids, toggles, n, left, point)
 }
 
-// What stands beside the arrays once an operation was received on them: the answer, how far the cursor moves, the site,
-// and how many characters and pending operations there are.
+// What receiving with a cursor answers, and how far the cursor moves.
 #[derive(Clone, Copy)]
 pub struct ReceivedAt {
     pub answer: Answer,
     pub shift: i32,
-    pub site: Site,
-    pub length: usize,
-    pub waiting: usize,
 }
 
-// Internal step: carries out on lent arrays what was judged of an operation with the cursor at the insertion point. The
-// calls have judged on the same arrays.
+// Internal step: carries out on a replica what was judged of an operation with the cursor at the insertion point. The
+// calls have judged on the same replica.
 pub fn carry_at(
-    characters: &mut [u32],
-    toggles: &mut [u8],
-    pending: &mut [u32],
-    heads: &mut [u16],
-    links: &mut [u16],
-    site: Site,
-    n: usize,
-    w: usize,
+    replica: &mut Replica,
     operation: Operation,
     point: usize,
     judged: Judgement,
 ) -> ReceivedAt
-    requires sized { Sized characters.old toggles.old pending.old heads.old links.old }
-    requires judged_at { JudgedAt (replica_as site characters.old toggles.old n pending.old w heads.old links.old)
-        operation point judged }
-    ensures { receipt_in characters.new toggles.new pending.new
-        heads.new links.new result
-        ≡ received_at (replica_lent site characters.old toggles.old n pending.old w
-        heads.old links.old) operation point }
+    requires full { Full replica.old }
+    requires judged_at { JudgedAt (viewed replica.old) operation point judged }
+    ensures full_after { Full replica.new }
+    ensures value { receipt_in replica.new result ≡ received_at replica.old operation point }
 {
     let decision = judged.decision;
-    let carried = execution::carry(
-        characters, toggles, pending, heads, links, site, n, w, operation, decision,
-    );
-    let answer = execution::answer(decision, carried.integrated, carried.discarded);
+    let counts = execution::carry_out(replica, operation, decision);
+    let answer = execution::answer(decision, counts);
+    let document = &replica.document;
     let shift = shift_with(
-        characters,
-        toggles,
-        carried.length,
+        &document.characters,
+        &document.toggles,
+        document.length,
         answer,
         judged.left,
         point,
     );
-    let after = carried.site;
-    ReceivedAt {
-        answer,
-        shift,
-        site: after,
-        length: carried.length,
-        waiting: carried.waiting,
-    }
+    ReceivedAt { answer, shift }
 }
 
 // Receives an operation with the cursor at an insertion point, and says how far the cursor moves.
 pub fn receive_at(replica: Replica, operation: Operation, point: usize) -> ReceiptAt
     ensures { result ≡ received_at replica operation point }
 {
-    let mut characters = replica.document.characters;
-    let mut toggles = replica.document.toggles;
-    let mut pending = replica.document.pending;
-    let mut heads = replica.document.table.heads;
-    let mut links = replica.document.table.links;
-    let judged = judge_at(
-        replica.site,
-        &characters,
-        &toggles,
-        replica.document.length,
-        &pending,
-        replica.document.waiting,
-        &heads,
-        &links,
-        operation,
-        point,
-    );
-    let received = carry_at(
-        &mut characters,
-        &mut toggles,
-        &mut pending,
-        &mut heads,
-        &mut links,
-        replica.site,
-        replica.document.length,
-        replica.document.waiting,
-        operation,
-        point,
-        judged,
-    );
-    let answer = received.answer;
-    let site = received.site;
-    let document = Document {
-        characters,
-        toggles,
-        length: received.length,
-        pending,
-        waiting: received.waiting,
-        table: Table { heads, links },
-    };
     let mut after = replica;
-    after.site = site;
-    after.document = document;
+    let judged = judge_at(&after, operation, point);
+    let received = carry_at(&mut after, operation, point, judged);
     ReceiptAt {
-        answer,
+        answer: received.answer,
         replica: after,
         shift: received.shift,
     }

@@ -10,7 +10,8 @@ use lib.ListN.{length, take, get_or, length-append, get_or-append}
 use lib.Seq.{append_snoc}
 use lib.Dec.{leb, ltb, eqb}
 use borrow.Author.Tests.{lt-ltb, le-ltb, ltb-true, ltb-false, le-leb, leb-true, leb-false, ne_eqb, eqb-false, not-true}
-use Rattle.decimal.specs.declared.Field.TheVariants.{Number, Above, Malformed}
+use Rattle.std.specs.Prelude.{Ok, Err}
+use Rattle.decimal.specs.declared.Fault.TheVariants.{Above, Malformed}
 use Rattle.decimal.specs.Numeral.{is_digit, all_digits, leading_zero, is_numeral, value_from, value_of, digits_in, digits}
 use Rattle.decimal.specs.Answers.{field_of}
 use Rattle.decimal.specs.Theorems.{DigitsAreNumeral, DigitsReadBack, FieldReadsBack, NumeralWritesBack, FieldWritesBack, WidthByPower, WidthMonotone, DigitBytes}
@@ -220,32 +221,32 @@ clash : {A : Type 0} → ◌≡◌ {A = ℕ} 0 1 → A
 clash e = absurd (omega arith)
 
 -- what an answer tells of the bytes
-pub field-number : (s : List ℕ) (n limit : ℕ) → field_of s limit ≡ Number n → (is_numeral s ≡ true) × (n ≡ value_of s) × (n ≤ limit)
+pub field-number : (s : List ℕ) (n limit : ℕ) → field_of s limit ≡ Ok n → (is_numeral s ≡ true) × (n ≡ value_of s) × (n ≤ limit)
 unfolding field_of
 field-number s n limit e = go (is_numeral s) (leb (value_of s) limit) refl refl
   where
     go : (b c : Bool) → is_numeral s ≡ b → leb (value_of s) limit ≡ c → (is_numeral s ≡ true) × (n ≡ value_of s) × (n ≤ limit)
-    go true true p l = let q : Number (value_of s) ≡ Number n = rw (p, l) at e in
+    go true true p l = let q : Ok (value_of s) ≡ Ok n = rw (p, l) at e in
         let v : n ≡ value_of s = cc in (p, v, omega (arith, leb-true (value_of s) limit l))
-    go true false p l = let q : Above ≡ Number n = rw (p, l) at e in clash cc
-    go false c p l = let q : Malformed ≡ Number n = rw p at e in clash cc
+    go true false p l = let q : (Err Above) ≡ Ok n = rw (p, l) at e in clash cc
+    go false c p l = let q : (Err Malformed) ≡ Ok n = rw p at e in clash cc
 
-pub field-above : (s : List ℕ) (limit : ℕ) → field_of s limit ≡ Above → (is_numeral s ≡ true) × (limit < value_of s)
+pub field-above : (s : List ℕ) (limit : ℕ) → field_of s limit ≡ (Err Above) → (is_numeral s ≡ true) × (limit < value_of s)
 unfolding field_of
 field-above s limit e = go (is_numeral s) (leb (value_of s) limit) refl refl
   where
     go : (b c : Bool) → is_numeral s ≡ b → leb (value_of s) limit ≡ c → (is_numeral s ≡ true) × (limit < value_of s)
-    go true true p l = let q : Number (value_of s) ≡ Above = rw (p, l) at e in clash cc
+    go true true p l = let q : Ok (value_of s) ≡ (Err Above) = rw (p, l) at e in clash cc
     go true false p l = (p, leb-false (value_of s) limit l)
-    go false c p l = let q : Malformed ≡ Above = rw p at e in clash cc
+    go false c p l = let q : (Err Malformed) ≡ (Err Above) = rw p at e in clash cc
 
-pub field-malformed : (s : List ℕ) (limit : ℕ) → field_of s limit ≡ Malformed → is_numeral s ≡ false
+pub field-malformed : (s : List ℕ) (limit : ℕ) → field_of s limit ≡ (Err Malformed) → is_numeral s ≡ false
 unfolding field_of
 field-malformed s limit e = go (is_numeral s) (leb (value_of s) limit) refl refl
   where
     go : (b c : Bool) → is_numeral s ≡ b → leb (value_of s) limit ≡ c → is_numeral s ≡ false
-    go true true p l = let q : Number (value_of s) ≡ Malformed = rw (p, l) at e in cc
-    go true false p l = let q : Above ≡ Malformed = rw (p, l) at e in cc
+    go true true p l = let q : Ok (value_of s) ≡ (Err Malformed) = rw (p, l) at e in cc
+    go true false p l = let q : (Err Above) ≡ (Err Malformed) = rw (p, l) at e in cc
     go false c p l = p
 
 pub field-writes-back : FieldWritesBack

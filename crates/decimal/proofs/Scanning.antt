@@ -3,18 +3,19 @@
 use mathlib.Core.Path.{◌≡◌, refl, sym, ap, ◌∙◌}
 use mathlib.Core.List.{List, [], ◌∷◌, ◌++◌, append-nil, append_assoc}
 use mathlib.Core.Bool.{Bool, true, false, not, ◌&&◌, ◌||◌, cond}
-use Prim.Native.Nat.{ℕ, zero, suc, ◌+◌, ◌-◌, ◌*◌, ◌<◌, ◌≤◌}
+use Prim.Native.Nat.{ℕ, suc, ◌+◌, ◌-◌, ◌*◌, ◌<◌, ◌≤◌}
 use native.Mathlib.Numerals.{add-one}
 use native.Mathlib.Omega.{arith}
 use lib.Dec.{eqb, ltb, leb, eqb-suc-zero}
 use lib.ListN.{length, drop, get_or, drop_of_length-le, length-append}
 use lib.Seq.{drop-cons, get_or-drop}
-use borrow.Author.Tests.{le-leb, lt-leb, lt-ltb, le-ltb, ltb-true, ltb-false}
-use Rattle.decimal.specs.declared.Field.{Field}
-use Rattle.decimal.specs.declared.Field.TheVariants.{Number, Above, Malformed}
+use borrow.Author.Tests.{le-leb, lt-leb, lt-ltb, ltb-true, ltb-false}
+use Rattle.std.specs.Prelude.{Result, Ok, Err}
+use Rattle.decimal.specs.declared.Fault.{Fault}
+use Rattle.decimal.specs.declared.Fault.TheVariants.{Above, Malformed}
 use Rattle.decimal.specs.declared.Scanned.{Scanned}
 use Rattle.decimal.specs.Numeral.{is_digit, all_digits, leading_zero, is_numeral, value_of}
-use Rattle.decimal.specs.Answers.{field_of, digits_front, scan_of, field_by}
+use Rattle.decimal.specs.Answers.{field_of, digits_front, DigitAt, scan_of, field_by}
 use Rattle.decimal.proofs.Laws.{value-snoc}
 
 -- ---- the digits at the front
@@ -28,29 +29,6 @@ module _ (s : List ℕ) (i : ℕ) where
 
   pub no_byte : length s ≤ i → digits_front (drop i s) ≡ []
   no_byte h = rw (drop_of_length-le s {i = i} h)
-
-  -- whether there is one
-  pub some-digit : i < length s → is_digit (get_or s i 0) ≡ ltb 0 (length (digits_front (drop i s)))
-  some-digit h = go (is_digit (get_or s i 0)) refl
-    where
-      go : (b : Bool) → is_digit (get_or s i 0) ≡ b → b ≡ ltb 0 (length (digits_front (drop i s)))
-      go true e = rw (one-digit h e) (sym (lt-ltb 0 (suc (length (digits_front (drop (i + 1) s)))) (omega arith)))
-      go false e = rw (no_digit h e) refl
-
-  pub is-there : ltb 0 (length (digits_front (drop i s))) ≡ true → (i < length s) × (is_digit (get_or s i 0) ≡ true)
-  is-there e = go (ltb i (length s)) refl
-    where
-      go : (b : Bool) → ltb i (length s) ≡ b → (i < length s) × (is_digit (get_or s i 0) ≡ true)
-      go true t = let h = ltb-true i (length s) t in (h, some-digit h ∙ e)
-      go false t =
-          absurd (omega (arith, ltb-true 0 (length (digits_front (drop i s))) e, ap length (no_byte (ltb-false i (length s) t))))
-
-  pub none-there : ltb 0 (length (digits_front (drop i s))) ≡ false → digits_front (drop i s) ≡ []
-  none-there e = go (digits_front (drop i s)) (ltb-false 0 (length (digits_front (drop i s))) e)
-    where
-      go : (ds : List ℕ) → length ds ≤ 0 → ds ≡ []
-      go [] h = refl
-      go (d ∷ ds) h = absurd (omega arith)
 
 -- they are digits
 front-digits : (s : List ℕ) → all_digits (digits_front s) ≡ true
@@ -74,16 +52,16 @@ module _ (ds : List ℕ) (first value limit : ℕ) (above : Bool) (all : all_dig
       rw (lt-ltb 0 (suc (length ds)) (omega arith), eqb-suc-zero (length ds), all) (by (eqb first 48) (ltb 1 (suc (length ds))) above refl)
     where
       within : (b : Bool) → above ≡ b
-          → cond (b || ltb limit value) Above (Number value) ≡ cond (leb (value_of (first ∷ ds)) limit) (Number (value_of (first ∷ ds))) Above
+          → cond (b || ltb limit value) (Err Above) (Ok value) ≡ cond (leb (value_of (first ∷ ds)) limit) (Ok (value_of (first ∷ ds))) (Err Above)
       within true e = rw (lt-leb (value_of (first ∷ ds)) limit (high e)) refl
       within false e = go (ltb limit value) refl
         where
-          go : (t : Bool) → ltb limit value ≡ t → cond t Above (Number value) ≡ cond (leb (value_of (first ∷ ds)) limit) (Number (value_of (first ∷ ds))) Above
+          go : (t : Bool) → ltb limit value ≡ t → cond t (Err Above) (Ok value) ≡ cond (leb (value_of (first ∷ ds)) limit) (Ok (value_of (first ∷ ds))) (Err Above)
           go true f = rw (sym (clean e), lt-leb value limit (ltb-true limit value f)) refl
           go false f = rw (sym (clean e), le-leb value limit (ltb-false limit value f)) refl
 
-      by : (z m b : Bool) → above ≡ b → cond (z && m) Malformed (cond (b || ltb limit value) Above (Number value))
-          ≡ cond (not (m && z) && true) (cond (leb (value_of (first ∷ ds)) limit) (Number (value_of (first ∷ ds))) Above) Malformed
+      by : (z m b : Bool) → above ≡ b → cond (z && m) (Err Malformed) (cond (b || ltb limit value) (Err Above) (Ok value))
+          ≡ cond (not (m && z) && true) (cond (leb (value_of (first ∷ ds)) limit) (Ok (value_of (first ∷ ds))) (Err Above)) (Err Malformed)
       by true true b e = refl
       by true false b e = within b e
       by false true b e = within b e
@@ -116,19 +94,18 @@ scan-begun s from limit = record { done = []; at = omega arith; whole = refl; cl
 
 module _ {s : List ℕ} {from limit value : ℕ} {above : Bool} {i : ℕ} (r : Scanning s from limit value above i) where
   -- one digit more
-  module _ (there : ltb 0 (length (digits_front (drop i s))) ≡ true) {digit : ℕ} (d : digit ≡ get_or s i 0 - 48) where
+  module _ {digit : ℕ} (d : DigitAt s i digit) where
     value-more : value_of (r.done ++ get_or s i 0 ∷ []) ≡ value_of r.done * 10 + digit
     unfolding value_of
-    value-more = rw d (value-snoc 0 r.done (get_or s i 0))
+    value-more = rw d.is (value-snoc 0 r.done (get_or s i 0))
 
     more : {value' : ℕ} {above' : Bool} → (above' ≡ false → value' ≡ value_of r.done * 10 + digit) → (above' ≡ true → limit < value_of r.done * 10 + digit)
         → Scanning s from limit value' above' (i + 1)
     more clean high =
-        let w = is-there s i there in
         record {
           done = r.done ++ get_or s i 0 ∷ [];
           at = omega (arith, r.at, length-append r.done (get_or s i 0 ∷ []));
-          whole = r.whole ∙ rw (one-digit s i w.0 w.1) (sym (append_assoc r.done (get_or s i 0 ∷ []) (digits_front (drop (i + 1) s))));
+          whole = r.whole ∙ rw (one-digit s i d.there d.digit) (sym (append_assoc r.done (get_or s i 0 ∷ []) (digits_front (drop (i + 1) s))));
           clean = λ e. clean e ∙ sym value-more;
           high = λ e. omega (arith, high e, value-more);
         }
@@ -146,12 +123,12 @@ module _ {s : List ℕ} {from limit value : ℕ} {above : Bool} {i : ℕ} (r : S
         over false g = omega (arith, ltb-true limit (value * 10 + digit) e, r.clean g)
 
   -- none is left
-  module _ (none : ltb 0 (length (digits_front (drop i s))) ≡ false) where
+  module _ (none : digits_front (drop i s) ≡ []) where
     all_read : digits_front (drop from s) ≡ r.done
-    all_read = r.whole ∙ ap (λ (ds : List ℕ). r.done ++ ds) (none-there s i none) ∙ append-nil r.done
+    all_read = r.whole ∙ ap (λ (ds : List ℕ). r.done ++ ds) none ∙ append-nil r.done
 
     -- what the digits say
-    pub scan-done : {f : Field} → f ≡ field_by (get_or s from 0) (i - from) value above limit
+    pub scan-done : {f : Result ℕ Fault} → f ≡ field_by (get_or s from 0) (i - from) value above limit
         → ◌≡◌ {A = Scanned} (record { field = f; next = i }) (scan_of s from limit)
     unfolding scan_of
     scan-done e =

@@ -1,6 +1,6 @@
 -- What holds of numbers as text, of every size. Each is proved in `proofs/Laws.antt`.
-use Rattle.std.specs.Prelude.{ℕ, ◌^◌, ◌≤◌, ◌<◌, ◌≡◌, ◌↔◌, List, true, cond, leb, length, get_or}
-use Rattle.decimal.specs.declared.Field.TheVariants.{Number, Above}
+use Rattle.std.specs.Prelude.{ℕ, ◌^◌, ◌≤◌, ◌<◌, ◌≡◌, ◌↔◌, List, true, cond, leb, length, get_or, Ok, Err}
+use Rattle.decimal.specs.declared.Fault.TheVariants.{Above}
 use Rattle.decimal.specs.Numeral.{is_numeral, value_of, digits}
 use Rattle.decimal.specs.Answers.{field_of}
 
@@ -13,7 +13,7 @@ abbrev pub DigitsReadBack : Type 0
 DigitsReadBack = (n : ℕ) → value_of (digits n) ≡ n
 
 abbrev pub FieldReadsBack : Type 0
-FieldReadsBack = (n limit : ℕ) → field_of (digits n) limit ≡ cond (leb n limit) (Number n) Above
+FieldReadsBack = (n limit : ℕ) → field_of (digits n) limit ≡ cond (leb n limit) (Ok n) (Err Above)
 
 -- what has the layout is written back as the same bytes
 abbrev pub NumeralWritesBack : Type 0
@@ -21,7 +21,7 @@ NumeralWritesBack = (s : List ℕ) → is_numeral s ≡ true → digits (value_o
 
 -- so is a field that is read as a number, whatever the limit
 abbrev pub FieldWritesBack : Type 0
-FieldWritesBack = (s : List ℕ) (n limit : ℕ) → field_of s limit ≡ Number n → digits n ≡ s
+FieldWritesBack = (s : List ℕ) (n limit : ℕ) → field_of s limit ≡ Ok n → digits n ≡ s
 
 -- how many digits there are
 abbrev pub WidthByPower : Type 0

@@ -2,26 +2,24 @@
 // into a lent slice.
 #![tactic(auto)]
 
-ghost use Rattle.std.specs.Prelude.{◌≡◌, ◌+◌, ◌-◌, ◌*◌, ◌<◌, ◌≤◌, ◌&&◌, eqb, ltb, length, drop};
+ghost use Rattle.std.specs.Prelude.{◌≡◌, ◌+◌, ◌*◌, ◌<◌, ◌&&◌, [], MatchOption, eqb, ltb, length, drop};
 ghost use Rattle.output.specs.Output.{placed, past};
-ghost use Rattle.decimal.specs.Numeral.{is_digit, digits};
-ghost use Rattle.decimal.specs.Answers.{digits_front, field_by, scan_of, aligned};
+ghost use Rattle.decimal.specs.Numeral.{digits};
+ghost use Rattle.decimal.specs.Answers.{digits_front, DigitAt, field_by, scan_of, aligned};
 
-// What a field of bytes says.
-#[derive(Clone, Copy)]
-pub enum Field {
-    // A number that is at most the limit.
-    Number(u64),
+// Why a field of bytes is not taken for a number.
+#[derive(Clone, Copy, PartialEq, Eq)]
+pub enum Fault {
     // A number above the limit.
     Above,
     // Not a number's digits, or not laid out as they should be.
     Malformed,
 }
 
-// What the digits at an offset say, and the offset just past them.
+// The number that the digits at an offset say, and the offset just past them.
 #[derive(Clone, Copy)]
 pub struct Scanned {
-    pub field: Field,
+    pub field: Result<u64, Fault>,
     pub next: usize,
 }
 
@@ -32,71 +30,42 @@ struct Aligned {
     start: usize,
 }
 
-// Whether a byte is one of `0` to `9`.
-fn is_digit(byte: u8) -> bool
-    ensures { result ≡ is_digit byte }
-{
-    if byte < 48 {
-        return false;
-    }
-    byte <= 57
-}
-
 // Whether the value with one more digit after it is above the limit. No step of it can wrap.
 fn exceeds(value: u64, digit: u64, limit: u64) -> bool
     ensures { result ≡ ltb limit (value * 10 + digit) }
 {
-    if limit < digit {
-        return true;
-    }
-    (limit - digit) / 10 < value
+    limit < digit || (limit - digit) / 10 < value
 }
 
-// The number of a digit's byte.
-fn digit_value(byte: u8) -> u64
-    requires { 48 ≤ byte }
-    ensures { result ≡ byte - 48 }
+// The digit at the offset, if one stands there.
+fn digit_at(s: &[u8], at: usize) -> Option<u64>
+    ensures { MatchOption result (digits_front (drop at s.now) ≡ []) (λ d. DigitAt s.now at d) }
 {
-    byte as u64 - 48
-}
-
-// Whether a digit stands at the offset.
-fn digit_at(s: &[u8], at: usize) -> bool
-    ensures { result ≡ ltb 0 (length (digits_front (drop at s.now))) }
-{
-    if at < s.len() {
-        return is_digit(s[at]);
+    let byte = *s.get(at)?;
+    if !byte.is_ascii_digit() {
+        return None;
     }
-    false
+    Some(u64::from(byte - b'0'))
 }
 
 // Whether the first of so many digits is a `0` that does not stand alone.
 fn zero_in_front(first: u8, count: usize) -> bool
     ensures { result ≡ eqb first 48 && ltb 1 count }
 {
-    if first == 48 {
-        return 1 < count;
-    }
-    false
+    first == b'0' && 1 < count
 }
 
 // What digits say, of which the first and their number are known: a value, if they are not told to be above the limit.
-fn field_of(first: u8, count: usize, value: u64, above: bool, limit: u64) -> Field
+fn field_of(first: u8, count: usize, value: u64, above: bool, limit: u64) -> Result<u64, Fault>
     ensures { result ≡ field_by first count value above limit }
 {
-    if count == 0 {
-        return Field::Malformed;
+    if count == 0 || zero_in_front(first, count) {
+        return Err(Fault::Malformed);
     }
-    if zero_in_front(first, count) {
-        return Field::Malformed;
+    if above || limit < value {
+        return Err(Fault::Above);
     }
-    if above {
-        return Field::Above;
-    }
-    if limit < value {
-        return Field::Above;
-    }
-    Field::Number(value)
+    Ok(value)
 }
 
 // A value to which any digit may be added with no wrap.
@@ -110,20 +79,18 @@ pub fn scan(s: &[u8], from: usize, limit: u64) -> Scanned
 {
     let mut value = 0;
     let mut above = false;
-    let mut i = from;
-    while digit_at(s, i) {
-        let digit = digit_value(s[i]);
-        if value < ROOMY {
+    let mut next = from;
+    // No count of the digits is known before: each is looked at once.
+    while let Some(digit) = digit_at(s, next) {
+        if value < ROOMY || !exceeds(value, digit, limit) {
             value = value * 10 + digit;
-        } else if exceeds(value, digit, limit) {
-            above = true;
         } else {
-            value = value * 10 + digit;
+            above = true;
         }
-        i += 1;
+        next += 1;
     }
-    let field = field_of(s[from], i - from, value, above, limit);
-    Scanned { field, next: i }
+    let field = field_of(s[from], next - from, value, above, limit);
+    Scanned { field, next }
 }
 
 // The byte of one digit.
@@ -131,10 +98,11 @@ fn digit(n: u64) -> u8
     requires { n < 10 }
     ensures { result ≡ 48 + n }
 {
-    48 + n as u8
+    b'0' + n as u8
 }
 
-// Fills an array with the digits from the lowest on, at its end.
+// Fills an array with the digits from the lowest on, at its end. A `while`, since it is the number that ends it, and
+// not the array.
 fn align(n: u64) -> Aligned
     ensures { result ≡ aligned n }
 {
@@ -154,8 +122,7 @@ fn align(n: u64) -> Aligned
 pub fn width(n: u64) -> usize
     ensures { result ≡ length (digits n) }
 {
-    let a = align(n);
-    20 - a.start
+    20 - align(n).start
 }
 
 // Puts the digits of a number into the slice at the offset, all of them or none, and answers the offset just past them.
@@ -163,8 +130,6 @@ pub fn write(n: u64, out: &mut [u8], at: usize) -> usize
     ensures { (result ≡ past out.old at (digits n))
         × (out.new ≡ placed out.old at (digits n)) }
 {
-    let a = align(n);
-    let bytes = a.bytes;
-    let start = a.start;
+    let Aligned { bytes, start } = align(n);
     output::put_all(out, at, &bytes[start..])
 }

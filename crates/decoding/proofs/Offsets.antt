@@ -10,10 +10,10 @@ use lib.Dec.{eqb}
 use lib.ListN.{length, drop, get_or, drop_of_length-le, length-drop, length-append}
 use lib.Seq.{drop-cons, drop-drop, drop_at}
 use borrow.Author.Tests.{eqb-true, eq-eqb, ne_eqb}
-use Rattle.lists.proofs.Tests.{and_right, fails}
+use Rattle.lists.proofs.Tests.{and_right}
 use Rattle.decoding.specs.declared.Decoded.{Decoded}
 use Rattle.decoding.specs.declared.Decoded.TheVariants.{CodePoint, End, Malformed}
-use Rattle.decoding.specs.declared.Counted.TheVariants.{Characters, Malformed as countMalformed}
+use Rattle.std.specs.Prelude.{None, Some}
 use Rattle.utf8.specs.CodePoints.{is_code_point}
 use Rattle.utf8.specs.Encoding.{encode, encoded_length}
 use Rattle.decoding.specs.Decoding.{Head, ended, character, malformed, accepted, continues, continued, head_of, before, read_on, decoded}
@@ -25,44 +25,42 @@ use Rattle.decoding.proofs.Decoding.{head-back, decoding_recurs}
 
 -- ---- one byte 10xxxxxx
 
-pub tail-ended : (bytes : List ℕ) (at : ℕ) → length bytes ≤ at → tail_at bytes at ≡ 64
+pub tail-ended : (bytes : List ℕ) (at : ℕ) → length bytes ≤ at → tail_at bytes at ≡ None
 unfolding tail_at tail_bits
 tail-ended bytes at h = rw (drop_of_length-le bytes h)
 
 module _ (bytes : List ℕ) (at b : ℕ) (h : at < length bytes) (e : b ≡ get_or bytes at 0) where
-  pub tail-inside : 128 ≤ b → b ≤ 191 → tail_at bytes at ≡ b % 64
+  pub tail-inside : 128 ≤ b → b ≤ 191 → tail_at bytes at ≡ Some (b % 64)
   unfolding tail_at tail_bits continues
   tail-inside l g = rw (drop-cons bytes at 0 h, ← e, inside 128 191 b l g)
 
-  pub tail-under : b < 128 → tail_at bytes at ≡ 64
+  pub tail-under : b < 128 → tail_at bytes at ≡ None
   unfolding tail_at tail_bits continues
   tail-under l = rw (drop-cons bytes at 0 h, ← e, under 128 191 b l)
 
-  pub tail-over : 191 < b → tail_at bytes at ≡ 64
+  pub tail-over : 191 < b → tail_at bytes at ≡ None
   unfolding tail_at tail_bits continues
   tail-over l = rw (drop-cons bytes at 0 h, ← e, over 128 191 b l)
 
 -- where there are bits they go into the number, and where there are none the character is cut
-module _ (size k n x : ℕ) (l : List ℕ) (e : x ≡ tail_bits l) where
-  tail_stops : x ≡ 64 → continued size (suc k) n l ≡ malformed
+module _ (size k n : ℕ) where
+  tail_stops : (l : List ℕ) → None ≡ tail_bits l → continued size (suc k) n l ≡ malformed
   unfolding continued tail_bits
-  tail_stops s = go l e
+  tail_stops [] q = refl
+  tail_stops (b ∷ rest) q = go (continues b) q
     where
-      go : (l : List ℕ) → x ≡ tail_bits l → continued size (suc k) n l ≡ malformed
-      go [] q = refl
-      go (b ∷ rest) q = rw (fails (continues b) (λ p. let z : x ≡ b % 64 = q ∙ rw p in omega arith))
+      go : (t : Bool) → None ≡ cond t (Some (b % 64)) None → cond t (continued size k (n * 64 + b % 64) rest) malformed ≡ malformed
+      go true q = absurd (let z : ◌≡◌ {A = ℕ} 0 1 = cc in omega arith)
+      go false q = refl
 
-  tail_goes : (x ≡ 64 → ⊥) → continued size (suc k) n l ≡ continued size k (n * 64 + x) (drop 1 l)
+  tail_goes : (x : ℕ) (l : List ℕ) → Some x ≡ tail_bits l → continued size (suc k) n l ≡ continued size k (n * 64 + x) (drop 1 l)
   unfolding continued tail_bits
-  tail_goes f = go l e
+  tail_goes x [] q = absurd (let z : ◌≡◌ {A = ℕ} 0 1 = cc in omega arith)
+  tail_goes x (b ∷ rest) q = go (continues b) q
     where
-      go : (l : List ℕ) → x ≡ tail_bits l → continued size (suc k) n l ≡ continued size k (n * 64 + x) (drop 1 l)
-      go [] q = absurd (f q)
-      go (b ∷ rest) q = on (continues b) q
-        where
-          on : (t : Bool) → x ≡ cond t (b % 64) 64 → cond t (continued size k (n * 64 + b % 64) rest) malformed ≡ continued size k (n * 64 + x) rest
-          on true q = ap (λ (m : ℕ). continued size k (n * 64 + m) rest) (sym q)
-          on false q = absurd (f q)
+      go : (t : Bool) → Some x ≡ cond t (Some (b % 64)) None → cond t (continued size k (n * 64 + b % 64) rest) malformed ≡ continued size k (n * 64 + x) rest
+      go true q = let same : x ≡ b % 64 = cc in ap (λ (m : ℕ). continued size k (n * 64 + m) rest) (sym same)
+      go false q = absurd (let z : ◌≡◌ {A = ℕ} 0 1 = cc in omega arith)
 
 -- ---- one character
 
@@ -103,22 +101,22 @@ module _ (bytes : List ℕ) (at size lead : ℕ) where
     pub along-small : size ≤ 4 → i < size → n < 262144
     along-small f h = let few-so-far : i ≤ 3 = omega arith in omega (arith, w.small, pow-le-pow_right (zero-lt-suc 63) few-so-far)
 
-    module _ (x : ℕ) (e : x ≡ tail_at bytes (at + i)) (h : i < size) where
+    module _ (h : i < size) where
       abbrev left : ℕ
       left = size - (i + 1)
 
       one_left : size - i ≡ suc left
       one_left = omega arith
 
-      pub along-cut : x ≡ 64 → Malformed ≡ answer_at at (continued size (size - 1) lead (drop (at + 1) bytes))
+      pub along-cut : None ≡ tail_at bytes (at + i) → Malformed ≡ answer_at at (continued size (size - 1) lead (drop (at + 1) bytes))
       unfolding answer_at tail_at
-      along-cut s =
+      along-cut e =
           ap (answer_at at)
-          (sym (tail_stops size left n x (drop (at + i) bytes) e s) ∙ ap (λ (k : ℕ). continued size k n (drop (at + i) bytes)) (sym one_left) ∙ w.same)
+          (sym (tail_stops size left n (drop (at + i) bytes) e) ∙ ap (λ (k : ℕ). continued size k n (drop (at + i) bytes)) (sym one_left) ∙ w.same)
 
-      pub along-again : x ≤ 64 → (x ≡ 64 → ⊥) → Along bytes at size lead (i + 1) (n * 64 + x)
+      pub along-again : (x : ℕ) → Some x ≡ tail_at bytes (at + i) → x < 64 → Along bytes at size lead (i + 1) (n * 64 + x)
       unfolding tail_at
-      along-again b f =
+      along-again x e b =
           let further : at + i + 1 ≡ at + (i + 1) = omega arith in
           let next : drop 1 (drop (at + i) bytes) ≡ drop (at + (i + 1)) bytes = drop-drop 1 (at + i) bytes ∙ ap (λ (k : ℕ). drop k bytes) further in
           let one : i + 1 ≡ suc i = omega arith in
@@ -126,7 +124,7 @@ module _ (bytes : List ℕ) (at size lead : ℕ) where
           record {
             same =
                 ap (continued size left (n * 64 + x)) (sym next)
-                ∙ sym (tail_goes size left n x (drop (at + i) bytes) e f)
+                ∙ sym (tail_goes size left n x (drop (at + i) bytes) e)
                 ∙ ap (λ (k : ℕ). continued size k n (drop (at + i) bytes)) (sym one_left)
                 ∙ w.same;
             begun = omega arith;
@@ -260,26 +258,26 @@ module _ (bytes : List ℕ) (at count : ℕ) (c : Counting bytes at count) where
     where
       one_more : (m : Option (List ℕ)) → count_after (count + 1) m ≡ count_after count (before n m)
       one_more none = refl
-      one_more (some ns) = let sum : count + 1 + length ns ≡ count + suc (length ns) = omega arith in ap Characters sum
+      one_more (some ns) = let sum : count + 1 + length ns ≡ count + suc (length ns) = omega arith in ap Some sum
 
-  pub counting-malformed : Malformed ≡ decoded_at bytes at → countMalformed ≡ count_of (decoded bytes)
+  pub counting-malformed : Malformed ≡ decoded_at bytes at → None ≡ count_of (decoded bytes)
   unfolding count_after
   counting-malformed e = counting-on Malformed e
 
-  pub counting-ended : End ≡ decoded_at bytes at → Characters count ≡ count_of (decoded bytes)
+  pub counting-ended : End ≡ decoded_at bytes at → Some count ≡ count_of (decoded bytes)
   unfolding count_after
-  counting-ended e = let none_left : count ≡ count + 0 = omega arith in ap Characters none_left ∙ counting-on End e
+  counting-ended e = let none_left : count ≡ count + 0 = omega arith in ap Some none_left ∙ counting-on End e
 
-  pub counting-done : length bytes ≤ at → Characters count ≡ count_of (decoded bytes)
+  pub counting-done : length bytes ≤ at → Some count ≡ count_of (decoded bytes)
   counting-done h = counting-ended (sym (decoded-end bytes at h))
 
 -- what a count says of the text
-pub counted-some : (m : Option (List ℕ)) (k : ℕ) → Characters k ≡ count_of m → (ns : List ℕ) × (m ≡ some ns) × (k ≡ length ns)
+pub counted-some : (m : Option (List ℕ)) (k : ℕ) → Some k ≡ count_of m → (ns : List ℕ) × (m ≡ some ns) × (k ≡ length ns)
 unfolding count_of count_after
 counted-some none k e = absurd (let z : ◌≡◌ {A = ℕ} 0 1 = cc in omega arith)
 counted-some (some ns) k e = let number : k ≡ 0 + length ns = cc in (ns, refl, omega arith)
 
-pub counted_none : (m : Option (List ℕ)) → countMalformed ≡ count_of m → m ≡ none
+pub counted_none : (m : Option (List ℕ)) → None ≡ count_of m → m ≡ none
 unfolding count_of count_after
 counted_none none e = refl
 counted_none (some ns) e = absurd (let z : ◌≡◌ {A = ℕ} 0 1 = cc in omega arith)

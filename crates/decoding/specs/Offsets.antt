@@ -1,10 +1,9 @@
--- What `decoding::decode` and `decoding::count` answer, as values of their enums.
+-- What `decoding::decode` and `decoding::count` answer, as values of their types.
 use Rattle.std.specs.Prelude.{ℕ, ◌+◌, ◌%◌, ◌≡◌, ◌&&◌, cond, List, [], ◌∷◌, eqb, length, drop}
+use Rattle.std.specs.Prelude.{Option as Answer, None, Some}
 use Rattle.std.proofs.Math.Option.{Option, none, some}
 use Rattle.decoding.specs.declared.Decoded.{Decoded}
 use Rattle.decoding.specs.declared.Decoded.TheVariants.{CodePoint, End, Malformed}
-use Rattle.decoding.specs.declared.Counted.{Counted}
-use Rattle.decoding.specs.declared.Counted.TheVariants.{Characters, Malformed as countMalformed}
 use Rattle.utf8.specs.CodePoints.{is_code_point}
 use Rattle.utf8.specs.Encoding.{encoded_length}
 use Rattle.decoding.specs.Decoding.{Head, ended, character, malformed, continues, head_of, before, decoded}
@@ -30,23 +29,23 @@ abbrev pub DecodedOn : Type 0
 DecodedOn = (bytes : List ℕ) (at : ℕ) → decoded (drop at bytes) ≡ on_from bytes (decoded_at bytes at)
 
 -- with so many characters before them
-unfoldable pub count_after : ℕ → Option (List ℕ) → Counted
-count_after k none = countMalformed
-count_after k (some ns) = Characters (k + length ns)
+unfoldable pub count_after : ℕ → Option (List ℕ) → Answer ℕ
+count_after k none = None
+count_after k (some ns) = Some (k + length ns)
 
--- how many characters a text has, or that it is not UTF-8
-unfoldable pub count_of : Option (List ℕ) → Counted
+-- how many characters a text has, none where it is not UTF-8
+unfoldable pub count_of : Option (List ℕ) → Answer ℕ
 count_of m = count_after 0 m
 
 -- ---- for the steps of the code
 
--- the six bits of a byte 10xxxxxx in front, or 64
-unfoldable pub tail_bits : List ℕ → ℕ
-tail_bits [] = 64
-tail_bits (b ∷ rest) = cond (continues b) (b % 64) 64
+-- the six bits of a byte 10xxxxxx in front
+unfoldable pub tail_bits : List ℕ → Answer ℕ
+tail_bits [] = None
+tail_bits (b ∷ rest) = cond (continues b) (Some (b % 64)) None
 
 -- of the one at an offset
-unfoldable pub tail_at : List ℕ → ℕ → ℕ
+unfoldable pub tail_at : List ℕ → ℕ → Answer ℕ
 tail_at bytes at = tail_bits (drop at bytes)
 
 -- a number that so many bytes stand for, which end at the offset

@@ -1,11 +1,12 @@
 // A text read strictly as UTF-8 (RFC 3629): what it has at an offset, and how many characters it has.
 #![tactic(auto)]
 
-ghost use Rattle.std.specs.Prelude.{◌≡◌, ◌+◌, ◌-◌, ◌<◌, ◌≤◌, length, drop};
+ghost use Rattle.std.specs.Prelude.{◌≡◌, ◌+◌, ◌-◌, ◌<◌, ◌≤◌, IfSome, length, drop};
 ghost use Rattle.decoding.specs.Decoding.{decoded, continued};
 ghost use Rattle.decoding.specs.Offsets.{answer_at, decoded_at, count_of, tail_at, accepted_at};
 
-// What a text has at an offset.
+// What a text has at an offset. An enum, since there are three cases: an Option<Result<..>> would nest two types, with
+// an error that says nothing.
 #[derive(Clone, Copy)]
 pub enum Decoded {
     // A code point, and the offset just past its bytes.
@@ -20,20 +21,18 @@ pub enum Decoded {
 fn wide(byte: u8) -> u32
     ensures { result ≡ byte }
 {
-    byte as u32
+    u32::from(byte)
 }
 
-// The six bits of the byte 10xxxxxx at the offset, or 64 where none stands there.
-fn tail_bits(bytes: &[u8], at: usize) -> u32
-    ensures { (result ≡ tail_at bytes.now at) × (result ≤ 64) }
+// The six bits of the byte 10xxxxxx at the offset, if one stands there.
+fn tail_bits(bytes: &[u8], at: usize) -> Option<u32>
+    ensures value { result ≡ tail_at bytes.now at }
+    ensures bound { IfSome result (λ bits. bits < 64) }
 {
-    if bytes.len() <= at {
-        return 64;
-    }
-    let byte = wide(bytes[at]);
+    let byte = wide(*bytes.get(at)?);
     match byte {
-        128..=191 => byte % 64,
-        _ => 64,
+        128..=191 => Some(byte % 64),
+        _ => None,
     }
 }
 
@@ -60,14 +59,11 @@ fn follow(bytes: &[u8], at: usize, size: usize, lead: u32) -> Decoded
     ensures { result ≡ answer_at at (continued size (size - 1) lead (drop (at + 1) bytes.now)) }
 {
     let mut n = lead;
-    let mut i = 1;
-    while i < size {
-        let bits = tail_bits(bytes, at + i);
-        if bits == 64 {
+    for i in 1..size {
+        let Some(bits) = tail_bits(bytes, at + i) else {
             return Decoded::Malformed;
-        }
+        };
         n = n * 64 + bits;
-        i += 1;
     }
     accept(size, n, at + size)
 }
@@ -92,23 +88,15 @@ pub fn decode(bytes: &[u8], at: usize) -> Decoded
     }
 }
 
-// How many characters a text has.
-#[derive(Clone, Copy)]
-pub enum Counted {
-    Characters(usize),
-    // It is not UTF-8.
-    Malformed,
-}
-
-// Reads the whole text.
-pub fn count(bytes: &[u8]) -> Counted
+// How many characters a text has, read to its end; none where it is not UTF-8. Its loop goes from character to
+// character, each as long as it is, and so counts no index.
+pub fn count(bytes: &[u8]) -> Option<usize>
     ensures { result ≡ count_of (decoded bytes.now) }
 {
     let mut at = 0;
     let mut count = 0;
     while at < bytes.len() {
-        let head = decode(bytes, at);
-        match head {
+        match decode(bytes, at) {
             Decoded::CodePoint {
                 code_point: _,
                 next,
@@ -116,9 +104,9 @@ pub fn count(bytes: &[u8]) -> Counted
                 at = next;
                 count += 1;
             }
-            Decoded::End => return Counted::Characters(count),
-            Decoded::Malformed => return Counted::Malformed,
+            Decoded::End => return Some(count),
+            Decoded::Malformed => return None,
         }
     }
-    Counted::Characters(count)
+    Some(count)
 }

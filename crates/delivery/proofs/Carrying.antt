@@ -1,9 +1,9 @@
 -- An insert carried out, and what draining leaves after it: what the calls need of it, and what they answer by it.
-use Prim.Native.Nat.{ℕ, suc, ◌+◌}
+use Prim.Native.Nat.{ℕ, suc}
 use native.Mathlib.Nat.{zero-add}
 use native.Mathlib.Numerals.{one-add}
 use native.Mathlib.Omega.{arith}
-use mathlib.Core.Path.{◌≡◌, refl, ap, sym, ◌∙◌}
+use mathlib.Core.Path.{◌≡◌, ap, sym, ◌∙◌}
 use mathlib.Core.List.{List}
 use lib.ListN.{length}
 use Rattle.woot.specs.declared.Insert.{Insert}
@@ -15,7 +15,8 @@ use Rattle.memory.specs.Columns.{Document, Replica, characters_in, operations_in
 use Rattle.woot.specs.Pending.{drain}
 use Rattle.convergence.specs.Invariants.{Sound}
 use Rattle.convergence.proofs.Shares.{pending-bound}
-use Rattle.memory.proofs.Stored.{Parts}
+use Rattle.woot.specs.Memory.{character_slots}
+use Rattle.memory.proofs.Stored.{Parts, character-count}
 use Rattle.delivery.specs.Work.{Swept, Work, work_of, Workable, finished, finished_in, PlacedAs, Placed}
 use Rattle.delivery.proofs.Works.{work_characters, work_pending, work_waiting, work_integrated, work_discarded, work_tidy, work_path}
 
@@ -41,12 +42,13 @@ module _ {cs ds : List Character} {ps : List Operation} {w : Work} (p : Parts w.
 
 -- the place of an insert is the same once the slots that are not in use are clear
 pub placed_as : {d e : Document} {i : Insert} {k : ℕ} → Placed d i k → Swept e (characters_in d) (operations_in d)
-    → e.table ≡ d.table → e.length ≡ d.length → length e.toggles ≡ length d.toggles
+    → e.table ≡ d.table → length e.toggles ≡ character_slots
     → PlacedAs e i k (characters_in d) (operations_in d)
-placed_as {d} {e} p s t n l =
+placed_as {d} {e} p s t l =
+    let n : e.length ≡ d.length = s.length-is ∙ character-count d in
     record {
       swept = s;
-      toggles = l ∙ p.lent.slots.toggles;
+      toggles = l;
       heads = ap (λ (x : Table). length x.heads) t ∙ p.lent.slots.heads;
       links = ap (λ (x : Table). length x.links) t ∙ p.lent.slots.links;
       place = rw n p.place;

@@ -20,12 +20,11 @@ use Rattle.memory.specs.Columns.{Document}
 use Rattle.woot.specs.Identifiers.{same}
 use Rattle.woot.specs.Operations.{character, with_toggles}
 use Rattle.woot.specs.Placing.{identifiers, insert_at, integrate_toggle}
-use Rattle.woot.specs.Table.{key, keys, table_of}
+use Rattle.woot.specs.Table.{key, table_of}
 use Rattle.woot.specs.Memory.{own_key, first_key, second_key, value_of, toggle_counts}
 use Rattle.memory.specs.Columns.{characters_in}
 use Rattle.convergence.proofs.Toggling.{toggle_length}
-use Rattle.index.specs.declared.Found.{Found}
-use Rattle.index.specs.declared.Found.TheVariants.{At, Nothing}
+use Rattle.std.proofs.Common.{Option, Some, None}
 use Rattle.index.specs.Keys.{first_index}
 use Rattle.index.proofs.Searches.{first_says}
 use Rattle.characters.proofs.Editing.{inserted-length, column-put, targeted, column-toggled, column_untoggled, column-kept}
@@ -48,14 +47,14 @@ module _ (f : Operation → ℕ) (ps : List Operation) (w : ℕ) (count : w ≡ 
 
 -- a character put in; the table is made anew, so that the one before may be any
 module _ {d : Document} {cs : List Character} {ps : List Operation} (p : Swept d cs ps) where
-  pub placed-parts : (k : ℕ) (i : Insert) → d.length < 1024 → {is qs ns xs ts hs ls : List ℕ}
+  pub placed-parts : (k : ℕ) (i : Insert) → d.length < 1024 → {is qs ns xs ts : List ℕ} {made : Table}
       → is ≡ put_after k (key i.id) (take d.length d.ids) ++ drop (suc d.length) d.ids
       → qs ≡ put_after k (key i.previous) (take d.length d.previous) ++ drop (suc d.length) d.previous
       → ns ≡ put_after k (key i.next) (take d.length d.next) ++ drop (suc d.length) d.next
       → xs ≡ put_after k i.code_point (take d.length d.code_points) ++ drop (suc d.length) d.code_points
       → ts ≡ put_after k 0 (take d.length d.toggles) ++ drop (suc d.length) d.toggles
-      → ◌≡◌ {A = Table} (record { heads = hs; links = ls }) (table_of (take (d.length + 1) is))
-      → Parts (document_as is qs ns xs ts (d.length + 1) d.own d.firstKeys d.secondKeys d.values d.waiting hs ls) (insert_at k (character i) cs) ps
+      → made ≡ table_of (take (d.length + 1) is)
+      → Parts (document_as is qs ns xs ts (d.length + 1) d.own d.firstKeys d.secondKeys d.values d.waiting made.heads made.links) (insert_at k (character i) cs) ps
   unfolding character
   placed-parts k i room a b c e t h =
       let size = sym p.length-is in
@@ -145,7 +144,7 @@ module _ {d : Document} {cs : List Character} {ps : List Operation} (p : Parts d
       }
 
   -- a character toggled
-  pub toggled-parts : (x : Toggle) (k : ℕ) → first_index (targeted x) cs ≡ At k → distinct same (identifiers cs) ≡ true → {ts : List ℕ}
+  pub toggled-parts : (x : Toggle) (k : ℕ) → first_index (targeted x) cs ≡ Some k → distinct same (identifiers cs) ≡ true → {ts : List ℕ}
       → ts ≡ set d.toggles k (max (get_or d.toggles k 0) x.toggles)
       → Parts (document_as d.ids d.previous d.next d.code_points ts d.length d.own d.firstKeys d.secondKeys d.values d.waiting d.table.heads d.table.links) (integrate_toggle cs x) ps
   toggled-parts x k at apart e =
@@ -159,11 +158,11 @@ module _ {d : Document} {cs : List Character} {ps : List Operation} (p : Parts d
           ∙ ap (λ (xs : List ℕ). get_or xs k 0) (used 1024 (λ (c : Character). c.toggles) cs (length (toggle_counts cs)) p.toggles (length-map cs (λ (c : Character). c.toggles)))
 
   -- the one that is found, if there is one
-  pub found-parts : (x : Toggle) (r : Found) → first_index (targeted x) cs ≡ r → distinct same (identifiers cs) ≡ true → {ts : List ℕ}
+  pub found-parts : (x : Toggle) (r : Option ℕ) → first_index (targeted x) cs ≡ r → distinct same (identifiers cs) ≡ true → {ts : List ℕ}
       → ts ≡ toggled_at r x.toggles d.toggles
       → Parts (document_as d.ids d.previous d.next d.code_points ts d.length d.own d.firstKeys d.secondKeys d.values d.waiting d.table.heads d.table.links) (integrate_toggle cs x) ps
-  found-parts x (At k) at apart e = toggled-parts x k at apart e
-  found-parts x Nothing at apart e = toggles-parts x (e ∙ p.toggles ∙ ap (pad 1024 0) (sym (column_untoggled x cs (first_says _ cs at))))
+  found-parts x (Some k) at apart e = toggled-parts x k at apart e
+  found-parts x None at apart e = toggles-parts x (e ∙ p.toggles ∙ ap (pad 1024 0) (sym (column_untoggled x cs (first_says _ cs at))))
 
 -- the slot of a target is in use
 pub targeted_within : (d : Document) (x : Toggle) (k : ℕ) → Targeted d x k → k < d.length

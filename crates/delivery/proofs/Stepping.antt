@@ -1,15 +1,15 @@
 -- One step of draining a document at work: it is due, it leaves fewer pending, and draining what it leaves is draining what
 -- was there.
-use Prim.Native.Nat.{ℕ, zero, suc, ◌+◌, ◌≤◌, ◌<◌}
+use Prim.Native.Nat.{ℕ, suc, ◌+◌, ◌≤◌, ◌<◌}
 use native.Mathlib.Nat.{add-zero}
 use native.Mathlib.Omega.{arith}
 use mathlib.Core.Path.{◌≡◌, refl, sym, ap, ap₂, ◌∙◌}
 use mathlib.Core.Bool.{Bool, true, false, ◌||◌, cond}
 use mathlib.Core.Option.{none, some}
 use mathlib.Core.List.Memᴰ
-use mathlib.Core.List.{List, [], ◌∷◌, ◌++◌, map}
+use mathlib.Core.List.{List, [], ◌∷◌}
 use lib.Dec.{eqb}
-use lib.ListN.{length, get_or, take, drop}
+use lib.ListN.{length, get_or, take}
 use Rattle.woot.specs.declared.Insert.{Insert}
 use Rattle.woot.specs.declared.Toggle.{Toggle}
 use Rattle.woot.specs.declared.Operation.{Operation}
@@ -31,8 +31,7 @@ use Rattle.convergence.proofs.Soundness.{inserts_extract, sound-out}
 use Rattle.convergence.proofs.Shares.{pending-bound}
 use Rattle.convergence.proofs.Drains.{Found, earliest-found, draining_recurs}
 use Rattle.convergence.proofs.Draining.{sound-carry}
-use Rattle.index.specs.declared.Found.{Found as IndexFound}
-use Rattle.index.specs.declared.Found.TheVariants.{At, Nothing}
+use Rattle.std.proofs.Common.{Option, Some, None}
 use Rattle.index.specs.Keys.{Small, AllSmall, found, further, first_index}
 use Rattle.index.proofs.Keys.{key-same}
 use Rattle.index.proofs.Searches.{first-map}
@@ -99,11 +98,11 @@ one-insert {o = toggle d} e = omega arith
 abbrev pub slotted : Document → ℕ → Operation
 slotted d j = operation_at d.own d.firstKeys d.secondKeys d.values j
 
-module _ {w : Work} (k : Workable w) (j : ℕ) (at : due_in w ≡ At j) where
+module _ {w : Work} (k : Workable w) (j : ℕ) (at : due_in w ≡ Some j) where
   -- as the rules take it out
   due_taken : (d : Operation) → (j < length (pending_at w))
       × (taken_from w ≡ some (record { operation = get_or (pending_at w) j d; others = removed j (pending_at w) }))
-  due_taken = takes (executable (characters_at w)) (pending_at w) (At j) at
+  due_taken = takes (executable (characters_at w)) (pending_at w) (Some j) at
 
   pub due_within : j < w.document.waiting
   due_within = omega (arith, (due_taken blank_operation).0, (workable_parts k).waiting-is)
@@ -135,10 +134,10 @@ module _ {w : Work} (k : Workable w) (j : ℕ) (at : due_in w ≡ At j) where
 
 -- ---- where an insert that is due goes
 
-no_place : {k : ℕ} {A : Type 0} → Nothing ≡ At k → A
+no_place : {k : ℕ} {A : Type 0} → None ≡ Some k → A
 no_place e = absurd (let z : ◌≡◌ {A = ℕ} 0 1 = cc in omega arith)
 
-pub at-below : (p : Placement) (m : ℕ) → place_of p ≡ At m → p ≡ Below m
+pub at-below : (p : Placement) (m : ℕ) → place_of p ≡ Some m → p ≡ Below m
 at-below (Below k) m e = let same : k ≡ m = cc in ap Below same
 at-below Missing m e = no_place e
 at-below Crossed m e = no_place e
@@ -149,7 +148,7 @@ pub first_targeted : (x : Toggle) → Small x.target → (cs : List Character) �
 unfolding first_index
 first_targeted x small [] s = refl
 first_targeted x small (c ∷ cs) s =
-    ap₂ (λ (b : Bool) (r : IndexFound). cond b (At 0) (further 1 r)) (key-same x.target c.id small (s c (Memᴰ.head refl)).id)
+    ap₂ (λ (b : Bool) (r : Option ℕ). cond b (Some 0) (further 1 r)) (key-same x.target c.id small (s c (Memᴰ.head refl)).id)
     (first_targeted x small cs (λ d m. s d (Memᴰ.tail m)))
 
 -- the place found, and what the step is then
@@ -158,7 +157,7 @@ pub record Goes (w : Work) (i : Insert) (j m : ℕ) : Type 0 where
   pub room : w.document.length < 1024
   pub becomes : stepped_in w ≡ work_of (insert_at m (character i) (characters_at w)) (removed j (pending_at w)) (w.integrated + 1) w.discarded
 
-module _ {w : Work} (k : Workable w) (j : ℕ) (at : due_in w ≡ At j) where
+module _ {w : Work} (k : Workable w) (j : ℕ) (at : due_in w ≡ Some j) where
   module _ (i : Insert) (is : slotted w.document j ≡ insert i) (p : Placement) where
     -- what is found on the arrays is what the rules say
     module _
@@ -183,7 +182,7 @@ module _ {w : Work} (k : Workable w) (j : ℕ) (at : due_in w ≡ At j) where
             due_stepped k j at
             ∙ rw is (dealt-insert (characters_at w) (removed j (pending_at w)) w.integrated w.discarded i (rw is at (due_ready k j at)) p placed)
 
-        pub goes_at : (m : ℕ) → place_of p ≡ At m → Goes w i j m
+        pub goes_at : (m : ℕ) → place_of p ≡ Some m → Goes w i j m
         goes_at m e =
             let below : p ≡ Below m = at-below p m e in
             let found-at : placement_of (characters_at w) i ≡ Below m = placed ∙ below in
@@ -194,10 +193,10 @@ module _ {w : Work} (k : Workable w) (j : ℕ) (at : due_in w ≡ At j) where
               becomes = carries ∙ rw below;
             }
 
-        pub goes_nowhere : place_of p ≡ Nothing → stepped_in w ≡ work_of (characters_at w) (removed j (pending_at w)) w.integrated (w.discarded + 1)
+        pub goes_nowhere : place_of p ≡ None → stepped_in w ≡ work_of (characters_at w) (removed j (pending_at w)) w.integrated (w.discarded + 1)
         goes_nowhere e = carries ∙ lost p e
           where
-            lost : (q : Placement) → place_of q ≡ Nothing → judged (characters_at w) (removed j (pending_at w)) w.integrated w.discarded i q ≡ work_of (characters_at w) (removed j (pending_at w)) w.integrated (w.discarded + 1)
+            lost : (q : Placement) → place_of q ≡ None → judged (characters_at w) (removed j (pending_at w)) w.integrated w.discarded i q ≡ work_of (characters_at w) (removed j (pending_at w)) w.integrated (w.discarded + 1)
             lost (Below m) z = no_place (sym z)
             lost Missing z = refl
             lost Crossed z = refl
@@ -241,8 +240,8 @@ module _ {w : Work} (k : Workable w) where
   as_it_is : earliest (executable (characters_at w)) (pending_at w) ≡ none → w ≡ finished_in w
   as_it_is e = work_path (workable_parts k) refl refl ∙ sym (finished-none _ _ _ _ e)
 
-  pub done_unready : due_in w ≡ Nothing → w ≡ finished_in w
-  done_unready e = as_it_is (takes _ _ Nothing e)
+  pub done_unready : due_in w ≡ None → w ≡ finished_in w
+  done_unready e = as_it_is (takes _ _ None e)
 
 -- nearer to the end: fewer are pending, and draining ends as it would have
 pub record Nearer (w r : Work) : Type 0 where
@@ -293,7 +292,7 @@ module _ {w : Work} (k : Workable w) (t : Extracted) (is : taken_from w ≡ some
           (omega arith) (omega arith) (finished_integrated cs _ _ _ t is e))
 
 -- the step that is due
-pub step_nearer : {w : Work} → Workable w → (j : ℕ) → due_in w ≡ At j → (r : Work) → r ≡ stepped_in w → Nearer w r
+pub step_nearer : {w : Work} → Workable w → (j : ℕ) → due_in w ≡ Some j → (r : Work) → r ≡ stepped_in w → Nearer w r
 unfolding stepped
 step_nearer {w} k j at r e =
     let is = due_is k j at in

@@ -4,9 +4,9 @@ use Prim.Native.Nat.{ℕ, ◌+◌, ◌≤◌, ◌<◌}
 use native.Mathlib.Omega.{arith}
 use mathlib.Core.Path.{◌≡◌, refl, ap, sym, ◌∙◌}
 use mathlib.Core.Bool.{true, false, ◌||◌}
-use mathlib.Core.List.{List, [], ◌∷◌, ◌++◌, map}
-use lib.ListN.{length, take, drop, set, length-map}
-use Rattle.lists.specs.Lists.{every, distinct}
+use mathlib.Core.List.{List, map}
+use lib.ListN.{length, take, length-map}
+use Rattle.lists.specs.Lists.{every}
 use Rattle.lists.specs.Padding.{pad}
 use Rattle.lists.proofs.Padding.{pad-take, pad-length}
 use Rattle.lists.proofs.Members.{every_member}
@@ -19,13 +19,12 @@ use Rattle.woot.specs.declared.Operation.TheVariants.{Insert as insert, Toggle a
 use Rattle.woot.specs.declared.Character.{Character}
 use Rattle.woot.specs.declared.Table.{Table}
 use Rattle.memory.specs.Columns.{Document}
-use Rattle.woot.specs.Identifiers.{same}
 use Rattle.woot.specs.Operations.{character}
 use Rattle.woot.specs.Ranges.{character_in_range, in_range}
-use Rattle.woot.specs.Placing.{identifiers, insert_at, integrate_toggle}
+use Rattle.woot.specs.Placing.{insert_at, integrate_toggle}
 use Rattle.woot.specs.Pending.{executable, crossed, unplaceable, integrate}
-use Rattle.woot.specs.Table.{key, keys, table_of}
-use Rattle.woot.specs.Memory.{operation_at, operations_of}
+use Rattle.woot.specs.Table.{keys, table_of}
+use Rattle.woot.specs.Memory.{operation_at}
 use Rattle.memory.specs.Columns.{characters_in, operations_in, document_of}
 use Rattle.convergence.specs.Invariants.{Sound}
 use Rattle.index.specs.Keys.{AllSmall}
@@ -40,7 +39,7 @@ use Rattle.integration.proofs.Placements.{Says, says}
 use Rattle.memory.specs.Lent.{document_as, Slots}
 use Rattle.memory.proofs.Operations.{AllKeyed, all_keyed, operations-every}
 use Rattle.memory.proofs.Stored.{Parts, document-path, document-parts, stored-characters, stored-operations, character-count, pending-count, ids_in, previous_in, next_in, points-in, toggles_in, own_in, first-in, second-in, values_in}
-use Rattle.delivery.specs.Work.{Lent, Swept, TidyDocument, Work, work_of, characters_at, pending_at, Workable, dealt_with}
+use Rattle.delivery.specs.Work.{Lent, Swept, TidyDocument, Work, work_of, characters_at, pending_at, dealt_with}
 
 -- ---- what sound lists are
 
@@ -194,10 +193,17 @@ cleared d l i p n c t o f g v =
       waiting-is = sym (pending-count d);
     }
 
+-- the keys in use are those of the list, which the table finds as before
+pub swept-keys : {d : Document} {cs : List Character} {ps : List Operation} → Swept d cs ps → take d.length d.ids ≡ keys cs
+swept-keys {d} {cs} s = used 1024 _ cs d.length s.ids s.length-is
+
+pub swept_tabled : {d e : Document} → Lent d → Swept e (characters_in d) (operations_in d) → e.table ≡ d.table → Tabled e.table (take e.length e.ids)
+swept_tabled l s t = rw (t, swept-keys s, lent-keys l) l.tabled
+
 module _ {d : Document} {cs : List Character} {ps : List Operation} where
   -- with the table of the keys in use nothing is left to say
-  pub swept_document : Swept d cs ps → {hs ls : List ℕ} → ◌≡◌ {A = Table} (record { heads = hs; links = ls }) (table_of (keys cs))
-      → document_as d.ids d.previous d.next d.code_points d.toggles d.length d.own d.firstKeys d.secondKeys d.values d.waiting hs ls ≡ document_of cs ps
+  pub swept_document : Swept d cs ps → {made : Table} → made ≡ table_of (keys cs)
+      → document_as d.ids d.previous d.next d.code_points d.toggles d.length d.own d.firstKeys d.secondKeys d.values d.waiting made.heads made.links ≡ document_of cs ps
   swept_document s t =
       document-path
       (record {

@@ -1,10 +1,9 @@
 -- For the proofs of the code alone: a document at work in a call, what carrying out operations on it needs, and what it
 -- leaves.
-use Rattle.std.specs.Prelude.{ℕ, ◌+◌, ◌^◌, ◌≤◌, ◌<◌, ◌≡◌, true, ◌||◌, cond, List, ◌++◌, ◌∷◌, [], map, length, take}
-use Rattle.std.proofs.Math.Option.{Option, none, some}
+use Rattle.std.specs.Prelude.{ℕ, ◌+◌, ◌^◌, ◌≤◌, ◌<◌, ◌≡◌, true, ◌||◌, cond, List, map, length, take}
+use Rattle.std.proofs.Math.Option.{Option as Maybe, none, some}
 use Rattle.lists.specs.Lists.{every, distinct}
 use Rattle.lists.specs.Padding.{pad}
-use Rattle.slots.specs.Slots.{removed}
 use Rattle.woot.specs.declared.Insert.{Insert}
 use Rattle.woot.specs.declared.Toggle.{Toggle}
 use Rattle.woot.specs.declared.Operation.{Operation}
@@ -21,12 +20,12 @@ use Rattle.memory.specs.Columns.{characters_in, operations_in, document_of}
 use Rattle.woot.specs.Placing.{identifiers, insert_at, integrate_insert}
 use Rattle.woot.specs.Pending.{executable, crossed, unplaceable, integrate, Extracted, earliest, Drained, drain}
 use Rattle.convergence.specs.Invariants.{Sound}
-use Rattle.index.specs.declared.Found.{Found}
-use Rattle.index.specs.declared.Found.TheVariants.{At}
+use Rattle.std.specs.Prelude.{Option, Some}
 use Rattle.index.specs.Keys.{first_index}
 use Rattle.index.specs.Tabled.{Tabled}
-use Rattle.memory.specs.Lent.{columns_as, Slots}
-use Rattle.delivery.specs.declared.Progress.{Progress}
+use Rattle.woot.specs.declared.Document.{Document as InMemory}
+use Rattle.memory.specs.Lent.{view, Slots}
+use Rattle.delivery.specs.declared.Counts.{Counts}
 
 -- ---- lent arrays
 
@@ -50,13 +49,8 @@ pub record Work : Type 0 where
   pub integrated : ℕ
   pub discarded : ℕ
 
-abbrev pub work_as : List ℕ → List ℕ → List ℕ → List ℕ → List ℕ → Progress → Work
-work_as characters toggles pending heads links p =
-    record {
-      document = columns_as characters toggles p.length pending p.waiting heads links;
-      integrated = p.integrated;
-      discarded = p.discarded;
-    }
+abbrev pub work_in : InMemory → Counts → Work
+work_in d c = record { document = view d; integrated = c.integrated; discarded = c.discarded }
 
 unfoldable pub work_of : List Character → List Operation → ℕ → ℕ → Work
 work_of cs ps n m = record { document = document_of cs ps; integrated = n; discarded = m }
@@ -80,7 +74,7 @@ dealt_with cs ps n m o =
     cond (crossed cs o || unplaceable cs o) (work_of cs ps n (m + 1)) (work_of (integrate cs o) ps (n + 1) m)
 
 -- one step of draining: the operation that was taken out is carried out or discarded
-unfoldable pub stepped : List Character → List Operation → ℕ → ℕ → Option Extracted → Work
+unfoldable pub stepped : List Character → List Operation → ℕ → ℕ → Maybe Extracted → Work
 stepped cs ps n m none = work_of cs ps n m
 stepped cs ps n m (some t) = dealt_with cs t.others n m t.operation
 
@@ -93,10 +87,10 @@ finished cs ps n m =
 -- ---- the same on a document at work
 
 -- the index of the earliest pending operation that is executable, and what the rules take out
-abbrev pub due_in : Work → Found
+abbrev pub due_in : Work → Option ℕ
 due_in w = first_index (executable (characters_at w)) (pending_at w)
 
-abbrev pub taken_from : Work → Option Extracted
+abbrev pub taken_from : Work → Maybe Extracted
 taken_from w = earliest (executable (characters_at w)) (pending_at w)
 
 abbrev pub stepped_in : Work → Work
@@ -149,5 +143,5 @@ pub record Placed (d : Document) (i : Insert) (k : ℕ) : Type 0 where
 -- a toggle whose target stands in the slot k, the only one that has its identifier
 pub record Targeted (d : Document) (t : Toggle) (k : ℕ) : Type 0 where
   pub lent : Lent d
-  pub place : first_index (λ c. same t.target c.id) (characters_in d) ≡ At k
+  pub place : first_index (λ c. same t.target c.id) (characters_in d) ≡ Some k
   pub apart : distinct same (identifiers (characters_in d)) ≡ true

@@ -1,13 +1,12 @@
-// Carrying out operations on a document whose arrays are lent: an insert is put in, and then what it released, one by
-// one, until no pending operation is executable; a character is toggled; an operation is put off. Each array is edited
-// where it lies, and what is not in use is cleared before.
+// Carrying out operations on a document that is lent: an insert is put in, and then what it released, one by one, until
+// no pending operation is executable; a character is toggled; an operation is put off. Each array is edited where it
+// lies, and what is not in use is cleared before.
 #![tactic(auto)]
 
-ghost use Rattle.std.specs.Prelude.{◌≡◌, List, ◌++◌, ◌∷◌, [], ℕ, ◌+◌, ◌≤◌, ◌<◌, length, take};
-ghost use Rattle.index.specs.declared.Found.TheVariants.{At};
+ghost use Rattle.std.specs.Prelude.{◌≡◌, Some, List, ◌++◌, ◌∷◌, [], ℕ, ◌+◌, ◌≤◌, ◌<◌, length, take};
 ghost use Rattle.index.specs.Keys.{AllSmall, found};
 ghost use Rattle.index.specs.Tabled.{Tabled};
-ghost use Rattle.memory.specs.Lent.{columns_as};
+ghost use Rattle.memory.specs.Lent.{view, FullDocument};
 ghost use Rattle.memory.specs.Columns.{characters_in, operations_in, document_of};
 ghost use Rattle.woot.specs.declared.Character.{Character};
 ghost use Rattle.woot.specs.declared.Operation.{Operation};
@@ -15,85 +14,69 @@ ghost use Rattle.woot.specs.Memory.{previous_keys, next_keys, character_numbers,
 ghost use Rattle.woot.specs.Memory.{next_column, pending_numbers, pending_slots, previous_column, second_column};
 ghost use Rattle.pending.specs.Ready.{ready_in};
 ghost use Rattle.integration.specs.Placements.{placement_of};
-ghost use Rattle.woot.specs.Placing.{integrate_insert, integrate_toggle};
+ghost use Rattle.woot.specs.Operations.{character};
+ghost use Rattle.woot.specs.Placing.{insert_at, integrate_insert, integrate_toggle};
 ghost use Rattle.woot.specs.Table.{key, keys};
-ghost use Rattle.delivery.specs.Work.{Lent, Swept, work_as, Workable, PlacedAs, Insertable, Placed, Targeted};
+ghost use Rattle.delivery.specs.Work.{Lent, Swept, work_in, Workable, PlacedAs, Insertable, Placed, Targeted};
 ghost use Rattle.delivery.specs.Work.{due_in, stepped_in, finished_in, finished};
 ghost use Rattle.delivery.specs.Steps.{toggled_at, place_of};
 
-use index::{Found, table};
+use index::table;
 use integration::Placement;
 use pending::ready;
 use woot::{
-    CHARACTERS, CODE_POINTS, FIRST_KEYS, Insert, NEXT_KEYS, Operation, PREVIOUS_KEYS, SECOND_KEYS,
-    Toggle, VALUES,
+    CHARACTERS, CODE_POINTS, Document, FIRST_KEYS, Insert, NEXT_KEYS, Operation, PREVIOUS_KEYS,
+    SECOND_KEYS, Table, Toggle, VALUES,
 };
 
-// How many characters and pending operations the arrays hold, and how many operations have been carried out and how
-// many discarded.
+// How many operations have been carried out, and how many discarded.
 #[derive(Clone, Copy)]
-pub struct Progress {
-    pub length: usize,
-    pub waiting: usize,
+pub struct Counts {
     pub integrated: usize,
     pub discarded: usize,
 }
 
 // Internal step: clears the slots that are not in use. The table stays as it is: whoever puts a character in makes it
 // anew. The calls have checked the replica.
-pub fn sweep(characters: &mut [u32], toggles: &mut [u8], pending: &mut [u32], n: usize, w: usize)
-    requires characters_len { length characters.old ≡ character_numbers }
-    requires toggles_len { length toggles.old ≡ character_slots }
-    requires pending_len { length pending.old ≡ pending_numbers }
-    requires n_le_character_slots { n ≤ character_slots }
-    requires w_le_pending_slots { w ≤ pending_slots }
-    ensures { (hs ls : List ℕ)
-        → Lent (columns_as characters.old toggles.old n pending.old w hs ls)
-        → Swept (columns_as characters.new toggles.new n pending.new w hs ls)
-        (characters_in (columns_as characters.old toggles.old n pending.old w hs ls))
-        (operations_in (columns_as characters.old toggles.old n pending.old w hs
-        ls)) }
+pub fn sweep(document: &mut Document)
+    requires full { FullDocument document.old }
+    requires lent { Lent (view document.old) }
+    ensures full_after { FullDocument document.new }
+    ensures table_after { document.new.table ≡ document.old.table }
+    ensures value { Swept (view document.new) (characters_in (view document.old)) (operations_in (view document.old)) }
 {
-    characters::clear(characters, toggles, n);
-    pending_slots::clear(pending, w);
+    characters::clear(
+        &mut document.characters,
+        &mut document.toggles,
+        document.length,
+    );
+    pending_slots::clear(&mut document.pending, document.waiting);
 }
 
 // Internal step: clears what is not in use and makes the table the one of the keys, so that the arrays are those that
 // the rules' lists are stored in. The calls have checked the replica.
-pub fn clear(
-    characters: &mut [u32],
-    toggles: &mut [u8],
-    pending: &mut [u32],
-    heads: &mut [u16],
-    links: &mut [u16],
-    n: usize,
-    w: usize,
-)
-    requires characters_len { length characters.old ≡ character_numbers }
-    requires pending_len { length pending.old ≡ pending_numbers }
-    requires lent { Lent (columns_as characters.old toggles.old n pending.old w heads.old links.old) }
-    ensures { (columns_as characters.new toggles.new n pending.new w
-        heads.new links.new)
-        ≡ document_of (characters_in (columns_as characters.old toggles.old n pending.old
-        w heads.old links.old))
-        (operations_in (columns_as characters.old toggles.old n pending.old w
-        heads.old links.old)) }
+pub fn clear(document: &mut Document)
+    requires full { FullDocument document.old }
+    requires lent { Lent (view document.old) }
+    ensures full_after { FullDocument document.new }
+    ensures value { view document.new
+        ≡ document_of (characters_in (view document.old)) (operations_in (view document.old)) }
 {
-    table::renew(characters, n, heads, links);
-    sweep(characters, toggles, pending, n, w);
+    sweep(document);
+    table::renew(&document.characters, document.length, &mut document.table);
 }
 
 // Internal step: where an insert goes among the first n characters. The calls' table finds the keys.
+// It takes arrays and no document: those of characters that are built anew are read here too, before there is one.
 pub fn find_place<'a>(
-    heads: &'a [u16],
-    links: &'a [u16],
+    table: &'a Table,
     characters: &'a [u32],
     n: usize,
     insert: Insert,
 ) -> Placement
     requires n_le_character_slots { n ≤ character_slots }
     requires characters_len { length characters.now ≡ character_numbers }
-    requires tabled { Tabled (record { heads = heads.now; links = links.now }) (take n (key_column characters.now)) }
+    requires tabled { Tabled table.now (take n (key_column characters.now)) }
     ensures { (cs : List Character)
         → take n (key_column characters.now) ≡ keys cs
         → take n (previous_column characters.now) ≡ previous_keys cs
@@ -101,8 +84,7 @@ pub fn find_place<'a>(
         → result ≡ placement_of cs insert }
 {
     integration::find_place(
-        heads,
-        links,
+        table,
         &characters[..CHARACTERS],
         &characters[PREVIOUS_KEYS..NEXT_KEYS],
         &characters[NEXT_KEYS..CODE_POINTS],
@@ -111,40 +93,32 @@ pub fn find_place<'a>(
     )
 }
 
-// The index of the earliest of the first w pending operations that is executable.
-fn due<'a>(
-    heads: &'a [u16],
-    links: &'a [u16],
-    characters: &'a [u32],
-    n: usize,
-    pending: &'a [u32],
-    w: usize,
-) -> Found
-    requires n_le_character_slots { n ≤ character_slots }
-    requires w_le_pending_slots { w ≤ pending_slots }
-    requires characters_len { length characters.now ≡ character_numbers }
-    requires pending_len { length pending.now ≡ pending_numbers }
-    requires tabled { Tabled (record { heads = heads.now; links = links.now }) (take n (key_column characters.now)) }
+// The index of the earliest pending operation that is executable.
+fn due(document: &Document) -> Option<usize>
+    requires full { FullDocument document.now }
+    requires length_le_character_slots { document.now.length ≤ character_slots }
+    requires waiting_le_pending_slots { document.now.waiting ≤ pending_slots }
+    requires tabled { Tabled (view document.now).table (take document.now.length (key_column document.now.characters)) }
     ensures { result
-        ≡ ready_in (take n (key_column characters.now)) (take w (first_column pending.now))
-        (take w (second_column pending.now)) }
+        ≡ ready_in (take document.now.length (key_column document.now.characters))
+        (take document.now.waiting (first_column document.now.pending))
+        (take document.now.waiting (second_column document.now.pending)) }
 {
     ready::ready_among(
-        heads,
-        links,
-        &characters[..CHARACTERS],
-        n,
-        &pending[FIRST_KEYS..SECOND_KEYS],
-        &pending[SECOND_KEYS..VALUES],
-        w,
+        &document.table,
+        &document.characters[..CHARACTERS],
+        document.length,
+        &document.pending[FIRST_KEYS..SECOND_KEYS],
+        &document.pending[SECOND_KEYS..VALUES],
+        document.waiting,
     )
 }
 
 // Internal step: gives the target of a toggle the larger count, where it is among the first n. The calls' table finds
 // the keys.
+// It takes arrays and no document, for the same reason.
 pub fn carry_toggle<'a>(
-    heads: &'a [u16],
-    links: &'a [u16],
+    table: &'a Table,
     characters: &'a [u32],
     toggles: &mut [u8],
     n: usize,
@@ -153,241 +127,174 @@ pub fn carry_toggle<'a>(
     requires n_le_character_slots { n ≤ character_slots }
     requires characters_len { length characters.now ≡ character_numbers }
     requires n_in_bounds { n ≤ length toggles.old }
-    requires tabled { Tabled (record { heads = heads.now; links = links.now }) (take n (key_column characters.now)) }
+    requires tabled { Tabled table.now (take n (key_column characters.now)) }
     ensures { toggles.new
         ≡ toggled_at (found (key toggle.target) (take n (key_column characters.now)))
         toggle.toggles toggles.old }
 {
     let target = toggle.target;
-    match table::find_among(
-        heads,
-        links,
-        &characters[..CHARACTERS],
-        n,
-        index::key(target),
-    ) {
-        Found::At(k) => {
+    match table::find_among(table, &characters[..CHARACTERS], n, index::key(target)) {
+        Some(k) => {
             characters::toggle(toggles, k, toggle.toggles);
             return;
         }
-        Found::Nothing => {
+        None => {
             return;
         }
     }
 }
 
 // Where an insert goes in, if there is a place for it.
-pub fn place_of(placement: Placement) -> Found
+pub fn place_of(placement: Placement) -> Option<usize>
     ensures { result ≡ place_of placement }
 {
     match placement {
-        Placement::Below(k) => Found::At(k),
-        Placement::Missing => Found::Nothing,
-        Placement::Crossed => Found::Nothing,
-        Placement::Unplaceable => Found::Nothing,
+        Placement::Below(k) => Some(k),
+        Placement::Missing => None,
+        Placement::Crossed => None,
+        Placement::Unplaceable => None,
     }
 }
 
-// Takes out the pending operation that is due, and carries it out or discards it.
-fn step(
-    characters: &mut [u32],
-    toggles: &mut [u8],
-    pending: &mut [u32],
-    heads: &mut [u16],
-    links: &mut [u16],
-    progress: Progress,
-    j: usize,
-) -> Progress
-    requires characters_len { length characters.old ≡ character_numbers }
-    requires pending_len { length pending.old ≡ pending_numbers }
-    requires workable { Workable (work_as characters.old toggles.old pending.old heads.old links.old progress) }
-    requires progress_value { due_in (work_as characters.old toggles.old pending.old heads.old links.old progress) ≡ At j }
-    ensures { (work_as characters.new toggles.new pending.new heads.new
-        links.new result)
-        ≡ stepped_in (work_as characters.old toggles.old pending.old heads.old
-        links.old progress) }
+// Puts the character of an insert in after the first k. The slots behind them are clear.
+fn place(document: &mut Document, k: usize, insert: Insert)
+    requires full { FullDocument document.old }
+    requires k_le_length { k ≤ document.old.length }
+    requires length_lt_character_slots { document.old.length < character_slots }
+    ensures full_after { FullDocument document.new }
+    ensures value { (cs : List Character) (ps : List Operation)
+        → Swept (view document.old) cs ps
+        → view document.new ≡ document_of (insert_at k (character insert) cs) ps }
 {
-    let n = progress.length;
-    let w = progress.waiting;
-    let operation = pending_slots::operation_at(pending, j);
-    pending_slots::remove(pending, w, j);
+    characters::put_in(
+        &mut document.characters,
+        &mut document.toggles,
+        &mut document.table,
+        document.length,
+        k,
+        insert,
+    );
+    document.length += 1;
+}
+
+// Takes out the pending operation that is due, and carries it out or discards it.
+fn step(document: &mut Document, counts: Counts, j: usize) -> Counts
+    requires full { FullDocument document.old }
+    requires workable { Workable (work_in document.old counts) }
+    requires j_value { due_in (work_in document.old counts) ≡ Some j }
+    ensures full_after { FullDocument document.new }
+    ensures value { work_in document.new result ≡ stepped_in (work_in document.old counts) }
+{
+    let n = document.length;
+    let operation = pending_slots::operation_at(&document.pending, j);
+    pending_slots::remove(&mut document.pending, document.waiting, j);
+    document.waiting -= 1;
     match operation {
         Operation::Insert(i) => {
-            let placement = find_place(heads, links, characters, n, i);
+            let placement = find_place(&document.table, &document.characters, n, i);
             match place_of(placement) {
-                Found::At(k) => {
-                    characters::put_in(characters, toggles, heads, links, n, k, i);
-                    return Progress {
-                        length: n + 1,
-                        waiting: w - 1,
-                        integrated: progress.integrated + 1,
-                        discarded: progress.discarded,
-                    };
+                Some(k) => {
+                    place(document, k, i);
+                    Counts {
+                        integrated: counts.integrated + 1,
+                        discarded: counts.discarded,
+                    }
                 }
-                Found::Nothing => {
-                    return Progress {
-                        length: n,
-                        waiting: w - 1,
-                        integrated: progress.integrated,
-                        discarded: progress.discarded + 1,
-                    };
-                }
+                None => Counts {
+                    integrated: counts.integrated,
+                    discarded: counts.discarded + 1,
+                },
             }
         }
         Operation::Toggle(t) => {
-            carry_toggle(heads, links, characters, toggles, n, t);
-            return Progress {
-                length: n,
-                waiting: w - 1,
-                integrated: progress.integrated + 1,
-                discarded: progress.discarded,
-            };
+            carry_toggle(
+                &document.table,
+                &document.characters,
+                &mut document.toggles,
+                n,
+                t,
+            );
+            Counts {
+                integrated: counts.integrated + 1,
+                discarded: counts.discarded,
+            }
         }
     }
 }
 
 // Carries out or discards pending operations, the earliest that is executable first, until none is.
-fn drain(
-    characters: &mut [u32],
-    toggles: &mut [u8],
-    pending: &mut [u32],
-    heads: &mut [u16],
-    links: &mut [u16],
-    progress: Progress,
-) -> Progress
-    requires characters_len { length characters.old ≡ character_numbers }
-    requires pending_len { length pending.old ≡ pending_numbers }
-    requires workable { Workable (work_as characters.old toggles.old pending.old heads.old links.old progress) }
-    ensures { (work_as characters.new toggles.new pending.new heads.new
-        links.new result)
-        ≡ finished_in (work_as characters.old toggles.old pending.old
-        heads.old links.old progress) }
+fn drain(document: &mut Document, counts: Counts) -> Counts
+    requires full { FullDocument document.old }
+    requires workable { Workable (work_in document.old counts) }
+    ensures full_after { FullDocument document.new }
+    ensures value { work_in document.new result ≡ finished_in (work_in document.old counts) }
 {
-    let mut done = progress;
-    loop {
-        match due(heads, links, characters, done.length, pending, done.waiting) {
-            Found::At(j) => {
-                done = step(characters, toggles, pending, heads, links, done, j);
-            }
-            Found::Nothing => {
-                return done;
-            }
-        }
+    let mut done = counts;
+    // No count of the steps is known before: each may make others executable.
+    while let Some(j) = due(document) {
+        done = step(document, done, j);
     }
+    done
 }
 
 // Internal step: puts in an insert after the first k characters, and carries out all that it released. The calls have
 // found the place, and the slots that are not in use are clear.
-pub fn put_in(
-    characters: &mut [u32],
-    toggles: &mut [u8],
-    pending: &mut [u32],
-    heads: &mut [u16],
-    links: &mut [u16],
-    n: usize,
-    w: usize,
-    k: usize,
-    insert: Insert,
-) -> Progress
-    requires characters_len { length characters.old ≡ character_numbers }
-    requires pending_len { length pending.old ≡ pending_numbers }
-    requires insertable { Insertable
-        (columns_as characters.old toggles.old n pending.old w heads.old links.old) insert k }
-    ensures { (cs : List Character) (ps : List Operation)
-        → PlacedAs (columns_as characters.old toggles.old n pending.old w
-        heads.old links.old) insert k cs ps
-        → (work_as characters.new toggles.new pending.new heads.new
-        links.new result)
-        ≡ finished (integrate_insert cs insert) ps 1 0 }
+pub fn put_in(document: &mut Document, k: usize, insert: Insert) -> Counts
+    requires full { FullDocument document.old }
+    requires insertable { Insertable (view document.old) insert k }
+    ensures full_after { FullDocument document.new }
+    ensures value { (cs : List Character) (ps : List Operation)
+        → PlacedAs (view document.old) insert k cs ps
+        → work_in document.new result ≡ finished (integrate_insert cs insert) ps 1 0 }
 {
-    characters::put_in(characters, toggles, heads, links, n, k, insert);
-    let progress = Progress {
-        length: n + 1,
-        waiting: w,
-        integrated: 1,
-        discarded: 0,
-    };
-    drain(characters, toggles, pending, heads, links, progress)
+    place(document, k, insert);
+    drain(
+        document,
+        Counts {
+            integrated: 1,
+            discarded: 0,
+        },
+    )
 }
 
 // Internal step: the same where what is not in use may hold anything. The calls have checked the replica.
-pub fn integrate(
-    characters: &mut [u32],
-    toggles: &mut [u8],
-    pending: &mut [u32],
-    heads: &mut [u16],
-    links: &mut [u16],
-    n: usize,
-    w: usize,
-    k: usize,
-    insert: Insert,
-) -> Progress
-    requires characters_len { length characters.old ≡ character_numbers }
-    requires pending_len { length pending.old ≡ pending_numbers }
-    requires placed { Placed
-        (columns_as characters.old toggles.old n pending.old w heads.old links.old) insert k }
-    ensures { (work_as characters.new toggles.new pending.new heads.new
-        links.new result)
-        ≡ finished (integrate_insert (characters_in (columns_as characters.old toggles.old n
-        pending.old w heads.old links.old)) insert)
-        (operations_in (columns_as characters.old toggles.old n pending.old w
-        heads.old links.old)) 1 0 }
+pub fn integrate(document: &mut Document, k: usize, insert: Insert) -> Counts
+    requires full { FullDocument document.old }
+    requires placed { Placed (view document.old) insert k }
+    ensures full_after { FullDocument document.new }
+    ensures value { work_in document.new result
+        ≡ finished (integrate_insert (characters_in (view document.old)) insert)
+        (operations_in (view document.old)) 1 0 }
 {
-    sweep(characters, toggles, pending, n, w);
-    put_in(characters, toggles, pending, heads, links, n, w, k, insert)
+    sweep(document);
+    put_in(document, k, insert)
 }
 
 // Internal step: gives the character in a slot the larger count of toggles. The calls have checked the replica and
 // found the target there.
-pub fn toggle(
-    characters: &mut [u32],
-    toggles: &mut [u8],
-    pending: &mut [u32],
-    heads: &mut [u16],
-    links: &mut [u16],
-    n: usize,
-    w: usize,
-    k: usize,
-    toggle: Toggle,
-)
-    requires characters_len { length characters.old ≡ character_numbers }
-    requires pending_len { length pending.old ≡ pending_numbers }
-    requires targeted { Targeted
-        (columns_as characters.old toggles.old n pending.old w heads.old links.old) toggle k }
-    ensures { (columns_as characters.new toggles.new n pending.new w
-        heads.new links.new)
-        ≡ document_of (integrate_toggle (characters_in (columns_as characters.old toggles.old n
-        pending.old w heads.old links.old)) toggle)
-        (operations_in (columns_as characters.old toggles.old n pending.old w
-        heads.old links.old)) }
+pub fn toggle(document: &mut Document, k: usize, toggle: Toggle)
+    requires full { FullDocument document.old }
+    requires targeted { Targeted (view document.old) toggle k }
+    ensures full_after { FullDocument document.new }
+    ensures value { view document.new
+        ≡ document_of (integrate_toggle (characters_in (view document.old)) toggle)
+        (operations_in (view document.old)) }
 {
-    clear(characters, toggles, pending, heads, links, n, w);
-    characters::toggle(toggles, k, toggle.toggles);
+    clear(document);
+    characters::toggle(&mut document.toggles, k, toggle.toggles);
 }
 
 // Internal step: puts an operation behind the pending ones. The calls have checked the replica and that there is a
 // slot.
-pub fn defer(
-    characters: &mut [u32],
-    toggles: &mut [u8],
-    pending: &mut [u32],
-    heads: &mut [u16],
-    links: &mut [u16],
-    n: usize,
-    w: usize,
-    operation: Operation,
-)
-    requires characters_len { length characters.old ≡ character_numbers }
-    requires pending_len { length pending.old ≡ pending_numbers }
-    requires lent { Lent (columns_as characters.old toggles.old n pending.old w heads.old links.old) }
-    requires w_lt_pending_slots { w < pending_slots }
-    ensures { (columns_as characters.new toggles.new n pending.new (w + 1)
-        heads.new links.new)
-        ≡ document_of (characters_in (columns_as characters.old toggles.old n pending.old
-        w heads.old links.old))
-        (operations_in (columns_as characters.old toggles.old n pending.old w
-        heads.old links.old) ++ operation ∷ []) }
+pub fn defer(document: &mut Document, operation: Operation)
+    requires full { FullDocument document.old }
+    requires lent { Lent (view document.old) }
+    requires waiting_lt_pending_slots { document.old.waiting < pending_slots }
+    ensures full_after { FullDocument document.new }
+    ensures value { view document.new
+        ≡ document_of (characters_in (view document.old)) (operations_in (view document.old) ++ operation ∷ []) }
 {
-    clear(characters, toggles, pending, heads, links, n, w);
-    pending_slots::push(pending, w, operation);
+    clear(document);
+    pending_slots::push(&mut document.pending, document.waiting, operation);
+    document.waiting += 1;
 }

@@ -6,16 +6,15 @@ ghost use Rattle.c_calls.specs.Calls.{one_line, named};
 ghost use Rattle.c_calls.specs.Inputs.{first_of};
 
 use answers::Refusal;
-use codec::Read;
-use saved::LoadAnswer;
+use woot::Operation;
 
 // Reads one line, after which no byte may follow.
-pub(crate) fn read_one(line: &[u8]) -> Read
+pub(crate) fn read_one(line: &[u8]) -> Result<Operation, Refusal>
     ensures { result ≡ read_as (one_line line.now) (said_by line.now) }
 {
     let after = codec::rest(line);
     if after.len() != 0 {
-        return Read::Refused(Refusal::Layout);
+        return Err(Refusal::Layout);
     }
     codec::read_operation(line)
 }
@@ -37,11 +36,11 @@ pub(crate) fn names_character(site: u64, clock: u64) -> bool
 }
 
 // The refusal of a saved replica or of what else was handed, the earlier one where both have one.
-pub(crate) fn first_of(answer: LoadAnswer, other: Refusal) -> Refusal
+pub(crate) fn first_of(answer: Result<(), Refusal>, other: Refusal) -> Refusal
     ensures { result ≡ first_of answer other }
 {
     match answer {
-        LoadAnswer::Done => other,
-        LoadAnswer::Refused(one) => one.earlier(other),
+        Ok(()) => other,
+        Err(one) => one.earlier(other),
     }
 }

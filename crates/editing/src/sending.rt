@@ -4,10 +4,8 @@ ghost use Rattle.c_calls.specs.Steps.{inserting_here, deleting_here, restoring_h
 
 use crate::inputs;
 use answers::Refusal;
-use saved::{LoadAnswer, Version};
-use woot::{
-    CHAINS, CHARACTER_NUMBERS, CHARACTERS, Document, LINKS, PENDING_NUMBERS, Replica, Table,
-};
+use saved::Version;
+use woot::{CHARACTER_NUMBERS, Replica};
 
 // Inserts a character, and writes the new saved replica and the line to be sent.
 pub fn insert(bytes: &[u8], point: u64, code_point: u32, out: &mut [u8], line_out: &mut [u8]) -> u64
@@ -15,43 +13,14 @@ pub fn insert(bytes: &[u8], point: u64, code_point: u32, out: &mut [u8], line_ou
         out.old line_out.old)
         result out.new line_out.new }
 {
-    let mut characters = [0u32; CHARACTER_NUMBERS];
-    let mut toggles = [0u8; CHARACTERS];
-    let mut pending = [0u32; PENDING_NUMBERS];
-    let mut heads = [0u16; CHAINS];
-    let mut links = [0u16; LINKS];
-    let found = loading::read_into(
-        Version::Second,
-        bytes,
-        &mut characters,
-        &mut toggles,
-        &mut pending,
-        &mut heads,
-        &mut links,
-    );
-    let answer = found.answer;
+    let mut replica = Replica::empty(0);
+    let answer = loading::read_into(Version::Second, bytes, &mut replica);
     if !ranges::code_point(code_point) {
         return effects::results::number_of_refusal(inputs::first_of(answer, Refusal::Range));
     }
     match answer {
-        LoadAnswer::Refused(q) => effects::results::number_of_refusal(q),
-        LoadAnswer::Done => {
-            let site = found.site;
-            changing::insert(
-                &mut characters,
-                &mut toggles,
-                &mut pending,
-                &mut heads,
-                &mut links,
-                site,
-                found.length,
-                found.waiting,
-                point as usize,
-                code_point,
-                out,
-                line_out,
-            )
-        }
+        Err(q) => effects::results::number_of_refusal(q),
+        Ok(()) => { changing::insert(&mut replica, point as usize, code_point, out, line_out) }
     }
 }
 
@@ -60,39 +29,11 @@ pub fn delete(bytes: &[u8], index: u64, out: &mut [u8], line_out: &mut [u8]) -> 
     ensures { Leaves (deleting_here bytes.now index out.old line_out.old)
         result out.new line_out.new }
 {
-    let mut characters = [0u32; CHARACTER_NUMBERS];
-    let mut toggles = [0u8; CHARACTERS];
-    let mut pending = [0u32; PENDING_NUMBERS];
-    let mut heads = [0u16; CHAINS];
-    let mut links = [0u16; LINKS];
-    let found = loading::read_into(
-        Version::Second,
-        bytes,
-        &mut characters,
-        &mut toggles,
-        &mut pending,
-        &mut heads,
-        &mut links,
-    );
-    let answer = found.answer;
+    let mut replica = Replica::empty(0);
+    let answer = loading::read_into(Version::Second, bytes, &mut replica);
     match answer {
-        LoadAnswer::Refused(q) => effects::results::number_of_refusal(q),
-        LoadAnswer::Done => {
-            let site = found.site;
-            changing::delete(
-                &mut characters,
-                &mut toggles,
-                &mut pending,
-                &mut heads,
-                &mut links,
-                site,
-                found.length,
-                found.waiting,
-                index as usize,
-                out,
-                line_out,
-            )
-        }
+        Err(q) => effects::results::number_of_refusal(q),
+        Ok(()) => { changing::delete(&mut replica, index as usize, out, line_out) }
     }
 }
 
@@ -102,42 +43,16 @@ pub fn restore(bytes: &[u8], site: u64, clock: u64, out: &mut [u8], line_out: &m
         out.old line_out.old)
         result out.new line_out.new }
 {
-    let mut characters = [0u32; CHARACTER_NUMBERS];
-    let mut toggles = [0u8; CHARACTERS];
-    let mut pending = [0u32; PENDING_NUMBERS];
-    let mut heads = [0u16; CHAINS];
-    let mut links = [0u16; LINKS];
-    let found = loading::read_into(
-        Version::Second,
-        bytes,
-        &mut characters,
-        &mut toggles,
-        &mut pending,
-        &mut heads,
-        &mut links,
-    );
-    let answer = found.answer;
+    let mut replica = Replica::empty(0);
+    let answer = loading::read_into(Version::Second, bytes, &mut replica);
     if !inputs::names_character(site, clock) {
         return effects::results::number_of_refusal(inputs::first_of(answer, Refusal::Range));
     }
     match answer {
-        LoadAnswer::Refused(q) => effects::results::number_of_refusal(q),
-        LoadAnswer::Done => {
+        Err(q) => effects::results::number_of_refusal(q),
+        Ok(()) => {
             let id = codec::identifier(site, clock);
-            let own = found.site;
-            changing::restore(
-                &mut characters,
-                &mut toggles,
-                &mut pending,
-                &mut heads,
-                &mut links,
-                own,
-                found.length,
-                found.waiting,
-                id,
-                out,
-                line_out,
-            )
+            changing::restore(&mut replica, id, out, line_out)
         }
     }
 }
@@ -148,36 +63,11 @@ pub fn paste(bytes: &[u8], point: u64, block: &[u8], out: &mut [u8], lines_out: 
         out.old lines_out.old)
         result out.new lines_out.new }
 {
-    let mut characters = [0u32; CHARACTER_NUMBERS];
-    let mut toggles = [0u8; CHARACTERS];
-    let mut pending = [0u32; PENDING_NUMBERS];
-    let mut heads = [0u16; CHAINS];
-    let mut links = [0u16; LINKS];
-    let found = loading::read_into(
-        Version::Second,
-        bytes,
-        &mut characters,
-        &mut toggles,
-        &mut pending,
-        &mut heads,
-        &mut links,
-    );
-    let answer = found.answer;
+    let mut replica = Replica::empty(0);
+    let answer = loading::read_into(Version::Second, bytes, &mut replica);
     match answer {
-        LoadAnswer::Refused(q) => effects::results::number_of_refusal(q),
-        LoadAnswer::Done => {
-            let site = found.site;
-            let replica = Replica {
-                site,
-                document: Document {
-                    characters,
-                    toggles,
-                    length: found.length,
-                    pending,
-                    waiting: found.waiting,
-                    table: Table { heads, links },
-                },
-            };
+        Err(q) => effects::results::number_of_refusal(q),
+        Ok(()) => {
             let mut typed = [0u32; CHARACTER_NUMBERS];
             let pasted = pasting::paste_into(replica, point as usize, block, &mut typed);
             let answer = pasted.answer;

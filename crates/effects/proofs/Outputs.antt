@@ -1,5 +1,6 @@
 -- What a call leaves is told of its whole effect at once, so that an equation of effects carries it over. Each law here
 -- says which effect it is once the tests on the way are known.
+use Rattle.std.proofs.Common.{Ok, Err, Some, None}
 use mathlib.Core.Path.{◌≡◌, refl, sym, ap, ◌∙◌, subst}
 use mathlib.Core.Bool.{Bool, true, false, ◌||◌, not, cond}
 use mathlib.Core.List.{List, [], ◌∷◌}
@@ -17,16 +18,13 @@ use Rattle.answers.specs.declared.Refusal.{Refusal}
 use Rattle.answers.specs.declared.Refusal.TheVariants.{Form, Output}
 use Rattle.answers.specs.declared.Answer.{Answer}
 use Rattle.answers.specs.declared.Answer.TheVariants.{Done}
-use Rattle.woot.specs.declared.Sent.TheVariants.{Done as sentDone, Refused as sentRefused}
 use Rattle.woot.specs.declared.ReceiptAt.{ReceiptAt}
 use Rattle.woot.specs.declared.Generated.{Generated}
-use Rattle.woot.specs.declared.Written.TheVariants.{Length, Refused as writtenRefused}
-use Rattle.woot.specs.declared.Written.{Written}
+use Rattle.woot.specs.Writing.{Written}
 use Rattle.answers.specs.Answers.{changes, Check, ◌⇒◌, first, decided}
 use Rattle.woot.specs.Writing.{refusing, writing_checks, written_as, output_after}
 use Rattle.lists.proofs.Tests.{side}
 use Rattle.convergence.proofs.Writing.{length-refused, own_first, own-none, too_short, has_room_lem}
-use Rattle.lines.specs.declared.writing.Room.TheVariants.{Until, Short}
 use Rattle.lines.specs.Room.{room_for}
 use Rattle.cursor.specs.Bits.{shift_bits}
 use Rattle.codec.specs.Operations.{operation_line}
@@ -38,6 +36,7 @@ use Rattle.effects.specs.Results.{result}
 use Rattle.effects.specs.Effects.{Effect, Leaves, quiet, turned, writing_noted, writing, writing_both}
 use Rattle.effects.specs.Steps.{after_noting, after_writing, receipt_at_left, sent_left, generated_left, text_left}
 use Rattle.effects.specs.Steps.{receipt_at_left, lines_left}
+use Rattle.woot.specs.Sent.{sends}
 
 pub leaves_by : {e f : Effect} {r : ℕ} {out line : List ℕ} → e ≡ f → Leaves f r out line → Leaves e r out line
 leaves_by {r = r} {out = out} {line = line} p h = subst (λ (x : Effect). Leaves x r out line) (sym p) h
@@ -52,7 +51,7 @@ turned-away out line e h = rw h
 -- the first condition of a writer that holds
 abbrev refused_by : Option Refusal → Option Written
 refused_by none = none
-refused_by (some q) = some (writtenRefused q)
+refused_by (some q) = some (Err q)
 
 by_first : (cs : List (Check Refusal)) → first (refusing cs) ≡ refused_by (first cs)
 by_first [] = refl
@@ -73,7 +72,7 @@ module _ (a : Answer) (note : ℕ) (bytes out : List ℕ) where
     where
       go : (b : Bool)
           → decided (turned out []) (first ((b ⇒ Output) ∷ [])) (record { result = result a (length bytes) note; output = placed out 0 bytes; line = [] })
-          ≡ record { result = after_noting a note (decided (λ w. w) (first ((b ⇒ writtenRefused Output) ∷ [])) (Length (length bytes))); output = decided (λ w. out) (first ((b ⇒ writtenRefused Output) ∷ [])) (placed out 0 bytes); line = [] }
+          ≡ record { result = after_noting a note (decided (λ (w : Written). w) (first ((b ⇒ Err Output) ∷ [])) (Ok (length bytes))); output = decided (λ (w : Written). out) (first ((b ⇒ Err Output) ∷ [])) (placed out 0 bytes); line = [] }
       go true = refl
       go false = refl
 
@@ -88,7 +87,7 @@ module _ (cs : List (Check Refusal)) (bytes out : List ℕ) where
     where
       go : (o : Option Refusal) → first cs ≡ o → decided (turned out []) o (writing (Done 0 0) bytes out) ≡ after_writer
       go none h = let w = own-none (refusing cs) bytes out (first-refusing cs none h) in noted_written (Done 0 0) 0 bytes out ∙ rw (w.0, w.1)
-      go (some q) h = let w = own_first (refusing cs) (writtenRefused q) bytes out (first-refusing cs (some q) h) in rw (w.0, w.1)
+      go (some q) h = let w = own_first (refusing cs) (Err q) bytes out (first-refusing cs (some q) h) in rw (w.0, w.1)
 
 -- the text of a replica, by what its writer answers
 pub text-written : (r : Replica) (out : List ℕ) → text_left r out ≡ record { result = after_writing (Done 0 0) (text_written r out); output = text_out r out; line = [] }
@@ -108,7 +107,7 @@ module _ (x y : ReceiptAt) (e : x ≡ y) (out : List ℕ) where
 
 -- ---- sending
 
-until-short : {n : ℕ} → Until n ≡ Short → ⊥
+until-short : {n : ℕ} → Some n ≡ None → ⊥
 until-short e = let z : ◌≡◌ {A = ℕ} 0 1 = cc in omega arith
 
 module _ (a : Answer) (bytes sent out line : List ℕ) where
@@ -118,7 +117,7 @@ module _ (a : Answer) (bytes sent out line : List ℕ) where
       decided (turned out line) (first ((b || c ⇒ Output) ∷ []))
       (record { result = result a (length bytes) (length sent); output = placed out 0 bytes; line = placed line 0 sent })
 
-  pub line_short : room_for (length line) 0 sent ≡ Short → writing_both a bytes sent out line ≡ turned out line Output
+  pub line_short : room_for (length line) 0 sent ≡ None → writing_both a bytes sent out line ≡ turned out line Output
   unfolding writing_both decided room_for has_room
   line_short h = go (leb (0 + length sent) (length line)) refl h
     where
@@ -126,26 +125,26 @@ module _ (a : Answer) (bytes sent out line : List ℕ) where
       over true = refl
       over false = refl
 
-      go : (b : Bool) → leb (0 + length sent) (length line) ≡ b → cond b (Until (0 + length sent)) Short ≡ Short → writing_both a bytes sent out line ≡ turned out line Output
+      go : (b : Bool) → leb (0 + length sent) (length line) ≡ b → cond b (Some (0 + length sent)) None ≡ None → writing_both a bytes sent out line ≡ turned out line Output
       go true e k = absurd (until-short k)
       go false e k =
           let low : length line < length sent = omega (arith, leb-false (0 + length sent) (length line) e) in
           rw (lt-ltb (length line) (length sent) low) (over (ltb (length out) (length bytes)))
 
-  module _ {m : ℕ} (h : room_for (length line) 0 sent ≡ Until m) where
+  module _ {m : ℕ} (h : room_for (length line) 0 sent ≡ Some m) where
     -- the line has room, and is so long
     line_room : (ltb (length line) (length sent) ≡ false) × (m ≡ length sent)
     unfolding room_for has_room
     line_room = go (leb (0 + length sent) (length line)) refl h
       where
-        go : (b : Bool) → leb (0 + length sent) (length line) ≡ b → cond b (Until (0 + length sent)) Short ≡ Until m → (ltb (length line) (length sent) ≡ false) × (m ≡ length sent)
+        go : (b : Bool) → leb (0 + length sent) (length line) ≡ b → cond b (Some (0 + length sent)) None ≡ Some m → (ltb (length line) (length sent) ≡ false) × (m ≡ length sent)
         go true e k =
             let low : length sent ≤ length line = omega (arith, leb-true (0 + length sent) (length line) e) in
             let long : 0 + length sent ≡ m = cc in
             (le-ltb (length line) (length sent) low, omega arith)
         go false e k = absurd (until-short (sym k))
 
-    pub save-refused : {q : Refusal} → written_as [] bytes out ≡ writtenRefused q → (writing_both a bytes sent out line ≡ turned out line q) × (output_after [] bytes out ≡ out)
+    pub save-refused : {q : Refusal} → written_as [] bytes out ≡ Err q → (writing_both a bytes sent out line ≡ turned out line q) × (output_after [] bytes out ≡ out)
     unfolding writing_both decided
     save-refused {q} k = go (side (length bytes) (length out))
       where
@@ -153,11 +152,11 @@ module _ (a : Answer) (bytes sent out line : List ℕ) where
         go (inl room) = absurd (length-refused (sym (has_room_lem [] bytes out refl room).0 ∙ k))
         go (inr low) =
             let w = too_short [] bytes out refl low in
-            let same : writtenRefused Output ≡ writtenRefused q = sym w.0 ∙ k in
+            let same : Err Output ≡ Err q = sym w.0 ∙ k in
             let o : Output ≡ q = cc in
             (rw (lt-ltb (length out) (length bytes) low) (ap (turned out line) o), w.1)
 
-    pub both-written : {n : ℕ} → written_as [] bytes out ≡ Length n
+    pub both-written : {n : ℕ} → written_as [] bytes out ≡ Ok n
         → writing_both a bytes sent out line ≡ record { result = result a n m; output = output_after [] bytes out; line = placed line 0 sent }
     unfolding writing_both decided
     both-written {n} k = go (side (length bytes) (length out))
@@ -165,17 +164,17 @@ module _ (a : Answer) (bytes sent out line : List ℕ) where
         go : (length bytes ≤ length out) ⊎ (length out < length bytes) → writing_both a bytes sent out line ≡ record { result = result a n m; output = output_after [] bytes out; line = placed line 0 sent }
         go (inl room) =
             let w = has_room_lem [] bytes out refl room in
-            let same : Length (length bytes) ≡ Length n = sym w.0 ∙ k in
+            let same : Ok (length bytes) ≡ Ok n = sym w.0 ∙ k in
             let o : length bytes ≡ n = cc in
             rw (le-ltb (length out) (length bytes) room, line_room.0, ← o, line_room.1, w.1)
         go (inr low) = absurd (length-refused (sym k ∙ (too_short [] bytes out refl low).0))
 
 module _ (g h : Generated) (e : g ≡ h) (out line : List ℕ) where
-  pub not-sent : {q : Refusal} → g.answer ≡ sentRefused q → generated_left h out line ≡ turned out line q
+  pub not-sent : {q : Refusal} → g.answer ≡ Err q → generated_left h out line ≡ turned out line q
   unfolding generated_left sent_left
   not-sent k = rw (← e, k)
 
-  pub sent-both : {o : Operation} {n m : ℕ} → g.answer ≡ sentDone o n m →
+  pub sent-both : {o : Operation} {n m : ℕ} → g.answer ≡ sends o n m →
       generated_left h out line ≡ writing_both (Done n m) (bytes_of g.replica) (operation_line o) out line
   unfolding generated_left sent_left
   sent-both k = rw (← e, k)

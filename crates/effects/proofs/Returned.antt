@@ -15,7 +15,6 @@ use Rattle.woot.specs.State.{State}
 use Rattle.woot.specs.Table.{key, keys}
 use Rattle.answers.specs.declared.Refusal.{Refusal}
 use Rattle.answers.specs.declared.Answer.TheVariants.{Done}
-use Rattle.woot.specs.declared.Sent.TheVariants.{Done as sentDone, Refused as sentRefused}
 use Rattle.answers.specs.Answers.{changes}
 use Rattle.woot.specs.declared.Generated.{Generated}
 use Rattle.woot.specs.contracts.Generated as generated
@@ -32,6 +31,8 @@ use Rattle.saved.specs.Calls.{bytes_of}
 use Rattle.effects.specs.Effects.{turned, writing_both}
 use Rattle.effects.specs.Steps.{sent_left, generated_left}
 use Rattle.effects.proofs.Saving.{columns-length}
+use Rattle.std.proofs.Common.{Err}
+use Rattle.woot.specs.Sent.{sends}
 
 -- the replica that a call returns has its slots
 pub full-generated : (g : Generated) {vs : List Val} → Is generated.the_row g vs → FullArrays g.replica.document
@@ -67,11 +68,11 @@ module _ (r : Replica) (o : Operation) (g : ℕ) {x : ReceiptAt} (e : x ≡ rece
 -- ---- what a call that sends leaves
 
 module _ (g : Generated) (out line : List ℕ) where
-  pub not-sent : {q : Refusal} → g.answer ≡ sentRefused q → generated_left g out line ≡ turned out line q
+  pub not-sent : {q : Refusal} → g.answer ≡ Err q → generated_left g out line ≡ turned out line q
   unfolding generated_left sent_left
   not-sent h = rw h
 
-  pub sent-both : {o : Operation} {n m : ℕ} → g.answer ≡ sentDone o n m →
+  pub sent-both : {o : Operation} {n m : ℕ} → g.answer ≡ sends o n m →
       generated_left g out line ≡ writing_both (Done n m) (bytes_of g.replica) (operation_line o) out line
   unfolding generated_left sent_left
   sent-both h = rw h

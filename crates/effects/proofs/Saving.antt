@@ -16,8 +16,6 @@ use Rattle.lists.proofs.Padding.{pad-length}
 use Rattle.woot.specs.declared.Identifier.{Identifier}
 use Rattle.woot.specs.declared.Operation.{Operation}
 use Rattle.woot.specs.declared.ReceiptAt.{ReceiptAt}
-use Rattle.woot.specs.declared.Sent.{Sent}
-use Rattle.woot.specs.declared.Sent.TheVariants.{Done}
 use Rattle.answers.specs.Answers.{changes}
 use Rattle.woot.specs.Sending.{answer_of}
 use Rattle.memory.proofs.Fullness.{FullArrays}
@@ -25,7 +23,6 @@ use Rattle.woot.specs.declared.Replica.{Replica}
 use Rattle.woot.specs.Memory.{in_columns, replica_well_formed}
 use Rattle.woot.specs.Histories.{inserting, deleting, restoring}
 use Rattle.woot.specs.Replicas.{received_at}
-use Rattle.generation.specs.declared.Made.{Made}
 use Rattle.generation.specs.Decisions.{InsertMade, DeleteMade, RestoreMade}
 use Rattle.replica.specs.Outcomes.{sent_by}
 use Rattle.replica.specs.Theorems.{called, answer_to}
@@ -37,6 +34,8 @@ use Rattle.memory.specs.Lent.{view, viewed}
 use Rattle.memory.proofs.Stored.{Counts, counts, form_counted}
 use Rattle.memory.proofs.Views.{form_view}
 use Rattle.effects.specs.Steps.{Savable}
+use Rattle.woot.specs.Sent.{Sending, sends}
+use Rattle.generation.specs.Made.{Made}
 
 pub few-held : (r : Replica) → replica_well_formed r ≡ true → Counts (view r.document)
 few-held r f = counts (viewed r) (form_counted (viewed r) (rw (form_view r) at f))
@@ -50,7 +49,7 @@ storable r full f =
     (full.characters, (w.characters, (omega (arith, full.toggles, w.characters), (full.pending, w.pending))))
 
 -- what is sent changes the replica
-pub sent-changes : {a : Sent} {o : Operation} {n m : ℕ} → a ≡ Done o n m → changes (answer_of a) ≡ true
+pub sent-changes : {a : Sending} {o : Operation} {n m : ℕ} → a ≡ sends o n m → changes (answer_of a) ≡ true
 unfolding changes answer_of
 sent-changes e = rw e
 

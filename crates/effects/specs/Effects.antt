@@ -1,13 +1,11 @@
 -- What a call does: the result, and every byte of its outputs afterwards.
-use Rattle.std.specs.Prelude.{ℕ, ◌||◌, cond, ◌≡◌, List, [], ◌∷◌, ltb, ℤ, length}
+use Rattle.std.specs.Prelude.{ℕ, ◌||◌, cond, ◌≡◌, List, [], ◌∷◌, ltb, ℤ, length, Ok, Err}
 use Rattle.output.specs.Output.{placed}
 use Rattle.woot.specs.declared.Operation.{Operation}
 use Rattle.answers.specs.declared.Refusal.{Refusal}
 use Rattle.answers.specs.declared.Refusal.TheVariants.{Output}
 use Rattle.answers.specs.declared.Answer.{Answer}
 use Rattle.answers.specs.declared.Answer.TheVariants.{Done, Refused}
-use Rattle.woot.specs.declared.Sent.{Sent}
-use Rattle.woot.specs.declared.Sent.TheVariants.{Done as sentDone, Refused as sentRefused}
 use Rattle.woot.specs.State.{State}
 use Rattle.answers.specs.Answers.{changes, ◌⇒◌, first, decided}
 use Rattle.woot.specs.Calls.{Outcome}
@@ -17,6 +15,7 @@ use Rattle.cursor.specs.Bits.{shift_bits}
 use Rattle.codec.specs.Operations.{operation_line}
 use Rattle.saved.specs.Format.{saved_bytes}
 use Rattle.effects.specs.Results.{Result, result, silent, number_of}
+use Rattle.woot.specs.Sent.{Sending}
 
 -- `line` is the second output; a call that has none leaves the empty one
 pub record Effect : Type 0 where
@@ -65,11 +64,11 @@ after_receiving_at w shift out =
     (quiet out [] w.answer)
 
 -- what typing, erasing and restoring leave: the new state and the line to send
-unfoldable pub sending : State → Sent → List ℕ → List ℕ → Effect
-sending s (sentDone o n m) out line = writing_both (Done n m) (saved_bytes s) (operation_line o) out line
-sending s (sentRefused q) out line = turned out line q
+unfoldable pub sending : State → Sending → List ℕ → List ℕ → Effect
+sending s (Ok x) out line = writing_both (Done x.integrated x.discarded) (saved_bytes s) (operation_line x.operation) out line
+sending s (Err q) out line = turned out line q
 
-unfoldable pub after_sending : Outcome Sent → List ℕ → List ℕ → Effect
+unfoldable pub after_sending : Outcome Sending → List ℕ → List ℕ → Effect
 after_sending w out line = sending w.state w.answer out line
 
 -- what pasting leaves: the new state and the lines to send, one after another; with nothing to send nothing is written

@@ -1,15 +1,12 @@
 -- For the proofs of the code alone: what the steps of a call leave, of replicas in memory.
-use Rattle.std.specs.Prelude.{ℕ, zero, suc, ◌≡◌, true, not, cond, List, [], ◌∷◌}
+use Rattle.std.specs.Prelude.{ℕ, zero, suc, ◌≡◌, true, not, cond, List, [], ◌∷◌, Ok, Err}
 use Rattle.woot.specs.declared.Replica.{Replica}
 use Rattle.answers.specs.declared.Refusal.TheVariants.{Form}
 use Rattle.answers.specs.declared.Answer.{Answer}
 use Rattle.answers.specs.declared.Answer.TheVariants.{Done, Refused}
-use Rattle.woot.specs.declared.Sent.{Sent}
-use Rattle.woot.specs.declared.Sent.TheVariants.{Done as sentDone, Refused as sentRefused}
 use Rattle.woot.specs.declared.ReceiptAt.{ReceiptAt}
 use Rattle.woot.specs.declared.Generated.{Generated}
-use Rattle.woot.specs.declared.Written.{Written}
-use Rattle.woot.specs.declared.Written.TheVariants.{Length, Refused as writtenRefused}
+use Rattle.woot.specs.Writing.{Written}
 use Rattle.woot.specs.Sending.{answer_of}
 use Rattle.woot.specs.Memory.{replica_well_formed}
 use Rattle.answers.specs.Answers.{changes, ◌⇒◌, first, decided}
@@ -20,11 +17,12 @@ use Rattle.saved.specs.Calls.{bytes_of}
 use Rattle.saving.specs.Documents.{lines_in}
 use Rattle.effects.specs.Results.{Result, result, silent}
 use Rattle.effects.specs.Effects.{Effect, quiet, turned, writing_noted, writing, writing_both}
+use Rattle.woot.specs.Sent.{Sending}
 
 -- an answer with so many bytes written and a note, unless writing was refused
 unfoldable pub after_noting : Answer → ℕ → Written → Result
-after_noting a note (Length n) = result a n note
-after_noting a note (writtenRefused q) = silent (Refused q)
+after_noting a note (Ok n) = result a n note
+after_noting a note (Err q) = silent (Refused q)
 
 unfoldable pub after_writing : Answer → Written → Result
 after_writing a w = after_noting a 0 w
@@ -36,9 +34,9 @@ receipt_at_left x out =
     (quiet out [] x.answer)
 
 -- what comes of a call that sends
-unfoldable pub sent_left : Sent → Replica → List ℕ → List ℕ → Effect
-sent_left (sentDone o n m) r out line = writing_both (Done n m) (bytes_of r) (operation_line o) out line
-sent_left (sentRefused q) r out line = turned out line q
+unfoldable pub sent_left : Sending → Replica → List ℕ → List ℕ → Effect
+sent_left (Ok x) r out line = writing_both (Done x.integrated x.discarded) (bytes_of r) (operation_line x.operation) out line
+sent_left (Err q) r out line = turned out line q
 
 unfoldable pub generated_left : Generated → List ℕ → List ℕ → Effect
 generated_left x out line = sent_left x.answer x.replica out line

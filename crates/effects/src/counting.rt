@@ -3,15 +3,14 @@
 ghost use Rattle.std.specs.Prelude.{◌≡◌, List, ◌≤◌, length, take};
 ghost use Rattle.woot.specs.declared.Character.{Character};
 ghost use Rattle.woot.specs.Memory.{toggle_counts, character_slots};
-ghost use Rattle.memory.specs.Lent.{Sized};
-ghost use Rattle.replica.specs.Outcomes.{replica_lent};
+ghost use Rattle.memory.specs.Lent.{Full};
 ghost use Rattle.effects.specs.Results.{number_of};
 ghost use Rattle.effects.specs.Counting.{present_by, counts_in, counts_left};
 
 use crate::results;
 use answers::{Answer, Refusal};
 use pending::counts;
-use woot::{CHARACTERS, Replica, Site};
+use woot::{CHARACTERS, Replica};
 
 // The counts of a replica whose characters have these toggles, and its first w pending operations these keys of their
 // own, 0 of a toggle. A pending insert has its place kept, so the room is what is left beside it.
@@ -36,44 +35,22 @@ fn counts_of<'a>(toggles: &'a [u8], n: usize, own: &'a [u32], w: usize) -> u64
 pub fn count(replica: Replica) -> u64
     ensures { result ≡ number_of (counts_left replica) }
 {
-    if !well_formed::check(
-        replica.site,
-        &replica.document.characters,
-        &replica.document.toggles,
-        replica.document.length,
-        &replica.document.pending,
-        replica.document.waiting,
-        &replica.document.table.heads,
-        &replica.document.table.links,
-    ) {
-        return results::number_of_refusal(Refusal::Form);
-    }
-    counts_of(
-        &replica.document.toggles,
-        replica.document.length,
-        &replica.document.pending,
-        replica.document.waiting,
-    )
+    count_in(&replica)
 }
 
-// Internal step: the same of the replica in these arrays. The calls lend arrays of these sizes.
-pub fn count_in<'a>(
-    site: Site,
-    characters: &'a [u32],
-    toggles: &'a [u8],
-    n: usize,
-    pending: &'a [u32],
-    w: usize,
-    heads: &'a [u16],
-    links: &'a [u16],
-) -> u64
-    requires { Sized characters.now toggles.now pending.now heads.now links.now }
-    ensures { result ≡ number_of (counts_left
-        (replica_lent site characters.now toggles.now n pending.now w
-        heads.now links.now)) }
+// Internal step: the same of a replica that is lent.
+pub fn count_in(replica: &Replica) -> u64
+    requires { Full replica.now }
+    ensures { result ≡ number_of (counts_left replica.now) }
 {
-    if !well_formed::check(site, characters, toggles, n, pending, w, heads, links) {
+    if !well_formed::is_well_formed(replica) {
         return results::number_of_refusal(Refusal::Form);
     }
-    counts_of(toggles, n, pending, w)
+    let document = &replica.document;
+    counts_of(
+        &document.toggles,
+        document.length,
+        &document.pending,
+        document.waiting,
+    )
 }

@@ -1,15 +1,16 @@
--- For the proofs of the code alone: what carrying out a decision on lent arrays leaves, and the answer to what was
+-- For the proofs of the code alone: what carrying out a decision on a replica leaves, and the answer to what was
 -- received.
-use Rattle.std.specs.Prelude.{ℕ, List, length}
+use Rattle.std.specs.Prelude.{ℕ, length}
 use Rattle.woot.specs.declared.Operation.{Operation}
 use Rattle.answers.specs.declared.Answer.{Answer}
 use Rattle.answers.specs.declared.Answer.TheVariants.{Done, Deferred}
 use Rattle.woot.specs.Calls.{Outcome, all_integrated, carry_out, defer}
 use Rattle.memory.specs.Columns.{Replica, meaning, stored}
-use Rattle.memory.specs.Lent.{replica_as}
+use Rattle.memory.specs.Lent.{viewed}
 use Rattle.reception.specs.declared.Decision.{Decision}
 use Rattle.reception.specs.declared.Decision.TheVariants.{Answered, Defer, Place, Toggle as toggleAt}
-use Rattle.execution.specs.declared.Carried.{Carried}
+use Rattle.delivery.specs.declared.Counts.{Counts}
+use Rattle.woot.specs.declared.Replica.{Replica as InMemory}
 
 -- a replica, and how many operations were carried out and how many discarded
 pub record Left : Type 0 where
@@ -17,14 +18,9 @@ pub record Left : Type 0 where
   pub integrated : ℕ
   pub discarded : ℕ
 
--- in lent arrays
-abbrev pub left_as : List ℕ → List ℕ → List ℕ → List ℕ → List ℕ → Carried → Left
-left_as characters toggles pending heads links c =
-    record {
-      replica = replica_as c.site characters toggles c.length pending c.waiting heads links;
-      integrated = c.integrated;
-      discarded = c.discarded;
-    }
+-- in a replica in memory
+abbrev pub left_in : InMemory → Counts → Left
+left_in r c = record { replica = viewed r; integrated = c.integrated; discarded = c.discarded }
 
 -- by the rules: the state as it is stored
 unfoldable pub left_of : Outcome Answer → Left

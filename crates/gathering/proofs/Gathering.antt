@@ -1,5 +1,6 @@
 -- The lines of a heap read one after another: the lines that are done and those that are left are the whole. What is
 -- told is told of those that are done, and as long as they are in range the arrays hold them.
+use Rattle.std.proofs.Common.{Ok, Err}
 use mathlib.Core.Path.{◌≡◌, refl, sym, ap, ◌∙◌}
 use mathlib.Core.List.{List, [], ◌∷◌, ◌++◌, map, map-append, append-nil}
 use mathlib.Core.Bool.{Bool, true, false, ◌&&◌, cond}
@@ -26,7 +27,6 @@ use Rattle.lines.specs.Lines.{ended, first_line, rest, lines, closed}
 use Rattle.lines.specs.Fields.{fields, has_layout}
 use Rattle.lines.proofs.Lines.{lines-ended, closed-rest, closed_unended, rest_shorter}
 use Rattle.lines.proofs.Spelling.{spelled}
-use Rattle.codec.specs.declared.Read.TheVariants.{Operation as readsAs, Refused as readRefused}
 use Rattle.codec.specs.Operations.{is_insert, is_toggle, is_delete, operation_of}
 use Rattle.codec.specs.Calls.{as_written, line_laid_out, read_as, read_line}
 use Rattle.codec.proofs.Judging.{read-layout, read-range, read-operation}
@@ -126,17 +126,17 @@ module _ (line : List ℕ) where
   unfolding read_line line_said
   by_checks = refl
 
-  pub was_read : (o : Operation) → read_line line ≡ readsAs o
+  pub was_read : (o : Operation) → read_line line ≡ Ok o
       → (line_laid_out line ≡ true) × (line_said line ≡ o) × (in_range o ≡ true)
   was_read o e = go (line_laid_out line) (in_range (line_said line)) refl refl (sym by_checks ∙ e)
     where
       go : (a b : Bool) → line_laid_out line ≡ a → in_range (line_said line) ≡ b
-          → read_as (line_laid_out line) (line_said line) ≡ readsAs o
+          → read_as (line_laid_out line) (line_said line) ≡ Ok o
           → (line_laid_out line ≡ true) × (line_said line ≡ o) × (in_range o ≡ true)
-      go false b p q w = let z : readRefused Layout ≡ readsAs o = sym (read-layout _) ∙ rw p at w in (cc, cc, cc)
-      go true false p q w = let z : readRefused Range ≡ readsAs o = sym (read-range _ q) ∙ rw p at w in (cc, cc, cc)
+      go false b p q w = let z : Err Layout ≡ Ok o = sym (read-layout _) ∙ rw p at w in (cc, cc, cc)
+      go true false p q w = let z : Err Range ≡ Ok o = sym (read-range _ q) ∙ rw p at w in (cc, cc, cc)
       go true true p q w =
-          let z : readsAs (line_said line) ≡ readsAs o = sym (read-operation _ q) ∙ rw p at w in
+          let z : Ok (line_said line) ≡ Ok o = sym (read-operation _ q) ∙ rw p at w in
           let same : line_said line ≡ o = cc in
           (p, same, rw same at q)
 
@@ -146,20 +146,20 @@ module _ (line : List ℕ) where
       ((r ≡ Range) × (line_laid_out line ≡ true) × (in_range (line_said line) ≡ false))
       ⊎ ((r ≡ Layout) × (line_laid_out line ≡ false))
 
-  refused : (r : Refusal) → read_line line ≡ readRefused r → Told r
+  refused : (r : Refusal) → read_line line ≡ Err r → Told r
   refused r e = go (line_laid_out line) (in_range (line_said line)) refl refl (sym by_checks ∙ e)
     where
       go : (a b : Bool) → line_laid_out line ≡ a → in_range (line_said line) ≡ b
-          → read_as (line_laid_out line) (line_said line) ≡ readRefused r → Told r
-      go false b p q w = let z : readRefused Layout ≡ readRefused r = sym (read-layout _) ∙ rw p at w in inr (cc, p)
+          → read_as (line_laid_out line) (line_said line) ≡ Err r → Told r
+      go false b p q w = let z : Err Layout ≡ Err r = sym (read-layout _) ∙ rw p at w in inr (cc, p)
       go true false p q w =
-          let z : readRefused Range ≡ readRefused r = sym (read-range _ q) ∙ rw p at w in
+          let z : Err Range ≡ Err r = sym (read-range _ q) ∙ rw p at w in
           inl (cc, p, q)
       go true true p q w =
-          let z : readsAs (line_said line) ≡ readRefused r = sym (read-operation _ q) ∙ rw p at w in
+          let z : Ok (line_said line) ≡ Err r = sym (read-operation _ q) ∙ rw p at w in
           inr (cc, cc)
 
-  module _ (r : Refusal) (e : read_line line ≡ readRefused r) where
+  module _ (r : Refusal) (e : read_line line ≡ Err r) where
     pub out_of_range_lem : r ≡ Range → (line_laid_out line ≡ true) × (in_range (line_said line) ≡ false)
     out_of_range_lem h = ⊎_elim (λ w. (w.1, w.2)) (λ w. let z : Layout ≡ Range = sym w.0 ∙ h in (cc, cc)) (refused r e)
 

@@ -10,12 +10,13 @@ ghost use Rattle.heap.specs.Columns.{InsertsIn, toggle_numbers, TogglesIn};
 ghost use Rattle.gathering.specs.Gathering.{ungathered, gathered_of, gathered, Held, counted_one, and_one, and_line};
 
 use answers::Refusal;
-use codec::{INSERT, Read};
+use codec::INSERT;
 use heap::STAMPS;
 use woot::{CHARACTERS, Insert, Operation, Toggle};
 
 // Whether each line of a heap has the layout of an operation; if so, whether each is in range, and how many inserts
 // there are and how many toggles, which may be more than the arrays have slots.
+// It is no Result: a line out of range is counted on, and a fault of the layout after it comes first.
 #[derive(Clone, Copy)]
 pub struct Gathered {
     pub laid_out: bool,
@@ -61,6 +62,7 @@ fn keep_toggle(toggles: &mut [u32], n: usize, toggle: Toggle)
 }
 
 // A heap with a line that lacks the layout.
+#[tactic(auto, unfolding(crate::specs::Gathering::ungathered))]
 fn ungathered() -> Gathered
     ensures { result ≡ ungathered }
 {
@@ -73,6 +75,7 @@ fn ungathered() -> Gathered
 }
 
 // Counts one line more that has the layout, an insert's or a toggle's, by whether it is in range.
+#[tactic(auto, unfolding(crate::specs::Gathering::counted_one))]
 fn count(at: Gathered, insert: bool, in_range: bool) -> Gathered
     requires inserts_bound { at.inserts + 1 < 2 ^ 64 }
     requires toggles_bound { at.toggles + 1 < 2 ^ 64 }
@@ -131,8 +134,8 @@ fn gather_line(line: &[u8], inserts: &mut [u32], toggles: &mut [u32], at: Gather
 {
     let read = codec::read_line(line);
     match read {
-        Read::Operation(operation) => keep(inserts, toggles, at, operation),
-        Read::Refused(refusal) => match refusal {
+        Ok(operation) => keep(inserts, toggles, at, operation),
+        Err(refusal) => match refusal {
             Refusal::Range => count(at, codec::first_byte(line) == INSERT, false),
             _ => ungathered(),
         },
@@ -155,6 +158,7 @@ pub fn gather(bytes: &[u8], inserts: &mut [u32], toggles: &mut [u32]) -> Gathere
         inserts: 0,
         toggles: 0,
     };
+    // It stays a while: `lines` cuts one line off at a time, and no index is counted.
     let mut left = bytes;
     while 0 < left.len() {
         let line = lines::first_line(left);

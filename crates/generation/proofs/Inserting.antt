@@ -11,7 +11,6 @@ use Rattle.woot.specs.declared.Insert.{Insert}
 use Rattle.woot.specs.declared.Operation.TheVariants.{Insert as insert}
 use Rattle.woot.specs.declared.Character.{Character}
 use Rattle.answers.specs.declared.Refusal.TheVariants.{Position, Clock, Unplaceable as placeless, DocumentFull}
-use Rattle.woot.specs.declared.Sent.TheVariants.{Refused as sentRefused}
 use Rattle.memory.specs.Columns.{Replica}
 use Rattle.woot.specs.Limits.{last_clock}
 use Rattle.woot.specs.Ranges.{is_code_point}
@@ -37,29 +36,29 @@ use Rattle.reception.specs.declared.Decision.TheVariants.{Place}
 use Rattle.reception.specs.Decisions.{full_in, Executed}
 use Rattle.reception.proofs.Inserting.{addable_placed}
 use Rattle.generation.proofs.Neighbours as neighbours
-use Rattle.generation.specs.declared.Made.TheVariants.{Refused, Send}
 use Rattle.generation.specs.Decisions.{sent_in, MadeFor, InsertMade}
+use Rattle.std.proofs.Common.{Ok, Err}
 
 -- ---- what inserting is, by the conditions of its list
 
 module _ (s : State) (g n : ℕ) (coded : is_code_point n ≡ true) where
-  beyond : beyond_visible s g ≡ true → local_insert_when true s g n ≡ unchanged s (sentRefused Position)
+  beyond : beyond_visible s g ≡ true → local_insert_when true s g n ≡ unchanged s (Err Position)
   unfolding local_insert_when insert_checks decided
   beyond e = rw (coded, e)
 
   module _ (visible : beyond_visible s g ≡ false) where
-    late : leb last_clock s.site.clock ≡ true → local_insert_when true s g n ≡ unchanged s (sentRefused Clock)
+    late : leb last_clock s.site.clock ≡ true → local_insert_when true s g n ≡ unchanged s (Err Clock)
     unfolding local_insert_when insert_checks decided
     late e = rw (coded, visible, e)
 
     module _ (early : leb last_clock s.site.clock ≡ false) (f : Formed s) where
       nowhere : unplaceable s.characters (insert (generated_insert s g n)) ≡ true
-          → local_insert_when true s g n ≡ unchanged s (sentRefused placeless)
+          → local_insert_when true s g n ≡ unchanged s (Err placeless)
       unfolding local_insert_when insert_checks decided
       nowhere e = rw (coded, visible, early, formed_untaken s f, e)
 
       module _ (placed : unplaceable s.characters (insert (generated_insert s g n)) ≡ false) where
-        full : document_full s (insert (generated_insert s g n)) ≡ true → local_insert_when true s g n ≡ unchanged s (sentRefused DocumentFull)
+        full : document_full s (insert (generated_insert s g n)) ≡ true → local_insert_when true s g n ≡ unchanged s (Err DocumentFull)
         unfolding local_insert_when insert_checks decided
         full e = rw (coded, visible, early, formed_untaken s f, placed, e)
 
@@ -74,7 +73,7 @@ module _ (r : Replica) (x : Examined r) (g n : ℕ) (coded : is_code_point n ≡
     counted : count ≡ length (visibles (meaning r).characters)
     counted = e (meaning r).characters (sym (toggles_used r x))
 
-    pub insert_beyond : count < g → InsertMade r g n (Refused Position)
+    pub insert_beyond : count < g → InsertMade r g n (Err Position)
     unfolding MadeFor beyond_visible
     insert_beyond h = rw x.form (beyond (meaning r) g n coded (rw (← counted) (lt-ltb count g h)))
 
@@ -83,7 +82,7 @@ module _ (r : Replica) (x : Examined r) (g n : ℕ) (coded : is_code_point n ≡
     insert-within h = rw (← counted) (le-ltb count g h)
 
   module _ (visible : beyond_visible (meaning r) g ≡ false) where
-    pub insert_late : last_clock ≤ r.site.clock → InsertMade r g n (Refused Clock)
+    pub insert_late : last_clock ≤ r.site.clock → InsertMade r g n (Err Clock)
     unfolding MadeFor meaning
     insert_late h = rw x.form (late (meaning r) g n coded visible (le-leb last_clock r.site.clock h))
 
@@ -116,7 +115,7 @@ module _ (r : Replica) (x : Examined r) (g n : ℕ) (coded : is_code_point n ≡
       -- ---- its place
 
       by-room : (k : ℕ) → placement_of (meaning r).characters here ≡ Below k → (b : Bool) → document_full (meaning r) (insert here) ≡ b
-          → InsertMade r g n (cond b (Refused DocumentFull) (Send (insert here) (Place k)))
+          → InsertMade r g n (cond b (Err DocumentFull) (Ok (insert here, Place k)))
       unfolding MadeFor Executed send_insert
       by-room k p true q =
           rw x.form (full (meaning r) g n coded visible early (form r x) (says (meaning r).characters here (Below k) p).2 q)

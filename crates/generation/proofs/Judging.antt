@@ -8,28 +8,28 @@ use Rattle.woot.specs.Ranges.{is_code_point, character_id}
 use Rattle.answers.specs.Answers.{decided}
 use Rattle.woot.specs.Calls.{insert_checks, local_insert_when, delete_checks, local_delete_when, restore_checks, local_restore_when}
 use Rattle.memory.specs.Columns.{Replica, replica_well_formed}
-use Rattle.generation.specs.declared.Made.TheVariants.{Refused}
 use Rattle.generation.specs.Decisions.{MadeFor, InsertMade, DeleteMade, RestoreMade}
+use Rattle.std.proofs.Common.{Err}
 
 module _ (r : Replica) where
   module _ (g n : ℕ) where
-    pub unranged_insert : is_code_point n ≡ false → InsertMade r g n (Refused Range)
+    pub unranged_insert : is_code_point n ≡ false → InsertMade r g n (Err Range)
     unfolding MadeFor local_insert_when insert_checks decided
     unranged_insert e = rw e
 
-    pub unformed_insert : is_code_point n ≡ true → replica_well_formed r ≡ false → InsertMade r g n (Refused Form)
+    pub unformed_insert : is_code_point n ≡ true → replica_well_formed r ≡ false → InsertMade r g n (Err Form)
     unfolding MadeFor local_insert_when insert_checks decided
     unformed_insert ranged e = rw (ranged, e)
 
-  pub unformed_delete : (p : ℕ) → replica_well_formed r ≡ false → DeleteMade r p (Refused Form)
+  pub unformed_delete : (p : ℕ) → replica_well_formed r ≡ false → DeleteMade r p (Err Form)
   unfolding MadeFor local_delete_when delete_checks decided
   unformed_delete p e = rw e
 
   module _ (x : Identifier) where
-    pub unranged_restore : character_id x ≡ false → RestoreMade r x (Refused Range)
+    pub unranged_restore : character_id x ≡ false → RestoreMade r x (Err Range)
     unfolding MadeFor local_restore_when restore_checks decided
     unranged_restore e = rw e
 
-    pub unformed_restore : character_id x ≡ true → replica_well_formed r ≡ false → RestoreMade r x (Refused Form)
+    pub unformed_restore : character_id x ≡ true → replica_well_formed r ≡ false → RestoreMade r x (Err Form)
     unfolding MadeFor local_restore_when restore_checks decided
     unformed_restore ranged e = rw (ranged, e)

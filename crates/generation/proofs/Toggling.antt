@@ -34,8 +34,7 @@ use Rattle.convergence.proofs.Soundness.{standing}
 use Rattle.convergence.proofs.Steps.{any-map}
 use Rattle.convergence.proofs.Named.{none_named, one-named}
 use Rattle.convergence.proofs.Toggles.{toggles-found, visible_below}
-use Rattle.index.specs.declared.Found.{Found}
-use Rattle.index.specs.declared.Found.TheVariants.{At, Nothing}
+use Rattle.std.proofs.Common.{Option, Some, None, Ok, Err}
 use Rattle.index.specs.Keys.{first_index}
 use Rattle.memory.proofs.Bits.{key_bits}
 use Rattle.well_formed.specs.Examined.{Examined}
@@ -47,12 +46,11 @@ use Rattle.reception.specs.declared.Decision.TheVariants.{Toggle as toggleAt}
 use Rattle.reception.specs.Decisions.{Executed}
 use Rattle.holder.proofs.Holders.{CharacterAt}
 use Rattle.holder.proofs.Having.{characters-apart, in_slot, character_member, character-named}
-use Rattle.generation.specs.declared.Made.TheVariants.{Refused, Send}
 use Rattle.generation.specs.Decisions.{MadeFor, DeleteMade, RestoreMade}
 
 -- where no identifier stands twice, the first that has that of the character with an index is this character
 first-apart : (cs : List Character) → distinct same (identifiers cs) ≡ true → (k : ℕ) (d : Character) → k < length cs
-    → first_index (λ c. same (get_or cs k d).id c.id) cs ≡ At k
+    → first_index (λ c. same (get_or cs k d).id c.id) cs ≡ Some k
 unfolding first_index
 first-apart [] apart k d h = absurd (omega arith)
 first-apart (c ∷ cs) apart zero d h = rw (same_refl c.id)
@@ -61,7 +59,7 @@ first-apart (c ∷ cs) apart (suc k) d h =
     let rest = first-apart cs (and_right (not (any (same c.id) (identifiers cs))) (distinct same (identifiers cs)) apart) k d (omega arith) in
     let m = Memᴰ.map (λ (b : Character). b.id) (get_member cs k d (omega arith)) in
     let other : same (get_or cs k d).id c.id ≡ false = same_sym (get_or cs k d).id c.id ∙ any_none (same c.id) unlike m in
-    rw (other, rest) (ap At (omega arith))
+    rw (other, rest) (ap Some (omega arith))
 
 -- the toggle that a site makes of a character
 module _ (r : Replica) (x : Examined r) {c : Character} (m : Memᴰ c (meaning r).characters) where
@@ -75,31 +73,31 @@ module _ (r : Replica) (x : Examined r) {c : Character} (m : Memᴰ c (meaning r
 -- ---- deleting
 
 module _ (r : Replica) (x : Examined r) (p : ℕ) where
-  nowhere : not_visible (meaning r) p ≡ true → DeleteMade r p (Refused Position)
+  nowhere : not_visible (meaning r) p ≡ true → DeleteMade r p (Err Position)
   unfolding MadeFor local_delete_when delete_checks decided
   nowhere e = rw (x.form, e)
 
-  pub delete_zero : p ≡ 0 → DeleteMade r p (Refused Position)
+  pub delete_zero : p ≡ 0 → DeleteMade r p (Err Position)
   unfolding not_visible
   delete_zero e = nowhere (rw (eq-eqb p 0 e))
 
   -- what counting down finds
   module _
       (later : p ≡ 0 → ⊥)
-      {f : Found}
+      {f : Option ℕ}
       (e : (cs : List Character) → toggle_counts cs ≡ take r.document.length r.document.toggles → f ≡ nth_index is_visible cs (p - 1))
     where
       found : f ≡ nth_index is_visible (meaning r).characters (p - 1)
       found = e (meaning r).characters (sym (toggles_used r x))
 
-      pub delete_beyond : f ≡ Nothing → DeleteMade r p (Refused Position)
+      pub delete_beyond : f ≡ None → DeleteMade r p (Err Position)
       unfolding not_visible beyond_visible
       delete_beyond h =
           let few = nth-says is_visible (meaning r).characters (p - 1) (sym found ∙ h) in
           let past = lt-ltb (length (visibles (meaning r).characters)) p (omega (arith, few, later, visibles-length (meaning r).characters)) in
           nowhere (rw (ne_eqb p 0 later, past))
 
-      module _ (k : ℕ) (h : f ≡ At k) where
+      module _ (k : ℕ) (h : f ≡ Some k) where
         nth : NthAt is_visible (meaning r).characters (p - 1) k
         nth = nth-says is_visible (meaning r).characters (p - 1) (sym found ∙ h)
 
@@ -148,7 +146,7 @@ module _ (r : Replica) (x : Examined r) (p : ℕ) where
 
         pub delete_decided : (t : Toggle)
             → t ≡ record { sender = r.site.number; target = identifier (get_or r.document.ids k 0); toggles = get_or r.document.toggles k 0 + 1 }
-            → DeleteMade r p (Send (toggle t) (toggleAt k))
+            → DeleteMade r p (Ok (toggle t, toggleAt k))
         unfolding MadeFor Executed local_delete_when delete_checks decided generated_delete send_toggle character_of
         delete_decided t e =
             let target = ap (λ (u : Toggle). u.target) e in
@@ -166,11 +164,11 @@ module _ (r : Replica) (x : Examined r) (p : ℕ) where
 -- ---- restoring
 
 module _ (r : Replica) (x : Examined r) (id : Identifier) (ranged : character_id id ≡ true) where
-  restore_shown : not_hidden (meaning r) id ≡ true → RestoreMade r id (Refused NotHidden)
+  restore_shown : not_hidden (meaning r) id ≡ true → RestoreMade r id (Err NotHidden)
   unfolding MadeFor local_restore_when restore_checks decided
   restore_shown e = rw (ranged, x.form, e)
 
-  pub restore_nowhere : any (same id) (identifiers (meaning r).characters) ≡ false → RestoreMade r id (Refused NotHidden)
+  pub restore_nowhere : any (same id) (identifiers (meaning r).characters) ≡ false → RestoreMade r id (Err NotHidden)
   unfolding not_hidden
   restore_nowhere e =
       let none = sym (any-map (same id) (λ c. c.id) (meaning r).characters) ∙ e in
@@ -191,7 +189,7 @@ module _ (r : Replica) (x : Examined r) (id : Identifier) (ranged : character_id
     unfolding not_hidden
     hides = ap not (one-named (λ z. z.id) (λ z. not (is_visible z)) id (meaning r).characters (characters-apart r x) member is)
 
-    pub restore_visible : get_or r.document.toggles k 0 % 2 ≡ 0 → RestoreMade r id (Refused NotHidden)
+    pub restore_visible : get_or r.document.toggles k 0 % 2 ≡ 0 → RestoreMade r id (Err NotHidden)
     unfolding is_visible character_of
     restore_visible v = restore_shown (hides ∙ rw (eq-eqb (here.toggles % 2) 0 v))
 
@@ -204,7 +202,7 @@ module _ (r : Replica) (x : Examined r) (id : Identifier) (ranged : character_id
       unfolding character_of
       counted = rw is (toggles-found (meaning r).characters (characters-apart r x) member)
 
-      pub restore_last : get_or r.document.toggles k 0 ≡ last_toggles → RestoreMade r id (Refused LastToggle)
+      pub restore_last : get_or r.document.toggles k 0 ≡ last_toggles → RestoreMade r id (Err LastToggle)
       unfolding MadeFor local_restore_when restore_checks exhausted decided
       restore_last e = rw (ranged, x.form, hidden, counted, eq-eqb (get_or r.document.toggles k 0) last_toggles e)
 
@@ -213,9 +211,9 @@ module _ (r : Replica) (x : Examined r) (id : Identifier) (ranged : character_id
         unfolding character_of
         restore_below = omega (arith, count_most r x member, more)
 
-        pub restore_decided : first_index (λ c. same id c.id) (meaning r).characters ≡ At k → (t : Toggle)
+        pub restore_decided : first_index (λ c. same id c.id) (meaning r).characters ≡ Some k → (t : Toggle)
             → t ≡ record { sender = r.site.number; target = id; toggles = get_or r.document.toggles k 0 + 1 }
-            → RestoreMade r id (Send (toggle t) (toggleAt k))
+            → RestoreMade r id (Ok (toggle t, toggleAt k))
         unfolding MadeFor Executed local_restore_when restore_checks exhausted decided generated_toggle send_toggle meaning
         restore_decided f t e = (
           rw (ranged, x.form, hidden, counted, ne_eqb (get_or r.document.toggles k 0) last_toggles more, e),

@@ -1,31 +1,29 @@
 -- For the proofs of the code alone: what is made here before anything is changed, and what the calls then know.
-use Rattle.std.specs.Prelude.{ℕ, ◌≡◌, cond, List}
+use Rattle.std.specs.Prelude.{ℕ, ◌≡◌, cond, List, Ok, Err}
 use Rattle.woot.specs.declared.Identifier.{Identifier}
 use Rattle.woot.specs.declared.Insert.{Insert}
 use Rattle.woot.specs.declared.Operation.TheVariants.{Insert as insert}
 use Rattle.answers.specs.declared.Refusal.TheVariants.{Unplaceable, DocumentFull}
-use Rattle.woot.specs.declared.Sent.{Sent}
-use Rattle.woot.specs.declared.Sent.TheVariants.{Done as sentDone, Refused as sentRefused}
 use Rattle.woot.specs.Calls.{Outcome, unchanged, carry_out, local_insert_when, local_delete_when, local_restore_when}
 use Rattle.memory.specs.Columns.{Replica, meaning, replica_well_formed}
 use Rattle.integration.specs.declared.Placement.{Placement}
 use Rattle.integration.specs.declared.Placement.TheVariants.{Missing, Crossed, Unplaceable as placeless, Below}
 use Rattle.reception.specs.declared.Decision.TheVariants.{Place}
 use Rattle.reception.specs.Decisions.{full_in, Executed}
-use Rattle.generation.specs.declared.Made.{Made}
-use Rattle.generation.specs.declared.Made.TheVariants.{Refused, Send}
+use Rattle.woot.specs.Sent.{Sending, sends}
+use Rattle.generation.specs.Made.{Made}
 
 -- an insert that was made here, with its place: conditions 9 and 11
 unfoldable pub sent_in : ℕ → List ℕ → Insert → Placement → Made
-sent_in n own i Missing = Refused Unplaceable
-sent_in n own i Crossed = Refused Unplaceable
-sent_in n own i placeless = Refused Unplaceable
-sent_in n own i (Below k) = cond (full_in n own) (Refused DocumentFull) (Send (insert i) (Place k))
+sent_in n own i Missing = Err Unplaceable
+sent_in n own i Crossed = Err Unplaceable
+sent_in n own i placeless = Err Unplaceable
+sent_in n own i (Below k) = cond (full_in n own) (Err DocumentFull) (Ok (insert i, Place k))
 
 -- the rules refuse, or the operation is carried out where it goes, on a replica in form
-unfoldable pub MadeFor : Replica → Outcome Sent → Made → Type 0
-MadeFor r w (Refused q) = w ≡ unchanged (meaning r) (sentRefused q)
-MadeFor r w (Send o d) = (w ≡ carry_out (sentDone o) (meaning r) o) × Executed r o d
+unfoldable pub MadeFor : Replica → Outcome Sending → Made → Type 0
+MadeFor r w (Err q) = w ≡ unchanged (meaning r) (Err q)
+MadeFor r w (Ok (o, d)) = (w ≡ carry_out (sends o) (meaning r) o) × Executed r o d
 
 -- of the three calls, whether or not the replica is in form
 abbrev pub InsertMade : Replica → ℕ → ℕ → Made → Type 0

@@ -1,4 +1,4 @@
-// What inserting, deleting and restoring here come to, on lent arrays, before any of them is changed: a refusal, or an
+// What inserting, deleting and restoring here come to, on a replica that is lent, before it is changed: a refusal, or an
 // operation and where it goes. (Document 01: typing and erasing; document 02, Req 05: restoring.)
 #![tactic(auto)]
 
@@ -6,25 +6,18 @@ ghost use Rattle.std.specs.Prelude.{◌≡◌, ◌+◌, ◌≤◌, ◌<◌, leng
 ghost use Rattle.woot.specs.Limits.{last_clock, last_toggles};
 ghost use Rattle.woot.specs.Calls.{next_identifier};
 ghost use Rattle.woot.specs.Memory.{identifier};
-ghost use Rattle.memory.specs.Lent.{replica_as, Sized};
+ghost use Rattle.memory.specs.Lent.{viewed, Full};
 ghost use Rattle.generation.specs.Decisions.{sent_in, InsertMade, DeleteMade, RestoreMade};
 
 use answers::Refusal;
-use index::{Found, table};
+use index::table;
 use integration::Placement;
 use pending::counts;
 use reception::Decision;
 use woot::{
     CHARACTERS, CODE_POINTS, Identifier, Insert, NEXT_KEYS, Operation, PENDING, PREVIOUS_KEYS,
-    Site, Toggle,
+    Replica, Site, Toggle,
 };
-
-// What inserting, deleting and restoring here come to: nothing, or an operation that is carried out as was decided.
-#[derive(Clone, Copy)]
-pub enum Made {
-    Refused(Refusal),
-    Send(Operation, Decision),
-}
 
 // Internal step: the insert that a site makes next, between the identifiers with two keys. The calls have looked at
 // the clock and read the keys.
@@ -53,62 +46,74 @@ pub fn next_insert(site: Site, left: u32, right: u32, code_point: u32) -> Insert
 
 // An insert that was made here goes by its place, which is looked at before the room. Its neighbours are held and in
 // order.
-fn sent(n: usize, own: &[u32], w: usize, insert: Insert, placement: Placement) -> Made
+fn sent(
+    n: usize,
+    own: &[u32],
+    w: usize,
+    insert: Insert,
+    placement: Placement,
+) -> Result<(Operation, Decision), Refusal>
     requires { w ≤ length own.now }
     ensures { result ≡ sent_in n (take w own.now) insert placement }
 {
     match placement {
-        Placement::Missing => Made::Refused(Refusal::Unplaceable),
-        Placement::Crossed => Made::Refused(Refusal::Unplaceable),
-        Placement::Unplaceable => Made::Refused(Refusal::Unplaceable),
+        Placement::Missing => Err(Refusal::Unplaceable),
+        Placement::Crossed => Err(Refusal::Unplaceable),
+        Placement::Unplaceable => Err(Refusal::Unplaceable),
         Placement::Below(k) => {
             if counts::document_full(n, own, w) {
-                return Made::Refused(Refusal::DocumentFull);
+                return Err(Refusal::DocumentFull);
             }
-            Made::Send(Operation::Insert(insert), Decision::Place(k))
+            Ok((Operation::Insert(insert), Decision::Place(k)))
         }
     }
 }
 
 // Internal step: what inserting a code point at an insertion point among the visible characters comes to. The clock
 // of a replica that is well formed reaches every identifier of the site's, so that the next one is nobody's (refusal
-// 6). The calls lend arrays of these sizes.
-pub fn judge_insert<'a>(
-    site: Site,
-    characters: &'a [u32],
-    toggles: &'a [u8],
-    n: usize,
-    pending: &'a [u32],
-    w: usize,
-    heads: &'a [u16],
-    links: &'a [u16],
+// 6).
+pub fn decide_insert(
+    replica: &Replica,
     point: usize,
     code_point: u32,
-) -> Made
-    requires { Sized characters.now toggles.now pending.now heads.now links.now }
-    ensures { InsertMade (replica_as site characters.now toggles.now n
-        pending.now w heads.now links.now) point code_point result }
+) -> Result<(Operation, Decision), Refusal>
+    requires { Full replica.now }
+    ensures { InsertMade (viewed replica.now) point code_point result }
 {
+    let document = &replica.document;
     if !ranges::code_point(code_point) {
-        return Made::Refused(Refusal::Range);
+        return Err(Refusal::Range);
     }
-    if !well_formed::check(site, characters, toggles, n, pending, w, heads, links) {
-        return Made::Refused(Refusal::Form);
+    if !well_formed::is_well_formed(replica) {
+        return Err(Refusal::Form);
     }
-    if visible::count(toggles, n) < point {
-        return Made::Refused(Refusal::Position);
+    if visible::count(&document.toggles, document.length) < point {
+        return Err(Refusal::Position);
     }
-    if 65535 <= site.clock {
-        return Made::Refused(Refusal::Clock);
+    if 65535 <= replica.site.clock {
+        return Err(Refusal::Clock);
     }
-    let ids = &characters[0..CHARACTERS];
-    let left = visible::left(ids, toggles, n, point);
-    let right = visible::right(ids, toggles, n, point);
-    let insert = next_insert(site, left, right, code_point);
-    let previous = &characters[PREVIOUS_KEYS..NEXT_KEYS];
-    let next = &characters[NEXT_KEYS..CODE_POINTS];
-    let placement = integration::find_place(heads, links, ids, previous, next, n, insert);
-    sent(n, &pending[0..PENDING], w, insert, placement)
+    let ids = &document.characters[0..CHARACTERS];
+    let left = visible::left(ids, &document.toggles, document.length, point);
+    let right = visible::right(ids, &document.toggles, document.length, point);
+    let insert = next_insert(replica.site, left, right, code_point);
+    let previous = &document.characters[PREVIOUS_KEYS..NEXT_KEYS];
+    let next = &document.characters[NEXT_KEYS..CODE_POINTS];
+    let placement = integration::find_place(
+        &document.table,
+        ids,
+        previous,
+        next,
+        document.length,
+        insert,
+    );
+    sent(
+        document.length,
+        &document.pending[0..PENDING],
+        document.waiting,
+        insert,
+        placement,
+    )
 }
 
 // The toggle that a site makes of a character with so many.
@@ -125,73 +130,53 @@ fn next_toggle(site: Site, target: Identifier, toggles: u8) -> Toggle
 
 // Internal step: what deleting the visible character at the place, counted from 1, comes to. Its count is even, so
 // that there is a higher one.
-pub fn judge_delete<'a>(
-    site: Site,
-    characters: &'a [u32],
-    toggles: &'a [u8],
-    n: usize,
-    pending: &'a [u32],
-    w: usize,
-    heads: &'a [u16],
-    links: &'a [u16],
-    place: usize,
-) -> Made
-    requires { Sized characters.now toggles.now pending.now heads.now links.now }
-    ensures { DeleteMade (replica_as site characters.now toggles.now n
-        pending.now w heads.now links.now) place result }
+pub fn decide_delete(replica: &Replica, place: usize) -> Result<(Operation, Decision), Refusal>
+    requires { Full replica.now }
+    ensures { DeleteMade (viewed replica.now) place result }
 {
-    if !well_formed::check(site, characters, toggles, n, pending, w, heads, links) {
-        return Made::Refused(Refusal::Form);
+    let document = &replica.document;
+    if !well_formed::is_well_formed(replica) {
+        return Err(Refusal::Form);
     }
     if place == 0 {
-        return Made::Refused(Refusal::Position);
+        return Err(Refusal::Position);
     }
-    match visible::nth(toggles, n, place - 1) {
-        Found::At(k) => {
-            let ids = &characters[0..CHARACTERS];
+    match visible::nth(&document.toggles, document.length, place - 1) {
+        Some(k) => {
+            let ids = &document.characters[0..CHARACTERS];
             let target = memory::identifier(ids[k]);
-            let toggle = next_toggle(site, target, toggles[k]);
-            Made::Send(Operation::Toggle(toggle), Decision::Toggle(k))
+            let toggle = next_toggle(replica.site, target, document.toggles[k]);
+            Ok((Operation::Toggle(toggle), Decision::Toggle(k)))
         }
-        Found::Nothing => Made::Refused(Refusal::Position),
+        None => Err(Refusal::Position),
     }
 }
 
 // Internal step: what restoring the hidden character with the identifier comes to.
-pub fn judge_restore<'a>(
-    site: Site,
-    characters: &'a [u32],
-    toggles: &'a [u8],
-    n: usize,
-    pending: &'a [u32],
-    w: usize,
-    heads: &'a [u16],
-    links: &'a [u16],
-    id: Identifier,
-) -> Made
-    requires { Sized characters.now toggles.now pending.now heads.now links.now }
-    ensures { RestoreMade (replica_as site characters.now toggles.now n
-        pending.now w heads.now links.now) id result }
+pub fn decide_restore(replica: &Replica, id: Identifier) -> Result<(Operation, Decision), Refusal>
+    requires { Full replica.now }
+    ensures { RestoreMade (viewed replica.now) id result }
 {
+    let document = &replica.document;
     if !ranges::character_id(id) {
-        return Made::Refused(Refusal::Range);
+        return Err(Refusal::Range);
     }
-    if !well_formed::check(site, characters, toggles, n, pending, w, heads, links) {
-        return Made::Refused(Refusal::Form);
+    if !well_formed::is_well_formed(replica) {
+        return Err(Refusal::Form);
     }
-    let ids = &characters[0..CHARACTERS];
-    match table::find_among(heads, links, ids, n, index::key(id)) {
-        Found::At(k) => {
-            let count = toggles[k];
+    let ids = &document.characters[0..CHARACTERS];
+    match table::find_among(&document.table, ids, document.length, index::key(id)) {
+        Some(k) => {
+            let count = document.toggles[k];
             if count % 2 == 0 {
-                return Made::Refused(Refusal::NotHidden);
+                return Err(Refusal::NotHidden);
             }
             if count == 255 {
-                return Made::Refused(Refusal::LastToggle);
+                return Err(Refusal::LastToggle);
             }
-            let toggle = next_toggle(site, id, count);
-            Made::Send(Operation::Toggle(toggle), Decision::Toggle(k))
+            let toggle = next_toggle(replica.site, id, count);
+            Ok((Operation::Toggle(toggle), Decision::Toggle(k)))
         }
-        Found::Nothing => Made::Refused(Refusal::NotHidden),
+        None => Err(Refusal::NotHidden),
     }
 }

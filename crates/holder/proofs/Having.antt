@@ -28,8 +28,7 @@ use Rattle.convergence.proofs.Identifiers.{eq-same}
 use Rattle.convergence.proofs.Forms.{known-ids}
 use Rattle.convergence.proofs.Soundness.{standing}
 use Rattle.convergence.proofs.Steps.{any-map}
-use Rattle.index.specs.declared.Found.{Found}
-use Rattle.index.specs.declared.Found.TheVariants.{At}
+use Rattle.std.proofs.Common.{Option, Some}
 use Rattle.index.specs.Keys.{Small, AllSmall, further, first_index, found}
 use Rattle.index.proofs.Keys.{key-same, character-small}
 use Rattle.index.proofs.Searches.{first-map}
@@ -47,7 +46,7 @@ named-first : (x : Identifier) → Small x → (cs : List Character) → AllSmal
 unfolding first_index
 named-first x s [] all = refl
 named-first x s (c ∷ cs) all =
-    λ i. cond (key-same x c.id s (all c (Memᴰ.head refl)).id i) (At 0) (further 1 (named-first x s cs (λ d m. all d (Memᴰ.tail m)) i))
+    λ i. cond (key-same x c.id s (all c (Memᴰ.head refl)).id i) (Some 0) (further 1 (named-first x s cs (λ d m. all d (Memᴰ.tail m)) i))
 
 pub key-first : (x : Identifier) → Small x → (cs : List Character) → AllSmall cs → found (key x) (keys cs) ≡ first_index (λ c. same x c.id) cs
 unfolding found
@@ -68,10 +67,10 @@ module _ (r : Replica) (x : Examined r) where
         (rw (ids_used r x, own_used r x) at (sym p ∙ f))
 
     -- what the search among the characters alone answers
-    abbrev pub StandsAt : Found → Type 0
+    abbrev pub StandsAt : Option ℕ → Type 0
     StandsAt f = Stands id (character-small id ranged) (positive-key id ranged) (meaning r).characters (small r x) f
 
-    pub stands_at : {t g : Found} → t ≡ found (key id) (take r.document.length r.document.ids) → t ≡ g → StandsAt g
+    pub stands_at : {t g : Option ℕ} → t ≡ found (key id) (take r.document.length r.document.ids) → t ≡ g → StandsAt g
     stands_at p f =
         stands id (character-small id ranged) (positive-key id ranged) (meaning r).characters (small r x) (rw (ids_used r x) at (sym p ∙ f))
 

@@ -16,8 +16,7 @@ use Rattle.woot.specs.Operations.{inserts}
 use Rattle.woot.specs.Placing.{identifiers}
 use Rattle.woot.specs.Table.{key, keys}
 use Rattle.index.specs.Keys.{Small, AllSmall, found}
-use Rattle.index.specs.declared.Found.{Found}
-use Rattle.index.specs.declared.Found.TheVariants.{At, Nothing}
+use Rattle.std.proofs.Common.{Option, Some, None}
 use Rattle.holder.specs.declared.Holder.{Holder}
 use Rattle.holder.specs.declared.Holder.TheVariants.{Character as ofCharacter, Pending as ofPending, Nobody}
 use Rattle.woot.specs.Memory.{own_key}
@@ -36,23 +35,23 @@ pub record CharacterAt (x : Identifier) (cs : List Character) (k : ℕ) : Type 0
 
 module _ (x : Identifier) (small : Small x) (positive : 0 < key x) (cs : List Character) (all : AllSmall cs) where
   -- what the search among the characters' keys answers
-  abbrev pub Stands : Found → Type 0
-  Stands (At k) = CharacterAt x cs k
-  Stands Nothing = any (same x) (identifiers cs) ≡ false
+  abbrev pub Stands : Option ℕ → Type 0
+  Stands (Some k) = CharacterAt x cs k
+  Stands None = any (same x) (identifiers cs) ≡ false
 
   -- the character has the key
   abbrev named : Character → Bool
   named c = eqb (key x) (key c.id)
 
-  pub stands : {r : Found} → found (key x) (keys cs) ≡ r → Stands r
+  pub stands : {r : Option ℕ} → found (key x) (keys cs) ≡ r → Stands r
   unfolding found
   stands {r} e = go r (first_says named cs (sym (first-map (λ (c : Character). key c.id) (λ n. eqb (key x) n) cs) ∙ e))
     where
-      go : (r : Found) → Says named cs r → Stands r
-      go (At k) f =
+      go : (r : Option ℕ) → Says named cs r → Stands r
+      go (Some k) f =
           let is = key-injective x f.here.id small (all f.here f.member).id (eqb-true (key x) (key f.here.id) f.passes) in
           record { within = f.within; is = λ d. rw (f.at d) is; member = λ d. rw (f.at d) f.member }
-      go Nothing f =
+      go None f =
           none_any (same x) (identifiers cs)
           (λ y m.
           let w = Memᴰ.of_map (λ (c : Character). c.id) cs m in
@@ -69,7 +68,7 @@ module _ (x : Identifier) (small : Small x) (positive : 0 < key x) (cs : List Ch
     unfolding holder_in first_holder
     holds {h} e = subst Holds e (go (found (key x) (keys cs)) (stands refl) (found (key x) (map own_key ps)) (sought x small positive ps keyed refl))
       where
-        go : (f : Found) → Stands f → (g : Found) → Sought x ps g → Holds (first_holder f g)
-        go (At k) a g b = a
-        go Nothing a (At j) b = b
-        go Nothing a Nothing b = (a, b)
+        go : (f : Option ℕ) → Stands f → (g : Option ℕ) → Sought x ps g → Holds (first_holder f g)
+        go (Some k) a g b = a
+        go None a (Some j) b = b
+        go None a None b = (a, b)

@@ -7,8 +7,7 @@ use Rattle.woot.specs.Operations.{origin, same_insert}
 use Rattle.woot.specs.State.{State}
 use Rattle.woot.specs.Memory.{character_of}
 use Rattle.woot.specs.Calls.{duplicate, conflicting}
-use Rattle.index.specs.declared.Found.{Found}
-use Rattle.index.specs.declared.Found.TheVariants.{At, Nothing}
+use Rattle.std.specs.Prelude.{Option, Some, None}
 use Rattle.index.specs.Keys.{found}
 use Rattle.holder.specs.declared.Holder.{Holder}
 use Rattle.holder.specs.declared.Holder.TheVariants.{Character, Pending, Nobody}
@@ -16,10 +15,10 @@ use Rattle.holder.specs.declared.Seen.{Seen}
 use Rattle.holder.specs.declared.Seen.TheVariants.{New, Same, Other}
 
 -- a character before a pending insert
-unfoldable pub first_holder : Found → Found → Holder
-first_holder (At k) f = Character k
-first_holder Nothing (At j) = Pending j
-first_holder Nothing Nothing = Nobody
+unfoldable pub first_holder : Option ℕ → Option ℕ → Holder
+first_holder (Some k) f = Character k
+first_holder None (Some j) = Pending j
+first_holder None None = Nobody
 
 -- who has the key, among the keys of characters and of pending operations
 unfoldable pub holder_in : List ℕ → List ℕ → ℕ → Holder

@@ -11,13 +11,13 @@ ghost use Rattle.woot.specs.Memory.{character_of, value_of, column};
 ghost use Rattle.index.specs.Tabled.{Tabled};
 ghost use Rattle.pending.specs.Counts.{has_toggle};
 ghost use Rattle.memory.specs.Columns.{meaning};
-ghost use Rattle.memory.specs.Lent.{replica_as, Sized};
+ghost use Rattle.memory.specs.Lent.{viewed, Full};
 ghost use Rattle.well_formed.specs.Examined.{Examined};
 ghost use Rattle.holder.specs.Holder.{holder_in, insert_in, compared_to, seen_of};
 
-use index::{Found, table};
+use index::table;
 use pending::counts;
-use woot::{CHARACTERS, Insert, PENDING, Site, Toggle};
+use woot::{CHARACTERS, Insert, PENDING, Replica, Table, Toggle};
 
 // Who has an identifier: the character or the pending insert in a slot, or nobody.
 #[derive(Clone, Copy)]
@@ -38,8 +38,7 @@ pub enum Seen {
 // Internal step: who has the key, among the keys of n characters and of w pending operations. The calls have a table
 // of the characters' keys.
 pub fn holder_of<'a>(
-    heads: &'a [u16],
-    links: &'a [u16],
+    table: &'a Table,
     ids: &'a [u32],
     n: usize,
     own: &'a [u32],
@@ -48,14 +47,14 @@ pub fn holder_of<'a>(
 ) -> Holder
     requires n_in_bounds { n ≤ length ids.now }
     requires w_in_bounds { w ≤ length own.now }
-    requires tabled { Tabled (record { heads = heads.now; links = links.now }) (take n ids.now) }
+    requires tabled { Tabled table.now (take n ids.now) }
     ensures { result ≡ holder_in (take n ids.now) (take w own.now) key }
 {
-    match table::find_among(heads, links, ids, n, key) {
-        Found::At(k) => Holder::Character(k),
-        Found::Nothing => match index::find(&own[..w], key) {
-            Found::At(j) => Holder::Pending(j),
-            Found::Nothing => Holder::Nobody,
+    match table::find_among(table, ids, n, key) {
+        Some(k) => Holder::Character(k),
+        None => match index::find(&own[..w], key) {
+            Some(j) => Holder::Pending(j),
+            None => Holder::Nobody,
         },
     }
 }
@@ -124,31 +123,28 @@ pub fn compared(numbers: &[u32], slots: usize, k: usize, insert: Insert) -> Seen
 
 // Internal step: what a received insert is to the replica: the one that has its identifier decides. The calls have
 // checked the form and the ranges.
-pub fn seen_by<'a>(
-    site: Site,
-    characters: &'a [u32],
-    toggles: &'a [u8],
-    n: usize,
-    pending: &'a [u32],
-    w: usize,
-    heads: &'a [u16],
-    links: &'a [u16],
-    insert: Insert,
-) -> Seen
-    requires sized { Sized characters.now toggles.now pending.now heads.now links.now }
+pub fn seen_by(replica: &Replica, insert: Insert) -> Seen
+    requires full { Full replica.now }
     requires examined { Examined
-        (replica_as site characters.now toggles.now n pending.now w heads.now links.now) }
+        (viewed replica.now) }
     requires insert_value { insert_in_range insert ≡ true }
     ensures { result
-        ≡ seen_of (meaning (replica_as site characters.now toggles.now n
-        pending.now w heads.now links.now)) insert }
+        ≡ seen_of (meaning (viewed replica.now)) insert }
 {
+    let document = &replica.document;
     let id = insert.id;
-    let ids = &characters[0..CHARACTERS];
-    let own = &pending[0..PENDING];
-    match holder_of(heads, links, ids, n, own, w, index::key(id)) {
-        Holder::Character(k) => compared(characters, CHARACTERS, k, insert),
-        Holder::Pending(j) => compared(pending, PENDING, j, insert),
+    let ids = &document.characters[0..CHARACTERS];
+    let own = &document.pending[0..PENDING];
+    match holder_of(
+        &document.table,
+        ids,
+        document.length,
+        own,
+        document.waiting,
+        index::key(id),
+    ) {
+        Holder::Character(k) => compared(&document.characters, CHARACTERS, k, insert),
+        Holder::Pending(j) => compared(&document.pending, PENDING, j, insert),
         Holder::Nobody => Seen::New,
     }
 }

@@ -20,7 +20,8 @@ use Rattle.woot.specs.Table.{chain_of, leads, walk, free_slot, lookup, searched,
 use Rattle.index.specs.Theorems.{LookupIsSearch, AgreeingApart, TableAgrees}
 use Rattle.chains.proofs.Walks.{leads-later, leads-within, walk_ends, walk-sound, walk_here}
 use Rattle.chains.proofs.Slots.{Free, Kept, free-slot, free-low, free-kept, walk_kept, walk-free}
-use Rattle.chains.proofs.Tables.{head, chain-low, entered_linked, entered_headed, table_more, Sized, table_sized}
+use Rattle.chains.specs.Sizes.{Sized}
+use Rattle.chains.proofs.Tables.{head, chain-low, entered_linked, entered_headed, table_more, table_sized}
 
 -- ---- an index that is found
 

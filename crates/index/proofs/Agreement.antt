@@ -4,7 +4,7 @@ use native.Mathlib.Omega.{arith}
 use mathlib.Core.Path.{◌≡◌, refl, ap, sym, ◌∙◌}
 use mathlib.Core.Bool.{Bool, true, false, cond}
 use mathlib.Core.List.{List, [], ◌∷◌}
-use mathlib.Core.Option.{Option, none, some}
+use mathlib.Core.Option.{Option as Maybe, none, some}
 use lib.Dec.{eqb}
 use lib.ListN.{length, get_or, length-map}
 use Rattle.lists.specs.Lists.{distinct}
@@ -17,8 +17,7 @@ use Rattle.woot.specs.Table.{lookup, searched, found_at, agrees, key, keys, tabl
 use Rattle.chains.specs.Places.{place_found}
 use Rattle.chains.proofs.Tables.{table_sized}
 use Rattle.index.proofs.Agreeing.{table-agrees}
-use Rattle.index.specs.declared.Found.{Found}
-use Rattle.index.specs.declared.Found.TheVariants.{At, Nothing}
+use Rattle.std.proofs.Common.{Option, Some, None}
 use Rattle.index.specs.Keys.{AllSmall, further, first_index, found, place_in}
 use Rattle.index.specs.Tabled.{Tabled}
 use Rattle.index.proofs.Indices.{distinct-keys}
@@ -28,31 +27,31 @@ pub use Rattle.index.proofs.Agreeing.{is-at, at-is, lookup-is-search, agreeing_a
 -- ---- what the code finds
 
 -- the index before a place, and none before 0
-abbrev found_before : ℕ → Found
-found_before zero = Nothing
-found_before (suc i) = At i
+abbrev found_before : ℕ → Option ℕ
+found_before zero = None
+found_before (suc i) = Some i
 
 search-found : (k : ℕ) (ks : List ℕ) → found_before (place_found (searched k ks)) ≡ found k ks
 unfolding searched found first_index
 search-found k [] = refl
 search-found k (x ∷ ks) = go (eqb k x) (searched k ks) (search-found k ks)
   where
-    go : (b : Bool) (w : Option ℕ) {r : Found} → found_before (place_found w) ≡ r → found_before (place_found (cond b (some 0) (elim w [ none ↦ none | some i ↦ some (suc i) ]))) ≡ cond b (At 0) (further 1 r)
+    go : (b : Bool) (w : Maybe ℕ) {r : Option ℕ} → found_before (place_found w) ≡ r → found_before (place_found (cond b (some 0) (elim w [ none ↦ none | some i ↦ some (suc i) ]))) ≡ cond b (Some 0) (further 1 r)
     go true w e = refl
     go false none e = rw (← e)
-    go false (some i) e = rw (← e) (ap At (omega arith))
+    go false (some i) e = rw (← e) (ap Some (omega arith))
 
 module _ {t : Table} {ks : List ℕ} (h : Tabled t ks) (k p : ℕ) (e : p ≡ place_found (lookup t ks k)) where
   tabled_found : found_before p ≡ found k ks
-  tabled_found = rw e (ap (λ (w : Option ℕ). found_before (place_found w)) (lookup-is-search t ks h.agree k) ∙ search-found k ks)
+  tabled_found = rw e (ap (λ (w : Maybe ℕ). found_before (place_found w)) (lookup-is-search t ks h.agree k) ∙ search-found k ks)
 
-  pub tabled_none : p ≡ 0 → Nothing ≡ found k ks
+  pub tabled_none : p ≡ 0 → None ≡ found k ks
   tabled_none f = rw f at tabled_found
 
-  pub tabled_some : (p ≡ 0 → ⊥) → At (p - 1) ≡ found k ks
+  pub tabled_some : (p ≡ 0 → ⊥) → Some (p - 1) ≡ found k ks
   tabled_some f = go p f tabled_found
     where
-      go : (p : ℕ) → (p ≡ 0 → ⊥) → found_before p ≡ found k ks → At (p - 1) ≡ found k ks
+      go : (p : ℕ) → (p ≡ 0 → ⊥) → found_before p ≡ found k ks → Some (p - 1) ≡ found k ks
       go zero f g = absurd (f refl)
       go (suc i) f g = let back : suc i - 1 ≡ i = omega arith in rw back g
 
@@ -68,7 +67,7 @@ pub near_place : {t : Table} {ks : List ℕ} → Tabled t ks → (near k : ℕ) 
 near_place {t} {ks} h near k a b e later =
     let looked : lookup t ks k ≡ some (near - 1) = ap (lookup t ks) (sym e) ∙ own-place h (near - 1) (omega arith) in
     let same : near ≡ suc (near - 1) = omega arith in
-    let at : At (near - 1) ≡ found k ks = tabled_some h k near (same ∙ ap place_found (sym looked)) (λ z. omega (arith, a, z)) in
+    let at : Some (near - 1) ≡ found k ks = tabled_some h k near (same ∙ ap place_found (sym looked)) (λ z. omega (arith, a, z)) in
     omega (arith, a, later-place ks k later (sym at))
 
 -- ---- the table of characters

@@ -17,7 +17,8 @@ use Rattle.woot.specs.Table.{chain_of, slot, leads, walk, lookup, free_slot, no_
 use Rattle.index.specs.Theorems.{WalksShort}
 use Rattle.chains.proofs.Walks.{leads-later, leads-within, leads-none, walk_ends, walk-enough}
 use Rattle.chains.proofs.Slots.{Free, free-low, slot-place}
-use Rattle.chains.proofs.Tables.{head, chain-low, entered_linked, entered_headed, table_more, Sized, table_sized}
+use Rattle.chains.specs.Sizes.{Sized}
+use Rattle.chains.proofs.Tables.{head, chain-low, entered_linked, entered_headed, table_more, table_sized}
 
 -- ---- bits
 

@@ -21,7 +21,8 @@ use Rattle.index.specs.Entries.{entries}
 use Rattle.index.specs.Theorems.{TableKnown}
 use Rattle.chains.proofs.Walks.{leads-on, leads-later, leads-within, leads_nowhere, walk_here, walk-on}
 use Rattle.chains.proofs.Slots.{free-here, free_on}
-use Rattle.chains.proofs.Tables.{head, entered_linked, entered_headed, table_more, Sized}
+use Rattle.chains.specs.Sizes.{Sized}
+use Rattle.chains.proofs.Tables.{head, entered_linked, entered_headed, table_more}
 use Rattle.index.proofs.Agreeing.{is-at}
 
 -- ---- entries

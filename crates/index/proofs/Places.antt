@@ -1,5 +1,5 @@
 -- The places of the neighbours' keys are those of the rules.
-use Prim.Native.Nat.{ℕ, ◌-◌}
+use Prim.Native.Nat.{ℕ}
 use mathlib.Core.Path.{◌≡◌, refl, ap₂}
 use mathlib.Core.List.{List, [], ◌∷◌, map, Memᴰ}
 use Rattle.woot.specs.declared.Identifier.{Identifier}

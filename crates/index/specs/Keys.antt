@@ -4,8 +4,7 @@ use mathlib.Core.List.{List, [], ◌∷◌, ◌++◌, map, Memᴰ}
 use Rattle.woot.specs.declared.Identifier.{Identifier}
 use Rattle.woot.specs.declared.Character.{Character}
 use Rattle.woot.specs.Placing.{place_of}
-use Rattle.index.specs.declared.Found.{Found}
-use Rattle.index.specs.declared.Found.TheVariants.{At, Nothing}
+use Rattle.std.specs.Prelude.{Option, Some, None}
 
 -- the clock has its 16 bits, as in every value of the type
 abbrev pub Small : Identifier → Type 0
@@ -26,17 +25,17 @@ index_in k [] = 0
 index_in k (x ∷ xs) = cond (eqb k x) 0 (suc (index_in k xs))
 
 -- the index n further on
-abbrev pub further : ℕ → Found → Found
-further n (At j) = At (n + j)
-further n Nothing = Nothing
+abbrev pub further : ℕ → Option ℕ → Option ℕ
+further n (Some j) = Some (n + j)
+further n None = None
 
 -- the index of the first that passes the test
-unfoldable pub first_index : {A : Type 0} → (A → Bool) → List A → Found
-first_index p [] = Nothing
-first_index p (x ∷ xs) = cond (p x) (At 0) (further 1 (first_index p xs))
+unfoldable pub first_index : {A : Type 0} → (A → Bool) → List A → Option ℕ
+first_index p [] = None
+first_index p (x ∷ xs) = cond (p x) (Some 0) (further 1 (first_index p xs))
 
 -- the first index of k
-unfoldable pub found : ℕ → List ℕ → Found
+unfoldable pub found : ℕ → List ℕ → Option ℕ
 found k xs = first_index (λ x. eqb k x) xs
 
 -- where k stands among the keys, the begin mark's above them and the end mark's below

@@ -9,16 +9,7 @@ ghost use Rattle.woot.specs.Table.{key};
 ghost use Rattle.index.specs.Keys.{found, place_in, Small};
 ghost use Rattle.index.specs.Tabled.{Tabled};
 
-use woot::Identifier;
-
-// What a search answers.
-#[derive(Clone, Copy)]
-pub enum Found {
-    // The place sought.
-    At(usize),
-    // There is none.
-    Nothing,
-}
+use woot::{Identifier, Table};
 
 // An identifier as one number. Numbers are ordered as their identifiers are, and the marks are 0 and 1.
 pub fn key(id: Identifier) -> u32
@@ -29,36 +20,31 @@ pub fn key(id: Identifier) -> u32
 }
 
 // The first index of a key among keys that have no table: those of the pending inserts.
-pub fn find(keys: &[u32], key: u32) -> Found
+pub fn find(keys: &[u32], key: u32) -> Option<usize>
     ensures { result ≡ found key keys.now }
 {
-    let mut i = 0;
-    while i < keys.len() {
-        if keys[i] == key {
-            return Found::At(i);
+    for (i, held) in keys.iter().enumerate() {
+        if *held == key {
+            return Some(i);
         }
-        i += 1;
     }
-    Found::Nothing
+    None
 }
 
 // Internal step: the place of the character with the given key, by a table that agrees: 0 for the begin mark, one
 // past the last for the end mark, further where there is none. The calls have checked the table, or made it.
-pub fn place_of<'a>(heads: &'a [u16], links: &'a [u16], ids: &'a [u32], key: u32) -> usize
-    requires { Tabled (record { heads = heads.now; links = links.now }) ids.now }
+pub fn place_of<'a>(table: &'a Table, ids: &'a [u32], key: u32) -> usize
+    requires { Tabled table.now ids.now }
     ensures { result ≡ place_in ids.now key }
 {
     if key == 0 {
         return 0;
     }
-    match table::find(heads, links, ids, key) {
-        Found::At(i) => i + 1,
-        Found::Nothing => {
+    match table::find(table, ids, key) {
+        Some(i) => i + 1,
+        None => {
             let end = ids.len() + 1;
-            if key == 1 {
-                return end;
-            }
-            end + 1
+            if key == 1 { end } else { end + 1 }
         }
     }
 }
@@ -66,15 +52,8 @@ pub fn place_of<'a>(heads: &'a [u16], links: &'a [u16], ids: &'a [u32], key: u32
 // Internal step: the same, with the end mark's place at hand, which most inserts name, and with one place looked at
 // before the table is asked: most characters stand beside their neighbours. The calls have checked the table, or made
 // it, and sought the end mark's place in it.
-pub fn place_near<'a>(
-    heads: &'a [u16],
-    links: &'a [u16],
-    ids: &'a [u32],
-    end: usize,
-    near: usize,
-    key: u32,
-) -> usize
-    requires tabled { Tabled (record { heads = heads.now; links = links.now }) ids.now }
+pub fn place_near<'a>(table: &'a Table, ids: &'a [u32], end: usize, near: usize, key: u32) -> usize
+    requires tabled { Tabled table.now ids.now }
     requires end_value { end ≡ place_in ids.now 1 }
     ensures { result ≡ place_in ids.now key }
 {
@@ -84,39 +63,29 @@ pub fn place_near<'a>(
     if key == 1 {
         return end;
     }
-    if 0 < near {
-        if near <= ids.len() {
-            if ids[near - 1] == key {
-                return near;
-            }
-        }
+    if 0 < near && near <= ids.len() && ids[near - 1] == key {
+        return near;
     }
-    place_of(heads, links, ids, key)
+    place_of(table, ids, key)
 }
 
 // Whether both hold. A test made of these has no way out before its end, so that a processor need not guess.
 pub fn both(a: bool, b: bool) -> bool
     ensures { result ≡ a && b }
 {
-    if a {
-        return b;
-    }
-    false
+    a & b
 }
 
 // Whether one of them holds.
 pub fn either(a: bool, b: bool) -> bool
     ensures { result ≡ a || b }
 {
-    if a {
-        return true;
-    }
-    b
+    a | b
 }
 
 // The lesser of two numbers.
 pub fn lesser(a: usize, b: usize) -> usize
     ensures { result ≡ min a b }
 {
-    if a <= b { a } else { b }
+    a.min(b)
 }

@@ -11,10 +11,10 @@ ghost use Rattle.index.specs.Tabled.{Tabled};
 ghost use Rattle.integration.specs.Passes.{located_keys, outside, pass_in, width, position_in};
 ghost use Rattle.integration.specs.Placements.{placement_at, placement_of};
 
-use woot::Insert;
+use woot::{Insert, Table};
 
 // What is found for an insert: a neighbour is not held, they stand in the wrong order, there is no candidate, or the
-// place just above it.
+// place just above it. It stays an enum of four: the first puts an insert off, and is no error.
 #[derive(Clone, Copy)]
 pub enum Placement {
     Missing,
@@ -34,17 +34,13 @@ struct Interval {
 fn width(interval: Interval) -> usize
     ensures { result ≡ width interval }
 {
-    if interval.lower <= interval.upper {
-        return 0;
-    }
-    interval.lower - interval.upper
+    interval.lower.saturating_sub(interval.upper)
 }
 
 // Whether both neighbours of the character at the index stand outside the interval, or at its ends. They are compared
 // with the characters beside it first, and the next is not sought where the previous stands inside.
 fn outside<'a>(
-    heads: &'a [u16],
-    links: &'a [u16],
+    table: &'a Table,
     ids: &'a [u32],
     previous: &'a [u32],
     next: &'a [u32],
@@ -52,7 +48,7 @@ fn outside<'a>(
     at: usize,
     interval: Interval,
 ) -> bool
-    requires tabled { Tabled (record { heads = heads.now; links = links.now }) ids.now }
+    requires tabled { Tabled table.now ids.now }
     requires end_value { end ≡ place_in ids.now 1 }
     requires at_in_bounds { at < length previous.now }
     requires at_in_bounds_2 { at < length next.now }
@@ -60,18 +56,17 @@ fn outside<'a>(
         ≡ outside (place_in ids.now (get_or previous.now at 0))
         (place_in ids.now (get_or next.now at 0)) interval }
 {
-    let above = index::place_near(heads, links, ids, end, at, previous[at]);
+    let above = index::place_near(table, ids, end, at, previous[at]);
     if interval.upper < above {
         return false;
     }
-    let below = index::place_near(heads, links, ids, end, at + 2, next[at]);
+    let below = index::place_near(table, ids, end, at + 2, next[at]);
     interval.lower <= below
 }
 
 // One pass over the candidates: the interval between the last that the key passes and the one that it stops at.
 fn pass<'a>(
-    heads: &'a [u16],
-    links: &'a [u16],
+    table: &'a Table,
     ids: &'a [u32],
     previous: &'a [u32],
     next: &'a [u32],
@@ -79,7 +74,7 @@ fn pass<'a>(
     key: u32,
     interval: Interval,
 ) -> Interval
-    requires tabled { Tabled (record { heads = heads.now; links = links.now }) ids.now }
+    requires tabled { Tabled table.now ids.now }
     requires end_value { end ≡ place_in ids.now 1 }
     requires ids_in_bounds { length ids.now ≤ length previous.now }
     requires ids_in_bounds_2 { length ids.now ≤ length next.now }
@@ -88,17 +83,17 @@ fn pass<'a>(
         ≡ pass_in (located_keys 1 ids.now (map (place_in ids.now) previous.now)
         (map (place_in ids.now) next.now)) key interval }
 {
-    let last = index::lesser(ids.len(), interval.lower - 1);
+    let last = ids.len().min(interval.lower - 1);
     let mut upper = interval.upper;
-    let mut i = upper;
-    while i < last {
-        let at = i;
-        i += 1;
-        if outside(heads, links, ids, previous, next, end, at, interval) {
-            if key <= ids[at] {
-                return Interval { upper, lower: i };
+    for i in interval.upper..last {
+        if outside(table, ids, previous, next, end, i, interval) {
+            if key <= ids[i] {
+                return Interval {
+                    upper,
+                    lower: i + 1,
+                };
             }
-            upper = i;
+            upper = i + 1;
         }
     }
     Interval {
@@ -110,8 +105,7 @@ fn pass<'a>(
 // Where the key goes in, in the interval: just below a place, if there is one. Each pass narrows the interval, until
 // nothing is between, or no candidate.
 fn position<'a>(
-    heads: &'a [u16],
-    links: &'a [u16],
+    table: &'a Table,
     ids: &'a [u32],
     previous: &'a [u32],
     next: &'a [u32],
@@ -119,7 +113,7 @@ fn position<'a>(
     key: u32,
     interval: Interval,
 ) -> Placement
-    requires tabled { Tabled (record { heads = heads.now; links = links.now }) ids.now }
+    requires tabled { Tabled table.now ids.now }
     requires end_value { end ≡ place_in ids.now 1 }
     requires ids_in_bounds { length ids.now ≤ length previous.now }
     requires ids_in_bounds_2 { length ids.now ≤ length next.now }
@@ -128,8 +122,9 @@ fn position<'a>(
         (map (place_in ids.now) next.now) key interval.upper interval.lower) }
 {
     let mut v = interval;
+    // It stays a while: each pass tells where the next begins, and no index is counted.
     while 1 < width(v) {
-        let narrower = pass(heads, links, ids, previous, next, end, key, v);
+        let narrower = pass(table, ids, previous, next, end, key, v);
         if width(v) <= width(narrower) {
             return Placement::Unplaceable;
         }
@@ -142,8 +137,7 @@ fn position<'a>(
 // The insert's own are compared with the last character, and with the one below its previous, before the table is
 // asked. The calls lend arrays of n characters, and a table that they have checked, or made.
 pub fn find_place<'a>(
-    heads: &'a [u16],
-    links: &'a [u16],
+    table: &'a Table,
     keys: &'a [u32],
     previous: &'a [u32],
     next: &'a [u32],
@@ -153,7 +147,7 @@ pub fn find_place<'a>(
     requires n_in_bounds { n ≤ length keys.now }
     requires n_in_bounds_2 { n ≤ length previous.now }
     requires n_in_bounds_3 { n ≤ length next.now }
-    requires tabled { Tabled (record { heads = heads.now; links = links.now }) (take n keys.now) }
+    requires tabled { Tabled table.now (take n keys.now) }
     ensures { (cs : List Character)
         → take n keys.now ≡ keysOfCharacters cs → take n previous.now ≡ previous_keys cs
         → take n next.now ≡ next_keys cs → AllSmall cs → result ≡ placement_of cs insert }
@@ -165,12 +159,12 @@ pub fn find_place<'a>(
     let second = insert.next;
     let id = insert.id;
     let own = index::key(id);
-    let end = index::place_of(heads, links, ids, 1);
-    let upper = index::place_near(heads, links, ids, end, n, index::key(first));
+    let end = index::place_of(table, ids, 1);
+    let upper = index::place_near(table, ids, end, n, index::key(first));
     if n + 1 < upper {
         return Placement::Missing;
     }
-    let lower = index::place_near(heads, links, ids, end, upper + 1, index::key(second));
+    let lower = index::place_near(table, ids, end, upper + 1, index::key(second));
     if n + 1 < lower {
         return Placement::Missing;
     }
@@ -178,5 +172,5 @@ pub fn find_place<'a>(
         return Placement::Crossed;
     }
     let between = Interval { upper, lower };
-    position(heads, links, ids, firsts, seconds, end, own, between)
+    position(table, ids, firsts, seconds, end, own, between)
 }

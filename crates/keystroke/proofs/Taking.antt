@@ -43,7 +43,7 @@ use Rattle.convergence.proofs.Steps.{Addable, after-insert, formed_untaken, gene
 use Rattle.convergence.proofs.Kept.{form_kept}
 use Rattle.convergence.proofs.Hearing.{typing_advances}
 use Rattle.convergence.proofs.Typings.{Ready, state_after, typed-plain, typed-done}
-use Rattle.index.specs.declared.Found.TheVariants.{At, Nothing}
+use Rattle.std.proofs.Common.{Some, None}
 use Rattle.index.specs.Keys.{AllSmall}
 use Rattle.index.proofs.Sound.{sound-small}
 use Rattle.integration.specs.declared.Placement.{Placement}
@@ -97,7 +97,7 @@ module _ (r : Replica) (slots : Slots r.document) (g n : ℕ) (x : Typeable r g 
   unfolding meaning
   same-site = refl
 
-  pub neighboured : Neighboured r.site (take r.document.length r.document.ids) (take r.document.length r.document.toggles) g n
+  pub neighboured : Neighboured r g n
   neighboured =
       record {
         state = meaning r;
@@ -118,13 +118,13 @@ module _ (r : Replica) (slots : Slots r.document) (g n : ℕ) (x : Typeable r g 
         sym (f (meaning r).characters (ids_used r examined) (previous_used r examined) (next_used r examined) (small r examined)
         ∙ ap (placement_of (meaning r).characters) is)
 
-    pub found_below : (k : ℕ) → place_of p ≡ At k → placement_of (meaning r).characters here ≡ Below k
+    pub found_below : (k : ℕ) → place_of p ≡ Some k → placement_of (meaning r).characters here ≡ Below k
     found_below k e = sought ∙ at-below p k e
 
-    pub found_nowhere : place_of p ≡ Nothing → unplaceable (meaning r).characters (insert here) ≡ true
+    pub found_nowhere : place_of p ≡ None → unplaceable (meaning r).characters (insert here) ≡ true
     found_nowhere e = go p sought e
       where
-        go : (q : Placement) → placement_of (meaning r).characters here ≡ q → place_of q ≡ Nothing
+        go : (q : Placement) → placement_of (meaning r).characters here ≡ q → place_of q ≡ None
             → unplaceable (meaning r).characters (insert here) ≡ true
         go Missing h z = clash made.ready (says (meaning r).characters here Missing h)
         go Crossed h z = clash (says (meaning r).characters here Crossed h).1 made.uncrossed

@@ -1,8 +1,6 @@
 -- For the proofs of the code alone: what typing a character needs, and what it leaves.
-use Rattle.std.specs.Prelude.{ℕ, suc, ◌+◌, ◌≤◌, ◌≡◌, true, false, List, length}
+use Rattle.std.specs.Prelude.{ℕ, suc, ◌+◌, ◌≤◌, ◌≡◌, true, false, List, length, take, Option, Some, None}
 use Rattle.lists.specs.Lists.{every}
-use Rattle.woot.specs.declared.Site.{Site}
-use Rattle.woot.specs.declared.Insert.{Insert}
 use Rattle.woot.specs.declared.Operation.TheVariants.{Insert as insert}
 use Rattle.woot.specs.Limits.{last_clock, capacity}
 use Rattle.woot.specs.Operations.{inserts}
@@ -15,10 +13,8 @@ use Rattle.woot.specs.Calls.{all_integrated, next_identifier, generated_insert, 
 use Rattle.woot.specs.Histories.{inserting, outcome}
 use Rattle.bulk.specs.Pasting.{gap_below}
 use Rattle.memory.specs.Columns.{Replica, meaning, stored, replica_well_formed}
-use Rattle.memory.specs.Lent.{replica_as}
 use Rattle.keystroke.specs.declared.Typing.{Typing}
 use Rattle.keystroke.specs.declared.Typed.{Typed}
-use Rattle.keystroke.specs.declared.Typed.TheVariants.{Inserted, Unplaceable}
 
 -- ---- what is asked
 
@@ -32,30 +28,29 @@ pub record Typeable (r : Replica) (g : ℕ) (ns : List ℕ) : Type 0 where
   pub space : length (meaning r).characters + length (inserts (meaning r).pending) + length ns ≤ capacity
   pub coded : every is_code_point ns ≡ true
 
--- a state with these keys and counts of toggles, whose next insert has the bits of its type
-pub record Neighboured (t : Site) (ids toggles : List ℕ) (g n : ℕ) : Type 0 where
+-- a state with the keys and the counts of toggles of a replica, whose next insert has the bits of its type
+pub record Neighboured (r : Replica) (g n : ℕ) : Type 0 where
   pub state : State
-  pub site : t ≡ state.site
-  pub keyed : keys state.characters ≡ ids
-  pub toggled : toggle_counts state.characters ≡ toggles
+  pub site : r.site ≡ state.site
+  pub keyed : keys state.characters ≡ take r.document.length r.document.ids
+  pub toggled : toggle_counts state.characters ≡ take r.document.length r.document.toggles
   pub ranged : insert_in_range (generated_insert state g n) ≡ true
 
 -- ---- what is left
 
--- a character typed at the gap: the insert that the rules make, the state that they leave as it is stored, the gap just
--- below it, and what was carried out and discarded
-pub record Taken (s : State) (at : Typing) (n : ℕ) (i : Insert) (t : Typing) (r : Replica) : Type 0 where
-  pub placed : unplaceable s.characters (insert (generated_insert s at.point n)) ≡ false
-  pub made : i ≡ generated_insert s at.point n
-  pub left : r ≡ stored (outcome s (inserting at.point n)).state
-  pub below : t.point ≡ gap_below (outcome s (inserting at.point n)).state (next_identifier s.site)
-  pub integrated : t.integrated ≡ at.integrated + length (all_integrated (outcome s (inserting at.point n)))
-  pub discarded : t.discarded ≡ at.discarded + length (outcome s (inserting at.point n)).discarded
-  pub balance : t.integrated + t.discarded + t.waiting ≡ suc (at.integrated + at.discarded + at.waiting)
+-- a character typed at the gap on a replica: the insert that the rules make, the state that they leave as it is stored,
+-- the gap just below it, and what was carried out and discarded
+pub record Taken (b : Replica) (at : Typing) (n : ℕ) (t : Typed) (r : Replica) : Type 0 where
+  pub placed : unplaceable (meaning b).characters (insert (generated_insert (meaning b) at.point n)) ≡ false
+  pub made : t.insert ≡ generated_insert (meaning b) at.point n
+  pub left : r ≡ stored (outcome (meaning b) (inserting at.point n)).state
+  pub below : t.after.point ≡ gap_below (outcome (meaning b) (inserting at.point n)).state (next_identifier (meaning b).site)
+  pub integrated : t.after.integrated ≡ at.integrated + length (all_integrated (outcome (meaning b) (inserting at.point n)))
+  pub discarded : t.after.discarded ≡ at.discarded + length (outcome (meaning b) (inserting at.point n)).discarded
+  pub balance : t.after.integrated + t.after.discarded + r.document.waiting ≡ suc (at.integrated + at.discarded + b.document.waiting)
 
--- in lent arrays, or refused with 9
-unfoldable pub OneTyped : State → Typing → ℕ → List ℕ → List ℕ → List ℕ → List ℕ → List ℕ → Typed → Type 0
-OneTyped s at n cs ts ps hs ls (Inserted i t) =
-    Taken s at n i t (replica_as t.site cs ts t.length ps t.waiting hs ls)
-OneTyped s at n cs ts ps hs ls Unplaceable =
-    unplaceable s.characters (insert (generated_insert s at.point n)) ≡ true
+-- from one replica to another, or refused with 9
+unfoldable pub OneTyped : Replica → Typing → ℕ → Replica → Option Typed → Type 0
+OneTyped b at n r (Some t) = Taken b at n t r
+OneTyped b at n r None =
+    unplaceable (meaning b).characters (insert (generated_insert (meaning b) at.point n)) ≡ true

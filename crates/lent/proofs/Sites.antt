@@ -5,8 +5,6 @@ use mathlib.Core.Bool.{Bool}
 use mathlib.Core.Option.{Option, none, some}
 use Rattle.woot.specs.declared.Site.{Site}
 use Rattle.woot.specs.declared.Replica.{Replica}
-use Rattle.woot.specs.declared.Sent.{Sent}
-use Rattle.woot.specs.declared.Sent.TheVariants.{Done, Refused}
 use Rattle.woot.specs.Memory.{meaning, stored, replica_well_formed}
 use Rattle.answers.specs.Answers.{NoneHolds, first, decided}
 use Rattle.woot.specs.Calls.{Outcome, unchanged, after_drain, insert_checks, generated_insert, carry_out, send_insert, local_insert_when}
@@ -19,13 +17,15 @@ use Rattle.replica.specs.Theorems.{called}
 use Rattle.woot.specs.Histories.{inserting}
 use Rattle.replica.proofs.Kept.{replicas_formed}
 use Rattle.lent.specs.Lent.{together, returned, with_clock, site_after, LentFollows, RecordFormed}
+use Rattle.std.proofs.Common.{Ok, Err}
+use Rattle.woot.specs.Sent.{Sending}
 
 module _ (r : Replica) (g n : ℕ) where
   -- what the call comes to where the checks report m
-  come : Option Sent → Outcome Sent
+  come : Option Sending → Outcome Sending
   come m = decided (unchanged (meaning r)) m (send_insert (meaning r) (generated_insert (meaning r) g n))
 
-  Told : Option Sent → Type 0
+  Told : Option Sending → Type 0
   Told m = (after_sent r (come m).state (come m).answer).site ≡ site_after r.site (come m).answer
 
   -- where none is reported, the clock has heard what was made, and what that released raised nothing
@@ -34,7 +34,7 @@ module _ (r : Replica) (g n : ℕ) where
   advanced known f w =
       drained-still (meaning r) (generated_insert (meaning r) g n) (generated_addable known (meaning r) g n f w) ∙ typed-heard (meaning r) g n
 
-  told : (m : Option Sent) → (m ≡ none → Told none) → ((a : Sent) → m ≡ some a → Told (some a)) → Told m
+  told : (m : Option Sending) → (m ≡ none → Told none) → ((a : Sending) → m ≡ some a → Told (some a)) → Told m
   told none f t = f refl
   told (some a) f t = t a refl
 
@@ -52,10 +52,10 @@ module _ (r : Replica) (g n : ℕ) where
       none_told w = advanced (replica_well_formed r) (formed (meaning r) (form_meant r (not-false (replica_well_formed r) w.1.0))) w
 
 -- the number is kept
-same_number : (s : Site) (a : Sent) → with_clock s (site_after s a).clock ≡ site_after s a
+same_number : (s : Site) (a : Sending) → with_clock s (site_after s a).clock ≡ site_after s a
 unfolding site_after
-same_number s (Done o n m) = refl
-same_number s (Refused q) = refl
+same_number s (Ok x) = refl
+same_number s (Err q) = refl
 
 pub clock_after : (r : Replica) (g n : ℕ) → with_clock r.site (inserted r g n).replica.site.clock ≡ site_after r.site (inserted r g n).answer
 clock_after r g n = ap (λ t. with_clock r.site t.clock) (site-after r g n) ∙ same_number r.site (inserted r g n).answer

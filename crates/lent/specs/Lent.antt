@@ -1,16 +1,15 @@
 -- Inserting on a lent record: what comes back by value, what is left in the record, and that the two together are the
 -- replica that the call on replicas returns.
-use Rattle.std.specs.Prelude.{ℕ, ◌+◌, ◌≡◌, true}
+use Rattle.std.specs.Prelude.{ℕ, ◌+◌, ◌≡◌, true, Ok, Err}
 use Rattle.woot.specs.declared.Site.{Site}
 use Rattle.woot.specs.declared.Document.{Document}
 use Rattle.woot.specs.declared.Replica.{Replica}
-use Rattle.woot.specs.declared.Sent.{Sent}
-use Rattle.woot.specs.declared.Sent.TheVariants.{Done, Refused}
 use Rattle.woot.specs.Memory.{replica_well_formed}
 use Rattle.woot.specs.Histories.{inserting}
 use Rattle.woot.specs.Replicas.{inserted}
 use Rattle.replica.specs.Theorems.{called}
 use Rattle.lent.specs.declared.Returned.{Returned}
+use Rattle.woot.specs.Sent.{Sending}
 
 -- "the record counts as part of the sheet"
 abbrev pub together : Site → Document → Replica
@@ -26,9 +25,9 @@ abbrev pub with_clock : Site → ℕ → Site
 with_clock s k = record { number = s.number; clock = k }
 
 -- "which advances the clock by one in it"; on a refusal the record is as it was
-unfoldable pub site_after : Site → Sent → Site
-site_after s (Done o n m) = with_clock s (s.clock + 1)
-site_after s (Refused q) = s
+unfoldable pub site_after : Site → Sending → Site
+site_after s (Ok x) = with_clock s (s.clock + 1)
+site_after s (Err q) = s
 
 -- "every call keeps the form": record and document together come back in form where they were
 abbrev pub RecordFormed : Type 0

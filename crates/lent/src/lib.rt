@@ -5,12 +5,13 @@
 ghost use Rattle.std.specs.Prelude.{◌≡◌};
 ghost use Rattle.lent.specs.Lent.{returned, site_after, with_clock};
 
+use answers::Refusal;
 use woot::{Document, Replica, Sent, Site};
 
 // What comes back by value; the record is where it was lent.
 #[derive(Clone, Copy)]
 pub struct Returned {
-    pub answer: Sent,
+    pub answer: Result<Sent, Refusal>,
     pub document: Document,
 }
 

@@ -1,7 +1,7 @@
 // Operations put as lines of text into a lent slice. What the lines are is said in `codec`.
 #![tactic(auto)]
 
-ghost use Rattle.std.specs.Prelude.{◌≡◌, cond, eqb};
+ghost use Rattle.std.specs.Prelude.{◌≡◌, cond, eqb, Ok, Err};
 ghost use Rattle.output.specs.Output.{placed, past};
 ghost use Rattle.lines.specs.Room.{room_for};
 ghost use Rattle.codec.specs.Operations.{insert_numbers, toggle_numbers, operation_line};
@@ -9,8 +9,7 @@ ghost use Rattle.codec.specs.Calls.{written, written_out};
 
 use answers::Refusal;
 use codec::{INSERT, TOGGLE};
-use lines::writing::Room;
-use woot::{Insert, Operation, Toggle, Written};
+use woot::{Insert, Operation, Toggle};
 
 // The numbers of an insert's line.
 fn insert_numbers(insert: Insert) -> [u64; 7]
@@ -40,7 +39,7 @@ fn toggle_numbers(toggle: Toggle) -> [u64; 4]
 }
 
 // Where the line of an operation, in range or not, ends that begins at the offset in a slice of the given size.
-pub fn measure(operation: Operation, size: usize, at: usize) -> Room
+pub fn measure(operation: Operation, size: usize, at: usize) -> Option<usize>
     ensures { result ≡ room_for size at (operation_line operation) }
 {
     match operation {
@@ -79,22 +78,22 @@ pub fn put_operation(operation: Operation, out: &mut [u8], at: usize) -> usize
 
 // What a writer answers that put bytes at the front of a slice, by the offset just past them: where there was no room
 // for them, that did not move.
-pub fn fitted(past: usize) -> Written
-    ensures { result ≡ cond (eqb past 0) (Written.Refused Refusal.Output) (Written.Length past) }
+pub fn fitted(past: usize) -> Result<usize, Refusal>
+    ensures { result ≡ cond (eqb past 0) (Err Refusal.Output) (Ok past) }
 {
     if past == 0 {
-        return Written::Refused(Refusal::Output);
+        return Err(Refusal::Output);
     }
-    Written::Length(past)
+    Ok(past)
 }
 
 // Writes the line of an operation at the front of the slice. A refused call leaves every byte as it was.
-pub fn write_operation(operation: Operation, out: &mut [u8]) -> Written
+pub fn write_operation(operation: Operation, out: &mut [u8]) -> Result<usize, Refusal>
     ensures value { result ≡ written operation out.old }
     ensures out_after { out.new ≡ written_out operation out.old }
 {
     if !ranges::in_range(operation) {
-        return Written::Refused(Refusal::Range);
+        return Err(Refusal::Range);
     }
     fitted(put_operation(operation, out, 0))
 }

@@ -1,23 +1,23 @@
 -- The first line as it lies in the bytes: as far as it goes its bytes are theirs, and where it ends stands a line feed or nothing.
 use mathlib.Core.Path.{◌≡◌, refl, sym, ap, ◌∙◌}
 use mathlib.Core.List.{List, [], ◌∷◌}
-use mathlib.Core.Bool.{Bool, true, false, not, ◌&&◌, cond}
+use mathlib.Core.Bool.{Bool, true, false, not, cond}
 use mathlib.Core.Logic.{⊎_elim}
 use Prim.Native.Nat.{ℕ, zero, suc, ◌+◌, ◌<◌, ◌≤◌}
-use native.Mathlib.Numerals.{add-one}
 use native.Mathlib.Omega.{arith}
 use lib.Dec.{eqb, ltb}
-use lib.ListN.{length, take, drop, get_or, length-drop}
-use borrow.Author.Tests.{eqb-true, eqb-false, eq-eqb, ne_eqb, lt-ltb, le-ltb, ltb-true, not-true, not-false}
-use Rattle.lists.proofs.Tests.{clash, side, and_left_lem, and_right}
+use lib.ListN.{length, drop, get_or, length-drop}
+use borrow.Author.Tests.{eqb-true, eqb-false, eq-eqb, lt-ltb, le-ltb}
+use Rattle.lists.proofs.Tests.{clash, side}
 use Rattle.decimal.specs.Numeral.{is_digit}
 use Rattle.decimal.specs.Answers.{digits_front}
-use Rattle.lines.specs.declared.Verdict.TheVariants.{Malformed, Above, Within}
-use Rattle.lines.specs.declared.Numbers.{Numbers}
+use Rattle.std.proofs.Common.{Ok, Err}
+use Rattle.lists.specs.Padding.{pad}
+use Rattle.decimal.specs.declared.Fault.TheVariants.{Above, Malformed}
 use Rattle.lines.specs.declared.Ending.{Ending}
-use Rattle.lines.specs.Lines.{line_feed, before, first_line, ended}
-use Rattle.lines.specs.Fields.{tab, fields, equal, values_of, at_most}
-use Rattle.lines.specs.Answers.{holding, verdict_on, goes_on, goes_on_at, numbers_after, unless}
+use Rattle.lines.specs.Lines.{line_feed, before, first_line}
+use Rattle.lines.specs.Fields.{tab, fields, values_of, at_most}
+use Rattle.lines.specs.Answers.{slots, Numbers, verdict_on, goes_on, numbers_after, unless}
 use Rattle.lines.proofs.Bytes.{before-le}
 use Rattle.lines.proofs.Reading.{Reading, short, no-tab}
 
@@ -86,57 +86,12 @@ module _ (s : List ℕ) where
         go : (t : Bool) → eqb (get_or s at 0) line_feed ≡ t → ltb at (length (first_line s)) ≡ not t
         go true e = le-ltb at (length (first_line s)) (at_feed k (eqb-true (get_or s at 0) line_feed e))
         go false e = lt-ltb at (length (first_line s)) (before_feed k (eqb-false (get_or s at 0) line_feed e))
-
-    -- whether a field goes on there
-    pub goes_nowhere : length s ≤ at → goes_on_at (first_line s) at ≡ false
-    unfolding goes_on_at
-    goes_nowhere k = rw (past_end k)
-
-    module _ (k : at < length s) where
-      pub tab-ends : get_or s at 0 ≡ tab → goes_on_at (first_line s) at ≡ false
-      unfolding goes_on_at
-      tab-ends q =
-          let inside = before_feed k (λ f. let z : ◌≡◌ {A = ℕ} 9 10 = cc in omega arith) in
-          rw (lt-ltb at (length (first_line s)) inside, ← same_byte inside, eq-eqb (get_or s at 0) tab q)
-
-      pub goes_told : (get_or s at 0 ≡ tab → ⊥) → goes_on_at (first_line s) at ≡ not (eqb (get_or s at 0) line_feed)
-      unfolding goes_on_at
-      goes_told q = go (eqb (get_or s at 0) line_feed) refl
-        where
-          go : (t : Bool) → eqb (get_or s at 0) line_feed ≡ t → goes_on_at (first_line s) at ≡ not t
-          go true e = rw (le-ltb at (length (first_line s)) (at_feed k (eqb-true (get_or s at 0) line_feed e)))
-          go false e =
-              let inside = before_feed k (eqb-false (get_or s at 0) line_feed e) in
-              rw (lt-ltb at (length (first_line s)) inside, ← same_byte inside, ne_eqb (get_or s at 0) tab q)
+        -- whether a field goes on there
 
 -- ---- its first field
 
-pub field-le : (l : List ℕ) (i : ℕ) → i ≤ length (before tab l) → i ≤ length l
-field-le l i h = omega (arith, before-le tab l)
-
 pub line_field-le : (s : List ℕ) → length (before tab (first_line s)) ≤ length s
 line_field-le s = omega (arith, before-le tab (first_line s), line_le s)
-
--- a field goes on exactly where the offset is in it
-pub field-further : (l : List ℕ) (i : ℕ) → i ≤ length (before tab l) → goes_on_at l i ≡ true → i + 1 ≤ length (before tab l)
-unfolding goes_on_at
-field-further l i h e =
-    ⊎_elim
-    (λ (p : length (before tab l) ≤ i).
-    let here : length (before tab l) ≡ i = omega arith in
-    let k = ltb-true i (length l) (and_left_lem (ltb i (length l)) (not (eqb (get_or l i 0) tab)) e) in
-    let other = not-true (eqb (get_or l i 0) tab) (and_right (ltb i (length l)) (not (eqb (get_or l i 0) tab)) e) in
-    absurd (eqb-false (get_or l i 0) tab other (ap (λ n. get_or l n 0) (sym here) ∙ itself-after tab l (omega arith))))
-    (λ (p : i < length (before tab l)). omega arith) (side (length (before tab l)) i)
-
-pub field-ends : (l : List ℕ) (i : ℕ) → i ≤ length (before tab l) → goes_on_at l i ≡ false → i ≡ length (before tab l)
-unfolding goes_on_at
-field-ends l i h e =
-    ⊎_elim
-    (λ (p : length (before tab l) ≤ i). omega arith)
-    (λ (p : i < length (before tab l)).
-    let k = lt-ltb i (length l) (omega (arith, before-le tab l)) in
-    absurd (other-before tab l i p (eqb-true (get_or l i 0) tab (not-false (eqb (get_or l i 0) tab) (rw k at e))))) (side (length (before tab l)) i)
 
 -- ---- the digits at its front
 
@@ -175,16 +130,17 @@ digits-inside s at h e = omega (arith, digits-front-le (drop (at + 1) (first_lin
 
 -- ---- numbers without the layout
 
-told : (laid : Bool) (limits ns : List ℕ) → (((verdict_on laid limits ns).verdict ≡ Malformed → ⊥) → ⊥) → verdict_on laid limits ns ≡ holding Malformed []
-unfolding verdict_on holding
+told : (laid : Bool) (limits ns : List ℕ) → ((verdict_on laid limits ns ≡ Err Malformed → ⊥) → ⊥) → verdict_on laid limits ns ≡ Err Malformed
+unfolding verdict_on
 told false limits ns h = refl
 told true limits ns h = go (at_most limits ns) h
   where
-    go : (c : Bool) → (((cond c (holding Within ns) (holding Above [])).verdict ≡ Malformed → ⊥) → ⊥) → cond c (holding Within ns) (holding Above []) ≡ holding Malformed []
+    go : (c : Bool) → ((◌≡◌ {A = Numbers} (cond c (Ok (pad slots 0 ns)) (Err Above)) (Err Malformed) → ⊥) → ⊥)
+        → ◌≡◌ {A = Numbers} (cond c (Ok (pad slots 0 ns)) (Err Above)) (Err Malformed)
     go true h = absurd (h (λ q. let z : ◌≡◌ {A = ℕ} 0 1 = cc in omega arith))
     go false h = absurd (h (λ q. let z : ◌≡◌ {A = ℕ} 0 1 = cc in omega arith))
 
-pub malformed-whole : (limits : List ℕ) (fs : List (List ℕ)) → (((numbers_after limits fs).verdict ≡ Malformed → ⊥) → ⊥) → numbers_after limits fs ≡ holding Malformed []
+pub malformed-whole : (limits : List ℕ) (fs : List (List ℕ)) → ((numbers_after limits fs ≡ Err Malformed → ⊥) → ⊥) → numbers_after limits fs ≡ Err Malformed
 unfolding numbers_after
 malformed-whole limits fs h = told (goes_on (length limits) fs) limits (values_of fs) h
 
@@ -192,23 +148,22 @@ malformed-whole limits fs h = told (goes_on (length limits) fs) limits (values_o
 
 module _ (limits s : List ℕ) (e : Ending) where
   -- it lacks the layout
-  pub refused_end : e.numbers ≡ holding Malformed [] → e.end ≡ 0 → holding Malformed [] ≡ numbers_after limits (fields (first_line s))
+  pub refused_end : e.numbers ≡ Err Malformed → e.end ≡ 0 → Err Malformed ≡ numbers_after limits (fields (first_line s))
       → (e.numbers ≡ numbers_after limits (fields (first_line s)))
-      × (((e.numbers.verdict ≡ Malformed → ⊥) → e.end ≡ length (first_line s)) × (e.end ≤ length s))
-  unfolding holding
-  refused_end n z m = (n ∙ m, ((λ h. absurd (h (ap (λ x. x.verdict) n))), omega arith))
+      × (((e.numbers ≡ Err Malformed → ⊥) → e.end ≡ length (first_line s)) × (e.end ≤ length s))
+  refused_end n z m = (n ∙ m, ((λ h. absurd (h n)), omega arith))
 
   -- its numbers are all read
   pub all_end : (values : List ℕ) (above : Bool) {at : ℕ} → e.numbers ≡ unless above values → e.end ≡ at → unless above values ≡ numbers_after limits (fields (first_line s))
       → at ≤ length (first_line s) → length (first_line s) ≤ at
       → (e.numbers ≡ numbers_after limits (fields (first_line s)))
-      × (((e.numbers.verdict ≡ Malformed → ⊥) → e.end ≡ length (first_line s)) × (e.end ≤ length s))
+      × (((e.numbers ≡ Err Malformed → ⊥) → e.end ≡ length (first_line s)) × (e.end ≤ length s))
   all_end values above n z m low high = (n ∙ m, ((λ h. omega arith), omega (arith, line_le s)))
 
 -- ---- the steps of reading its numbers
 
 module _ (s : List ℕ) {limits values : List ℕ} {above : Bool} {at i : ℕ} (r : Reading (first_line s) limits 0 values above at i) (low : at ≤ length (first_line s)) (h : i < length limits) where
-  pub no-tab-here : at < length s → (get_or s at 0 ≡ tab → ⊥) → holding Malformed [] ≡ numbers_after limits (fields (first_line s))
+  pub no-tab-here : at < length s → (get_or s at 0 ≡ tab → ⊥) → Err Malformed ≡ numbers_after limits (fields (first_line s))
   no-tab-here k q =
       ⊎_elim (λ (p : length (first_line s) ≤ at). short r h p)
       (λ (p : at < length (first_line s)). no-tab r h p (λ e. q (same_byte s at low p ∙ e))) (side (length (first_line s)) at)

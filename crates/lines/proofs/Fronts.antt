@@ -9,14 +9,15 @@ use lib.ListN.{length, take, drop, length-drop}
 use lib.Seq.{take_all}
 use mathlib.Core.Logic.{⊎_elim}
 use Rattle.lists.proofs.Tests.{clash, side}
-use Rattle.lines.specs.declared.Verdict.TheVariants.{Malformed}
+use Rattle.std.proofs.Common.{Err}
+use Rattle.decimal.specs.declared.Fault.TheVariants.{Malformed}
 use Rattle.lines.specs.declared.Ending.{Ending}
 use Rattle.lines.specs.Lines.{line_feed, has, before, first_line, ended}
 use Rattle.lines.specs.Fields.{tab, fields, equal}
-use Rattle.lines.specs.Answers.{holding, numbers_after, numbers_of, front_of}
+use Rattle.lines.specs.Answers.{numbers_after, numbers_of, front_of}
 use Rattle.lines.proofs.Bytes.{before-le, is-there, is-absent}
 use Rattle.lines.proofs.Heads.{other-head, same_head}
-use Rattle.lines.proofs.FrontLine.{line_le, line_field-le, malformed-whole}
+use Rattle.lines.proofs.FrontLine.{line_le, malformed-whole}
 
 -- ---- a part of the bytes before one of a kind
 
@@ -78,38 +79,38 @@ module _ (head limits s : List ℕ) (end : ℕ) (e : end ≡ length (before tab 
   rest_line = rw (part-is s end) (drop-into line_feed end s inside)
 
   -- another word stands there
-  pub front-other : equal (take end s) head ≡ false → holding Malformed [] ≡ front_of head limits s
+  pub front-other : equal (take end s) head ≡ false → Err Malformed ≡ front_of head limits s
   unfolding front_of
   front-other h = go (ended s)
     where
-      go : (t : Bool) → holding Malformed [] ≡ cond t (numbers_of head limits (fields (first_line s))) (holding Malformed [])
+      go : (t : Bool) → Err Malformed ≡ cond t (numbers_of head limits (fields (first_line s))) (Err Malformed)
       go true = other-head head limits (first_line s) end (omega arith) (ap (λ (l : List ℕ). equal l head) (sym front_same) ∙ h)
       go false = refl
 
   -- the head word does, and the numbers after it were read
   module _ (h : equal (take end s) head ≡ true) (r : Ending) (n : r.numbers ≡ numbers_after limits (fields (first_line (part_from s end))))
-      (f : (r.numbers.verdict ≡ Malformed → ⊥) → r.end ≡ length (first_line (part_from s end))) where
+      (f : (r.numbers ≡ Err Malformed → ⊥) → r.end ≡ length (first_line (part_from s end))) where
     pub all_numbers : r.numbers ≡ numbers_of head limits (fields (first_line s))
     all_numbers =
         n ∙ ap (λ (l : List ℕ). numbers_after limits (fields l)) rest_line
         ∙ same_head head limits (first_line s) end (omega arith) (ap (λ (l : List ℕ). equal l head) (sym front_same) ∙ h)
 
-    feed : (r.numbers.verdict ≡ Malformed → ⊥) → end + r.end ≡ length (first_line s)
+    feed : (r.numbers ≡ Err Malformed → ⊥) → end + r.end ≡ length (first_line s)
     feed k = omega (arith, f k, ap length rest_line, length-drop end (first_line s), inside)
 
-    lacking : ((r.numbers.verdict ≡ Malformed → ⊥) → ⊥) → holding Malformed [] ≡ r.numbers
-    lacking k = sym (n ∙ malformed-whole limits (fields (first_line (part_from s end))) (λ j. k (λ q. j (ap (λ x. x.verdict) (sym n) ∙ q))))
+    lacking : ((r.numbers ≡ Err Malformed → ⊥) → ⊥) → Err Malformed ≡ r.numbers
+    lacking k = sym (n ∙ malformed-whole limits (fields (first_line (part_from s end))) (λ j. k (λ q. j (sym n ∙ q))))
 
-    ended-told : end + r.end < length s → (r.numbers.verdict ≡ Malformed → ⊥) → ended s ≡ true
+    ended-told : end + r.end < length s → (r.numbers ≡ Err Malformed → ⊥) → ended s ≡ true
     unfolding ended first_line
     ended-told k j = is-there line_feed s (omega (arith, feed j))
 
     -- no line feed follows them
-    pub front-short : length s ≤ end + r.end → holding Malformed [] ≡ front_of head limits s
+    pub front-short : length s ≤ end + r.end → Err Malformed ≡ front_of head limits s
     unfolding front_of
     front-short k = go (ended s) refl
       where
-        go : (t : Bool) → ended s ≡ t → holding Malformed [] ≡ cond t (numbers_of head limits (fields (first_line s))) (holding Malformed [])
+        go : (t : Bool) → ended s ≡ t → Err Malformed ≡ cond t (numbers_of head limits (fields (first_line s))) (Err Malformed)
         go true q = lacking (λ j. omega (arith, feed j, ended_line s q)) ∙ all_numbers
         go false q = refl
 
@@ -118,9 +119,9 @@ module _ (head limits s : List ℕ) (end : ℕ) (e : end ≡ length (before tab 
     unfolding front_of
     front_read_lem k = go (ended s) refl
       where
-        go : (t : Bool) → ended s ≡ t → r.numbers ≡ cond t (numbers_of head limits (fields (first_line s))) (holding Malformed [])
+        go : (t : Bool) → ended s ≡ t → r.numbers ≡ cond t (numbers_of head limits (fields (first_line s))) (Err Malformed)
         go true q = all_numbers
         go false q = sym (lacking (λ j. clash (ended-told k j) q))
 
-    pub front-next : (r.numbers.verdict ≡ Malformed → ⊥) → end + r.end + 1 ≡ length (first_line s) + 1
+    pub front-next : (r.numbers ≡ Err Malformed → ⊥) → end + r.end + 1 ≡ length (first_line s) + 1
     front-next k = omega (arith, feed k)

@@ -13,9 +13,10 @@ use borrow.Author.Tests.{eqb-true, eqb-false}
 use Rattle.lists.proofs.Tests.{either, clash, passes, or-false}
 use Rattle.lists.proofs.Members.{any_append}
 use Rattle.lines.specs.Lines.{line_feed, has, before, after, ended, first_line, rest, on_line, lines, last, closed, leading, trailing, concatenated}
-use Rattle.lines.specs.declared.Verdict.TheVariants.{Malformed}
+use Rattle.std.proofs.Common.{Err}
+use Rattle.decimal.specs.declared.Fault.TheVariants.{Malformed}
 use Rattle.lines.specs.Fields.{tab, fields, has_layout, values_of, columns, line_of}
-use Rattle.lines.specs.Answers.{holding, verdict_on, numbers_of, front_of}
+use Rattle.lines.specs.Answers.{verdict_on, numbers_of, front_of}
 use Rattle.lines.proofs.Bytes.{drop-before, split, before-append, after-append, has-append_seam}
 use Rattle.lines.proofs.Spelling.{no-columns, spelled}
 
@@ -73,7 +74,7 @@ module _ (s : List ℕ) where
   front-line h hs limits = go (ended s) refl
     where
       go : (t : Bool) → ended s ≡ t
-          → cond t (numbers_of (h ∷ hs) limits (fields (first_line s))) (holding Malformed []) ≡ numbers_of (h ∷ hs) limits (fields (get_or (lines s) 0 []))
+          → cond t (numbers_of (h ∷ hs) limits (fields (first_line s))) (Err Malformed) ≡ numbers_of (h ∷ hs) limits (fields (get_or (lines s) 0 []))
       go true e = rw (lines-ended e)
       go false e = rw (lines_unended e)
 

@@ -13,17 +13,20 @@ use borrow.Author.Tests.{le-leb, lt-leb}
 use Rattle.lists.specs.Padding.{pad}
 use Rattle.lists.proofs.Padding.{pad-push}
 use Rattle.decimal.specs.Numeral.{is_numeral, value_of}
-use Rattle.decimal.specs.declared.Field.{Field}
-use Rattle.decimal.specs.declared.Field.TheVariants.{Number, Above as TooLarge, Malformed as Unread}
+use Rattle.std.specs.Prelude.{Result, Ok, Err}
+use Rattle.decimal.specs.declared.Fault.{Fault}
+use Rattle.decimal.specs.declared.Fault.TheVariants.{Above, Malformed}
 use Rattle.decimal.specs.Answers.{field_of}
 use Rattle.decimal.proofs.Laws.{field-number, field-above, field-malformed}
-use Rattle.lines.specs.declared.Verdict.TheVariants.{Malformed, Above, Within}
-use Rattle.lines.specs.declared.Numbers.{Numbers}
 use Rattle.lines.specs.Lines.{before}
 use Rattle.lines.specs.Fields.{tab, fields, numerals, values_of, at_most}
-use Rattle.lines.specs.Answers.{slots, goes_on, holding, verdict_on, numbers_after, unless}
+use Rattle.lines.specs.Answers.{slots, goes_on, verdict_on, numbers_after, unless}
 use Rattle.lines.proofs.Fields.{onward, fields-first, fields-next}
 use Rattle.lines.proofs.Values.{goes_further, goes_wrong, ends_early, goes_on-field, left_over}
+
+-- a fault that was told, by the one that it is
+pub is-fault : {r : Result ℕ Fault} {f g : Fault} → r ≡ Err f → f ≡ g → r ≡ Err g
+is-fault e h = e ∙ ap Err h
 
 pub record Reading (line limits : List ℕ) (from : ℕ) (values : List ℕ) (above : Bool) (at i : ℕ) : Type 0 where
   pub read : List ℕ
@@ -56,7 +59,7 @@ begun line limits from h = record {
 
 module _ {line limits : List ℕ} {from : ℕ} {values : List ℕ} {above : Bool} {at i : ℕ} (r : Reading line limits from values above at i) where
   -- the answer where what is left lacks the layout
-  pub malformed : goes_on (length (drop i limits)) (fields (drop at line)) ≡ false → holding Malformed [] ≡ numbers_after limits (fields (drop from line))
+  pub malformed : goes_on (length (drop i limits)) (fields (drop at line)) ≡ false → Err Malformed ≡ numbers_after limits (fields (drop from line))
   unfolding numbers_after verdict_on
   malformed e = rw (r.layout, e)
 
@@ -66,11 +69,11 @@ module _ {line limits : List ℕ} {from : ℕ} {values : List ℕ} {above : Bool
     left = rw (add-one i) (drop-cons limits i 0 h)
 
     -- the line is at its end
-    pub short : length line ≤ at → holding Malformed [] ≡ numbers_after limits (fields (drop from line))
+    pub short : length line ≤ at → Err Malformed ≡ numbers_after limits (fields (drop from line))
     short k = malformed (rw (left, drop_of_length-le line k) (ends_early (length (drop (i + 1) limits))))
 
     -- the field goes on
-    pub no-tab : at < length line → (get_or line at 0 ≡ tab → ⊥) → holding Malformed [] ≡ numbers_after limits (fields (drop from line))
+    pub no-tab : at < length line → (get_or line at 0 ≡ tab → ⊥) → Err Malformed ≡ numbers_after limits (fields (drop from line))
     no-tab k e =
         malformed (rw (drop-cons line at 0 k) (goes_on-field (length (drop i limits)) (get_or line at 0) (drop (suc at) line) e))
 
@@ -111,33 +114,33 @@ module _ {line limits : List ℕ} {from : ℕ} {values : List ℕ} {above : Bool
       }
 
       -- it is no numeral
-      pub not_numeral : is_numeral (before tab (drop (at + 1) line)) ≡ false → holding Malformed [] ≡ numbers_after limits (fields (drop from line))
+      pub not_numeral : is_numeral (before tab (drop (at + 1) line)) ≡ false → Err Malformed ≡ numbers_after limits (fields (drop from line))
       unfolding bytes
       not_numeral q = malformed (rw here (goes_wrong (length (drop i limits)) (before tab bytes) others q))
 
       -- the line ends at the tab
-      pub nothing_left : length line ≤ at + 1 → holding Malformed [] ≡ numbers_after limits (fields (drop from line))
+      pub nothing_left : length line ≤ at + 1 → Err Malformed ≡ numbers_after limits (fields (drop from line))
       unfolding is_numeral
       nothing_left n = not_numeral (rw (drop_of_length-le line n) refl)
 
       -- the next field is found at the tab or the end after it
       module _ {part : List ℕ} (cut : part ≡ before tab (drop (at + 1) line)) where
-        field_is : {a : Field} → field_of part (get_or limits i 0) ≡ a → field_of (before tab (drop (at + 1) line)) (get_or limits i 0) ≡ a
+        field_is : {a : Result ℕ Fault} → field_of part (get_or limits i 0) ≡ a → field_of (before tab (drop (at + 1) line)) (get_or limits i 0) ≡ a
         field_is q = ap (λ (l : List ℕ). field_of l (get_or limits i 0)) (sym cut) ∙ q
 
-        pub no_numeral : field_of part (get_or limits i 0) ≡ Unread → holding Malformed [] ≡ numbers_after limits (fields (drop from line))
+        pub no_numeral : field_of part (get_or limits i 0) ≡ Err Malformed → Err Malformed ≡ numbers_after limits (fields (drop from line))
         no_numeral q = not_numeral (field-malformed (before tab (drop (at + 1) line)) (get_or limits i 0) (field_is q))
 
         module _ {at' : ℕ} (found : at' ≡ at + 1 + length (before tab (drop (at + 1) line))) where
           -- its number is above the limit
-          pub next-above : field_of part (get_or limits i 0) ≡ TooLarge → Reading line limits from values true at' (i + 1)
+          pub next-above : field_of part (get_or limits i 0) ≡ Err Above → Reading line limits from values true at' (i + 1)
           unfolding value
           next-above q =
               let got = field-above (before tab (drop (at + 1) line)) (get_or limits i 0) (field_is q) in
               rw found (more got.0 values true (λ ns. rw (lt-leb value (get_or limits i 0) got.1) (and_none (not above))) (λ e. cc))
 
           -- its number is stored
-          pub next-number : {n : ℕ} → field_of part (get_or limits i 0) ≡ Number n → Reading line limits from (set values i n) above at' (i + 1)
+          pub next-number : {n : ℕ} → field_of part (get_or limits i 0) ≡ Ok n → Reading line limits from (set values i n) above at' (i + 1)
           unfolding value
           next-number {n} q =
               let got = field-number (before tab (drop (at + 1) line)) n (get_or limits i 0) (field_is q) in
@@ -153,7 +156,7 @@ module _ {line limits : List ℕ} {from : ℕ} {values : List ℕ} {above : Bool
     none_left = drop_of_length-le limits h
 
     -- bytes are
-    pub too_long : at < length line → holding Malformed [] ≡ numbers_after limits (fields (drop from line))
+    pub too_long : at < length line → Err Malformed ≡ numbers_after limits (fields (drop from line))
     too_long k = malformed (rw (none_left, drop-cons line at 0 k) (left_over (get_or line at 0) (drop (suc at) line)))
 
     module _ (k : length line ≤ at) where
@@ -168,23 +171,13 @@ module _ {line limits : List ℕ} {from : ℕ} {values : List ℕ} {above : Bool
       verdict : at_most limits (values_of (fields (drop from line))) ≡ not above
       verdict = rw all_read (ap (at_most limits) (sym (append-nil r.read)) ∙ r.judged [] ∙ rw none_left (and_true (not above)))
 
-      -- one was above its limit
-      pub above_limit : above ≡ true → holding Above [] ≡ numbers_after limits (fields (drop from line))
-      unfolding numbers_after verdict_on
-      above_limit e = rw (laid_out_lem, verdict, e)
-
-      -- none was
-      pub in_limits : above ≡ false → ◌≡◌ {A = Numbers} (record { verdict = Within; values = values }) (numbers_after limits (fields (drop from line)))
-      unfolding numbers_after verdict_on holding
-      in_limits e = rw (laid_out_lem, verdict, e, all_read) (λ j. record { verdict = Within; values = r.stored e j })
-
       -- its numbers count unless one was above its limit
       pub all-judged : unless above values ≡ numbers_after limits (fields (drop from line))
-      unfolding unless numbers_after verdict_on holding
+      unfolding unless numbers_after verdict_on
       all-judged = rw (laid_out_lem, verdict) (go above refl)
         where
           go : (a : Bool) → above ≡ a
-              → cond a (holding Above []) (record { verdict = Within; values = values })
-              ≡ cond (not a) (holding Within (values_of (fields (drop from line)))) (holding Above [])
+              → cond a (Err Above) (Ok values)
+              ≡ cond (not a) (Ok (pad slots 0 (values_of (fields (drop from line))))) (Err Above)
           go true e = refl
-          go false e = rw all_read (λ j. record { verdict = Within; values = r.stored e j })
+          go false e = rw all_read (ap Ok (r.stored e))

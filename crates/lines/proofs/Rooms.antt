@@ -1,4 +1,5 @@
 -- Laws of a line put down piece by piece. What stands in the slice is a front of the line, and the offset is its end.
+use Rattle.std.proofs.Common.{Some, None}
 use mathlib.Core.Path.{◌≡◌, refl, sym, ap, ◌∙◌}
 use mathlib.Core.List.{List, [], ◌∷◌, ◌++◌, append-nil, append_assoc}
 use mathlib.Core.Bool.{Bool, true, false}
@@ -11,8 +12,7 @@ use lib.Seq.{take-suc, take_all}
 use Rattle.output.specs.Output.{has_room, placed, past}
 use Rattle.output.proofs.Laws.{room, no_room, has_room_lem, lacks-room, placed-append, placed-room, past_room, length-placed}
 use Rattle.decimal.specs.Numeral.{digits}
-use Rattle.lines.specs.declared.writing.Room.{Room}
-use Rattle.lines.specs.declared.writing.Room.TheVariants.{Until, Short}
+use Rattle.lines.specs.Room.{Room}
 use Rattle.lines.specs.Lines.{line_feed}
 use Rattle.lines.specs.Fields.{tab, columns}
 use Rattle.lines.specs.Room.{room_for}
@@ -27,30 +27,30 @@ columns-append (m ∷ ms) ns =
 -- ---- room
 
 module _ (size at : ℕ) (bytes : List ℕ) where
-  pub until : {end : ℕ} → end ≡ at + length bytes → end ≤ size → Until end ≡ room_for size at bytes
+  pub until : {end : ℕ} → end ≡ at + length bytes → end ≤ size → Some end ≡ room_for size at bytes
   unfolding room_for
-  until e h = rw (room size at (length bytes) (omega arith)) (ap Until e)
+  until e h = rw (room size at (length bytes) (omega arith)) (ap Some e)
 
-  pub short : size < at + length bytes → Short ≡ room_for size at bytes
+  pub short : size < at + length bytes → None ≡ room_for size at bytes
   unfolding room_for
   short h = rw (no_room size at (length bytes) h)
 
   -- what the answers tell
   module _ {x : Room} (m : x ≡ room_for size at bytes) where
-    pub until_tells : {end : ℕ} → x ≡ Until end → (end ≡ at + length bytes) × (at + length bytes ≤ size)
+    pub until_tells : {end : ℕ} → x ≡ Some end → (end ≡ at + length bytes) × (at + length bytes ≤ size)
     unfolding room_for
     until_tells {end} e = go (has_room size at (length bytes)) refl
       where
         go : (b : Bool) → has_room size at (length bytes) ≡ b → (end ≡ at + length bytes) × (at + length bytes ≤ size)
-        go true p = let q : x ≡ Until (at + length bytes) = rw p at m in (cc, has_room_lem size at (length bytes) p)
-        go false p = let q : x ≡ Short = rw p at m in let z : ◌≡◌ {A = ℕ} 0 1 = cc in absurd (omega arith)
+        go true p = let q : x ≡ Some (at + length bytes) = rw p at m in (cc, has_room_lem size at (length bytes) p)
+        go false p = let q : x ≡ None = rw p at m in let z : ◌≡◌ {A = ℕ} 0 1 = cc in absurd (omega arith)
 
-    pub short_tells : x ≡ Short → size < at + length bytes
+    pub short_tells : x ≡ None → size < at + length bytes
     unfolding room_for
     short_tells e = go (has_room size at (length bytes)) refl
       where
         go : (b : Bool) → has_room size at (length bytes) ≡ b → size < at + length bytes
-        go true p = let q : x ≡ Until (at + length bytes) = rw p at m in let z : ◌≡◌ {A = ℕ} 0 1 = cc in absurd (omega arith)
+        go true p = let q : x ≡ Some (at + length bytes) = rw p at m in let z : ◌≡◌ {A = ℕ} 0 1 = cc in absurd (omega arith)
         go false p = lacks-room size at (length bytes) p
 
 -- ---- one run after another

@@ -1,4 +1,5 @@
 -- The lines of several elements, one after another: the invariants of a loop that measures them, and of one that puts them.
+use Rattle.std.proofs.Common.{Some, None}
 use mathlib.Core.Path.{◌≡◌, ap, ◌∙◌}
 use mathlib.Core.List.{List, [], ◌∷◌, ◌++◌, append-nil}
 use Prim.Native.Nat.{ℕ, ◌+◌, ◌≤◌, ◌<◌}
@@ -7,8 +8,7 @@ use native.Mathlib.Omega.{arith}
 use lib.ListN.{length, take, drop, get_or, length-append, take-append-drop}
 use lib.Seq.{take-suc, take-take}
 use Rattle.output.specs.Output.{has_room, placed, past}
-use Rattle.lines.specs.declared.writing.Room.{Room}
-use Rattle.lines.specs.declared.writing.Room.TheVariants.{Until, Short}
+use Rattle.lines.specs.Room.{Room}
 use Rattle.lines.specs.Lines.{concatenated}
 use Rattle.lines.specs.Room.{room_for}
 use Rattle.lines.proofs.Rooms.{until, short, until_tells, short_tells, Run, run_none, run_on, run-whole}
@@ -50,31 +50,31 @@ module _ {A : Type 0} (f : A → List ℕ) (xs : List A) (n size at : ℕ) where
       longer : length (concatenated f (take (i + 1) xs)) ≡ length (concatenated f (take i xs)) + length (f (get_or xs i d))
       longer = ap length (concatenated-more f xs i d (omega (arith, m.few))) ∙ length-append (concatenated f (take i xs)) (f (get_or xs i d))
 
-      pub measuring_more : {next : ℕ} → x ≡ Until next → Measuring f xs n size at next (i + 1)
+      pub measuring_more : {next : ℕ} → x ≡ Some next → Measuring f xs n size at next (i + 1)
       measuring_more q =
           let t = until_tells size end (f (get_or xs i d)) e q in
           record { part = omega arith; few = m.few; fits = omega (arith, t.0, t.1); offset = omega (arith, t.0, m.offset, longer) }
 
-      pub measuring_short : x ≡ Short → Short ≡ room_for size at (concatenated f (take n xs))
+      pub measuring_short : x ≡ None → None ≡ room_for size at (concatenated f (take n xs))
       measuring_short q =
           short size at (concatenated f (take n xs))
           (omega (arith, short_tells size end (f (get_or xs i d)) e q, m.offset, longer, concatenated-le f xs (i + 1) n (omega arith)))
 
-    pub measuring_end : n ≤ i → Until end ≡ room_for size at (concatenated f (take n xs))
+    pub measuring_end : n ≤ i → Some end ≡ room_for size at (concatenated f (take n xs))
     measuring_end h =
         let all : i ≡ n = omega (arith, m.part) in
         until size at (concatenated f (take n xs)) (rw all at m.offset) m.fits
 
 -- one part after another: the whole has room where the first part has, and from its end on the second
 module _ (size at : ℕ) (a b : List ℕ) {x : Room} (e : x ≡ room_for size at a) where
-  pub room-on : {end : ℕ} → x ≡ Until end → room_for size end b ≡ room_for size at (a ++ b)
+  pub room-on : {end : ℕ} → x ≡ Some end → room_for size end b ≡ room_for size at (a ++ b)
   unfolding room_for has_room
   room-on {end} q =
       let t = until_tells size at a e q in
       let sum : end + length b ≡ at + length (a ++ b) = omega (arith, t.0, length-append a b) in
       rw sum
 
-  pub room-short : x ≡ Short → Short ≡ room_for size at (a ++ b)
+  pub room-short : x ≡ None → None ≡ room_for size at (a ++ b)
   room-short q = short size at (a ++ b) (omega (arith, short_tells size at a e q, length-append a b))
 
 -- ---- put

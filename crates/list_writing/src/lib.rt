@@ -9,8 +9,6 @@ ghost use Rattle.woot.specs.Writing.{written_as, output_after};
 ghost use Rattle.listing.specs.Format.{list_bytes};
 
 use answers::Refusal;
-use lines::writing::Room;
-use woot::Written;
 
 // Internal step: writes a list of the first n chunks at the front of the slice, whatever numbers they have. A refused
 // call leaves every byte as it was. The calls lend arrays that have n slots.
@@ -21,7 +19,7 @@ pub fn put(
     words: &[u64],
     n: usize,
     out: &mut [u8],
-) -> Written
+) -> Result<usize, Refusal>
     requires n_in_bounds { n ≤ length heads.now }
     requires n_in_bounds_2 { n ≤ length words.now }
     ensures value { result
@@ -39,14 +37,14 @@ pub fn put(
 {
     let size = out.len();
     let front = writing::measure_header(site, total, size);
-    let Room::Until(start) = front else {
-        return Written::Refused(Refusal::Output);
+    let Some(start) = front else {
+        return Err(Refusal::Output);
     };
     let room = writing::measure_chunks(heads, words, n, size, start);
-    let Room::Until(length) = room else {
-        return Written::Refused(Refusal::Output);
+    let Some(length) = room else {
+        return Err(Refusal::Output);
     };
     let at = writing::put_header(site, total, out);
     writing::put_chunks(heads, words, n, out, at);
-    Written::Length(length)
+    Ok(length)
 }

@@ -7,11 +7,10 @@ ghost use Rattle.lines.specs.Room.{room_for};
 ghost use Rattle.chunks.specs.Columns.{chunk_as, chunks_in};
 ghost use Rattle.listing.specs.Format.{list_head, chunk_numbers, chunk_line};
 
-use lines::writing::Room;
 use listing::{CHUNK, LIST};
 
 // Where the first line ends at the front of a slice of the given size.
-pub(crate) fn measure_header(site: u8, total: usize, size: usize) -> Room
+pub(crate) fn measure_header(site: u8, total: usize, size: usize) -> Option<usize>
     ensures { result ≡ room_for size 0 (line_of list_head (site ∷ total ∷ [])) }
 {
     let head = [LIST];
@@ -37,7 +36,13 @@ fn chunk_numbers(head: u32, word: u64) -> [u64; 3]
 }
 
 // Where the lines of the first n chunks end that begin at the offset in a slice of the given size.
-pub(crate) fn measure_chunks(heads: &[u32], words: &[u64], n: usize, size: usize, at: usize) -> Room
+pub(crate) fn measure_chunks(
+    heads: &[u32],
+    words: &[u64],
+    n: usize,
+    size: usize,
+    at: usize,
+) -> Option<usize>
     requires n_in_bounds { n ≤ length heads.now }
     requires n_in_bounds_2 { n ≤ length words.now }
     requires at_le_size { at ≤ size }
@@ -45,18 +50,16 @@ pub(crate) fn measure_chunks(heads: &[u32], words: &[u64], n: usize, size: usize
         ≡ room_for size at (concatenated chunk_line (chunks_in heads.now words.now n)) }
 {
     let mut end = at;
-    let mut i = 0;
-    while i < n {
+    for i in 0..n {
         let head = [CHUNK];
         let numbers = chunk_numbers(heads[i], words[i]);
         let room = lines::writing::measure(&head, &numbers, size, end);
-        let Room::Until(past) = room else {
-            return Room::Short;
+        let Some(past) = room else {
+            return None;
         };
         end = past;
-        i += 1;
     }
-    Room::Until(end)
+    Some(end)
 }
 
 // Puts the lines at the offset, where there is room.
@@ -69,11 +72,9 @@ pub(crate) fn put_chunks(heads: &[u32], words: &[u64], n: usize, out: &mut [u8],
         (chunks_in heads.now words.now n)) }
 {
     let mut end = at;
-    let mut i = 0;
-    while i < n {
+    for i in 0..n {
         let head = [CHUNK];
         let numbers = chunk_numbers(heads[i], words[i]);
         end = lines::writing::put_line(&head, &numbers, out, end);
-        i += 1;
     }
 }

@@ -15,7 +15,7 @@ use Rattle.bulk.specs.Catching.{last_word, mislisted}
 use Rattle.decimal.specs.Numeral.{is_digit, leading_zero, is_numeral, value_of, digits, digits_in}
 use Rattle.lines.specs.Lines.{closed}
 use Rattle.lines.specs.Fields.{has_layout, numerals, values_of, line_of}
-use Rattle.listing.specs.declared.ListRead.TheVariants.{Done}
+use Rattle.std.proofs.Common.{Ok}
 use Rattle.listing.specs.Format.{list_numbers, chunk_numbers, chunk_line, list_bytes, is_chunk, are_list_lines}
 use Rattle.listing.specs.Format.{list_laid_out, chunk_said, said_by_lines, list_said}
 use Rattle.listing.specs.Calls.{list_read_checks, list_read, list_number}
@@ -29,12 +29,12 @@ unfolding list_number
 list-numbers s = go (list_laid_out s) (listing_in_range (list_said s)) (mislisted (list_said s)) refl refl refl
   where
     counted : (n : ℕ)
-        → (list_read s ≡ Done n)
+        → (list_read s ≡ Ok n)
         ↔ ((list_laid_out s ≡ true) × (listing_in_range (list_said s) ≡ true) × (mislisted (list_said s) ≡ false)
         × (length (list_said s).chunks ≡ n))
     counted n = (
       λ d. let w = done-told s n d in (w.0, w.1, w.2, sym w.3),
-      λ w. listed-done s w.0 w.1 w.2 ∙ ap Done w.3,
+      λ w. listed-done s w.0 w.1 w.2 ∙ ap Ok w.3,
     )
 
     go : (a b d : Bool) → list_laid_out s ≡ a → listing_in_range (list_said s) ≡ b → mislisted (list_said s) ≡ d
@@ -45,7 +45,7 @@ list-numbers s = go (list_laid_out s) (listing_in_range (list_said s)) (misliste
         × ((list_number (list_read s) ≡ 0)
         ↔ ((list_laid_out s ≡ true) × (listing_in_range (list_said s) ≡ true) × (mislisted (list_said s) ≡ false)))
         × ((n : ℕ) →
-        (list_read s ≡ Done n)
+        (list_read s ≡ Ok n)
         ↔ ((list_laid_out s ≡ true) × (listing_in_range (list_said s) ≡ true) × (mislisted (list_said s) ≡ false)
         × (length (list_said s).chunks ≡ n)))
     go false b d p q r =

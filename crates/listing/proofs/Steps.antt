@@ -14,15 +14,16 @@ use Rattle.woot.specs.Ranges.{within, site_number}
 use Rattle.bulk.specs.Catching.{Chunk, Listing, chunk_in_range, listing_in_range}
 use Rattle.convergence.proofs.Ranges.{within_low, within-high, to-within}
 use Rattle.memory.proofs.Characters.{each_cong}
-use Rattle.lines.specs.declared.Numbers.{Numbers}
 use Rattle.lines.specs.Fields.{fields, values_of, at_most}
-use Rattle.lines.specs.Answers.{numbers_of, by_verdict}
+use Rattle.lines.specs.Answers.{Numbers, numbers_of, by_numbers}
 use Rattle.lines.proofs.Values.{at_most_at, at_most_from, at-padded}
 use Rattle.lines.proofs.Verdicts.{values-at_most, verdict_says}
 use Rattle.chunks.specs.Columns.{chunk_as, chunks_in}
 use Rattle.listing.specs.declared.reading.Summary.{Summary}
-use Rattle.listing.specs.declared.reading.ChunkRead.{ChunkRead}
-use Rattle.listing.specs.declared.reading.ChunkRead.TheVariants.{Malformed, OutOfRange, Read}
+use Rattle.decimal.specs.declared.Fault.{Fault}
+use Rattle.decimal.specs.declared.Fault.TheVariants.{Above, Malformed}
+use Rattle.std.proofs.Common.{Result, Ok, Err}
+use Rattle.std.specs.Prelude.{IfOk}
 use Rattle.listing.specs.Format.{list_head, list_limits, chunk_head, chunk_limits, is_chunk, chunk_said, said_by_lines}
 use Rattle.listing.specs.Reading.{header_from, chunk_from, head_for, chunk_read_as, chunk_read}
 use Rattle.listing.specs.Reading.{without_layout, out_of_range}
@@ -94,12 +95,12 @@ module _ (ns : List ℕ) where
       (record { site-low = omega (arith, some); site-high = site; total-high = total }) refl))
 
 module _ (line : List ℕ) (r : Numbers) (e : r ≡ numbers_of list_head list_limits (fields line)) where
-  pub header_fits : at_most list_limits r.values ≡ true
+  pub header_fits : IfOk r (λ values. at_most list_limits values ≡ true)
   unfolding numbers_of
   header_fits = values-at_most _ list_limits _ r e
 
   pub header_judged : {x : Summary}
-      → x ≡ by_verdict r.verdict without_layout out_of_range (header_as (header_from r.values)) → x ≡ header_read line
+      → x ≡ by_numbers r without_layout out_of_range (λ values. header_as (header_from values)) → x ≡ header_read line
   unfolding numbers_of header_read said_by_lines header_from
   header_judged w =
       let ns = values_of (fields line) in
@@ -113,11 +114,11 @@ module _ (line : List ℕ) (r : Numbers) (e : r ≡ numbers_of list_head list_li
 -- ---- a chunk's line
 
 module _ (k : Chunk) where
-  read-outside : chunk_in_range k ≡ false → chunk_read_as k ≡ OutOfRange
+  read-outside : chunk_in_range k ≡ false → chunk_read_as k ≡ Err Above
   unfolding chunk_read_as
   read-outside e = rw e
 
-  read-within : chunk_in_range k ≡ true → chunk_read_as k ≡ Read (head_for k) k.word
+  read-within : chunk_in_range k ≡ true → chunk_read_as k ≡ Ok (head_for k, k.word)
   unfolding chunk_read_as
   read-within e = rw e
 
@@ -129,20 +130,20 @@ module _ (ns : List ℕ) where
       at_most_from 0 chunk_limits ns b.site-high
       (at_most_from 1 chunk_limits ns b.index-high (at_most_from 2 chunk_limits ns b.word-high refl))
 
-  pub chunk-no-site : get_or ns 0 0 ≡ 0 → OutOfRange ≡ chunk_read_as (chunk_from ns)
+  pub chunk-no-site : get_or ns 0 0 ≡ 0 → Err Above ≡ chunk_read_as (chunk_from ns)
   unfolding chunk_from
   chunk-no-site z =
       sym (read-outside (chunk_from ns)
       (fails (chunk_in_range (chunk_from ns)) (λ e. omega (arith, z, (bounds (chunk_from ns) e).site-low))))
 
-  pub chunk-no-word : get_or ns 2 0 ≡ 0 → OutOfRange ≡ chunk_read_as (chunk_from ns)
+  pub chunk-no-word : get_or ns 2 0 ≡ 0 → Err Above ≡ chunk_read_as (chunk_from ns)
   unfolding chunk_from
   chunk-no-word z =
       sym (read-outside (chunk_from ns)
       (fails (chunk_in_range (chunk_from ns)) (λ e. omega (arith, z, (bounds (chunk_from ns) e).word_low))))
 
   pub chunk-some : at_most chunk_limits ns ≡ true → (get_or ns 0 0 ≡ 0 → ⊥) → (get_or ns 2 0 ≡ 0 → ⊥)
-      → Read (get_or ns 0 0 * 1024 + get_or ns 1 0) (get_or ns 2 0) ≡ chunk_read_as (chunk_from ns)
+      → Ok (get_or ns 0 0 * 1024 + get_or ns 1 0, get_or ns 2 0) ≡ chunk_read_as (chunk_from ns)
   unfolding chunk_from head_for
   chunk-some fits site word =
       let b = at_most_at chunk_limits ns fits in
@@ -160,53 +161,53 @@ module _ (ns : List ℕ) where
       })))
 
 module _ (line : List ℕ) (r : Numbers) (e : r ≡ numbers_of chunk_head chunk_limits (fields line)) where
-  pub chunk-fits : at_most chunk_limits r.values ≡ true
+  pub chunk-fits : IfOk r (λ values. at_most chunk_limits values ≡ true)
   unfolding numbers_of
   chunk-fits = values-at_most _ chunk_limits _ r e
 
-  pub chunk-judged : {x : ChunkRead}
-      → x ≡ by_verdict r.verdict Malformed OutOfRange (chunk_read_as (chunk_from r.values)) → x ≡ chunk_read line
+  pub chunk-judged : {x : Result (ℕ × ℕ) Fault}
+      → x ≡ by_numbers r (Err Malformed) (Err Above) (λ values. chunk_read_as (chunk_from values)) → x ≡ chunk_read line
   unfolding numbers_of chunk_read is_chunk chunk_said chunk_from
   chunk-judged w =
       let ns = values_of (fields line) in
       let padded : (m : ℕ) (ns : List ℕ) → chunk_from (ns ++ replicate m 0) ≡ chunk_from ns =
       λ m ns j. record { site = at-padded m ns 0 j; index = at-padded m ns 1 j; word = at-padded m ns 2 j } in
-      let large : at_most chunk_limits ns ≡ false → OutOfRange ≡ chunk_read_as (chunk_from ns) =
+      let large : at_most chunk_limits ns ≡ false → Err Above ≡ chunk_read_as (chunk_from ns) =
       λ h. sym (read-outside (chunk_from ns)
       (fails (chunk_in_range (chunk_from ns)) (λ p. clash (chunk-limits ns p) h))) in
-      w ∙ verdict_says _ chunk_limits ns r e chunk_from chunk_read_as Malformed OutOfRange padded large
+      w ∙ verdict_says _ chunk_limits ns r e chunk_from chunk_read_as (Err Malformed) (Err Above) padded large
 
 -- ---- what it was read as
 
 module _ (line : List ℕ) where
-  read_told : {x : ChunkRead} (a b : Bool) → is_chunk line ≡ a → chunk_in_range (chunk_said line) ≡ b → x ≡ chunk_read line
-      → x ≡ cond a (cond b (Read (head_for (chunk_said line)) (chunk_said line).word) OutOfRange) Malformed
+  read_told : {x : Result (ℕ × ℕ) Fault} (a b : Bool) → is_chunk line ≡ a → chunk_in_range (chunk_said line) ≡ b → x ≡ chunk_read line
+      → x ≡ cond a (cond b (Ok (head_for (chunk_said line), (chunk_said line).word)) (Err Above)) (Err Malformed)
   unfolding chunk_read chunk_read_as
   read_told a b p q e = e ∙ rw (p, q)
 
-  module _ {x : ChunkRead} (e : x ≡ chunk_read line) where
-    pub told-malformed : x ≡ Malformed → is_chunk line ≡ false
-    told-malformed m = go (is_chunk line) (chunk_in_range (chunk_said line)) refl refl
+  module _ {x : Result (ℕ × ℕ) Fault} (e : x ≡ chunk_read line) where
+    pub told-malformed : {f : Fault} → x ≡ Err f → f ≡ Malformed → is_chunk line ≡ false
+    told-malformed m k = go (is_chunk line) (chunk_in_range (chunk_said line)) refl refl
       where
         go : (a b : Bool) → is_chunk line ≡ a → chunk_in_range (chunk_said line) ≡ b → is_chunk line ≡ false
         go false b p q = p
-        go true false p q = let z : x ≡ OutOfRange = read_told true false p q e in cc
+        go true false p q = let z : x ≡ Err Above = read_told true false p q e in cc
         go true true p q =
-            let z : x ≡ Read (head_for (chunk_said line)) (chunk_said line).word = read_told true true p q e in
+            let z : x ≡ Ok (head_for (chunk_said line), (chunk_said line).word) = read_told true true p q e in
             cc
 
-    pub told-outside : x ≡ OutOfRange → (is_chunk line ≡ true) × (chunk_in_range (chunk_said line) ≡ false)
-    told-outside m = go (is_chunk line) (chunk_in_range (chunk_said line)) refl refl
+    pub told-outside : {f : Fault} → x ≡ Err f → f ≡ Above → (is_chunk line ≡ true) × (chunk_in_range (chunk_said line) ≡ false)
+    told-outside m k = go (is_chunk line) (chunk_in_range (chunk_said line)) refl refl
       where
         go : (a b : Bool) → is_chunk line ≡ a → chunk_in_range (chunk_said line) ≡ b
             → (is_chunk line ≡ true) × (chunk_in_range (chunk_said line) ≡ false)
-        go false b p q = let z : x ≡ Malformed = read_told false b p q e in (cc, cc)
+        go false b p q = let z : x ≡ Err Malformed = read_told false b p q e in (cc, cc)
         go true false p q = (p, q)
         go true true p q =
-            let z : x ≡ Read (head_for (chunk_said line)) (chunk_said line).word = read_told true true p q e in
+            let z : x ≡ Ok (head_for (chunk_said line), (chunk_said line).word) = read_told true true p q e in
             (cc, cc)
 
-    pub told-read : {h w : ℕ} → x ≡ Read h w
+    pub told-read : {h w : ℕ} → x ≡ Ok (h, w)
         → (is_chunk line ≡ true) × (chunk_in_range (chunk_said line) ≡ true)
         × (h ≡ head_for (chunk_said line))
         × (w ≡ (chunk_said line).word)
@@ -216,11 +217,12 @@ module _ (line : List ℕ) where
             → (is_chunk line ≡ true) × (chunk_in_range (chunk_said line) ≡ true)
             × (h ≡ head_for (chunk_said line))
             × (w ≡ (chunk_said line).word)
-        go false b p q = let z : x ≡ Malformed = read_told false b p q e in (cc, cc, cc, cc)
-        go true false p q = let z : x ≡ OutOfRange = read_told true false p q e in (cc, cc, cc, cc)
+        go false b p q = let z : x ≡ Err Malformed = read_told false b p q e in (cc, cc, cc, cc)
+        go true false p q = let z : x ≡ Err Above = read_told true false p q e in (cc, cc, cc, cc)
         go true true p q =
-            let z : x ≡ Read (head_for (chunk_said line)) (chunk_said line).word = read_told true true p q e in
-            (p, q, cc, cc)
+            let z : x ≡ Ok (head_for (chunk_said line), (chunk_said line).word) = read_told true true p q e in
+            let e : ◌≡◌ {A = ℕ × ℕ} (h, w) (head_for (chunk_said line), (chunk_said line).word) = cc in
+            (p, q, ap (λ (c : ℕ × ℕ). c.0) e, ap (λ (c : ℕ × ℕ). c.1) e)
 
   -- and what it adds
   module _ (t : Summary) where

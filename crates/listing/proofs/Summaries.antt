@@ -23,8 +23,7 @@ use Rattle.lines.specs.Lines.{ended, first_line, rest, lines, closed}
 use Rattle.lines.specs.Fields.{fields, has_layout}
 use Rattle.lines.proofs.Lines.{lines-ended, lines_unended, closed-rest, closed_unended}
 use Rattle.chunks.specs.Columns.{chunk_as, chunks_in}
-use Rattle.listing.specs.declared.ListRead.{ListRead}
-use Rattle.listing.specs.declared.ListRead.TheVariants.{Done, Refused}
+use Rattle.std.proofs.Common.{Result, Ok, Err}
 use Rattle.listing.specs.declared.reading.Summary.{Summary}
 use Rattle.listing.specs.Format.{list_head, is_chunk, chunk_said, said_by_lines, are_list_lines, list_laid_out, list_said}
 use Rattle.listing.specs.Calls.{list_read_checks, list_read}
@@ -315,21 +314,21 @@ module _
 
 -- a refusal by its condition
 module _ (s : List ℕ) where
-  pub listed-layout : list_laid_out s ≡ false → list_read s ≡ Refused Layout
+  pub listed-layout : list_laid_out s ≡ false → list_read s ≡ Err Layout
   unfolding list_read list_read_checks decided
   listed-layout e = rw e
 
   module _ (laid : list_laid_out s ≡ true) where
-    pub listed-range : listing_in_range (list_said s) ≡ false → list_read s ≡ Refused Range
+    pub listed-range : listing_in_range (list_said s) ≡ false → list_read s ≡ Err Range
     unfolding list_read list_read_checks decided
     listed-range e = rw (laid, e)
 
     module _ (good : listing_in_range (list_said s) ≡ true) where
-      pub listed_wrong : mislisted (list_said s) ≡ true → list_read s ≡ Refused Mislisted
+      pub listed_wrong : mislisted (list_said s) ≡ true → list_read s ≡ Err Mislisted
       unfolding list_read list_read_checks decided
       listed_wrong e = rw (laid, good, e)
 
-      pub listed-done : mislisted (list_said s) ≡ false → list_read s ≡ Done (length (list_said s).chunks)
+      pub listed-done : mislisted (list_said s) ≡ false → list_read s ≡ Ok (length (list_said s).chunks)
       unfolding list_read list_read_checks decided
       listed-done e = rw (laid, good, e)
 
@@ -346,14 +345,14 @@ module _ (s : List ℕ) where
       go true true p q = rw (p, sound-or-not l p, q) (sym (listed_wrong laid p q))
       go true false p q =
           let few : min 1024 (length l.chunks) ≡ length l.chunks = omega (arith, few-listed l p q) in
-          rw (p, sound-or-not l p, q) (ap Done few ∙ sym (listed-done laid p q))
+          rw (p, sound-or-not l p, q) (ap Ok few ∙ sym (listed-done laid p q))
 
 -- a refusal is no count
-pub refused-done : {A : Type 0} (q : Refusal) (n : ℕ) → Refused q ≡ Done n → A
+pub refused-done : {A : Type 0} (q : Refusal) (n : ℕ) → Err q ≡ Ok n → A
 refused-done q n e = let z : ◌≡◌ {A = ℕ} 0 1 = cc in absurd (omega arith)
 
 -- a list that is not refused meets no condition
-pub done-told : (s : List ℕ) (n : ℕ) → list_read s ≡ Done n
+pub done-told : (s : List ℕ) (n : ℕ) → list_read s ≡ Ok n
     → (list_laid_out s ≡ true) × (listing_in_range (list_said s) ≡ true)
     × (mislisted (list_said s) ≡ false)
     × (n ≡ length (list_said s).chunks)
@@ -363,11 +362,11 @@ done-told s n d = go (list_laid_out s) (listing_in_range (list_said s)) (mislist
         → (list_laid_out s ≡ true) × (listing_in_range (list_said s) ≡ true)
         × (mislisted (list_said s) ≡ false)
         × (n ≡ length (list_said s).chunks)
-    go false b c p q r = let z : Refused Layout ≡ Done n = sym (listed-layout s p) ∙ d in (cc, cc, cc, cc)
-    go true false c p q r = let z : Refused Range ≡ Done n = sym (listed-range s p q) ∙ d in (cc, cc, cc, cc)
-    go true true true p q r = let z : Refused Mislisted ≡ Done n = sym (listed_wrong s p q r) ∙ d in (cc, cc, cc, cc)
+    go false b c p q r = let z : Err Layout ≡ Ok n = sym (listed-layout s p) ∙ d in (cc, cc, cc, cc)
+    go true false c p q r = let z : Err Range ≡ Ok n = sym (listed-range s p q) ∙ d in (cc, cc, cc, cc)
+    go true true true p q r = let z : Err Mislisted ≡ Ok n = sym (listed_wrong s p q r) ∙ d in (cc, cc, cc, cc)
     go true true false p q r =
-        let z : Done (length (list_said s).chunks) ≡ Done n = sym (listed-done s p q r) ∙ d in
+        let z : Ok (length (list_said s).chunks) ≡ Ok n = sym (listed-done s p q r) ∙ d in
         (p, q, r, cc)
 
 module _
@@ -387,7 +386,7 @@ module _
       go true false = refl
 
   -- the first line lacks the layout, or no line feed ends it
-  pub header_lacks : h.laid_out ≡ false → Refused Layout ≡ list_read s
+  pub header_lacks : h.laid_out ≡ false → Err Layout ≡ list_read s
   unfolding is_header list_laid_out are_list_lines
   header_lacks z = sym (listed-layout s (go (ended s) refl))
     where
@@ -450,7 +449,7 @@ module _
       unfolding summary_on
       laid_told laid = q ∙ rw (sym laid_by ∙ laid) said-by
 
-      pub read_answer_lem : {u : ListRead} → u ≡ conclusion t → u ≡ list_read s
+      pub read_answer_lem : {u : Result ℕ Refusal} → u ≡ conclusion t → u ≡ list_read s
       unfolding summary_on conclusion without_layout
       read_answer_lem {u} c = ⊎_elim with_layout without (either (list_laid_out s))
         where
@@ -464,7 +463,7 @@ module _
 
       -- the chunks of a list that is not refused are held
       pub read-chunks : (hs ws : List ℕ) → (t.in_range ≡ true → ChunksKept hs ws (map chunk_said (lines left)))
-          → (n : ℕ) → list_read s ≡ Done n → (n ≤ 1024) × (chunks_in hs ws n ≡ (list_said s).chunks)
+          → (n : ℕ) → list_read s ≡ Ok n → (n ≤ 1024) × (chunks_in hs ws n ≡ (list_said s).chunks)
       unfolding list_said said_by_lines summarized summary_of
       read-chunks hs ws held n d =
           let w = done-told s n d in

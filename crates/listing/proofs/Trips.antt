@@ -14,7 +14,7 @@ use Rattle.lines.specs.Fields.{fields, has_layout, values_of, columns, line_of}
 use Rattle.lines.proofs.Lines.{whole, lines_line, closed_line, rejoined, respelled}
 use Rattle.lines.proofs.Spelling.{layout_line, values_line, spelled}
 use Rattle.codec.proofs.Trips.{from_place}
-use Rattle.listing.specs.declared.ListRead.TheVariants.{Done}
+use Rattle.std.proofs.Common.{Ok}
 use Rattle.listing.specs.Format.{list_head, chunk_head, list_numbers, chunk_numbers, chunk_line, list_bytes, is_chunk}
 use Rattle.listing.specs.Format.{are_list_lines, list_laid_out, chunk_said, said_by_lines, list_said}
 use Rattle.listing.specs.Theorems.{ListReadsBack, ListAccepted, ListSameBytes}
@@ -75,7 +75,7 @@ pub list-accepted : ListAccepted
 list-accepted l good right =
     let r = list-reads-back l in
     listed-done (list_bytes l) r.0 (ap listing_in_range r.1 ∙ good) (ap mislisted r.1 ∙ right)
-    ∙ ap (λ (m : Listing). Done (length m.chunks)) r.1
+    ∙ ap (λ (m : Listing). Ok (length m.chunks)) r.1
 
 -- ---- what is read, written
 

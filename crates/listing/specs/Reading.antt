@@ -1,17 +1,17 @@
 -- For the proofs of the code alone: what the lines of a list that were read come to, and what one line adds to it.
 use Rattle.std.specs.Prelude.{ℕ, ◌+◌, ◌*◌, ◌≤◌, min, ◌≡◌, List, [], ◌∷◌, map, true, false, ◌&&◌, not, cond, eqb, ltb, length, get_or}
+use Rattle.std.specs.Prelude.{Result, Ok, Err}
 use Rattle.std.specs.Int.Count.{ones}
 use Rattle.lists.specs.Lists.{any, every}
+use Rattle.answers.specs.declared.Refusal.{Refusal}
 use Rattle.answers.specs.declared.Refusal.TheVariants.{Layout, Range, Mislisted}
 use Rattle.bulk.specs.Catching.{Chunk, Listing, ones_in, in_sequence, marks_zero, chunk_in_range, listing_in_range}
 use Rattle.lines.specs.Lines.{lines, closed}
 use Rattle.lines.specs.Fields.{fields, has_layout}
 use Rattle.chunks.specs.Columns.{chunk_slots, chunk_as, chunks_in}
-use Rattle.listing.specs.declared.ListRead.{ListRead}
-use Rattle.listing.specs.declared.ListRead.TheVariants.{Done, Refused}
 use Rattle.listing.specs.declared.reading.Summary.{Summary}
-use Rattle.listing.specs.declared.reading.ChunkRead.{ChunkRead}
-use Rattle.listing.specs.declared.reading.ChunkRead.TheVariants.{Malformed, OutOfRange, Read}
+use Rattle.decimal.specs.declared.Fault.{Fault}
+use Rattle.decimal.specs.declared.Fault.TheVariants.{Above, Malformed}
 use Rattle.listing.specs.Format.{list_head, is_chunk, chunk_said, said_by_lines}
 
 -- ---- a line
@@ -28,11 +28,11 @@ unfoldable pub head_for : Chunk → ℕ
 head_for k = k.site * 1024 + k.index
 
 -- what a line with the layout of a chunk's is read as
-unfoldable pub chunk_read_as : Chunk → ChunkRead
-chunk_read_as k = cond (chunk_in_range k) (Read (head_for k) k.word) OutOfRange
+unfoldable pub chunk_read_as : Chunk → Result (ℕ × ℕ) Fault
+chunk_read_as k = cond (chunk_in_range k) (Ok (head_for k, k.word)) (Err Above)
 
-unfoldable pub chunk_read : List ℕ → ChunkRead
-chunk_read line = cond (is_chunk line) (chunk_read_as (chunk_said line)) Malformed
+unfoldable pub chunk_read : List ℕ → Result (ℕ × ℕ) Fault
+chunk_read line = cond (is_chunk line) (chunk_read_as (chunk_said line)) (Err Malformed)
 
 -- ---- what lines come to
 
@@ -119,13 +119,13 @@ ChunksKept heads words ks = length ks ≤ chunk_slots → chunks_in heads words 
 -- ---- the end
 
 -- what is answered then
-unfoldable pub conclusion : Summary → ListRead
+unfoldable pub conclusion : Summary → Result ℕ Refusal
 conclusion t =
     cond t.laid_out
     (cond t.in_range
-    (cond (t.sound && eqb t.total t.ones) (Done t.count) (Refused Mislisted))
-    (Refused Range))
-    (Refused Layout)
+    (cond (t.sound && eqb t.total t.ones) (Ok t.count) (Err Mislisted))
+    (Err Range))
+    (Err Layout)
 
 -- the head of the last chunk, or n where there is none
 abbrev pub last_head : ℕ → List Chunk → ℕ

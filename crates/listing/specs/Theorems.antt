@@ -1,11 +1,10 @@
 -- The promises about lists as bytes, each proved in proofs/ under its name in small letters.
-use Rattle.std.specs.Prelude.{ℕ, ◌≤◌, ◌≡◌, ◌↔◌, true, false, List, [], ◌∷◌, ◌++◌, length}
+use Rattle.std.specs.Prelude.{ℕ, ◌≤◌, ◌≡◌, ◌↔◌, true, false, List, [], ◌∷◌, ◌++◌, length, Ok}
 use Rattle.woot.specs.Limits.{capacity}
 use Rattle.woot.specs.State.{State}
 use Rattle.woot.specs.Form.{well_formed}
 use Rattle.bulk.specs.Catching.{Chunk, Listing, last_index, last_word, listing, chunk_in_range, listing_in_range, mislisted}
 use Rattle.lines.specs.Fields.{line_of}
-use Rattle.listing.specs.declared.ListRead.TheVariants.{Done}
 use Rattle.listing.specs.Format.{list_head, list_numbers, chunk_line, list_bytes, list_laid_out, list_said}
 use Rattle.listing.specs.Calls.{list_read, list_number}
 
@@ -18,7 +17,7 @@ ListReadsBack = (l : Listing) → (list_laid_out (list_bytes l) ≡ true) × (li
 -- so a listing that meets no condition is accepted as bytes, with all its chunks
 abbrev pub ListAccepted : Type 0
 ListAccepted =
-    (l : Listing) → listing_in_range l ≡ true → mislisted l ≡ false → list_read (list_bytes l) ≡ Done (length l.chunks)
+    (l : Listing) → listing_in_range l ≡ true → mislisted l ≡ false → list_read (list_bytes l) ≡ Ok (length l.chunks)
 
 -- and a list is spelled in one way only: bytes with the layout are what is written of what they say, byte for byte
 abbrev pub ListSameBytes : Type 0
@@ -62,7 +61,7 @@ ListFits =
 
 -- nor is any list that is not refused
 abbrev pub ListLengths : Type 0
-ListLengths = (s : List ℕ) (n : ℕ) → list_read s ≡ Done n → (n ≤ capacity) × (length s ≤ list_most)
+ListLengths = (s : List ℕ) (n : ℕ) → list_read s ≡ Ok n → (n ≤ capacity) × (length s ≤ list_most)
 
 -- ---- refusals, of any bytes
 
@@ -78,7 +77,7 @@ ListNumbers =
     × ((list_number (list_read s) ≡ 0)
     ↔ ((list_laid_out s ≡ true) × (listing_in_range (list_said s) ≡ true) × (mislisted (list_said s) ≡ false)))
     × ((n : ℕ) →
-    (list_read s ≡ Done n)
+    (list_read s ≡ Ok n)
     ↔ ((list_laid_out s ≡ true) × (listing_in_range (list_said s) ≡ true) × (mislisted (list_said s) ≡ false)
     × (length (list_said s).chunks ≡ n)))
 
@@ -108,7 +107,7 @@ example_listing =
 abbrev pub ListExample : Type 0
 ListExample =
     (list_bytes example_listing ≡ example_header ++ (example_first ++ example_second))
-    × (list_read (example_header ++ (example_first ++ example_second)) ≡ Done 2)
+    × (list_read (example_header ++ (example_first ++ example_second)) ≡ Ok 2)
 
 -- no bytes at all, a second `H`, a `K` first, and a last line without its line feed are refused with 1
 abbrev pub LayoutExamples : Type 0
@@ -137,7 +136,7 @@ WholeWord =
       site = 1;
       total = 64;
       chunks = record { site = 1; index = 1; word = last_word } ∷ [];
-    })) ≡ Done 1)
+    })) ≡ Ok 1)
     × (chunk_in_range (record { site = 1; index = 1; word = 18446744073709551616 }) ≡ false)
 
 -- a total that differs, clock 0 marked by `K 1 0 3`, the two out of sequence, `K 2 0 2` before `K 1 1 1`, whose index

@@ -1,8 +1,8 @@
 // Reading a list line by line. A few numbers tell what the lines so far come to, so that a list may be of any length.
-ghost use Rattle.std.specs.Prelude.{◌≡◌, true, List, [], ◌∷◌, ◌++◌, map, min, length};
+ghost use Rattle.std.specs.Prelude.{◌≡◌, true, List, [], ◌∷◌, ◌++◌, map, min, length, IfOk, Err};
 ghost use Rattle.lines.specs.Fields.{at_most};
 ghost use Rattle.lines.specs.Lines.{lines};
-ghost use Rattle.lines.specs.Answers.{by_verdict};
+ghost use Rattle.lines.specs.Answers.{by_numbers};
 ghost use Rattle.bulk.specs.Catching.{Chunk, marks_zero};
 ghost use Rattle.chunks.specs.Columns.{chunk_slots, chunk_as};
 ghost use Rattle.listing.specs.Format.{list_limits, chunk_limits, chunk_said};
@@ -10,16 +10,16 @@ ghost use Rattle.listing.specs.Reading.{without_layout, out_of_range, total_alon
 ghost use Rattle.listing.specs.Reading.{chunk_read_as, chunk_read, ones_and, with_chunk, and_line, ChunksKept};
 ghost use Rattle.listing.specs.Reading.{summary_on, conclusion, header_from};
 
-use crate::{CHUNK, LIST, ListRead};
+use crate::{CHUNK, LIST};
 use answers::Refusal;
 use chunks::CHUNKS;
-use lines::{Numbers, Verdict};
+use decimal::Fault;
 
 // One more than the most ones that a list may have: no total is that high.
 const TOO_MANY: usize = 1025;
 
 // What the lines of a list that were read come to. Of a list that lacks the layout or is out of range nothing more is
-// told.
+// told. It is no Result: after a line out of range the others are read, since a fault of the layout comes first.
 #[derive(Clone, Copy)]
 pub struct Summary {
     pub laid_out: bool,
@@ -36,16 +36,8 @@ pub struct Summary {
     pub count: usize,
 }
 
-// What a line is read as that has to be a chunk's.
-#[derive(Clone, Copy)]
-pub enum ChunkRead {
-    Malformed,
-    OutOfRange,
-    // The head and the word of the chunk.
-    Read(u32, u64),
-}
-
 // A list with a line that lacks the layout.
+#[tactic(auto, unfolding(crate::specs::Reading::without_layout))]
 fn without_layout() -> Summary
     ensures { result ≡ without_layout }
 {
@@ -61,6 +53,7 @@ fn without_layout() -> Summary
 }
 
 // A list with a number out of range.
+#[tactic(auto, unfolding(crate::specs::Reading::out_of_range))]
 fn out_of_range() -> Summary
     ensures { result ≡ out_of_range }
 {
@@ -76,6 +69,7 @@ fn out_of_range() -> Summary
 }
 
 // A list of its first line alone, which says this total.
+#[tactic(auto, unfolding(crate::specs::Reading::total_alone))]
 fn total_alone(total: usize) -> Summary
     ensures { result ≡ total_alone total }
 {
@@ -90,18 +84,16 @@ fn total_alone(total: usize) -> Summary
     }
 }
 
-// The first line by the verdict on its numbers.
-fn header_of(numbers: Numbers) -> Summary
-    requires { at_most list_limits numbers.values ≡ true }
+// The first line by its numbers, or by their fault.
+fn header_of(numbers: Result<[u64; 9], Fault>) -> Summary
+    requires { IfOk numbers (λ values. at_most list_limits values ≡ true) }
     ensures { result
-        ≡ by_verdict numbers.verdict without_layout out_of_range (header_as (header_from numbers.values)) }
+        ≡ by_numbers numbers without_layout out_of_range (λ values. header_as (header_from values)) }
 {
-    let verdict = numbers.verdict;
-    let values = numbers.values;
-    match verdict {
-        Verdict::Malformed => without_layout(),
-        Verdict::Above => out_of_range(),
-        Verdict::Within => {
+    match numbers {
+        Err(Fault::Malformed) => without_layout(),
+        Err(Fault::Above) => out_of_range(),
+        Ok(values) => {
             if values[0] == 0 {
                 return out_of_range();
             }
@@ -119,32 +111,25 @@ pub(crate) fn header(line: &[u8]) -> Summary
     header_of(lines::read(line, &head, &limits))
 }
 
-// A chunk by the verdict on the numbers of its line.
-fn chunk_of(numbers: Numbers) -> ChunkRead
-    requires { at_most chunk_limits numbers.values ≡ true }
+// The head and the word of a chunk by the numbers of its line, or their fault. A site or a word of 0 is out of range as a
+// number above its limit is.
+fn chunk_of(numbers: Result<[u64; 9], Fault>) -> Result<(u32, u64), Fault>
+    requires { IfOk numbers (λ values. at_most chunk_limits values ≡ true) }
     ensures { result
-        ≡ by_verdict numbers.verdict ChunkRead.Malformed ChunkRead.OutOfRange
-        (chunk_read_as (chunk_from numbers.values)) }
+        ≡ by_numbers numbers (Err Fault.Malformed) (Err Fault.Above) (λ values. chunk_read_as (chunk_from values)) }
 {
-    let verdict = numbers.verdict;
-    let values = numbers.values;
-    match verdict {
-        Verdict::Malformed => ChunkRead::Malformed,
-        Verdict::Above => ChunkRead::OutOfRange,
-        Verdict::Within => {
-            if values[0] == 0 {
-                return ChunkRead::OutOfRange;
-            }
-            if values[2] == 0 {
-                return ChunkRead::OutOfRange;
-            }
-            ChunkRead::Read((values[0] * 1024 + values[1]) as u32, values[2])
-        }
+    let values = numbers?;
+    if values[0] == 0 {
+        return Err(Fault::Above);
     }
+    if values[2] == 0 {
+        return Err(Fault::Above);
+    }
+    Ok(((values[0] * 1024 + values[1]) as u32, values[2]))
 }
 
 // Reads a line after the first, without its line feed.
-fn read_chunk(line: &[u8]) -> ChunkRead
+fn read_chunk(line: &[u8]) -> Result<(u32, u64), Fault>
     ensures { result ≡ chunk_read line.now }
 {
     let head = [CHUNK];
@@ -156,10 +141,7 @@ fn read_chunk(line: &[u8]) -> ChunkRead
 fn marks_zero(head: u32, word: u64) -> bool
     ensures { result ≡ marks_zero (chunk_as head word) }
 {
-    if head % 1024 != 0 {
-        return false;
-    }
-    word % 2 == 1
+    head % 1024 == 0 && word % 2 == 1
 }
 
 // The ones so far and those of a word more.
@@ -178,10 +160,11 @@ fn with_chunk(at: Summary, head: u32, word: u64) -> Summary
     ensures { result ≡ with_chunk at head word }
 {
     let rising = index::both(at.sound, at.last < head);
-    let mut count = CHUNKS;
-    if at.count < CHUNKS {
-        count = at.count + 1;
-    }
+    let count = if at.count < CHUNKS {
+        at.count + 1
+    } else {
+        CHUNKS
+    };
     Summary {
         laid_out: true,
         in_range: true,
@@ -219,9 +202,9 @@ fn read_line(line: &[u8], heads: &mut [u32], words: &mut [u64], at: Summary) -> 
 {
     let read = read_chunk(line);
     match read {
-        ChunkRead::Malformed => without_layout(),
-        ChunkRead::OutOfRange => out_of_range(),
-        ChunkRead::Read(head, word) => {
+        Err(Fault::Malformed) => without_layout(),
+        Err(Fault::Above) => out_of_range(),
+        Ok((head, word)) => {
             if !at.in_range {
                 return out_of_range();
             }
@@ -247,6 +230,7 @@ pub(crate) fn read_chunks(
         → ChunksKept heads.new words.new (map chunk_said (lines bytes.now)) }
 {
     let mut at = first;
+    // It stays a while: `lines` cuts one line off at a time, and no index is counted.
     let mut left = bytes;
     while 0 < left.len() {
         let line = lines::first_line(left);
@@ -262,20 +246,21 @@ pub(crate) fn read_chunks(
 }
 
 // What is answered by what the lines came to.
-pub(crate) fn concluded(at: Summary) -> ListRead
+#[tactic(auto, unfolding(crate::specs::Reading::conclusion))]
+pub(crate) fn concluded(at: Summary) -> Result<usize, Refusal>
     ensures { result ≡ conclusion at }
 {
     if !at.laid_out {
-        return ListRead::Refused(Refusal::Layout);
+        return Err(Refusal::Layout);
     }
     if !at.in_range {
-        return ListRead::Refused(Refusal::Range);
+        return Err(Refusal::Range);
     }
     if !at.sound {
-        return ListRead::Refused(Refusal::Mislisted);
+        return Err(Refusal::Mislisted);
     }
     if at.total != at.ones {
-        return ListRead::Refused(Refusal::Mislisted);
+        return Err(Refusal::Mislisted);
     }
-    ListRead::Done(at.count)
+    Ok(at.count)
 }

@@ -1,10 +1,10 @@
 -- What was read of the lines into lent arrays, put together: where each line has the layout and passes, the arrays hold what
 -- the bytes say, as far as they have slots.
+use Rattle.std.proofs.Common.{Ok, Err}
 use mathlib.Core.Path.{◌≡◌, refl, sym, ap, ap₂, ◌∙◌}
 use mathlib.Core.List.{List, [], map}
 use mathlib.Core.Bool.{Bool, true, false, ◌&&◌}
-use Prim.Native.Nat.{ℕ, ◌≤◌}
-use native.Mathlib.Omega.{arith}
+use Prim.Native.Nat.{ℕ}
 use lib.ListN.{length, take, drop, get_or, length-map}
 use Rattle.lists.specs.Lists.{every}
 use Rattle.lists.specs.Padding.{pad}
@@ -22,45 +22,54 @@ use Rattle.lines.specs.Lines.{first_line, rest, lines, closed, leading, trailing
 use Rattle.lines.proofs.Lines.{lines-ended, trailing-drop, lines_rest, closed-rest}
 use Rattle.saved.specs.declared.Version.{Version}
 use Rattle.saved.specs.declared.Rows.{Rows}
-use Rattle.saved.specs.declared.LoadAnswer.TheVariants.{Done, Refused}
 use Rattle.saved.specs.Format.{is_site, site_said, is_operation, operation_said, head_line, row_lines, operation_lines, laid_out_with}
 use Rattle.saved.specs.Rows.{version_of, is_row, row_said, row_within, rows_said, rows_laid_out, rows_in_range, rows_checks, rows_answer}
 use Rattle.saved.specs.Rows.{characters_held, pending_held, Held}
 use Rattle.saved.proofs.Trips.{no-site, every-leading}
-use Rattle.saved_lines.specs.declared.SiteLine.{SiteLine}
-use Rattle.saved_lines.specs.Judging.{site_read}
+use Rattle.std.specs.Prelude.{Result, is_ok}
+use Rattle.std.specs.Result.{result_unwrap_or}
+use Rattle.decimal.specs.declared.Fault.{Fault}
+use Rattle.woot.specs.declared.Site.{Site}
+use Rattle.woot.specs.State.{blank_operation}
+use Rattle.saved_lines.specs.declared.Row.{Row}
+use Rattle.saved_lines.specs.Judging.{in_layout, site_read}
 use Rattle.saved_lines.proofs.Judging.{site_laid, site-passes, site-says, row-says, operation_says}
 use Rattle.loading.specs.declared.filling.Front.{Front}
-use Rattle.loading.specs.declared.filling.Back.{Back}
-use Rattle.loading.specs.Reading.{line_place, line_character, row_passes, operation_passes}
+use Rattle.std.specs.Prelude.{Option, Some, None, is_some}
+use Rattle.loading.specs.Reading.{blank_row, line_place, line_character, row_passes, operation_passes}
 use Rattle.loading.specs.Filling.{rows_ahead, front_read, line_operation, operations_laid, back_read}
 use Rattle.loading.proofs.Collecting.{places-length}
 use Rattle.loading.proofs.Gathering.{is-ended}
-use Rattle.loading.proofs.Loading.{rows_pass, operations-pass, all_say, map_same, leading_le, around, skipped}
+use Rattle.loading.proofs.Loading.{rows_pass, operations-pass, all_say, map_same, around, skipped}
 
 -- ---- the answer
 
+-- what is read of the operations, where there is any
+abbrev read_or_none : Option Front → Front
+read_or_none None = record { count = 0; in_range = false }
+read_or_none (Some x) = x
+
 module _ (k : Rows) (s : List ℕ) where
-  answer-layout : rows_laid_out k s ≡ false → rows_answer k s ≡ Refused Layout
+  answer-layout : rows_laid_out k s ≡ false → rows_answer k s ≡ Err Layout
   unfolding rows_answer rows_checks decided
   answer-layout e = rw e
 
   module _ (l : rows_laid_out k s ≡ true) where
-    answer-range : rows_in_range k s ≡ false → rows_answer k s ≡ Refused Range
+    answer-range : rows_in_range k s ≡ false → rows_answer k s ≡ Err Range
     unfolding rows_answer rows_checks decided
     answer-range e = rw (l, e)
 
-    answer-done : rows_in_range k s ≡ true → rows_answer k s ≡ Done
+    answer-done : rows_in_range k s ≡ true → rows_answer k s ≡ Ok tt
     unfolding rows_answer rows_checks decided
     answer-done e = rw (l, e)
 
-module _ (k : Rows) (s : List ℕ) (first : SiteLine) (f : first ≡ site_read (version_of k) (get_or (lines s) 0 [])) where
-  is-site : first.judged.laid_out ≡ is_site (version_of k) (head_line s)
+module _ (k : Rows) (s : List ℕ) (first : Result Site Fault) (f : first ≡ site_read (version_of k) (get_or (lines s) 0 [])) where
+  is-site : in_layout first ≡ is_site (version_of k) (head_line s)
   unfolding head_line
-  is-site = ap (λ x. x.judged.laid_out) f ∙ site_laid (version_of k) (head_line s)
+  is-site = ap in_layout f ∙ site_laid (version_of k) (head_line s)
 
   -- the first line is no site's
-  pub no-first : first.judged.laid_out ≡ false → Refused Layout ≡ rows_answer k s
+  pub no-first : in_layout first ≡ false → Err Layout ≡ rows_answer k s
   unfolding rows_laid_out laid_out_with
   no-first e = sym (answer-layout k s (rw (sym is-site ∙ e) (none (closed s))))
     where
@@ -69,13 +78,13 @@ module _ (k : Rows) (s : List ℕ) (first : SiteLine) (f : first ≡ site_read (
       none false = refl
 
   -- the first line is one, and a line feed ends it
-  pub first-line : first.judged.laid_out ≡ true → first_line s ≡ get_or (lines s) 0 []
+  pub first-line : in_layout first ≡ true → first_line s ≡ get_or (lines s) 0 []
   unfolding head_line
   first-line l =
       let there : is_site (version_of k) (get_or (lines s) 0 []) ≡ true = sym is-site ∙ l in
       sym (rw (lines-ended s (is-ended (is_site (version_of k)) (no-site (version_of k)) s there)))
 
-  module _ (l : first.judged.laid_out ≡ true) {body : List ℕ} (b : body ≡ rest s) (cs : Front) (r : cs ≡ front_read k (rows_ahead k body)) where
+  module _ (l : in_layout first ≡ true) {body : List ℕ} (b : body ≡ rest s) (cs : Front) (r : cs ≡ front_read k (rows_ahead k body)) where
     body-lines : lines body ≡ drop 1 (lines s)
     body-lines = ap lines b ∙ lines_rest s
 
@@ -84,7 +93,7 @@ module _ (k : Rows) (s : List ℕ) (first : SiteLine) (f : first ≡ site_read (
     rows_are = ap (leading (is_row k)) body-lines
 
     module _ (later : List ℕ) (q : (lines later ≡ drop cs.count (lines body)) × (closed later ≡ closed body))
-        (ps : Back) (o : ps ≡ back_read (version_of k) later) where
+        (read : Option Front) (o : read ≡ back_read (version_of k) later) where
       abbrev v : Version
       v = version_of k
 
@@ -99,15 +108,15 @@ module _ (k : Rows) (s : List ℕ) (first : SiteLine) (f : first ≡ site_read (
       unfolding head_line
       ends_so = q.1 ∙ ap closed b ∙ closed-rest s (is-ended (is_site v) (no-site v) s (sym is-site ∙ l))
 
-      back_laid : operations_laid v later ≡ ps.laid_out
+      back_laid : operations_laid v later ≡ is_some read
       unfolding back_read
-      back_laid = go (operations_laid v later) refl ∙ sym (ap (λ x. x.laid_out) o)
+      back_laid = go (operations_laid v later) refl ∙ sym (ap is_some o)
         where
-          go : (d : Bool) → operations_laid v later ≡ d → operations_laid v later ≡ (back_read v later).laid_out
+          go : (d : Bool) → operations_laid v later ≡ d → operations_laid v later ≡ is_some (back_read v later)
           go true e = rw e
           go false e = rw e
 
-      laid_so : rows_laid_out k s ≡ ps.laid_out
+      laid_so : rows_laid_out k s ≡ is_some read
       unfolding rows_laid_out laid_out_with operations_laid
       laid_so =
           rw (sym is-site ∙ l) (skipped (closed s) (every (is_operation v) (operation_lines (is_row k) s)))
@@ -115,15 +124,15 @@ module _ (k : Rows) (s : List ℕ) (first : SiteLine) (f : first ≡ site_read (
           ∙ back_laid
 
       -- a later line lacks the layout
-      pub no-later : ps.laid_out ≡ false → Refused Layout ≡ rows_answer k s
-      no-later e = sym (answer-layout k s (laid_so ∙ e))
+      pub no-later : read ≡ None → Err Layout ≡ rows_answer k s
+      no-later e = sym (answer-layout k s (laid_so ∙ ap is_some e))
 
-      module _ (m : ps.laid_out ≡ true) where
+      module _ (ps : Front) (m : read ≡ Some ps) where
         laid : rows_laid_out k s ≡ true
-        laid = laid_so ∙ m
+        laid = laid_so ∙ ap is_some m
 
         pub later_laid : operations_laid v later ≡ true
-        later_laid = back_laid ∙ m
+        later_laid = back_laid ∙ ap is_some m
 
         operations-good : every (is_operation v) (operation_lines (is_row k) s) ≡ true
         unfolding rows_laid_out laid_out_with
@@ -133,15 +142,14 @@ module _ (k : Rows) (s : List ℕ) (first : SiteLine) (f : first ≡ site_read (
         unfolding row_lines
         rows-good = every-leading (is_row k) (drop 1 (lines s))
 
-        back_is : ◌≡◌ {A = Back} ps (record {
-          laid_out = true;
-          in_range = every (operation_passes v) (operation_lines (is_row k) s);
+        back_is : ◌≡◌ {A = Front} ps (record {
           count = length (operation_lines (is_row k) s);
+          in_range = every (operation_passes v) (operation_lines (is_row k) s);
         })
         unfolding back_read
-        back_is = o ∙ rw (later_laid, operations-are)
+        back_is = ap read_or_none (sym m ∙ o) ∙ rw (later_laid, operations-are)
 
-        range_so : rows_in_range k s ≡ first.judged.in_range && cs.in_range && ps.in_range
+        range_so : rows_in_range k s ≡ is_ok first && cs.in_range && ps.in_range
         unfolding rows_in_range rows_said all_in_range front_read head_line
         range_so =
             let said = map (row_said k) (row_lines (is_row k) s) in
@@ -149,8 +157,8 @@ module _ (k : Rows) (s : List ℕ) (first : SiteLine) (f : first ≡ site_read (
             (every in_range (map operation_said (operation_lines (is_row k) s)))
             ∙ (λ j. site j && rows j && operations j)
           where
-            site : site_in_range (site_said (head_line s)) ≡ first.judged.in_range
-            site = sym (ap (λ x. x.judged.in_range) f ∙ site-passes v (head_line s) (sym is-site ∙ l))
+            site : site_in_range (site_said (head_line s)) ≡ is_ok first
+            site = sym (ap is_ok f ∙ site-passes v (head_line s) (sym is-site ∙ l))
 
             rows : every (row_within k) (map (row_said k) (row_lines (is_row k) s))
                 && every character_in_range (characters_of (map (row_said k) (row_lines (is_row k) s))) ≡ cs.in_range
@@ -160,11 +168,11 @@ module _ (k : Rows) (s : List ℕ) (first : SiteLine) (f : first ≡ site_read (
             operations = sym (ap (λ x. x.in_range) back_is ∙ operations-pass v (operation_lines (is_row k) s) operations-good)
 
         -- something is out of range
-        pub out_of_range_lem : first.judged.in_range && cs.in_range && ps.in_range ≡ false → Refused Range ≡ rows_answer k s
+        pub out_of_range_lem : is_ok first && cs.in_range && ps.in_range ≡ false → Err Range ≡ rows_answer k s
         out_of_range_lem e = sym (answer-range k s laid (range_so ∙ e))
 
-        module _ (e₁ : first.judged.in_range ≡ true) (e₂ : cs.in_range ≡ true) (e₃ : ps.in_range ≡ true) where
-          pub answer-is : Done ≡ rows_answer k s
+        module _ (e₁ : is_ok first ≡ true) (e₂ : cs.in_range ≡ true) (e₃ : ps.in_range ≡ true) where
+          pub answer-is : (Ok tt) ≡ rows_answer k s
           answer-is = sym (answer-done k s laid (range_so ∙ and_intro (and_intro e₁ e₂) e₃))
 
           -- the rows say what they should, and so does what is made of each
@@ -175,14 +183,17 @@ module _ (k : Rows) (s : List ℕ) (first : SiteLine) (f : first ≡ site_read (
           rows-said {A} of =
               let read : List ℕ → A = λ line. of (record { place = line_place k line; character = line_character k line }) in
               ap (map read) rows_are
-              ∙ all_say read (row_said k) of (row_passes k) (λ line h. ap of (row-says k line h)) (row_lines (is_row k) s)
+              ∙ all_say read (row_said k) of (row_passes k) (λ line h.
+              ap (λ (w : Result Row Fault). of (record { place = (result_unwrap_or w blank_row).place; character = (result_unwrap_or w blank_row).character }))
+              (row-says k line h)) (row_lines (is_row k) s)
               (sym (ap (λ x. x.in_range) front-is) ∙ e₂)
 
           operations_said : map (line_operation v) (lines later) ≡ (rows_said k s).pending
           unfolding rows_said
           operations_said =
               ap (map (line_operation v)) operations-are
-              ∙ all_say (line_operation v) operation_said (λ x. x) (operation_passes v) (operation_says v) (operation_lines (is_row k) s)
+              ∙ all_say (line_operation v) operation_said (λ x. x) (operation_passes v)
+              (λ line h. ap (λ (w : Result Operation Fault). result_unwrap_or w blank_operation) (operation_says v line h)) (operation_lines (is_row k) s)
               (sym (ap (λ x. x.in_range) back_is) ∙ e₃)
               ∙ map_same (map operation_said (operation_lines (is_row k) s))
 
@@ -192,10 +203,11 @@ module _ (k : Rows) (s : List ℕ) (first : SiteLine) (f : first ≡ site_read (
               (c : characters ≡ characters_held (take character_slots (map (line_character k) (rows_ahead k body))))
               (t : toggles ≡ pad character_slots 0 (toggle_counts (take character_slots (map (line_character k) (rows_ahead k body)))))
               (w : pending ≡ pending_held (take pending_slots (map (line_operation v) (lines later)))) where
-            pub all_held : Held (rows_said k s) first.site places characters toggles cs.count pending ps.count
+            pub all_held : {site : Site} → first ≡ Ok site → Held (rows_said k s) site places characters toggles cs.count pending ps.count
             unfolding front_read rows_said head_line
-            all_held = record {
-              site-held = ap (λ x. x.site) f ∙ site-says v (head_line s) (sym (ap (λ x. x.judged.in_range) f) ∙ e₁);
+            all_held {site} g = record {
+              site-held =
+                  ap (λ (w : Result Site Fault). result_unwrap_or w site) (sym g ∙ f ∙ site-says v (head_line s) (sym (ap is_ok f) ∙ e₁));
               places-held =
                   let wide : length places ≡ n = ap length p ∙ places-length k n (rows_ahead k body) in
                   rw wide

@@ -9,6 +9,7 @@ use lib.ListN.{length, take, drop, get_or, length-append, length-map, length-tak
 use lib.Seq.{append_snoc, take-nil, drop-drop, drop-append_seam}
 use Rattle.lists.specs.Lists.{every}
 use Rattle.lists.specs.Padding.{pad}
+use Rattle.lists.proofs.Tests.{clash}
 use Rattle.lists.proofs.Members.{every_append}
 use Rattle.lists.proofs.Padding.{pad-length}
 use Rattle.woot.specs.declared.Character.{Character}
@@ -22,16 +23,40 @@ use Rattle.saved.specs.declared.Version.{Version}
 use Rattle.saved.specs.declared.Rows.{Rows}
 use Rattle.saved.specs.Format.{is_operation}
 use Rattle.saved.specs.Rows.{is_row, characters_held, pending_held}
-use Rattle.saved_lines.specs.declared.RowLine.{RowLine}
-use Rattle.saved_lines.specs.declared.OperationLine.{OperationLine}
-use Rattle.saved_lines.specs.Judging.{row_read, operation_read}
+use Rattle.std.specs.Prelude.{Result, Ok, Err, is_ok}
+use Rattle.std.specs.Result.{result_unwrap_or}
+use Rattle.decimal.specs.declared.Fault.{Fault}
+use Rattle.decimal.specs.declared.Fault.TheVariants.{Above, Malformed}
+use Rattle.woot.specs.State.{blank_operation}
+use Rattle.saved_lines.specs.declared.Row.{Row}
+use Rattle.saved_lines.specs.Judging.{in_layout, row_read, operation_read}
 use Rattle.saved_lines.proofs.Judging.{row_laid, operation_laid}
 use Rattle.loading.specs.declared.filling.Front.{Front}
-use Rattle.loading.specs.declared.filling.Back.{Back}
-use Rattle.loading.specs.Reading.{line_place, line_character, row_passes, operation_passes}
+use Rattle.std.specs.Prelude.{Option, Some, None}
+use Rattle.loading.specs.Reading.{blank_row, line_place, line_character, row_passes, operation_passes}
 use Rattle.loading.specs.Filling.{kept_in, kept_at, rows_ahead, front_read, starts_from, Past, line_operation, operations_laid, back_read}
-use Rattle.loading.proofs.Gathering.{and_none, every_more, no_row, no-operation, there, some_left, is-ended}
+use Rattle.loading.proofs.Gathering.{and_true, and_none, every_more, no_row, no-operation, there, some_left, is-ended}
 use Rattle.loading.proofs.Storing.{kept-number, kept-at, kept_in_lem, in_slots-length}
+
+-- ---- what was told of a line
+
+-- it lacks the layout
+pub lacking : {A : Type 0} {w : Result A Fault} {f : Fault} → w ≡ Err f → f ≡ Malformed → in_layout w ≡ false
+lacking e h = rw (e, h)
+
+-- it has the layout: what is stored of it, and whether all are in range so far
+pub record Stored {A : Type 0} (w : Result A Fault) (blank stored : A) (good good' : Bool) : Type 0 where
+  pub in_layout_so : in_layout w ≡ true
+  pub is : stored ≡ result_unwrap_or w blank
+  pub ranged : good' ≡ good && is_ok w
+
+pub stored_said : {A : Type 0} {w : Result A Fault} {blank x stored : A} {good good' : Bool} → w ≡ Ok x → stored ≡ x → good' ≡ good
+    → Stored w blank stored good good'
+stored_said {good} {good'} e s g = record { in_layout_so = rw e; is = rw e s; ranged = rw e (g ∙ sym (and_true good)) }
+
+pub stored_blank : {A : Type 0} {w : Result A Fault} {blank stored : A} {good good' : Bool} {f : Fault} → w ≡ Err f → f ≡ Above → stored ≡ blank → good' ≡ false
+    → Stored w blank stored good good'
+stored_blank {good} e h s g = record { in_layout_so = rw (e, h); is = rw e s; ranged = rw e (g ∙ sym (and_none good)) }
 
 -- ---- what is held
 
@@ -173,12 +198,12 @@ module _ {k : Rows} {s : List ℕ} {o : ℕ} {starts : List ℕ} {m : ℕ} {plac
   pub front-toggles : length toggles ≡ 1024
   front-toggles = ap length l.toggled ∙ toggles-length (map (line_character k) l.done)
 
-  module _ (w : RowLine) (r : w ≡ row_read k (get_or (lines left) 0 [])) where
-    read-row : w.judged.laid_out ≡ is_row k (get_or (lines left) 0 [])
-    read-row = ap (λ x. x.judged.laid_out) r ∙ row_laid k (get_or (lines left) 0 [])
+  module _ (w : Result Row Fault) (r : w ≡ row_read k (get_or (lines left) 0 [])) where
+    read-row : in_layout w ≡ is_row k (get_or (lines left) 0 [])
+    read-row = ap in_layout r ∙ row_laid k (get_or (lines left) 0 [])
 
     -- the next line is no row
-    module _ (e : w.judged.laid_out ≡ false) where
+    module _ (e : in_layout w ≡ false) where
       all_done : rows_ahead k s ≡ l.done
       all_done =
           l.whole ∙ ap (λ (ls : List (List ℕ)). l.done ++ ls) (ends (lines left) (sym read-row ∙ e)) ∙ append-nil l.done
@@ -207,7 +232,7 @@ module _ {k : Rows} {s : List ℕ} {o : ℕ} {starts : List ℕ} {m : ℕ} {plac
       front-toggled = rw all_done l.toggled
 
     -- it is one
-    module _ (e : w.judged.laid_out ≡ true) where
+    module _ (e : in_layout w ≡ true) where
       is-row : is_row k (get_or (lines left) 0 []) ≡ true
       is-row = sym read-row ∙ e
 
@@ -220,18 +245,19 @@ module _ {k : Rows} {s : List ℕ} {o : ℕ} {starts : List ℕ} {m : ℕ} {plac
       row_first : get_or (lines left) 0 [] ≡ first_line left
       row_first = rw (lines-ended left row-ended)
 
-      pub front-next : {next : ℕ} → (w.judged.laid_out ≡ true → next ≡ length (first_line left) + 1) → part_from left next ≡ rest left
-      front-next {next} h = part-is left next ∙ past-front left (h e)
+      pub front-next : {next : ℕ} → ((w ≡ Err Malformed → ⊥) → next ≡ length (first_line left) + 1) → part_from left next ≡ rest left
+      front-next {next} h = part-is left next ∙ past-front left (h (λ q. clash e (ap in_layout q)))
 
-      pub front-more : {starts' places' characters' toggles' : List ℕ} {good' : Bool} {left' : List ℕ}
+      pub front-more : {starts' places' characters' toggles' : List ℕ} {row : Row} {good' : Bool} {left' : List ℕ}
+          → Stored w blank_row row good good'
           → starts' ≡ kept_at (length starts) count (length s - length left) starts
-          → places' ≡ kept_at (length places) count w.place places
-          → characters' ≡ kept_in character_slots count (key w.character.id) (key w.character.previous) (key w.character.next)
-          w.character.code_point characters
-          → toggles' ≡ kept_at character_slots count w.character.toggles toggles
-          → good' ≡ good && w.judged.in_range → left' ≡ rest left → FrontLoop k s o starts' m places' characters' toggles' (count + 1) good' left'
+          → places' ≡ kept_at (length places) count row.place places
+          → characters' ≡ kept_in character_slots count (key row.character.id) (key row.character.previous) (key row.character.next)
+          row.character.code_point characters
+          → toggles' ≡ kept_at character_slots count row.character.toggles toggles
+          → left' ≡ rest left → FrontLoop k s o starts' m places' characters' toggles' (count + 1) good' left'
       unfolding characters_held
-      front-more b f g u q t =
+      front-more d b f g u t =
           let line = get_or (lines left) 0 [] in
           let cs = map (line_character k) l.done in
           record {
@@ -246,17 +272,17 @@ module _ {k : Rows} {s : List ℕ} {o : ℕ} {starts : List ℕ} {m : ℕ} {plac
                 l.whole
                 ∙ rw (there (is_row k) (no_row k) left is-row, is-row, t)
                 (sym (append_snoc l.done line (rows_ahead k (rest left))));
-            placed = f ∙ rw (front-places, r, l.placed) (kept-at m (line_place k) l.done line count l.gathered.counted);
+            placed = f ∙ rw (front-places, d.is, r, l.placed) (kept-at m (line_place k) l.done line count l.gathered.counted);
             filled =
                 g
-                ∙ rw (r, l.filled, items l.gathered line (line_character k))
+                ∙ rw (d.is, r, l.filled, items l.gathered line (line_character k))
                 (kept_in_lem 1024 (λ (c : Character). key c.id) (λ c. key c.previous) (λ c. key c.next) (λ c. c.code_point) cs
                 (line_character k line) count (size l.gathered line (line_character k)));
             toggled =
                 u
-                ∙ rw (r, l.toggled, items l.gathered line (line_character k))
+                ∙ rw (d.is, r, l.toggled, items l.gathered line (line_character k))
                 (kept-at 1024 (λ (c : Character). c.toggles) cs (line_character k line) count (size l.gathered line (line_character k)));
-            gathered = one_more l.gathered line (rw r at q);
+            gathered = one_more l.gathered line (rw r at d.ranged);
             small = omega (arith, l.small, rest_shorter left front-left, ap length t);
           }
 
@@ -299,19 +325,19 @@ module _ {v : Version} {s pending : List ℕ} {count : ℕ} {good : Bool} {left 
     unfolding operations_laid closed
     all_laid = let shut : closed s ≡ true = sym l.ends ∙ ap closed (none left h) in rw (shut, all_lines, l.laid)
 
-    pub back_end : ◌≡◌ {A = Back} (record { laid_out = true; in_range = good; count = count }) (back_read v s)
+    pub back_end : ◌≡◌ {A = Option Front} (Some (record { count = count; in_range = good })) (back_read v s)
     unfolding back_read
-    back_end = rw (all_laid, all_lines) (λ j. record { laid_out = true; in_range = l.gathered.judged j; count = l.gathered.counted j })
+    back_end = rw (all_laid, all_lines) (λ j. Some (record { count = l.gathered.counted j; in_range = l.gathered.judged j }))
 
     pub back-filled : pending ≡ pending_held (take pending_slots (map (line_operation v) (lines s)))
     back-filled = rw all_lines l.filled
 
-  module _ (h : 0 < length left) (w : OperationLine) (r : w ≡ operation_read v (get_or (lines left) 0 [])) where
-    read-operation : w.judged.laid_out ≡ is_operation v (get_or (lines left) 0 [])
-    read-operation = ap (λ x. x.judged.laid_out) r ∙ operation_laid v (get_or (lines left) 0 [])
+  module _ (h : 0 < length left) (w : Result Operation Fault) (r : w ≡ operation_read v (get_or (lines left) 0 [])) where
+    read-operation : in_layout w ≡ is_operation v (get_or (lines left) 0 [])
+    read-operation = ap in_layout r ∙ operation_laid v (get_or (lines left) 0 [])
 
     -- the next line lacks the layout, or no line feed ends it
-    module _ (e : w.judged.laid_out ≡ false) where
+    module _ (e : in_layout w ≡ false) where
       pub back-lacks : operations_laid v s ≡ false
       unfolding operations_laid
       back-lacks = go (ended left) refl
@@ -330,20 +356,21 @@ module _ {v : Version} {s pending : List ℕ} {count : ℕ} {good : Bool} {left 
               rw q (and_none (closed s))
           go false p = rw (sym l.ends ∙ closed_unended left h p)
 
-      pub back_none : ◌≡◌ {A = Back} (record { laid_out = false; in_range = false; count = 0 }) (back_read v s)
+      pub back_none : ◌≡◌ {A = Option Front} None (back_read v s)
       unfolding back_read
       back_none = rw back-lacks
 
     -- it has the layout
-    module _ (e : w.judged.laid_out ≡ true) where
+    module _ (e : in_layout w ≡ true) where
       is-operation : is_operation v (get_or (lines left) 0 []) ≡ true
       is-operation = sym read-operation ∙ e
 
-      pub back_more : {pending' : List ℕ} {good' : Bool} {left' : List ℕ}
-          → pending' ≡ kept_in pending_slots count (own_key w.operation) (first_key w.operation) (second_key w.operation) (value_of w.operation) pending
-          → good' ≡ good && w.judged.in_range → left' ≡ rest left → BackLoop v s pending' (count + 1) good' left'
+      pub back_more : {pending' : List ℕ} {operation : Operation} {good' : Bool} {left' : List ℕ}
+          → Stored w blank_operation operation good good'
+          → pending' ≡ kept_in pending_slots count (own_key operation) (first_key operation) (second_key operation) (value_of operation) pending
+          → left' ≡ rest left → BackLoop v s pending' (count + 1) good' left'
       unfolding pending_held
-      back_more k q t =
+      back_more d k t =
           let line = get_or (lines left) 0 [] in
           record {
             done = l.done ++ line ∷ [];
@@ -355,9 +382,9 @@ module _ {v : Version} {s pending : List ℕ} {count : ℕ} {good : Bool} {left 
             ends = ap closed t ∙ closed-rest left (is-ended (is_operation v) (no-operation v) left is-operation) ∙ l.ends;
             filled =
                 k
-                ∙ rw (r, l.filled, items l.gathered line (line_operation v))
+                ∙ rw (d.is, r, l.filled, items l.gathered line (line_operation v))
                 (kept_in_lem 512 own_key first_key second_key value_of (map (line_operation v) l.done) (line_operation v line) count
                 (size l.gathered line (line_operation v)));
-            gathered = one_more l.gathered line (rw r at q);
+            gathered = one_more l.gathered line (rw r at d.ranged);
             small = omega (arith, l.small, rest_shorter left h, ap length t);
           }

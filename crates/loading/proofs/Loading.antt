@@ -9,7 +9,7 @@ use Rattle.lists.specs.Lists.{every}
 use Rattle.woot.specs.Ranges.{character_in_range, in_range}
 use Rattle.bulk.specs.Archiving.{characters_of}
 use Rattle.lists.proofs.Tests.{and_left_lem, and_right}
-use Rattle.lines.specs.Lines.{lines, leading, trailing}
+use Rattle.lines.specs.Lines.{leading, trailing}
 use Rattle.saved.specs.declared.Version.{Version}
 use Rattle.saved.specs.declared.Rows.{Rows}
 use Rattle.saved.specs.Format.{is_operation, operation_said}

@@ -1,5 +1,6 @@
 -- What lent arrays hold of a saved replica, with its clock raised and its table: the replica that the bytes say.
-use mathlib.Core.Path.{◌≡◌, sym, ap, ◌∙◌}
+use Rattle.std.proofs.Common.{Ok}
+use mathlib.Core.Path.{◌≡◌, refl, sym, ap, ◌∙◌}
 use mathlib.Core.List.{List, [], ◌++◌, map}
 use mathlib.Core.Bool.{Bool, true}
 use Prim.Native.Nat.{ℕ, ◌≤◌, min}
@@ -16,12 +17,12 @@ use Rattle.woot.specs.declared.Character.{Character}
 use Rattle.woot.specs.declared.Operation.{Operation}
 use Rattle.woot.specs.declared.Table.{Table}
 use Rattle.woot.specs.Ranges.{site_in_range, character_in_range, in_range}
-use Rattle.woot.specs.State.{State}
+use Rattle.woot.specs.State.{State, initial}
 use Rattle.woot.specs.Memory.{character_slots, pending_slots}
 use Rattle.woot.specs.Form.{all_in_range, raised}
 use Rattle.woot.specs.Table.{key, keys, table_of}
 use Rattle.bulk.specs.Archiving.{Placed}
-use Rattle.woot.specs.Memory.{in_columns, document_of, previous_keys, next_keys, code_points_of, toggle_counts, own_key, first_key, second_key, value_of}
+use Rattle.woot.specs.Memory.{in_columns, document_of, stored, previous_keys, next_keys, code_points_of, toggle_counts, own_key, first_key, second_key, value_of}
 use Rattle.index.specs.Keys.{AllSmall}
 use Rattle.index.proofs.Keys.{all-range-small}
 use Rattle.memory.proofs.Operations.{AllKeyed, all_keyed}
@@ -29,14 +30,14 @@ use Rattle.clock.specs.Hearing.{heard_keys}
 use Rattle.clock.proofs.Keys.{heard-state}
 use Rattle.saved.specs.declared.Version.{Version}
 use Rattle.saved.specs.declared.Rows.TheVariants.{Saved}
-use Rattle.saved.specs.declared.LoadAnswer.TheVariants.{Done}
 use Rattle.saved.specs.Format.{state_as, character_within, in_range_as}
 use Rattle.saved.specs.Calls.{fitting, in_arrays, raised_in_arrays}
 use Rattle.saved.specs.Rows.{rows_said, rows_answer, characters_held, pending_held, Held}
 use Rattle.saved.proofs.EitherRows.{saved-site, saved-characters, saved-pending, saved-answer}
 use Rattle.saved.proofs.Refusals.{read_well}
 use Rattle.replica.specs.Outcomes.{replica_lent}
-use Rattle.loading.specs.Filling.{read_answer}
+use Rattle.chains.proofs.Tables.{table_sized}
+use Rattle.loading.specs.Filling.{read_answer, Blank}
 use Rattle.loading.proofs.Forming.{answer-read}
 use Rattle.loading.proofs.Storing.{no-columns}
 
@@ -50,6 +51,13 @@ no-characters = no-columns 1024
 pub no-pending : pending_held [] ≡ replicate 2048 0
 unfolding pending_held
 no-pending = no-columns 512
+
+-- nor does the empty replica
+pub blank : (n : ℕ) → Blank (stored (initial n))
+unfolding stored initial document_of characters_held pending_held
+blank n =
+    let t = table_sized [] in
+    record { characters = refl; toggles = refl; pending = refl; heads = t.heads; links = t.links }
 
 -- the first column, as far as it is in use
 first_used : (m n : ℕ) (ws xs ys zs : List ℕ) → length ws ≡ n → n ≤ m → take n (in_columns m ws xs ys zs) ≡ ws
@@ -107,7 +115,7 @@ module _ (v : Version) (s : List ℕ) where
   unfolding read_answer
   answer_form = saved-answer v s
 
-  module _ (d : rows_answer (Saved v) s ≡ Done) {site : Site} {places characters toggles pending : List ℕ} {n w : ℕ}
+  module _ (d : rows_answer (Saved v) s ≡ Ok tt) {site : Site} {places characters toggles pending : List ℕ} {n w : ℕ}
       (h : Held (rows_said (Saved v) s) site places characters toggles n pending w) {told : Site} {table : Table}
       (c : told ≡ heard_keys (heard_keys site (take (min n 1024) characters)) (take (min w 512) pending))
       (q : table ≡ table_of (take (min n 1024) characters)) where

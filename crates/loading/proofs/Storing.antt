@@ -127,10 +127,10 @@ no-columns m =
     )
 
 -- where there is no slot, and where there is one
-pub left_as_it_was : (m i x : ℕ) (a : List ℕ) → m ≤ i → a ≡ kept_at m i x a
+pub left_as_it_was : {A : Type 0} (m i : ℕ) (x : A) (a : List A) → m ≤ i → a ≡ kept_at m i x a
 unfolding kept_at
 left_as_it_was m i x a h = rw (le-leb m i h) refl
 
-pub put-into-slot : (m i x : ℕ) (a : List ℕ) → i < m → set a i x ≡ kept_at m i x a
+pub put-into-slot : {A : Type 0} (m i : ℕ) (x : A) (a : List A) → i < m → set a i x ≡ kept_at m i x a
 unfolding kept_at
 put-into-slot m i x a h = rw (lt-leb m i h) refl

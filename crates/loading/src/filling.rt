@@ -7,17 +7,20 @@ ghost use Rattle.lines.specs.Lines.{lines};
 ghost use Rattle.woot.specs.Memory.{toggle_counts, own_key, first_key, second_key, value_of, character_slots, pending_slots};
 ghost use Rattle.woot.specs.Memory.{character_numbers, pending_numbers};
 ghost use Rattle.woot.specs.Table.{key};
+ghost use Rattle.woot.specs.State.{blank_operation};
 ghost use Rattle.saved.specs.Rows.{characters_held, pending_held};
-ghost use Rattle.loading.specs.Reading.{line_place, line_character};
+ghost use Rattle.loading.specs.Reading.{blank_row, line_place, line_character};
 ghost use Rattle.loading.specs.Filling.{set_in, kept_in, kept_at, rows_ahead, front_read, line_operation};
 ghost use Rattle.loading.specs.Filling.{starts_from, Past};
 ghost use Rattle.loading.specs.Filling.{back_read, operations_laid};
 
-use crate::reading::{both, head};
+use crate::reading::head;
+use decimal::Fault;
 use saved::{Rows, Version};
-use woot::{CHARACTERS, Character, Operation, PENDING};
+use saved_lines::Row;
+use woot::{CHARACTERS, Character, Identifier, Insert, Operation, PENDING};
 
-// How many rows there are, and whether each is in range.
+// How many rows or operations there are, and whether each is in range.
 #[derive(Clone, Copy)]
 pub(crate) struct Front {
     pub(crate) count: usize,
@@ -29,14 +32,6 @@ pub(crate) struct Front {
 pub(crate) struct Ahead {
     pub(crate) front: Front,
     pub(crate) end: usize,
-}
-
-// Whether each line after them has the layout of an operation; if so, whether each is in range, and how many they are.
-#[derive(Clone, Copy)]
-pub(crate) struct Back {
-    pub(crate) laid_out: bool,
-    pub(crate) in_range: bool,
-    pub(crate) count: usize,
 }
 
 // Stores four numbers in slot i of four columns, m slots each.
@@ -76,35 +71,13 @@ fn store_character(characters: &mut [u32], i: usize, character: Character)
     );
 }
 
-// Stores a place in slot i, if there is one.
-fn store_place(places: &mut [u32], i: usize, place: u32)
-    ensures { places.new ≡ kept_at (length places.old) i place places.old }
+// Stores an item in slot i, if there is one.
+fn store_at<T: Copy>(slots: &mut [T], i: usize, item: T)
+    ensures { slots.new ≡ kept_at (length slots.old) i item slots.old }
 {
-    if places.len() <= i {
-        return;
+    if i < slots.len() {
+        slots[i] = item;
     }
-    places[i] = place;
-}
-
-// Stores an offset in slot i, if there is one.
-fn store_start(starts: &mut [usize], i: usize, start: usize)
-    ensures { starts.new ≡ kept_at (length starts.old) i start starts.old }
-{
-    if starts.len() <= i {
-        return;
-    }
-    starts[i] = start;
-}
-
-// Stores a count of toggles in slot i, if there is one.
-fn store_toggles(toggles: &mut [u8], i: usize, count: u8)
-    requires { length toggles.old ≡ character_slots }
-    ensures { toggles.new ≡ kept_at character_slots i count toggles.old }
-{
-    if CHARACTERS <= i {
-        return;
-    }
-    toggles[i] = count;
 }
 
 // Stores the four numbers of an operation in slot i, if there is one.
@@ -129,6 +102,37 @@ fn store_operation(pending: &mut [u32], i: usize, operation: Operation)
         second,
         memory::value_of(operation),
     );
+}
+
+// What is stored of a row out of range: nobody reads the arrays then.
+fn blank_row() -> Row
+    ensures { result ≡ blank_row }
+{
+    let none = Identifier::BEGIN;
+    let character = Character {
+        id: none,
+        code_point: 0,
+        toggles: 0,
+        previous: none,
+        next: none,
+    };
+    Row {
+        place: 0,
+        character,
+    }
+}
+
+// The same of an operation.
+fn blank_operation() -> Operation
+    ensures { result ≡ blank_operation }
+{
+    let none = Identifier::BEGIN;
+    Operation::Insert(Insert {
+        id: none,
+        code_point: 0,
+        previous: none,
+        next: none,
+    })
 }
 
 // Reads the rows at the front of the bytes, and the offset of each.
@@ -161,20 +165,25 @@ pub(crate) fn read_rows_at(
     let mut count = 0;
     let mut in_range = true;
     let mut left = bytes;
+    // No count of the rows is known before: the first line that is none ends the loop.
     loop {
         let ahead = saved_lines::read_row_front(rows, left);
-        let line = ahead.line;
         let at = bytes.len() - left.len();
-        if !line.judged.laid_out {
-            let front = Front { count, in_range };
-            return Ahead { front, end: at };
-        }
-        let character = line.character;
-        store_start(starts, count, at);
-        store_place(places, count, line.place);
-        store_character(characters, count, character);
-        store_toggles(toggles, count, character.toggles);
-        in_range = both(in_range, line.judged.in_range);
+        let row = match ahead.line {
+            Ok(row) => row,
+            Err(Fault::Above) => {
+                in_range = false;
+                blank_row()
+            }
+            Err(Fault::Malformed) => {
+                let front = Front { count, in_range };
+                return Ahead { front, end: at };
+            }
+        };
+        store_at(starts, count, at);
+        store_at(places, count, row.place);
+        store_character(characters, count, row.character);
+        store_at(toggles, count, row.character.toggles);
         count += 1;
         let next = ahead.next;
         let rest = &left[next..];
@@ -204,13 +213,12 @@ pub(crate) fn read_rows(
         (toggle_counts (take character_slots (map (line_character rows) (rows_ahead rows bytes.now)))) }
 {
     let mut starts = [0usize; 1];
-    let ahead = read_rows_at(rows, bytes, &mut starts, places, characters, toggles);
-    let front = ahead.front;
-    front
+    read_rows_at(rows, bytes, &mut starts, places, characters, toggles).front
 }
 
-// Reads all lines as pending operations.
-pub(crate) fn read_operations(version: Version, bytes: &[u8], pending: &mut [u32]) -> Back
+// Reads all lines as pending operations: how many they are, and whether each is in range. With a line that lacks the
+// layout there is None.
+pub(crate) fn read_operations(version: Version, bytes: &[u8], pending: &mut [u32]) -> Option<Front>
     requires { pending.old ≡ pending_held [] }
     ensures value { result ≡ back_read version bytes.now }
     ensures pending_len { length pending.new ≡ pending_numbers }
@@ -221,25 +229,20 @@ pub(crate) fn read_operations(version: Version, bytes: &[u8], pending: &mut [u32
     let mut count = 0;
     let mut in_range = true;
     let mut left = bytes;
+    // No count of the lines is known before, so that the loop asks what is left of the bytes.
     while 0 < left.len() {
-        let line = saved_lines::read_operation(version, head(left));
-        if !line.judged.laid_out {
-            return Back {
-                laid_out: false,
-                in_range: false,
-                count: 0,
-            };
-        }
-        let operation = line.operation;
+        let operation = match saved_lines::read_operation(version, head(left)) {
+            Ok(operation) => operation,
+            Err(Fault::Above) => {
+                in_range = false;
+                blank_operation()
+            }
+            Err(Fault::Malformed) => return None,
+        };
         store_operation(pending, count, operation);
-        in_range = both(in_range, line.judged.in_range);
         count += 1;
         let next = lines::rest(left);
         left = next;
     }
-    Back {
-        laid_out: true,
-        in_range,
-        count,
-    }
+    Some(Front { count, in_range })
 }

@@ -4,30 +4,31 @@
 mod filling;
 mod reading;
 
-ghost use Rattle.std.specs.Prelude.{◌≡◌, [], min, length, take};
+ghost use Rattle.std.specs.Prelude.{Ok, Err, ◌≡◌, [], min, length, take};
 ghost use Rattle.lists.specs.Padding.{pad};
 ghost use Rattle.woot.specs.Memory.{character_slots, character_numbers, pending_numbers, pending_slots};
-ghost use Rattle.woot.specs.Table.{table_of, chains, table_links};
+ghost use Rattle.woot.specs.Table.{table_of};
+ghost use Rattle.chains.specs.Sizes.{Sized};
 ghost use Rattle.clock.specs.Hearing.{heard_keys};
 ghost use Rattle.saved.specs.Format.{state_as};
 ghost use Rattle.saved.specs.Calls.{raised_in_arrays, unread, saved_read, loaded};
 ghost use Rattle.saved.specs.Rows.{rows_said, rows_answer, characters_held, pending_held, Held};
+ghost use Rattle.memory.specs.Lent.{Full};
 ghost use Rattle.replica.specs.Outcomes.{replica_lent};
-ghost use Rattle.loading.specs.Filling.{read_answer, replica_in, RowsNoted};
+ghost use Rattle.loading.specs.Filling.{read_answer, Blank, RowsNoted};
 
 use answers::Refusal;
+use decimal::Fault;
 use reading::both;
-use saved::{LoadAnswer, Loaded, Rows, Version};
-use woot::{
-    CHAINS, CHARACTER_NUMBERS, CHARACTERS, Document, LINKS, PENDING, PENDING_NUMBERS, Replica,
-    Site, Table,
-};
+use saved::{Loaded, Rows, Version};
+use woot::{CHARACTERS, PENDING, Replica, Site, Table};
 
 // What reading answers, and where that is `Done` what stands beside the arrays: the site, how many rows there are
-// and how many lines of operations, and the offset of the first row. The counts may be above the arrays.
+// and how many lines of operations, and the offset of the first row. The counts may be above the arrays. It stays a
+// struct: what stands beside the answer goes into fields of a replica, one by one.
 #[derive(Clone, Copy)]
 pub struct ReadInto {
-    pub answer: LoadAnswer,
+    pub answer: Result<(), Refusal>,
     pub site: Site,
     pub length: usize,
     pub waiting: usize,
@@ -36,10 +37,10 @@ pub struct ReadInto {
 
 // A refusal, and what stands beside it.
 fn refuse_into(reason: Refusal) -> ReadInto
-    ensures { result.answer ≡ LoadAnswer.Refused reason }
+    ensures { result.answer ≡ Err reason }
 {
     ReadInto {
-        answer: LoadAnswer::Refused(reason),
+        answer: Err(reason),
         site: Site {
             number: 0,
             clock: 0,
@@ -72,36 +73,39 @@ fn read_lines_at(
     ensures characters_len { length characters.new ≡ character_numbers }
     ensures toggles_len { length toggles.new ≡ character_slots }
     ensures pending_len { length pending.new ≡ pending_numbers }
-    ensures held { result.answer ≡ LoadAnswer.Done
+    ensures held { result.answer ≡ Ok tt
         → Held (rows_said rows bytes.now) result.site places.new characters.new
         toggles.new result.length pending.new result.waiting }
-    ensures rows_noted { result.answer ≡ LoadAnswer.Done
+    ensures rows_noted { result.answer ≡ Ok tt
         → RowsNoted rows bytes.now result.body (length starts.old) starts.new }
 {
     let version = rows.version();
     let first = saved_lines::read_site_front(version, bytes);
-    let head = first.line;
-    if !head.judged.laid_out {
-        return refuse_into(Refusal::Layout);
-    }
+    let first_site = match first.line {
+        Ok(site) => Some(site),
+        Err(Fault::Above) => None,
+        Err(Fault::Malformed) => return refuse_into(Refusal::Layout),
+    };
     let next = first.next;
     let body = &bytes[next..];
     let ahead = filling::read_rows_at(rows, body, starts, places, characters, toggles);
     let end = ahead.end;
     let front = ahead.front;
     let back = filling::read_operations(version, &body[end..], pending);
-    if !back.laid_out {
+    let Some(waiting) = back else {
         return refuse_into(Refusal::Layout);
-    }
-    if !both(both(head.judged.in_range, front.in_range), back.in_range) {
+    };
+    let Some(site) = first_site else {
+        return refuse_into(Refusal::Range);
+    };
+    if !both(front.in_range, waiting.in_range) {
         return refuse_into(Refusal::Range);
     }
-    let site = head.site;
     ReadInto {
-        answer: LoadAnswer::Done,
+        answer: Ok(()),
         site,
         length: front.count,
-        waiting: back.count,
+        waiting: waiting.count,
         body: next,
     }
 }
@@ -124,7 +128,7 @@ pub fn read_lines(
     ensures characters_len { length characters.new ≡ character_numbers }
     ensures toggles_len { length toggles.new ≡ character_slots }
     ensures pending_len { length pending.new ≡ pending_numbers }
-    ensures held { result.answer ≡ LoadAnswer.Done
+    ensures held { result.answer ≡ Ok tt
         → Held (rows_said rows bytes.now) result.site places.new characters.new
         toggles.new result.length pending.new result.waiting }
 {
@@ -148,21 +152,18 @@ fn settle<'a>(
     n: usize,
     pending: &'a [u32],
     w: usize,
-    heads: &mut [u16],
-    links: &mut [u16],
+    table: &mut Table,
 ) -> Site
     requires characters_len { length characters.now ≡ character_numbers }
     requires pending_len { length pending.now ≡ pending_numbers }
-    requires heads_len { length heads.old ≡ chains }
-    requires links_len { length links.old ≡ table_links }
+    requires sized { Sized table.old }
     ensures value { result
         ≡ heard_keys (heard_keys site (take (min n character_slots) characters.now))
         (take (min w pending_slots) pending.now) }
-    ensures links_after { (record { heads = heads.exit.now; links = links.new })
-        ≡ table_of (take (min n character_slots) characters.now) }
+    ensures table_after { table.new ≡ table_of (take (min n character_slots) characters.now) }
 {
     let held = index::lesser(n, CHARACTERS);
-    chains::enter_all(characters, held, heads, links);
+    chains::enter_all(characters, held, table);
     clock::raised(site, characters, held, pending, index::lesser(w, PENDING))
 }
 
@@ -176,26 +177,23 @@ pub fn read_into_at(
     characters: &mut [u32],
     toggles: &mut [u8],
     pending: &mut [u32],
-    heads: &mut [u16],
-    links: &mut [u16],
+    table: &mut Table,
 ) -> ReadInto
     requires starts_value { starts.old ≡ pad (length starts.old) 0 [] }
     requires characters_value { characters.old ≡ characters_held [] }
     requires toggles_value { toggles.old ≡ pad character_slots 0 [] }
     requires pending_value { pending.old ≡ pending_held [] }
-    requires heads_len { length heads.old ≡ chains }
-    requires links_len { length links.old ≡ table_links }
+    requires sized { Sized table.old }
     ensures answer_value { result.answer ≡ read_answer version bytes.now }
     ensures characters_len { length characters.new ≡ character_numbers }
     ensures toggles_len { length toggles.new ≡ character_slots }
     ensures pending_len { length pending.new ≡ pending_numbers }
-    ensures heads_len_2 { length heads.new ≡ chains }
-    ensures links_len_2 { length links.new ≡ table_links }
-    ensures links_after { result.answer ≡ LoadAnswer.Done
+    ensures sized_after { Sized table.new }
+    ensures replica_after { result.answer ≡ Ok tt
         → replica_lent result.site characters.new toggles.new result.length pending.new
-        result.waiting heads.new links.new
+        result.waiting table.new.heads table.new.links
         ≡ raised_in_arrays (state_as version bytes.now) }
-    ensures rows_noted { result.answer ≡ LoadAnswer.Done
+    ensures rows_noted { result.answer ≡ Ok tt
         → RowsNoted (Rows.Saved version) bytes.now result.body (length starts.old)
         starts.new }
 {
@@ -210,7 +208,7 @@ pub fn read_into_at(
         pending,
     );
     let answer = lines.answer;
-    if let LoadAnswer::Refused(_) = answer {
+    if let Err(_) = answer {
         return lines;
     }
     let site = lines.site;
@@ -220,58 +218,42 @@ pub fn read_into_at(
         lines.length,
         pending,
         lines.waiting,
-        heads,
-        links,
+        table,
     );
     lines.site = raised;
     lines
 }
 
-// Internal step: the same where nobody asks where the rows begin.
-pub fn read_into(
-    version: Version,
-    bytes: &[u8],
-    characters: &mut [u32],
-    toggles: &mut [u8],
-    pending: &mut [u32],
-    heads: &mut [u16],
-    links: &mut [u16],
-) -> ReadInto
-    requires characters_value { characters.old ≡ characters_held [] }
-    requires toggles_value { toggles.old ≡ pad character_slots 0 [] }
-    requires pending_value { pending.old ≡ pending_held [] }
-    requires heads_len { length heads.old ≡ chains }
-    requires links_len { length links.old ≡ table_links }
-    ensures answer_value { result.answer ≡ read_answer version bytes.now }
-    ensures characters_len { length characters.new ≡ character_numbers }
-    ensures toggles_len { length toggles.new ≡ character_slots }
-    ensures pending_len { length pending.new ≡ pending_numbers }
-    ensures heads_len_2 { length heads.new ≡ chains }
-    ensures links_len_2 { length links.new ≡ table_links }
-    ensures links_after { result.answer ≡ LoadAnswer.Done
-        → replica_in result.site characters.new toggles.new result.length pending.new
-        result.waiting heads.new links.new
-        ≡ raised_in_arrays (state_as version bytes.now) }
+// Internal step: the same into a replica that was just made, where nobody asks where the rows begin.
+pub fn read_into(version: Version, bytes: &[u8], replica: &mut Replica) -> Result<(), Refusal>
+    requires { Blank replica.old }
+    ensures answer_value { result ≡ read_answer version bytes.now }
+    ensures full_after { Full replica.new }
+    ensures replica_after { result ≡ Ok tt
+        → replica.new ≡ raised_in_arrays (state_as version bytes.now) }
 {
     let mut starts = [0usize; 1];
-    read_into_at(
+    let read = read_into_at(
         version,
         bytes,
         &mut starts,
-        characters,
-        toggles,
-        pending,
-        heads,
-        links,
-    )
+        &mut replica.document.characters,
+        &mut replica.document.toggles,
+        &mut replica.document.pending,
+        &mut replica.document.table,
+    );
+    replica.site = read.site;
+    replica.document.length = read.length;
+    replica.document.waiting = read.waiting;
+    read.answer
 }
 
 // A refusal, and the empty replica beside it.
 fn refuse(reason: Refusal) -> Loaded
-    ensures { result ≡ unread (LoadAnswer.Refused reason) }
+    ensures { result ≡ unread (Err reason) }
 {
     Loaded {
-        answer: LoadAnswer::Refused(reason),
+        answer: Err(reason),
         replica: Replica::empty(0),
     }
 }
@@ -281,39 +263,12 @@ fn refuse(reason: Refusal) -> Loaded
 pub fn read_as(version: Version, bytes: &[u8]) -> Loaded
     ensures { result ≡ saved_read version bytes.now }
 {
-    let mut characters = [0u32; CHARACTER_NUMBERS];
-    let mut toggles = [0u8; CHARACTERS];
-    let mut pending = [0u32; PENDING_NUMBERS];
-    let mut heads = [0u16; CHAINS];
-    let mut links = [0u16; LINKS];
-    let found = read_into(
-        version,
-        bytes,
-        &mut characters,
-        &mut toggles,
-        &mut pending,
-        &mut heads,
-        &mut links,
-    );
-    let answer = found.answer;
-    if let LoadAnswer::Refused(reason) = answer {
+    let mut replica = Replica::empty(0);
+    let answer = read_into(version, bytes, &mut replica);
+    if let Err(reason) = answer {
         return refuse(reason);
     }
-    let site = found.site;
-    Loaded {
-        answer,
-        replica: Replica {
-            site,
-            document: Document {
-                characters,
-                toggles,
-                length: found.length,
-                pending,
-                waiting: found.waiting,
-                table: Table { heads, links },
-            },
-        },
-    }
+    Loaded { answer, replica }
 }
 
 // Internal step: reads a saved replica that is not checked to be well formed. The rule that the calls hand it to looks
@@ -330,7 +285,7 @@ pub fn load(bytes: &[u8]) -> Loaded
 {
     let found = read(bytes);
     let answer = found.answer;
-    if let LoadAnswer::Refused(_) = answer {
+    if let Err(_) = answer {
         return found;
     }
     if !replica::well_formed(found.replica) {

@@ -6,10 +6,7 @@ ghost use Rattle.lines.specs.Lines.{lines, closed};
 pub(crate) fn both(a: bool, b: bool) -> bool
     ensures { result ≡ a && b }
 {
-    if a {
-        return b;
-    }
-    false
+    a && b
 }
 
 // The first line without its line feed, or nothing.
@@ -26,11 +23,9 @@ pub(crate) fn skip(bytes: &[u8], n: usize) -> &[u8]
     ensures result_value_2 { closed result.now ≡ closed bytes.now }
 {
     let mut left = bytes;
-    let mut i = 0;
-    while i < n {
+    for i in 0..n {
         let next = lines::rest(left);
         left = next;
-        i += 1;
     }
     left
 }

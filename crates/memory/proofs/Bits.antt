@@ -1,17 +1,14 @@
 -- What is in range has the bits of its types: keys have 24, and the sender and the count of a toggle 8 each.
 use Prim.Native.Nat.{ℕ, ◌+◌, ◌*◌, ◌/◌, ◌%◌, ◌≤◌, ◌<◌}
 use native.Mathlib.Omega.{arith}
-use mathlib.Core.Path.{◌≡◌, refl, sym, ap, ◌∙◌}
-use mathlib.Core.Bool.{Bool, true, false, ◌||◌}
+use mathlib.Core.Path.{◌≡◌, refl, ap}
+use mathlib.Core.Bool.{true}
 use mathlib.Core.Logic.{⊎_elim}
 use borrow.Author.Tests.{ne_eqb}
 use Rattle.lists.proofs.Tests.{or_cases, and_left_lem}
 use Rattle.convergence.proofs.Identifiers.{same-eq}
 use Rattle.convergence.proofs.Ranges.{within-high, in-range, toggle-in-range}
 use Rattle.woot.specs.declared.Identifier.{Identifier}
-use Rattle.woot.specs.declared.Insert.{Insert}
-use Rattle.woot.specs.declared.Toggle.{Toggle}
-use Rattle.woot.specs.declared.Operation.{Operation}
 use Rattle.woot.specs.declared.Operation.TheVariants.{Insert as insert, Toggle as toggle}
 use Rattle.woot.specs.Identifiers.{begin, end, same}
 use Rattle.woot.specs.Limits.{last_site}

@@ -1,22 +1,18 @@
 -- Characters as numbers: numbers and identifiers are each other's, and the columns of the characters are the arrays.
-use Prim.Native.Nat.{ℕ, zero, suc, ◌+◌, ◌*◌, ◌/◌, ◌%◌, ◌≤◌, ◌<◌}
-use native.Mathlib.Numerals.{add-one}
+use Prim.Native.Nat.{ℕ, zero, suc, ◌≤◌, ◌<◌}
 use native.Mathlib.Omega.{arith}
 use mathlib.Core.Path.{◌≡◌, refl, ap, ap₂, sym, ◌∙◌}
-use mathlib.Core.Bool.{Bool, true, false, ◌&&◌, and-true}
+use mathlib.Core.Bool.{Bool, ◌&&◌, and-true}
 use mathlib.Core.List.Memᴰ
 use mathlib.Core.List.{List, [], ◌∷◌, ◌++◌, map, map-append, Memᴰ}
-use mathlib.Core.Logic.{◌⊎◌, inl, inr, ⊎_elim}
+use mathlib.Core.Logic.{⊎_elim}
 use lib.ListN.{length, take, get_or, length-append, get_or-append}
 use lib.Seq.{take-suc, take-length, get_or_at}
 use Rattle.lists.specs.Lists.{every, throughout}
 use Rattle.lists.proofs.Members.{every_append}
 use Rattle.lists.proofs.Tests.{side}
-use Rattle.lists.specs.Padding.{pad}
 use Rattle.woot.specs.declared.Identifier.{Identifier}
 use Rattle.woot.specs.declared.Character.{Character}
-use Rattle.woot.specs.State.{blank_character}
-use Rattle.woot.specs.Memory.{character_slots}
 use Rattle.woot.specs.Table.{key, keys}
 use Rattle.convergence.proofs.Identifiers.{identifier-path}
 use Rattle.index.specs.Keys.{Small, SmallParts, AllSmall}

@@ -1,11 +1,11 @@
 -- The lengths of the arrays in a document, from what owning it tells, and those of its columns.
 use Prim.Native.Nat.{ℕ, ◌+◌, ◌*◌, ◌≤◌}
 use native.Mathlib.Omega.{arith}
-use mathlib.Core.Path.{◌≡◌, ◌∙◌}
+use mathlib.Core.Path.{◌≡◌}
 use mathlib.Core.List.{List}
 use mir.Val.{Val}
 use denote.Laws.{Is}
-use lib.ListN.{length, take, drop, length-map, length-drop}
+use lib.ListN.{length, drop, length-drop}
 use lib.Seq.{length-take-le}
 use Rattle.woot.specs.declared.Document.{Document as InMemory}
 use Rattle.woot.specs.declared.Replica.{Replica as ReplicaInMemory}

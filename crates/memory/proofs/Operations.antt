@@ -13,14 +13,13 @@ use Rattle.lists.proofs.Throughout.{throughout-at}
 use Rattle.lists.proofs.Members.{every_member}
 use Rattle.woot.specs.declared.Identifier.{Identifier}
 use Rattle.woot.specs.declared.Insert.{Insert}
-use Rattle.woot.specs.declared.Toggle.{Toggle}
 use Rattle.woot.specs.declared.Operation.{Operation}
 use Rattle.woot.specs.declared.Operation.TheVariants.{Insert as insert, Toggle as toggle}
 use Rattle.woot.specs.Limits.{last_site}
 use Rattle.woot.specs.Operations.{origin, character}
-use Rattle.woot.specs.Ranges.{site_number, character_id, insert_in_range, toggle_in_range, in_range}
+use Rattle.woot.specs.Ranges.{site_number, character_id, in_range}
 use Rattle.woot.specs.Table.{key}
-use Rattle.woot.specs.Memory.{identifier, each, operation_of, operation_at, operations_of, own_key, first_key, second_key, value_of}
+use Rattle.woot.specs.Memory.{identifier, operation_of, operation_at, operations_of, own_key, first_key, second_key, value_of}
 use Rattle.convergence.proofs.Ranges.{character-site, in-range, toggle-in-range, to-character-range, within-high}
 use Rattle.index.specs.Keys.{Small}
 use Rattle.index.proofs.Keys.{character-small, range_small}

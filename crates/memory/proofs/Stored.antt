@@ -1,10 +1,9 @@
 -- What is stored is meant: the arrays that hold two lists stand for them, and a document whose arrays hold the columns of
 -- two lists is the one that stores them.
 use Prim.Native.Nat.{ℕ, ◌≤◌, ◌<◌}
-use native.Mathlib.Omega.{arith}
-use mathlib.Core.Path.{◌≡◌, refl, sym, ap, ◌∙◌}
+use mathlib.Core.Path.{◌≡◌, sym, ap, ◌∙◌}
 use mathlib.Core.Bool.{true}
-use mathlib.Core.List.{List, [], ◌∷◌, map}
+use mathlib.Core.List.{List, map}
 use borrow.Author.Tests.{leb-true}
 use lib.Dec.{leb}
 use lib.ListN.{length, take, get_or, length-map}
@@ -12,7 +11,7 @@ use lib.Seq.{get_or-take}
 use Rattle.lists.specs.Lists.{every}
 use Rattle.lists.specs.Padding.{pad}
 use Rattle.lists.proofs.Padding.{pad-take}
-use Rattle.lists.proofs.Members.{get_member, every_member}
+use Rattle.lists.proofs.Members.{get_member}
 use Rattle.lists.proofs.Indices.{map_get_d}
 use Rattle.lists.proofs.Tests.{and_left_lem, and_right, three}
 use Rattle.woot.specs.declared.Site.{Site}
@@ -20,12 +19,12 @@ use Rattle.woot.specs.declared.Operation.{Operation}
 use Rattle.woot.specs.declared.Character.{Character}
 use Rattle.memory.specs.Columns.{Document}
 use Rattle.memory.specs.Columns.{Replica}
-use Rattle.woot.specs.Ranges.{character_in_range, in_range}
+use Rattle.woot.specs.Ranges.{in_range}
 use Rattle.woot.specs.State.{State, blank_character, blank_operation}
 use Rattle.woot.specs.Memory.{character_slots, pending_slots}
 use Rattle.woot.specs.Form.{well_formed}
 use Rattle.woot.specs.Table.{key, keys, table_of}
-use Rattle.woot.specs.Memory.{identifier, each, character_of, character_at, characters_of, operation_at, operations_of, previous_keys, next_keys, code_points_of, toggle_counts, own_key, first_key, second_key, value_of}
+use Rattle.woot.specs.Memory.{identifier, character_of, character_at, characters_of, operation_at, operations_of, previous_keys, next_keys, code_points_of, toggle_counts, own_key, first_key, second_key, value_of}
 use Rattle.memory.specs.Columns.{characters_in, operations_in, meaning, document_of, stored, counted, table_agrees, replica_well_formed}
 use Rattle.index.specs.Keys.{AllSmall}
 use Rattle.memory.proofs.Characters.{identifier-key, each_cong, each_all, rows-length, rows-keys, rows-previous, rows_next, rows-codes, rows-toggles}

@@ -2,13 +2,12 @@
 -- arrays of their length are determined by their columns.
 use Prim.Native.Nat.{ℕ, suc, ◌+◌, ◌*◌, ◌≤◌, ◌<◌}
 use native.Mathlib.Omega.{arith}
-use mathlib.Core.Path.{◌≡◌, refl, sym, ap, ap₂, ◌∙◌}
-use mathlib.Core.List.{List, [], ◌∷◌, ◌++◌, map}
-use lib.ListN.{length, take, drop, get_or, length-map, length-drop, take-append-drop}
+use mathlib.Core.Path.{◌≡◌, refl, sym, ap, ◌∙◌}
+use mathlib.Core.List.{List, ◌++◌, map}
+use lib.ListN.{length, drop, get_or, length-map, length-drop, take-append-drop}
 use lib.Seq.{take_at, drop_at, drop-drop, take_all, get_or-take, get_or-drop}
 use Rattle.lists.specs.Padding.{pad}
 use Rattle.lists.proofs.Padding.{pad-length}
-use Rattle.woot.specs.declared.Site.{Site}
 use Rattle.woot.specs.declared.Character.{Character}
 use Rattle.woot.specs.declared.Operation.{Operation}
 use Rattle.woot.specs.declared.Document.{Document as InMemory}
@@ -20,9 +19,9 @@ use Rattle.woot.specs.Memory as memory
 use Rattle.woot.specs.Memory.{column, in_columns, previous_keys, next_keys, code_points_of, toggle_counts, own_key, first_key, second_key, value_of}
 use Rattle.memory.specs.Columns as columns
 use Rattle.memory.specs.Columns.{Document, Replica, document_of}
-use Rattle.memory.specs.Lent.{document_as, view, viewed}
+use Rattle.memory.specs.Lent.{view, viewed}
 use Rattle.memory.proofs.Fullness.{FullArrays}
-use Rattle.memory.proofs.Stored.{Storable, Parts, document-parts, stored-characters, stored-operations}
+use Rattle.memory.proofs.Stored.{Storable, document-parts, stored-characters, stored-operations}
 
 -- ---- four columns in an array
 

@@ -47,6 +47,13 @@ pub record Sized (cs ts ps hs ls : List ℕ) : Type 0 where
   pub heads : length hs ≡ chains
   pub links : length ls ≡ table_links
 
+-- the same of a document in memory, of which a reference does not tell it, and of a replica
+abbrev pub FullDocument : InMemory → Type 0
+FullDocument d = Sized d.characters d.toggles d.pending d.table.heads d.table.links
+
+abbrev pub Full : ReplicaInMemory → Type 0
+Full r = FullDocument r.document
+
 -- and of their columns, each with its slots
 pub record Slots (d : Document) : Type 0 where
   pub ids : length d.ids ≡ character_slots

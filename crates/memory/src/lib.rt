@@ -10,6 +10,7 @@ ghost use Rattle.woot.specs.Memory.{identifier, character_of, operation_of, own_
 use woot::{Identifier, Insert, Operation, Toggle};
 
 // Internal step: the identifier with a key. The calls have checked the ranges, so that a key has 24 bits.
+#[tactic(auto, unfolding(woot::specs::Memory::identifier))]
 pub fn identifier(key: u32) -> Identifier
     requires { key < 16777216 }
     ensures { result ≡ identifier key }
@@ -21,6 +22,7 @@ pub fn identifier(key: u32) -> Identifier
 }
 
 // Internal step: the insert that brought the character with these numbers.
+#[tactic(auto, unfolding(woot::specs::Operations::origin, woot::specs::Memory::character_of))]
 pub fn insert(id: u32, previous: u32, next: u32, code_point: u32) -> Insert
     requires id_bound { id < 16777216 }
     requires previous_bound { previous < 16777216 }
@@ -51,48 +53,40 @@ pub fn operation(own: u32, first: u32, second: u32, value: u32) -> Operation
 }
 
 // The key of an insert, and 0 of a toggle.
+#[tactic(auto, unfolding(woot::specs::Memory::own_key))]
 pub fn own_key(operation: Operation) -> u32
     ensures { result ≡ own_key operation }
 {
     match operation {
-        Operation::Insert(i) => {
-            let id = i.id;
-            index::key(id)
-        }
+        Operation::Insert(i) => index::key(i.id),
         Operation::Toggle(_) => 0,
     }
 }
 
 // The key of an insert's previous, and of a toggle's target.
+#[tactic(auto, unfolding(woot::specs::Memory::first_key))]
 pub fn first_key(operation: Operation) -> u32
     ensures { result ≡ first_key operation }
 {
     match operation {
-        Operation::Insert(i) => {
-            let previous = i.previous;
-            index::key(previous)
-        }
-        Operation::Toggle(t) => {
-            let target = t.target;
-            index::key(target)
-        }
+        Operation::Insert(i) => index::key(i.previous),
+        Operation::Toggle(t) => index::key(t.target),
     }
 }
 
 // The key of an insert's next, and 0 of a toggle.
+#[tactic(auto, unfolding(woot::specs::Memory::second_key))]
 pub fn second_key(operation: Operation) -> u32
     ensures { result ≡ second_key operation }
 {
     match operation {
-        Operation::Insert(i) => {
-            let next = i.next;
-            index::key(next)
-        }
+        Operation::Insert(i) => index::key(i.next),
         Operation::Toggle(_) => 0,
     }
 }
 
 // Who sends a toggle, and its count, as one number: two toggles of one character are the same where these are.
+#[tactic(auto, unfolding(woot::specs::Memory::value_of))]
 pub fn stamp(toggle: Toggle) -> u32
     ensures { result ≡ value_of (Operation.Toggle toggle) }
 {
@@ -100,6 +94,7 @@ pub fn stamp(toggle: Toggle) -> u32
 }
 
 // The code point of an insert, and the stamp of a toggle.
+#[tactic(auto, unfolding(woot::specs::Memory::value_of))]
 pub fn value_of(operation: Operation) -> u32
     ensures { result ≡ value_of operation }
 {

@@ -8,17 +8,12 @@ use crate::place;
 use woot::CHARACTERS;
 
 // Whether a place is a mark's, or that of a row with a flag.
+#[tactic(auto, unfolding(crate::specs::Steps::settled, crate::specs::Steps::unflagged))]
 fn settled(flags: &[u8], n: usize, place: usize) -> bool
     requires { n ≤ length flags.now }
     ensures { result ≡ settled (unflagged flags.now) n place }
 {
-    if place == 0 {
-        return true;
-    }
-    if n < place {
-        return true;
-    }
-    flags[place - 1] != 0
+    place == 0 || n < place || flags[place - 1] != 0
 }
 
 // Takes away row k where it is left and both its neighbours are settled, and answers how many that makes.
@@ -52,15 +47,14 @@ fn pass_down<'a>(above: &'a [u16], below: &'a [u16], n: usize, flags: &mut [u8])
         flags.new result }
 {
     let mut taken = 0;
-    let mut k = 0;
-    while k < n {
+    for k in 0..n {
         taken += take_free(above, below, n, k, flags);
-        k += 1;
     }
     taken
 }
 
 // The same from the bottom, for rows that were typed upwards.
+// One function over both orders would be no plainer: its caller would owe that the order comes to each row.
 fn pass_up<'a>(above: &'a [u16], below: &'a [u16], n: usize, flags: &mut [u8]) -> usize
     requires n_in_bounds { n ≤ length above.now }
     requires n_in_bounds_2 { n ≤ length below.now }
@@ -69,9 +63,7 @@ fn pass_up<'a>(above: &'a [u16], below: &'a [u16], n: usize, flags: &mut [u8]) -
         flags.new result }
 {
     let mut taken = 0;
-    let mut k = n;
-    while 0 < k {
-        k -= 1;
+    for k in (0..n).rev() {
         taken += take_free(above, below, n, k, flags);
     }
     taken
@@ -87,6 +79,7 @@ pub fn acyclic<'a>(above: &'a [u16], below: &'a [u16], n: usize) -> bool
 {
     let mut flags = [0u8; CHARACTERS];
     let mut left = n;
+    // It stays a while: it ends when a sweep takes nothing, and no index is counted.
     while 0 < left {
         let first = pass_down(above, below, n, &mut flags);
         let second = pass_up(above, below, n, &mut flags);

@@ -13,14 +13,10 @@ fn row_ordered<'a>(ids: &'a [u32], below: &'a [u16], above: usize, k: usize) -> 
     ensures { result ≡ throughout (pair_at ids.now below.now above k) k }
 {
     let key = ids[k];
-    let mut j = above;
-    while j < k {
-        if k + 1 < place(below[j]) {
-            if key < ids[j] {
-                return false;
-            }
+    for j in above..k {
+        if k + 1 < place(below[j]) && key < ids[j] {
+            return false;
         }
-        j += 1;
     }
     true
 }
@@ -32,12 +28,10 @@ pub fn ordered<'a>(ids: &'a [u32], above: &'a [u16], below: &'a [u16]) -> bool
     requires ids_in_bounds_2 { length ids.now ≤ length below.now }
     ensures { result ≡ pairs_in ids.now above.now below.now }
 {
-    let mut k = 0;
-    while k < ids.len() {
+    for k in 0..ids.len() {
         if !row_ordered(ids, below, place(above[k]), k) {
             return false;
         }
-        k += 1;
     }
     true
 }

@@ -4,19 +4,20 @@ ghost use Rattle.index.specs.Keys.{place_in};
 ghost use Rattle.index.specs.Tabled.{Tabled};
 ghost use Rattle.neighbours.specs.Steps.{Placed};
 
+use woot::Table;
+
 // Internal step: the place of one neighbour of each row, its previous or its next. Most rows stand beside their
 // neighbours, so that the place that many past the index is looked at first. The calls have checked the table, and
 // sought the end mark's place in it.
 pub fn find_places<'a>(
-    heads: &'a [u16],
-    links: &'a [u16],
+    table: &'a Table,
     ids: &'a [u32],
     keys: &'a [u32],
     end: usize,
     past: usize,
     places: &mut [u16],
 )
-    requires tabled { Tabled (record { heads = heads.now; links = links.now }) ids.now }
+    requires tabled { Tabled table.now ids.now }
     requires end_value { end ≡ place_in ids.now 1 }
     requires past_bound { past ≤ 2 }
     requires ids_in_bounds { length ids.now ≤ length keys.now }
@@ -24,10 +25,8 @@ pub fn find_places<'a>(
     ensures places_len_unchanged { length places.new ≡ length places.old }
     ensures placed { Placed ids.now keys.now places.new }
 {
-    let mut i = 0;
-    while i < ids.len() {
-        let at = index::place_near(heads, links, ids, end, i + past, keys[i]);
+    for i in 0..ids.len() {
+        let at = index::place_near(table, ids, end, i + past, keys[i]);
         places[i] = at as u16;
-        i += 1;
     }
 }

@@ -8,13 +8,7 @@ ghost use Rattle.output.specs.Output.{has_room, placed, past};
 pub fn has_room(size: usize, at: usize, count: usize) -> bool
     ensures { result ≡ has_room size at count }
 {
-    if size < at {
-        return false;
-    }
-    if size - at < count {
-        return false;
-    }
-    true
+    at <= size && count <= size - at
 }
 
 // Puts the bytes into the slice at the offset, all of them or none, and answers the offset just past them.
@@ -25,12 +19,9 @@ pub fn put_all(out: &mut [u8], at: usize, bytes: &[u8]) -> usize
     if !has_room(out.len(), at, bytes.len()) {
         return at;
     }
-    let mut i = 0;
-    while i < bytes.len() {
-        out[at + i] = bytes[i];
-        i += 1;
-    }
-    at + i
+    let end = at + bytes.len();
+    out[at..end].copy_from_slice(bytes);
+    end
 }
 
 // Puts one byte into the slice at the offset, if there is room, and answers the offset just past it.

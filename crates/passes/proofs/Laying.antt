@@ -67,23 +67,23 @@ abbrev pub Found : Document → Insert → Placement → Type 0
 Found d i p = (cs : List Character) → take d.length d.ids ≡ keys cs → take d.length d.previous ≡ previous_keys cs
     → take d.length d.next ≡ next_keys cs → AllSmall cs → p ≡ placement_of cs i
 
-module _ (characters : List ℕ) {toggles : List ℕ} {n : ℕ} {heads links : List ℕ} {cs : List Character}
-    (l : Laid (laid_as characters toggles n heads links) cs) (i : Insert) (p : Placement)
-    (f : Found (laid_as characters toggles n heads links) i p) where
+module _ (characters : List ℕ) {toggles : List ℕ} {n : ℕ} {table : Table} {cs : List Character}
+    (l : Laid (laid_as characters toggles n table) cs) (i : Insert) (p : Placement)
+    (f : Found (laid_as characters toggles n table) i p) where
   sought : placement_of cs i ≡ p
   sought = sym (f cs (laid_keys l) (laid_previous l) (laid_next l) l.small)
 
-  pub taken_lacking : p ≡ Missing → TakenAs cs i characters toggles n heads links Lacking
+  pub taken_lacking : p ≡ Missing → TakenAs cs i characters toggles n table Lacking
   unfolding TakenAs
   taken_lacking e = (l.tidy, says cs i Missing (sought ∙ e))
 
-  pub taken-crossed : p ≡ Crossed → TakenAs cs i characters toggles n heads links Dropped
+  pub taken-crossed : p ≡ Crossed → TakenAs cs i characters toggles n table Dropped
   unfolding TakenAs
   taken-crossed e =
       let s = says cs i Crossed (sought ∙ e) in
       (l.tidy, s.0, or_left (crossed cs (insert i)) _ s.1)
 
-  pub taken-unplaceable : p ≡ Unplaceable → TakenAs cs i characters toggles n heads links Dropped
+  pub taken-unplaceable : p ≡ Unplaceable → TakenAs cs i characters toggles n table Dropped
   unfolding TakenAs
   taken-unplaceable e =
       let s = says cs i Unplaceable (sought ∙ e) in
@@ -93,14 +93,14 @@ module _ (characters : List ℕ) {toggles : List ℕ} {n : ℕ} {heads links : L
     pub below-within : k ≤ n
     below-within = omega (arith, (says cs i (Below k) (sought ∙ e)).4, (laid_parts l).length-is)
 
-    pub taken-placed : n < 1024 → (xs : List ℕ) {ts hs ls : List ℕ}
+    pub taken-placed : n < 1024 → (xs : List ℕ) {ts : List ℕ} {made : Table}
         → key_column xs ≡ put_at n k (key i.id) (key_column characters)
         → previous_column xs ≡ put_at n k (key i.previous) (previous_column characters)
         → next_column xs ≡ put_at n k (key i.next) (next_column characters)
         → code_point_column xs ≡ put_at n k i.code_point (code_point_column characters)
         → ts ≡ put_at n k 0 toggles
-        → ◌≡◌ {A = Table} (record { heads = hs; links = ls }) (table_of (take (n + 1) (key_column xs)))
-        → TakenAs cs i xs ts n hs ls Placed
+        → made ≡ table_of (take (n + 1) (key_column xs))
+        → TakenAs cs i xs ts n made Placed
     unfolding TakenAs
     taken-placed room xs a b c g t h =
         let s = says cs i (Below k) (sought ∙ e) in

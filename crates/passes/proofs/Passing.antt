@@ -11,6 +11,7 @@ use lib.ListN.{length, take, drop, set, get_or, length-set, drop_of_length-le}
 use lib.Seq.{take-suc-set, drop-set-lt, drop-cons, length-take-le}
 use Rattle.lists.proofs.Tests.{and_intro, or-false-left, or-false-right}
 use Rattle.lists.proofs.Members.{every_member}
+use Rattle.woot.specs.declared.Table.{Table}
 use Rattle.woot.specs.declared.Identifier.{Identifier}
 use Rattle.woot.specs.declared.Insert.{Insert}
 use Rattle.woot.specs.declared.Operation.TheVariants.{Insert as insert}
@@ -163,9 +164,9 @@ module _ {d : Document} {xs : List ℕ} {k i m : ℕ} {p : Passed} (r : Reached 
     out : Extract y (take k js ++ drop (suc i) js) (take k js ++ drop i js)
     out = rw splits (extract_append (take k js) front)
 
-    module _ (characters toggles : List ℕ) (n : ℕ) (heads links : List ℕ) where
-      pub reached-placed : TakenAs r.characters y characters toggles n heads links Placed
-          → Reached (laid_as characters toggles (n + 1) heads links) xs k (i + 1) m p
+    module _ (characters toggles : List ℕ) (n : ℕ) (table : Table) where
+      pub reached-placed : TakenAs r.characters y characters toggles n table Placed
+          → Reached (laid_as characters toggles (n + 1) table) xs k (i + 1) m p
       unfolding TakenAs ahead
       reached-placed t =
           let cs = r.characters in
@@ -185,8 +186,8 @@ module _ {d : Document} {xs : List ℕ} {k i m : ℕ} {p : Passed} (r : Reached 
             comes = ap (behind (take k js)) on ∙ r.comes;
           }
 
-      pub reached-dropped : TakenAs r.characters y characters toggles n heads links Dropped
-          → Reached (laid_as characters toggles n heads links) xs k (i + 1) m p
+      pub reached-dropped : TakenAs r.characters y characters toggles n table Dropped
+          → Reached (laid_as characters toggles n table) xs k (i + 1) m p
       unfolding TakenAs ahead
       reached-dropped t =
           let cs = r.characters in
@@ -205,8 +206,8 @@ module _ {d : Document} {xs : List ℕ} {k i m : ℕ} {p : Passed} (r : Reached 
           }
 
       -- it moves behind those that are left
-      pub reached_lacking : TakenAs r.characters y characters toggles n heads links Lacking → {ys : List ℕ} → Moved xs i k ys
-          → Reached (laid_as characters toggles n heads links) ys (k + 1) (i + 1) m p
+      pub reached_lacking : TakenAs r.characters y characters toggles n table Lacking → {ys : List ℕ} → Moved xs i k ys
+          → Reached (laid_as characters toggles n table) ys (k + 1) (i + 1) m p
       unfolding TakenAs ahead and_left
       reached_lacking t {ys} moved =
           let cs = r.characters in

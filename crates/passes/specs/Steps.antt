@@ -4,6 +4,7 @@ use Rattle.lists.specs.Lists.{every, distinct}
 use Rattle.woot.specs.declared.Insert.{Insert}
 use Rattle.woot.specs.declared.Operation.TheVariants.{Insert as insert}
 use Rattle.woot.specs.declared.Character.{Character}
+use Rattle.woot.specs.declared.Table.{Table}
 use Rattle.woot.specs.Identifiers.{same}
 use Rattle.woot.specs.Limits.{capacity}
 use Rattle.woot.specs.Ranges.{insert_in_range, character_in_range}
@@ -20,10 +21,10 @@ use Rattle.passes.specs.declared.Taken.TheVariants.{Placed, Lacking, Dropped}
 
 -- ---- what is asked
 
--- the document with these lent arrays and nothing pending
-abbrev pub laid_as : List ℕ → List ℕ → ℕ → List ℕ → List ℕ → Document
-laid_as characters toggles n heads links =
-    columns_as characters toggles n (in_columns pending_slots [] [] [] []) 0 heads links
+-- the document with these lent arrays, this table and nothing pending
+abbrev pub laid_as : List ℕ → List ℕ → ℕ → Table → Document
+laid_as characters toggles n table =
+    columns_as characters toggles n (in_columns pending_slots [] [] [] []) 0 table.heads table.links
 
 -- inserts that may be placed among characters, whatever becomes of each: no identifier stands twice, and there is room
 -- for all of them
@@ -60,15 +61,15 @@ pub record Offers (d : Document) (xs : List ℕ) (m : ℕ) : Type 0 where
 -- ---- what is left
 
 -- what became of an insert, and the characters in lent arrays, of which there were n
-unfoldable pub TakenAs : List Character → Insert → List ℕ → List ℕ → ℕ → List ℕ → List ℕ → Taken → Type 0
-TakenAs cs i characters toggles n heads links Placed =
-    (laid_as characters toggles (n + 1) heads links ≡ document_of (integrate_insert cs i) [])
+unfoldable pub TakenAs : List Character → Insert → List ℕ → List ℕ → ℕ → Table → Taken → Type 0
+TakenAs cs i characters toggles n table Placed =
+    (laid_as characters toggles (n + 1) table ≡ document_of (integrate_insert cs i) [])
     × (executable cs (insert i) ≡ true)
     × (crossed cs (insert i) || unplaceable cs (insert i) ≡ false)
-TakenAs cs i characters toggles n heads links Lacking =
-    (laid_as characters toggles n heads links ≡ document_of cs []) × (executable cs (insert i) ≡ false)
-TakenAs cs i characters toggles n heads links Dropped =
-    (laid_as characters toggles n heads links ≡ document_of cs [])
+TakenAs cs i characters toggles n table Lacking =
+    (laid_as characters toggles n table ≡ document_of cs []) × (executable cs (insert i) ≡ false)
+TakenAs cs i characters toggles n table Dropped =
+    (laid_as characters toggles n table ≡ document_of cs [])
     × (executable cs (insert i) ≡ true)
     × (crossed cs (insert i) || unplaceable cs (insert i) ≡ true)
 

@@ -15,7 +15,7 @@ ghost use Rattle.passes.specs.Steps.{laid_as, Laid, Lays, TakenAs, Offers, Offer
 
 use integration::Placement;
 use pending::ready;
-use woot::Insert;
+use woot::{Insert, Table};
 
 // What becomes of an insert that is offered.
 #[derive(Clone, Copy)]
@@ -37,16 +37,10 @@ pub struct Passed {
 
 // Where an insert goes among the first n characters. Its previous is looked up before anything else: in a heap that
 // comes in no useful order most inserts are offered too early, and it is what most of these lack.
-fn place_for<'a>(
-    heads: &'a [u16],
-    links: &'a [u16],
-    characters: &'a [u32],
-    n: usize,
-    insert: Insert,
-) -> Placement
+fn place_for<'a>(table: &'a Table, characters: &'a [u32], n: usize, insert: Insert) -> Placement
     requires n_le_character_slots { n ≤ character_slots }
     requires characters_len { length characters.now ≡ character_numbers }
-    requires tabled { Tabled (record { heads = heads.now; links = links.now }) (take n (key_column characters.now)) }
+    requires tabled { Tabled table.now (take n (key_column characters.now)) }
     ensures { (cs : List Character)
         → take n (key_column characters.now) ≡ keys cs
         → take n (previous_column characters.now) ≡ previous_keys cs
@@ -54,8 +48,8 @@ fn place_for<'a>(
         → result ≡ placement_of cs insert }
 {
     let previous = insert.previous;
-    if ready::is_held(heads, links, &characters[..n], index::key(previous)) {
-        return delivery::find_place(heads, links, characters, n, insert);
+    if ready::is_held(table, &characters[..n], index::key(previous)) {
+        return delivery::find_place(table, characters, n, insert);
     }
     Placement::Missing
 }
@@ -64,23 +58,20 @@ fn place_for<'a>(
 fn take_in(
     characters: &mut [u32],
     toggles: &mut [u8],
-    heads: &mut [u16],
-    links: &mut [u16],
+    table: &mut Table,
     n: usize,
     insert: Insert,
 ) -> Taken
     requires characters_len { length characters.old ≡ character_numbers }
     requires n_lt_character_slots { n < character_slots }
-    requires lays { Lays (laid_as characters.old toggles.old n heads.old links.old) }
-    ensures { (t : Lays (laid_as characters.old toggles.old n heads.old
-        links.old))
-        → TakenAs t.characters insert characters.new toggles.new n heads.new
-        links.new result }
+    requires lays { Lays (laid_as characters.old toggles.old n table.old) }
+    ensures { (t : Lays (laid_as characters.old toggles.old n table.old))
+        → TakenAs t.characters insert characters.new toggles.new n table.new result }
 {
-    let placement = place_for(heads, links, characters, n, insert);
+    let placement = place_for(table, characters, n, insert);
     match placement {
         Placement::Below(k) => {
-            characters::put_in(characters, toggles, heads, links, n, k, insert);
+            characters::put_in(characters, toggles, table, n, k, insert);
             Taken::Placed
         }
         Placement::Missing => Taken::Lacking,
@@ -93,24 +84,22 @@ fn take_in(
 fn offer(
     characters: &mut [u32],
     toggles: &mut [u8],
-    heads: &mut [u16],
-    links: &mut [u16],
+    table: &mut Table,
     inserts: &mut [u32],
     at: Passed,
     i: usize,
 ) -> Passed
     requires characters_len { length characters.old ≡ character_numbers }
-    requires reaches { Reaches (laid_as characters.old toggles.old at.length heads.old links.old) inserts.old
+    requires reaches { Reaches (laid_as characters.old toggles.old at.length table.old) inserts.old
         at.left i }
-    ensures { (g : Reaches (laid_as characters.old toggles.old at.length
-        heads.old links.old) inserts.old at.left i)
-        → Reached (laid_as characters.new toggles.new result.length heads.new
-        links.new) inserts.new result.left (i + 1) g.many g.passed }
+    ensures { (g : Reaches (laid_as characters.old toggles.old at.length table.old) inserts.old at.left i)
+        → Reached (laid_as characters.new toggles.new result.length table.new)
+        inserts.new result.left (i + 1) g.many g.passed }
 {
     let n = at.length;
     let left = at.left;
     let insert = heap::insert_at(inserts, i);
-    let taken = take_in(characters, toggles, heads, links, n, insert);
+    let taken = take_in(characters, toggles, table, n, insert);
     match taken {
         Taken::Placed => Passed {
             length: n + 1,
@@ -132,25 +121,21 @@ fn offer(
 fn pass(
     characters: &mut [u32],
     toggles: &mut [u8],
-    heads: &mut [u16],
-    links: &mut [u16],
+    table: &mut Table,
     inserts: &mut [u32],
     n: usize,
     m: usize,
 ) -> Passed
     requires characters_len { length characters.old ≡ character_numbers }
-    requires offers { Offers (laid_as characters.old toggles.old n heads.old links.old) inserts.old m }
-    ensures { (o : Offers (laid_as characters.old toggles.old n heads.old
-        links.old) inserts.old m)
-        → Offering (laid_as characters.new toggles.new result.length heads.new
-        links.new) inserts.new result.left (pass o.characters o.inserts).characters
+    requires offers { Offers (laid_as characters.old toggles.old n table.old) inserts.old m }
+    ensures { (o : Offers (laid_as characters.old toggles.old n table.old) inserts.old m)
+        → Offering (laid_as characters.new toggles.new result.length table.new)
+        inserts.new result.left (pass o.characters o.inserts).characters
         (pass o.characters o.inserts).left }
 {
     let mut at = Passed { length: n, left: 0 };
-    let mut i = 0;
-    while i < m {
-        at = offer(characters, toggles, heads, links, inserts, at, i);
-        i += 1;
+    for i in 0..m {
+        at = offer(characters, toggles, table, inserts, at, i);
     }
     at
 }
@@ -160,23 +145,22 @@ fn pass(
 pub fn place_all(
     characters: &mut [u32],
     toggles: &mut [u8],
-    heads: &mut [u16],
-    links: &mut [u16],
+    table: &mut Table,
     inserts: &mut [u32],
     n: usize,
     m: usize,
 ) -> usize
     requires characters_len { length characters.old ≡ character_numbers }
-    requires offers { Offers (laid_as characters.old toggles.old n heads.old links.old) inserts.old m }
-    ensures { (o : Offers (laid_as characters.old toggles.old n heads.old
-        links.old) inserts.old m)
-        → Laid (laid_as characters.new toggles.new result heads.new links.new)
+    requires offers { Offers (laid_as characters.old toggles.old n table.old) inserts.old m }
+    ensures { (o : Offers (laid_as characters.old toggles.old n table.old) inserts.old m)
+        → Laid (laid_as characters.new toggles.new result table.new)
         (passes (suc (length o.inserts)) o.characters o.inserts).characters }
 {
     let mut length = n;
     let mut left = m;
+    // No count of the passes is known before: one that places nothing is the last.
     loop {
-        let passed = pass(characters, toggles, heads, links, inserts, length, left);
+        let passed = pass(characters, toggles, table, inserts, length, left);
         if passed.length == length {
             return passed.length;
         }

@@ -25,7 +25,7 @@ use Rattle.woot.specs.Histories.{run}
 use Rattle.woot.specs.Memory as memory
 use Rattle.bulk.specs.Pasting.{typings, own_by, stopped, PasteOutcome, unpasted, pasted, clock_short, overfull, paste_when, paste}
 use Rattle.memory.specs.Columns as columns
-use Rattle.memory.specs.Lent.{replica_as, viewed}
+use Rattle.memory.specs.Lent.{viewed}
 use Rattle.memory.proofs.Fullness.{FullArrays}
 use Rattle.memory.proofs.Stored.{form_meant}
 use Rattle.memory.proofs.Views.{meaning-view, form_view}
@@ -33,8 +33,7 @@ use Rattle.convergence.proofs.Forms.{known-length}
 use Rattle.convergence.proofs.Pasting.{paste-sends}
 use Rattle.replica.proofs.Returning.{whole}
 use Rattle.keystroke.specs.declared.Typing.{Typing}
-use Rattle.typing.specs.declared.Ended.{Ended}
-use Rattle.typing.specs.declared.Ended.TheVariants.{Finished, Unplaceable as placeless}
+use Rattle.std.proofs.Common.{Option, Some, None}
 use Rattle.typing.specs.Columns.{typed_columns}
 use Rattle.typing.specs.Steps.{Unwritten, points_in, Written, AllTyped}
 use Rattle.pasting.specs.declared.Pasted.{Pasted}
@@ -83,12 +82,12 @@ wiped typed e = rw e
 
 -- ---- what typing told
 
-module _ (s : State) (g : ℕ) {ms ns : List ℕ} (same : ms ≡ ns) (typed cs ts ps hs ls : List ℕ) {t : Ended} (w : AllTyped s g ms typed cs ts ps hs ls t) where
-  pub told-stopped : t ≡ placeless → stopped s (typings s g ns) ≡ true
+module _ (s : State) (g : ℕ) {ms ns : List ℕ} (same : ms ≡ ns) (typed : List ℕ) (r : columns.Replica) {t : Option Typing} (w : AllTyped s g ms typed r t) where
+  pub told-stopped : t ≡ None → stopped s (typings s g ns) ≡ true
   unfolding AllTyped
   told-stopped e = rw (same, e) at w
 
-  pub told-finished : {to : Typing} → t ≡ Finished to → Written s g ns typed to (replica_as to.site cs ts to.length ps to.waiting hs ls)
+  pub told-finished : {to : Typing} → t ≡ Some to → Written s g ns typed to r
   unfolding AllTyped
   told-finished e = rw (same, e) at w
 

@@ -12,7 +12,7 @@ use Rattle.decoding.specs.declared.Decoded.{Decoded}
 use Rattle.decoding.specs.declared.Decoded.TheVariants.{CodePoint, End, Malformed}
 use Rattle.decoding.specs.Decoding.{decoded, before}
 use Rattle.decoding.specs.Offsets.{decoded_at, on_from}
-use Rattle.decoding.proofs.Offsets.{decoded-on, decoded-end, next-within}
+use Rattle.decoding.proofs.Offsets.{decoded-on, next-within}
 use Rattle.typing.specs.Steps.{Unwritten}
 use Rattle.pasting.specs.Steps.{Readable}
 
@@ -38,6 +38,10 @@ more-written {done} {typed} i n u many room =
     }
 
 -- ---- the loop
+
+none-left : (ns : List ℕ) → length ns ≤ 0 → [] ≡ ns
+none-left [] h = refl
+none-left (n ∷ ns) h = absurd (omega arith)
 
 pub record Reading (bytes typed : List ℕ) (at i : ℕ) : Type 0 where
   pub done : List ℕ
@@ -100,14 +104,17 @@ module _ {bytes typed : List ℕ} {at i : ℕ} (r : Reading bytes typed at i) wh
           size = length-set typed (3072 + i) n ∙ r.size;
         }
 
-  pub reading-ended : End ≡ decoded_at bytes at → (ns : List ℕ) → decoded bytes ≡ some ns → Unwritten ns typed
-  reading-ended e ns f =
-      let nothing : [] ≡ r.rest = let h = here End e in cc in
+  all-read : [] ≡ r.rest → (ns : List ℕ) → decoded bytes ≡ some ns → Unwritten ns typed
+  all-read nothing ns f =
       let whole : r.done ++ [] ≡ ns = let h = sym (ap (λ (l : List ℕ). some (r.done ++ l)) nothing) in let k = sym r.all ∙ f in cc in
       subst (λ (l : List ℕ). Unwritten l typed) (sym (append-nil r.done) ∙ whole) r.laid
 
   pub reading-malformed : {A : Type 0} → Malformed ≡ decoded_at bytes at → A
   reading-malformed e = absurd (let h = here Malformed e in let z : ◌≡◌ {A = ℕ} 0 1 = cc in omega arith)
 
-  pub reading-done : length bytes ≤ at → (ns : List ℕ) → decoded bytes ≡ some ns → Unwritten ns typed
-  reading-done h = reading-ended (sym (decoded-end bytes at h))
+  pub reading-ended : End ≡ decoded_at bytes at → (ns : List ℕ) → decoded bytes ≡ some ns → Unwritten ns typed
+  reading-ended e = all-read (let h = here End e in cc)
+
+  -- all slots are filled, so none is left
+  pub reading-done : 1024 ≤ i → (ns : List ℕ) → decoded bytes ≡ some ns → Unwritten ns typed
+  reading-done h = all-read (none-left r.rest (omega (arith, r.few, r.many)))

@@ -11,8 +11,6 @@ use Rattle.woot.specs.declared.Operation.{Operation}
 use Rattle.answers.specs.declared.Refusal.{Refusal}
 use Rattle.answers.specs.declared.Answer.{Answer}
 use Rattle.answers.specs.declared.Answer.TheVariants.{Done, Refused}
-use Rattle.woot.specs.declared.Sent.{Sent}
-use Rattle.woot.specs.declared.Sent.TheVariants.{Done as sentDone, Refused as sentRefused}
 use Rattle.woot.specs.declared.Replica.{Replica}
 use Rattle.woot.specs.State.{State}
 use Rattle.woot.specs.Form.{well_formed}
@@ -35,6 +33,8 @@ use Rattle.pasting.specs.Replicas.{after_typing, pasted_with, pasted_by}
 use Rattle.pasting.proofs.Finishing.{after-some}
 use Rattle.pasting.specs.Theorems.{PastedAllOrNone, PastedNothing, PastedIsTyping, PastedSends, PastedFollows}
 use Rattle.pasting.specs.Theorems.{PastedNeverUnplaceable, PastedFormed, PastedSearches}
+use Rattle.std.proofs.Common.{Ok, Err}
+use Rattle.woot.specs.Sent.{Sending}
 
 -- ---- on a replica in form
 
@@ -83,10 +83,10 @@ pasted-nothing r g f gap = formed-paste r g [] f ∙ ap (pasted_with r) (paste-n
 -- ---- typing
 
 -- a typing call that is done
-typed-replica : (r : Replica) (s : State) (a : Sent) → (reply (answer_of a)).word ≡ done → after_sent r s a ≡ stored s
+typed-replica : (r : Replica) (s : State) (a : Sending) → (reply (answer_of a)).word ≡ done → after_sent r s a ≡ stored s
 unfolding after_sent answer_of reply
-typed-replica r s (sentDone o n m) h = refl
-typed-replica r s (sentRefused q) h = absurd (let z : ◌≡◌ {A = ℕ} 0 1 = cc in omega arith)
+typed-replica r s (Ok x) h = refl
+typed-replica r s (Err q) h = absurd (let z : ◌≡◌ {A = ℕ} 0 1 = cc in omega arith)
 
 first-typed : (r : Replica) (g n : ℕ) → replica_well_formed r ≡ true → (reply (outcome (meaning r) (inserting g n)).answer).word ≡ done
     → called r (inserting g n) ≡ stored (outcome (meaning r) (inserting g n)).state

@@ -9,7 +9,7 @@ ghost use Rattle.decoding.specs.Decoding.{decoded};
 ghost use Rattle.woot.specs.Memory.{character_numbers};
 ghost use Rattle.woot.specs.Ranges.{is_code_point};
 ghost use Rattle.memory.specs.Columns.{meaning};
-ghost use Rattle.memory.specs.Lent.{replica_as, viewed, Sized};
+ghost use Rattle.memory.specs.Lent.{viewed, Full};
 ghost use Rattle.typing.specs.Columns.{typed_columns};
 ghost use Rattle.typing.specs.Steps.{Unwritten, points_in, AllTyped};
 ghost use Rattle.block_judging.specs.Steps.{Spacious};
@@ -18,9 +18,9 @@ ghost use Rattle.pasting.specs.Steps.{Readable, Pasteable};
 
 use answers::{Answer, Refusal};
 use block_judging::Judged;
-use decoding::{Counted, Decoded};
-use typing::Ended;
-use woot::{CHARACTER_NUMBERS, CODE_POINTS, Document, Replica, Site, Table};
+use decoding::Decoded;
+use keystroke::Typing;
+use woot::{CHARACTER_NUMBERS, CHARACTERS, CODE_POINTS, Replica};
 
 // What pasting returns: the answer, the replica as it is then, and the characters that it typed, in sequence, from
 // which a caller writes their insert lines. They lie as a document's do, each in the same slot of four columns, with
@@ -49,14 +49,12 @@ fn read(block: &[u8], typed: &mut [u32])
     ensures { (ns : List ℕ) → decoded block.now ≡ some ns → Unwritten ns typed.new }
 {
     let mut at = 0;
-    let mut i = 0;
-    while at < block.len() {
+    for i in 0..CHARACTERS {
         let head = decoding::decode(block, at);
         match head {
             Decoded::CodePoint { code_point, next } => {
                 typed[CODE_POINTS + i] = code_point;
                 at = next;
-                i += 1;
             }
             Decoded::End => return,
             Decoded::Malformed => return,
@@ -75,35 +73,24 @@ fn untyped(replica: Replica, answer: Answer) -> PastedInto
     }
 }
 
-// Types the first code points of the fourth column on arrays that are cleared once.
+// Types the first code points of the fourth column on a replica whose slots are cleared once.
 fn type_points(
-    characters: &mut [u32],
-    toggles: &mut [u8],
-    pending: &mut [u32],
-    heads: &mut [u16],
-    links: &mut [u16],
+    replica: &mut Replica,
     typed: &mut [u32],
-    site: Site,
-    n: usize,
-    w: usize,
     point: usize,
     count: usize,
-) -> Ended
-    requires sized { Sized characters.old toggles.old pending.old heads.old links.old }
+) -> Option<Typing>
+    requires full { Full replica.old }
     requires typed_len { length typed.old ≡ character_numbers }
     requires unwritten { Unwritten (points_in count typed.old) typed.old }
     requires typed_value { every is_code_point (points_in count typed.old) ≡ true }
-    requires spacious { Spacious (replica_as site characters.old toggles.old n pending.old w heads.old links.old)
-        point count }
-    ensures { AllTyped (meaning (replica_as site characters.old toggles.old n
-        pending.old w heads.old links.old)) point (points_in count typed.old)
-        typed.new characters.new toggles.new pending.new heads.new
-        links.new result }
+    requires spacious { Spacious (viewed replica.old) point count }
+    ensures full_after { Full replica.new }
+    ensures value { AllTyped (meaning (viewed replica.old)) point (points_in count typed.old) typed.new
+        (viewed replica.new) result }
 {
-    delivery::clear(characters, toggles, pending, heads, links, n, w);
-    typing::type_all(
-        characters, toggles, pending, heads, links, typed, site, n, w, point, count,
-    )
+    delivery::clear(&mut replica.document);
+    typing::type_all(replica, typed, point, count)
 }
 
 // Types a block that the clock and the room are enough for, unless there is no place for one of its characters.
@@ -119,50 +106,18 @@ fn type_block(
     ensures { pasted_as result typed.new ≡ pasted_by replica point block.now }
 {
     read(block, typed);
-    let mut characters = replica.document.characters;
-    let mut toggles = replica.document.toggles;
-    let mut pending = replica.document.pending;
-    let mut heads = replica.document.table.heads;
-    let mut links = replica.document.table.links;
-    let ended = type_points(
-        &mut characters,
-        &mut toggles,
-        &mut pending,
-        &mut heads,
-        &mut links,
-        typed,
-        replica.site,
-        replica.document.length,
-        replica.document.waiting,
-        point,
-        count,
-    );
-    match ended {
-        Ended::Finished(at) => {
-            let site = at.site;
-            let answer = Answer::Done {
+    let mut after = replica;
+    match type_points(&mut after, typed, point, count) {
+        Some(at) => PastedInto {
+            answer: Answer::Done {
                 integrated: at.integrated,
                 discarded: at.discarded,
-            };
-            let document = Document {
-                characters,
-                toggles,
-                length: at.length,
-                pending,
-                waiting: at.waiting,
-                table: Table { heads, links },
-            };
-            let mut after = replica;
-            after.site = site;
-            after.document = document;
-            PastedInto {
-                answer,
-                replica: after,
-                count,
-            }
-        }
-        Ended::Unplaceable => {
-            slots::clear_numbers(typed, 0);
+            },
+            replica: after,
+            count,
+        },
+        None => {
+            slots::clear(typed, 0, 0);
             untyped(replica, Answer::Refused(Refusal::Unplaceable))
         }
     }
@@ -175,21 +130,9 @@ pub fn paste_into(replica: Replica, point: usize, block: &[u8], typed: &mut [u32
     ensures { pasted_as result typed.new ≡ pasted_by replica point block.now }
 {
     match decoding::count(block) {
-        Counted::Malformed => untyped(replica, Answer::Refused(Refusal::NotUtf8)),
-        Counted::Characters(count) => {
-            let judged = block_judging::judge(
-                replica.site,
-                &replica.document.characters,
-                &replica.document.toggles,
-                replica.document.length,
-                &replica.document.pending,
-                replica.document.waiting,
-                &replica.document.table.heads,
-                &replica.document.table.links,
-                point,
-                count,
-            );
-            match judged {
+        None => untyped(replica, Answer::Refused(Refusal::NotUtf8)),
+        Some(count) => {
+            match block_judging::judge(&replica, point, count) {
                 Judged::Answered(answer) => untyped(replica, answer),
                 Judged::Enough => type_block(replica, point, block, count, typed),
             }

@@ -19,8 +19,7 @@ use Rattle.woot.specs.Ranges.{in_range}
 use Rattle.woot.specs.Placing.{held}
 use Rattle.woot.specs.Pending.{executable, earliest}
 use Rattle.lists.proofs.Tests.{and_left_lem, and_right}
-use Rattle.index.specs.declared.Found.{Found}
-use Rattle.index.specs.declared.Found.TheVariants.{At, Nothing}
+use Rattle.std.proofs.Common.{Option, Some, None}
 use Rattle.woot.specs.Table.{key, keys}
 use Rattle.index.specs.Keys.{Small, AllSmall, place_in, further, first_index}
 use Rattle.index.proofs.Indices.{index-here, place-keys}
@@ -34,31 +33,31 @@ use Rattle.memory.proofs.Operations.{range_keyed}
 
 module _ (ids fs ss : List ℕ) where
   -- what is found among the operations from i on
-  abbrev pub ready_left : ℕ → Found
+  abbrev pub ready_left : ℕ → Option ℕ
   ready_left i = further i (ready_in ids (drop i fs) (drop i ss))
 
   pub ready_start : ready_in ids fs ss ≡ ready_left 0
   ready_start = sym (further-none (ready_in ids fs ss))
 
   module _ (i : ℕ) (p : i < length fs) (q : i < length ss) where
-    step : ready_left i ≡ further i (cond (held_in ids (get_or fs i 0) && held_in ids (get_or ss i 0)) (At 0)
+    step : ready_left i ≡ further i (cond (held_in ids (get_or fs i 0) && held_in ids (get_or ss i 0)) (Some 0)
         (further 1 (ready_in ids (drop (suc i) fs) (drop (suc i) ss))))
     unfolding ready_in
     step = rw (drop-cons fs i 0 p, drop-cons ss i 0 q)
 
-    pub ready_here : held_in ids (get_or fs i 0) && held_in ids (get_or ss i 0) ≡ true → ready_left i ≡ At i
-    ready_here e = step ∙ rw e (ap At (omega arith))
+    pub ready_here : held_in ids (get_or fs i 0) && held_in ids (get_or ss i 0) ≡ true → ready_left i ≡ Some i
+    ready_here e = step ∙ rw e (ap Some (omega arith))
 
     pub ready_passed : held_in ids (get_or fs i 0) && held_in ids (get_or ss i 0) ≡ false → ready_left i ≡ ready_left (i + 1)
     ready_passed e = step ∙ rw (e, ← further-more, add-one i)
 
-  short : (xs ys : List ℕ) → min (length xs) (length ys) ≡ 0 → ready_in ids xs ys ≡ Nothing
+  short : (xs ys : List ℕ) → min (length xs) (length ys) ≡ 0 → ready_in ids xs ys ≡ None
   unfolding ready_in
   short [] ys e = refl
   short (x ∷ xs) [] e = refl
   short (x ∷ xs) (y ∷ ys) e = absurd (omega arith)
 
-  pub ready_none : (i : ℕ) → min (length fs) (length ss) ≤ i → ready_left i ≡ Nothing
+  pub ready_none : (i : ℕ) → min (length fs) (length ss) ≤ i → ready_left i ≡ None
   ready_none i h = ap (further i) (short (drop i fs) (drop i ss) (omega (arith, length-drop i fs, length-drop i ss)))
 
 -- ---- keys and what operations need
@@ -90,19 +89,19 @@ module _ (cs : List Character) (s : AllSmall cs) where
 
 module _ (p : Operation → Bool) where
   -- what a finding says of the earliest
-  abbrev Takes : List Operation → Found → Type 0
-  Takes ps (At j) = (d : Operation) → (j < length ps) × (earliest p ps ≡ some (record { operation = get_or ps j d; others = removed j ps }))
-  Takes ps Nothing = earliest p ps ≡ none
+  abbrev Takes : List Operation → Option ℕ → Type 0
+  Takes ps (Some j) = (d : Operation) → (j < length ps) × (earliest p ps ≡ some (record { operation = get_or ps j d; others = removed j ps }))
+  Takes ps None = earliest p ps ≡ none
 
   taken : (ps : List Operation) → Takes ps (first_index p ps)
   unfolding first_index earliest removed
   taken [] = refl
   taken (o ∷ ps) = go (p o) refl (first_index p ps) (taken ps)
     where
-      go : (b : Bool) → p o ≡ b → (r : Found) → Takes ps r → Takes (o ∷ ps) (cond b (At 0) (further 1 r))
+      go : (b : Bool) → p o ≡ b → (r : Option ℕ) → Takes ps r → Takes (o ∷ ps) (cond b (Some 0) (further 1 r))
       go true e r t = λ d. (omega arith, rw e)
-      go false e (At j) t = λ d. (omega (arith, (t d).0), rw (one-add j, e, (t d).1))
-      go false e Nothing t = rw (e, t)
+      go false e (Some j) t = λ d. (omega (arith, (t d).0), rw (one-add j, e, (t d).1))
+      go false e None t = rw (e, t)
 
-  pub takes : (ps : List Operation) (r : Found) → first_index p ps ≡ r → Takes ps r
+  pub takes : (ps : List Operation) (r : Option ℕ) → first_index p ps ≡ r → Takes ps r
   takes ps r e = subst (Takes ps) e (taken ps)

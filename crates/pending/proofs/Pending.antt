@@ -22,8 +22,7 @@ use Rattle.lists.proofs.Members.{keep-map}
 use Rattle.woot.specs.Table.{key}
 use Rattle.index.specs.Keys.{Small, found}
 use Rattle.index.proofs.Keys.{key-same, key-injective}
-use Rattle.index.specs.declared.Found.{Found}
-use Rattle.index.specs.declared.Found.TheVariants.{At, Nothing}
+use Rattle.std.proofs.Common.{Option, Some, None}
 use Rattle.woot.specs.Memory.{own_key, first_key, value_of}
 use Rattle.memory.proofs.Operations.{Keyed, AllKeyed}
 use Rattle.pending.specs.Counts.{sender_of, senders_of, has_toggle}
@@ -76,9 +75,9 @@ pub record InsertAt (x : Identifier) (os : List Operation) (n : ℕ) : Type 0 wh
   pub member : Memᴰ here (inserts os)
 
 -- an insert of x at the index found, or none among all
-abbrev pub Sought : Identifier → List Operation → Found → Type 0
-Sought x os (At n) = (n < length os) × InsertAt x os n
-Sought x os Nothing = any (λ j. same x j.id) (inserts os) ≡ false
+abbrev pub Sought : Identifier → List Operation → Option ℕ → Type 0
+Sought x os (Some n) = (n < length os) × InsertAt x os n
+Sought x os None = any (λ j. same x j.id) (inserts os) ≡ false
 
 member_inserts : (os : List Operation) {i : Insert} → Memᴰ (insert i) os → Memᴰ i (inserts os)
 member_inserts (insert j ∷ os) {i} (Memᴰ.head e) = Memᴰ.head (let q : i ≡ j = cc in q)
@@ -110,13 +109,13 @@ module _ (x : Identifier) (small : Small x) (positive : 0 < key x) where
   no-insert (toggle d ∷ os) a f = no-insert os (others_keyed a) (or-false-right (owns (toggle d)) _ f)
 
   -- what the search for x answers
-  pub sought : (os : List Operation) → AllKeyed os → {r : Found} → found (key x) (map own_key os) ≡ r → Sought x os r
+  pub sought : (os : List Operation) → AllKeyed os → {r : Option ℕ} → found (key x) (map own_key os) ≡ r → Sought x os r
   unfolding found
   sought os a {r} e = go r (first_says owns os (sym (first-map own_key (λ k. eqb (key x) k) os) ∙ e))
     where
-      go : (r : Found) → Says owns os r → Sought x os r
-      go (At n) f = (f.within, insert-at os a n f)
-      go Nothing f = no-insert os a f
+      go : (r : Option ℕ) → Says owns os r → Sought x os r
+      go (Some n) f = (f.within, insert-at os a n f)
+      go None f = no-insert os a f
 
 -- ---- a toggle
 

@@ -1,12 +1,14 @@
 -- A search in a list of numbers goes by what is left of it: one law for an element that is passed, one for the end.
 use mathlib.Core.Path.{◌≡◌, refl, sym, ◌∙◌}
-use mathlib.Core.Bool.{Bool, true, false, ◌&&◌, ◌||◌}
+use mathlib.Core.Bool.{Bool, true, false, ◌&&◌, ◌||◌, cond}
 use mathlib.Core.List.{List, [], ◌∷◌}
 use Prim.Native.Nat.{ℕ, zero, suc, ◌+◌, ◌≤◌, ◌-◌, ◌<◌, min}
 use native.Mathlib.Nat.{not-suc-le-zero, le_of_suc-le-suc}
 use native.Mathlib.Numerals.{add-one}
 use native.Mathlib.Omega.{arith}
 use borrow.Author.Tests.{eq-eqb, ne_eqb}
+use Rattle.std.specs.List.{count_by}
+use Rattle.std.proofs.lemmas.List.Recursion.{is_count_by}
 use lib.Dec.{eqb}
 use lib.ListN.{length, drop, get_or, drop_of_length-le, length-drop}
 use lib.Seq.{drop-cons}
@@ -103,3 +105,15 @@ module _ (k n : ℕ) (os fs ss : List ℕ) where
   toggle_none i h =
       short (drop i os) (drop i fs) (drop i ss)
       (rw (length-drop i os, length-drop i fs, length-drop i ss, min-less (length fs) (length ss) i) (none_left (length os) (min (length fs) (length ss)) i h))
+
+-- ---- the library's count
+
+-- what the library counts is what is kept
+module _ {A : Type 0} (p : A → Bool) where
+  one-more : (b : Bool) (x : A) (xs : List A) → length (cond b (x ∷ xs) xs) ≡ cond b (1 + length xs) (length xs)
+  one-more true x xs = omega arith
+  one-more false x xs = refl
+
+  pub keep-counted : (xs : List A) {n : ℕ} → n ≡ count_by p xs → n ≡ length (keep p xs)
+  keep-counted xs e =
+      e ∙ sym (is_count_by (λ (ys : List A). length (keep p ys)) p refl (λ y ys. one-more (p y) y (keep p ys)) xs)

@@ -8,13 +8,11 @@ use woot::CHARACTERS;
 
 // Who sends the operation with its own key and its value: an insert's key has the site above the clock, a toggle's
 // value the sender above the count.
+#[tactic(auto, unfolding(crate::specs::Counts::sender_of))]
 pub fn sender_of(own: u32, value: u32) -> u32
     ensures { result ≡ sender_of own value }
 {
-    if own == 0 {
-        return value / 256;
-    }
-    own / 65536
+    if own == 0 { value / 256 } else { own / 65536 }
 }
 
 // How many of the operations have the sender. There are as many as the shorter slice has.
@@ -22,14 +20,12 @@ pub fn count_sender<'a>(own: &'a [u32], values: &'a [u32], sender: u32) -> usize
     ensures { result
         ≡ length (keep (λ s. eqb s sender) (senders_of own.now values.now)) }
 {
-    let end = index::lesser(own.len(), values.len());
+    let end = own.len().min(values.len());
     let mut count = 0;
-    let mut i = 0;
-    while i < end {
+    for i in 0..end {
         if sender_of(own[i], values[i]) == sender {
             count += 1;
         }
-        i += 1;
     }
     count
 }
@@ -38,28 +34,14 @@ pub fn count_sender<'a>(own: &'a [u32], values: &'a [u32], sender: u32) -> usize
 pub fn count_inserts(own: &[u32]) -> usize
     ensures { result ≡ length (keep (λ k. not (eqb k 0)) own.now) }
 {
-    let mut count = 0;
-    let mut i = 0;
-    while i < own.len() {
-        if own[i] != 0 {
-            count += 1;
-        }
-        i += 1;
-    }
-    count
+    own.iter().filter(|key| **key != 0).count()
 }
 
 // Whether the numbers of an operation are those of a toggle of the key with the stamp.
 fn is_toggle(own: u32, first: u32, value: u32, key: u32, stamp: u32) -> bool
     ensures { result ≡ eqb own 0 && (eqb stamp value && eqb key first) }
 {
-    if own != 0 {
-        return false;
-    }
-    if stamp != value {
-        return false;
-    }
-    key == first
+    own == 0 && stamp == value && key == first
 }
 
 // Whether one of the operations is a toggle of the key with the stamp. There are as many as the shortest slice has.
@@ -72,13 +54,11 @@ pub fn has_toggle<'a>(
 ) -> bool
     ensures { result ≡ has_toggle key stamp own.now first.now values.now }
 {
-    let end = index::lesser(own.len(), index::lesser(first.len(), values.len()));
-    let mut i = 0;
-    while i < end {
+    let end = own.len().min(first.len().min(values.len()));
+    for i in 0..end {
         if is_toggle(own[i], first[i], values[i], key, stamp) {
             return true;
         }
-        i += 1;
     }
     false
 }
@@ -100,8 +80,5 @@ pub fn document_full(n: usize, own: &[u32], w: usize) -> bool
     requires { w ≤ length own.now }
     ensures { result ≡ leb capacity (n + length (keep (λ k. not (eqb k 0)) (take w own.now))) }
 {
-    if CHARACTERS <= n {
-        return true;
-    }
-    CHARACTERS - n <= count_inserts(&own[..w])
+    CHARACTERS <= n || CHARACTERS - n <= count_inserts(&own[..w])
 }

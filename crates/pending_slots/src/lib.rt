@@ -41,18 +41,18 @@ pub fn push(pending: &mut [u32], w: usize, operation: Operation)
     ensures pending_after_4 { value_column pending.new
         ≡ set (value_column pending.old) w (value_of operation) }
 {
-    slots::set_number(&mut pending[..PENDING], w, memory::own_key(operation));
-    slots::set_number(
+    slots::set(&mut pending[..PENDING], w, memory::own_key(operation));
+    slots::set(
         &mut pending[FIRST_KEYS..SECOND_KEYS],
         w,
         memory::first_key(operation),
     );
-    slots::set_number(
+    slots::set(
         &mut pending[SECOND_KEYS..VALUES],
         w,
         memory::second_key(operation),
     );
-    slots::set_number(
+    slots::set(
         &mut pending[VALUES..PENDING_NUMBERS],
         w,
         memory::value_of(operation),
@@ -73,10 +73,10 @@ pub fn remove(pending: &mut [u32], w: usize, j: usize)
     ensures pending_after_4 { value_column pending.new
         ≡ taken_at w j 0 (value_column pending.old) }
 {
-    slots::remove_number(&mut pending[..PENDING], w, j);
-    slots::remove_number(&mut pending[FIRST_KEYS..SECOND_KEYS], w, j);
-    slots::remove_number(&mut pending[SECOND_KEYS..VALUES], w, j);
-    slots::remove_number(&mut pending[VALUES..PENDING_NUMBERS], w, j);
+    slots::remove(&mut pending[..PENDING], w, j, 0);
+    slots::remove(&mut pending[FIRST_KEYS..SECOND_KEYS], w, j, 0);
+    slots::remove(&mut pending[SECOND_KEYS..VALUES], w, j, 0);
+    slots::remove(&mut pending[VALUES..PENDING_NUMBERS], w, j, 0);
 }
 
 // Internal step: the first w stay, and every slot behind them is 0. The calls have compared the count.
@@ -92,8 +92,8 @@ pub fn clear(pending: &mut [u32], w: usize)
     ensures pending_after_4 { value_column pending.new
         ≡ pad pending_slots 0 (take w (value_column pending.old)) }
 {
-    slots::clear_numbers(&mut pending[..PENDING], w);
-    slots::clear_numbers(&mut pending[FIRST_KEYS..SECOND_KEYS], w);
-    slots::clear_numbers(&mut pending[SECOND_KEYS..VALUES], w);
-    slots::clear_numbers(&mut pending[VALUES..PENDING_NUMBERS], w);
+    slots::clear(&mut pending[..PENDING], w, 0);
+    slots::clear(&mut pending[FIRST_KEYS..SECOND_KEYS], w, 0);
+    slots::clear(&mut pending[SECOND_KEYS..VALUES], w, 0);
+    slots::clear(&mut pending[VALUES..PENDING_NUMBERS], w, 0);
 }

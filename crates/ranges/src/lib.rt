@@ -11,16 +11,15 @@ ghost use Rattle.woot.specs.Ranges.{next_id, site_in_range, insert_in_range, tog
 use woot::{Character, Identifier, Insert, Operation, Site, Toggle};
 
 // Whether a number is one of a site.
+#[tactic(auto, unfolding(woot::specs::Ranges::site_number, utf8::specs::CodePoints::within))]
 pub fn site_number(n: u8) -> bool
     ensures { result ≡ site_number n }
 {
-    if n < 1 {
-        return false;
-    }
-    n <= 16
+    1 <= n && n <= 16
 }
 
 // Whether a clock is one of a character.
+#[tactic(auto, unfolding(utf8::specs::CodePoints::within))]
 pub fn character_clock(n: u16) -> bool
     ensures { result ≡ within 1 last_clock n }
 {
@@ -35,36 +34,30 @@ pub fn code_point(n: u32) -> bool
 }
 
 // Whether two identifiers are equal.
+#[tactic(auto, unfolding(woot::specs::Identifiers::same))]
 pub fn same_id(x: Identifier, y: Identifier) -> bool
     ensures { result ≡ same x y }
 {
-    if x.site != y.site {
-        return false;
-    }
-    x.clock == y.clock
+    x == y
 }
 
 // Whether an identifier is one of a character.
+#[tactic(auto, unfolding(woot::specs::Ranges::character_id))]
 pub fn character_id(x: Identifier) -> bool
     ensures { result ≡ character_id x }
 {
-    if !site_number(x.site) {
-        return false;
-    }
-    character_clock(x.clock)
+    site_number(x.site) && character_clock(x.clock)
 }
 
 // Whether an identifier is the mark that may stand at its place, or one of a character.
 fn neighbour_id(x: Identifier, mark: Identifier) -> bool
     ensures { result ≡ same x mark || character_id x }
 {
-    if same_id(x, mark) {
-        return true;
-    }
-    character_id(x)
+    same_id(x, mark) || character_id(x)
 }
 
 // Whether an identifier may stand as previous.
+#[tactic(auto, unfolding(woot::specs::Ranges::previous_id))]
 pub fn previous_id(x: Identifier) -> bool
     ensures { result ≡ previous_id x }
 {
@@ -72,6 +65,7 @@ pub fn previous_id(x: Identifier) -> bool
 }
 
 // Whether an identifier may stand as next.
+#[tactic(auto, unfolding(woot::specs::Ranges::next_id))]
 pub fn next_id(x: Identifier) -> bool
     ensures { result ≡ next_id x }
 {
@@ -79,45 +73,28 @@ pub fn next_id(x: Identifier) -> bool
 }
 
 // Whether refusal 2 lets an insert pass.
+#[tactic(auto, unfolding(woot::specs::Ranges::insert_in_range))]
 pub fn insert_in_range(i: Insert) -> bool
     ensures { result ≡ insert_in_range i }
 {
-    let id = i.id;
-    let previous = i.previous;
-    let next = i.next;
-    if !character_id(id) {
-        return false;
-    }
-    if !code_point(i.code_point) {
-        return false;
-    }
-    if !previous_id(previous) {
-        return false;
-    }
-    if !next_id(next) {
-        return false;
-    }
-    if same_id(id, previous) {
-        return false;
-    }
-    !same_id(id, next)
+    character_id(i.id)
+        && code_point(i.code_point)
+        && previous_id(i.previous)
+        && next_id(i.next)
+        && !same_id(i.id, i.previous)
+        && !same_id(i.id, i.next)
 }
 
 // Whether refusal 2 lets a toggle pass.
+#[tactic(auto, unfolding(woot::specs::Ranges::toggle_in_range, utf8::specs::CodePoints::within))]
 pub fn toggle_in_range(t: Toggle) -> bool
     ensures { result ≡ toggle_in_range t }
 {
-    if !site_number(t.sender) {
-        return false;
-    }
-    let target = t.target;
-    if !character_id(target) {
-        return false;
-    }
-    1 <= t.toggles
+    site_number(t.sender) && character_id(t.target) && 1 <= t.toggles
 }
 
 // Whether refusal 2 lets an operation pass.
+#[tactic(auto, unfolding(woot::specs::Ranges::in_range))]
 pub fn in_range(o: Operation) -> bool
     ensures { result ≡ in_range o }
 {
@@ -131,18 +108,16 @@ pub fn in_range(o: Operation) -> bool
 pub fn character_in_range(c: Character) -> bool
     ensures { result ≡ character_in_range c }
 {
-    let id = c.id;
-    let previous = c.previous;
-    let next = c.next;
     insert_in_range(Insert {
-        id,
+        id: c.id,
         code_point: c.code_point,
-        previous,
-        next,
+        previous: c.previous,
+        next: c.next,
     })
 }
 
 // Whether refusal 2 lets a site's number and clock pass.
+#[tactic(auto, unfolding(woot::specs::Ranges::site_in_range, utf8::specs::CodePoints::within))]
 pub fn site_in_range(s: Site) -> bool
     ensures { result ≡ site_in_range s }
 {

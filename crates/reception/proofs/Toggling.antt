@@ -32,7 +32,7 @@ use Rattle.convergence.proofs.Places.{held-id}
 use Rattle.convergence.proofs.Soundness.{unheld}
 use Rattle.convergence.proofs.Steps.{any-map}
 use Rattle.convergence.proofs.Named.{none_named, one-named}
-use Rattle.index.specs.declared.Found.TheVariants.{At}
+use Rattle.std.proofs.Common.{Some}
 use Rattle.index.specs.Keys.{first_index}
 use Rattle.memory.proofs.Operations.{range_keyed}
 use Rattle.pending.specs.Counts.{has_toggle}
@@ -87,7 +87,7 @@ module _ (r : Replica) (x : Examined r) (t : Toggle) (ranged : toggle_in_range t
     unfolding Decided changes in_range duplicate character_of
     again-decided v = (outcomes.known (meaning r) (toggle t) ranged (rw (reached, le-leb t.toggles here.toggles v)), refl)
 
-    pub toggle_decided : first_index (λ c. same t.target c.id) (meaning r).characters ≡ At k → get_or r.document.toggles k 0 < t.toggles
+    pub toggle_decided : first_index (λ c. same t.target c.id) (meaning r).characters ≡ Some k → get_or r.document.toggles k 0 < t.toggles
         → Decided r (toggle t) (toggleAt k)
     unfolding Decided in_range duplicate conflicting crossed unplaceable sender_full document_full executable character_of
     toggle_decided f v =

@@ -21,7 +21,7 @@ use Rattle.woot.specs.Calls.{Outcome, unchanged, insert_carried, carry_out, defe
 use Rattle.woot.specs.Table.{key}
 use Rattle.memory.specs.Columns.{Replica, meaning, replica_well_formed}
 use Rattle.convergence.specs.Invariants.{Sound}
-use Rattle.index.specs.declared.Found.TheVariants.{At}
+use Rattle.std.specs.Prelude.{Some}
 use Rattle.index.specs.Keys.{first_index}
 use Rattle.integration.specs.declared.Placement.{Placement}
 use Rattle.integration.specs.declared.Placement.TheVariants.{Missing, Crossed as crossing, Unplaceable as placeless}
@@ -74,7 +74,7 @@ pub record Placed (s : State) (i : Insert) (k : ℕ) : Type 0 where
 
 -- the target of a toggle is the character with index k, and no other
 pub record Target (s : State) (t : Toggle) (k : ℕ) : Type 0 where
-  pub at : first_index (λ c. same t.target c.id) s.characters ≡ At k
+  pub at : first_index (λ c. same t.target c.id) s.characters ≡ Some k
   pub apart : distinct same (identifiers s.characters) ≡ true
 
 -- what the rules answer and leave by a decision

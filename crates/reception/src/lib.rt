@@ -1,25 +1,27 @@
-// What is decided of a received operation, on lent arrays, before any of them is changed: the answer that changes
-// nothing, or what is to be done and where. The caller then edits each array where it lies.
+// What is decided of a received operation, on a replica that is lent, before it is changed: the answer that changes
+// nothing, or what is to be done and where. The caller then carries it out.
 #![tactic(auto)]
 
 ghost use Rattle.std.specs.Prelude.{◌≡◌, true, ◌≤◌, length, take};
 ghost use Rattle.woot.specs.declared.Operation.TheVariants.{Insert as ofInsert, Toggle as ofToggle};
 ghost use Rattle.woot.specs.Operations.{sender};
 ghost use Rattle.woot.specs.Ranges.{insert_in_range, toggle_in_range};
-ghost use Rattle.memory.specs.Lent.{replica_as, Sized};
+ghost use Rattle.memory.specs.Lent.{viewed, Full};
 ghost use Rattle.well_formed.specs.Examined.{Examined};
 ghost use Rattle.reception.specs.Decisions.{full_with, lacking_in, placed_in, absent_in, Judged};
 
 use answers::{Answer, Refusal};
 use holder::Seen;
-use index::{Found, table};
+use index::table;
 use integration::Placement;
 use pending::counts;
 use woot::{
     CHARACTERS, CODE_POINTS, FIRST_KEYS, Insert, NEXT_KEYS, Operation, PENDING, PENDING_NUMBERS,
-    PREVIOUS_KEYS, SECOND_KEYS, Site, Toggle, VALUES,
+    PREVIOUS_KEYS, Replica, SECOND_KEYS, Toggle, VALUES,
 };
 
+// What is to be done with a received operation. It stays an enum of four: one of them answers, and each of the others
+// says how it is carried out.
 #[derive(Clone, Copy)]
 pub enum Decision {
     // The answer that changes nothing: known, or a refusal.
@@ -125,35 +127,37 @@ fn absent<'a>(
 }
 
 // Decides on an insert: what it is to the replica is looked at before its place.
-fn decide_insert<'a>(
-    site: Site,
-    characters: &'a [u32],
-    toggles: &'a [u8],
-    n: usize,
-    pending: &'a [u32],
-    w: usize,
-    heads: &'a [u16],
-    links: &'a [u16],
-    insert: Insert,
-) -> Decision
-    requires sized { Sized characters.now toggles.now pending.now heads.now links.now }
+fn decide_insert(replica: &Replica, insert: Insert) -> Decision
+    requires full { Full replica.now }
     requires examined { Examined
-        (replica_as site characters.now toggles.now n pending.now w heads.now links.now) }
+        (viewed replica.now) }
     requires insert_value { insert_in_range insert ≡ true }
-    ensures { Judged (replica_as site characters.now toggles.now n
-        pending.now w heads.now links.now) (ofInsert insert) result }
+    ensures { Judged (viewed replica.now) (ofInsert insert) result }
 {
-    match holder::seen_by(
-        site, characters, toggles, n, pending, w, heads, links, insert,
-    ) {
+    let document = &replica.document;
+    match holder::seen_by(replica, insert) {
         Seen::New => {
-            let ids = &characters[0..CHARACTERS];
-            let previous = &characters[PREVIOUS_KEYS..NEXT_KEYS];
-            let next = &characters[NEXT_KEYS..CODE_POINTS];
-            let placement = integration::find_place(heads, links, ids, previous, next, n, insert);
-            let own = &pending[0..PENDING];
-            let values = &pending[VALUES..PENDING_NUMBERS];
-            placed(n, own, values, w, insert, placement)
+            let ids = &document.characters[0..CHARACTERS];
+            let previous = &document.characters[PREVIOUS_KEYS..NEXT_KEYS];
+            let next = &document.characters[NEXT_KEYS..CODE_POINTS];
+            let placement = integration::find_place(
+                &document.table,
+                ids,
+                previous,
+                next,
+                document.length,
+                insert,
+            );
+            let own = &document.pending[0..PENDING];
+            let values = &document.pending[VALUES..PENDING_NUMBERS];
+            placed(
+                document.length,
+                own,
+                values,
+                document.waiting,
+                insert,
+                placement,
+            )
         }
         Seen::Same => Decision::Answered(Answer::Duplicate),
         Seen::Other => Decision::Answered(Answer::Refused(Refusal::Conflict)),
@@ -161,71 +165,53 @@ fn decide_insert<'a>(
 }
 
 // Decides on a toggle: it is known where its target has as many toggles.
-fn decide_toggle<'a>(
-    site: Site,
-    characters: &'a [u32],
-    toggles: &'a [u8],
-    n: usize,
-    pending: &'a [u32],
-    w: usize,
-    heads: &'a [u16],
-    links: &'a [u16],
-    toggle: Toggle,
-) -> Decision
-    requires sized { Sized characters.now toggles.now pending.now heads.now links.now }
+fn decide_toggle(replica: &Replica, toggle: Toggle) -> Decision
+    requires full { Full replica.now }
     requires examined { Examined
-        (replica_as site characters.now toggles.now n pending.now w heads.now links.now) }
+        (viewed replica.now) }
     requires toggle_value { toggle_in_range toggle ≡ true }
-    ensures { Judged (replica_as site characters.now toggles.now n
-        pending.now w heads.now links.now) (ofToggle toggle) result }
+    ensures { Judged (viewed replica.now) (ofToggle toggle) result }
 {
+    let document = &replica.document;
     let target = toggle.target;
-    let ids = &characters[0..CHARACTERS];
-    match table::find_among(heads, links, ids, n, index::key(target)) {
-        Found::At(k) => {
-            if toggle.toggles <= toggles[k] {
+    let ids = &document.characters[0..CHARACTERS];
+    match table::find_among(&document.table, ids, document.length, index::key(target)) {
+        Some(k) => {
+            if toggle.toggles <= document.toggles[k] {
                 return Decision::Answered(Answer::Duplicate);
             }
             Decision::Toggle(k)
         }
-        Found::Nothing => {
-            let own = &pending[0..PENDING];
-            let first = &pending[FIRST_KEYS..SECOND_KEYS];
-            let values = &pending[VALUES..PENDING_NUMBERS];
-            absent(n, own, first, values, w, toggle)
+        None => {
+            let own = &document.pending[0..PENDING];
+            let first = &document.pending[FIRST_KEYS..SECOND_KEYS];
+            let values = &document.pending[VALUES..PENDING_NUMBERS];
+            absent(
+                document.length,
+                own,
+                first,
+                values,
+                document.waiting,
+                toggle,
+            )
         }
     }
 }
 
 // Internal step: what is to be done with a received operation: its ranges are looked at, then the form of the replica
-// with these arrays, and then what the operation is to it. The calls lend arrays of these sizes.
-pub fn judge<'a>(
-    site: Site,
-    characters: &'a [u32],
-    toggles: &'a [u8],
-    n: usize,
-    pending: &'a [u32],
-    w: usize,
-    heads: &'a [u16],
-    links: &'a [u16],
-    operation: Operation,
-) -> Decision
-    requires { Sized characters.now toggles.now pending.now heads.now links.now }
-    ensures { Judged (replica_as site characters.now toggles.now n
-        pending.now w heads.now links.now) operation result }
+// and then what the operation is to it.
+pub fn decide(replica: &Replica, operation: Operation) -> Decision
+    requires { Full replica.now }
+    ensures { Judged (viewed replica.now) operation result }
 {
     if !ranges::in_range(operation) {
         return Decision::Answered(Answer::Refused(Refusal::Range));
     }
-    if !well_formed::check(site, characters, toggles, n, pending, w, heads, links) {
+    if !well_formed::is_well_formed(replica) {
         return Decision::Answered(Answer::Refused(Refusal::Form));
     }
     match operation {
-        Operation::Insert(insert) => decide_insert(
-            site, characters, toggles, n, pending, w, heads, links, insert,
-        ),
-        Operation::Toggle(toggle) => decide_toggle(
-            site, characters, toggles, n, pending, w, heads, links, toggle,
-        ),
+        Operation::Insert(insert) => decide_insert(replica, insert),
+        Operation::Toggle(toggle) => decide_toggle(replica, toggle),
     }
 }

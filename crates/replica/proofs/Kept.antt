@@ -7,8 +7,6 @@ use mathlib.Core.Logic.{◌⊎◌, inl, inr, ⊎_elim}
 use Rattle.woot.specs.declared.Replica.{Replica}
 use Rattle.answers.specs.declared.Answer.{Answer}
 use Rattle.answers.specs.declared.Answer.TheVariants.{Done, Deferred, Duplicate, Refused}
-use Rattle.woot.specs.declared.Sent.{Sent}
-use Rattle.woot.specs.declared.Sent.TheVariants.{Done as sentDone, Refused as sentRefused}
 use Rattle.woot.specs.State.{State, initial}
 use Rattle.woot.specs.Memory.{meaning, stored, replica_well_formed}
 use Rattle.woot.specs.Form.{well_formed}
@@ -28,6 +26,8 @@ use Rattle.convergence.proofs.Replies.{receive_does, receive-waits, receive-at_d
 use Rattle.woot.specs.Replicas.{after_answer, after_sent, receipt, receipt_at, generated, received, received_at, inserted, deleted, restored}
 use Rattle.replica.specs.Theorems.{called, answer_to, ReplicasFormed, AcceptedFormed, EmptyReplicaFormed, InsertNeverTaken}
 use Rattle.replica.proofs.Runs.{formed-within, form_meant, form_stored, initial-within}
+use Rattle.std.proofs.Common.{Ok, Err}
+use Rattle.woot.specs.Sent.{Sending}
 
 -- what is stored of a state in form is in form
 stored-formed : (s : State) → well_formed s ≡ true → replica_well_formed (stored s) ≡ true
@@ -40,10 +40,10 @@ answer-formed r s Deferred f h = stored-formed s h
 answer-formed r s Duplicate f h = f
 answer-formed r s (Refused q) f h = f
 
-sent-formed : (r : Replica) (s : State) (a : Sent) → replica_well_formed r ≡ true → well_formed s ≡ true → replica_well_formed (after_sent r s a) ≡ true
+sent-formed : (r : Replica) (s : State) (a : Sending) → replica_well_formed r ≡ true → well_formed s ≡ true → replica_well_formed (after_sent r s a) ≡ true
 unfolding after_sent
-sent-formed r s (sentDone o n m) f h = stored-formed s h
-sent-formed r s (sentRefused q) f h = f
+sent-formed r s (Ok x) f h = stored-formed s h
+sent-formed r s (Err q) f h = f
 
 -- the form of a replica in form is that of what it says
 same_form : (r : Replica) → replica_well_formed r ≡ true → well_formed (meaning r) ≡ replica_well_formed r
@@ -78,10 +78,10 @@ changing Duplicate e = absurd (false≢true e)
 changing (Refused q) e = absurd (false≢true e)
 
 -- of a call that sends it is done
-sent_changing : (a : Sent) → changes (answer_of a) ≡ true → (reply (answer_of a)).word ≡ done
+sent_changing : (a : Sending) → changes (answer_of a) ≡ true → (reply (answer_of a)).word ≡ done
 unfolding changes reply answer_of
-sent_changing (sentDone o n m) e = refl
-sent_changing (sentRefused q) e = absurd (false≢true e)
+sent_changing (Ok x) e = refl
+sent_changing (Err q) e = absurd (false≢true e)
 
 -- then condition 3 did not hold
 accepted_form : (r : Replica) (c : Call) → changes (answer_to r c) ≡ true → replica_well_formed r ≡ true

@@ -11,8 +11,6 @@ use Rattle.woot.specs.declared.Operation.{Operation}
 use Rattle.woot.specs.declared.Operation.TheVariants.{Insert as insert, Toggle as toggle}
 use Rattle.answers.specs.declared.Answer.{Answer}
 use Rattle.answers.specs.declared.Answer.TheVariants.{Done, Deferred, Duplicate, Refused}
-use Rattle.woot.specs.declared.Sent.{Sent}
-use Rattle.woot.specs.declared.Sent.TheVariants.{Done as sentDone, Refused as sentRefused}
 use Rattle.woot.specs.declared.Replica.{Replica}
 use Rattle.woot.specs.declared.Receipt.{Receipt}
 use Rattle.woot.specs.declared.Generated.{Generated}
@@ -22,25 +20,20 @@ use Rattle.woot.specs.Calls.{Outcome, unchanged, all_integrated, carry_out, defe
 use Rattle.woot.specs.Memory as memory
 use Rattle.woot.specs.Replicas.{after_answer, after_sent, receipt, generated, received, inserted, deleted, restored}
 use Rattle.memory.specs.Columns as columns
-use Rattle.memory.specs.Lent.{Sized, viewed}
+use Rattle.memory.specs.Lent.{viewed}
 use Rattle.memory.proofs.Fullness.{FullArrays}
 use Rattle.memory.proofs.Views.{columns-whole, flat-path, meaning-view, form_view}
 use Rattle.reception.specs.declared.Decision.{Decision}
 use Rattle.reception.specs.declared.Decision.TheVariants.{Answered, Defer, Place, Toggle as toggleAt}
-use Rattle.generation.specs.declared.Made.{Made}
-use Rattle.generation.specs.declared.Made.TheVariants.{Refused as madeNothing, Send}
 use Rattle.reception.specs.Decisions.{outcome_of, Executed, Feasible, Judged}
 use Rattle.generation.specs.Decisions.{MadeFor, InsertMade, DeleteMade, RestoreMade}
 use Rattle.execution.specs.Outcomes.{Left, left_of, left_by, answer_by}
 use Rattle.replica.specs.Outcomes.{Sendable, sent_by}
+use Rattle.std.proofs.Common.{Ok, Err}
+use Rattle.woot.specs.Sent.{Sending, sends}
+use Rattle.generation.specs.Made.{Made}
 
 -- ---- arrays that have the columns of others, and of a state
-
--- arrays that keep their lengths
-pub sized_still : {cs ts ps hs ls ds us qs is ms : List ℕ} → Sized cs ts ps hs ls → length ds ≡ length cs → length us ≡ length ts
-    → length qs ≡ length ps → length is ≡ length hs → length ms ≡ length ls → Sized ds us qs is ms
-sized_still s c t p h l =
-    record { characters = c ∙ s.characters; toggles = t ∙ s.toggles; pending = p ∙ s.pending; heads = h ∙ s.heads; links = l ∙ s.links }
 
 module _ (b : Replica) (full : FullArrays b.document) where
   pub whole : (s : State) → viewed b ≡ columns.stored s → b ≡ memory.stored s
@@ -115,16 +108,16 @@ module _ (r b : Replica) (also : FullArrays r.document) (full : FullArrays b.doc
 
   pub sent_so : (o : Operation) (d : Decision) (n m : ℕ) → Executed (viewed r) o d
       → ◌≡◌ {A = Left} (record { replica = viewed b; integrated = n; discarded = m }) (left_by (viewed r) o d)
-      → ◌≡◌ {A = Generated} (record { answer = sentDone o n m; replica = b }) (generated r (carry_out (sentDone o) (memory.meaning r) o))
+      → ◌≡◌ {A = Generated} (record { answer = sends o n m; replica = b }) (generated r (carry_out (sends o) (memory.meaning r) o))
   unfolding Executed left_by left_of generated carry_out all_integrated after_sent memory.meaning columns.meaning memory.characters_in columns.characters_in memory.operations_in columns.operations_in
   sent_so o (Answered a) n m h e = absurd h
   sent_so o Defer n m h e = absurd h
   sent_so (insert i) (Place k) n m h e =
-      λ j. record { answer = sentDone (insert i) (e j).integrated (e j).discarded; replica = whole b full _ (ap (λ (l : Left). l.replica) e) j }
+      λ j. record { answer = sends (insert i) (e j).integrated (e j).discarded; replica = whole b full _ (ap (λ (l : Left). l.replica) e) j }
   sent_so (toggle t) (Place k) n m h e = absurd h
   sent_so (insert i) (toggleAt k) n m h e = absurd h
   sent_so (toggle t) (toggleAt k) n m h e =
-      λ j. record { answer = sentDone (toggle t) (e j).integrated (e j).discarded; replica = whole b full _ (ap (λ (l : Left). l.replica) e) j }
+      λ j. record { answer = sends (toggle t) (e j).integrated (e j).discarded; replica = whole b full _ (ap (λ (l : Left). l.replica) e) j }
 
 -- what is carried out can be
 pub executed_feasible : (r : Replica) (o : Operation) (d : Decision) → Executed (viewed r) o d → Feasible (viewed r) o d
@@ -137,16 +130,16 @@ executed_feasible r o (toggleAt k) h = h
 -- ---- what the calls answer
 
 module _ (r : Replica) where
-  module _ (w : Outcome Sent) where
+  module _ (w : Outcome Sending) where
     pub sendable : (m : Made) → MadeFor (viewed r) w m → Sendable (viewed r) m
     unfolding MadeFor Sendable
-    sendable (madeNothing q) h = tt
-    sendable (Send o d) h = h.1
+    sendable (Err q) h = tt
+    sendable (Ok (o, d)) h = h.1
 
     made_answer : (m : Made) → MadeFor (viewed r) w m → sent_by r m ≡ generated r w
     unfolding MadeFor sent_by generated unchanged after_sent
-    made_answer (madeNothing q) h = sym (ap (generated r) h)
-    made_answer (Send o d) h = rw (meaning-view r) (sym (ap (generated r) h.0))
+    made_answer (Err q) h = sym (ap (generated r) h)
+    made_answer (Ok (o, d)) h = rw (meaning-view r) (sym (ap (generated r) h.0))
 
   -- the calls on the columns of a replica
   pub insert_so : (g n : ℕ) (m : Made) → InsertMade (viewed r) g n m → sent_by r m ≡ inserted r g n

@@ -15,8 +15,6 @@ use Rattle.woot.specs.declared.Replica.{Replica}
 use Rattle.answers.specs.declared.Refusal.{Refusal}
 use Rattle.answers.specs.declared.Answer.{Answer}
 use Rattle.answers.specs.declared.Answer.TheVariants.{Done, Deferred, Duplicate, Refused}
-use Rattle.woot.specs.declared.Sent.{Sent}
-use Rattle.woot.specs.declared.Sent.TheVariants.{Done as sentDone, Refused as sentRefused}
 use Rattle.woot.specs.State.{State, initial, blank_character}
 use Rattle.woot.specs.Memory.{character_slots, pending_slots, meaning, document_of, stored, counted, table_agrees}
 use Rattle.woot.specs.Table.{keys, agrees}
@@ -46,6 +44,8 @@ use Rattle.convergence.proofs.Convergence.{convergence}
 use Rattle.woot.specs.Replicas.{after_answer, after_sent, receipt, receipt_at, generated, received, received_at, inserted, deleted, restored}
 use Rattle.replica.specs.Texts.{text_of}
 use Rattle.replica.specs.Theorems.{called, ran, ReplicasFollow, ReplicasConverge}
+use Rattle.std.proofs.Common.{Ok, Err}
+use Rattle.woot.specs.Sent.{Sending}
 
 -- the lists are within the arrays, and what they hold within the numbers
 pub record Within (s : State) : Type 0 where
@@ -104,10 +104,10 @@ answer-stored s t Deferred k f = refl
 answer-stored s t Duplicate k f = ap stored (sym (k refl))
 answer-stored s t (Refused r) k f = ap stored (sym (f r refl))
 
-sent-stored : (s t : State) (a : Sent) → ((r : Refusal) → a ≡ sentRefused r → t ≡ s) → after_sent (stored s) t a ≡ stored t
+sent-stored : (s t : State) (a : Sending) → ((r : Refusal) → a ≡ Err r → t ≡ s) → after_sent (stored s) t a ≡ stored t
 unfolding after_sent
-sent-stored s t (sentDone o n m) f = refl
-sent-stored s t (sentRefused r) f = ap stored (sym (f r refl))
+sent-stored s t (Ok x) f = refl
+sent-stored s t (Err r) f = ap stored (sym (f r refl))
 
 -- a refused call leaves the state
 refused-state : (s : State) (c : Call) (r : Refusal) → (outcome s c).answer ≡ Refused r → (outcome s c).state ≡ s

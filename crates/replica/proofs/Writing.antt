@@ -1,4 +1,5 @@
 -- The two parts of what writing the visible text promises, and the columns that hold the text.
+use Rattle.std.proofs.Common.{Err}
 use Prim.Native.Nat.{ℕ}
 use mathlib.Core.Path.{◌≡◌, refl, sym, ◌∙◌}
 use mathlib.Core.Bool.{true, false}
@@ -6,7 +7,6 @@ use mathlib.Core.List.{List, []}
 use lib.ListN.{take}
 use Rattle.woot.specs.declared.Replica.{Replica}
 use Rattle.answers.specs.declared.Refusal.TheVariants.{Form}
-use Rattle.woot.specs.declared.Written.TheVariants.{Refused}
 use Rattle.woot.specs.Text.{text}
 use Rattle.woot.specs.Writing.{written_as, output_after}
 use Rattle.woot.specs.Memory.{meaning, replica_well_formed, characters_in, operations_in, code_points_of, toggle_counts}
@@ -26,9 +26,9 @@ module _ (r : Replica) where
   formed-text out e = own-none (text_checks r) (text_of r) out (rw e refl)
 
   -- of one that is not
-  pub unformed_text : (out : List ℕ) → replica_well_formed r ≡ false → (Refused Form ≡ text_written r out) × (out ≡ text_out r out)
+  pub unformed_text : (out : List ℕ) → replica_well_formed r ≡ false → (Err Form ≡ text_written r out) × (out ≡ text_out r out)
   unfolding text_written text_out text_checks
-  unformed_text out e = let w = own_first (text_checks r) (Refused Form) (text_of r) out (rw e refl) in (sym w.0, sym w.1)
+  unformed_text out e = let w = own_first (text_checks r) (Err Form) (text_of r) out (rw e refl) in (sym w.0, sym w.1)
 
   module _ (x : Examined (viewed r)) where
     pub written-points : code_points_of (columns.meaning (viewed r)).characters ≡ take r.document.length (viewed r).document.code_points

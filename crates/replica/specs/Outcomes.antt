@@ -1,7 +1,6 @@
 -- For the proofs of the code alone: the replica that lies in lent arrays, what is made here, and the answer to it.
-use Rattle.std.specs.Prelude.{ℕ, List}
+use Rattle.std.specs.Prelude.{ℕ, List, Ok, Err}
 use Rattle.woot.specs.declared.Site.{Site}
-use Rattle.woot.specs.declared.Sent.TheVariants.{Done as sentDone, Refused as sentRefused}
 use Rattle.woot.specs.declared.Generated.{Generated}
 use Rattle.woot.specs.declared.Replica.{Replica as InMemory}
 use Rattle.woot.specs.Memory as memory
@@ -9,9 +8,8 @@ use Rattle.woot.specs.Replicas.{generated}
 use Rattle.woot.specs.Calls.{carry_out}
 use Rattle.memory.specs.Columns.{Replica}
 use Rattle.reception.specs.Decisions.{Executed}
-use Rattle.generation.specs.declared.Made.{Made}
-use Rattle.generation.specs.declared.Made.TheVariants.{Refused, Send}
-use Rattle.replica.specs.declared.SentOn.{SentOn}
+use Rattle.woot.specs.Sent.{sends}
+use Rattle.generation.specs.Made.{Made}
 
 -- the replica in memory that a site, lent arrays and counts make
 abbrev pub replica_lent : Site → List ℕ → List ℕ → ℕ → List ℕ → ℕ → List ℕ → List ℕ → InMemory
@@ -30,18 +28,10 @@ replica_lent site characters toggles n pending w heads links =
 
 -- it can be carried out where it goes
 unfoldable pub Sendable : Replica → Made → Type 0
-Sendable r (Refused q) = Unit
-Sendable r (Send o d) = Executed r o d
+Sendable r (Err q) = Unit
+Sendable r (Ok (o, d)) = Executed r o d
 
 -- the answer to what is made, with the replica that is left
 unfoldable pub sent_by : InMemory → Made → Generated
-sent_by r (Refused q) = record { answer = sentRefused q; replica = r }
-sent_by r (Send o d) = generated r (carry_out (sentDone o) (memory.meaning r) o)
-
--- the same of what lies in lent arrays once it was carried out
-abbrev pub sent_in : List ℕ → List ℕ → List ℕ → List ℕ → List ℕ → SentOn → Generated
-sent_in characters toggles pending heads links x =
-    record {
-      answer = x.answer;
-      replica = replica_lent x.site characters toggles x.length pending x.waiting heads links;
-    }
+sent_by r (Err q) = record { answer = Err q; replica = r }
+sent_by r (Ok (o, d)) = generated r (carry_out (sends o) (memory.meaning r) o)

@@ -1,10 +1,9 @@
 -- Demand 3 for replicas in memory: lists of the calls whose contracts cite `received`, `receivedAt`, `inserted`,
 -- `deleted` and `restored`.
-use Rattle.std.specs.Prelude.{ℕ, ◌≡◌, true, List, [], ◌∷◌}
+use Rattle.std.specs.Prelude.{ℕ, ◌≡◌, true, List, [], ◌∷◌, Err}
 use Rattle.woot.specs.declared.Replica.{Replica}
 use Rattle.answers.specs.declared.Answer.{Answer}
 use Rattle.answers.specs.declared.Refusal.TheVariants.{Taken}
-use Rattle.woot.specs.declared.Sent.TheVariants.{Refused as sentRefused}
 use Rattle.woot.specs.State.{initial}
 use Rattle.woot.specs.Memory.{meaning, stored, replica_well_formed}
 use Rattle.woot.specs.Ranges.{site_number}
@@ -57,7 +56,7 @@ ReplicasFollow = (b : Begun) (cs : List Call) → ran (stored (start_of b)) cs �
 
 -- document 02, Req 04: `replica::insert` never answers refusal 6, whatever replica it is handed
 abbrev pub InsertNeverTaken : Type 0
-InsertNeverTaken = (r : Replica) (g n : ℕ) → (inserted r g n).answer ≡ sentRefused Taken → ⊥
+InsertNeverTaken = (r : Replica) (g n : ℕ) → (inserted r g n).answer ≡ Err Taken → ⊥
 
 -- demand 3: the same inserts carried out and for each the same largest count of toggles give equal characters and equal
 -- visible bytes

@@ -2,8 +2,6 @@
 // is asked is looked at on the replica's arrays and decided on, and then carried out where they lie.
 #![tactic(auto)]
 
-pub mod copying;
-
 ghost use Rattle.std.specs.Prelude.{◌≡◌, List, [], ◌≤◌, length, take};
 ghost use Rattle.woot.specs.declared.Character.{Character};
 ghost use Rattle.woot.specs.Memory.{replica_well_formed};
@@ -11,174 +9,68 @@ ghost use Rattle.woot.specs.Memory.{character_numbers, character_slots, code_poi
 ghost use Rattle.woot.specs.Text.{text};
 ghost use Rattle.woot.specs.Writing.{written_as, output_after};
 ghost use Rattle.woot.specs.Replicas.{received, inserted, deleted, restored};
-ghost use Rattle.memory.specs.Lent.{replica_as, Sized, viewed};
-ghost use Rattle.replica.specs.Outcomes.{replica_lent, Sendable, sent_by, sent_in};
+ghost use Rattle.memory.specs.Lent.{viewed, Full};
+ghost use Rattle.replica.specs.Outcomes.{Sendable, sent_by};
 ghost use Rattle.replica.specs.Texts.{text_written, text_out};
 
 use answers::Refusal;
-use generation::Made;
+use reception::Decision;
 use woot::{
-    CHARACTER_NUMBERS, CODE_POINTS, Document, Generated, Identifier, Operation, Receipt, Replica,
-    Sent, Site, Table, Written,
+    CHARACTER_NUMBERS, CODE_POINTS, Generated, Identifier, Operation, Receipt, Replica, Sent,
 };
 
 // Whether a replica is well formed. (Document 01: in form.)
 pub fn well_formed(replica: Replica) -> bool
     ensures { result ≡ replica_well_formed replica }
 {
-    well_formed::check(
-        replica.site,
-        &replica.document.characters,
-        &replica.document.toggles,
-        replica.document.length,
-        &replica.document.pending,
-        replica.document.waiting,
-        &replica.document.table.heads,
-        &replica.document.table.links,
-    )
+    well_formed::is_well_formed(&replica)
 }
 
 // Receives an operation. (Document 01: receiving.)
 pub fn receive(replica: Replica, operation: Operation) -> Receipt
     ensures { result ≡ received replica operation }
 {
-    let mut characters = replica.document.characters;
-    let mut toggles = replica.document.toggles;
-    let mut pending = replica.document.pending;
-    let mut heads = replica.document.table.heads;
-    let mut links = replica.document.table.links;
-    let decision = reception::judge(
-        replica.site,
-        &characters,
-        &toggles,
-        replica.document.length,
-        &pending,
-        replica.document.waiting,
-        &heads,
-        &links,
-        operation,
-    );
-    let carried = execution::carry(
-        &mut characters,
-        &mut toggles,
-        &mut pending,
-        &mut heads,
-        &mut links,
-        replica.site,
-        replica.document.length,
-        replica.document.waiting,
-        operation,
-        decision,
-    );
-    let answer = execution::answer(decision, carried.integrated, carried.discarded);
-    let site = carried.site;
     let mut after = replica;
-    after.site = site;
-    after.document.length = carried.length;
-    after.document.waiting = carried.waiting;
-    copying::put_characters(&mut after.document.characters, &characters);
-    copying::put_toggles(&mut after.document.toggles, &toggles);
-    copying::put_pending(&mut after.document.pending, &pending);
-    copying::put_heads(&mut after.document.table.heads, &heads);
-    copying::put_links(&mut after.document.table.links, &links);
+    let decision = reception::decide(&after, operation);
+    let counts = execution::carry_out(&mut after, operation, decision);
+    let answer = execution::answer(decision, counts);
     Receipt {
         answer,
         replica: after,
     }
 }
 
-// What stands beside the arrays once an operation that was made here was carried out on them: the answer, the site, and
-// how many characters and pending operations there are.
-#[derive(Clone, Copy)]
-pub struct SentOn {
-    pub answer: Sent,
-    pub site: Site,
-    pub length: usize,
-    pub waiting: usize,
-}
-
-// Internal step: carries out on lent arrays an operation that was made here and answers it with the counts, or answers
-// the refusal. The calls lend arrays of these sizes and have judged on them.
-pub fn carry_made(
-    characters: &mut [u32],
-    toggles: &mut [u8],
-    pending: &mut [u32],
-    heads: &mut [u16],
-    links: &mut [u16],
-    site: Site,
-    n: usize,
-    w: usize,
-    made: Made,
-) -> SentOn
-    requires sized { Sized characters.old toggles.old pending.old heads.old links.old }
-    requires sendable { Sendable (replica_as site characters.old toggles.old n pending.old w heads.old links.old)
-        made }
-    ensures { sent_in characters.new toggles.new pending.new heads.new
-        links.new result
-        ≡ sent_by (replica_lent site characters.old toggles.old n pending.old w
-        heads.old links.old) made }
+// Internal step: carries out on a replica an operation that was made here and answers it with the counts, or answers
+// the refusal. The calls have judged on the same replica.
+pub fn send_made(
+    replica: &mut Replica,
+    made: Result<(Operation, Decision), Refusal>,
+) -> Result<Sent, Refusal>
+    requires full { Full replica.old }
+    requires sendable { Sendable (viewed replica.old) made }
+    ensures full_after { Full replica.new }
+    ensures value { record { answer = result; replica = replica.new } ≡ sent_by replica.old made }
 {
     match made {
-        Made::Refused(refusal) => SentOn {
-            answer: Sent::Refused(refusal),
-            site,
-            length: n,
-            waiting: w,
-        },
-        Made::Send(operation, decision) => {
-            let carried = execution::carry(
-                characters, toggles, pending, heads, links, site, n, w, operation, decision,
-            );
-            let answer = Sent::Done {
+        Err(refusal) => Err(refusal),
+        Ok((operation, decision)) => {
+            let counts = execution::carry_out(replica, operation, decision);
+            Ok(Sent {
                 operation,
-                integrated: carried.integrated,
-                discarded: carried.discarded,
-            };
-            let after = carried.site;
-            SentOn {
-                answer,
-                site: after,
-                length: carried.length,
-                waiting: carried.waiting,
-            }
+                integrated: counts.integrated,
+                discarded: counts.discarded,
+            })
         }
     }
 }
 
 // The same on a replica that goes by value.
-fn send(replica: Replica, made: Made) -> Generated
+fn send(replica: Replica, made: Result<(Operation, Decision), Refusal>) -> Generated
     requires { Sendable (viewed replica) made }
     ensures { result ≡ sent_by replica made }
 {
-    let mut characters = replica.document.characters;
-    let mut toggles = replica.document.toggles;
-    let mut pending = replica.document.pending;
-    let mut heads = replica.document.table.heads;
-    let mut links = replica.document.table.links;
-    let sent = carry_made(
-        &mut characters,
-        &mut toggles,
-        &mut pending,
-        &mut heads,
-        &mut links,
-        replica.site,
-        replica.document.length,
-        replica.document.waiting,
-        made,
-    );
-    let answer = sent.answer;
-    let site = sent.site;
-    let document = Document {
-        characters,
-        toggles,
-        length: sent.length,
-        pending,
-        waiting: sent.waiting,
-        table: Table { heads, links },
-    };
     let mut after = replica;
-    after.site = site;
-    after.document = document;
+    let answer = send_made(&mut after, made);
     Generated {
         answer,
         replica: after,
@@ -190,18 +82,7 @@ fn send(replica: Replica, made: Made) -> Generated
 pub fn insert(replica: Replica, point: usize, code_point: u32) -> Generated
     ensures { result ≡ inserted replica point code_point }
 {
-    let made = generation::judge_insert(
-        replica.site,
-        &replica.document.characters,
-        &replica.document.toggles,
-        replica.document.length,
-        &replica.document.pending,
-        replica.document.waiting,
-        &replica.document.table.heads,
-        &replica.document.table.links,
-        point,
-        code_point,
-    );
+    let made = generation::decide_insert(&replica, point, code_point);
     send(replica, made)
 }
 
@@ -210,17 +91,7 @@ pub fn insert(replica: Replica, point: usize, code_point: u32) -> Generated
 pub fn delete(replica: Replica, place: usize) -> Generated
     ensures { result ≡ deleted replica place }
 {
-    let made = generation::judge_delete(
-        replica.site,
-        &replica.document.characters,
-        &replica.document.toggles,
-        replica.document.length,
-        &replica.document.pending,
-        replica.document.waiting,
-        &replica.document.table.heads,
-        &replica.document.table.links,
-        place,
-    );
+    let made = generation::decide_delete(&replica, place);
     send(replica, made)
 }
 
@@ -229,23 +100,18 @@ pub fn delete(replica: Replica, place: usize) -> Generated
 pub fn restore(replica: Replica, id: Identifier) -> Generated
     ensures { result ≡ restored replica id }
 {
-    let made = generation::judge_restore(
-        replica.site,
-        &replica.document.characters,
-        &replica.document.toggles,
-        replica.document.length,
-        &replica.document.pending,
-        replica.document.waiting,
-        &replica.document.table.heads,
-        &replica.document.table.links,
-        id,
-    );
+    let made = generation::decide_restore(&replica, id);
     send(replica, made)
 }
 
 // Writes the text of the first n characters of a replica that is well formed. The column of their code points is a part
 // of the array.
-fn write_text<'a>(characters: &'a [u32], toggles: &'a [u8], n: usize, out: &mut [u8]) -> Written
+fn write_text<'a>(
+    characters: &'a [u32],
+    toggles: &'a [u8],
+    n: usize,
+    out: &mut [u8],
+) -> Result<usize, Refusal>
     requires characters_len { length characters.now ≡ character_numbers }
     requires toggles_len { length toggles.now ≡ character_slots }
     requires n_le_character_slots { n ≤ character_slots }
@@ -259,44 +125,28 @@ fn write_text<'a>(characters: &'a [u32], toggles: &'a [u8], n: usize, out: &mut 
     visible::write_text(&characters[CODE_POINTS..CHARACTER_NUMBERS], toggles, n, out)
 }
 
-// Internal step: the visible text of the replica in lent arrays. The calls lend arrays of these sizes.
-pub fn visible_text_in<'a>(
-    site: Site,
-    characters: &'a [u32],
-    toggles: &'a [u8],
-    n: usize,
-    pending: &'a [u32],
-    w: usize,
-    heads: &'a [u16],
-    links: &'a [u16],
-    out: &mut [u8],
-) -> Written
-    requires { Sized characters.now toggles.now pending.now heads.now links.now }
-    ensures value { result ≡ text_written (replica_lent site characters.now toggles.now n
-        pending.now w heads.now links.now) out.old }
-    ensures out_after { out.new ≡ text_out (replica_lent site characters.now toggles.now n
-        pending.now w heads.now links.now) out.old }
+// Internal step: the visible text of a replica that is lent.
+pub fn visible_text_in(replica: &Replica, out: &mut [u8]) -> Result<usize, Refusal>
+    requires { Full replica.now }
+    ensures value { result ≡ text_written replica.now out.old }
+    ensures out_after { out.new ≡ text_out replica.now out.old }
 {
-    if !well_formed::check(site, characters, toggles, n, pending, w, heads, links) {
-        return Written::Refused(Refusal::Form);
+    if !well_formed::is_well_formed(replica) {
+        return Err(Refusal::Form);
     }
-    write_text(characters, toggles, n, out)
+    let document = &replica.document;
+    write_text(
+        &document.characters,
+        &document.toggles,
+        document.length,
+        out,
+    )
 }
 
 // The visible text of a replica as UTF-8 into the slice: its length, or refusal 3 or 12, and then no byte is changed.
-pub fn visible_text(replica: Replica, out: &mut [u8]) -> Written
+pub fn visible_text(replica: Replica, out: &mut [u8]) -> Result<usize, Refusal>
     ensures value { result ≡ text_written replica out.old }
     ensures out_after { out.new ≡ text_out replica out.old }
 {
-    visible_text_in(
-        replica.site,
-        &replica.document.characters,
-        &replica.document.toggles,
-        replica.document.length,
-        &replica.document.pending,
-        replica.document.waiting,
-        &replica.document.table.heads,
-        &replica.document.table.links,
-        out,
-    )
+    visible_text_in(&replica, out)
 }

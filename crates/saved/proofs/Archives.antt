@@ -1,4 +1,5 @@
 -- Archives as bytes: the bytes say an archive and no other, so both trips are those of the states that they say.
+use Rattle.std.proofs.Common.{Err}
 use Prim.Native.Nat.{ℕ}
 use native.Mathlib.Omega.{arith}
 use mathlib.Core.Path.{◌≡◌, refl, sym, ap, ◌∙◌}
@@ -13,7 +14,6 @@ use Rattle.lists.proofs.Tests.{and_left_lem, and_intro, clash, fails, or_cases}
 use Rattle.answers.specs.declared.Refusal.{Refusal}
 use Rattle.answers.specs.declared.Refusal.TheVariants.{Layout, Range, Misarranged, Form, Unrepresentable}
 use Rattle.answers.specs.Answers.{first}
-use Rattle.woot.specs.declared.Written.TheVariants.{Refused}
 use Rattle.woot.specs.State.{State}
 use Rattle.woot.specs.Form.{clock_kept, well_formed}
 use Rattle.woot.specs.Writing.{written_as, output_after, writing_checks, written_number}
@@ -160,22 +160,22 @@ unarchiving_refuses b out q = let x = writing_refuses (unarchiving_checks b) (un
 
 -- as the code goes through the conditions of archiving
 module _ (s out : List ℕ) where
-  module _ (q : Refusal) (e : first (archiving_checks s) ≡ some (Refused q)) where
-    turned : (Refused q ≡ archive_written s out) × (out ≡ archive_out s out)
+  module _ (q : Refusal) (e : first (archiving_checks s) ≡ some (Err q)) where
+    turned : (Err q ≡ archive_written s out) × (out ≡ archive_out s out)
     unfolding archive_written archive_out
-    turned = let x = own_first (archiving_checks s) (Refused q) (archiving s) out e in (sym x.0, sym x.1)
+    turned = let x = own_first (archiving_checks s) (Err q) (archiving s) out e in (sym x.0, sym x.1)
 
-  pub archive_layout : saved_laid_out s ≡ false → (Refused Layout ≡ archive_written s out) × (out ≡ archive_out s out)
+  pub archive_layout : saved_laid_out s ≡ false → (Err Layout ≡ archive_written s out) × (out ≡ archive_out s out)
   unfolding archiving_checks archiving_refusals
   archive_layout l = turned Layout (rw l)
 
   module _ (l : saved_laid_out s ≡ true) where
-    pub archive_range : saved_in_range s ≡ false → (Refused Range ≡ archive_written s out) × (out ≡ archive_out s out)
+    pub archive_range : saved_in_range s ≡ false → (Err Range ≡ archive_written s out) × (out ≡ archive_out s out)
     unfolding archiving_checks archiving_refusals archive_checks
     archive_range i = turned Range (rw (l, i))
 
     module _ (i : saved_in_range s ≡ true) where
-      pub archive_form : well_formed (saved_state s) ≡ false → (Refused Form ≡ archive_written s out) × (out ≡ archive_out s out)
+      pub archive_form : well_formed (saved_state s) ≡ false → (Err Form ≡ archive_written s out) × (out ≡ archive_out s out)
       unfolding archiving_checks archiving_refusals archive_checks
       archive_form f = turned Form (rw (l, i, f))
 
@@ -187,27 +187,27 @@ module _ (s out : List ℕ) where
 
 -- and of the way back
 module _ (b out : List ℕ) where
-  module _ (q : Refusal) (e : first (unarchiving_checks b) ≡ some (Refused q)) where
-    turned-back : (Refused q ≡ unarchive_written b out) × (out ≡ unarchive_out b out)
+  module _ (q : Refusal) (e : first (unarchiving_checks b) ≡ some (Err q)) where
+    turned-back : (Err q ≡ unarchive_written b out) × (out ≡ unarchive_out b out)
     unfolding unarchive_written unarchive_out
-    turned-back = let x = own_first (unarchiving_checks b) (Refused q) (unarchiving b) out e in (sym x.0, sym x.1)
+    turned-back = let x = own_first (unarchiving_checks b) (Err q) (unarchiving b) out e in (sym x.0, sym x.1)
 
-  pub unarchive_layout : archive_laid_out b ≡ false → (Refused Layout ≡ unarchive_written b out) × (out ≡ unarchive_out b out)
+  pub unarchive_layout : archive_laid_out b ≡ false → (Err Layout ≡ unarchive_written b out) × (out ≡ unarchive_out b out)
   unfolding unarchiving_checks unarchiving_refusals
   unarchive_layout l = turned-back Layout (rw l)
 
   module _ (l : archive_laid_out b ≡ true) where
-    pub unarchive_range : archive_in_range (archive_said b) ≡ false → (Refused Range ≡ unarchive_written b out) × (out ≡ unarchive_out b out)
+    pub unarchive_range : archive_in_range (archive_said b) ≡ false → (Err Range ≡ unarchive_written b out) × (out ≡ unarchive_out b out)
     unfolding unarchiving_checks unarchiving_refusals unarchive_checks
     unarchive_range i = turned-back Range (rw (l, i))
 
     module _ (i : archive_in_range (archive_said b) ≡ true) where
-      pub unarchive_misarranged : arranged (archive_said b).rows ≡ false → (Refused Misarranged ≡ unarchive_written b out) × (out ≡ unarchive_out b out)
+      pub unarchive_misarranged : arranged (archive_said b).rows ≡ false → (Err Misarranged ≡ unarchive_written b out) × (out ≡ unarchive_out b out)
       unfolding unarchiving_checks unarchiving_refusals unarchive_checks
       unarchive_misarranged m = turned-back Misarranged (rw (l, i, m))
 
       module _ (m : arranged (archive_said b).rows ≡ true) where
-        pub unarchive_form : well_formed (state_from (archive_said b)) ≡ false → (Refused Form ≡ unarchive_written b out) × (out ≡ unarchive_out b out)
+        pub unarchive_form : well_formed (state_from (archive_said b)) ≡ false → (Err Form ≡ unarchive_written b out) × (out ≡ unarchive_out b out)
         unfolding unarchiving_checks unarchiving_refusals unarchive_checks
         unarchive_form f = turned-back Form (rw (l, i, m, f))
 

@@ -1,4 +1,5 @@
 -- Both trips are one: what one form says in form, and the other can say, is the same state on the way back.
+use Rattle.std.proofs.Common.{Err}
 use mathlib.Core.Path.{◌≡◌, refl, sym, ap, ◌∙◌}
 use mathlib.Core.List.{List, [], ◌∷◌, ◌++◌, map}
 use mathlib.Core.Logic.{◌⊎◌, inl, inr}
@@ -15,7 +16,6 @@ use Rattle.woot.specs.declared.Operation.TheVariants.{Insert as insert, Toggle a
 use Rattle.woot.specs.Operations.{toggles_among}
 use Rattle.answers.specs.declared.Refusal.{Refusal}
 use Rattle.answers.specs.declared.Refusal.TheVariants.{Layout, Range, Form, Unrepresentable}
-use Rattle.woot.specs.declared.Written.TheVariants.{Refused}
 use Rattle.woot.specs.Form.{all_in_range, well_formed, raised}
 use Rattle.answers.specs.Answers.{number, first}
 use Rattle.woot.specs.Writing.{written_as, output_after}
@@ -152,27 +152,27 @@ conversion_refuses v w s out q = let x = writing_refuses (conversion_checks v w 
 
 -- as the code goes through the conditions
 module _ (v w : Version) (s out : List ℕ) where
-  module _ (q : Refusal) (e : first (conversion_checks v w s) ≡ some (Refused q)) where
-    turned : (Refused q ≡ converted v w s out) × (out ≡ converted_out v w s out)
+  module _ (q : Refusal) (e : first (conversion_checks v w s) ≡ some (Err q)) where
+    turned : (Err q ≡ converted v w s out) × (out ≡ converted_out v w s out)
     unfolding converted converted_out
-    turned = let x = own_first (conversion_checks v w s) (Refused q) (conversion v w s) out e in (sym x.0, sym x.1)
+    turned = let x = own_first (conversion_checks v w s) (Err q) (conversion v w s) out e in (sym x.0, sym x.1)
 
-  pub lacks-layout : laid_out_as v s ≡ false → (Refused Layout ≡ converted v w s out) × (out ≡ converted_out v w s out)
+  pub lacks-layout : laid_out_as v s ≡ false → (Err Layout ≡ converted v w s out) × (out ≡ converted_out v w s out)
   unfolding conversion_checks conversion_refusals
   lacks-layout l = turned Layout (rw l)
 
   module _ (l : laid_out_as v s ≡ true) where
-    pub out_of_range_lem : in_range_as v s ≡ false → (Refused Range ≡ converted v w s out) × (out ≡ converted_out v w s out)
+    pub out_of_range_lem : in_range_as v s ≡ false → (Err Range ≡ converted v w s out) × (out ≡ converted_out v w s out)
     unfolding conversion_checks conversion_refusals
     out_of_range_lem i = turned Range (rw (l, i))
 
     module _ (i : in_range_as v s ≡ true) where
-      pub out-of_form : well_formed (loaded_as v s) ≡ false → (Refused Form ≡ converted v w s out) × (out ≡ converted_out v w s out)
+      pub out-of_form : well_formed (loaded_as v s) ≡ false → (Err Form ≡ converted v w s out) × (out ≡ converted_out v w s out)
       unfolding conversion_checks conversion_refusals
       out-of_form f = turned Form (rw (l, i, f))
 
       module _ (f : well_formed (loaded_as v s) ≡ true) where
-        pub not_said : representable w (loaded_as v s) ≡ false → (Refused Unrepresentable ≡ converted v w s out) × (out ≡ converted_out v w s out)
+        pub not_said : representable w (loaded_as v s) ≡ false → (Err Unrepresentable ≡ converted v w s out) × (out ≡ converted_out v w s out)
         unfolding conversion_checks conversion_refusals
         not_said r = turned Unrepresentable (rw (l, i, f, r))
 

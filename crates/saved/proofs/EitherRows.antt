@@ -1,4 +1,5 @@
 -- A file with rows of either kind is a saved replica with its `C` lines, or an archive with its `P` lines.
+use Rattle.std.proofs.Common.{Ok, Err}
 use Prim.Native.Nat.{ℕ}
 use mathlib.Core.Path.{◌≡◌, refl, sym, ap, ap₂, ◌∙◌}
 use mathlib.Core.List.{List, [], ◌∷◌, map-map}
@@ -11,8 +12,7 @@ use Rattle.woot.specs.State.{State}
 use Rattle.woot.specs.Form.{all_in_range}
 use Rattle.bulk.specs.Archiving.{Placed, characters_of, archive_in_range}
 use Rattle.saved.specs.declared.Version.{Version}
-use Rattle.saved.specs.declared.LoadAnswer.{LoadAnswer}
-use Rattle.saved.specs.declared.LoadAnswer.TheVariants.{Done, Refused}
+use Rattle.saved.specs.LoadAnswer.{LoadAnswer}
 use Rattle.saved.specs.declared.Rows.TheVariants.{Saved, Archived}
 use Rattle.saved.specs.Format.{is_character, row_lines, laid_out_as, state_as, character_within, in_range_as}
 use Rattle.saved.specs.Calls.{reading_checks}
@@ -56,12 +56,12 @@ module _ (v : Version) (s : List ℕ) where
   pub saved_checks : rows_checks (Saved v) s ≡ reading_checks v s
   unfolding rows_checks reading_checks
   saved_checks =
-      λ i. (not (saved-laid-out i) ⇒ Refused Layout) ∷ (not (saved-in-range i) ⇒ Refused Range) ∷ []
+      λ i. (not (saved-laid-out i) ⇒ Err Layout) ∷ (not (saved-in-range i) ⇒ Err Range) ∷ []
 
   -- the first of conditions 1 and 2 that holds decides
-  pub saved-answer : rows_answer (Saved v) s ≡ decided (λ a. a) (first (reading_checks v s)) Done
+  pub saved-answer : rows_answer (Saved v) s ≡ decided (λ a. a) (first (reading_checks v s)) (Ok tt)
   unfolding rows_answer
-  saved-answer = ap (λ cs. decided (λ (a : LoadAnswer). a) (first cs) Done) saved_checks
+  saved-answer = ap (λ cs. decided (λ (a : LoadAnswer). a) (first cs) (Ok tt)) saved_checks
 
 -- ---- an archive
 

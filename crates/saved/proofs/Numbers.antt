@@ -1,5 +1,6 @@
 -- What a writer answers, by number: that of a condition where its test fails and none before it does, and 12 or the length where
 -- every test passes.
+use Rattle.std.proofs.Common.{Err}
 use Prim.Native.Nat.{ℕ, ◌≤◌, ◌<◌}
 use native.Mathlib.Omega.{arith}
 use mathlib.Core.Path.{◌≡◌, refl, sym, ap, ◌∙◌}
@@ -11,8 +12,7 @@ use Rattle.lists.proofs.Tests.{side}
 use Rattle.answers.specs.declared.Refusal.{Refusal}
 use Rattle.answers.specs.declared.Refusal.TheVariants.{Output}
 use Rattle.answers.specs.Answers.{number, rank, Check, ◌⇒◌, decided}
-use Rattle.woot.specs.declared.Written.{Written}
-use Rattle.woot.specs.declared.Written.TheVariants.{Refused}
+use Rattle.woot.specs.Writing.{Written}
 use Rattle.woot.specs.Writing.{refusing, writing_checks, written_as, written_number, written_length}
 use Rattle.convergence.proofs.Replies.{numbers_differ, positive}
 use Rattle.convergence.proofs.Writing.{too_short, has_room_lem}
@@ -41,7 +41,7 @@ module _ (bytes out : List ℕ) where
 
   -- a condition in front of others: what they answer is answered where its test passes
   module _ (q : Refusal) (rs : List (Check Refusal)) where
-    goes_on_lem : (view : Written → ℕ) (n : ℕ) → (view (Refused q) ≡ n → ⊥) → {P : Type 0} → ((view (answered rs) ≡ n) ↔ P) → (a : Bool)
+    goes_on_lem : (view : Written → ℕ) (n : ℕ) → (view (Err q) ≡ n → ⊥) → {P : Type 0} → ((view (answered rs) ≡ n) ↔ P) → (a : Bool)
         → (view (answered ((not a ⇒ q) ∷ rs)) ≡ n) ↔ ((a ≡ true) × P)
     unfolding written_as writing_checks decided
     goes_on_lem view n other e true = (λ k. (refl, e.0 k), λ p. e.1 p.1)
@@ -123,7 +123,7 @@ module _ (bytes out : List ℕ) where
       abbrev All : Type 0
       All = (a ≡ true) × (b ≡ true) × (c ≡ true) × (d ≡ true)
 
-      through : (view : Written → ℕ) (n : ℕ) → ((q : Refusal) → rank q < rank Output → view (Refused q) ≡ n → ⊥) → {P : Type 0}
+      through : (view : Written → ℕ) (n : ℕ) → ((q : Refusal) → rank q < rank Output → view (Err q) ≡ n → ⊥) → {P : Type 0}
           → ((view (answered []) ≡ n) ↔ P) → (view (answered four) ≡ n) ↔ (All × P)
       through view n never e =
           all-four

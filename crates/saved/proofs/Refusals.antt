@@ -1,4 +1,5 @@
 -- A refusal is answered exactly when its condition is the first to hold; where none holds, the replica that the bytes say.
+use Rattle.std.proofs.Common.{Err, Ok}
 use mathlib.Core.Path.{◌≡◌, refl, sym, ap, ◌∙◌}
 use mathlib.Core.List.{List, [], ◌++◌}
 use mathlib.Core.Logic.{◌↔◌}
@@ -12,7 +13,6 @@ use Rattle.woot.specs.declared.Operation.{Operation}
 use Rattle.woot.specs.declared.Replica.{Replica}
 use Rattle.answers.specs.declared.Refusal.{Refusal}
 use Rattle.answers.specs.declared.Refusal.TheVariants.{Layout, Range, Form}
-use Rattle.woot.specs.declared.Written.TheVariants.{Refused as writtenRefused}
 use Rattle.woot.specs.State.{State}
 use Rattle.woot.specs.Memory.{meaning, stored, replica_well_formed}
 use Rattle.woot.specs.Form.{well_formed}
@@ -24,8 +24,7 @@ use Rattle.convergence.proofs.Writing.{own_first, own-none, writing_refuses}
 use Rattle.lines.specs.Lines.{concatenated}
 use Rattle.lines.proofs.Sizes.{line_some}
 use Rattle.codec.proofs.Refusals.{by-test}
-use Rattle.saved.specs.declared.LoadAnswer.{LoadAnswer}
-use Rattle.saved.specs.declared.LoadAnswer.TheVariants.{Done, Refused}
+use Rattle.saved.specs.LoadAnswer.{LoadAnswer}
 use Rattle.saved.specs.declared.Loaded.{Loaded}
 use Rattle.saved.specs.declared.Version.{Version}
 use Rattle.saved.specs.declared.Version.TheVariants.{Second}
@@ -38,44 +37,44 @@ use Rattle.saved.specs.Theorems.{LoadRefuses, LoadNumbers, SaveRefuses, SaveNumb
 -- ---- reading
 
 module _ (s : List ℕ) where
-  pub load-layout : saved_laid_out s ≡ false → loaded s ≡ unread (Refused Layout)
+  pub load-layout : saved_laid_out s ≡ false → loaded s ≡ unread (Err Layout)
   unfolding loaded load_checks decided
   load-layout e = rw e
 
   module _ (l : saved_laid_out s ≡ true) where
-    pub load-range : saved_in_range s ≡ false → loaded s ≡ unread (Refused Range)
+    pub load-range : saved_in_range s ≡ false → loaded s ≡ unread (Err Range)
     unfolding loaded load_checks decided
     load-range e = rw (l, e)
 
     module _ (i : saved_in_range s ≡ true) where
-      pub load_form : well_formed (loaded_state s) ≡ false → loaded s ≡ unread (Refused Form)
+      pub load_form : well_formed (loaded_state s) ≡ false → loaded s ≡ unread (Err Form)
       unfolding loaded load_checks decided
       load_form e = rw (l, i, e)
 
-      pub load-done : well_formed (loaded_state s) ≡ true → ◌≡◌ {A = Loaded} (loaded s) (record { answer = Done; replica = stored (loaded_state s) })
+      pub load-done : well_formed (loaded_state s) ≡ true → ◌≡◌ {A = Loaded} (loaded s) (record { answer = Ok tt; replica = stored (loaded_state s) })
       unfolding loaded load_checks decided
       load-done e = rw (l, i, e)
 
-pub never_done : (r : Refusal) → Done ≡ Refused r → ⊥
+pub never_done : (r : Refusal) → ◌≡◌ {A = LoadAnswer} (Ok tt) (Err r) → ⊥
 never_done r e = let z : ◌≡◌ {A = ℕ} 0 1 = cc in omega arith
 
 -- what is read before the form is checked, by its conditions
 module _ (v : Version) (s : List ℕ) where
-  pub read-lacks : laid_out_as v s ≡ false → saved_read v s ≡ unread (Refused Layout)
+  pub read-lacks : laid_out_as v s ≡ false → saved_read v s ≡ unread (Err Layout)
   unfolding saved_read reading_checks decided
   read-lacks e = rw e
 
   module _ (l : laid_out_as v s ≡ true) where
-    pub read_out : in_range_as v s ≡ false → saved_read v s ≡ unread (Refused Range)
+    pub read_out : in_range_as v s ≡ false → saved_read v s ≡ unread (Err Range)
     unfolding saved_read reading_checks decided
     read_out e = rw (l, e)
 
-    pub read_done : in_range_as v s ≡ true → ◌≡◌ {A = Loaded} (saved_read v s) (record { answer = Done; replica = raised_in_arrays (state_as v s) })
+    pub read_done : in_range_as v s ≡ true → ◌≡◌ {A = Loaded} (saved_read v s) (record { answer = Ok tt; replica = raised_in_arrays (state_as v s) })
     unfolding saved_read reading_checks decided
     read_done e = rw (l, e)
 
   -- what is not refused has the layout, and is in range
-  pub read_well : (saved_read v s).answer ≡ Done → (laid_out_as v s ≡ true) × (in_range_as v s ≡ true)
+  pub read_well : (saved_read v s).answer ≡ Ok tt → (laid_out_as v s ≡ true) × (in_range_as v s ≡ true)
   unfolding unread
   read_well h = go (laid_out_as v s) (in_range_as v s) refl refl
     where
@@ -85,7 +84,7 @@ module _ (v : Version) (s : List ℕ) where
       go false d l i = absurd (never_done Layout (sym h ∙ ap (λ y. y.answer) (read-lacks l)))
 
 -- with a refusal stands the replica named for it
-refused_none : (m : Option LoadAnswer) (x : Loaded) (r : Refusal) → x.answer ≡ Done → (decided unread m x).answer ≡ Refused r → (decided unread m x).replica ≡ no_replica
+refused_none : (m : Option LoadAnswer) (x : Loaded) (r : Refusal) → x.answer ≡ Ok tt → (decided unread m x).answer ≡ Err r → (decided unread m x).replica ≡ no_replica
 unfolding decided unread
 refused_none none x r d e = absurd (never_done r (sym d ∙ e))
 refused_none (some a) x r d e = refl
@@ -93,8 +92,8 @@ refused_none (some a) x r d e = refl
 pub load_refuses : LoadRefuses
 unfolding loaded unread
 load_refuses s r =
-    let x : Loaded = record { answer = Done; replica = stored (loaded_state s) } in (
-      decided_exactly unread (λ y. y.answer) (λ a. refl) (load_checks s) x (Refused r) (never_done r),
+    let x : Loaded = record { answer = Ok tt; replica = stored (loaded_state s) } in (
+      decided_exactly unread (λ y. y.answer) (λ a. refl) (load_checks s) x (Err r) (never_done r),
       refused_none (first (load_checks s)) x r refl,
     )
 
@@ -149,10 +148,10 @@ load_numbers s = go (saved_laid_out s) (saved_in_range s) (well_formed (loaded_s
 -- ---- writing
 
 module _ (r : Replica) (out : List ℕ) where
-  pub unformed : replica_well_formed r ≡ false → (writtenRefused Form ≡ saved r out) × (out ≡ saved_out r out)
+  pub unformed : replica_well_formed r ≡ false → (Err Form ≡ saved r out) × (out ≡ saved_out r out)
   unfolding saved saved_out save_checks
   unformed e =
-      let w = own_first (save_checks r) (writtenRefused Form) (bytes_of r) out (rw e refl) in
+      let w = own_first (save_checks r) (Err Form) (bytes_of r) out (rw e refl) in
       (sym w.0, sym w.1)
 
   -- a replica in form goes by the room alone

@@ -1,5 +1,6 @@
 -- The round trips of the whole: the lines of what is written are those of the site, of the characters and of the pending
 -- operations; and bytes with the layout are the lines of what they say.
+use Rattle.std.proofs.Common.{Ok}
 use mathlib.Core.Path.{◌≡◌, refl, sym, ap, ap₂, ◌∙◌, subst}
 use mathlib.Core.List.{List, [], ◌∷◌, ◌++◌, map, append-nil, append_assoc}
 use mathlib.Core.Bool.{Bool, true, false, ◌&&◌}
@@ -22,7 +23,6 @@ use Rattle.lists.proofs.Tests.{and_left_lem, and_right, and_intro, three, seven}
 use Rattle.lines.specs.Lines.{has, lines, rest, closed, leading, trailing, concatenated}
 use Rattle.lines.specs.Fields.{fields, has_layout, values_of, line_of}
 use Rattle.codec.specs.Operations.{insert_head, delete_head, toggle_head}
-use Rattle.saved.specs.declared.LoadAnswer.TheVariants.{Done}
 use Rattle.saved.specs.declared.Version.{Version}
 use Rattle.saved.specs.declared.Version.TheVariants.{First, Second}
 use Rattle.saved.specs.Format.{site_line, is_site, site_said, character_line, is_character, character_said, is_operation, operation_said, saved_line}
@@ -343,7 +343,7 @@ module _ (v : Version) (s : List ℕ) (l : laid_out_as v s ≡ true) where
   unraised_again n = ap (bytes_as v) ((raising (state_as v s)).still.1 (not-false (clock_kept (state_as v s)) n)) ∙ says-saved
 
 -- what was read says the state and is in form
-module _ (s : List ℕ) (e : (loaded s).answer ≡ Done) where
+module _ (s : List ℕ) (e : (loaded s).answer ≡ Ok tt) where
   was_read : (saved_laid_out s ≡ true) × (saved_in_range s ≡ true) × (well_formed (loaded_state s) ≡ true)
   unfolding load_number
   was_read = (load_numbers s).3.0 (ap load_number e)

@@ -5,7 +5,7 @@ use Rattle.std.specs.Prelude.{ℕ, List, [], ◌∷◌, map, Bool, not, get_or, 
 use Rattle.answers.specs.declared.Refusal.{Refusal}
 use Rattle.answers.specs.declared.Refusal.TheVariants.{Layout}
 use Rattle.answers.specs.Answers.{Check, ◌⇒◌}
-use Rattle.woot.specs.declared.Written.{Written}
+use Rattle.woot.specs.Writing.{Written}
 use Rattle.woot.specs.Limits.{capacity}
 use Rattle.woot.specs.Writing.{refusing, written_as, output_after}
 use Rattle.bulk.specs.Archiving.{Placed, Archive, archive_of, state_from, archive_checks, unarchive_checks}

@@ -1,9 +1,8 @@
 -- The promises about archives as bytes (document 02, Req 10), each proved in proofs/ under its name in small letters.
-use Rattle.std.specs.Prelude.{ℕ, ◌≤◌, ◌<◌, ◌≡◌, ◌↔◌, ◌⊎◌, true, false, List, [], ◌∷◌, map, length}
+use Rattle.std.specs.Prelude.{ℕ, ◌≤◌, ◌<◌, ◌≡◌, ◌↔◌, ◌⊎◌, true, false, List, [], ◌∷◌, map, length, Err}
 use Rattle.answers.specs.declared.Refusal.{Refusal}
 use Rattle.answers.specs.Answers.{number, rank, Reported}
 use Rattle.answers.specs.Order.{rises}
-use Rattle.woot.specs.declared.Written.TheVariants.{Refused}
 use Rattle.woot.specs.Limits.{capacity}
 use Rattle.woot.specs.State.{State}
 use Rattle.woot.specs.Form.{clock_kept, well_formed}
@@ -65,15 +64,15 @@ ArchivingOrder =
 abbrev pub ArchivingRefuses : Type 0
 ArchivingRefuses =
     (s out : List ℕ) (q : Refusal) →
-    ((archive_written s out ≡ Refused q) ↔ Reported (Refused q) (writing_checks (archiving_checks s) (archiving s) out))
-    × (archive_written s out ≡ Refused q → archive_out s out ≡ out)
+    ((archive_written s out ≡ Err q) ↔ Reported (Err q) (writing_checks (archiving_checks s) (archiving s) out))
+    × (archive_written s out ≡ Err q → archive_out s out ≡ out)
 
 abbrev pub UnarchivingRefuses : Type 0
 UnarchivingRefuses =
     (b out : List ℕ) (q : Refusal) →
-    ((unarchive_written b out ≡ Refused q)
-    ↔ Reported (Refused q) (writing_checks (unarchiving_checks b) (unarchiving b) out))
-    × (unarchive_written b out ≡ Refused q → unarchive_out b out ≡ out)
+    ((unarchive_written b out ≡ Err q)
+    ↔ Reported (Err q) (writing_checks (unarchiving_checks b) (unarchiving b) out))
+    × (unarchive_written b out ≡ Err q → unarchive_out b out ≡ out)
 
 -- by number, in the order 1, 2, 3, 12; else 0 and how many bytes there are
 abbrev pub ArchivingNumbers : Type 0

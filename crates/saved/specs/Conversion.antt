@@ -1,13 +1,12 @@
 -- From one form of a saved replica to the other (document 02, Req 06), and the promises about it, each proved in
 -- proofs/ under its name in small letters.
-use Rattle.std.specs.Prelude.{ℕ, ◌≤◌, ◌<◌, ◌≡◌, ◌↔◌, true, false, ◌||◌, not, List, [], ◌∷◌, ◌++◌, map, ltb, length, replicate}
+use Rattle.std.specs.Prelude.{ℕ, ◌≤◌, ◌<◌, ◌≡◌, ◌↔◌, true, false, ◌||◌, not, List, [], ◌∷◌, ◌++◌, map, ltb, length, replicate, Err}
 use Rattle.lists.specs.Lists.{any}
 use Rattle.woot.specs.declared.Operation.{Operation}
 use Rattle.woot.specs.declared.Operation.TheVariants.{Insert as insert, Toggle as toggle}
 use Rattle.answers.specs.declared.Refusal.{Refusal}
 use Rattle.answers.specs.declared.Refusal.TheVariants.{Layout, Range, Form, Unrepresentable}
-use Rattle.woot.specs.declared.Written.{Written}
-use Rattle.woot.specs.declared.Written.TheVariants.{Refused}
+use Rattle.woot.specs.Writing.{Written}
 use Rattle.woot.specs.Identifiers.{begin, end}
 use Rattle.woot.specs.Operations.{toggles_among}
 use Rattle.woot.specs.State.{State}
@@ -116,9 +115,9 @@ ConversionOrder =
 abbrev pub ConversionRefuses : Type 0
 ConversionRefuses =
     (v w : Version) (s out : List ℕ) (q : Refusal) →
-    ((converted v w s out ≡ Refused q)
-    ↔ Reported (Refused q) (writing_checks (conversion_checks v w s) (conversion v w s) out))
-    × (converted v w s out ≡ Refused q → converted_out v w s out ≡ out)
+    ((converted v w s out ≡ Err q)
+    ↔ Reported (Err q) (writing_checks (conversion_checks v w s) (conversion v w s) out))
+    × (converted v w s out ≡ Err q → converted_out v w s out ≡ out)
 
 -- by number, in the order 1, 2, 3, 15, 12; else 0 and how many bytes there are
 abbrev pub ByNumber : Version → Version → List ℕ → List ℕ → Type 0

@@ -1,3 +1,4 @@
+pub mod LoadAnswer
 pub mod Format
 pub mod Calls
 pub mod Conversion

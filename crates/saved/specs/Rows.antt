@@ -1,6 +1,6 @@
 -- For the proofs of the code alone: a file with rows of either kind, read and written by the same loops. A row of a
 -- saved replica has the place 0 here.
-use Rattle.std.specs.Prelude.{ℕ, List, [], ◌∷◌, map, Bool, ◌&&◌, not, ◌≡◌, length, take}
+use Rattle.std.specs.Prelude.{ℕ, List, [], ◌∷◌, map, Bool, ◌&&◌, not, ◌≡◌, length, take, Ok, Err}
 use Rattle.lists.specs.Lists.{every}
 use Rattle.lists.specs.Padding.{pad}
 use Rattle.answers.specs.declared.Refusal.TheVariants.{Layout, Range}
@@ -15,8 +15,7 @@ use Rattle.woot.specs.Form.{all_in_range}
 use Rattle.bulk.specs.Archiving.{Placed, Archive, places_of, characters_of, place_in_range}
 use Rattle.saved.specs.declared.Version.{Version}
 use Rattle.saved.specs.declared.Version.TheVariants.{Second}
-use Rattle.saved.specs.declared.LoadAnswer.{LoadAnswer}
-use Rattle.saved.specs.declared.LoadAnswer.TheVariants.{Done, Refused}
+use Rattle.saved.specs.LoadAnswer.{LoadAnswer}
 use Rattle.saved.specs.declared.Rows.{Rows}
 use Rattle.saved.specs.declared.Rows.TheVariants.{Saved, Archived}
 use Rattle.saved.specs.Format.{site_said, head_line, is_character, character_said, character_line, character_within}
@@ -68,10 +67,10 @@ rows_in_range k s =
 
 -- the first of conditions 1 and 2 that holds decides
 unfoldable pub rows_checks : Rows → List ℕ → List (Check LoadAnswer)
-rows_checks k s = (not (rows_laid_out k s) ⇒ Refused Layout) ∷ (not (rows_in_range k s) ⇒ Refused Range) ∷ []
+rows_checks k s = (not (rows_laid_out k s) ⇒ Err Layout) ∷ (not (rows_in_range k s) ⇒ Err Range) ∷ []
 
 unfoldable pub rows_answer : Rows → List ℕ → LoadAnswer
-rows_answer k s = decided (λ a. a) (first (rows_checks k s)) Done
+rows_answer k s = decided (λ a. a) (first (rows_checks k s)) (Ok tt)
 
 -- ---- lent arrays
 

@@ -1,10 +1,9 @@
 -- The promises about saved replicas, each proved in proofs/ under its name in small letters.
-use Rattle.std.specs.Prelude.{ℕ, ◌≤◌, ◌<◌, ◌≡◌, ◌↔◌, true, false, List, [], ◌∷◌, ◌++◌, length}
+use Rattle.std.specs.Prelude.{ℕ, ◌≤◌, ◌<◌, ◌≡◌, ◌↔◌, true, false, List, [], ◌∷◌, ◌++◌, length, Err, Ok}
 use Rattle.std.proofs.Math.Option.{some}
 use Rattle.woot.specs.declared.Operation.TheVariants.{Insert as insert, Toggle as toggle}
 use Rattle.woot.specs.declared.Replica.{Replica}
 use Rattle.answers.specs.declared.Refusal.{Refusal}
-use Rattle.woot.specs.declared.Written.TheVariants.{Refused as writtenRefused}
 use Rattle.woot.specs.Identifiers.{begin, end}
 use Rattle.woot.specs.State.{State}
 use Rattle.woot.specs.Memory.{meaning, stored, replica_well_formed}
@@ -13,7 +12,6 @@ use Rattle.lines.specs.Lines.{rest}
 use Rattle.answers.specs.Answers.{Reported}
 use Rattle.woot.specs.Writing.{writing_checks, written_number, written_length}
 use Rattle.replica.specs.Tables.{Searches}
-use Rattle.saved.specs.declared.LoadAnswer.TheVariants.{Done, Refused}
 use Rattle.saved.specs.declared.Version.TheVariants.{Second}
 use Rattle.saved.specs.Format.{site_line, saved_laid_out, saved_in_range, saved_bytes}
 use Rattle.saved.specs.Calls.{loaded_state, needs_raising, load_checks, no_replica, in_arrays, raised_in_arrays}
@@ -27,25 +25,25 @@ use Rattle.saved.specs.declared.Version.{Version}
 abbrev pub SavedReadsBack : Type 0
 SavedReadsBack =
     (s : State) → well_formed s ≡ true →
-    ((loaded (saved_bytes s)).answer ≡ Done) × ((loaded (saved_bytes s)).replica ≡ stored s)
+    ((loaded (saved_bytes s)).answer ≡ Ok tt) × ((loaded (saved_bytes s)).replica ≡ stored s)
     × (needs_raising (saved_bytes s) ≡ false)
 
 -- and bytes that are read were written so, byte for byte: by Req 04 of document 02, "those whose clock needs no
 -- raising"
 abbrev pub LoadedWritesBack : Type 0
 LoadedWritesBack =
-    (bytes : List ℕ) → (loaded bytes).answer ≡ Done → needs_raising bytes ≡ false →
+    (bytes : List ℕ) → (loaded bytes).answer ≡ Ok tt → needs_raising bytes ≡ false →
     saved_bytes (meaning (loaded bytes).replica) ≡ bytes
 
 -- of any other the first line alone differs, which has the raised clock
 abbrev pub RaisedWritesBack : Type 0
 RaisedWritesBack =
-    (bytes : List ℕ) → (loaded bytes).answer ≡ Done →
+    (bytes : List ℕ) → (loaded bytes).answer ≡ Ok tt →
     saved_bytes (meaning (loaded bytes).replica) ≡ site_line Second (loaded_state bytes).site ++ rest bytes
 
 -- a replica that is read is in form
 abbrev pub LoadedFormed : Type 0
-LoadedFormed = (bytes : List ℕ) → (loaded bytes).answer ≡ Done → well_formed (meaning (loaded bytes).replica) ≡ true
+LoadedFormed = (bytes : List ℕ) → (loaded bytes).answer ≡ Ok tt → well_formed (meaning (loaded bytes).replica) ≡ true
 
 -- what is read before the form is checked: with its clock raised the replica of a state in range is in form exactly
 -- when the state that loading makes is, and then it is that state as it is stored, and means it. The numbers of a state
@@ -67,7 +65,7 @@ ArraysForm =
 -- so it is with all that is read, in either form
 abbrev pub ReadForm : Type 0
 ReadForm =
-    (v : Version) (bytes : List ℕ) → (saved_read v bytes).answer ≡ Done →
+    (v : Version) (bytes : List ℕ) → (saved_read v bytes).answer ≡ Ok tt →
     (replica_well_formed (saved_read v bytes).replica ≡ well_formed (loaded_as v bytes))
     × (well_formed (loaded_as v bytes) ≡ true →
     ((saved_read v bytes).replica ≡ stored (loaded_as v bytes))
@@ -77,14 +75,14 @@ ReadForm =
 
 -- "in every sheet begun, read or built", of those read: the table finds what a plain search finds
 abbrev pub LoadedSearches : Type 0
-LoadedSearches = (bytes : List ℕ) → (loaded bytes).answer ≡ Done → Searches (loaded bytes).replica
+LoadedSearches = (bytes : List ℕ) → (loaded bytes).answer ≡ Ok tt → Searches (loaded bytes).replica
 
 -- "no saved form holds it, and it alone may differ after a sheet is written and read": a replica in form is read as one
 -- that means the same, whatever its table was
 abbrev pub TableAloneDiffers : Type 0
 TableAloneDiffers =
     (r : Replica) → replica_well_formed r ≡ true →
-    ((loaded (bytes_of r)).answer ≡ Done) × (meaning (loaded (bytes_of r)).replica ≡ meaning r)
+    ((loaded (bytes_of r)).answer ≡ Ok tt) × (meaning (loaded (bytes_of r)).replica ≡ meaning r)
 
 -- ---- the layout, on lines of every kind: the round trips would hold of any order of fields
 
@@ -149,8 +147,8 @@ SavedLength = (s : State) → well_formed s ≡ true → length (saved_bytes s) 
 abbrev pub LoadRefuses : Type 0
 LoadRefuses =
     (bytes : List ℕ) (r : Refusal) →
-    (((loaded bytes).answer ≡ Refused r) ↔ Reported (Refused r) (load_checks bytes))
-    × ((loaded bytes).answer ≡ Refused r → (loaded bytes).replica ≡ no_replica)
+    (((loaded bytes).answer ≡ Err r) ↔ Reported (Err r) (load_checks bytes))
+    × ((loaded bytes).answer ≡ Err r → (loaded bytes).replica ≡ no_replica)
 
 -- by number: 1 where the layout lacks, 2 where it does not and something is out of range, 3 where neither is and the
 -- state that loading makes is not in form, else 0 and the replica that stores that state
@@ -172,8 +170,8 @@ LoadNumbers =
 abbrev pub SaveRefuses : Type 0
 SaveRefuses =
     (r : Replica) (out : List ℕ) (q : Refusal) →
-    ((saved r out ≡ writtenRefused q) ↔ Reported (writtenRefused q) (writing_checks (save_checks r) (bytes_of r) out))
-    × (saved r out ≡ writtenRefused q → saved_out r out ≡ out)
+    ((saved r out ≡ Err q) ↔ Reported (Err q) (writing_checks (save_checks r) (bytes_of r) out))
+    × (saved r out ≡ Err q → saved_out r out ≡ out)
 
 -- by number: 3 where the replica is not in form, 12 where it is and the slice is shorter than the bytes, else 0 and how
 -- many bytes there are

@@ -3,7 +3,7 @@
 #![tactic(auto)]
 
 ghost use Rattle.std.specs.Prelude.{◌≡◌};
-ghost use Rattle.saved.specs.Format.{last_toggle_field, toggle_field};
+ghost use Rattle.saved.specs.Format.{site_head, last_toggle_field, toggle_field};
 ghost use Rattle.saved.specs.Rows.{version_of};
 
 use answers::Refusal;
@@ -27,6 +27,16 @@ pub enum Version {
 }
 
 impl Version {
+    // The head word of a site's line.
+    pub fn site_head(self) -> &'static [u8]
+        ensures { result.now ≡ site_head self }
+    {
+        match self {
+            Version::First => &FIRST_SITE,
+            Version::Second => &SITE,
+        }
+    }
+
     // The limit of the number that says a character's toggles.
     pub fn last_toggle_field(self) -> u64
         ensures { result ≡ last_toggle_field self }
@@ -52,17 +62,15 @@ impl Version {
 fn exchanged(number: u64) -> u64
     ensures { result ≡ toggle_field Version.First number }
 {
-    if number == 0 {
-        return 1;
+    match number {
+        0 => 1,
+        1 => 0,
+        _ => number,
     }
-    if number == 1 {
-        return 0;
-    }
-    number
 }
 
 // The rows of a file: those of a saved replica in one of its forms, or those of an archive, each with its place.
-// (Document 02, Req 10.)
+// (Document 02, Req 10.) It stays an enum: an archive is a kind of file, and no saved replica that lacks its form.
 #[derive(Clone, Copy)]
 pub enum Rows {
     Saved(Version),
@@ -81,16 +89,10 @@ impl Rows {
     }
 }
 
-// What reading answers.
-#[derive(Clone, Copy)]
-pub enum LoadAnswer {
-    Done,
-    Refused(Refusal),
-}
-
-// What reading returns: the answer, and beside it the replica; beside a refusal an empty one of no site.
+// What reading returns: the answer, and beside it the replica; beside a refusal an empty one of no site. It stays a
+// struct: `loaded` promises that empty replica, too.
 #[derive(Clone, Copy)]
 pub struct Loaded {
-    pub answer: LoadAnswer,
+    pub answer: Result<(), Refusal>,
     pub replica: Replica,
 }

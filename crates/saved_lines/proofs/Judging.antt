@@ -1,4 +1,5 @@
 -- What is read of a line is what the line says: one argument for every kind of line, over what is made of its numbers.
+use Rattle.std.proofs.Common.{Ok, Err}
 use mathlib.Core.Path.{◌≡◌, refl, sym, ap, ◌∙◌}
 use mathlib.Core.List.{List, [], ◌∷◌, ◌++◌}
 use mathlib.Core.Bool.{Bool, true, false, ◌&&◌, cond}
@@ -6,8 +7,6 @@ use Prim.Native.Nat.{ℕ, zero, suc, ◌-◌}
 use lib.Dec.{leb}
 use lib.ListN.{length, drop, get_or, replicate}
 use borrow.Author.Tests.{leb-true}
-use Rattle.woot.specs.declared.Site.{Site}
-use Rattle.woot.specs.declared.Character.{Character}
 use Rattle.woot.specs.declared.Operation.{Operation}
 use Rattle.answers.specs.declared.Refusal.{Refusal}
 use Rattle.answers.specs.declared.Refusal.TheVariants.{Layout, Range}
@@ -15,73 +14,80 @@ use Rattle.woot.specs.Limits.{last_site, last_clock, last_code_point, capacity}
 use Rattle.woot.specs.Ranges.{within, site_in_range, character_in_range, in_range}
 use Rattle.bulk.specs.Archiving.{Placed, place_in_range}
 use Rattle.lists.specs.Padding.{pad}
-use Rattle.lists.proofs.Tests.{agree, clash, and_left_lem, and_right, and_intro}
-use Rattle.lines.specs.declared.Verdict.TheVariants.{Malformed, Above, Within}
-use Rattle.lines.specs.declared.Verdict.{Verdict}
-use Rattle.lines.specs.declared.Numbers.{Numbers}
+use Rattle.lists.proofs.Tests.{agree, and_left_lem, and_right, and_intro}
+use Rattle.std.specs.Prelude.{Result, is_ok}
+use Rattle.decimal.specs.declared.Fault.{Fault}
+use Rattle.decimal.specs.declared.Fault.TheVariants.{Malformed, Above}
 use Rattle.lines.specs.Fields.{fields, has_layout, values_of, at_most}
-use Rattle.lines.specs.Answers.{slots, holding, verdict_on, numbers_of}
+use Rattle.lines.specs.Answers.{slots, Numbers, verdict_on, numbers_of}
 use Rattle.lines.proofs.Values.{at_most_none, at_most_from, at-padded}
-use Rattle.codec.specs.declared.Read.TheVariants.{Operation as readsAs, Refused as readRefused}
 use Rattle.codec.specs.Calls.{read_as}
 use Rattle.codec.proofs.Judging.{identifier-padded, read-layout, read-range, read-operation}
-use Rattle.saved_lines.specs.declared.Judged.{Judged}
-use Rattle.saved_lines.specs.declared.SiteLine.{SiteLine}
-use Rattle.saved_lines.specs.declared.RowLine.{RowLine}
-use Rattle.saved_lines.specs.declared.OperationLine.{OperationLine}
+use Rattle.saved_lines.specs.declared.Row.{Row}
 use Rattle.saved.specs.declared.Version.{Version}
 use Rattle.saved.specs.declared.Version.TheVariants.{Second}
 use Rattle.saved.specs.declared.Rows.{Rows}
 use Rattle.saved.specs.declared.Rows.TheVariants.{Saved, Archived}
-use Rattle.saved.specs.Format.{site_head, site_limits, site_of, is_site, site_said, character_head, toggle_field, last_toggle_field, character_limits, character_of}
+use Rattle.saved.specs.Format.{site_limits, site_of, is_site, site_said, character_head, toggle_field, last_toggle_field, character_limits, character_of}
 use Rattle.saved.specs.Format.{is_character, character_said, is_operation, operation_said, character_within}
 use Rattle.saved.specs.Archive.{placed_limits, placed_of, is_placed, placed_said}
 use Rattle.saved.specs.Rows.{is_row, row_said, row_within}
-use Rattle.saved_lines.specs.Judging.{judgement, judged_as, site_read, row_head, row_limits, row_of, row_in_range, row_read}
-use Rattle.saved_lines.specs.Judging.{no_operation, operation_judged, operation_read, pending_read}
+use Rattle.saved_lines.specs.Judging.{in_layout, ranged, said_in, site_read, row_head, row_limits, row_as, row_of, row_in_range, row_read}
+use Rattle.saved_lines.specs.Judging.{operation_read, pending_read}
 use Rattle.saved.proofs.Bounds.{site-at_most, character-at_most, at_most_within}
 
-module _ {A : Type 0} (say : List ℕ → A) (passes : A → Bool) (laid : Bool) (limits ns : List ℕ) where
-  abbrev told : Bool → Bool → Numbers
-  told b c = cond b (cond c (holding Within ns) (holding Above [])) (holding Malformed [])
-
-  abbrev read : Numbers
-  read = verdict_on laid limits ns
-
-  -- it is laid out as it should be
-  laid_so : (judged_as read.verdict (passes (say read.values))).laid_out ≡ laid
-  unfolding verdict_on holding judged_as judgement
-  laid_so = go laid (at_most limits ns)
+module _ {A : Type 0} (say : List ℕ → A) (passes : A → Bool) (l : Bool) (limits ns : List ℕ) where
+  -- what is said by numbers is what the line says, in range where the numbers are within their limits and it passes
+  says_so : ((m : ℕ) (ms : List ℕ) → say (ms ++ replicate m 0) ≡ say ms)
+      → said_in say passes (verdict_on l limits ns) ≡ cond l (ranged (at_most limits ns && passes (say ns)) (say ns)) (Err Malformed)
+  unfolding verdict_on said_in ranged pad
+  says_so padded = go l (at_most limits ns)
     where
-      go : (b c : Bool) → (judged_as (told b c).verdict (passes (say (told b c).values))).laid_out ≡ b
+      go : (b c : Bool) → said_in say passes (cond b (cond c (Ok (pad slots 0 ns)) (Err Above)) (Err Malformed))
+          ≡ cond b (ranged (c && passes (say ns)) (say ns)) (Err Malformed)
+      go true true = ap (λ (x : A). ranged (passes x) x) (padded (slots - length ns) ns)
+      go true false = refl
+      go false c = refl
+
+-- what the code makes of numbers that are taken
+module _ {A : Type 0} (say : List ℕ → A) (passes : A → Bool) where
+  pub says_made : {r : Numbers} {ns : List ℕ} → r ≡ Ok ns → {b : Bool} {x : A} → x ≡ say ns → b ≡ passes x → {w : Result A Fault} → w ≡ ranged b x
+      → w ≡ said_in say passes r
+  unfolding said_in
+  says_made t {b} {x} s p e = rw t (e ∙ ap (λ (c : Bool). ranged c x) p ∙ ap (λ (y : A). ranged (passes y) y) s)
+
+  -- numbers without the layout say nothing
+  pub lacks-layout : {r : Numbers} {x : Result A Fault} → x ≡ said_in say passes r → (x ≡ Err Malformed → ⊥) → r ≡ Err Malformed → ⊥
+  unfolding said_in
+  lacks-layout e h q = h (e ∙ ap (said_in say passes) q)
+
+-- what is known of a line by what it says
+module _ {A : Type 0} {w : Result A Fault} (l p : Bool) (x : A) (e : w ≡ cond l (ranged p x) (Err Malformed)) where
+  laid_told : in_layout w ≡ l
+  unfolding ranged
+  laid_told = rw e (go l p)
+    where
+      go : (b c : Bool) → in_layout (cond b (cond c (Ok x) (Err Above)) (Err Malformed)) ≡ b
       go true true = refl
       go true false = refl
       go false c = refl
 
-  module _ (padded : (m : ℕ) (ms : List ℕ) → say (ms ++ replicate m 0) ≡ say ms) where
-    -- then it is in range where its numbers are within their limits and what they say passes
-    passes_so : laid ≡ true → (judged_as read.verdict (passes (say read.values))).in_range ≡ at_most limits ns && passes (say ns)
-    unfolding verdict_on holding judged_as judgement pad
-    passes_so l = rw l (go (at_most limits ns))
-      where
-        go : (c : Bool) → (judged_as (told true c).verdict (passes (say (told true c).values))).in_range ≡ c && passes (say ns)
-        go true = ap passes (padded (slots - length ns) ns)
-        go false = refl
+  range_told : l ≡ true → is_ok w ≡ p
+  unfolding ranged
+  range_told h = rw (e, h) (go p)
+    where
+      go : (c : Bool) → is_ok (cond c (Ok x) (Err Above)) ≡ c
+      go true = refl
+      go false = refl
 
-    -- and what is read is what it says
-    says_so : (judged_as read.verdict (passes (say read.values))).in_range ≡ true → say read.values ≡ say ns
-    unfolding verdict_on holding judged_as judgement pad
-    says_so e = go laid (at_most limits ns) e
-      where
-        go : (b c : Bool) → (judged_as (told b c).verdict (passes (say (told b c).values))).in_range ≡ true → say (told b c).values ≡ say ns
-        go true true q = padded (slots - length ns) ns
-        go true false q = cc
-        go false c q = cc
-
--- what has the layout is not malformed
-pub laid_verdict : (v : Verdict) (b : Bool) {j : Judged} → j ≡ judged_as v b → j.laid_out ≡ true → v ≡ Malformed → ⊥
-unfolding judged_as judgement
-laid_verdict v b e h q = clash h (ap (λ (x : Judged). x.laid_out) e ∙ ap (λ (w : Verdict). (judged_as w b).laid_out) q)
+  said_told : is_ok w ≡ true → w ≡ Ok x
+  unfolding ranged
+  said_told h = e ∙ go l p (rw e at h)
+    where
+      go : (b c : Bool) → is_ok (cond b (cond c (Ok x) (Err Above)) (Err Malformed)) ≡ true → cond b (cond c (Ok x) (Err Above)) (Err Malformed) ≡ Ok x
+      go true true q = refl
+      go true false q = cc
+      go false c q = cc
 
 -- numbers that say what is in range are within their limits
 within_limits : {A : Type 0} (say : List ℕ → A) (passes : A → Bool) (limits : List ℕ) → ((ns : List ℕ) → passes (say ns) ≡ true → at_most limits ns ≡ true)
@@ -100,30 +106,21 @@ abbrev ns : List ℕ → List ℕ
 ns line = values_of (fields line)
 
 module _ (v : Version) (line : List ℕ) where
-  -- as the code makes it of the numbers
-  pub site_made : {r : Numbers} → r ≡ numbers_of (site_head v) site_limits (fields line) → {x : Site} → x ≡ site_of r.values → {b : Bool} → b ≡ site_in_range x
-      → {j : Judged} → j ≡ judged_as r.verdict b → ◌≡◌ {A = SiteLine} (record { judged = j; site = x }) (site_read v line)
-  unfolding site_read
-  site_made {r} e {x} s p {j} q =
-      (λ i. record { judged = now i; site = s i })
-      ∙ ap (λ (n : Numbers). record { judged = judged_as n.verdict (site_in_range (site_of n.values)); site = site_of n.values }) e
-    where
-      now : j ≡ judged_as r.verdict (site_in_range (site_of r.values))
-      now = q ∙ ap (judged_as r.verdict) (p ∙ ap site_in_range s)
-
-  pub site_laid : (site_read v line).judged.laid_out ≡ is_site v line
-  unfolding site_read numbers_of is_site
-  site_laid = laid_so site_of site_in_range (is_site v line) site_limits (ns line)
-
-  pub site-passes : is_site v line ≡ true → (site_read v line).judged.in_range ≡ site_in_range (site_said line)
+  site_is : site_read v line ≡ cond (is_site v line) (ranged (site_in_range (site_said line)) (site_said line)) (Err Malformed)
   unfolding site_read numbers_of is_site site_said
-  site-passes l =
-      passes_so site_of site_in_range (is_site v line) site_limits (ns line) site-padded l
-      ∙ within_limits site_of site_in_range site_limits site-at_most (ns line)
+  site_is =
+      says_so site_of site_in_range (is_site v line) site_limits (ns line) site-padded
+      ∙ ap (λ (b : Bool). cond (is_site v line) (ranged b (site_of (ns line))) (Err Malformed))
+      (within_limits site_of site_in_range site_limits site-at_most (ns line))
 
-  pub site-says : (site_read v line).judged.in_range ≡ true → (site_read v line).site ≡ site_said line
-  unfolding site_read numbers_of is_site site_said
-  site-says e = says_so site_of site_in_range (is_site v line) site_limits (ns line) site-padded e
+  pub site_laid : in_layout (site_read v line) ≡ is_site v line
+  site_laid = laid_told _ _ _ site_is
+
+  pub site-passes : is_site v line ≡ true → is_ok (site_read v line) ≡ site_in_range (site_said line)
+  site-passes = range_told _ _ _ site_is
+
+  pub site-says : is_ok (site_read v line) ≡ true → site_read v line ≡ Ok (site_said line)
+  site-says = said_told _ _ _ site_is
 
 -- ---- a row's line
 
@@ -159,7 +156,7 @@ pub limits_later : (l : ℕ) (ls ns : List ℕ) → at_most (l ∷ ls) ns ≡ tr
 limits_later l ls [] e = at_most_none ls
 limits_later l ls (n ∷ ns) e = and_right (leb n l) (at_most ls ns) e
 
-placed-at_most : (ns : List ℕ) → row_in_range Archived (placed_of ns) ≡ true → at_most placed_limits ns ≡ true
+placed-at_most : (ns : List ℕ) → row_in_range Archived (row_as (placed_of ns)) ≡ true → at_most placed_limits ns ≡ true
 unfolding row_in_range placed_of place_in_range within character_within
 placed-at_most ns e =
     let n = get_or ns 0 0 in
@@ -168,9 +165,12 @@ placed-at_most ns e =
     at_most_from 0 placed_limits ns (leb-true n capacity (and_right (leb 1 n) (leb n capacity) (and_left_lem p (character_in_range c) e)))
     (character-at_most Second (drop 1 ns) refl (and_right p (character_in_range c) e))
 
+abbrev placed_as : Row → Placed
+placed_as r = record { place = r.place; character = r.character }
+
 -- numbers within their limits are those that say what is in range, where the form can say it
 row-limits : (k : Rows) (ms : List ℕ)
-    → (at_most (row_limits k) ms && row_in_range k (row_of k ms)) ≡ (row_within k (row_of k ms) && character_in_range (row_of k ms).character)
+    → (at_most (row_limits k) ms && row_in_range k (row_of k ms)) ≡ (row_within k (placed_as (row_of k ms)) && character_in_range (row_of k ms).character)
 unfolding row_of row_in_range row_within
 row-limits (Saved v) ms =
     let c = character_of v ms in
@@ -180,25 +180,9 @@ row-limits (Saved v) ms =
     agree (limits && ranged) (within && ranged)
     (λ p. and_intro (at_most_within v ms (and_left_lem limits ranged p)) (and_right limits ranged p))
     (λ p. and_intro (character-at_most v ms (and_left_lem within ranged p) (and_right within ranged p)) (and_right within ranged p))
-row-limits Archived ms = within_limits placed_of (row_in_range Archived) placed_limits placed-at_most ms
+row-limits Archived ms = within_limits (row_of Archived) (row_in_range Archived) placed_limits placed-at_most ms
 
 module _ (k : Rows) (line : List ℕ) where
-  -- as the code makes it of the numbers
-  pub row_made : {r : Numbers} → r ≡ numbers_of (row_head k) (row_limits k) (fields line) → {n : ℕ} {x : Character}
-      → ◌≡◌ {A = Placed} (record { place = n; character = x }) (row_of k r.values) → {b : Bool} → b ≡ row_in_range k (record { place = n; character = x })
-      → {j : Judged} → j ≡ judged_as r.verdict b → ◌≡◌ {A = RowLine} (record { judged = j; place = n; character = x }) (row_read k line)
-  unfolding row_read
-  row_made {r} e s p {j} q =
-      (λ i. record { judged = now i; place = (s i).place; character = (s i).character })
-      ∙ ap (λ (n : Numbers). record {
-        judged = judged_as n.verdict (row_in_range k (row_of k n.values));
-        place = (row_of k n.values).place;
-        character = (row_of k n.values).character;
-      }) e
-    where
-      now : j ≡ judged_as r.verdict (row_in_range k (row_of k r.values))
-      now = q ∙ ap (judged_as r.verdict) (p ∙ ap (row_in_range k) s)
-
   has-layout : has_layout (row_head k) (length (row_limits k)) (fields line) ≡ is_row k line
   unfolding is_row is_character is_placed
   has-layout = go k
@@ -207,31 +191,36 @@ module _ (k : Rows) (line : List ℕ) where
       go (Saved v) = refl
       go Archived = refl
 
-  row-of : row_of k (ns line) ≡ row_said k line
+  row-of : placed_as (row_of k (ns line)) ≡ row_said k line
   unfolding row_of row_said character_said placed_said
   row-of = go k
     where
-      go : (k : Rows) → row_of k (ns line) ≡ row_said k line
+      go : (k : Rows) → placed_as (row_of k (ns line)) ≡ row_said k line
       go (Saved v) = refl
       go Archived = refl
 
-  pub row_laid : (row_read k line).judged.laid_out ≡ is_row k line
+  row_is : row_read k line
+      ≡ cond (is_row k line)
+      (ranged (row_within k (row_said k line) && character_in_range (row_said k line).character) (row_as (row_said k line)))
+      (Err Malformed)
   unfolding row_read numbers_of
-  row_laid = laid_so (row_of k) (row_in_range k) (has_layout (row_head k) (length (row_limits k)) (fields line)) (row_limits k) (ns line) ∙ has-layout
+  row_is =
+      says_so (row_of k) (row_in_range k) (has_layout (row_head k) (length (row_limits k)) (fields line)) (row_limits k) (ns line) (row-padded k)
+      ∙ (λ j. cond (has-layout j) (ranged (passes j) (row_as (row-of j))) (Err Malformed))
+    where
+      passes : at_most (row_limits k) (ns line) && row_in_range k (row_of k (ns line))
+          ≡ row_within k (row_said k line) && character_in_range (row_said k line).character
+      passes = row-limits k (ns line) ∙ ap (λ (p : Placed). row_within k p && character_in_range p.character) row-of
 
-  pub row-passes : is_row k line ≡ true → (row_read k line).judged.in_range ≡ row_within k (row_said k line) && character_in_range (row_said k line).character
-  unfolding row_read numbers_of
-  row-passes l =
-      passes_so (row_of k) (row_in_range k) (has_layout (row_head k) (length (row_limits k)) (fields line)) (row_limits k) (ns line) (row-padded k) (has-layout ∙ l)
-      ∙ row-limits k (ns line)
-      ∙ ap (λ (p : Placed). row_within k p && character_in_range p.character) row-of
+  pub row_laid : in_layout (row_read k line) ≡ is_row k line
+  row_laid = laid_told _ _ _ row_is
 
-  pub row-says : (row_read k line).judged.in_range ≡ true
-      → ◌≡◌ {A = Placed} (record { place = (row_read k line).place; character = (row_read k line).character }) (row_said k line)
-  unfolding row_read numbers_of
-  row-says e =
-      says_so (row_of k) (row_in_range k) (has_layout (row_head k) (length (row_limits k)) (fields line)) (row_limits k) (ns line) (row-padded k) e
-      ∙ row-of
+  pub row-passes : is_row k line ≡ true
+      → is_ok (row_read k line) ≡ row_within k (row_said k line) && character_in_range (row_said k line).character
+  row-passes = range_told _ _ _ row_is
+
+  pub row-says : is_ok (row_read k line) ≡ true → row_read k line ≡ Ok (row_as (row_said k line))
+  row-says = said_told _ _ _ row_is
 
 -- ---- an operation's line, by what `codec` answers
 
@@ -240,65 +229,49 @@ module _ (v : Version) (line : List ℕ) where
   unfolding pending_read
   by_checks = refl
 
-  pub operation_done : (o : Operation) → pending_read v line ≡ readsAs o
-      → ◌≡◌ {A = OperationLine} (record { judged = judgement true true; operation = o }) (operation_read v line)
-  unfolding operation_read operation_judged
+  operation_is : operation_read v line ≡ cond (is_operation v line) (ranged (in_range (operation_said line)) (operation_said line)) (Err Malformed)
+  unfolding operation_read
+  operation_is = refl
+
+  pub operation_done : (o : Operation) → pending_read v line ≡ Ok o → Ok o ≡ operation_read v line
+  unfolding ranged
   operation_done o e = go (is_operation v line) (in_range (operation_said line)) refl refl
     where
-      go : (a b : Bool) → is_operation v line ≡ a → in_range (operation_said line) ≡ b
-          → ◌≡◌ {A = OperationLine} (record { judged = judgement true true; operation = o }) (operation_read v line)
-      go false b p q = let z : readRefused Layout ≡ readsAs o = sym (read-layout _) ∙ rw (by_checks, p) at e in cc
-      go true false p q = let z : readRefused Range ≡ readsAs o = sym (read-range _ q) ∙ rw (by_checks, p) at e in cc
+      go : (a b : Bool) → is_operation v line ≡ a → in_range (operation_said line) ≡ b → Ok o ≡ operation_read v line
+      go false b p q = let z : Err Layout ≡ Ok o = sym (read-layout _) ∙ rw (by_checks, p) at e in cc
+      go true false p q = let z : Err Range ≡ Ok o = sym (read-range _ q) ∙ rw (by_checks, p) at e in cc
       go true true p q =
-          let z : readsAs (operation_said line) ≡ readsAs o = sym (read-operation _ q) ∙ rw (by_checks, p) at e in
+          let z : Ok (operation_said line) ≡ Ok o = sym (read-operation _ q) ∙ rw (by_checks, p) at e in
           let same : operation_said line ≡ o = cc in
-          rw (p, q) (λ j. record { judged = judgement true true; operation = sym same j })
+          rw (operation_is, p, q) (ap Ok (sym same))
 
-  module _ (r : Refusal) (e : pending_read v line ≡ readRefused r) where
-    pub operation_range : r ≡ Range → no_operation true ≡ operation_read v line
-    unfolding operation_read operation_judged
+  module _ (r : Refusal) (e : pending_read v line ≡ Err r) where
+    pub operation_range : r ≡ Range → Err Above ≡ operation_read v line
+    unfolding ranged
     operation_range h = go (is_operation v line) (in_range (operation_said line)) refl refl
       where
-        go : (a b : Bool) → is_operation v line ≡ a → in_range (operation_said line) ≡ b → no_operation true ≡ operation_read v line
-        go false b p q = let z : readRefused Layout ≡ readRefused Range = sym (read-layout _) ∙ rw (by_checks, p, h) at e in cc
-        go true false p q = rw (p, q)
-        go true true p q = let z : readsAs (operation_said line) ≡ readRefused r = sym (read-operation _ q) ∙ rw (by_checks, p) at e in cc
+        go : (a b : Bool) → is_operation v line ≡ a → in_range (operation_said line) ≡ b → Err Above ≡ operation_read v line
+        go false b p q = let z : Err Layout ≡ Err Range = sym (read-layout _) ∙ rw (by_checks, p, h) at e in cc
+        go true false p q = rw (operation_is, p, q)
+        go true true p q = let z : Ok (operation_said line) ≡ Err r = sym (read-operation _ q) ∙ rw (by_checks, p) at e in cc
 
-    pub operation_layout : (r ≡ Range → ⊥) → no_operation false ≡ operation_read v line
-    unfolding operation_read operation_judged
+    pub operation_layout : (r ≡ Range → ⊥) → Err Malformed ≡ operation_read v line
     operation_layout h = go (is_operation v line) (in_range (operation_said line)) refl refl
       where
-        go : (a b : Bool) → is_operation v line ≡ a → in_range (operation_said line) ≡ b → no_operation false ≡ operation_read v line
-        go false b p q = rw p
+        go : (a b : Bool) → is_operation v line ≡ a → in_range (operation_said line) ≡ b → Err Malformed ≡ operation_read v line
+        go false b p q = rw (operation_is, p)
         go true false p q =
-            let z : readRefused Range ≡ readRefused r = sym (read-range _ q) ∙ rw (by_checks, p) at e in
+            let z : Err Range ≡ Err r = sym (read-range _ q) ∙ rw (by_checks, p) at e in
             let same : r ≡ Range = cc in
             absurd (h same)
-        go true true p q = let z : readsAs (operation_said line) ≡ readRefused r = sym (read-operation _ q) ∙ rw (by_checks, p) at e in cc
+        go true true p q = let z : Ok (operation_said line) ≡ Err r = sym (read-operation _ q) ∙ rw (by_checks, p) at e in cc
 
   -- what is read of it is what the line says
-  pub operation_laid : (operation_read v line).judged.laid_out ≡ is_operation v line
-  unfolding operation_read operation_judged no_operation judgement
-  operation_laid = go (is_operation v line) (in_range (operation_said line)) refl refl
-    where
-      go : (a b : Bool) → is_operation v line ≡ a → in_range (operation_said line) ≡ b → (operation_read v line).judged.laid_out ≡ is_operation v line
-      go false b p q = rw p
-      go true false p q = rw (p, q)
-      go true true p q = rw (p, q)
+  pub operation_laid : in_layout (operation_read v line) ≡ is_operation v line
+  operation_laid = laid_told _ _ _ operation_is
 
-  pub operation-passes : is_operation v line ≡ true → (operation_read v line).judged.in_range ≡ in_range (operation_said line)
-  unfolding operation_read operation_judged no_operation judgement
-  operation-passes p = go (in_range (operation_said line)) refl
-    where
-      go : (b : Bool) → in_range (operation_said line) ≡ b → (operation_read v line).judged.in_range ≡ in_range (operation_said line)
-      go true q = rw (p, q)
-      go false q = rw (p, q)
+  pub operation-passes : is_operation v line ≡ true → is_ok (operation_read v line) ≡ in_range (operation_said line)
+  operation-passes = range_told _ _ _ operation_is
 
-  pub operation_says : (operation_read v line).judged.in_range ≡ true → (operation_read v line).operation ≡ operation_said line
-  unfolding operation_read operation_judged no_operation judgement
-  operation_says e = go (is_operation v line) (in_range (operation_said line)) refl refl
-    where
-      go : (a b : Bool) → is_operation v line ≡ a → in_range (operation_said line) ≡ b → (operation_read v line).operation ≡ operation_said line
-      go false b p q = clash e (rw p)
-      go true false p q = clash e (rw (p, q))
-      go true true p q = rw (p, q)
+  pub operation_says : is_ok (operation_read v line) ≡ true → operation_read v line ≡ Ok (operation_said line)
+  operation_says = said_told _ _ _ operation_is

@@ -10,9 +10,8 @@ ghost use Rattle.saving.specs.Documents.{line_bytes, HasSlots, lists_of, lines_a
 use crate::numbered::Line;
 use crate::{numbered, site_line};
 use answers::Refusal;
-use lines::writing::Room;
 use saved::Rows;
-use woot::{CODE_POINTS, NEXT_KEYS, PENDING, PREVIOUS_KEYS, Site, Written};
+use woot::{CODE_POINTS, NEXT_KEYS, PENDING, PREVIOUS_KEYS};
 
 // Internal step: the line at an index: of the n rows first, and then of the w pending operations, whose numbers lie in
 // columns of the given slots.
@@ -67,7 +66,7 @@ pub(crate) fn measure<'a>(
     w: usize,
     size: usize,
     at: usize,
-) -> Room
+) -> Option<usize>
     requires has_slots { HasSlots places.now characters.now toggles.now n pending.now slots w }
     requires at_le_size { at ≤ size }
     ensures { result
@@ -76,17 +75,15 @@ pub(crate) fn measure<'a>(
 {
     let all = n + w;
     let mut end = at;
-    let mut i = 0;
-    while i < all {
+    for i in 0..all {
         let line = line(rows, places, characters, toggles, n, pending, slots, w, i);
         let room = numbered::measure(line, size, end);
-        let Room::Until(past) = room else {
-            return Room::Short;
+        let Some(past) = room else {
+            return None;
         };
         end = past;
-        i += 1;
     }
-    Room::Until(end)
+    Some(end)
 }
 
 // Puts the lines at the offset, where there is room.
@@ -111,11 +108,9 @@ pub(crate) fn put_lines<'a>(
 {
     let all = n + w;
     let mut end = at;
-    let mut i = 0;
-    while i < all {
+    for i in 0..all {
         let line = line(rows, places, characters, toggles, n, pending, slots, w, i);
         end = numbered::put_numbered(line, out, end);
-        i += 1;
     }
 }
 
@@ -132,7 +127,7 @@ pub(crate) fn put_columns_with<'a>(
     pending: &'a [u32],
     w: usize,
     out: &mut [u8],
-) -> Written
+) -> Result<usize, Refusal>
     requires { HasSlots places.now characters.now toggles.now n pending.now pending_slots w }
     ensures value { result
         ≡ written_as [] (file_bytes rows (site_with number clock) (lists_of places.now
@@ -146,52 +141,18 @@ pub(crate) fn put_columns_with<'a>(
     let size = out.len();
     let version = rows.version();
     let front = site_line::measure_site_with(version, number, clock, size);
-    let Room::Until(start) = front else {
-        return Written::Refused(Refusal::Output);
+    let Some(start) = front else {
+        return Err(Refusal::Output);
     };
     let room = measure(
         rows, places, characters, toggles, n, pending, PENDING, w, size, start,
     );
-    let Room::Until(length) = room else {
-        return Written::Refused(Refusal::Output);
+    let Some(length) = room else {
+        return Err(Refusal::Output);
     };
     let at = site_line::put_site_with(version, number, clock, out);
     put_lines(
         rows, places, characters, toggles, n, pending, PENDING, w, out, at,
     );
-    Written::Length(length)
-}
-
-// The same of a site.
-pub(crate) fn put_columns<'a>(
-    rows: Rows,
-    site: Site,
-    places: &'a [u32],
-    characters: &'a [u32],
-    toggles: &'a [u8],
-    n: usize,
-    pending: &'a [u32],
-    w: usize,
-    out: &mut [u8],
-) -> Written
-    requires { HasSlots places.now characters.now toggles.now n pending.now pending_slots w }
-    ensures value { result
-        ≡ written_as [] (file_bytes rows site (lists_of places.now characters.now
-        toggles.now n pending.now pending_slots w)) out.old }
-    ensures out_after { out.new
-        ≡ output_after [] (file_bytes rows site (lists_of places.now characters.now
-        toggles.now n pending.now pending_slots w)) out.old }
-{
-    put_columns_with(
-        rows,
-        site.number,
-        site.clock,
-        places,
-        characters,
-        toggles,
-        n,
-        pending,
-        w,
-        out,
-    )
+    Ok(length)
 }

@@ -8,7 +8,8 @@ pub mod site_line;
 
 ghost use Rattle.std.specs.Prelude.{◌≡◌, true, [], ◌≤◌, length};
 ghost use Rattle.woot.specs.Writing.{written_as, output_after};
-ghost use Rattle.woot.specs.Memory.{character_numbers, character_slots, pending_numbers, pending_slots};
+ghost use Rattle.woot.specs.Memory.{character_numbers, character_slots, meaning, pending_numbers, pending_slots};
+ghost use Rattle.memory.specs.Lent.{Full};
 ghost use Rattle.saved.specs.Format.{representable, bytes_as};
 ghost use Rattle.saved.specs.Archive.{archive_bytes};
 ghost use Rattle.saved.specs.Calls.{saved, saved_out};
@@ -16,7 +17,7 @@ ghost use Rattle.saving.specs.Documents.{state_in, archive_in};
 
 use answers::Refusal;
 use saved::{Rows, Version};
-use woot::{Replica, Site, Written};
+use woot::{Replica, Site};
 
 // Internal step: writes the replica with these arrays, well formed or not, at the front of the slice. A refused call
 // leaves every byte as it was. The calls lend arrays of these sizes, with a slot for each of the n characters and each
@@ -31,7 +32,7 @@ pub fn put_replica<'a>(
     pending: &'a [u32],
     w: usize,
     out: &mut [u8],
-) -> Written
+) -> Result<usize, Refusal>
     requires characters_len { length characters.now ≡ character_numbers }
     requires n_le_character_slots { n ≤ character_slots }
     requires n_in_bounds { n ≤ length toggles.now }
@@ -59,6 +60,29 @@ pub fn put_replica<'a>(
     )
 }
 
+// Internal step: writes a replica that is lent, well formed or not, at the front of the slice: the same, of its own
+// arrays.
+pub fn write_replica(version: Version, replica: &Replica, out: &mut [u8]) -> Result<usize, Refusal>
+    requires full { Full replica.now }
+    requires length_le_character_slots { replica.now.document.length ≤ character_slots }
+    requires waiting_le_pending_slots { replica.now.document.waiting ≤ pending_slots }
+    requires version_value { representable version (meaning replica.now) ≡ true }
+    ensures value { result ≡ written_as [] (bytes_as version (meaning replica.now)) out.old }
+    ensures out_after { out.new ≡ output_after [] (bytes_as version (meaning replica.now)) out.old }
+{
+    let document = &replica.document;
+    put_replica(
+        version,
+        replica.site,
+        &document.characters,
+        &document.toggles,
+        document.length,
+        &document.pending,
+        document.waiting,
+        out,
+    )
+}
+
 // Internal step: writes the archive with these arrays, arranged or not, at the front of the slice. A refused call
 // leaves every byte as it was. Beside the arrays of `put_replica` one is lent with the places of the characters.
 pub fn put_archive<'a>(
@@ -70,7 +94,7 @@ pub fn put_archive<'a>(
     pending: &'a [u32],
     w: usize,
     out: &mut [u8],
-) -> Written
+) -> Result<usize, Refusal>
     requires n_in_bounds { n ≤ length places.now }
     requires characters_len { length characters.now ≡ character_numbers }
     requires n_le_character_slots { n ≤ character_slots }
@@ -99,30 +123,12 @@ pub fn put_archive<'a>(
 }
 
 // Writes a saved replica at the front of the slice. A refused call leaves every byte as it was.
-pub fn save(replica: Replica, out: &mut [u8]) -> Written
+pub fn save(replica: Replica, out: &mut [u8]) -> Result<usize, Refusal>
     ensures value { result ≡ saved replica out.old }
     ensures out_after { out.new ≡ saved_out replica out.old }
 {
-    if !well_formed::check(
-        replica.site,
-        &replica.document.characters,
-        &replica.document.toggles,
-        replica.document.length,
-        &replica.document.pending,
-        replica.document.waiting,
-        &replica.document.table.heads,
-        &replica.document.table.links,
-    ) {
-        return Written::Refused(Refusal::Form);
+    if !well_formed::is_well_formed(&replica) {
+        return Err(Refusal::Form);
     }
-    put_replica(
-        Version::Second,
-        replica.site,
-        &replica.document.characters,
-        &replica.document.toggles,
-        replica.document.length,
-        &replica.document.pending,
-        replica.document.waiting,
-        out,
-    )
+    write_replica(Version::Second, &replica, out)
 }

@@ -10,7 +10,6 @@ ghost use Rattle.saved.specs.Rows.{row_line};
 ghost use Rattle.saving.specs.Documents.{line_bytes, row_of};
 
 use codec::{DELETE, INSERT, TOGGLE};
-use lines::writing::Room;
 use saved::{CHARACTER, PLACED, Rows, Version};
 
 // The head word of a line, and its numbers, of which the first few count.
@@ -161,7 +160,7 @@ pub(crate) fn operation(version: Version, own: u32, first: u32, second: u32, val
 }
 
 // Internal step: where a line ends that begins at the offset in a slice of the given size.
-pub fn measure(line: Line, size: usize, at: usize) -> Room
+pub fn measure(line: Line, size: usize, at: usize) -> Option<usize>
     requires { line.count ≤ 9 }
     ensures { result ≡ room_for size at (line_bytes line) }
 {

@@ -7,13 +7,12 @@ ghost use Rattle.woot.specs.Memory.{character_numbers, character_slots};
 ghost use Rattle.saving.specs.Documents.{lines_in};
 
 use crate::columns;
-use lines::writing::Room;
 use saved::{Rows, Version};
 use woot::CHARACTERS;
 
 // Internal step: where the lines of the first operations end that begin at the offset in a slice of the given size.
 // Their numbers lie in columns as those of characters do. The calls lend columns of this length.
-pub fn measure(numbers: &[u32], count: usize, size: usize, at: usize) -> Room
+pub fn measure(numbers: &[u32], count: usize, size: usize, at: usize) -> Option<usize>
     requires numbers_len { length numbers.now ≡ character_numbers }
     requires count_le_character_slots { count ≤ character_slots }
     requires at_le_size { at ≤ size }

@@ -7,90 +7,29 @@ ghost use Rattle.lines.specs.Room.{room_for};
 ghost use Rattle.saved.specs.Format.{site_numbers, site_line};
 ghost use Rattle.saving.specs.Documents.{site_with};
 
-use lines::writing::Room;
-use saved::{FIRST_SITE, SITE, Version};
-use woot::Site;
+use saved::Version;
 
-// The numbers of a site's line.
-fn site_numbers(site: Site) -> [u64; 2]
-    ensures { result ≡ site_numbers site }
-{
-    [site.number as u64, site.clock as u64]
-}
-
-// The same of a site's number and clock.
+// The numbers of the line of a site with this number and clock.
 fn site_numbers_with(number: u8, clock: u16) -> [u64; 2]
     ensures { result ≡ site_numbers (site_with number clock) }
 {
     [number as u64, clock as u64]
 }
 
-// Where the line of a site ends at the front of a slice of the given size.
-pub(crate) fn measure_site(version: Version, site: Site, size: usize) -> Room
-    ensures { result ≡ room_for size 0 (site_line version site) }
-{
-    let numbers = site_numbers(site);
-    match version {
-        Version::First => {
-            let head = FIRST_SITE;
-            lines::writing::measure(&head, &numbers, size, 0)
-        }
-        Version::Second => {
-            let head = SITE;
-            lines::writing::measure(&head, &numbers, size, 0)
-        }
-    }
-}
-
-// Internal step: the same of a site's number and clock.
-pub fn measure_site_with(version: Version, number: u8, clock: u16, size: usize) -> Room
+// Internal step: where the line of a site ends at the front of a slice of the given size.
+pub fn measure_site_with(version: Version, number: u8, clock: u16, size: usize) -> Option<usize>
     ensures { result ≡ room_for size 0 (site_line version (site_with number clock)) }
 {
     let numbers = site_numbers_with(number, clock);
-    match version {
-        Version::First => {
-            let head = FIRST_SITE;
-            lines::writing::measure(&head, &numbers, size, 0)
-        }
-        Version::Second => {
-            let head = SITE;
-            lines::writing::measure(&head, &numbers, size, 0)
-        }
-    }
+    lines::writing::measure(version.site_head(), &numbers, size, 0)
 }
 
-// Puts the line of a site at the front of the slice, all of it or nothing, and answers the offset just past it.
-pub(crate) fn put_site(version: Version, site: Site, out: &mut [u8]) -> usize
-    ensures value { result ≡ past out.old 0 (site_line version site) }
-    ensures out_after { out.new ≡ placed out.old 0 (site_line version site) }
-{
-    let numbers = site_numbers(site);
-    match version {
-        Version::First => {
-            let head = FIRST_SITE;
-            lines::writing::put_line(&head, &numbers, out, 0)
-        }
-        Version::Second => {
-            let head = SITE;
-            lines::writing::put_line(&head, &numbers, out, 0)
-        }
-    }
-}
-
-// Internal step: the same of a site's number and clock.
+// Internal step: puts the line of a site at the front of the slice, all of it or nothing, and answers the offset just
+// past it.
 pub fn put_site_with(version: Version, number: u8, clock: u16, out: &mut [u8]) -> usize
     ensures value { result ≡ past out.old 0 (site_line version (site_with number clock)) }
     ensures out_after { out.new ≡ placed out.old 0 (site_line version (site_with number clock)) }
 {
     let numbers = site_numbers_with(number, clock);
-    match version {
-        Version::First => {
-            let head = FIRST_SITE;
-            lines::writing::put_line(&head, &numbers, out, 0)
-        }
-        Version::Second => {
-            let head = SITE;
-            lines::writing::put_line(&head, &numbers, out, 0)
-        }
-    }
+    lines::writing::put_line(version.site_head(), &numbers, out, 0)
 }

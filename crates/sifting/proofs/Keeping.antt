@@ -12,6 +12,7 @@ use lib.ListN.{length, take, drop, get_or, set, length-take, length-append}
 use lib.Seq.{take-suc, take_all, take-take, take-set-le, take-suc-set, drop-drop, drop-set-lt}
 use lib.Seq.{get_or-drop, get_or-take, get_or-set_same}
 use borrow.Author.Tests.{eqb-true, eq-eqb, ne_eqb}
+use Rattle.std.proofs.Common.{Option, Some, None}
 use Rattle.lists.specs.Lists.{any, every, distinct}
 use Rattle.lists.proofs.Tests.{clash, and_intro, and_left_lem, and_right, three, four, fails, not-intro}
 use Rattle.lists.proofs.Tests.{or-false, or-false-left, or-false-right}
@@ -28,8 +29,6 @@ use Rattle.woot.specs.Memory.{column}
 use Rattle.convergence.specs.Passes.{kept_once, firsts}
 use Rattle.convergence.proofs.Identifiers.{same-eq, eq-same}
 use Rattle.convergence.proofs.Steps.{any-map}
-use Rattle.index.specs.declared.Found.{Found}
-use Rattle.index.specs.declared.Found.TheVariants.{At, Nothing}
 use Rattle.index.specs.Keys.{found}
 use Rattle.index.specs.Tabled.{Tabled}
 use Rattle.index.proofs.Agreement.{tabled}
@@ -38,13 +37,12 @@ use Rattle.index.proofs.Searches.{FoundAt, first_says}
 use Rattle.chains.proofs.Tables.{enter}
 use Rattle.memory.proofs.Fullness.{column-length}
 use Rattle.memory.proofs.Operations.{KeyedInsert}
-use Rattle.sifting.specs.declared.Kept.{Kept}
 use Rattle.heap.specs.Columns.{InsertsIn}
 use Rattle.heap.specs.Keeping.{Moved}
 use Rattle.heap.proofs.Columns.{NumbersAt, insert_pushed}
 use Rattle.heap.proofs.Inserts.{keyed, numbers_at}
 use Rattle.heap.proofs.Heaps.{no_disagreement}
-use Rattle.sifting.specs.Keeping.{same_fields, Sifted, KeptOnce}
+use Rattle.sifting.specs.Keeping.{same_fields, Sifted, KeptFirsts, KeptOnce}
 
 -- ---- one insert
 
@@ -52,10 +50,10 @@ use Rattle.sifting.specs.Keeping.{same_fields, Sifted, KeptOnce}
 abbrev key_at : List ℕ → ℕ → ℕ
 key_at xs i = get_or (column 1024 0 xs) i 0
 
-abbrev sought : List ℕ → ℕ → ℕ → Found
+abbrev sought : List ℕ → ℕ → ℕ → Option ℕ
 sought xs i n = found (key_at xs i) (take n xs)
 
-pub found-low : (k : ℕ) (ks : List ℕ) {j : ℕ} → found k ks ≡ At j → j < length ks
+pub found-low : (k : ℕ) (ks : List ℕ) {j : ℕ} → found k ks ≡ Some j → j < length ks
 unfolding found
 found-low k ks e = (first_says (λ x. eqb k x) ks e).within
 
@@ -63,17 +61,33 @@ found-low k ks e = (first_says (λ x. eqb k x) ks e).within
 key-front : (xs : List ℕ) (n : ℕ) → n ≤ 1024 → take n (column 1024 0 xs) ≡ take n xs
 key-front xs n h = take-take n 1024 xs h
 
-module _ (xs : List ℕ) (t : Table) (i n : ℕ) (h : i < 1024) {ys : List ℕ} {u : Table} {r : Kept} where
-  pub sifted_at : (j : ℕ) → found (get_or xs i 0) (take n xs) ≡ At j → ys ≡ xs → u ≡ t
-      → r ≡ record { agreeing = same_fields xs i j; count = n } → Sifted xs t i n ys u r (sought xs i n)
+module _ (xs : List ℕ) (t : Table) (i n : ℕ) (h : i < 1024) {ys : List ℕ} {u : Table} {r : Option ℕ} where
+  pub sifted_at : (j : ℕ) → found (get_or xs i 0) (take n xs) ≡ Some j → ys ≡ xs → u ≡ t
+      → r ≡ cond (same_fields xs i j) (Some n) None → Sifted xs t i n ys u r (sought xs i n)
   sifted_at j e a b c = rw (get_or-take 1024 xs i 0 h, e) (a, b, c)
 
-  pub sifted_nothing : found (get_or xs i 0) (take n xs) ≡ Nothing → Moved xs i n ys → u ≡ entered t n (get_or xs i 0)
-      → r ≡ record { agreeing = true; count = n + 1 } → Sifted xs t i n ys u r (sought xs i n)
+  pub sifted_nothing : found (get_or xs i 0) (take n xs) ≡ None → Moved xs i n ys → u ≡ entered t n (get_or xs i 0)
+      → r ≡ Some (n + 1) → Sifted xs t i n ys u r (sought xs i n)
   sifted_nothing e a b c =
       let same : key_at xs i ≡ get_or xs i 0 = get_or-take 1024 xs i 0 h in
-      let there : sought xs i n ≡ Nothing = ap (λ (k : ℕ). found k (take n xs)) same ∙ e in
+      let there : sought xs i n ≡ None = ap (λ (k : ℕ). found k (take n xs)) same ∙ e in
       rw there (a, b ∙ ap (entered t n) (sym same), c)
+
+-- ---- what is told
+
+some-same : {m n : ℕ} → Some m ≡ Some n → m ≡ n
+some-same e = cc
+
+none-some : {A : Type 0} {n : ℕ} → ◌≡◌ {A = Option ℕ} None (Some n) → A
+none-some e = cc
+
+some_told : (b : Bool) {m n : ℕ} → Some m ≡ cond b (Some n) None → (b ≡ true) × (m ≡ n)
+some_told true e = (refl, some-same e)
+some_told false e = none-some (sym e)
+
+none_told : (b : Bool) (n : ℕ) → None ≡ cond b (Some n) None → b ≡ false
+none_told true n e = none-some e
+none_told false n e = refl
 
 -- ---- lists
 
@@ -317,7 +331,7 @@ module _ {before : List ℕ} {n : ℕ} {xs : List ℕ} {t : Table} {i c : ℕ} (
   -- no insert is left
   module _ (h : n ≤ i) where
     pub keep-end : (is : List Insert) → InsertsIn before is → n ≡ length is → every insert_in_range is ≡ true
-        → KeptOnce is xs (record { agreeing = true; count = c })
+        → KeptFirsts is xs c
     keep-end is a m r =
         let s = l.sifting is a m r in
         let whole : take i is ≡ is = take_all i is (omega (arith, h, m)) in
@@ -330,7 +344,7 @@ module _ {before : List ℕ} {n : ℕ} {xs : List ℕ} {t : Table} {i c : ℕ} (
         one_with (λ (k : Insert). key k.id) (firsts is) (rw ids at l.apart) (rw whole at s.all x u)
         (rw whole at s.all y v) (ap key (same-eq x.id y.id e)) in
         let agree : disagreeing is ≡ false = agreed is one in
-        record { agree = sym (ap not agree); kept = λ e. f; count = λ e. size }
+        record { agree = agree; kept = f; count = size }
 
   module _
       (h : i < n) (is : List Insert) (a : InsertsIn before is) (m : n ≡ length is)
@@ -363,7 +377,7 @@ module _ {before : List ℕ} {n : ℕ} {xs : List ℕ} {t : Table} {i c : ℕ} (
     those_in u = take_member i is (firsts_member (take i is) u)
 
     -- its key is found
-    module _ (j : ℕ) (e : sought xs i c ≡ At j) where
+    module _ (j : ℕ) (e : sought xs i c ≡ Some j) where
       places : FoundAt (λ x. eqb (key_at xs i) x) (take c xs) j
       unfolding found
       places = first_says (λ x. eqb (key_at xs i) x) (take c xs) e
@@ -412,7 +426,7 @@ module _ {before : List ℕ} {n : ℕ} {xs : List ℕ} {t : Table} {i c : ℕ} (
           member_any (λ (x : Insert). any (disagree x) is) this_in (member_any (disagree this) (those_in that_in) pair)
 
     -- it is not
-    module _ (e : sought xs i c ≡ Nothing) {ys : List ℕ} (p : Moved xs i c ys) where
+    module _ (e : sought xs i c ≡ None) {ys : List ℕ} (p : Moved xs i c ys) where
       ids : map (λ (k : Insert). key k.id) those ≡ take c xs
       ids =
           sym s.kept.ids ∙ ap (λ (k : ℕ). take k (column 1024 0 xs)) (sym s.count)
@@ -446,7 +460,7 @@ module _ {before : List ℕ} {n : ℕ} {xs : List ℕ} {t : Table} {i c : ℕ} (
 
   -- one insert more
   module _ (h : i < n) where
-    again : (j : ℕ) → sought xs i c ≡ At j → same_fields xs i j ≡ true → KeepLoop before n xs t (i + 1) c
+    again : (j : ℕ) → sought xs i c ≡ Some j → same_fields xs i j ≡ true → KeepLoop before n xs t (i + 1) c
     again j e g =
         record {
           size = l.size;
@@ -459,7 +473,7 @@ module _ {before : List ℕ} {n : ℕ} {xs : List ℕ} {t : Table} {i c : ℕ} (
           sifting = λ is a m d. repeated h is a m d j e g;
         }
 
-    anew : (ys : List ℕ) (u : Table) → sought xs i c ≡ Nothing → Moved xs i c ys → u ≡ entered t c (key_at xs i)
+    anew : (ys : List ℕ) (u : Table) → sought xs i c ≡ None → Moved xs i c ys → u ≡ entered t c (key_at xs i)
         → KeepLoop before n ys u (i + 1) (c + 1)
     unfolding found
     anew ys u e p q =
@@ -489,25 +503,19 @@ module _ {before : List ℕ} {n : ℕ} {xs : List ℕ} {t : Table} {i c : ℕ} (
           sifting = λ is a m d. kept-one-more h is a m d e p;
         }
 
-    pub keep-more : (ys : List ℕ) (u : Table) (r : Kept) → Sifted xs t i c ys u r (sought xs i c)
-        → r.agreeing ≡ true → KeepLoop before n ys u (i + 1) r.count
-    keep-more ys u r f e = go (sought xs i c) refl f
+    pub keep-more : (ys : List ℕ) (u : Table) (r : ℕ) → Sifted xs t i c ys u (Some r) (sought xs i c)
+        → KeepLoop before n ys u (i + 1) r
+    keep-more ys u r f = go (sought xs i c) refl f
       where
-        go : (w : Found) → sought xs i c ≡ w → Sifted xs t i c ys u r w → KeepLoop before n ys u (i + 1) r.count
-        go (At j) q g =
-            rw (g.0, g.1, ap (λ (k : Kept). k.count) g.2)
-            (again j q (sym (ap (λ (k : Kept). k.agreeing) g.2) ∙ e))
-        go Nothing q g = rw (ap (λ (k : Kept). k.count) g.2) (anew ys u q g.0 g.1)
+        go : (w : Option ℕ) → sought xs i c ≡ w → Sifted xs t i c ys u (Some r) w → KeepLoop before n ys u (i + 1) r
+        go (Some j) q g = let w = some_told (same_fields xs i j) g.2 in rw (g.0, g.1, w.1) (again j q w.0)
+        go None q g = let e : r ≡ c + 1 = some-same g.2 in rw e (anew ys u q g.0 g.1)
 
-    pub keep_conflict : (ys : List ℕ) (u : Table) (r : Kept) → Sifted xs t i c ys u r (sought xs i c)
-        → r.agreeing ≡ false → (is : List Insert) → InsertsIn before is → n ≡ length is → every insert_in_range is ≡ true
-        → KeptOnce is ys (record { agreeing = false; count = 0 })
-    keep_conflict ys u r f e is a m d = go (sought xs i c) refl f
+    pub keep_conflict : (ys : List ℕ) (u : Table) → Sifted xs t i c ys u None (sought xs i c)
+        → (is : List Insert) → InsertsIn before is → n ≡ length is → every insert_in_range is ≡ true
+        → disagreeing is ≡ true
+    keep_conflict ys u f is a m d = go (sought xs i c) refl f
       where
-        go : (w : Found) → sought xs i c ≡ w → Sifted xs t i c ys u r w
-            → KeptOnce is ys (record { agreeing = false; count = 0 })
-        go (At j) q g =
-            let two : disagreeing is ≡ true =
-            conflicting h is a m d j q (sym (ap (λ (k : Kept). k.agreeing) g.2) ∙ e) in
-            record { agree = sym (ap not two); kept = λ o. clash two o; count = λ o. clash two o }
-        go Nothing q g = clash (ap (λ (k : Kept). k.agreeing) g.2) e
+        go : (w : Option ℕ) → sought xs i c ≡ w → Sifted xs t i c ys u None w → disagreeing is ≡ true
+        go (Some j) q g = conflicting h is a m d j q (none_told (same_fields xs i j) c g.2)
+        go None q g = none-some g.2

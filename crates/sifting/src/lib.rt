@@ -7,21 +7,13 @@ ghost use Rattle.lists.specs.Lists.{every};
 ghost use Rattle.woot.specs.declared.Insert.{Insert};
 ghost use Rattle.woot.specs.Memory.{character_slots, character_numbers, key_column};
 ghost use Rattle.woot.specs.Ranges.{insert_in_range};
-ghost use Rattle.woot.specs.Table.{chains, table_links};
+ghost use Rattle.chains.specs.Sizes.{Sized};
 ghost use Rattle.index.specs.Keys.{found};
 ghost use Rattle.index.specs.Tabled.{Tabled};
 ghost use Rattle.heap.specs.Columns.{InsertsIn};
 ghost use Rattle.sifting.specs.Keeping.{same_fields, Sifted, KeptOnce};
 
-use index::Found;
-use woot::{CODE_POINTS, NEXT_KEYS, PREVIOUS_KEYS};
-
-// Whether no two inserts with one identifier disagree; if so, how many identifiers there are.
-#[derive(Clone, Copy)]
-pub struct Kept {
-    pub agreeing: bool,
-    pub count: usize,
-}
+use woot::{CODE_POINTS, NEXT_KEYS, PREVIOUS_KEYS, Table};
 
 // Whether the inserts in two slots are the same, but for their keys.
 fn same_fields(inserts: &[u32], i: usize, j: usize) -> bool
@@ -37,61 +29,47 @@ fn same_fields(inserts: &[u32], i: usize, j: usize) -> bool
 }
 
 // Looks up the insert in slot i among the first n, which were kept and have a table: one that is found is compared, and
-// one that is not is kept behind them and entered.
-fn keep_next(inserts: &mut [u32], i: usize, n: usize, heads: &mut [u16], links: &mut [u16]) -> Kept
+// one that is not is kept behind them and entered. Tells how many are kept then, or nothing where the two disagree.
+fn keep_next(inserts: &mut [u32], i: usize, n: usize, table: &mut Table) -> Option<usize>
     requires inserts_len { length inserts.old ≡ character_numbers }
     requires n_le_i { n ≤ i }
     requires i_lt_character_slots { i < character_slots }
-    requires tabled { Tabled (record { heads = heads.now; links = links.old }) (take n inserts.old) }
-    ensures { Sifted inserts.old (record { heads = heads.entry.now; links = links.old })
-        i n inserts.new (record { heads = heads.exit.now; links = links.new }) result
+    requires tabled { Tabled table.old (take n inserts.old) }
+    ensures { Sifted inserts.old table.old i n inserts.new table.new result
         (found (get_or (key_column inserts.old) i 0) (take n inserts.old)) }
 {
     let key = inserts[i];
-    let found = index::table::find_among(heads, links, inserts, n, key);
+    let found = index::table::find_among(table, inserts, n, key);
     match found {
-        Found::At(j) => Kept {
-            agreeing: same_fields(inserts, i, j),
-            count: n,
-        },
-        Found::Nothing => {
-            heap::move_insert(inserts, i, n);
-            chains::enter(n, key, heads, links);
-            Kept {
-                agreeing: true,
-                count: n + 1,
+        Some(j) => {
+            if same_fields(inserts, i, j) {
+                Some(n)
+            } else {
+                None
             }
+        }
+        None => {
+            heap::move_insert(inserts, i, n);
+            chains::enter(n, key, table);
+            Some(n + 1)
         }
     }
 }
 
 // Internal step: keeps of the first n inserts those whose identifier was not met before, the first slots for them,
-// and tells whether each other is the same as the one that was kept. The other arrays are the table of those kept;
-// what was in them does not matter. The calls have read the inserts, and checked their ranges.
-pub fn keep_once(inserts: &mut [u32], n: usize, heads: &mut [u16], links: &mut [u16]) -> Kept
+// and tells how many they are, or nothing where another is not the same as the one that was kept. The table is then
+// that of those kept; what was in it does not matter. The calls have read the inserts, and checked their ranges.
+pub fn keep_once(inserts: &mut [u32], n: usize, table: &mut Table) -> Option<usize>
     requires inserts_len { length inserts.old ≡ character_numbers }
     requires n_le_character_slots { n ≤ character_slots }
-    requires heads_len { length heads.old ≡ chains }
-    requires links_len { length links.old ≡ table_links }
+    requires sized { Sized table.old }
     ensures { (is : List Insert) → InsertsIn inserts.old is → n ≡ length is
         → every insert_in_range is ≡ true → KeptOnce is inserts.new result }
 {
-    chains::enter_all(inserts, 0, heads, links);
+    chains::enter_all(inserts, 0, table);
     let mut count = 0;
-    let mut i = 0;
-    while i < n {
-        let kept = keep_next(inserts, i, count, heads, links);
-        if !kept.agreeing {
-            return Kept {
-                agreeing: false,
-                count: 0,
-            };
-        }
-        count = kept.count;
-        i += 1;
+    for i in 0..n {
+        count = keep_next(inserts, i, count, table)?;
     }
-    Kept {
-        agreeing: true,
-        count,
-    }
+    Some(count)
 }

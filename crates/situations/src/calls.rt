@@ -4,7 +4,7 @@ ghost use Rattle.woot.specs.Sending.{answer_of};
 ghost use Rattle.woot.specs.Replicas.{received};
 
 use crate::print;
-use answers::Answer;
+use answers::{Answer, Refusal};
 use woot::{Identifier, Insert, Operation, Replica, Sent};
 
 // An insert between another character and the end mark. Its code point tells its clock: 97 at clock 1.
@@ -49,19 +49,15 @@ pub(crate) fn receive(rt: &impl Print, label: &[u8], r: Replica, i: Insert) -> R
 }
 
 // What a call that sends answered, without the operation.
-fn answer_of(s: Sent) -> Answer
-    ensures { result ≡ answer_of s }
+fn answer_of(answer: Result<Sent, Refusal>) -> Answer
+    ensures { result ≡ answer_of answer }
 {
-    match s {
-        Sent::Done {
-            operation: _,
-            integrated,
-            discarded,
-        } => Answer::Done {
-            integrated,
-            discarded,
+    match answer {
+        Ok(sent) => Answer::Done {
+            integrated: sent.integrated,
+            discarded: sent.discarded,
         },
-        Sent::Refused(r) => Answer::Refused(r),
+        Err(refusal) => Answer::Refused(refusal),
     }
 }
 

@@ -6,12 +6,8 @@ use woot::Replica;
 // An empty replica at which the code points were typed one after another.
 fn typed(points: &[u32]) -> Replica {
     let mut r = Replica::empty(1);
-    let mut i = 0;
-    while i < points.len() {
-        let generated = replica::insert(r, i, points[i]);
-        let left = generated.replica;
-        r = left;
-        i += 1;
+    for (i, &point) in points.iter().enumerate() {
+        r = replica::insert(r, i, point).replica;
     }
     r
 }

@@ -6,10 +6,8 @@ use woot::{Identifier, Replica};
 // and the last of them for the one at clock 1.
 fn behind(last: u16) -> Replica {
     let mut r = Replica::empty(1);
-    let mut clock = last;
-    while 1 < clock {
+    for clock in (2..=last).rev() {
         r = calls::receive_silently(r, calls::link(2, clock));
-        clock -= 1;
     }
     r
 }
@@ -17,9 +15,7 @@ fn behind(last: u16) -> Replica {
 // An empty replica that has received the first inserts of site 1.
 fn grown(count: u16) -> Replica {
     let mut r = Replica::empty(16);
-    let mut clock: u16 = 0;
-    while clock < count {
-        clock += 1;
+    for clock in 1..=count {
         r = calls::receive_silently(r, calls::link(1, clock));
     }
     r

@@ -15,8 +15,8 @@ fn write_back(rt: &impl Print, o: Operation) {
 fn round_trip(rt: &impl Print, label: &[u8], line: &[u8]) {
     print::text(rt, label);
     match codec::read_operation(line) {
-        codec::Read::Operation(o) => write_back(rt, o),
-        codec::Read::Refused(_) => print::text(rt, b"\trefused\n"),
+        Ok(o) => write_back(rt, o),
+        Err(_) => print::text(rt, b"\trefused\n"),
     }
 }
 

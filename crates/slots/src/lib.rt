@@ -1,106 +1,49 @@
-// Arrays of numbers, edited in place where they are lent: a list takes the first slots of an array, and whoever lends
-// the array keeps their count. Nothing is copied, so that an edit costs the slots that it moves.
+// Arrays edited in place where they are lent: a list takes the first slots of an array, and whoever lends the array
+// keeps their count. Nothing is copied, so that an edit costs the slots that it moves.
 #![tactic(auto)]
 
-ghost use Rattle.std.specs.Prelude.{◌≡◌, ◌++◌, ◌∷◌, suc, ◌≤◌, ◌<◌, length, take, drop, set};
+ghost use Rattle.std.specs.Prelude.{◌≡◌, ◌++◌, ◌∷◌, suc, ◌≤◌, ◌<◌, length, take, drop, slice_set};
 ghost use Rattle.lists.specs.Padding.{pad};
 ghost use Rattle.slots.specs.Slots.{put_after, removed};
 
-// Internal step: puts a number after the first k of n. Those behind it move up by one, the last of them first. The
-// calls have found the place, and refused what there is no slot for.
-pub fn put_number(a: &mut [u32], n: usize, k: usize, x: u32)
+// Internal step: puts an element after the first k of n. Those behind it move up by one. The calls have found the
+// place, and refused what there is no slot for.
+pub fn put<T: Copy>(a: &mut [T], n: usize, k: usize, x: T)
     requires k_le_n { k ≤ n }
     requires n_in_bounds { n < length a.old }
     ensures { a.new ≡ put_after k x (take n a.old) ++ drop (suc n) a.old }
 {
-    let mut i = n;
-    while k < i {
-        a[i] = a[i - 1];
-        i -= 1;
-    }
+    a.copy_within(k..n, k + 1);
     a[k] = x;
 }
 
-// Internal step: the same for bytes.
-pub fn put_byte(a: &mut [u8], n: usize, k: usize, x: u8)
-    requires k_le_n { k ≤ n }
-    requires n_in_bounds { n < length a.old }
-    ensures { a.new ≡ put_after k x (take n a.old) ++ drop (suc n) a.old }
-{
-    let mut i = n;
-    while k < i {
-        a[i] = a[i - 1];
-        i -= 1;
-    }
-    a[k] = x;
-}
-
-// Internal step: takes the number at j out of n. Those behind it move down by one, and the slot that is left over is
-// 0, as the others behind a list are. The calls have found the index in the list.
-pub fn remove_number(a: &mut [u32], n: usize, j: usize)
+// Internal step: takes the element at j out of n. Those behind it move down by one, and the slot that is left over is
+// blank, as the others behind a list are. The calls have found the index in the list.
+pub fn remove<T: Copy>(a: &mut [T], n: usize, j: usize, blank: T)
     requires j_lt_n { j < n }
     requires n_in_bounds { n ≤ length a.old }
-    ensures { a.new ≡ removed j (take n a.old) ++ 0 ∷ drop n a.old }
+    ensures { a.new ≡ removed j (take n a.old) ++ blank ∷ drop n a.old }
 {
-    let last = n - 1;
-    let mut i = j;
-    while i < last {
-        a[i] = a[i + 1];
-        i += 1;
-    }
-    a[last] = 0;
+    a.copy_within(j + 1..n, j);
+    a[n - 1] = blank;
 }
 
-// Internal step: keeps the first n numbers, and sets every slot behind them to 0. The calls have no more numbers than
-// slots.
-pub fn clear_numbers(a: &mut [u32], n: usize)
+// Internal step: keeps the first n elements, and makes every slot behind them blank. The calls have no more elements
+// than slots. A loop, since `fill` asks for a clone that cannot fail, which `Copy` does not promise.
+pub fn clear<T: Copy>(a: &mut [T], n: usize, blank: T)
     requires { n ≤ length a.old }
-    ensures { a.new ≡ pad (length a.old) 0 (take n a.old) }
+    ensures { a.new ≡ pad (length a.old) blank (take n a.old) }
 {
-    let mut i = n;
-    while i < a.len() {
-        a[i] = 0;
-        i += 1;
+    for slot in &mut a[n..] {
+        *slot = blank;
     }
 }
 
-// Internal step: the same for bytes.
-pub fn clear_bytes(a: &mut [u8], n: usize)
-    requires { n ≤ length a.old }
-    ensures { a.new ≡ pad (length a.old) 0 (take n a.old) }
-{
-    let mut i = n;
-    while i < a.len() {
-        a[i] = 0;
-        i += 1;
-    }
-}
-
-// Internal step: the same for numbers of 16 bits.
-pub fn clear_halves(a: &mut [u16], n: usize)
-    requires { n ≤ length a.old }
-    ensures { a.new ≡ pad (length a.old) 0 (take n a.old) }
-{
-    let mut i = n;
-    while i < a.len() {
-        a[i] = 0;
-        i += 1;
-    }
-}
-
-// Internal step: sets the number at k: one of the list, or its next where k is their count. The calls have found the
+// Internal step: sets the element at k: one of the list, or its next where k is their count. The calls have found the
 // index, or refused what there is no slot for.
-pub fn set_number(a: &mut [u32], k: usize, x: u32)
+pub fn set<T: Copy>(a: &mut [T], k: usize, x: T)
     requires { k < length a.old }
-    ensures { a.new ≡ set a.old k x }
-{
-    a[k] = x;
-}
-
-// Internal step: the same for bytes.
-pub fn set_byte(a: &mut [u8], k: usize, x: u8)
-    requires { k < length a.old }
-    ensures { a.new ≡ set a.old k x }
+    ensures { a.new ≡ slice_set a.old k x }
 {
     a[k] = x;
 }

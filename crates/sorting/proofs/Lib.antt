@@ -1,3 +1,2 @@
-pub mod Merging
-pub mod Halves
+pub mod Sorting
 pub mod Copying

@@ -22,8 +22,7 @@ use Rattle.woot.specs.Pending.{drained, drain_steps, drain}
 use Rattle.woot.specs.Calls.{with_characters, after_drain, insert_carried, carry_out}
 use Rattle.convergence.proofs.Identifiers.{same-eq}
 use Rattle.convergence.proofs.Insertion.{insert-split}
-use Rattle.index.specs.declared.Found.{Found}
-use Rattle.index.specs.declared.Found.TheVariants.{At, Nothing}
+use Rattle.std.proofs.Common.{Option, Some, None}
 use Rattle.index.specs.Keys.{first_index, further}
 use Rattle.reception.specs.Decisions.{Placed, Target}
 use Rattle.splicing.specs.Splicing.{Spelled, Spliced}
@@ -35,7 +34,7 @@ pub record Altered (f : Character → Character) (cs : List Character) (k : ℕ)
   pub row : Character
   pub result : map f cs ≡ take k cs ++ row ∷ drop (suc k) cs
 
-no_place : {k : ℕ} {B : Type 0} → Nothing ≡ At k → B
+no_place : {k : ℕ} {B : Type 0} → None ≡ Some k → B
 no_place e = absurd (let z : ◌≡◌ {A = ℕ} 0 1 = cc in omega arith)
 
 module _ (x : Toggle) where
@@ -51,7 +50,7 @@ module _ (x : Toggle) where
   none_altered (c ∷ cs) e =
       ap₂ (λ (d : Character) (ds : List Character). d ∷ ds) (other-kept c (or-false-left (targeted c) _ e)) (none_altered cs (or-false-right (targeted c) _ e))
 
-  one_altered : (cs : List Character) → distinct same (identifiers cs) ≡ true → (k : ℕ) → first_index targeted cs ≡ At k → Altered (toggled_by x) cs k
+  one_altered : (cs : List Character) → distinct same (identifiers cs) ≡ true → (k : ℕ) → first_index targeted cs ≡ Some k → Altered (toggled_by x) cs k
   unfolding first_index
   one_altered [] d k e = no_place e
   one_altered (c ∷ cs) d k e = go (targeted c) refl e (one_altered cs (and_right (not (any (same c.id) (identifiers cs))) _ d))
@@ -59,9 +58,9 @@ module _ (x : Toggle) where
       alone : any (same c.id) (identifiers cs) ≡ false
       alone = not-true _ (and_left_lem (not (any (same c.id) (identifiers cs))) _ d)
 
-      later : (r : Found) → further 1 r ≡ At k → targeted c ≡ false → ((i : ℕ) → r ≡ At i → Altered (toggled_by x) cs i) → Altered (toggled_by x) (c ∷ cs) k
-      later Nothing g t others = no_place g
-      later (At j) g t others =
+      later : (r : Option ℕ) → further 1 r ≡ Some k → targeted c ≡ false → ((i : ℕ) → r ≡ Some i → Altered (toggled_by x) cs i) → Altered (toggled_by x) (c ∷ cs) k
+      later None g t others = no_place g
+      later (Some j) g t others =
           let next : 1 + j ≡ k = cc in
           let a = others j refl in
           rw (← next, one-add j) (record {
@@ -70,7 +69,7 @@ module _ (x : Toggle) where
             result = ap₂ (λ (y : Character) (ys : List Character). y ∷ ys) (other-kept c t) a.result;
           })
 
-      go : (b : Bool) → targeted c ≡ b → cond b (At 0) (further 1 (first_index targeted cs)) ≡ At k → ((i : ℕ) → first_index targeted cs ≡ At i → Altered (toggled_by x) cs i)
+      go : (b : Bool) → targeted c ≡ b → cond b (Some 0) (further 1 (first_index targeted cs)) ≡ Some k → ((i : ℕ) → first_index targeted cs ≡ Some i → Altered (toggled_by x) cs i)
           → Altered (toggled_by x) (c ∷ cs) k
       go true t f others =
           let first : 0 ≡ k = cc in

@@ -1,12 +1,12 @@
 -- A line between two runs of bytes, measured and put one after another.
+use Rattle.std.proofs.Common.{Some, None}
 use mathlib.Core.Path.{◌≡◌, refl, sym, ap, ◌∙◌}
 use mathlib.Core.List.{List, [], ◌++◌, append_assoc}
 use Prim.Native.Nat.{ℕ, ◌+◌, ◌≤◌}
 use native.Mathlib.Omega.{arith}
 use lib.ListN.{length, length-append}
 use Rattle.output.specs.Output.{placed, past}
-use Rattle.lines.specs.declared.writing.Room.{Room}
-use Rattle.lines.specs.declared.writing.Room.TheVariants.{Until, Short}
+use Rattle.lines.specs.Room.{Room}
 use Rattle.lines.specs.Room.{room_for}
 use Rattle.lines.proofs.Rooms.{Run, run_none, run_on}
 use Rattle.lines.proofs.Sequences.{room-on, room-short}
@@ -15,14 +15,14 @@ use Rattle.splicing.specs.Splicing.{between}
 module _ (front line back : List ℕ) where
   -- measured
   module _ (size at : ℕ) {x : Room} (f : x ≡ room_for size at front) where
-    pub front-lacks : x ≡ Short → Short ≡ room_for size at (between front line back)
+    pub front-lacks : x ≡ None → None ≡ room_for size at (between front line back)
     front-lacks q = room-short size at front (line ++ back) f q
 
-    module _ {middle : ℕ} (q : x ≡ Until middle) {y : Room} (l : y ≡ room_for size middle line) where
-      pub line_lacks : y ≡ Short → Short ≡ room_for size at (between front line back)
+    module _ {middle : ℕ} (q : x ≡ Some middle) {y : Room} (l : y ≡ room_for size middle line) where
+      pub line_lacks : y ≡ None → None ≡ room_for size at (between front line back)
       line_lacks p = room-short size middle line back l p ∙ room-on size at front (line ++ back) f q
 
-      pub back-ends : {end : ℕ} → y ≡ Until end → room_for size end back ≡ room_for size at (between front line back)
+      pub back-ends : {end : ℕ} → y ≡ Some end → room_for size end back ≡ room_for size at (between front line back)
       back-ends p = room-on size middle line back l p ∙ room-on size at front (line ++ back) f q
 
   -- put

@@ -12,11 +12,10 @@ ghost use Rattle.saving.specs.Documents.{line_bytes, state_in, site_with};
 ghost use Rattle.splicing.specs.Splicing.{between, Spliced, Copied};
 
 use answers::Refusal;
-use lines::writing::Room;
 use saved::{Rows, Version};
 use saving::numbered::Line;
 use saving::{columns, numbered, site_line};
-use woot::{PENDING, Site, Written};
+use woot::{PENDING, Site};
 
 // What a call changed of the rows that it read.
 #[derive(Clone, Copy)]
@@ -30,28 +29,28 @@ pub enum Change {
 }
 
 // Where bytes end that begin at the offset in a slice of the given size.
-fn room(bytes: &[u8], size: usize, at: usize) -> Room
+fn room(bytes: &[u8], size: usize, at: usize) -> Option<usize>
     ensures { result ≡ room_for size at bytes.now }
 {
     if !output::has_room(size, at, bytes.len()) {
-        return Room::Short;
+        return None;
     }
-    Room::Until(at + bytes.len())
+    Some(at + bytes.len())
 }
 
 // The same of a line between two runs of bytes.
-fn measure<'a>(front: &'a [u8], line: Line, back: &'a [u8], size: usize, at: usize) -> Room
+fn measure<'a>(front: &'a [u8], line: Line, back: &'a [u8], size: usize, at: usize) -> Option<usize>
     requires { line.count ≤ 9 }
     ensures { result
         ≡ room_for size at (between front.now (line_bytes line) back.now) }
 {
     let first = room(front, size, at);
-    let Room::Until(middle) = first else {
-        return Room::Short;
+    let Some(middle) = first else {
+        return None;
     };
     let second = numbered::measure(line, size, middle);
-    let Room::Until(end) = second else {
-        return Room::Short;
+    let Some(end) = second else {
+        return None;
     };
     room(back, size, end)
 }
@@ -77,7 +76,7 @@ fn put_file<'a>(
     line: Line,
     back: &'a [u8],
     out: &mut [u8],
-) -> Written
+) -> Result<usize, Refusal>
     requires { line.count ≤ 9 }
     ensures value { result
         ≡ written_as [] (site_line Version.Second (site_with number clock)
@@ -88,16 +87,16 @@ fn put_file<'a>(
 {
     let size = out.len();
     let head = site_line::measure_site_with(Version::Second, number, clock, size);
-    let Room::Until(start) = head else {
-        return Written::Refused(Refusal::Output);
+    let Some(start) = head else {
+        return Err(Refusal::Output);
     };
     let rest = measure(front, line, back, size, start);
-    let Room::Until(length) = rest else {
-        return Written::Refused(Refusal::Output);
+    let Some(length) = rest else {
+        return Err(Refusal::Output);
     };
     let at = site_line::put_site_with(Version::Second, number, clock, out);
     put(front, line, back, out, at);
-    Written::Length(length)
+    Ok(length)
 }
 
 // The offset of the row with an index, of n rows, or the end of them.
@@ -125,7 +124,7 @@ fn put_row<'a>(
     pending: &'a [u32],
     w: usize,
     out: &mut [u8],
-) -> Written
+) -> Result<usize, Refusal>
     requires characters_len { length characters.now ≡ character_numbers }
     requires n_le_character_slots { n ≤ character_slots }
     requires n_in_bounds { n ≤ length toggles.now }
@@ -179,7 +178,7 @@ pub fn put_changed<'a>(
     pending: &'a [u32],
     w: usize,
     out: &mut [u8],
-) -> Written
+) -> Result<usize, Refusal>
     requires characters_len { length characters.now ≡ character_numbers }
     requires n_le_character_slots { n ≤ character_slots }
     requires n_in_bounds { n ≤ length toggles.now }

@@ -1,4 +1,5 @@
 -- The loop of the program prints the output: a replica in form stays so, and then every report and the text have room.
+use Rattle.std.proofs.Common.{Ok, Err}
 use mathlib.Core.Path.{◌≡◌, ap}
 use mathlib.Core.Bool.{true}
 use mathlib.Core.List.{List}
@@ -8,7 +9,6 @@ use lib.ListN.{length, take, length-take}
 use Rattle.woot.specs.declared.Replica.{Replica}
 use Rattle.woot.specs.declared.Operation.{Operation}
 use Rattle.answers.specs.declared.Answer.{Answer}
-use Rattle.woot.specs.declared.Written.TheVariants.{Length}
 use Rattle.woot.specs.State.{initial}
 use Rattle.woot.specs.Memory.{meaning, stored, replica_well_formed}
 use Rattle.woot.specs.Ranges.{within, site_number}
@@ -21,8 +21,7 @@ use Rattle.convergence.proofs.Kept.{counts_true, counts_bounded}
 use Rattle.replica.specs.Theorems.{called}
 use Rattle.replica.proofs.Kept.{replicas_formed, empty-replica-formed}
 use Rattle.lines.specs.Lines.{rest}
-use Rattle.codec.specs.declared.Read.{Read}
-use Rattle.codec.specs.declared.Read.TheVariants.{Operation as readsAs, Refused as readRefused}
+use Rattle.codec.specs.Calls.{Read}
 use Rattle.codec.specs.Calls.{read_operation}
 use Rattle.replica.proofs.Runs.{form_meant}
 use Rattle.transcript.specs.declared.Processed.{Processed}
@@ -35,7 +34,7 @@ use Rattle.codec.proofs.Answers.{fitted_within}
 use Rattle.transcript.proofs.Writers.{front-whole}
 
 -- a length that is answered is within the slice
-pub processed-within : (r : Replica) (n : ℕ) (s out : List ℕ) {p : Processed} → p ≡ processed r n s out → {m : ℕ} → p.written ≡ Length m
+pub processed-within : (r : Replica) (n : ℕ) (s out : List ℕ) {p : Processed} → p ≡ processed r n s out → {m : ℕ} → p.written ≡ Ok m
     → {after : List ℕ} → after ≡ processed_out r n s out → m ≤ length after
 unfolding processed processed_out
 processed-within r n s out e q o = fitted_within (report_on r n s) out (ap (λ (p : Processed). p.written) e) q o
@@ -58,13 +57,13 @@ received-small r o f =
 module _ (r : Replica) (f : replica_well_formed r ≡ true) where
   received_as_small : (a : Read) → Small (received_as r a).answer
   unfolding received_as reply
-  received_as_small (readsAs o) = received-small r o f
-  received_as_small (readRefused q) = record { carried = omega arith; thrown = omega arith }
+  received_as_small (Ok o) = received-small r o f
+  received_as_small (Err q) = record { carried = omega arith; thrown = omega arith }
 
   received_as_formed : (a : Read) → replica_well_formed (received_as r a).replica ≡ true
   unfolding received_as called
-  received_as_formed (readsAs o) = replicas_formed r (receiving o) f
-  received_as_formed (readRefused q) = f
+  received_as_formed (Ok o) = replicas_formed r (receiving o) f
+  received_as_formed (Err q) = f
 
   pub received_line_formed : (s : List ℕ) → replica_well_formed (received_line r s).replica ≡ true
   unfolding received_line

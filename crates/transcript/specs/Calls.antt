@@ -1,12 +1,11 @@
 -- What the hall program answers to a line, and all that it prints. (Document 01, "The hall program".)
-use Rattle.std.specs.Prelude.{ℕ, zero, suc, ◌+◌, cond, List, ◌++◌, eqb, length, take}
+use Rattle.std.specs.Prelude.{ℕ, zero, suc, ◌+◌, cond, List, ◌++◌, eqb, length, take, Ok, Err}
 use Rattle.woot.specs.declared.Replica.{Replica}
 use Rattle.woot.specs.declared.Receipt.{Receipt}
 use Rattle.answers.specs.declared.Answer.TheVariants.{Refused}
 use Rattle.woot.specs.State.{initial}
 use Rattle.woot.specs.Memory.{meaning, stored}
-use Rattle.codec.specs.declared.Read.{Read}
-use Rattle.codec.specs.declared.Read.TheVariants.{Operation as readsAs, Refused as readRefused}
+use Rattle.codec.specs.Calls.{Read}
 use Rattle.lines.specs.Lines.{rest}
 use Rattle.codec.specs.Calls.{read_operation}
 use Rattle.woot.specs.Replicas.{received}
@@ -14,8 +13,8 @@ use Rattle.transcript.specs.Lines.{report_line, text_line}
 
 -- an operation is received; what could not be read is refused, and the very replica comes back
 unfoldable pub received_as : Replica → Read → Receipt
-received_as r (readsAs o) = received r o
-received_as r (readRefused q) = record { answer = Refused q; replica = r }
+received_as r (Ok o) = received r o
+received_as r (Err q) = record { answer = Refused q; replica = r }
 
 -- the answer to the first line of the bytes
 unfoldable pub received_line : Replica → List ℕ → Receipt

@@ -2,7 +2,7 @@
 -- `transcript::report::text_line`, and of the slices that it lends them it prints what was written.
 use Rattle.std.specs.Prelude.{ℕ, zero, suc, ◌+◌, cond, List, [], ◌++◌, eqb, length, take}
 use Rattle.woot.specs.declared.Replica.{Replica}
-use Rattle.woot.specs.declared.Written.{Written}
+use Rattle.woot.specs.Writing.{Written}
 use Rattle.woot.specs.State.{initial}
 use Rattle.woot.specs.Memory.{meaning, stored}
 use Rattle.woot.specs.Writing.{written_as, output_after, written_length}

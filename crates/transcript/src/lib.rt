@@ -7,8 +7,8 @@ ghost use Rattle.std.specs.Prelude.{◌≡◌};
 ghost use Rattle.transcript.specs.Calls.{received_line};
 ghost use Rattle.transcript.specs.Loop.{processed, processed_out};
 
-use answers::Answer;
-use woot::{Receipt, Replica, Written};
+use answers::{Answer, Refusal};
+use woot::{Receipt, Replica};
 
 // Answers the first line of the bytes: receives the operation that it says, or refuses it and returns the replica as it
 // was.
@@ -16,8 +16,8 @@ pub fn answer_line(replica: Replica, bytes: &[u8]) -> Receipt
     ensures { result ≡ received_line replica bytes.now }
 {
     match codec::read_operation(bytes) {
-        codec::Read::Operation(operation) => replica::receive(replica, operation),
-        codec::Read::Refused(refusal) => Receipt {
+        Ok(operation) => replica::receive(replica, operation),
+        Err(refusal) => Receipt {
             answer: Answer::Refused(refusal),
             replica,
         },
@@ -27,7 +27,7 @@ pub fn answer_line(replica: Replica, bytes: &[u8]) -> Receipt
 // What is made of a line of the input: how much of the report was written, and the replica after the line.
 #[derive(Clone, Copy)]
 pub struct Processed {
-    pub written: Written,
+    pub written: Result<usize, Refusal>,
     pub replica: Replica,
 }
 

@@ -8,11 +8,11 @@ ghost use Rattle.woot.specs.Memory.{character_slots, code_point_column};
 ghost use Rattle.woot.specs.Writing.{written_as, output_after};
 ghost use Rattle.transcript.specs.Lines.{report_line, text_line, listing};
 
-use answers::Answer;
-use woot::{CHARACTER_NUMBERS, CODE_POINTS, Replica, Written};
+use answers::{Answer, Refusal};
+use woot::{CHARACTER_NUMBERS, CODE_POINTS, Replica};
 
 // Writes a line of a number, a word and three numbers at the front of the slice, all of it or nothing.
-fn put_report(number: u64, word: &[u8], values: [u64; 3], out: &mut [u8]) -> Written
+fn put_report(number: u64, word: &[u8], values: [u64; 3], out: &mut [u8]) -> Result<usize, Refusal>
     requires { length word.now ≤ 7 }
     ensures value { result ≡ written_as [] (line_of (digits number ++ tab ∷ word.now) values) out.old }
     ensures out_after { out.new
@@ -26,7 +26,7 @@ fn put_report(number: u64, word: &[u8], values: [u64; 3], out: &mut [u8]) -> Wri
 }
 
 // Writes the line on one line of input at the front of the slice. A slice that is too short keeps every byte.
-pub fn report_line(number: u64, answer: Answer, out: &mut [u8]) -> Written
+pub fn report_line(number: u64, answer: Answer, out: &mut [u8]) -> Result<usize, Refusal>
     ensures value { result ≡ written_as [] (report_line number answer) out.old }
     ensures out_after { out.new ≡ output_after [] (report_line number answer) out.old }
 {
@@ -34,22 +34,15 @@ pub fn report_line(number: u64, answer: Answer, out: &mut [u8]) -> Written
         Answer::Done {
             integrated,
             discarded,
-        } => {
-            let word = [b'd', b'o', b'n', b'e'];
-            put_report(number, &word, [integrated as u64, discarded as u64, 0], out)
-        }
-        Answer::Deferred => {
-            let word = [b'w', b'a', b'i', b't', b's'];
-            put_report(number, &word, [0, 0, 0], out)
-        }
-        Answer::Duplicate => {
-            let word = [b'k', b'n', b'o', b'w', b'n'];
-            put_report(number, &word, [0, 0, 0], out)
-        }
-        Answer::Refused(refusal) => {
-            let word = [b'r', b'e', b'f', b'u', b's', b'e', b'd'];
-            put_report(number, &word, [0, 0, refusal.number()], out)
-        }
+        } => put_report(
+            number,
+            b"done",
+            [integrated as u64, discarded as u64, 0],
+            out,
+        ),
+        Answer::Deferred => put_report(number, b"waits", [0, 0, 0], out),
+        Answer::Duplicate => put_report(number, b"known", [0, 0, 0], out),
+        Answer::Refused(refusal) => put_report(number, b"refused", [0, 0, refusal.number()], out),
     }
 }
 
@@ -80,20 +73,23 @@ fn list<'a>(code_points: &'a [u32], toggles: &'a [u8], n: usize) -> Listing
 {
     let mut values = [0u64; 1025];
     let mut count = 0;
-    let mut i = 0;
-    while i < n {
+    for i in 0..n {
         if toggles[i] % 2 == 0 {
             count += 1;
             values[count] = wide(code_points[i]);
         }
-        i += 1;
     }
     values[0] = count as u64;
     Listing { values, count }
 }
 
 // Writes the line of the visible ones of the first n characters at the front of the slice, all of it or nothing.
-fn put_text<'a>(characters: &'a [u32], toggles: &'a [u8], n: usize, out: &mut [u8]) -> Written
+fn put_text<'a>(
+    characters: &'a [u32],
+    toggles: &'a [u8],
+    n: usize,
+    out: &mut [u8],
+) -> Result<usize, Refusal>
     requires n_le_character_slots { n ≤ character_slots }
     requires characters_len { length characters.now ≡ character_numbers }
     requires n_in_bounds { n ≤ length toggles.now }
@@ -104,16 +100,15 @@ fn put_text<'a>(characters: &'a [u32], toggles: &'a [u8], n: usize, out: &mut [u
         → toggle_counts cs ≡ take n toggles.now
         → out.new ≡ output_after [] (text_line cs) out.old }
 {
-    let head = [b'T'];
     let listed = list(&characters[CODE_POINTS..CHARACTER_NUMBERS], toggles, n);
     let values = listed.values;
     let size = listed.count + 1;
-    line_writing::fitted(lines::writing::put_line(&head, &values[..size], out, 0))
+    line_writing::fitted(lines::writing::put_line(b"T", &values[..size], out, 0))
 }
 
 // Internal step: writes the line of a replica's visible characters at the front of the slice. A slice that is too
 // short keeps every byte. The program's replica is well formed from the first line to the last.
-pub fn text_line(replica: Replica, out: &mut [u8]) -> Written
+pub fn text_line(replica: Replica, out: &mut [u8]) -> Result<usize, Refusal>
     requires { replica_well_formed replica ≡ true }
     ensures value { result ≡ written_as [] (text_line (meaning replica).characters) out.old }
     ensures out_after { out.new ≡ output_after [] (text_line (meaning replica).characters) out.old }

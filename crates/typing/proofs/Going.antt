@@ -35,7 +35,7 @@ use Rattle.woot.specs.Table.{key, keys}
 use Rattle.woot.specs.Memory as memory
 use Rattle.woot.specs.Memory.{column, in_columns, key_column, previous_column, next_column, code_point_column, previous_keys, next_keys, code_points_of}
 use Rattle.memory.specs.Columns.{Replica, meaning, stored, replica_well_formed}
-use Rattle.memory.specs.Lent.{replica_as, viewed}
+use Rattle.memory.specs.Lent.{viewed}
 use Rattle.memory.proofs.Stored.{form_meant, meaning-stored}
 use Rattle.memory.proofs.Views.{columns-whole, column-at, view-stored, form_view}
 use Rattle.convergence.proofs.Kept.{form_kept}
@@ -43,7 +43,7 @@ use Rattle.convergence.proofs.Typings.{Ready, state_after, gap_then, typed-plain
 use Rattle.replica.proofs.Runs.{formed-within, form_stored}
 use Rattle.keystroke.specs.declared.Typing.{Typing}
 use Rattle.keystroke.specs.declared.Typed.{Typed}
-use Rattle.keystroke.specs.declared.Typed.TheVariants.{Inserted, Unplaceable}
+use Rattle.std.proofs.Common.{Option, Some, None}
 use Rattle.keystroke.specs.Steps.{Typeable, Taken, OneTyped}
 use Rattle.typing.specs.Columns.{characters_by, typed_columns}
 use Rattle.typing.specs.Steps.{Unwritten, Inscribed, Written}
@@ -249,12 +249,12 @@ pub record Going (s : State) (g w : ℕ) (ns : List ℕ) (r : Replica) (at : Typ
   pub many : length (characters_by own) ≡ i
   pub codes : code_points_of (characters_by own) ≡ take i ns
   pub columns : Columns own ns typed
-  pub balance : at.integrated + at.discarded + at.waiting ≡ w + i
+  pub balance : at.integrated + at.discarded + r.document.waiting ≡ w + i
   pub comes : comes_to own at.integrated at.discarded (meaning r) at.point (drop i ns) ≡ comes_to [] 0 0 s g ns
 
 pub going_begun : {r : Replica} {at : Typing} {ns typed : List ℕ} → Typeable r at.point ns → Unwritten ns typed → at.integrated ≡ 0
     → at.discarded ≡ 0
-    → Going (meaning r) at.point at.waiting ns r at typed 0
+    → Going (meaning r) at.point r.document.waiting ns r at typed 0
 going_begun {at = at} x u n m =
     record {
       within = omega arith;
@@ -293,8 +293,14 @@ module _ {s : State} {g w : ℕ} {ns : List ℕ} {r : Replica} {at : Typing} {ty
         ap (λ (x : Come). x.stops) (sym comes_ahead)
         ∙ comes_stopped (meaning r) at.point point (drop (suc i) ns) (typeable_ready typeable_ahead) coded u
 
-    module _ (few : length ns ≤ 1024) {q : Replica} {x : Insert} {to : Typing} {after : List ℕ}
-        (t : Taken (meaning r) at point x to q) (c : Inscribed typed i x after) where
+    module _ (few : length ns ≤ 1024) {q : Replica} {one : Typed} {after : List ℕ}
+        (t : Taken r at point one q) (c : Inscribed typed i one.insert after) where
+      abbrev x : Insert
+      x = one.insert
+
+      abbrev to : Typing
+      to = one.after
+
       abbrev next : State
       next = state_after (meaning r) at.point point
 
@@ -357,12 +363,11 @@ module _ {s : State} {g w : ℕ} {ns : List ℕ} {r : Replica} {at : Typing} {ty
 
 -- ---- what one step told
 
-module _ (s : State) (at : Typing) {n m : ℕ} (same : n ≡ m) (cs ts ps hs ls : List ℕ) {t : Typed} (w : OneTyped s at n cs ts ps hs ls t) where
-  pub told_nowhere : t ≡ Unplaceable → unplaceable s.characters (insert (generated_insert s at.point m)) ≡ true
+module _ (r : Replica) (at : Typing) {n m : ℕ} (same : n ≡ m) (q : Replica) {t : Option Typed} (w : OneTyped r at n q t) where
+  pub told_nowhere : t ≡ None → unplaceable (meaning r).characters (insert (generated_insert (meaning r) at.point m)) ≡ true
   unfolding OneTyped
   told_nowhere e = rw (same, e) at w
 
-  pub told-taken : {x : Insert} {to : Typing} → t ≡ Inserted x to
-      → Taken s at m x to (replica_as to.site cs ts to.length ps to.waiting hs ls)
+  pub told-taken : {x : Typed} → t ≡ Some x → Taken r at m x q
   unfolding OneTyped
   told-taken e = rw (same, e) at w

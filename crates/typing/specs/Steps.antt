@@ -1,6 +1,7 @@
 -- For the proofs of the code alone: the code points that are to be typed one after another, and what typing them
 -- leaves.
 use Rattle.std.specs.Prelude.{ℕ, ◌≡◌, true, false, List, [], length, take, set}
+use Rattle.std.specs.Prelude.{Option, Some, None}
 use Rattle.lists.specs.Padding.{pad}
 use Rattle.woot.specs.declared.Insert.{Insert}
 use Rattle.woot.specs.State.{State}
@@ -9,10 +10,7 @@ use Rattle.woot.specs.Memory.{character_slots, key_column, previous_column, next
 use Rattle.woot.specs.Histories.{run, integrated_by, discarded_by}
 use Rattle.bulk.specs.Pasting.{typings, own_by, stopped}
 use Rattle.memory.specs.Columns.{Replica, stored}
-use Rattle.memory.specs.Lent.{replica_as}
 use Rattle.keystroke.specs.declared.Typing.{Typing}
-use Rattle.typing.specs.declared.Ended.{Ended}
-use Rattle.typing.specs.declared.Ended.TheVariants.{Finished, Unplaceable as placeless}
 use Rattle.typing.specs.Columns.{typed_columns}
 
 -- ---- what is asked
@@ -45,7 +43,6 @@ pub record Written (s : State) (g : ℕ) (ns : List ℕ) (typed : List ℕ) (t :
   pub discarded : t.discarded ≡ length (discarded_by s (typings s g ns))
   pub own : typed ≡ typed_columns (own_by s (typings s g ns))
 
-unfoldable pub AllTyped : State → ℕ → List ℕ → List ℕ → List ℕ → List ℕ → List ℕ → List ℕ → List ℕ → Ended → Type 0
-AllTyped s g ns typed cs ts ps hs ls (Finished t) =
-    Written s g ns typed t (replica_as t.site cs ts t.length ps t.waiting hs ls)
-AllTyped s g ns typed cs ts ps hs ls placeless = stopped s (typings s g ns) ≡ true
+unfoldable pub AllTyped : State → ℕ → List ℕ → List ℕ → Replica → Option Typing → Type 0
+AllTyped s g ns typed r (Some t) = Written s g ns typed t r
+AllTyped s g ns typed r None = stopped s (typings s g ns) ≡ true

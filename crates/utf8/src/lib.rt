@@ -77,19 +77,14 @@ pub fn write(code_point: u32, out: &mut [u8], at: usize) -> usize
     ensures { (result ≡ past out.old at (encode code_point))
         × (out.new ≡ placed out.old at (encode code_point)) }
 {
-    let e = encode(code_point);
-    let bytes = e.bytes;
-    let length = e.length;
+    let Encoded { bytes, length } = encode(code_point);
     output::put_all(out, at, &bytes[..length])
 }
 
 // Whether the number is a code point: at most U+10FFFF, and no surrogate.
+#[tactic(auto, unfolding(crate::specs::CodePoints::is_code_point, crate::specs::CodePoints::within))]
 pub fn is_code_point(n: u32) -> bool
     ensures { result ≡ is_code_point n }
 {
-    match n {
-        0..=55295 => true,
-        57344..=1114111 => true,
-        _ => false,
-    }
+    matches!(n, 0..=55295 | 57344..=1114111)
 }

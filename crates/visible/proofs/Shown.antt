@@ -11,6 +11,8 @@ use borrow.Author.Tests.{ne_eqb}
 use lib.Dec.{eqb}
 use lib.ListN.{length, take, drop, get_or, length-append, length-map, length-take, drop_of_length-le, get_or-eq_default, get_or-map}
 use lib.Seq.{drop-cons, get_or-take, length-take-le}
+use Rattle.std.specs.List.{count_by}
+use Rattle.std.proofs.lemmas.List.Recursion.{is_count_by}
 use Rattle.lists.specs.Lists.{keep}
 use Rattle.lists.proofs.Members.{keep-map}
 use Rattle.lists.proofs.Indices.{map_get_d}
@@ -28,8 +30,7 @@ use Rattle.woot.specs.Table.{key, keys}
 use Rattle.woot.specs.Text.{printed, text, encoded}
 use Rattle.woot.specs.Memory.{characters_of, code_points_of, toggle_counts}
 use Rattle.memory.proofs.Characters.{rows-length, rows-toggles}
-use Rattle.index.specs.declared.Found.{Found}
-use Rattle.index.specs.declared.Found.TheVariants.{At, Nothing}
+use Rattle.std.proofs.Common.{Option, Some, None}
 use Rattle.index.specs.Keys.{further}
 use Rattle.index.proofs.Keys.{key-begin, key-end}
 use Rattle.index.proofs.Searches.{further-none, further-more}
@@ -51,23 +52,17 @@ module _ {A : Type 0} (xs : List A) (n i : ℕ) where
   pub left-none : n ≤ i → left xs n i ≡ []
   left-none h = drop_of_length-le (take n xs) {i = i} (simp length-take (omega arith))
 
--- ---- counting those that pass a test, and counting down to one of them
+-- ---- counting down to one of those that pass a test
 
 -- what a search from the index i on finds, with k to pass
-abbrev pub nth_left : {A : Type 0} → (A → Bool) → List A → ℕ → ℕ → ℕ → Found
+abbrev pub nth_left : {A : Type 0} → (A → Bool) → List A → ℕ → ℕ → ℕ → Option ℕ
 nth_left p xs n i k = further i (nth_index p (left xs n i) k)
 
 module _ {A : Type 0} (p : A → Bool) (xs : List A) (n i : ℕ) where
   module _ (d : A) (h : i < n) (few : n ≤ length xs) where
-    pub kept_here : p (get_or xs i d) ≡ true → keep p (left xs n i) ≡ get_or xs i d ∷ keep p (left xs n (i + 1))
-    kept_here e = rw (left-more xs n i d h few, e)
-
-    pub kept-not : p (get_or xs i d) ≡ false → keep p (left xs n i) ≡ keep p (left xs n (i + 1))
-    kept-not e = rw (left-more xs n i d h few, e)
-
-    pub nth_here : (k : ℕ) → p (get_or xs i d) ≡ true → k ≡ 0 → nth_left p xs n i k ≡ At i
+    pub nth_here : (k : ℕ) → p (get_or xs i d) ≡ true → k ≡ 0 → nth_left p xs n i k ≡ Some i
     unfolding nth_index
-    nth_here k e z = rw (left-more xs n i d h few, e, z) (ap At (add-zero i))
+    nth_here k e z = rw (left-more xs n i d h few, e, z) (ap Some (add-zero i))
 
     pub nth-counted : (k : ℕ) → p (get_or xs i d) ≡ true → (k ≡ 0 → ⊥) → nth_left p xs n i k ≡ nth_left p xs n (i + 1) (k - 1)
     unfolding nth_index
@@ -77,10 +72,7 @@ module _ {A : Type 0} (p : A → Bool) (xs : List A) (n i : ℕ) where
     unfolding nth_index
     nth-passed k e = rw (left-more xs n i d h few, e) (further-more i (nth_index p (left xs n (i + 1)) k))
 
-  pub kept-none : n ≤ i → keep p (left xs n i) ≡ []
-  kept-none h = rw (left-none xs n i h)
-
-  pub nth-none : (k : ℕ) → n ≤ i → nth_left p xs n i k ≡ Nothing
+  pub nth-none : (k : ℕ) → n ≤ i → nth_left p xs n i k ≡ None
   unfolding nth_index
   nth-none k h = rw (left-none xs n i h)
 
@@ -94,22 +86,22 @@ pub record NthAt {A : Type 0} (p : A → Bool) (xs : List A) (k n : ℕ) : Type 
 
 module _ {A : Type 0} (p : A → Bool) where
   -- nothing is found where fewer pass
-  abbrev pub NthSays : List A → ℕ → Found → Type 0
-  NthSays xs k (At n) = NthAt p xs k n
-  NthSays xs k Nothing = length (keep p xs) ≤ k
+  abbrev pub NthSays : List A → ℕ → Option ℕ → Type 0
+  NthSays xs k (Some n) = NthAt p xs k n
+  NthSays xs k None = length (keep p xs) ≤ k
 
   module _ (x : A) (xs : List A) where
     later : (n : ℕ) (d : A) → get_or (x ∷ xs) (1 + n) d ≡ get_or xs n d
     later n d = let one : 1 + n ≡ suc n = omega arith in rw one
 
-    hidden : (k : ℕ) (r : Found) → p x ≡ false → NthSays xs k r → NthSays (x ∷ xs) k (further 1 r)
-    hidden k (At n) e s = record { within = omega (arith, s.within); counted = rw e s.counted; at = λ d. later n d ∙ (rw e (s.at d)) }
-    hidden k Nothing e s = rw e s
+    hidden : (k : ℕ) (r : Option ℕ) → p x ≡ false → NthSays xs k r → NthSays (x ∷ xs) k (further 1 r)
+    hidden k (Some n) e s = record { within = omega (arith, s.within); counted = rw e s.counted; at = λ d. later n d ∙ (rw e (s.at d)) }
+    hidden k None e s = rw e s
 
-    passed : (k : ℕ) (r : Found) → p x ≡ true → NthSays xs k r → NthSays (x ∷ xs) (suc k) (further 1 r)
-    passed k (At n) e s =
+    passed : (k : ℕ) (r : Option ℕ) → p x ≡ true → NthSays xs k r → NthSays (x ∷ xs) (suc k) (further 1 r)
+    passed k (Some n) e s =
         record { within = omega (arith, s.within); counted = rw e (omega (arith, s.counted)); at = λ d. later n d ∙ (rw e (s.at d)) }
-    passed k Nothing e s = rw e (omega (arith, s))
+    passed k None e s = rw e (omega (arith, s))
 
   says : (xs : List A) (k : ℕ) → NthSays xs k (nth_index p xs k)
   unfolding nth_index
@@ -117,7 +109,7 @@ module _ {A : Type 0} (p : A → Bool) where
   says (x ∷ xs) k = go (p x) refl k (says xs)
     where
       go : (b : Bool) → p x ≡ b → (k : ℕ) → ((j : ℕ) → NthSays xs j (nth_index p xs j))
-          → NthSays (x ∷ xs) k (cond b (cond (eqb k 0) (At 0) (further 1 (nth_index p xs (k - 1)))) (further 1 (nth_index p xs k)))
+          → NthSays (x ∷ xs) k (cond b (cond (eqb k 0) (Some 0) (further 1 (nth_index p xs (k - 1)))) (further 1 (nth_index p xs k)))
       go true e zero s = record { within = omega arith; counted = rw e (omega arith); at = λ d. rw e }
       go true e (suc k) s =
           let some : eqb (suc k) 0 ≡ false = ne_eqb (suc k) 0 (λ h. omega (arith, h)) in
@@ -125,7 +117,7 @@ module _ {A : Type 0} (p : A → Bool) where
           rw (some, one) (passed x xs k (nth_index p xs k) e (s k))
       go false e k s = hidden x xs k (nth_index p xs k) e (s k)
 
-  pub nth-says : (xs : List A) (k : ℕ) {r : Found} → nth_index p xs k ≡ r → NthSays xs k r
+  pub nth-says : (xs : List A) (k : ℕ) {r : Option ℕ} → nth_index p xs k ≡ r → NthSays xs k r
   nth-says xs k e = rw (← e) (says xs k)
 
 nth-map : {A B : Type 0} (f : A → B) (p : B → Bool) (xs : List A) (k : ℕ) → nth_index p (map f xs) k ≡ nth_index (λ x. p (f x)) xs k
@@ -135,6 +127,10 @@ nth-map f p (x ∷ xs) k = rw (nth-map f p xs (k - 1), nth-map f p xs k)
 
 -- ---- counts of toggles and characters
 
+one-more : (b : Bool) (x : ℕ) (xs : List ℕ) → length (cond b (x ∷ xs) xs) ≡ cond b (1 + length xs) (length xs)
+one-more true x xs = omega arith
+one-more false x xs = refl
+
 module _ (cs : List Character) where
   pub shown-count : length (keep shown (toggle_counts cs)) ≡ length (visibles cs)
   unfolding is_visible
@@ -143,12 +139,20 @@ module _ (cs : List Character) where
       ∙ length-map (keep is_visible cs) (λ c. c.toggles)
       ∙ sym (visibles-length cs)
 
+  -- what the library counts among the toggles
+  pub shown-counted : {ts : List ℕ} {n : ℕ} → toggle_counts cs ≡ ts → n ≡ count_by shown ts → n ≡ length (visibles cs)
+  shown-counted {ts} e f =
+      f
+      ∙ sym (is_count_by (λ (ys : List ℕ). length (keep shown ys)) shown refl (λ y ys. one-more (shown y) y (keep shown ys)) ts)
+      ∙ ap (λ (ys : List ℕ). length (keep shown ys)) (sym e)
+      ∙ shown-count
+
   pub shown-nth : (ts : List ℕ) (n k : ℕ) → toggle_counts cs ≡ take n ts → nth_left shown ts n 0 k ≡ nth_index is_visible cs k
   unfolding is_visible
   shown-nth ts n k e = further-none (nth_index shown (take n ts) k) ∙ rw (← e) (nth-map (λ (c : Character). c.toggles) shown cs k)
 
   -- the key of the one that was found, or the mark's
-  key-found : (k n mark : ℕ) → nth_index is_visible cs k ≡ At n → get_or (keys cs) n 0 ≡ get_key (visibles cs) k mark
+  key-found : (k n mark : ℕ) → nth_index is_visible cs k ≡ Some n → get_or (keys cs) n 0 ≡ get_key (visibles cs) k mark
   unfolding visibles
   key-found k n mark e =
       let s = nth-says is_visible cs k e in
@@ -157,18 +161,18 @@ module _ (cs : List Character) where
       ∙ sym (map_get_d key (visibles cs) k mark blank_character.id (omega (arith, s.counted, visibles-length cs))
       ∙ ap key (map_get_d (λ (c : Character). c.id) (keep is_visible cs) k blank_character.id blank_character s.counted))
 
-  pub key-none : (k mark : ℕ) → nth_index is_visible cs k ≡ Nothing → mark ≡ get_key (visibles cs) k mark
+  pub key-none : (k mark : ℕ) → nth_index is_visible cs k ≡ None → mark ≡ get_key (visibles cs) k mark
   key-none k mark e =
       let few : length (map key (visibles cs)) ≤ k = omega (arith, nth-says is_visible cs k e, visibles-length cs, length-map (visibles cs) key) in
       sym (get_or-eq_default (map key (visibles cs)) mark few)
 
-  pub slot-key : (ids : List ℕ) (n k i mark : ℕ) → keys cs ≡ take n ids → nth_index is_visible cs k ≡ At i → i < n
+  pub slot-key : (ids : List ℕ) (n k i mark : ℕ) → keys cs ≡ take n ids → nth_index is_visible cs k ≡ Some i → i < n
       → get_or ids i 0 ≡ get_key (visibles cs) k mark
   slot-key ids n k i mark e f h = sym (get_or-take n ids i 0 h) ∙ rw (← e) (key-found k i mark f)
 
 -- what is found in an array stands in one of its first n slots
-pub slot-within : (ts : List ℕ) (n k i : ℕ) {r : Found} → n ≤ length ts
-    → ((cs : List Character) → toggle_counts cs ≡ take n ts → r ≡ nth_index is_visible cs k) → r ≡ At i → i < n
+pub slot-within : (ts : List ℕ) (n k i : ℕ) {r : Option ℕ} → n ≤ length ts
+    → ((cs : List Character) → toggle_counts cs ≡ take n ts → r ≡ nth_index is_visible cs k) → r ≡ Some i → i < n
 slot-within ts n k i h f e =
     let rows = characters_of [] [] [] [] ts n in
     let s = nth-says is_visible rows k (sym (f rows (rows-toggles [] [] [] [] ts n h)) ∙ e) in

@@ -1,7 +1,7 @@
 -- The visible characters by their identifiers, with a mark before them and one after.
 use mathlib.Core.Path.{◌≡◌, refl}
 use mathlib.Core.List.{List, [], ◌∷◌, ◌++◌}
-use Prim.Native.Nat.{ℕ, zero, suc, ◌+◌, ◌-◌}
+use Prim.Native.Nat.{ℕ, zero, suc, ◌-◌}
 use native.Mathlib.Omega.{arith}
 use lib.ListN.{get_or, length, length-map}
 use Rattle.woot.specs.declared.Character.{Character}

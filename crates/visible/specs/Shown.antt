@@ -4,8 +4,7 @@ use Rattle.woot.specs.declared.Identifier.{Identifier}
 use Rattle.woot.specs.Text.{printed}
 use Rattle.woot.specs.Table.{key}
 use Rattle.utf8.specs.Encoding.{encode}
-use Rattle.index.specs.declared.Found.{Found}
-use Rattle.index.specs.declared.Found.TheVariants.{At, Nothing}
+use Rattle.std.specs.Prelude.{Option, Some, None}
 use Rattle.index.specs.Keys.{further}
 
 -- a character with this count of toggles is visible
@@ -13,10 +12,10 @@ abbrev pub shown : ℕ → Bool
 shown t = eqb (t % 2) 0
 
 -- the index of the one that passes the test, counted k from 0 among them
-unfoldable pub nth_index : {A : Type 0} → (A → Bool) → List A → ℕ → Found
-nth_index p [] k = Nothing
+unfoldable pub nth_index : {A : Type 0} → (A → Bool) → List A → ℕ → Option ℕ
+nth_index p [] k = None
 nth_index p (x ∷ xs) k =
-    cond (p x) (cond (eqb k 0) (At 0) (further 1 (nth_index p xs (k - 1)))) (further 1 (nth_index p xs k))
+    cond (p x) (cond (eqb k 0) (Some 0) (further 1 (nth_index p xs (k - 1)))) (further 1 (nth_index p xs k))
 
 -- the key of the identifier at an index, or the mark's
 abbrev pub get_key : List Identifier → ℕ → ℕ → ℕ

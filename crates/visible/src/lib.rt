@@ -16,8 +16,6 @@ ghost use Rattle.woot.specs.Writing.{written_as, output_after};
 ghost use Rattle.visible.specs.Shown.{nth_index, get_key, spelt_as, text_of};
 
 use answers::Refusal;
-use index::Found;
-use woot::Written;
 
 // Internal step: how many of the first n characters are visible.
 pub fn count(toggles: &[u8], n: usize) -> usize
@@ -25,35 +23,25 @@ pub fn count(toggles: &[u8], n: usize) -> usize
     ensures { (cs : List Character)
         → toggle_counts cs ≡ take n toggles.now → result ≡ length (visibles cs) }
 {
-    let mut number = 0;
-    let mut i = 0;
-    while i < n {
-        if toggles[i] % 2 == 0 {
-            number += 1;
-        }
-        i += 1;
-    }
-    number
+    toggles[..n].iter().filter(|count| **count % 2 == 0).count()
 }
 
 // Internal step: the slot of the visible character counted k from 0 among the first n.
-pub fn nth(toggles: &[u8], n: usize, k: usize) -> Found
+pub fn nth(toggles: &[u8], n: usize, k: usize) -> Option<usize>
     requires { n ≤ length toggles.now }
     ensures { (cs : List Character)
         → toggle_counts cs ≡ take n toggles.now → result ≡ nth_index is_visible cs k }
 {
     let mut rest = k;
-    let mut i = 0;
-    while i < n {
+    for i in 0..n {
         if toggles[i] % 2 == 0 {
             if rest == 0 {
-                return Found::At(i);
+                return Some(i);
             }
             rest -= 1;
         }
-        i += 1;
     }
-    Found::Nothing
+    None
 }
 
 // The key of the visible character counted k from 0, or the mark's where there is none.
@@ -64,8 +52,8 @@ fn key_of<'a>(ids: &'a [u32], toggles: &'a [u8], n: usize, k: usize, mark: u32) 
         → toggle_counts cs ≡ take n toggles.now → result ≡ get_key (visibles cs) k mark }
 {
     match nth(toggles, n, k) {
-        Found::At(i) => ids[i],
-        Found::Nothing => mark,
+        Some(i) => ids[i],
+        None => mark,
     }
 }
 
@@ -110,9 +98,10 @@ fn size(code_point: u32, toggles: u8) -> usize
     ensures { result ≡ length (spelt_as code_point toggles) }
 {
     if toggles % 2 == 0 {
-        return utf8::encoded_length(printed(code_point));
+        utf8::encoded_length(printed(code_point))
+    } else {
+        0
     }
-    0
 }
 
 // How many bytes the text of the first n characters has.
@@ -124,10 +113,8 @@ fn text_length<'a>(code_points: &'a [u32], toggles: &'a [u8], n: usize) -> usize
         ≡ length (text_of (take n code_points.now) (take n toggles.now)) }
 {
     let mut bytes = 0;
-    let mut i = 0;
-    while i < n {
+    for i in 0..n {
         bytes += size(code_points[i], toggles[i]);
-        i += 1;
     }
     bytes
 }
@@ -137,10 +124,11 @@ fn put_visible(code_point: u32, toggles: u8, out: &mut [u8], at: usize) -> usize
     ensures value { result ≡ past out.old at (spelt_as code_point toggles) }
     ensures out_after { out.new ≡ placed out.old at (spelt_as code_point toggles) }
 {
-    if toggles % 2 != 0 {
-        return at;
+    if toggles % 2 == 0 {
+        utf8::write(printed(code_point), out, at)
+    } else {
+        at
     }
-    utf8::write(printed(code_point), out, at)
 }
 
 // Puts the text of the first n characters, for which there is room, at the front of the slice.
@@ -153,10 +141,8 @@ fn put_text(code_points: &[u32], toggles: &[u8], n: usize, out: &mut [u8])
         (take n toggles.now)) }
 {
     let mut at = 0;
-    let mut i = 0;
-    while i < n {
+    for i in 0..n {
         at = put_visible(code_points[i], toggles[i], out, at);
-        i += 1;
     }
 }
 
@@ -167,7 +153,7 @@ pub fn write_text<'a>(
     toggles: &'a [u8],
     n: usize,
     out: &mut [u8],
-) -> Written
+) -> Result<usize, Refusal>
     requires n_le_character_slots { n ≤ character_slots }
     requires n_in_bounds { n ≤ length code_points.now }
     requires n_in_bounds_2 { n ≤ length toggles.now }
@@ -180,8 +166,8 @@ pub fn write_text<'a>(
 {
     let bytes = text_length(code_points, toggles, n);
     if out.len() < bytes {
-        return Written::Refused(Refusal::Output);
+        return Err(Refusal::Output);
     }
     put_text(code_points, toggles, n, out);
-    Written::Length(bytes)
+    Ok(bytes)
 }

@@ -6,7 +6,7 @@ use mathlib.Core.Bool.{Bool, true, false, ◌&&◌, and-true, and-false as and_n
 use mathlib.Core.List.{List, map}
 use mathlib.Core.Logic.{⊎_elim}
 use lib.Dec.{eqb}
-use lib.ListN.{length, take}
+use lib.ListN.{take}
 use lib.Seq.{length-take-le}
 use Rattle.lists.specs.Lists.{every, distinct}
 use Rattle.lists.proofs.Tests.{either, and_left_lem, and_right, and-false, three}

@@ -32,8 +32,7 @@ use Rattle.convergence.specs.Invariants.{pending_ids}
 use Rattle.convergence.proofs.Soundness.{inserts-same, toggles_extract, toggles-same, ids_extract, same_toggle_sym}
 use Rattle.convergence.proofs.Steps.{any-toggles}
 use Rattle.convergence.proofs.Forms.{known-ids, known-length}
-use Rattle.index.specs.declared.Found.{Found}
-use Rattle.index.specs.declared.Found.TheVariants.{At, Nothing}
+use Rattle.std.proofs.Common.{Option, Some, None}
 use Rattle.woot.specs.Table.{key, keys}
 use Rattle.index.specs.Keys.{Small, AllSmall, index_in, place_in, further, first_index}
 use Rattle.index.proofs.Keys.{key-same, character-small, all-range-small}
@@ -151,10 +150,10 @@ unfolding first_index
 none_first p [] = refl
 none_first p (x ∷ xs) = go (p x) (first_index p xs) (none_first p xs)
   where
-    go : (b : Bool) (r : Found) → nothing r ≡ not (any p xs) → nothing (cond b (At 0) (further 1 r)) ≡ not (b || any p xs)
+    go : (b : Bool) (r : Option ℕ) → nothing r ≡ not (any p xs) → nothing (cond b (Some 0) (further 1 r)) ≡ not (b || any p xs)
     go true r h = refl
-    go false (At j) h = h
-    go false Nothing h = h
+    go false (Some j) h = h
+    go false None h = h
 
 -- one toggle more is not among those before it
 toggle_step : (ps : List Operation) (o : Operation) → AllKeyed ps → Keyed o

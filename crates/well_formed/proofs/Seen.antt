@@ -6,8 +6,7 @@ use mathlib.Core.Bool.{true, false}
 use mathlib.Core.List.{List, []}
 use borrow.Author.Tests.{ne_eqb, le-leb, lt-leb}
 use lib.ListN.{length}
-use Rattle.index.specs.declared.Found.{Found}
-use Rattle.index.specs.declared.Found.TheVariants.{At, Nothing}
+use Rattle.std.proofs.Common.{Option, Some, None}
 use Rattle.index.specs.Keys.{index_in, found, place_in}
 use Rattle.index.proofs.Indices.{index-here, index-later}
 use Rattle.index.proofs.Searches.{first_says, later-place}
@@ -23,11 +22,11 @@ module _ (ks : List ℕ) (k : ℕ) where
   unfolding unheld_key held_in
   nowhere n h = rw (ne_eqb k 0 n, lt-leb (place_in ks k) (suc (length ks)) h)
 
-  pub found-held : (j : ℕ) → (k ≡ 0 → ⊥) → found k ks ≡ At j → unheld_key ks k ≡ false
+  pub found-held : (j : ℕ) → (k ≡ 0 → ⊥) → found k ks ≡ Some j → unheld_key ks k ≡ false
   unfolding found
   found-held j n e = let f = first_says _ ks e in placed n (omega (arith, later-place ks k n e, f.within))
 
-  pub nothing_unheld : (k ≡ 0 → ⊥) → (k ≡ 1 → ⊥) → found k ks ≡ Nothing → unheld_key ks k ≡ true
+  pub nothing_unheld : (k ≡ 0 → ⊥) → (k ≡ 1 → ⊥) → found k ks ≡ None → unheld_key ks k ≡ true
   unfolding index_in
   nothing_unheld n m e = nowhere n (omega (arith, later-place ks k n e, index-later k 1 [] m))
 
@@ -38,6 +37,6 @@ end-held ks k e = go (found k ks) refl
     later : k ≡ 0 → ⊥
     later f = omega arith
 
-    go : (r : Found) → found k ks ≡ r → unheld_key ks k ≡ false
-    go (At j) f = found-held ks k j later f
-    go Nothing f = placed ks k later (omega (arith, later-place ks k later f, index-here k 1 [] e))
+    go : (r : Option ℕ) → found k ks ≡ r → unheld_key ks k ≡ false
+    go (Some j) f = found-held ks k j later f
+    go None f = placed ks k later (omega (arith, later-place ks k later f, index-here k 1 [] e))

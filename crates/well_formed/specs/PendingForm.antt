@@ -3,8 +3,7 @@ use Rattle.std.specs.Prelude.{ℕ, ◌+◌, Bool, true, false, ◌&&◌, ◌||�
 use Rattle.woot.specs.Limits.{last_site, capacity, share}
 use Rattle.lists.specs.Lists.{every, keep, throughout}
 use Rattle.woot.specs.Form.{countdown}
-use Rattle.index.specs.declared.Found.{Found}
-use Rattle.index.specs.declared.Found.TheVariants.{At, Nothing}
+use Rattle.std.specs.Prelude.{Option, Some, None}
 use Rattle.pending.specs.Counts.{senders_of, has_toggle}
 use Rattle.pending.specs.Ready.{held_in, ready_in}
 
@@ -43,9 +42,9 @@ fresh_at own first values j =
 abbrev pub none_repeated : List ℕ → List ℕ → List ℕ → Bool
 none_repeated own first values = throughout (fresh_at own first values) (length own)
 
-abbrev pub nothing : Found → Bool
-nothing (At j) = false
-nothing Nothing = true
+abbrev pub nothing : Option ℕ → Bool
+nothing (Some j) = false
+nothing None = true
 
 -- no operation has all that it needs
 abbrev pub none_ready : List ℕ → List ℕ → List ℕ → Bool

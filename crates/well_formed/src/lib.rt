@@ -13,7 +13,7 @@ ghost use Rattle.woot.specs.Memory.{characters_of, operations_of, character_numb
 ghost use Rattle.woot.specs.Memory.{key_column, previous_column, next_column, code_point_column};
 ghost use Rattle.woot.specs.Memory.{own_column, first_column, second_column, value_column};
 ghost use Rattle.memory.specs.Columns.{replica_well_formed};
-ghost use Rattle.memory.specs.Lent.{replica_as, Sized};
+ghost use Rattle.memory.specs.Lent.{replica_as, viewed, Full, Sized};
 ghost use Rattle.index.specs.Tabled.{Tabled};
 ghost use Rattle.well_formed.specs.Form.{ranges_kept, clock_reached};
 ghost use Rattle.well_formed.specs.PendingForm.{pending_formed};
@@ -21,10 +21,11 @@ ghost use Rattle.well_formed.specs.PendingForm.{pending_formed};
 use index::table;
 use woot::{
     CHARACTER_NUMBERS, CHARACTERS, CODE_POINTS, FIRST_KEYS, NEXT_KEYS, PENDING, PENDING_NUMBERS,
-    PREVIOUS_KEYS, SECOND_KEYS, Site, VALUES,
+    PREVIOUS_KEYS, Replica, SECOND_KEYS, Site, Table, VALUES,
 };
 
 // Whether the counts are within the arrays, and refusal 2 would let every number, mark and neighbour pass.
+#[tactic(auto, unfolding(crate::specs::Form::ranges_kept))]
 fn in_ranges<'a>(
     site: Site,
     characters: &'a [u32],
@@ -42,39 +43,31 @@ fn in_ranges<'a>(
         w (operations_of (own_column pending.now) (first_column pending.now)
         (second_column pending.now) (value_column pending.now) w) }
 {
-    if CHARACTERS < n {
+    if CHARACTERS < n || PENDING < w {
         return false;
     }
-    if PENDING < w {
-        return false;
-    }
-    if !ranges::site_in_range(site) {
-        return false;
-    }
-    if !numbers::characters_in_range(
-        &characters[0..CHARACTERS],
-        &characters[PREVIOUS_KEYS..NEXT_KEYS],
-        &characters[NEXT_KEYS..CODE_POINTS],
-        &characters[CODE_POINTS..CHARACTER_NUMBERS],
-        toggles,
-        n,
-    ) {
-        return false;
-    }
-    numbers::operations_in_range(
-        &pending[0..PENDING],
-        &pending[FIRST_KEYS..SECOND_KEYS],
-        &pending[SECOND_KEYS..VALUES],
-        &pending[VALUES..PENDING_NUMBERS],
-        w,
-    )
+    ranges::site_in_range(site)
+        && numbers::characters_in_range(
+            &characters[0..CHARACTERS],
+            &characters[PREVIOUS_KEYS..NEXT_KEYS],
+            &characters[NEXT_KEYS..CODE_POINTS],
+            &characters[CODE_POINTS..CHARACTER_NUMBERS],
+            toggles,
+            n,
+        )
+        && numbers::operations_in_range(
+            &pending[0..PENDING],
+            &pending[FIRST_KEYS..SECOND_KEYS],
+            &pending[SECOND_KEYS..VALUES],
+            &pending[VALUES..PENDING_NUMBERS],
+            w,
+        )
 }
 
 // The conditions on w pending operations, with n characters, and that the clock reaches the inserts of both.
 fn queue_formed<'a>(
     site: Site,
-    heads: &'a [u16],
-    links: &'a [u16],
+    table: &'a Table,
     ids: &'a [u32],
     n: usize,
     pending: &'a [u32],
@@ -83,7 +76,7 @@ fn queue_formed<'a>(
     requires n_in_bounds { n ≤ length ids.now }
     requires pending_len { length pending.now ≡ pending_numbers }
     requires w_le_pending_slots { w ≤ pending_slots }
-    requires tabled { Tabled (record { heads = heads.now; links = links.now }) (take n ids.now) }
+    requires tabled { Tabled table.now (take n ids.now) }
     ensures { result
         ≡ pending_formed (take n ids.now) (take w (own_column pending.now))
         (take w (first_column pending.now)) (take w (second_column pending.now))
@@ -94,21 +87,15 @@ fn queue_formed<'a>(
     let first = &pending[FIRST_KEYS..SECOND_KEYS];
     let second = &pending[SECOND_KEYS..VALUES];
     let values = &pending[VALUES..PENDING_NUMBERS];
-    if !waiting::pending_formed(
-        heads,
-        links,
+    waiting::pending_formed(
+        table,
         &ids[..n],
         &own[..w],
         &first[..w],
         &second[..w],
         &values[..w],
-    ) {
-        return false;
-    }
-    if !clock::reaches_all(site, ids, n) {
-        return false;
-    }
-    clock::reaches_all(site, own, w)
+    ) && clock::reaches_all(site, ids, n)
+        && clock::reaches_all(site, own, w)
 }
 
 // Internal step: whether the replica with these arrays is in form. The calls lend a replica's arrays, which have
@@ -120,25 +107,40 @@ pub fn check<'a>(
     n: usize,
     pending: &'a [u32],
     w: usize,
-    heads: &'a [u16],
-    links: &'a [u16],
+    table: &'a Table,
 ) -> bool
-    requires { Sized characters.now toggles.now pending.now heads.now links.now }
+    requires { Sized characters.now toggles.now pending.now table.now.heads table.now.links }
     ensures { result
         ≡ replica_well_formed (replica_as site characters.now toggles.now n
-        pending.now w heads.now links.now) }
+        pending.now w table.now.heads table.now.links) }
 {
     if !in_ranges(site, characters, toggles, n, pending, w) {
         return false;
     }
     let ids = &characters[0..CHARACTERS];
-    if !table::agrees_among(heads, links, ids, n) {
+    if !table::agrees_among(table, ids, n) {
         return false;
     }
     let previous = &characters[PREVIOUS_KEYS..NEXT_KEYS];
     let next = &characters[NEXT_KEYS..CODE_POINTS];
-    if !order::characters_ordered(heads, links, ids, previous, next, n) {
+    if !order::characters_ordered(table, ids, previous, next, n) {
         return false;
     }
-    queue_formed(site, heads, links, ids, n, pending, w)
+    queue_formed(site, table, ids, n, pending, w)
+}
+
+// Internal step: whether a replica is in form.
+pub fn is_well_formed(replica: &Replica) -> bool
+    requires { Full replica.now }
+    ensures { result ≡ replica_well_formed (viewed replica.now) }
+{
+    check(
+        replica.site,
+        &replica.document.characters,
+        &replica.document.toggles,
+        replica.document.length,
+        &replica.document.pending,
+        replica.document.waiting,
+        &replica.document.table,
+    )
 }

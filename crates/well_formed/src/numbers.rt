@@ -7,43 +7,45 @@ ghost use Rattle.woot.specs.Ranges.{is_code_point, character_id, previous_id, ne
 ghost use Rattle.woot.specs.Ranges.{in_range};
 ghost use Rattle.woot.specs.Memory.{identifier, character_of, characters_of, operation_of, operations_of};
 
-use index::{both, either};
-
 // Whether a key is one of a character.
+#[tactic(auto, using(crate::proofs::Ranging::key_ranged))]
 fn character_key(k: u32) -> bool
     ensures { result ≡ character_id (identifier k) }
 {
-    both(both(65536 <= k, k <= 1114111), k % 65536 != 0)
+    (65536 <= k) & (k <= 1114111) & (k % 65536 != 0)
 }
 
 // Whether a number is a code point that may be inserted.
+#[tactic(auto, using(crate::proofs::Ranging::code_ranged))]
 fn code_point(n: u32) -> bool
     ensures { result ≡ is_code_point n }
 {
-    both(n <= 1114111, !both(55296 <= n, n <= 57343))
+    (n <= 1114111) & !((55296 <= n) & (n <= 57343))
 }
 
 // Whether a key may stand as previous.
+#[tactic(auto, using(crate::proofs::Ranging::previous_ranged))]
 fn previous_key(k: u32) -> bool
     ensures { result ≡ previous_id (identifier k) }
 {
-    either(k == 0, character_key(k))
+    (k == 0) | character_key(k)
 }
 
 // Whether a key may stand as next.
+#[tactic(auto, using(crate::proofs::Ranging::next_ranged))]
 fn next_key(k: u32) -> bool
     ensures { result ≡ next_id (identifier k) }
 {
-    either(k == 1, character_key(k))
+    (k == 1) | character_key(k)
 }
 
 // Whether refusal 2 lets the insert with these numbers pass.
+#[tactic(auto, using(crate::proofs::Ranging::row_ranged))]
 fn in_range(id: u32, previous: u32, next: u32, code: u32) -> bool
     ensures { result ≡ insert_in_range (origin (character_of id previous next code 0)) }
 {
-    let numbers = both(character_key(id), code_point(code));
-    let ranged = both(both(numbers, previous_key(previous)), next_key(next));
-    both(both(ranged, id != previous), id != next)
+    let ranged = character_key(id) & code_point(code) & previous_key(previous) & next_key(next);
+    ranged & (id != previous) & (id != next)
 }
 
 // Internal step: whether refusal 2 lets each of the first n characters pass. The calls lend arrays of these sizes.
@@ -64,31 +66,32 @@ pub fn characters_in_range<'a>(
         codes.now toggles.now n) }
 {
     let mut kept = true;
-    let mut i = 0;
-    while i < n {
-        kept = both(kept, in_range(ids[i], previous[i], next[i], codes[i]));
-        i += 1;
+    for i in 0..n {
+        kept &= in_range(ids[i], previous[i], next[i], codes[i]);
     }
     kept
 }
 
 // Whether it lets the toggle with these numbers pass: it has no second key, and its sender and its count are in one
 // number.
+#[tactic(auto, using(crate::proofs::Ranging::toggle_ranged))]
 fn toggle_in_range(first: u32, second: u32, value: u32) -> bool
     ensures { result ≡ in_range (operation_of 0 first second value) }
 {
-    let sent = both(second == 0, both(256 <= value, value < 4352));
-    both(sent, both(character_key(first), value % 256 != 0))
+    let sent = (second == 0) & ((256 <= value) & (value < 4352));
+    sent & (character_key(first) & (value % 256 != 0))
 }
 
 // Whether it lets the pending operation with these numbers pass.
+#[tactic(auto, using(crate::proofs::Ranging::none_ranged, crate::proofs::Ranging::insert_ranged))]
 fn operation_in_range(own: u32, first: u32, second: u32, value: u32) -> bool
     ensures { result ≡ in_range (operation_of own first second value) }
 {
     if own == 0 {
-        return toggle_in_range(first, second, value);
+        toggle_in_range(first, second, value)
+    } else {
+        in_range(own, first, second, value)
     }
-    in_range(own, first, second, value)
 }
 
 // Internal step: whether refusal 2 lets each of the first w pending operations pass.
@@ -108,13 +111,8 @@ pub fn operations_in_range<'a>(
         values.now w) }
 {
     let mut kept = true;
-    let mut j = 0;
-    while j < w {
-        kept = both(
-            kept,
-            operation_in_range(own[j], first[j], second[j], values[j]),
-        );
-        j += 1;
+    for j in 0..w {
+        kept &= operation_in_range(own[j], first[j], second[j], values[j]);
     }
     kept
 }

@@ -7,46 +7,35 @@ ghost use Rattle.woot.specs.Ranges.{character_in_range};
 ghost use Rattle.index.specs.Tabled.{Tabled};
 ghost use Rattle.well_formed.specs.Order.{stands_between, between_at};
 
+use woot::Table;
+
 // Whether the character with index i, of n, stands between two places.
+#[tactic(auto, unfolding(crate::specs::Order::stands_between))]
 fn stands_between(n: usize, i: usize, above: usize, below: usize) -> bool
     requires n_le_character_slots { n ≤ character_slots }
     requires i_lt_n { i < n }
     ensures { result ≡ stands_between n i above below }
 {
-    if i + 1 <= above {
-        return false;
-    }
-    if below <= i + 1 {
-        return false;
-    }
-    below <= n + 1
+    above < i + 1 && i + 1 < below && below <= n + 1
 }
 
 // Whether each character stands between its neighbours. Most stand beside them, so that the adjacent place is looked at
 // first.
-fn all_between<'a>(
-    heads: &'a [u16],
-    links: &'a [u16],
-    ids: &'a [u32],
-    previous: &'a [u32],
-    next: &'a [u32],
-) -> bool
-    requires tabled { Tabled (record { heads = heads.now; links = links.now }) ids.now }
+fn all_between<'a>(table: &'a Table, ids: &'a [u32], previous: &'a [u32], next: &'a [u32]) -> bool
+    requires tabled { Tabled table.now ids.now }
     requires ids_in_bounds { length ids.now ≤ length previous.now }
     requires ids_in_bounds_2 { length ids.now ≤ length next.now }
     ensures { result
         ≡ throughout (between_at ids.now previous.now next.now)
         (length ids.now) }
 {
-    let end = index::place_of(heads, links, ids, 1);
-    let mut i = 0;
-    while i < ids.len() {
-        let above = index::place_near(heads, links, ids, end, i, previous[i]);
-        let below = index::place_near(heads, links, ids, end, i + 2, next[i]);
+    let end = index::place_of(table, ids, 1);
+    for i in 0..ids.len() {
+        let above = index::place_near(table, ids, end, i, previous[i]);
+        let below = index::place_near(table, ids, end, i + 2, next[i]);
         if !stands_between(ids.len(), i, above, below) {
             return false;
         }
-        i += 1;
     }
     true
 }
@@ -54,8 +43,7 @@ fn all_between<'a>(
 // Internal step: whether each of the first n characters, which are in range, stands between its neighbours. The calls
 // lend arrays of these sizes, and have checked the ranges and the table.
 pub fn characters_ordered<'a>(
-    heads: &'a [u16],
-    links: &'a [u16],
+    table: &'a Table,
     ids: &'a [u32],
     previous: &'a [u32],
     next: &'a [u32],
@@ -64,12 +52,12 @@ pub fn characters_ordered<'a>(
     requires n_in_bounds { n ≤ length ids.now }
     requires n_in_bounds_2 { n ≤ length previous.now }
     requires n_in_bounds_3 { n ≤ length next.now }
-    requires tabled { Tabled (record { heads = heads.now; links = links.now }) (take n ids.now) }
+    requires tabled { Tabled table.now (take n ids.now) }
     ensures { (points toggles : List ℕ)
         → every character_in_range (characters_of ids.now previous.now next.now points
         toggles n) ≡ true
         → result ≡ every (ordered (characters_of ids.now previous.now next.now points
         toggles n)) (characters_of ids.now previous.now next.now points toggles n) }
 {
-    all_between(heads, links, &ids[..n], previous, next)
+    all_between(table, &ids[..n], previous, next)
 }

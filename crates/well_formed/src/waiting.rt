@@ -6,17 +6,14 @@ ghost use Rattle.index.specs.Tabled.{Tabled};
 ghost use Rattle.well_formed.specs.PendingForm.{shares_in, unheld_key, keys_new, fresh_at, none_repeated, none_ready};
 ghost use Rattle.well_formed.specs.PendingForm.{pending_formed};
 
-use index::Found;
 use pending::{counts, ready};
-use woot::CHARACTERS;
+use woot::{CHARACTERS, Table};
 
 // Whether no site has more than its share pending.
 fn shares_kept<'a>(own: &'a [u32], values: &'a [u32]) -> bool
     ensures { result ≡ shares_in own.now values.now }
 {
-    let mut site = 0u32;
-    while site < 16 {
-        site += 1;
+    for site in 1..=16 {
         if 32 < counts::count_sender(own, values, site) {
             return false;
         }
@@ -25,14 +22,12 @@ fn shares_kept<'a>(own: &'a [u32], values: &'a [u32]) -> bool
 }
 
 // Whether a key is a toggle's, or is not among those of the characters nor a mark's.
-fn unheld<'a>(heads: &'a [u16], links: &'a [u16], ids: &'a [u32], key: u32) -> bool
-    requires { Tabled (record { heads = heads.now; links = links.now }) ids.now }
+#[tactic(auto, unfolding(crate::specs::PendingForm::unheld_key))]
+fn unheld<'a>(table: &'a Table, ids: &'a [u32], key: u32) -> bool
+    requires { Tabled table.now ids.now }
     ensures { result ≡ unheld_key ids.now key }
 {
-    if key == 0 {
-        return true;
-    }
-    !ready::is_held(heads, links, ids, key)
+    key == 0 || !ready::is_held(table, ids, key)
 }
 
 // The same among keys that have no table.
@@ -46,26 +41,23 @@ fn unseen(keys: &[u32], key: u32) -> bool
         return false;
     }
     match index::find(keys, key) {
-        Found::At(_) => false,
-        Found::Nothing => true,
+        Some(_) => false,
+        None => true,
     }
 }
 
 // Whether no pending insert's key is a character's or an earlier one's.
-fn keys_new<'a>(heads: &'a [u16], links: &'a [u16], ids: &'a [u32], own: &'a [u32]) -> bool
-    requires { Tabled (record { heads = heads.now; links = links.now }) ids.now }
+fn keys_new<'a>(table: &'a Table, ids: &'a [u32], own: &'a [u32]) -> bool
+    requires { Tabled table.now ids.now }
     ensures { result ≡ keys_new ids.now own.now }
 {
-    let mut j = 0;
-    while j < own.len() {
-        let key = own[j];
-        if !unheld(heads, links, ids, key) {
+    for (j, key) in own.iter().enumerate() {
+        if !unheld(table, ids, *key) {
             return false;
         }
-        if !unseen(&own[..j], key) {
+        if !unseen(&own[..j], *key) {
             return false;
         }
-        j += 1;
     }
     true
 }
@@ -77,10 +69,7 @@ fn fresh_at<'a>(own: &'a [u32], first: &'a [u32], values: &'a [u32], j: usize) -
     requires values_len { length values.now ≡ length own.now }
     ensures { result ≡ fresh_at own.now first.now values.now j }
 {
-    if own[j] != 0 {
-        return true;
-    }
-    !counts::has_toggle(&own[..j], &first[..j], &values[..j], first[j], values[j])
+    own[j] != 0 || !counts::has_toggle(&own[..j], &first[..j], &values[..j], first[j], values[j])
 }
 
 // Whether no toggle is pending twice.
@@ -89,47 +78,38 @@ fn none_repeated<'a>(own: &'a [u32], first: &'a [u32], values: &'a [u32]) -> boo
     requires values_len { length values.now ≡ length own.now }
     ensures { result ≡ none_repeated own.now first.now values.now }
 {
-    let mut j = 0;
-    while j < own.len() {
+    for j in 0..own.len() {
         if !fresh_at(own, first, values, j) {
             return false;
         }
-        j += 1;
     }
     true
 }
 
 // Whether no pending operation has all that it needs.
-fn none_ready<'a>(
-    heads: &'a [u16],
-    links: &'a [u16],
-    ids: &'a [u32],
-    first: &'a [u32],
-    second: &'a [u32],
-) -> bool
-    requires tabled { Tabled (record { heads = heads.now; links = links.now }) ids.now }
+fn none_ready<'a>(table: &'a Table, ids: &'a [u32], first: &'a [u32], second: &'a [u32]) -> bool
+    requires tabled { Tabled table.now ids.now }
     requires second_len { length second.now ≡ length first.now }
     ensures { result ≡ none_ready ids.now first.now second.now }
 {
-    let found = ready::ready(heads, links, ids, first, second);
-    match found {
-        Found::At(_) => false,
-        Found::Nothing => true,
+    match ready::ready(table, ids, first, second) {
+        Some(_) => false,
+        None => true,
     }
 }
 
 // Internal step: the conditions of form on the pending operations, but for their ranges. The check has a table of the
 // characters' keys.
+#[tactic(auto, unfolding(crate::specs::PendingForm::pending_formed, crate::specs::PendingForm::room_kept))]
 pub fn pending_formed<'a>(
-    heads: &'a [u16],
-    links: &'a [u16],
+    table: &'a Table,
     ids: &'a [u32],
     own: &'a [u32],
     first: &'a [u32],
     second: &'a [u32],
     values: &'a [u32],
 ) -> bool
-    requires tabled { Tabled (record { heads = heads.now; links = links.now }) ids.now }
+    requires tabled { Tabled table.now ids.now }
     requires first_len { length first.now ≡ length own.now }
     requires second_len { length second.now ≡ length own.now }
     requires values_len { length values.now ≡ length own.now }
@@ -137,17 +117,9 @@ pub fn pending_formed<'a>(
         ≡ pending_formed ids.now own.now first.now second.now
         values.now }
 {
-    if !shares_kept(own, values) {
-        return false;
-    }
-    if CHARACTERS < ids.len() + counts::count_inserts(own) {
-        return false;
-    }
-    if !keys_new(heads, links, ids, own) {
-        return false;
-    }
-    if !none_repeated(own, first, values) {
-        return false;
-    }
-    none_ready(heads, links, ids, first, second)
+    shares_kept(own, values)
+        && ids.len() + counts::count_inserts(own) <= CHARACTERS
+        && keys_new(table, ids, own)
+        && none_repeated(own, first, values)
+        && none_ready(table, ids, first, second)
 }

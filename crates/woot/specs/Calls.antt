@@ -1,6 +1,6 @@
 -- The four calls: typing, erasing, restoring and receiving. Each has its conditions in checking order; where none
 -- holds, what is done stands below them.
-use Rattle.std.specs.Prelude.{ℕ, suc, ◌+◌, Bool, false, ◌&&◌, ◌||◌, not, cond, List, [], ◌∷◌, ◌++◌, leb, ltb, eqb, length, get_or}
+use Rattle.std.specs.Prelude.{ℕ, suc, ◌+◌, Bool, false, ◌&&◌, ◌||◌, not, cond, List, [], ◌∷◌, ◌++◌, leb, ltb, eqb, length, get_or, Err}
 use Rattle.std.proofs.Math.Option.{Option, none, some}
 use Rattle.woot.specs.declared.Identifier.{Identifier}
 use Rattle.woot.specs.declared.Site.{Site}
@@ -13,8 +13,6 @@ use Rattle.answers.specs.declared.Refusal.TheVariants.{Range, Form, Position, No
 use Rattle.answers.specs.declared.Refusal.TheVariants.{Conflict, Crossed, Unplaceable, SenderFull, DocumentFull}
 use Rattle.answers.specs.declared.Answer.{Answer}
 use Rattle.answers.specs.declared.Answer.TheVariants.{Done, Deferred, Duplicate, Refused}
-use Rattle.woot.specs.declared.Sent.{Sent}
-use Rattle.woot.specs.declared.Sent.TheVariants.{Done as sentDone, Refused as sentRefused}
 use Rattle.woot.specs.Limits.{last_clock, last_toggles, capacity, share}
 use Rattle.woot.specs.Identifiers.{begin, end, same}
 use Rattle.woot.specs.Operations.{sender, origin, is_visible, same_insert, same_operation, inserts}
@@ -26,6 +24,7 @@ use Rattle.woot.specs.Pending.{executable, crossed, unplaceable, pending_from, d
 use Rattle.woot.specs.Form.{present_inserts, well_formed}
 use Rattle.answers.specs.Answers.{Check, ◌⇒◌, first, decided}
 use Rattle.lists.specs.Lists.{any, keep}
+use Rattle.woot.specs.Sent.{Sending, sends}
 
 -- what a call answers and leaves: the state, its own operation where that was carried out, and what was drained from
 -- the pending operations or discarded on the way
@@ -181,27 +180,27 @@ beyond_visible s g = ltb (length (visibles s.characters)) g
 unfoldable pub identifier_taken : State → Bool
 identifier_taken s = any (λ i. same (next_identifier s.site) i.id) (present_inserts s)
 
-unfoldable pub insert_checks : Bool → State → ℕ → ℕ → List (Check Sent)
+unfoldable pub insert_checks : Bool → State → ℕ → ℕ → List (Check Sending)
 insert_checks formed s g n =
-    (not (is_code_point n) ⇒ sentRefused Range) ∷ (not formed ⇒ sentRefused Form)
-    ∷ (beyond_visible s g ⇒ sentRefused Position)
-    ∷ (leb last_clock s.site.clock ⇒ sentRefused Clock)
-    ∷ (identifier_taken s ⇒ sentRefused Taken)
-    ∷ (unplaceable s.characters (insert (generated_insert s g n)) ⇒ sentRefused Unplaceable)
-    ∷ (document_full s (insert (generated_insert s g n)) ⇒ sentRefused DocumentFull)
+    (not (is_code_point n) ⇒ Err Range) ∷ (not formed ⇒ Err Form)
+    ∷ (beyond_visible s g ⇒ Err Position)
+    ∷ (leb last_clock s.site.clock ⇒ Err Clock)
+    ∷ (identifier_taken s ⇒ Err Taken)
+    ∷ (unplaceable s.characters (insert (generated_insert s g n)) ⇒ Err Unplaceable)
+    ∷ (document_full s (insert (generated_insert s g n)) ⇒ Err DocumentFull)
     ∷ []
 
 -- what is done where no condition holds: the character is put in, and what waited for it follows. Its clock is one
 -- higher than the site's, which follows it: "lent to a typing call, which advances the clock by one in it"
-unfoldable pub send_insert : State → Insert → Outcome Sent
-send_insert s i = carry_out (sentDone (insert i)) s (insert i)
+unfoldable pub send_insert : State → Insert → Outcome Sending
+send_insert s i = carry_out (sends (insert i)) s (insert i)
 
-unfoldable pub local_insert_when : Bool → State → ℕ → ℕ → Outcome Sent
+unfoldable pub local_insert_when : Bool → State → ℕ → ℕ → Outcome Sending
 local_insert_when formed s g n =
     decided (unchanged s) (first (insert_checks formed s g n)) (send_insert s (generated_insert s g n))
 
 -- typing the code point n at gap g
-unfoldable pub local_insert : State → ℕ → ℕ → Outcome Sent
+unfoldable pub local_insert : State → ℕ → ℕ → Outcome Sending
 local_insert s g n = local_insert_when (well_formed s) s g n
 
 -- ---- erasing and restoring
@@ -215,26 +214,26 @@ toggles_of (c ∷ cs) x = cond (same x c.id) c.toggles (toggles_of cs x)
 unfoldable pub generated_toggle : State → Identifier → Toggle
 generated_toggle s x = record { sender = s.site.number; target = x; toggles = toggles_of s.characters x + 1 }
 
-unfoldable pub send_toggle : State → Toggle → Outcome Sent
-send_toggle s t = carry_out (sentDone (toggle t)) s (toggle t)
+unfoldable pub send_toggle : State → Toggle → Outcome Sending
+send_toggle s t = carry_out (sends (toggle t)) s (toggle t)
 
 -- condition 4 for erasing: "the place is 0 or above it"
 unfoldable pub not_visible : State → ℕ → Bool
 not_visible s p = eqb p 0 || beyond_visible s p
 
-unfoldable pub delete_checks : Bool → State → ℕ → List (Check Sent)
-delete_checks formed s p = (not formed ⇒ sentRefused Form) ∷ (not_visible s p ⇒ sentRefused Position) ∷ []
+unfoldable pub delete_checks : Bool → State → ℕ → List (Check Sending)
+delete_checks formed s p = (not formed ⇒ Err Form) ∷ (not_visible s p ⇒ Err Position) ∷ []
 
 -- "erasing a shown row raises its turn by one": the visible character p, counted from 1
 unfoldable pub generated_delete : State → ℕ → Toggle
 generated_delete s p = generated_toggle s (get_or (begin ∷ visibles s.characters) p begin)
 
-unfoldable pub local_delete_when : Bool → State → ℕ → Outcome Sent
+unfoldable pub local_delete_when : Bool → State → ℕ → Outcome Sending
 local_delete_when formed s p =
     decided (unchanged s) (first (delete_checks formed s p)) (send_toggle s (generated_delete s p))
 
 -- erasing the visible character p, counted from 1
-unfoldable pub local_delete : State → ℕ → Outcome Sent
+unfoldable pub local_delete : State → ℕ → Outcome Sending
 local_delete s p = local_delete_when (well_formed s) s p
 
 -- condition 13, document 02, Req 05: "the row isn't held or is shown", so no hidden one has the identifier
@@ -246,17 +245,17 @@ unfoldable pub exhausted : State → Identifier → Bool
 exhausted s x = eqb (toggles_of s.characters x) last_toggles
 
 -- "these come after 4, in that order"
-unfoldable pub restore_checks : Bool → State → Identifier → List (Check Sent)
+unfoldable pub restore_checks : Bool → State → Identifier → List (Check Sending)
 restore_checks formed s x =
-    (not (character_id x) ⇒ sentRefused Range) ∷ (not formed ⇒ sentRefused Form)
-    ∷ (not_hidden s x ⇒ sentRefused NotHidden)
-    ∷ (exhausted s x ⇒ sentRefused LastToggle)
+    (not (character_id x) ⇒ Err Range) ∷ (not formed ⇒ Err Form)
+    ∷ (not_hidden s x ⇒ Err NotHidden)
+    ∷ (exhausted s x ⇒ Err LastToggle)
     ∷ []
 
-unfoldable pub local_restore_when : Bool → State → Identifier → Outcome Sent
+unfoldable pub local_restore_when : Bool → State → Identifier → Outcome Sending
 local_restore_when formed s x =
     decided (unchanged s) (first (restore_checks formed s x)) (send_toggle s (generated_toggle s x))
 
 -- "restoring names an identifier and raises a hidden row's turn by one"
-unfoldable pub local_restore : State → Identifier → Outcome Sent
+unfoldable pub local_restore : State → Identifier → Outcome Sending
 local_restore s x = local_restore_when (well_formed s) s x

@@ -8,6 +8,7 @@ pub mod Placing
 pub mod Pending
 pub mod Clock
 pub mod Form
+pub mod Sent
 pub mod Sending
 pub mod Writing
 pub mod Calls

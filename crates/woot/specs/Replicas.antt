@@ -1,12 +1,10 @@
 -- The calls on replicas as they lie in memory: the rules applied to their meaning, and the struct that comes back.
-use Rattle.std.specs.Prelude.{ℕ}
+use Rattle.std.specs.Prelude.{ℕ, Ok, Err}
 use Rattle.woot.specs.declared.Identifier.{Identifier}
 use Rattle.woot.specs.declared.Operation.{Operation}
 use Rattle.woot.specs.declared.Replica.{Replica}
 use Rattle.answers.specs.declared.Answer.{Answer}
 use Rattle.answers.specs.declared.Answer.TheVariants.{Done, Deferred, Duplicate, Refused}
-use Rattle.woot.specs.declared.Sent.{Sent}
-use Rattle.woot.specs.declared.Sent.TheVariants.{Done as sentDone, Refused as sentRefused}
 use Rattle.woot.specs.declared.Receipt.{Receipt}
 use Rattle.woot.specs.declared.ReceiptAt.{ReceiptAt}
 use Rattle.woot.specs.declared.Generated.{Generated}
@@ -14,6 +12,7 @@ use Rattle.woot.specs.State.{State}
 use Rattle.woot.specs.Memory.{meaning, stored, replica_well_formed}
 use Rattle.woot.specs.Calls.{Outcome, receive_when, local_insert_when, local_delete_when, local_restore_when}
 use Rattle.woot.specs.Cursor.{receive_at_when, shift_of}
+use Rattle.woot.specs.Sent.{Sending}
 
 -- the very replica that was passed where nothing is changed, else the new state as it is stored
 unfoldable pub after_answer : Replica → State → Answer → Replica
@@ -22,15 +21,15 @@ after_answer r s Deferred = stored s
 after_answer r s Duplicate = r
 after_answer r s (Refused q) = r
 
-unfoldable pub after_sent : Replica → State → Sent → Replica
-after_sent r s (sentDone o n m) = stored s
-after_sent r s (sentRefused q) = r
+unfoldable pub after_sent : Replica → State → Sending → Replica
+after_sent r s (Ok x) = stored s
+after_sent r s (Err q) = r
 
 -- what is returned: the answer, and the replica as it is then
 unfoldable pub receipt : Replica → Outcome Answer → Receipt
 receipt r w = record { answer = w.answer; replica = after_answer r w.state w.answer }
 
-unfoldable pub generated : Replica → Outcome Sent → Generated
+unfoldable pub generated : Replica → Outcome Sending → Generated
 generated r w = record { answer = w.answer; replica = after_sent r w.state w.answer }
 
 -- with a cursor at gap g also the shift

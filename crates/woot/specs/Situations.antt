@@ -8,7 +8,6 @@ use Rattle.woot.specs.Identifiers.{begin, end}
 use Rattle.woot.specs.Operations.{character, with_toggles}
 use Rattle.woot.specs.State.{State, initial}
 use Rattle.woot.specs.Placing.{identifiers}
-use Rattle.woot.specs.declared.Sent.{Sent}
 use Rattle.answers.specs.Answers.{done, waits, known, refused, Reply, reply, Check}
 use Rattle.answers.specs.Order.{numbers_of, ranks_of, rises}
 use Rattle.woot.specs.Sending.{answer_of}
@@ -18,6 +17,7 @@ use Rattle.woot.specs.Cursor.{visible_through, receive_at_checks, receive_at, sh
 use Rattle.woot.specs.Histories.{Call, inserting, deleting, restoring, receiving, outcome, run, integrated_by}
 use Rattle.woot.specs.Histories.{largest_in}
 use Rattle.woot.specs.Text.{text}
+use Rattle.woot.specs.Sent.{Sending}
 
 infix 90 ◌at◌
 -- the identifier that document 01 writes 3/2 is `3 at 2`: site 3 at clock 2
@@ -513,7 +513,7 @@ LargestTells =
 -- ---- the checking order
 
 -- the refusals of a list of checks by their numbers
-abbrev pub sent_numbers_of : List (Check Sent) → List ℕ
+abbrev pub sent_numbers_of : List (Check Sending) → List ℕ
 sent_numbers_of cs = map (λ c. (reply (answer_of c.answer)).refusal) cs
 
 -- receiving meets 2, 3, known, 7, 8, 9, 10, 11, with a cursor 4 after known; typing 2, 3, 4, 5, 6 (reserved), 9, 11;

@@ -10,7 +10,7 @@ ghost use Rattle.woot.specs.Memory.{stored};
 use answers::{Answer, Refusal};
 
 // The name of a character: the site that typed it and that site's clock then. (Document 01: identifier.)
-#[derive(Clone, Copy)]
+#[derive(Clone, Copy, PartialEq, Eq)]
 pub struct Identifier {
     pub site: u8,
     pub clock: u16,
@@ -166,15 +166,13 @@ impl Replica {
     }
 }
 
-// What inserting, deleting and restoring here answer: the operation to be sent with the counts, or a refusal.
+// What inserting, deleting and restoring here come to where they are not refused: the operation to be sent, and how many
+// were carried out and how many discarded.
 #[derive(Clone, Copy)]
-pub enum Sent {
-    Done {
-        operation: Operation,
-        integrated: usize,
-        discarded: usize,
-    },
-    Refused(Refusal),
+pub struct Sent {
+    pub operation: Operation,
+    pub integrated: usize,
+    pub discarded: usize,
 }
 
 // What receiving returns: the answer, and the replica as it is then.
@@ -196,13 +194,6 @@ pub struct ReceiptAt {
 // What inserting, deleting and restoring here return.
 #[derive(Clone, Copy)]
 pub struct Generated {
-    pub answer: Sent,
+    pub answer: Result<Sent, Refusal>,
     pub replica: Replica,
-}
-
-// What writing into a lent slice answers: how many bytes were written, or a refusal, and then none was.
-#[derive(Clone, Copy)]
-pub enum Written {
-    Length(usize),
-    Refused(Refusal),
 }

@@ -17,6 +17,7 @@ use answers::Answer;
 use woot::{Identifier, Insert, Operation, Replica, Toggle};
 
 // The identifier of the k-th character.
+#[tactic(auto, unfolding(crate::specs::Workload::identifier_of))]
 fn identifier(k: u16) -> Identifier
     requires { k < 1024 }
     ensures { result ≡ identifier_of k }
@@ -25,17 +26,20 @@ fn identifier(k: u16) -> Identifier
 }
 
 // What the k-th character stands after: the one before it, and each fourth the begin mark.
+#[tactic(auto, unfolding(crate::specs::Workload::previous_of))]
 fn previous(k: u16) -> Identifier
     requires { k < 1024 }
     ensures { result ≡ previous_of k }
 {
     if k % 4 == 0 {
-        return Identifier::BEGIN;
+        Identifier::BEGIN
+    } else {
+        identifier(k - 1)
     }
-    identifier(k - 1)
 }
 
 // The k-th insert.
+#[tactic(auto, unfolding(crate::specs::Workload::insert_of))]
 fn insert(k: u16) -> Operation
     requires { k < 1024 }
     ensures { result ≡ insert_of k }
@@ -49,6 +53,7 @@ fn insert(k: u16) -> Operation
 }
 
 // The delete of the k-th character: its first toggle.
+#[tactic(auto, unfolding(crate::specs::Workload::delete_of))]
 fn delete(k: u16) -> Operation
     requires { k < 1024 }
     ensures { result ≡ delete_of k }
@@ -61,29 +66,27 @@ fn delete(k: u16) -> Operation
 }
 
 // The k-th operation on `rows` characters: their inserts, and then their deletes.
+#[tactic(auto, unfolding(crate::specs::Workload::operation_of))]
 fn operation(rows: u16, k: u16) -> Operation
     requires rows_bound { rows ≤ 1024 }
     requires k_bound { k < rows + rows }
     ensures { result ≡ operation_of rows k }
 {
     if k < rows {
-        return insert(k);
+        insert(k)
+    } else {
+        delete(k - rows)
     }
-    delete(k - rows)
 }
 
 // 1 where the operation was carried out.
+#[tactic(auto, unfolding(crate::specs::Workload::one_if_done))]
 fn one_if_done(answer: Answer) -> u64
     ensures { result ≡ one_if_done answer }
 {
     match answer {
-        Answer::Done {
-            integrated: _,
-            discarded: _,
-        } => 1,
-        Answer::Deferred => 0,
-        Answer::Duplicate => 0,
-        Answer::Refused(_) => 0,
+        Answer::Done { .. } => 1,
+        Answer::Deferred | Answer::Duplicate | Answer::Refused(_) => 0,
     }
 }
 
@@ -91,10 +94,7 @@ fn one_if_done(answer: Answer) -> u64
 fn within(rows: u64) -> u16
     ensures { result ≡ min rows 1024 }
 {
-    if rows < 1024 {
-        return rows as u16;
-    }
-    1024
+    rows.min(1024) as u16
 }
 
 // Receives the first `rows` inserts on an empty replica of site 16, 1,024 at most, and then the deletes of the same
@@ -107,13 +107,11 @@ pub extern "C" fn workload_run(rows: u64) -> u64
     let n = within(rows);
     let mut replica = Replica::empty(16);
     let mut count: u64 = 0;
-    let mut k: u16 = 0;
-    while k < n + n {
+    for k in 0..n + n {
         let receipt = replica::receive(replica, operation(n, k));
         let answer = receipt.answer;
         replica = receipt.replica;
         count += one_if_done(answer);
-        k += 1;
     }
     count
 }

@@ -1,5 +1,6 @@
 -- `admit` meets its contract, case by case of what was judged.
 use mathlib.Core.Path.{sym, ◌∙◌}
+use Rattle.memory.proofs.Fullness.{full-replica}
 use Rattle.admission.specs.Calls.{used_after}
 use Rattle.admission.proofs.Answering.{admitted_so, admitted-by}
 use borrow.Author.Rules.{rules}
@@ -21,3 +22,6 @@ returns-in-Deferred c = admitted-by c.args.replica c.judge-answer.ensures c.in-D
 pub returns-in-Duplicate : goal.returns-in-Duplicate
 unfolding used_after
 returns-in-Duplicate c = admitted-by c.args.replica c.judge-answer.ensures c.in-Duplicate.is
+
+pub judge-answer-requires : goal.judge-answer-requires
+judge-answer-requires c = full-replica c.well_formed.0

@@ -1,6 +1,5 @@
 -- `archiving::archive` meets its contract: what was read decides, then its form, and then the room.
 use mathlib.Core.Path.{refl, sym, ◌∙◌}
-use borrow.Author.Rules.{rules}
 use Rattle.lists.proofs.Padding.{pad-none}
 use Rattle.lists.proofs.Tests.{failed, passed}
 use Rattle.saved.proofs.Archives.{archive_form, archive_writes}
@@ -17,9 +16,9 @@ read_lines-found-requires c =
       pending_value = sym no-pending;
     }
 
-pub returns-in-Refused : goal.returns-in-Refused
-returns-in-Refused c =
-    let all = archive_unread _ _ _ (sym c.read_lines-found.ensures.answer_value ∙ c.in-Refused.is) in
+pub returns-in-Err : goal.returns-in-Err
+returns-in-Err c =
+    let all = archive_unread _ _ _ (sym c.read_lines-found.ensures.answer_value ∙ c.in-Err.is) in
     record {
       value = all.0;
       out_after = all.1;

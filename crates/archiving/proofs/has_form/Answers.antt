@@ -1,12 +1,25 @@
 -- `archiving::has_form` meets its contract: the table is made of what the arrays hold, and so the form is the state's.
 use Prim.Native.Nat.{ℕ}
-use mathlib.Core.Path.{sym, ap, ◌∙◌}
+use mathlib.Core.Path.{sym, subst, ap, ◌∙◌}
 use lib.ListN.{take}
-use borrow.Author.Rules.{rules}
 use Rattle.woot.specs.Table.{table_of}
+use Rattle.chains.specs.Sizes.{Sized}
+use Rattle.chains.proofs.Tables.{table_sized}
 use Rattle.memory.proofs.Stored.{counts, form_counted}
 use Rattle.archiving.proofs.Holding.{form_held}
 use Rattle.archiving.proofs.has_form.Goals as goal
+
+pub check-requires : goal.check-requires
+check-requires c =
+    let z = c.requires in
+    let made = subst Sized (sym c.enter_all.ensures) (table_sized _) in
+    record {
+      characters = z.characters_len;
+      toggles = z.toggles_len;
+      pending = z.pending_len;
+      heads = made.heads;
+      links = made.links;
+    }
 
 pub returns : goal.returns
 returns c =

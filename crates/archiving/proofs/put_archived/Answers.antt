@@ -2,7 +2,6 @@
 use native.Mathlib.Omega.{arith}
 use mathlib.Core.Path.{sym, ap, ◌∙◌}
 use mathlib.Core.List.{[]}
-use borrow.Author.Rules.{rules}
 use Rattle.lists.proofs.Padding.{pad-none}
 use Rattle.bulk.specs.Archiving.{Archive}
 use Rattle.woot.specs.Writing.{written_as, output_after}

@@ -3,7 +3,6 @@ use native.Mathlib.Omega.{arith}
 use mathlib.Core.Path.{refl, sym, ap, ◌∙◌}
 use mathlib.Core.List.{[]}
 use lib.ListN.{take}
-use borrow.Author.Rules.{rules}
 use Rattle.lists.proofs.Padding.{pad-none}
 use Rattle.lists.proofs.Tests.{clash, failed, passed}
 use Rattle.woot.specs.State.{State}

@@ -1,7 +1,6 @@
 -- `archiving::unarchive` meets its contract: what was read decides, then its places and identifiers, and then the rest.
 use native.Mathlib.Omega.{arith}
 use mathlib.Core.Path.{refl, sym, ◌∙◌}
-use borrow.Author.Rules.{rules}
 use Rattle.lists.proofs.Padding.{pad-none}
 use Rattle.lists.proofs.Tests.{failed, passed}
 use Rattle.loading.proofs.Settling.{no-characters, no-pending}
@@ -17,9 +16,9 @@ read_lines-found-requires c =
       pending_value = sym no-pending;
     }
 
-pub returns-in-Refused : goal.returns-in-Refused
-returns-in-Refused c =
-    let all = unarchive_unread _ _ _ (sym c.read_lines-found.ensures.answer_value ∙ c.in-Refused.is) in
+pub returns-in-Err : goal.returns-in-Err
+returns-in-Err c =
+    let all = unarchive_unread _ _ _ (sym c.read_lines-found.ensures.answer_value ∙ c.in-Err.is) in
     record {
       value = all.0;
       out_after = all.1;

@@ -4,48 +4,42 @@ use mathlib.Core.Bool.{false}
 use Rattle.lists.proofs.Tests.{failed, passed}
 use Rattle.woot.specs.Calls.{beyond_visible}
 use Rattle.memory.specs.Columns.{Replica, meaning}
-use Rattle.memory.specs.Lent.{replica_as}
-use Rattle.memory.proofs.Fullness.{begins, Ends, ends}
+use Rattle.memory.specs.Lent.{viewed}
 use Rattle.well_formed.specs.Examined.{Examined}
 use Rattle.well_formed.proofs.Examining.{lent_examined, few, fits}
 use Rattle.block_judging.proofs.Judging.{judged_unformed, judged_beyond, seen, judged_late, judged-full, judged-empty, judged-enough}
-use borrow.Author.Rules.{rules}
-use Rattle.block_judging.proofs.judge.Goals.{Else-count-point, Else-not-check, Start}
+use Rattle.block_judging.proofs.judge.Goals.{Else-count-point, Else-not-is_well_formed, Start}
 use Rattle.block_judging.proofs.judge.Goals as goal
 
--- the replica with the arrays
+-- the replica as its columns
 abbrev given : Start → Replica
-given s =
-    let a = s.args in
-    replica_as a.site a.characters.now a.toggles.now a.n a.pending.now a.w a.heads.now a.links.now
+given s = viewed s.args.replica.now
 
 -- the tests that are passed
-examined : (c : Else-not-check) → Examined (let a = c.args in
-    replica_as a.site a.characters.now a.toggles.now a.n a.pending.now a.w a.heads.now a.links.now)
-examined c = lent_examined _ _ _ c.requires (passed c.check.ensures c.if-not-check.false-raw)
+examined : (c : Else-not-is_well_formed) → Examined (viewed c.args.replica.now)
+examined c = lent_examined _ _ _ c.requires (passed c.is_well_formed.ensures c.if-not-is_well_formed.false-raw)
 
-shown : (c : Else-count-point) → beyond_visible (meaning (let a = c.args in
-    replica_as a.site a.characters.now a.toggles.now a.n a.pending.now a.w a.heads.now a.links.now)) c.args.point ≡ false
-shown c = seen _ _ c.args.count (lent_examined _ _ _ c.requires (passed c.check.ensures c.if-not-check.false-raw)) c.count.ensures c.if-count-point.false
+shown : (c : Else-count-point) → beyond_visible (meaning (viewed c.args.replica.now)) c.args.point ≡ false
+shown c = seen _ _ c.args.count (lent_examined _ _ _ c.requires (passed c.is_well_formed.ensures c.if-not-is_well_formed.false-raw)) c.count.ensures c.if-count-point.false
 
-pub returns-then-not-check : goal.returns-then-not-check
-returns-then-not-check c =
-    judged_unformed (given (goal.at.returns-then-not-check c).Start) _ _ (failed c.check.ensures c.if-not-check.true-raw)
+pub returns-then-not-is_well_formed : goal.returns-then-not-is_well_formed
+returns-then-not-is_well_formed c =
+    judged_unformed (given (goal.at.returns-then-not-is_well_formed c).Start) _ _ (failed c.is_well_formed.ensures c.if-not-is_well_formed.true-raw)
 
 pub count-requires : goal.count-requires
-count-requires c = (fits _ (examined (goal.at.count-requires c).Else-not-check)).toggles
+count-requires c = (fits _ (examined (goal.at.count-requires c).Else-not-is_well_formed)).toggles
 
 pub returns-then-count-point : goal.returns-then-count-point
 returns-then-count-point c =
-    judged_beyond _ _ _ (examined (goal.at.returns-then-count-point c).Else-not-check) c.count.ensures c.if-count-point.true
+    judged_beyond _ _ _ (examined (goal.at.returns-then-count-point c).Else-not-is_well_formed) c.count.ensures c.if-count-point.true
 
 pub returns-then-clock_short : goal.returns-then-clock_short
 returns-then-clock_short c =
-    judged_late _ _ _ (examined (goal.at.returns-then-clock_short c).Else-not-check) (shown (goal.at.returns-then-clock_short c).Else-count-point) (sym c.clock_short.ensures ∙ c.if-clock_short.true)
+    judged_late _ _ _ (examined (goal.at.returns-then-clock_short c).Else-not-is_well_formed) (shown (goal.at.returns-then-clock_short c).Else-count-point) (sym c.clock_short.ensures ∙ c.if-clock_short.true)
 
 pub overfull-requires : goal.overfull-requires
 overfull-requires c =
-    let x = examined (goal.at.overfull-requires c).Else-not-check in
+    let x = examined (goal.at.overfull-requires c).Else-not-is_well_formed in
     record {
       n_le_character_slots = (few _ x).characters;
       w_le_pending_slots = (few _ x).pending;
@@ -54,28 +48,15 @@ overfull-requires c =
 
 pub returns-then-overfull : goal.returns-then-overfull
 returns-then-overfull c =
-    judged-full _ _ _ (examined (goal.at.returns-then-overfull c).Else-not-check) (shown (goal.at.returns-then-overfull c).Else-count-point) (sym c.clock_short.ensures ∙ c.if-clock_short.false)
+    judged-full _ _ _ (examined (goal.at.returns-then-overfull c).Else-not-is_well_formed) (shown (goal.at.returns-then-overfull c).Else-count-point) (sym c.clock_short.ensures ∙ c.if-clock_short.false)
     (sym c.overfull.ensures ∙ c.if-overfull.true)
 
 pub returns-then-count-eq0 : goal.returns-then-count-eq0
 returns-then-count-eq0 c =
-    judged-empty _ _ _ (examined (goal.at.returns-then-count-eq0 c).Else-not-check) (shown (goal.at.returns-then-count-eq0 c).Else-count-point) (sym c.clock_short.ensures ∙ c.if-clock_short.false)
+    judged-empty _ _ _ (examined (goal.at.returns-then-count-eq0 c).Else-not-is_well_formed) (shown (goal.at.returns-then-count-eq0 c).Else-count-point) (sym c.clock_short.ensures ∙ c.if-clock_short.false)
     (sym c.overfull.ensures ∙ c.if-overfull.false) c.if-count-eq0.true
 
 pub returns : goal.returns
 returns c =
-    judged-enough _ _ _ (examined (goal.at.returns c).Else-not-check) (shown (goal.at.returns c).Else-count-point) (sym c.clock_short.ensures ∙ c.if-clock_short.false)
+    judged-enough _ _ _ (examined (goal.at.returns c).Else-not-is_well_formed) (shown (goal.at.returns c).Else-count-point) (sym c.clock_short.ensures ∙ c.if-clock_short.false)
     (sym c.overfull.ensures ∙ c.if-overfull.false) c.if-count-eq0.false
-
--- the column that is lent
-waits : (c : Else-not-check) → Ends 512 c.args.pending.now
-waits c = ends 512 c.requires.pending
-
-pub slice_bounds-overfull-count : goal.slice_bounds-overfull-count
-slice_bounds-overfull-count c = begins 512 0
-
-pub slice_bounds-overfull-start : goal.slice_bounds-overfull-start
-slice_bounds-overfull-start c = begins 512 0
-
-pub slice_bounds-overfull-end : goal.slice_bounds-overfull-end
-slice_bounds-overfull-end c = (waits (goal.at.slice_bounds-overfull-end c).Else-not-check).first

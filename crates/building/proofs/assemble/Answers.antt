@@ -73,5 +73,5 @@ returns c a =
       heads = s.heads;
       links = s.links;
     })
-    (ap (λ (q : List ℕ). columns_as p.new.characters t.new.toggles p.result q 0 p.new.heads p.new.links) (empty-pending _ e.result e.ensures) ∙ f.tidy)
+    (ap (λ (q : List ℕ). columns_as p.new.characters t.new.toggles p.result q 0 p.new.table.heads p.new.table.links) (empty-pending _ e.result e.ensures) ∙ f.tidy)
     _ (omega (arith, n, (laid_parts l).length-is, a.many))

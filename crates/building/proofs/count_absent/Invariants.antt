@@ -1,6 +1,6 @@
 -- `building::count_absent` counts one after another. The loop's invariant: the count, with what is left to count, is
 -- all.
-use Prim.Native.Nat.{◌+◌, ◌-◌, ◌≤◌}
+use Prim.Native.Nat.{◌+◌, ◌≤◌}
 use native.Mathlib.Omega.{arith}
 use mathlib.Core.Path.{◌≡◌, sym, ap, ◌∙◌}
 use mathlib.Core.Logic.{⊎_elim}
@@ -22,6 +22,3 @@ abbrev pub invariant-loop-j : goal.invariant-loop-j
 invariant-loop-j l = (l.absent ≤ l.j) × (l.j ≤ l.m)
     × ((cs : List Character) (ts : List Toggle) → take l.n (key_column l.characters) ≡ keys cs → AllSmall cs → Among l.changes l.m ts
     → l.absent + absentees cs (drop l.j ts) ≡ absentees cs ts)
-
-abbrev pub decreases-loop-j : goal.decreases-loop-j
-decreases-loop-j l = l.m - l.j

@@ -1,25 +1,19 @@
--- `building::is_site` meets its contract: each comparison is one of the definition's two tests.
-use mathlib.Core.Path.{◌≡◌, sym}
-use mathlib.Core.Bool.{false}
-use Prim.Native.Nat.{ℕ, ◌≤◌, ◌<◌}
-use native.Mathlib.Omega.{arith}
-use lib.Dec.{leb}
-use borrow.Author.Tests.{le-leb}
+-- `building::is_site` meets its contract: the range is the definition's.
+use Rattle.std.proofs.Common.{sym, arith}
 use Rattle.woot.specs.Limits.{last_site}
-use Rattle.woot.specs.Ranges.{within, site_number}
-use Rattle.ranges.proofs.Laws.{within-under}
+use Rattle.woot.specs.Ranges.{site_number}
+use Rattle.convergence.proofs.Ranges.{to-within}
+use Rattle.ranges.proofs.Laws.{within-under, within-above}
 use Rattle.building.proofs.is_site.Goals as goal
 
-none : (n : ℕ) → n < 1 → site_number n ≡ false
+pub returns-in-1-to-16 : goal.returns-in-1-to-16
 unfolding site_number
-none n h = within-under 1 last_site n h
+returns-in-1-to-16 c = sym (to-within 1 last_site c.args.number (omega arith) (omega arith))
 
-some : (n : ℕ) → 1 ≤ n → site_number n ≡ leb n last_site
-unfolding site_number within
-some n h = rw (le-leb 1 n h)
+pub returns-in_default : goal.returns-in_default
+unfolding site_number
+returns-in_default c = sym (within-under 1 last_site c.args.number (omega arith))
 
-pub returns-then-number-lt1 : goal.returns-then-number-lt1
-returns-then-number-lt1 c = sym (none _ (omega arith))
-
-pub returns : goal.returns
-returns c = sym (some _ (omega arith))
+pub returns-in_default-2 : goal.returns-in_default-2
+unfolding site_number
+returns-in_default-2 c = sym (within-above 1 last_site c.args.number (omega arith))

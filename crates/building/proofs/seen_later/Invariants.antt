@@ -1,6 +1,6 @@
 -- `building::seen_later` compares the numbers of each later slot. The loop's invariant: what is asked of all the
 -- later ones is asked of those that are left.
-use Prim.Native.Nat.{◌+◌, ◌-◌, ◌≤◌, ◌<◌}
+use Prim.Native.Nat.{◌+◌, ◌≤◌, ◌<◌}
 use native.Mathlib.Omega.{arith}
 use mathlib.Core.Path.{◌≡◌, refl, sym, ap, ◌∙◌}
 use mathlib.Core.List.{List}
@@ -17,6 +17,3 @@ abbrev pub invariant-loop-i : goal.invariant-loop-i
 invariant-loop-i l = (l.j < l.i) × (l.i ≤ l.m)
     × ((ts : List Toggle) (t : Toggle) → Among l.changes l.m ts
     → any (same_toggle (get_or ts l.j t)) (drop (l.j + 1) ts) ≡ any (same_toggle (get_or ts l.j t)) (drop l.i ts))
-
-abbrev pub decreases-loop-i : goal.decreases-loop-i
-decreases-loop-i l = l.m - l.i

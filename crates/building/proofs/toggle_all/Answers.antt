@@ -1,6 +1,5 @@
 -- `building::toggle_all` carries out one toggle after another. The loop's invariant: with those that are left it
 -- comes to what all of them come to.
-use Prim.Native.Nat.{◌-◌}
 use native.Mathlib.Omega.{arith}
 use Rattle.passes.specs.Steps.{laid_as}
 use Rattle.building.specs.Steps.{Toggles}
@@ -31,17 +30,11 @@ carry_toggle-requires c =
       tabled = laid_tabled l;
     }
 
-pub overflow_add-j : goal.overflow_add-j
-overflow_add-j c = omega (arith, c.loop-j-test.true)
-
-pub loop-j-smaller : goal.loop-j-smaller
-loop-j-smaller c = omega (arith, c.loop-j-test.true)
-
 pub loop-j-preserved : goal.loop-j-preserved
 loop-j-preserved c g =
     let l = c.loop-j in
     let a = c.args in
-    changing_again g.among l.j c.loop-j-test.true a.characters.now l.toggles a.n a.heads.now a.links.now (l.invariant g) _
+    changing_again g.among l.j c.loop-j-test.true a.characters.now l.toggles a.n a.table.now (l.invariant g) _
     c.toggle_at-toggle.ensures _ c.carry_toggle.ensures
 
 pub shape_of-toggles : goal.shape_of-toggles

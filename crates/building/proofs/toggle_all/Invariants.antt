@@ -1,6 +1,5 @@
 -- `building::toggle_all` carries out one toggle after another. The loop's invariant: with those that are left it
 -- comes to what all of them come to.
-use Prim.Native.Nat.{◌-◌}
 use native.Mathlib.Omega.{arith}
 use Rattle.passes.specs.Steps.{laid_as}
 use Rattle.building.specs.Steps.{Toggles}
@@ -10,7 +9,4 @@ use Rattle.building.proofs.Toggling.{read_ranged}
 use Rattle.building.proofs.toggle_all.Given as goal
 
 abbrev pub invariant-loop-j : goal.invariant-loop-j
-invariant-loop-j l = (g : Toggles (laid_as l.characters l.initial.toggles l.n l.heads l.links) l.changes l.m) → Changing (laid_as l.characters l.toggles l.n l.heads l.links) l.j g.characters g.toggles
-
-abbrev pub decreases-loop-j : goal.decreases-loop-j
-decreases-loop-j l = l.m - l.j
+invariant-loop-j l = (g : Toggles (laid_as l.characters l.initial.toggles l.n l.table) l.changes l.m) → Changing (laid_as l.characters l.toggles l.n l.table) l.j g.characters g.toggles

@@ -5,8 +5,7 @@ use native.Mathlib.Numerals.{add-one}
 use mathlib.Core.Path.{◌≡◌, ap, sym, ◌∙◌}
 use mathlib.Core.Logic.{⊎_elim}
 use lib.ListN.{get_or, set}
-use borrow.Author.Rules.{rules}
-use borrow.Author.Tests.{leb-true, leb-false}
+use borrow.Author.Tests.{leb-true}
 use Rattle.woot.specs.declared.Table.{Table}
 use Rattle.woot.specs.Table.{chain_of, free_slot, entered}
 use Rattle.chains.proofs.Walks.{leads-on, leads_nowhere}

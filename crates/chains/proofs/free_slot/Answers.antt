@@ -1,10 +1,8 @@
 -- `chains::free_slot` meets its contract. The loop's invariant: the way from where it stands ends where the whole way ends.
-use mathlib.Core.Path.{◌≡◌, sym, ◌∙◌}
-use Prim.Native.Nat.{◌-◌, ◌*◌, ◌≤◌, ◌<◌}
+use mathlib.Core.Path.{sym, ◌∙◌}
+use Prim.Native.Nat.{◌-◌, ◌≤◌, ◌<◌}
 use native.Mathlib.Omega.{arith}
 use borrow.Author.Tests.{leb-true, leb-false}
-use lib.ListN.{get_or}
-use Rattle.woot.specs.Table.{slot, free_slot}
 use Rattle.chains.proofs.Walks.{leads-on, leads_nowhere}
 use Rattle.chains.proofs.Slots.{free-here, free_on, free-enough}
 use Rattle.chains.proofs.free_slot.Goals as goal

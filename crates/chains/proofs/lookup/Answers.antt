@@ -3,10 +3,9 @@ use mathlib.Core.Path.{◌≡◌, ◌∙◌}
 use Prim.Native.Nat.{ℕ, ◌-◌, ◌≤◌, ◌<◌}
 use native.Mathlib.Omega.{arith}
 use mathlib.Core.Option.{Option, some}
-use borrow.Author.Rules.{rules}
 use borrow.Author.Tests.{leb-true, leb-false}
 use lib.ListN.{length}
-use Rattle.woot.specs.Table.{walk, lookup}
+use Rattle.woot.specs.Table.{lookup}
 use Rattle.chains.specs.Places.{place_found}
 use Rattle.chains.proofs.Walks.{leads_nowhere, walk_ends, walk_here, walk-on}
 use Rattle.chains.proofs.lookup.Goals as goal
@@ -15,14 +14,11 @@ use Rattle.chains.proofs.lookup.Goals as goal
 here : (w : Option ℕ) (p : ℕ) → 0 < p → w ≡ some (p - 1) → p ≡ place_found w
 here w p h e = rw e (omega arith)
 
-pub overflow_cast-next : goal.overflow_cast-next
-overflow_cast-next c = omega (arith, c.type_inv.heads c.chain.result)
-
 pub loop-at-init : goal.loop-at-init
 unfolding lookup
 loop-at-init c =
     let whole : length c.args.keys.now - 0 ≡ length c.args.keys.now = omega arith in
-    (omega arith, omega (arith, c.type_inv.heads c.chain.result), rw (c.chain.ensures.value, whole))
+    (omega arith, omega arith, rw (c.place-next.ensures.value, c.chain.ensures.value, whole))
 
 pub bounds-keys-next : goal.bounds-keys-next
 bounds-keys-next c = omega (arith, leb-true)
@@ -31,13 +27,10 @@ pub returns-then-keys-next : goal.returns-then-keys-next
 returns-then-keys-next c =
     let l = c.loop-at in
     let a = c.args in
-    here _ l.next (omega arith) (l.invariant.2 ∙ walk_here a.links.now a.keys.now a.key (length a.keys.now - l.at) l.rest l.at l.next (omega arith) (omega arith) (omega (arith, leb-true)) (omega (arith, c.if-keys-next.true)))
+    here _ l.next (omega arith) (l.invariant.2 ∙ walk_here a.table.now.links a.keys.now a.key (length a.keys.now - l.at) l.rest l.at l.next (omega arith) (omega arith) (omega (arith, leb-true)) (omega (arith, c.if-keys-next.true)))
 
-pub bounds-links-slot : goal.bounds-links-slot
-bounds-links-slot c = omega (arith, leb-true)
-
-pub overflow_cast-next-in-loop-at : goal.overflow_cast-next-in-loop-at
-overflow_cast-next-in-loop-at c = omega (arith, c.type_inv.links c.slot.result)
+pub bounds-table-slot : goal.bounds-table-slot
+bounds-table-slot c = omega (arith, leb-true)
 
 pub loop-at-smaller : goal.loop-at-smaller
 loop-at-smaller c = omega (arith, leb-true)
@@ -48,10 +41,10 @@ loop-at-preserved c =
     let a = c.args in
     let within : l.next ≤ length a.keys.now = omega (arith, leb-true) in (
       within,
-      omega (arith, c.type_inv.links c.slot.result),
+      omega arith,
       l.invariant.2
-          ∙ walk-on a.links.now a.keys.now a.key (length a.keys.now - l.at) l.rest l.at l.next (omega arith) (omega arith) within (length a.keys.now - l.next) (omega arith) (λ e. c.if-keys-next.false (omega arith))
-          ∙ rw c.slot.ensures.value,
+          ∙ walk-on a.table.now.links a.keys.now a.key (length a.keys.now - l.at) l.rest l.at l.next (omega arith) (omega arith) within (length a.keys.now - l.next) (omega arith) (λ e. c.if-keys-next.false (omega arith))
+          ∙ rw (c.place-next-in-loop-at.ensures.value, c.slot.ensures.value),
     )
 
 pub returns-else-next-keys : goal.returns-else-next-keys

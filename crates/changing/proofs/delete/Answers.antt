@@ -1,28 +1,14 @@
 -- `changing::delete` sends what was made.
-use Rattle.woot.specs.declared.Replica.{Replica}
-use Rattle.replica.specs.Outcomes.{replica_lent}
 use Rattle.replica.proofs.Returning.{sendable, delete_so}
 use Rattle.effects.proofs.Outputs.{leaves_by, sent_as}
 use Rattle.effects.proofs.Saving.{delete_savable}
-use borrow.Author.Rules.{rules}
-use Rattle.changing.proofs.delete.Goals.{Start}
 use Rattle.changing.proofs.delete.Goals as goal
-
--- the replica in the arrays that were lent
-abbrev lent : Start → Replica
-lent s =
-    let a = s.args in
-    replica_lent a.site a.characters.now a.toggles.now a.n a.pending.now a.w a.heads.now a.links.now
 
 pub send_made-requires : goal.send_made-requires
 send_made-requires c =
-    let j = c.judge_delete-made.ensures in
-    record {
-      sized = c.requires;
-      sendable = sendable (lent (goal.at.send_made-requires c).Start) _ _ j;
-      savable = delete_savable (lent (goal.at.send_made-requires c).Start) _ _ j;
-    }
+    let r = c.args.replica.now in
+    let j = c.decide_delete-made.ensures in
+    record { full = c.requires; sendable = sendable r _ _ j; savable = delete_savable r _ _ j }
 
 pub returns : goal.returns
-returns c =
-    leaves_by (sent_as _ _ (delete_so (lent (goal.at.returns c).Start) _ _ c.judge_delete-made.ensures) _ _) c.send_made.ensures
+returns c = leaves_by (sent_as _ _ (delete_so c.args.replica.now _ _ c.decide_delete-made.ensures) _ _) c.send_made.ensures

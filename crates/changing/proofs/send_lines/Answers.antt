@@ -1,13 +1,10 @@
--- `changing::send_lines` meets its contract: where something was typed the arrays of the new replica stand for what it means.
-use mathlib.Core.Path.{refl}
-use Rattle.woot.specs.Memory.{characters_in, operations_in, meaning}
+-- `changing::send_lines` meets its contract: where something was typed the new replica is in form.
+use Rattle.std.proofs.Common.{refl}
 use Rattle.memory.proofs.Fullness.{full-replica}
-use Rattle.saving.specs.Documents.{state_in}
 use Rattle.effects.specs.Results.{silent}
 use Rattle.effects.specs.Effects.{quiet}
 use Rattle.effects.proofs.Outputs.{leaves_by, none-typed, some-typed}
-use Rattle.effects.proofs.Saving.{storable}
-use borrow.Author.Rules.{rules}
+use Rattle.effects.proofs.Saving.{few-held}
 use Rattle.changing.proofs.send_lines.Goals as goal
 
 pub returns-then-count-eq0 : goal.returns-then-count-eq0
@@ -17,19 +14,14 @@ returns-then-count-eq0 c = leaves_by (none-typed _ _ _ _ _ c.if-count-eq0.true) 
 pub save_lines-requires : goal.save_lines-requires
 save_lines-requires c =
     let r = c.args.replica in
-    let w = storable r (full-replica {r = r} c.well_formed.1.0) (c.requires.replica_value c.if-count-eq0.false) in
+    let w = few-held r (c.requires.replica_value c.if-count-eq0.false) in
     record {
-      characters_len = w.0;
-      n_le_character_slots = w.1.0;
-      n_in_bounds = w.1.1.0;
-      pending_len = w.1.1.1.0;
-      w_le_pending_slots = w.1.1.1.1;
+      full = full-replica {r = r} c.well_formed.1.0;
+      length_le_character_slots = w.characters;
+      waiting_le_pending_slots = w.pending;
       typed_len = c.requires.typed_len;
       count_le_character_slots = c.requires.count_le_character_slots;
     }
 
 pub returns : goal.returns
-unfolding state_in meaning characters_in operations_in
-returns c =
-    leaves_by (some-typed _ _ _ _ _ _ c.if-count-eq0.false)
-    c.save_lines.ensures
+returns c = leaves_by (some-typed _ _ _ _ _ _ c.if-count-eq0.false) c.save_lines.ensures

@@ -14,5 +14,5 @@ returns c =
       characters_after_2 = e.characters_after_2;
       characters_after_3 = e.characters_after_3;
       characters_after_4 = e.characters_after_4;
-      toggles_after = c.clear_bytes.ensures ∙ ap (λ (m : ℕ). pad m 0 (take c.args.n c.args.toggles.now)) c.requires.toggles_len;
+      toggles_after = c.clear.ensures ∙ ap (λ (m : ℕ). pad m 0 (take c.args.n c.args.toggles.now)) c.requires.toggles_len;
     }

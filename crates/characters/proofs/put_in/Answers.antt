@@ -15,6 +15,6 @@ returns c =
       characters_after_2 = rw (← c.key-2.ensures.value) e.characters_after_2;
       characters_after_3 = rw (← c.key-3.ensures.value) e.characters_after_3;
       characters_after_4 = e.characters_after_4;
-      toggles_after = c.put_byte.ensures;
-      links_after = c.enter_all.ensures ∙ ap table_of (sym (take-take (c.args.n + 1) 1024 c.put_numbers.new.characters (omega (arith, c.requires.n_lt_character_slots))));
+      toggles_after = c.put.ensures;
+      table_after = c.enter_all.ensures ∙ ap table_of (sym (take-take (c.args.n + 1) 1024 c.put_numbers.new.characters (omega (arith, c.requires.n_lt_character_slots))));
     }

@@ -1,6 +1,5 @@
 -- `clock::heard` hands the insert's identifier on.
 use mathlib.Core.Path.{sym, ◌∙◌}
-use borrow.Author.Rules.{rules}
 use Rattle.clock.proofs.Hearing.{heard-id}
 use Rattle.clock.proofs.heard.Goals as goal
 

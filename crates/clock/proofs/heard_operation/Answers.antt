@@ -1,5 +1,4 @@
 -- `clock::heard_operation` goes by the kind of the operation.
-use borrow.Author.Rules.{rules}
 use Rattle.clock.proofs.heard_operation.Goals as goal
 
 pub returns-in-Insert : goal.returns-in-Insert

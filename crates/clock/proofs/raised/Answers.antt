@@ -1,5 +1,4 @@
 -- `clock::raised` hears of the characters, and then of what is pending.
-use borrow.Author.Rules.{rules}
 use Rattle.clock.proofs.raised.Goals as goal
 
 pub returns : goal.returns

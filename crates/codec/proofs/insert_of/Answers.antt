@@ -1,7 +1,6 @@
 -- `codec::insert_of` meets its contract: each number fits its field, since its limit does.
 use native.Mathlib.Omega.{arith}
 use lib.ListN.{get_or}
-use borrow.Author.Rules.{rules}
 use Rattle.codec.specs.Operations.{insert_limits, identifier_at, insert_of}
 use Rattle.lines.proofs.Values.{at_most_at}
 use Rattle.codec.proofs.Fitting.{fits_whole}

@@ -1,7 +1,6 @@
 -- `codec::operation_of` meets its contract: the arm knows the kind, and the limits of the kind have room in the fields.
 use mathlib.Core.Path.{ap}
 use native.Mathlib.Omega.{arith}
-use borrow.Author.Rules.{rules}
 use Rattle.woot.specs.declared.Operation.TheVariants.{Insert as insert, Toggle as toggle}
 use Rattle.codec.specs.Operations.{toggle_limits, delete_limits, toggle_of, delete_of}
 use Rattle.codec.specs.Kinds.{toggles_of}

@@ -1,6 +1,5 @@
 -- `codec::read_line` meets its contract: the first byte is the delete's head word or not.
 use mathlib.Core.Path.{sym, ◌∙◌}
-use borrow.Author.Rules.{rules}
 use Rattle.codec.proofs.Letters.{delete_line, written_line}
 use Rattle.codec.proofs.read_line.Goals as goal
 

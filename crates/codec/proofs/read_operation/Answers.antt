@@ -1,6 +1,5 @@
 -- `codec::read_operation` meets its contract: the part that is read is the first line.
 use mathlib.Core.Path.{ap, ◌∙◌}
-use borrow.Author.Rules.{rules}
 use Rattle.codec.specs.Calls.{read_line}
 use Rattle.codec.proofs.Letters.{by_first}
 use Rattle.codec.proofs.read_operation.Goals as goal

@@ -1,6 +1,5 @@
 -- `codec::read_written` meets its contract: the first byte is the insert's head word or not.
 use mathlib.Core.Path.{sym, ◌∙◌}
-use borrow.Author.Rules.{rules}
 use Rattle.codec.proofs.Letters.{insert_line, toggle_line}
 use Rattle.codec.proofs.read_written.Goals as goal
 

@@ -1,6 +1,5 @@
 -- `codec::read_written_first` meets its contract: the first byte is the insert's head word or not.
 use mathlib.Core.Path.{sym, ◌∙◌}
-use borrow.Author.Rules.{rules}
 use Rattle.codec.proofs.Letters.{insert_line, delete_first}
 use Rattle.codec.proofs.read_written_first.Goals as goal
 

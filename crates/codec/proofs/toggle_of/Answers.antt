@@ -1,7 +1,6 @@
 -- `codec::toggle_of` meets its contract: each number fits its field, since its limit does.
 use native.Mathlib.Omega.{arith}
 use lib.ListN.{get_or}
-use borrow.Author.Rules.{rules}
 use Rattle.codec.specs.Operations.{identifier_at}
 use Rattle.codec.specs.Kinds.{toggles_of}
 use Rattle.codec.proofs.Fitting.{fits_whole}

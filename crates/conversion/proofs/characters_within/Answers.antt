@@ -1,10 +1,7 @@
 -- `conversion::characters_within` meets its contract. The loop's invariant: the first i counts pass.
-use Prim.Native.Nat.{◌-◌, ◌≤◌}
 use mathlib.Core.Path.{◌≡◌, refl, sym}
-use mathlib.Core.Bool.{true}
 use lib.ListN.{get_or}
 use borrow.Author.Tests.{lt-leb, le-leb}
-use Rattle.lists.specs.Lists.{throughout}
 use Rattle.lists.proofs.Throughout.{throughout-more, throughout-fails}
 use Rattle.conversion.specs.Columns.{count_within}
 use native.Mathlib.Omega.{arith}

@@ -1,17 +1,11 @@
 -- `conversion::characters_within` meets its contract. The loop's invariant: the first i counts pass.
-use Prim.Native.Nat.{◌-◌, ◌≤◌}
-use mathlib.Core.Path.{◌≡◌, refl, sym}
+use Prim.Native.Nat.{◌≤◌}
+use mathlib.Core.Path.{◌≡◌}
 use mathlib.Core.Bool.{true}
 use lib.ListN.{get_or}
-use borrow.Author.Tests.{lt-leb, le-leb}
 use Rattle.lists.specs.Lists.{throughout}
-use Rattle.lists.proofs.Throughout.{throughout-more, throughout-fails}
 use Rattle.conversion.specs.Columns.{count_within}
-use native.Mathlib.Omega.{arith}
 use Rattle.conversion.proofs.characters_within.Given as goal
 
 abbrev pub invariant-loop-i : goal.invariant-loop-i
 invariant-loop-i l = (l.i ≤ l.n) × (throughout (λ j. count_within (get_or l.toggles j 0)) l.i ≡ true)
-
-abbrev pub decreases-loop-i : goal.decreases-loop-i
-decreases-loop-i l = l.n - l.i

@@ -1,7 +1,6 @@
 -- `conversion::is_representable` meets its contract, form by form.
 use mathlib.Core.Path.{sym}
 use Rattle.saved.proofs.Trips.{second-says}
-use borrow.Author.Rules.{rules}
 use Rattle.conversion.proofs.is_representable.Goals as goal
 
 pub returns-in-First : goal.returns-in-First

@@ -7,6 +7,6 @@ pub returns-then-own-ne0 : goal.returns-then-own-ne0
 unfolding numbers_within
 returns-then-own-ne0 c = rw (ne_eqb _ 0 c.if-own-ne0.true)
 
-pub returns : goal.returns
+pub returns-else-own-ne0 : goal.returns-else-own-ne0
 unfolding numbers_within
-returns c = rw (eq-eqb _ 0 c.if-own-ne0.false)
+returns-else-own-ne0 c = rw (eq-eqb _ 0 c.if-own-ne0.false)

@@ -1,15 +1,7 @@
 -- `conversion::pending_within` meets its contract. The loop's invariant: the first j operations pass.
-use Prim.Native.Nat.{ℕ, ◌-◌, ◌≤◌}
-use mathlib.Core.List.{List}
 use mathlib.Core.Path.{◌≡◌, refl, sym, ◌∙◌}
-use mathlib.Core.Bool.{Bool, true}
-use borrow.Author.Tests.{not-true, not-false}
-use lib.ListN.{get_or}
-use Rattle.lists.specs.Lists.{throughout}
 use Rattle.lists.proofs.Throughout.{throughout-more, throughout-fails}
-use borrow.Author.Rules.{rules}
 use native.Mathlib.Omega.{arith}
-use Rattle.conversion.specs.Columns.{numbers_within}
 use Rattle.conversion.proofs.pending_within.Invariants.{within}
 use Rattle.conversion.proofs.pending_within.Goals as goal
 

@@ -1,14 +1,10 @@
 -- `conversion::pending_within` meets its contract. The loop's invariant: the first j operations pass.
-use Prim.Native.Nat.{ℕ, ◌-◌, ◌≤◌}
+use Prim.Native.Nat.{ℕ, ◌≤◌}
 use mathlib.Core.List.{List}
-use mathlib.Core.Path.{◌≡◌, refl, sym, ◌∙◌}
+use mathlib.Core.Path.{◌≡◌}
 use mathlib.Core.Bool.{Bool, true}
-use borrow.Author.Tests.{not-true, not-false}
 use lib.ListN.{get_or}
 use Rattle.lists.specs.Lists.{throughout}
-use Rattle.lists.proofs.Throughout.{throughout-more, throughout-fails}
-use borrow.Author.Rules.{rules}
-use native.Mathlib.Omega.{arith}
 use Rattle.conversion.specs.Columns.{numbers_within}
 use Rattle.conversion.proofs.pending_within.Given as goal
 
@@ -18,6 +14,3 @@ within own values j = numbers_within (get_or own j 0) (get_or values j 0)
 
 abbrev pub invariant-loop-j : goal.invariant-loop-j
 invariant-loop-j l = (l.j ≤ l.w) × (throughout (within l.own l.values) l.j ≡ true)
-
-abbrev pub decreases-loop-j : goal.decreases-loop-j
-decreases-loop-j l = l.w - l.j

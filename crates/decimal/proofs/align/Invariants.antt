@@ -1,15 +1,10 @@
 -- `decimal::align` meets its contract. The loop's invariant: the digits of n are those of the rest and then the ones that stand in the
 -- array already, from just past `start` to its end.
-use mathlib.Core.Path.{◌≡◌, refl, sym, ap, ◌∙◌}
-use mathlib.Core.List.{List, [], ◌∷◌, ◌++◌, append-nil}
-use Prim.Native.Nat.{ℕ, zero, suc, ◌+◌, ◌-◌, ◌/◌, ◌%◌, ◌<◌, ◌≤◌, ◌^◌}
-use native.Mathlib.Omega.{arith}
-use lib.ListN.{length, replicate, set, length-append}
-use lib.Seq.{append_snoc}
-use Rattle.decimal.specs.declared.Aligned.{Aligned}
+use mathlib.Core.Path.{◌≡◌}
+use mathlib.Core.List.{List, ◌++◌}
+use Prim.Native.Nat.{ℕ, suc, ◌+◌, ◌≤◌}
+use lib.ListN.{length, replicate}
 use Rattle.decimal.specs.Numeral.{digits}
-use Rattle.decimal.specs.Answers.{aligned}
-use Rattle.decimal.proofs.Laws.{digits-one, digits_more, one-le-width, width-more, width-le}
 use Rattle.decimal.proofs.align.Given as goal
 
 pub record Filled (n : ℕ) (bytes : List ℕ) (start rest : ℕ) : Type 0 where

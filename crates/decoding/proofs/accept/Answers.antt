@@ -1,6 +1,5 @@
 -- `decoding::accept` meets its contract: no code point, too few bytes, or neither.
 use mathlib.Core.Path.{sym}
-use borrow.Author.Rules.{rules}
 use Rattle.lists.proofs.Tests.{failed, passed}
 use Rattle.decoding.proofs.Offsets.{accepted_wrong, accepted-longer, accepted-right}
 use Rattle.decoding.proofs.accept.Goals as goal

@@ -1,10 +1,7 @@
 -- `decoding::count` meets its contract: what is read from the offset on, with the characters before it, is the whole text.
-use mathlib.Core.Path.{sym, ◌∙◌}
 use Prim.Native.Nat.{◌-◌}
-use native.Mathlib.Omega.{arith}
 use lib.ListN.{length}
-use borrow.Author.Rules.{rules}
-use Rattle.decoding.proofs.Offsets.{next-further, next-within, Counting, counting-begun, counting-again, counting-malformed, counting-ended, counting-done}
+use Rattle.decoding.proofs.Offsets.{Counting}
 use Rattle.decoding.proofs.count.Given as goal
 
 abbrev pub invariant-loop-at : goal.invariant-loop-at

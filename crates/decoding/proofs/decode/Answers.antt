@@ -1,7 +1,6 @@
 -- `decoding::decode` meets its contract: the first byte decides.
 use mathlib.Core.Path.{sym, ◌∙◌}
 use native.Mathlib.Omega.{arith}
-use borrow.Author.Rules.{rules}
 use Rattle.decoding.proofs.Offsets.{decoded-end, decoded-one, decoded-two, decoded-three, decoded-four, decoded-tail, decoded-over}
 use Rattle.decoding.proofs.decode.Goals as goal
 

@@ -7,14 +7,13 @@ use lib.ListN.{length, take}
 use lib.Seq.{length-take-le}
 use Rattle.woot.specs.Table.{key}
 use Rattle.woot.specs.Memory.{column}
-use Rattle.index.specs.declared.Found.TheVariants.{At}
+use Rattle.std.proofs.Common.{Some}
 use Rattle.index.specs.Keys.{found}
 use Rattle.index.proofs.Searches.{first_says}
 use Rattle.memory.proofs.Fullness.{column-length}
-use borrow.Author.Rules.{rules}
 use Rattle.delivery.proofs.carry_toggle.Goals as goal
 
-found_within : (x : ℕ) (xs : List ℕ) (k : ℕ) → found x xs ≡ At k → k < length xs
+found_within : (x : ℕ) (xs : List ℕ) (k : ℕ) → found x xs ≡ Some k → k < length xs
 unfolding found
 found_within x xs k e = (first_says _ xs e).within
 
@@ -33,16 +32,16 @@ pub toggle-requires : goal.toggle-requires
 toggle-requires c =
     let a = c.args in
     let size = column-length 1024 0 a.characters.now (omega (arith, c.requires.characters_len)) in
-    omega (arith, found_within _ (take a.n (column 1024 0 a.characters.now)) _ (sym c.find_among.ensures ∙ c.in-At.is), length-take-le a.n (column 1024 0 a.characters.now) (omega (arith, size, c.requires.n_le_character_slots)), c.requires.n_in_bounds)
+    omega (arith, found_within _ (take a.n (column 1024 0 a.characters.now)) _ (sym c.find_among.ensures ∙ c.in-Some.is), length-take-le a.n (column 1024 0 a.characters.now) (omega (arith, size, c.requires.n_le_character_slots)), c.requires.n_in_bounds)
 
-pub returns-in-At : goal.returns-in-At
-returns-in-At c =
+pub returns-in-Some : goal.returns-in-Some
+returns-in-Some c =
     let a = c.args in
-    let is : found (key a.toggle.target) (take a.n (column 1024 0 a.characters.now)) ≡ At _ = ap (λ (x : ℕ). found x (take a.n (column 1024 0 a.characters.now))) (sym c.key.ensures.value) ∙ sym c.find_among.ensures ∙ c.in-At.is in
+    let is : found (key a.toggle.target) (take a.n (column 1024 0 a.characters.now)) ≡ Some _ = ap (λ (x : ℕ). found x (take a.n (column 1024 0 a.characters.now))) (sym c.key.ensures.value) ∙ sym c.find_among.ensures ∙ c.in-Some.is in
     rw is c.toggle.ensures
 
-pub returns-in-Nothing : goal.returns-in-Nothing
-returns-in-Nothing c =
+pub returns-in-None : goal.returns-in-None
+returns-in-None c =
     let a = c.args in
-    let is : found (key a.toggle.target) (take a.n (column 1024 0 a.characters.now)) ≡ _ = ap (λ (x : ℕ). found x (take a.n (column 1024 0 a.characters.now))) (sym c.key.ensures.value) ∙ sym c.find_among.ensures ∙ c.in-Nothing.is in
+    let is : found (key a.toggle.target) (take a.n (column 1024 0 a.characters.now)) ≡ _ = ap (λ (x : ℕ). found x (take a.n (column 1024 0 a.characters.now))) (sym c.key.ensures.value) ∙ sym c.find_among.ensures ∙ c.in-None.is in
     rw is

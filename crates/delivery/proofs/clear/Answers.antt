@@ -1,39 +1,46 @@
--- `delivery::clear` makes the table of the keys that are in use, and sweeps the slots.
+-- `delivery::clear` sweeps the slots, and makes the table of the keys that are in use.
+use Rattle.std.proofs.Common.{ℕ, ◌≤◌, ◌∙◌, List, ap, sym, subst}
 use native.Mathlib.Omega.{arith}
-use mathlib.Core.Path.{ap, sym, ◌∙◌, subst}
-use Prim.Native.Nat.{ℕ}
-use mathlib.Core.List.{List}
 use lib.Seq.{take-take}
 use Rattle.woot.specs.Table.{table_of}
+use Rattle.chains.specs.Sizes.{Sized}
+use Rattle.chains.proofs.Tables.{table_sized}
 use Rattle.index.specs.Tabled.{Tabled}
-use Rattle.delivery.proofs.Works.{lent-keys, swept_document}
-use borrow.Author.Rules.{rules}
+use Rattle.memory.specs.Lent.{view}
+use Rattle.memory.proofs.Stored.{character-count}
+use Rattle.delivery.proofs.Works.{swept-keys, swept_tabled, swept_document}
+use Rattle.delivery.proofs.clear.Goals.{After-sweep}
 use Rattle.delivery.proofs.clear.Goals as goal
 
-pub renew-requires : goal.renew-requires
-renew-requires c =
-    let a = c.args in
-    let l = c.requires.lent in
+-- no more characters than slots
+few : (c : After-sweep) → c.sweep.new.document.length ≤ 1024
+few c =
+    omega (arith, c.sweep.ensures.value.length-is, character-count (view c.args.document.now), c.requires.lent.few)
+
+pub renew-requires-clause-n_in_bounds : goal.renew-requires-clause-n_in_bounds
+renew-requires-clause-n_in_bounds c =
+    omega (arith, few (goal.at.renew-requires-clause-n_in_bounds c).After-sweep, c.sweep.ensures.full_after.characters)
+
+pub renew-requires-clause-tabled : goal.renew-requires-clause-tabled
+renew-requires-clause-tabled c =
+    let s = c.sweep.ensures in
+    subst (λ (ks : List ℕ). Tabled c.sweep.new.document.table ks)
+    (take-take _ 1024 _ (few (goal.at.renew-requires-clause-tabled c).After-sweep))
+    (swept_tabled c.requires.lent s.value s.table_after)
+
+pub returns-clause-full_after : goal.returns-clause-full_after
+returns-clause-full_after c =
+    let full = c.sweep.ensures.full_after in
+    let made = subst Sized (sym c.renew.ensures) (table_sized _) in
     record {
-      n_in_bounds = omega (arith, c.requires.characters_len, l.few);
-      tabled = subst (λ (ks : List ℕ). Tabled (record { heads = a.heads.now; links = a.links.now }) ks)
-          (take-take _ 1024 _ l.few) l.tabled;
+      characters = full.characters;
+      toggles = full.toggles;
+      pending = full.pending;
+      heads = made.heads;
+      links = made.links;
     }
 
-pub sweep-requires : goal.sweep-requires
-sweep-requires c =
-    let p = c.requires in
-    let l = p.lent in
-    record {
-      characters_len = p.characters_len;
-      toggles_len = l.slots.toggles;
-      pending_len = p.pending_len;
-      n_le_character_slots = l.few;
-      w_le_pending_slots = l.few-pending;
-    }
-
-pub returns : goal.returns
-returns c =
-    let l = c.requires.lent in
-    let s = c.sweep.ensures _ _ l in
-    swept_document s (c.renew.ensures ∙ ap table_of (sym (take-take _ 1024 _ l.few) ∙ sym (lent-keys l)))
+pub returns-clause-value : goal.returns-clause-value
+returns-clause-value c =
+    let s = c.sweep.ensures.value in
+    swept_document s (c.renew.ensures ∙ ap table_of (sym (take-take _ 1024 _ (few (goal.at.returns-clause-value c).After-sweep)) ∙ swept-keys s))

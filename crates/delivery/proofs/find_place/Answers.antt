@@ -1,7 +1,6 @@
 -- `delivery::find_place` lends the columns that the passes read.
 use native.Mathlib.Omega.{arith}
 use Rattle.memory.proofs.Fullness.{column-length}
-use borrow.Author.Rules.{rules}
 use Rattle.delivery.proofs.find_place.Goals as goal
 
 pub slice_bounds-find_place-end : goal.slice_bounds-find_place-end

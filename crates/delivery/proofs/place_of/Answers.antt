@@ -1,5 +1,4 @@
 -- `delivery::place_of` goes by the placement.
-use borrow.Author.Rules.{rules}
 use Rattle.delivery.proofs.place_of.Goals as goal
 
 pub returns-in-Below : goal.returns-in-Below

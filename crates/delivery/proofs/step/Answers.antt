@@ -1,159 +1,101 @@
 -- `delivery::step` carries out what it takes out: by the kind of the operation, and for an insert by its place.
+use Rattle.std.proofs.Common.{refl, sym, ◌∙◌}
 use native.Mathlib.Omega.{arith}
-use mathlib.Core.Path.{◌≡◌, refl, sym, ◌∙◌}
 use Rattle.index.proofs.Sound.{sound-apart}
+use Rattle.memory.proofs.Stored.{document-parts}
+use Rattle.delivery.specs.Work.{work_in}
 use Rattle.delivery.proofs.Works.{work_path, parts_swept}
-use Rattle.delivery.proofs.Changes.{removed-parts, placed-parts, found-parts}
-use Rattle.delivery.proofs.Stepping.{workable_parts, workable_few, workable_slots, workable_tabled, due_within, due_ranged, goes_at, goes_nowhere, toggles_becomes, toggles-found}
-use borrow.Author.Rules.{rules}
+use Rattle.delivery.proofs.Changes.{removed-parts, found-parts}
+use Rattle.delivery.proofs.Stepping.{Goes, workable_parts, workable_few, workable_tabled, due_within, due_ranged, goes_at, goes_nowhere, toggles_becomes, toggles-found}
+use Rattle.delivery.proofs.step.Goals.{Start, In-Some}
 use Rattle.delivery.proofs.step.Goals as goal
 
-pub operation_at-operation-requires : goal.operation_at-operation-requires
-operation_at-operation-requires c =
+pub operation_at-operation-requires-clause-j_lt_pending_slots :
+    goal.operation_at-operation-requires-clause-j_lt_pending_slots
+operation_at-operation-requires-clause-j_lt_pending_slots c =
     let k = c.requires.workable in
-    let at = c.requires.progress_value in
-    let few = workable_few k in
-    let s = workable_slots k in
-    record {
-      pending_len = c.requires.pending_len;
-      j_lt_pending_slots = omega (arith, due_within k _ at, few.1);
-      j_value = due_ranged k _ at;
-    }
+    omega (arith, due_within k _ c.requires.j_value, (workable_few k).1)
 
-pub remove-requires : goal.remove-requires
-remove-requires c =
-    let k = c.requires.workable in
-    let at = c.requires.progress_value in
-    let few = workable_few k in
-    let s = workable_slots k in
-    record {
-      j_lt_w = due_within k _ at;
-      w_le_pending_slots = few.1;
-      pending_len = c.requires.pending_len;
-    }
+pub operation_at-operation-requires-clause-j_value : goal.operation_at-operation-requires-clause-j_value
+operation_at-operation-requires-clause-j_value c = due_ranged c.requires.workable _ c.requires.j_value
 
-pub find_place-placement-requires : goal.find_place-placement-requires
-find_place-placement-requires c =
-    let k = c.requires.workable in
-    let at = c.requires.progress_value in
-    let few = workable_few k in
-    let s = workable_slots k in
-    record {
-      n_le_character_slots = few.0;
-      characters_len = c.requires.characters_len;
-      tabled = workable_tabled k;
-    }
+pub remove-requires-clause-j_lt_w : goal.remove-requires-clause-j_lt_w
+remove-requires-clause-j_lt_w c = due_within c.requires.workable _ c.requires.j_value
 
-pub put_in-requires : goal.put_in-requires
-put_in-requires c =
-    let k = c.requires.workable in
-    let at = c.requires.progress_value in
-    let few = workable_few k in
-    let s = workable_slots k in
-    let g = goes_at k _ at _ (sym c.operation_at-operation.ensures ∙ c.in-Insert.is) _ c.find_place-placement.ensures _ (sym c.place_of.ensures ∙ c.in-At.is) in
-    record {
-      k_le_n = g.place;
-      n_lt_character_slots = g.room;
-      characters_len = c.requires.characters_len;
-      toggles_len = s.toggles;
-      heads_len = s.heads;
-      links_len = s.links;
-    }
+pub remove-requires-clause-w_le_pending_slots : goal.remove-requires-clause-w_le_pending_slots
+remove-requires-clause-w_le_pending_slots c = (workable_few c.requires.workable).1
+
+pub overflow_sub-document : goal.overflow_sub-document
+overflow_sub-document c = omega (arith, due_within c.requires.workable _ c.requires.j_value)
+
+pub find_place-placement-requires-clause-n_le_character_slots :
+    goal.find_place-placement-requires-clause-n_le_character_slots
+find_place-placement-requires-clause-n_le_character_slots c = (workable_few c.requires.workable).0
+
+pub find_place-placement-requires-clause-tabled : goal.find_place-placement-requires-clause-tabled
+find_place-placement-requires-clause-tabled c = workable_tabled c.requires.workable
+
+-- where the insert that is due goes
+goes : (c : In-Some) → Goes (work_in c.args.document.now c.args.counts) c.in-Insert.i c.args.j c.in-Some.k
+goes c =
+    goes_at c.requires.workable _ c.requires.j_value _ (sym c.operation_at-operation.ensures ∙ c.in-Insert.is) _ c.find_place-placement.ensures _
+    (sym c.place_of.ensures ∙ c.in-Some.is)
+
+pub place-requires-clause-k_le_length : goal.place-requires-clause-k_le_length
+place-requires-clause-k_le_length c = (goes (goal.at.place-requires-clause-k_le_length c).In-Some).place
+
+pub place-requires-clause-length_lt_character_slots : goal.place-requires-clause-length_lt_character_slots
+place-requires-clause-length_lt_character_slots c =
+    (goes (goal.at.place-requires-clause-length_lt_character_slots c).In-Some).room
 
 pub overflow_add-result : goal.overflow_add-result
 overflow_add-result c =
     let k = c.requires.workable in
-    let at = c.requires.progress_value in
-    let few = workable_few k in
-    let s = workable_slots k in
-    omega (arith, few.0, due_within k _ at, k.integrated-fits, k.discarded-fits)
+    omega (arith, due_within k _ c.requires.j_value, k.integrated-fits)
 
-pub overflow_sub-result : goal.overflow_sub-result
-overflow_sub-result c =
+pub overflow_add-result-in-None : goal.overflow_add-result-in-None
+overflow_add-result-in-None c =
     let k = c.requires.workable in
-    let at = c.requires.progress_value in
-    let few = workable_few k in
-    let s = workable_slots k in
-    omega (arith, few.0, due_within k _ at, k.integrated-fits, k.discarded-fits)
+    omega (arith, due_within k _ c.requires.j_value, k.discarded-fits)
 
-pub overflow_add-result-in-At : goal.overflow_add-result-in-At
-overflow_add-result-in-At c =
-    let k = c.requires.workable in
-    let at = c.requires.progress_value in
-    let few = workable_few k in
-    let s = workable_slots k in
-    omega (arith, few.0, due_within k _ at, k.integrated-fits, k.discarded-fits)
+pub carry_toggle-requires-clause-n_le_character_slots : goal.carry_toggle-requires-clause-n_le_character_slots
+carry_toggle-requires-clause-n_le_character_slots c = (workable_few c.requires.workable).0
 
-pub returns-in-At : goal.returns-in-At
-returns-in-At c =
-    let k = c.requires.workable in
-    let at = c.requires.progress_value in
-    let few = workable_few k in
-    let s = workable_slots k in
-    let g = goes_at k _ at _ (sym c.operation_at-operation.ensures ∙ c.in-Insert.is) _ c.find_place-placement.ensures _ (sym c.place_of.ensures ∙ c.in-At.is) in
-    let e = c.put_in.ensures in
-    work_path (placed-parts (parts_swept (removed-parts (workable_parts k) _ (due_within k _ at) few.1 c.remove.ensures.pending_after c.remove.ensures.pending_after_2 c.remove.ensures.pending_after_3 c.remove.ensures.pending_after_4)) _ _ g.room e.characters_after e.characters_after_2 e.characters_after_3 e.characters_after_4 e.toggles_after e.links_after) refl refl ∙ sym g.becomes
+pub carry_toggle-requires-clause-n_in_bounds : goal.carry_toggle-requires-clause-n_in_bounds
+carry_toggle-requires-clause-n_in_bounds c =
+    omega (arith, (workable_few c.requires.workable).0, c.requires.full.toggles)
 
-pub overflow_sub-result-in-Nothing : goal.overflow_sub-result-in-Nothing
-overflow_sub-result-in-Nothing c =
-    let k = c.requires.workable in
-    let at = c.requires.progress_value in
-    let few = workable_few k in
-    let s = workable_slots k in
-    omega (arith, few.0, due_within k _ at, k.integrated-fits, k.discarded-fits)
-
-pub overflow_add-result-in-Nothing : goal.overflow_add-result-in-Nothing
-overflow_add-result-in-Nothing c =
-    let k = c.requires.workable in
-    let at = c.requires.progress_value in
-    let few = workable_few k in
-    let s = workable_slots k in
-    omega (arith, few.0, due_within k _ at, k.integrated-fits, k.discarded-fits)
-
-pub returns-in-Nothing : goal.returns-in-Nothing
-returns-in-Nothing c =
-    let k = c.requires.workable in
-    let at = c.requires.progress_value in
-    let few = workable_few k in
-    let s = workable_slots k in
-    let g = goes_nowhere k _ at _ (sym c.operation_at-operation.ensures ∙ c.in-Insert.is) _ c.find_place-placement.ensures (sym c.place_of.ensures ∙ c.in-Nothing.is) in
-    work_path (removed-parts (workable_parts k) _ (due_within k _ at) few.1 c.remove.ensures.pending_after c.remove.ensures.pending_after_2 c.remove.ensures.pending_after_3 c.remove.ensures.pending_after_4) refl refl ∙ sym g
-
-pub carry_toggle-requires : goal.carry_toggle-requires
-carry_toggle-requires c =
-    let k = c.requires.workable in
-    let at = c.requires.progress_value in
-    let few = workable_few k in
-    let s = workable_slots k in
-    record {
-      n_le_character_slots = few.0;
-      characters_len = c.requires.characters_len;
-      n_in_bounds = omega (arith, few.0, s.toggles);
-      tabled = workable_tabled k;
-    }
-
-pub overflow_sub-result-in-Toggle : goal.overflow_sub-result-in-Toggle
-overflow_sub-result-in-Toggle c =
-    let k = c.requires.workable in
-    let at = c.requires.progress_value in
-    let few = workable_few k in
-    let s = workable_slots k in
-    omega (arith, few.0, due_within k _ at, k.integrated-fits, k.discarded-fits)
+pub carry_toggle-requires-clause-tabled : goal.carry_toggle-requires-clause-tabled
+carry_toggle-requires-clause-tabled c = workable_tabled c.requires.workable
 
 pub overflow_add-result-in-Toggle : goal.overflow_add-result-in-Toggle
 overflow_add-result-in-Toggle c =
     let k = c.requires.workable in
-    let at = c.requires.progress_value in
-    let few = workable_few k in
-    let s = workable_slots k in
-    omega (arith, few.0, due_within k _ at, k.integrated-fits, k.discarded-fits)
+    omega (arith, due_within k _ c.requires.j_value, k.integrated-fits)
 
-pub returns-in-Toggle : goal.returns-in-Toggle
-returns-in-Toggle c =
+pub returns-in-Some-clause-value : goal.returns-in-Some-clause-value
+returns-in-Some-clause-value c =
     let k = c.requires.workable in
-    let at = c.requires.progress_value in
-    let few = workable_few k in
-    let s = workable_slots k in
+    let e = c.remove.ensures in
+    let p = removed-parts (workable_parts k) _ (due_within k _ c.requires.j_value) (workable_few k).1 e.pending_after e.pending_after_2 e.pending_after_3 e.pending_after_4 in
+    work_path (document-parts (c.place.ensures.value _ _ (parts_swept p))) refl refl
+    ∙ sym (goes (goal.at.returns-in-Some-clause-value c).In-Some).becomes
+
+pub returns-in-None-clause-value : goal.returns-in-None-clause-value
+returns-in-None-clause-value c =
+    let k = c.requires.workable in
+    let at = c.requires.j_value in
+    let e = c.remove.ensures in
+    let p = removed-parts (workable_parts k) _ (due_within k _ at) (workable_few k).1 e.pending_after e.pending_after_2 e.pending_after_3 e.pending_after_4 in
+    let g = goes_nowhere k _ at _ (sym c.operation_at-operation.ensures ∙ c.in-Insert.is) _ c.find_place-placement.ensures (sym c.place_of.ensures ∙ c.in-None.is) in
+    work_path p refl refl ∙ sym g
+
+pub returns-in-Toggle-clause-value : goal.returns-in-Toggle-clause-value
+returns-in-Toggle-clause-value c =
+    let k = c.requires.workable in
+    let at = c.requires.j_value in
+    let e = c.remove.ensures in
+    let p = removed-parts (workable_parts k) _ (due_within k _ at) (workable_few k).1 e.pending_after e.pending_after_2 e.pending_after_3 e.pending_after_4 in
     let is = sym c.operation_at-operation.ensures ∙ c.in-Toggle.is in
-    let q = found-parts (removed-parts (workable_parts k) _ (due_within k _ at) few.1 c.remove.ensures.pending_after c.remove.ensures.pending_after_2 c.remove.ensures.pending_after_3 c.remove.ensures.pending_after_4) _ _ (sym (toggles-found k _ at _ is)) (sound-apart k.sound) c.carry_toggle.ensures in
-    work_path q refl refl ∙ sym (toggles_becomes k _ at _ is)
+    work_path (found-parts p _ _ (sym (toggles-found k _ at _ is)) (sound-apart k.sound) c.carry_toggle.ensures) refl refl
+    ∙ sym (toggles_becomes k _ at _ is)

@@ -2,15 +2,14 @@
 use native.Mathlib.Omega.{arith}
 use Rattle.memory.proofs.Stored.{document-path, document-parts}
 use Rattle.delivery.proofs.Changes.{toggled-parts, targeted_within}
-use borrow.Author.Rules.{rules}
 use Rattle.delivery.proofs.toggle.Goals as goal
 
 pub toggle-requires : goal.toggle-requires
 toggle-requires c =
     let t = c.requires.targeted in
-    omega (arith, targeted_within _ _ _ t, t.lent.few, t.lent.slots.toggles, c.clear.auto.toggles)
+    omega (arith, targeted_within _ _ _ t, t.lent.few, c.clear.ensures.full_after.toggles)
 
-pub returns : goal.returns
-returns c =
+pub returns-clause-value : goal.returns-clause-value
+returns-clause-value c =
     let t = c.requires.targeted in
-    document-path (toggled-parts (document-parts c.clear.ensures) _ _ t.place t.apart c.toggle.ensures)
+    document-path (toggled-parts (document-parts c.clear.ensures.value) _ _ t.place t.apart c.toggle.ensures)

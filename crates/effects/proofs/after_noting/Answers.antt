@@ -3,10 +3,10 @@ use Rattle.effects.specs.Steps.{after_noting}
 use borrow.Author.Rules.{rules}
 use Rattle.effects.proofs.after_noting.Goals as goal
 
-pub returns-in-Length : goal.returns-in-Length
+pub returns-in-Ok : goal.returns-in-Ok
 unfolding after_noting
-returns-in-Length c = rw c.in-Length.is c.number_of.ensures
+returns-in-Ok c = rw c.in-Ok.is c.number_of.ensures
 
-pub returns-in-Refused : goal.returns-in-Refused
+pub returns-in-Err : goal.returns-in-Err
 unfolding after_noting
-returns-in-Refused c = rw c.in-Refused.is c.number_of_refusal.ensures
+returns-in-Err c = rw c.in-Err.is c.number_of_refusal.ensures

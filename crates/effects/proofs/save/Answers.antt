@@ -1,24 +1,15 @@
--- `effects::save` meets its contract: there is no note, and the arrays of the replica stand for what it means.
-use Rattle.woot.specs.Memory.{characters_in, operations_in, meaning}
+-- `effects::save` meets its contract: there is no note, and a replica in form has a slot for all that it holds.
 use Rattle.memory.proofs.Fullness.{full-replica}
-use Rattle.saving.specs.Documents.{state_in}
 use Rattle.effects.specs.Effects.{writing}
-use Rattle.effects.proofs.Saving.{storable}
-use borrow.Author.Rules.{rules}
+use Rattle.effects.proofs.Saving.{few-held}
 use Rattle.effects.proofs.save.Goals as goal
 
 pub save_noted-requires : goal.save_noted-requires
 save_noted-requires c =
     let r = c.args.replica in
-    let all = storable r (full-replica {r = r} c.well_formed.1.0) c.requires in
-    record {
-      characters_len = all.0;
-      n_le_character_slots = all.1.0;
-      n_in_bounds = all.1.1.0;
-      pending_len = all.1.1.1.0;
-      w_le_pending_slots = all.1.1.1.1;
-    }
+    let w = few-held r c.requires in
+    record { full = full-replica {r = r} c.well_formed.1.0; length_le_character_slots = w.characters; waiting_le_pending_slots = w.pending }
 
 pub returns : goal.returns
-unfolding writing state_in meaning characters_in operations_in
+unfolding writing
 returns c = c.save_noted.ensures

@@ -1,6 +1,6 @@
 -- `effects::show` meets its contract: what is answered goes by what was written.
 use mathlib.Core.Path.{refl, ap, ◌∙◌}
-use Rattle.woot.specs.declared.Written.{Written}
+use Rattle.woot.specs.Writing.{Written}
 use Rattle.effects.specs.Results.{number_of}
 use Rattle.effects.specs.Steps.{after_writing}
 use Rattle.effects.proofs.Outputs.{leaves_by, text-written}

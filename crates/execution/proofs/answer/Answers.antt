@@ -14,7 +14,3 @@ returns-in-Defer c = search rules
 pub returns-in-Place : goal.returns-in-Place
 unfolding answer_by
 returns-in-Place c = search rules
-
-pub returns-in-Toggle : goal.returns-in-Toggle
-unfolding answer_by
-returns-in-Toggle c = search rules

@@ -17,7 +17,7 @@ use Rattle.gathering.proofs.gather_line.Goals as goal
 
 pub keep-requires : goal.keep-requires
 keep-requires c =
-    let answer = sym c.read_line-read.ensures ∙ c.in-Operation.is in
+    let answer = sym c.read_line-read.ensures ∙ c.in-Ok.is in
     let w = was_read c.args.line.now _ answer in
     record {
       inserts_len = c.requires.inserts_len;
@@ -27,10 +27,10 @@ keep-requires c =
       operation_value = w.2;
     }
 
-pub returns-in-Operation : goal.returns-in-Operation
-returns-in-Operation c =
+pub returns-in-Ok : goal.returns-in-Ok
+returns-in-Ok c =
     let line = c.args.line.now in
-    let answer = sym c.read_line-read.ensures ∙ c.in-Operation.is in
+    let answer = sym c.read_line-read.ensures ∙ c.in-Ok.is in
     let w = was_read line _ answer in
     record {
       value = kept_line line _ _ w.0 w.1 c.keep.ensures.value;
@@ -40,7 +40,7 @@ returns-in-Operation c =
 pub returns-in-Range : goal.returns-in-Range
 returns-in-Range c =
     let line = c.args.line.now in
-    let answer = sym c.read_line-read.ensures ∙ c.in-Refused.is in
+    let answer = sym c.read_line-read.ensures ∙ c.in-Err.is in
     let w = out_of_range_lem line _ answer c.in-Range.is in
     let letter = ap (λ (b : ℕ). eqb b 73) c.first_byte.ensures in
     let r = counted-letter line c.args.at w.0 w.1 letter c.count.ensures in
@@ -53,7 +53,7 @@ returns-in-Range c =
 pub returns-in_default : goal.returns-in_default
 returns-in_default c =
     let line = c.args.line.now in
-    let answer = sym c.read_line-read.ensures ∙ c.in-Refused.is in
+    let answer = sym c.read_line-read.ensures ∙ c.in-Err.is in
     let w = lacks-layout line _ answer c.in_default.not-Range in
     record {
       value = no_line line _ w c.ungathered.ensures;

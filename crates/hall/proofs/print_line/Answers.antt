@@ -8,16 +8,16 @@ use Rattle.hall.proofs.print_line.Goals as goal
 
 pub slice_bounds-line-end : goal.slice_bounds-line-end
 slice_bounds-line-end g c =
-    let p = c.process_line-processed.ensures in processed-within _ _ _ _ p.value c.in-Length.is p.out_after
+    let p = c.process_line-processed.ensures in processed-within _ _ _ _ p.value c.in-Ok.is p.out_after
 
 pub slice_bounds-print-end : goal.slice_bounds-print-end
 slice_bounds-print-end g c =
-    let p = c.process_line-processed.ensures in sym (length-take-le _ _ (processed-within _ _ _ _ p.value c.in-Length.is p.out_after))
+    let p = c.process_line-processed.ensures in sym (length-take-le _ _ (processed-within _ _ _ _ p.value c.in-Ok.is p.out_after))
 
-pub returns-in-Length : goal.returns-in-Length
+pub returns-in_ok-print : goal.returns-in_ok-print
 unfolding processed
-returns-in-Length g c = rw c.process_line-processed.ensures.value
+returns-in_ok-print g c = rw c.process_line-processed.ensures.value
 
-pub returns : goal.returns
+pub returns-in_default : goal.returns-in_default
 unfolding processed
-returns g c = rw c.process_line-processed.ensures.value
+returns-in_default g c = rw c.process_line-processed.ensures.value

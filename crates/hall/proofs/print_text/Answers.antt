@@ -10,8 +10,8 @@ text_line-written-requires g c = c.requires
 
 pub slice_bounds-line-end : goal.slice_bounds-line-end
 slice_bounds-line-end g c =
-    let p = c.text_line-written.ensures in fitted_within _ _ p.value c.in-Length.is p.out_after
+    let p = c.text_line-written.ensures in fitted_within _ _ p.value c.in-Ok.is p.out_after
 
 pub slice_bounds-print-end : goal.slice_bounds-print-end
 slice_bounds-print-end g c =
-    let p = c.text_line-written.ensures in sym (length-take-le _ _ (fitted_within _ _ p.value c.in-Length.is p.out_after))
+    let p = c.text_line-written.ensures in sym (length-take-le _ _ (fitted_within _ _ p.value c.in-Ok.is p.out_after))

@@ -28,7 +28,7 @@ loop-lines-smaller g c = shorter _ _ c.rest-after.ensures c.loop-lines-test.true
 
 pub loop-lines-preserved : goal.loop-lines-preserved
 loop-lines-preserved g c =
-    (omega (arith, shorter _ _ c.rest-after.ensures c.loop-lines-test.true, c.loop-lines.invariant.0), ap replica_well_formed c.print_line-printed.ensures ∙ received_line_formed _ c.loop-lines.invariant.1 _)
+    (omega (arith, shorter _ _ c.rest-after.ensures c.loop-lines-test.true, c.loop-lines.invariant.0), ap replica_well_formed c.in_ok-replica.ensures ∙ received_line_formed _ c.loop-lines.invariant.1 _)
 
 pub print_text-requires : goal.print_text-requires
 print_text-requires g c = c.loop-lines.invariant.1

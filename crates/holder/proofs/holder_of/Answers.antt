@@ -16,19 +16,19 @@ find_among-requires c =
 pub slice_bounds-find-end : goal.slice_bounds-find-end
 slice_bounds-find-end c = simp length-take (omega arith)
 
-pub returns-in-At : goal.returns-in-At
+pub returns-in-Some : goal.returns-in-Some
 unfolding holder_in first_holder
-returns-in-At c = rw (sym c.find_among.ensures ∙ c.in-At.is)
+returns-in-Some c = rw (sym c.find_among.ensures ∙ c.in-Some.is)
 
-pub returns-in-At-find : goal.returns-in-At-find
+pub returns-in-Some-find : goal.returns-in-Some-find
 unfolding holder_in first_holder
-returns-in-At-find c =
+returns-in-Some-find c =
     let sought = c.find_among.ensures in
-    let none = sym sought ∙ c.in-Nothing.is in
-    rw (none, sym c.find.ensures ∙ c.in-At-find.is)
+    let none = sym sought ∙ c.in-None.is in
+    rw (none, sym c.find.ensures ∙ c.in-Some-find.is)
 
-pub returns-in-Nothing-find : goal.returns-in-Nothing-find
+pub returns-in-None-find : goal.returns-in-None-find
 unfolding holder_in first_holder
-returns-in-Nothing-find c =
-    let none = sym c.find_among.ensures ∙ c.in-Nothing.is in
-    rw (none, sym c.find.ensures ∙ c.in-Nothing-find.is)
+returns-in-None-find c =
+    let none = sym c.find_among.ensures ∙ c.in-None.is in
+    rw (none, sym c.find.ensures ∙ c.in-None-find.is)

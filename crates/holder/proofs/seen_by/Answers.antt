@@ -5,7 +5,6 @@ use mathlib.Core.Bool.{true}
 use borrow.Author.Rules.{rules}
 use Rattle.woot.specs.Ranges.{character_id}
 use Rattle.convergence.proofs.Ranges.{in-range}
-use Rattle.memory.proofs.Fullness.{begins, Ends, ends}
 use Rattle.well_formed.proofs.Examining.{few, fits, examined_tabled}
 use Rattle.holder.specs.declared.Holder.{Holder}
 use Rattle.holder.proofs.Having.{Has, has, character-within, pending-within}
@@ -19,13 +18,6 @@ id_ranged s = (in-range s.args.insert s.requires.insert_value).id
 -- who has the identifier
 held : (c : After-holder_of) (h : Holder) → c.holder_of.result ≡ h → Has _ c.requires.examined _ ((in-range c.args.insert c.requires.insert_value).id) h
 held c h e = has _ c.requires.examined _ ((in-range c.args.insert c.requires.insert_value).id) (rw c.key.ensures.value at c.holder_of.ensures) e
-
--- the columns that are lent
-rows : (s : Start) → Ends 1024 s.args.characters.now
-rows s = ends 1024 s.requires.sized.characters
-
-waits : (s : Start) → Ends 512 s.args.pending.now
-waits s = ends 512 s.requires.sized.pending
 
 pub holder_of-requires : goal.holder_of-requires
 holder_of-requires c =
@@ -42,7 +34,7 @@ compared-requires c =
     let n = few _ x in
     let h = character-within _ x _ (id_ranged (goal.at.compared-requires c).Start) _ (held (goal.at.compared-requires c).After-holder_of _ c.in-Character.is) in
     record {
-      numbers_len = c.requires.sized.characters;
+      numbers_len = c.requires.full.characters;
       k_lt_slots = omega arith;
     }
 
@@ -52,7 +44,7 @@ compared-requires-in-Pending c =
     let n = few _ x in
     let h = pending-within _ x _ (id_ranged (goal.at.compared-requires-in-Pending c).Start) _ (held (goal.at.compared-requires-in-Pending c).After-holder_of _ c.in-Pending.is) in
     record {
-      numbers_len = c.requires.sized.pending;
+      numbers_len = c.requires.full.pending;
       k_lt_slots = omega arith;
     }
 
@@ -67,21 +59,3 @@ returns-in-Pending c =
 pub returns-in-Nobody : goal.returns-in-Nobody
 returns-in-Nobody c =
     seen_nobody _ c.requires.examined _ c.requires.insert_value (held (goal.at.returns-in-Nobody c).After-holder_of _ c.in-Nobody.is)
-
-pub slice_bounds-ids-count : goal.slice_bounds-ids-count
-slice_bounds-ids-count c = begins 1024 0
-
-pub slice_bounds-ids-start : goal.slice_bounds-ids-start
-slice_bounds-ids-start c = begins 1024 0
-
-pub slice_bounds-ids-end : goal.slice_bounds-ids-end
-slice_bounds-ids-end c = (rows (goal.at.slice_bounds-ids-end c).Start).first
-
-pub slice_bounds-own-count : goal.slice_bounds-own-count
-slice_bounds-own-count c = begins 512 0
-
-pub slice_bounds-own-start : goal.slice_bounds-own-start
-slice_bounds-own-start c = begins 512 0
-
-pub slice_bounds-own-end : goal.slice_bounds-own-end
-slice_bounds-own-end c = (waits (goal.at.slice_bounds-own-end c).Start).first

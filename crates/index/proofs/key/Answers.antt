@@ -1,7 +1,6 @@
 -- `index::key` is the sum that defines the key; that the clock is small is what its type says.
 use mathlib.Core.Path.{refl}
 use native.Mathlib.Omega.{arith}
-use borrow.Author.Rules.{rules}
 use Rattle.woot.specs.Table.{key}
 use Rattle.index.proofs.key.Goals as goal
 

@@ -1,7 +1,6 @@
 -- `index::place_near` meets its contract: a place that is looked at first is the one that the table has.
 use mathlib.Core.Path.{sym, ap, ◌∙◌}
 use native.Mathlib.Omega.{arith}
-use borrow.Author.Rules.{rules}
 use Rattle.index.specs.Keys.{place_in}
 use Rattle.index.proofs.Searches.{begin-place}
 use Rattle.index.proofs.Agreement.{near_place}

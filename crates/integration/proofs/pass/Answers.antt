@@ -4,16 +4,15 @@ use Prim.Native.Nat.{ℕ, ◌-◌, ◌≤◌, ◌<◌, min}
 use native.Mathlib.Omega.{arith}
 use mathlib.Core.Path.{◌≡◌, sym, ◌∙◌, subst}
 use mathlib.Core.Bool.{Bool}
-use mathlib.Core.List.{List, map}
-use borrow.Author.Count.{falls}
-use borrow.Author.Rules.{rules}
+use mathlib.Core.List.{List}
 use lib.ListN.{length, get_or, length-map}
 use Rattle.lists.proofs.Indices.{map_get_d}
 use Rattle.index.specs.Keys.{place_in}
 use Rattle.integration.specs.declared.Interval.{Interval}
-use Rattle.integration.specs.Passes.{located_keys, outside, walk_in, pass_in}
-use Rattle.integration.proofs.Walks.{from, from_end, pass-from, ending, over, passed, stopped}
+use Rattle.integration.specs.Passes.{outside}
+use Rattle.integration.proofs.Walks.{from_end, pass-from, ending, over, passed, stopped}
 use Rattle.integration.proofs.pass.Invariants.{places}
+use Rattle.integration.proofs.pass.Goals.{then-outside+else-key-ids, else-outside}
 use Rattle.integration.proofs.pass.Goals as goal
 
 -- the lists of the neighbours are long enough, so that a pass looks as far as there are characters
@@ -32,8 +31,8 @@ asked ids previous next v i p q e =
 pub loop-i-init : goal.loop-i-init
 loop-i-init c =
     let a = c.args in (
-      looked a.ids.now a.previous.now a.next.now a.interval c.requires.ids_in_bounds c.requires.ids_in_bounds_2 c.lesser-last.ensures,
-      omega (arith, c.lesser-last.ensures),
+      looked a.ids.now a.previous.now a.next.now a.interval c.requires.ids_in_bounds c.requires.ids_in_bounds_2 c.min-last.ensures,
+      omega (arith, c.min-last.ensures),
       omega arith,
       sym (pass-from a.ids.now (places a.ids.now a.previous.now) (places a.ids.now a.next.now) a.key a.interval),
     )
@@ -52,54 +51,43 @@ returns-then-key-ids c =
     let a = c.args in
     let l = c.loop-i in
     let ids = a.ids.now in
-    let here = c.loop-i-test.true in
+    let here : l.i < c.min-last.result = omega arith in
     let told = sym c.if-outside.true ∙ c.outside.ensures in
     stopped ids (places ids a.previous.now) (places ids a.next.now) a.key a.interval l.upper l.i _ l.invariant.0 l.invariant.2 here
     (asked ids a.previous.now a.next.now a.interval l.i (omega arith) (omega arith) told)
     c.if-key-ids.true
     ∙ l.invariant.3
 
-pub loop-i-smaller-then-outside : goal.loop-i-smaller-then-outside
-loop-i-smaller-then-outside c = falls _ _ c.loop-i-test.true
-
-pub loop-i-preserved-then-outside : goal.loop-i-preserved-then-outside
-loop-i-preserved-then-outside c =
-    let a = c.args in
-    let l = c.loop-i in
-    let ids = a.ids.now in
-    let here = c.loop-i-test.true in
-    let told = sym c.if-outside.true ∙ c.outside.ensures in (
-      l.invariant.0,
-      l.invariant.1,
-      omega arith,
-      passed ids (places ids a.previous.now) (places ids a.next.now) a.key a.interval l.upper l.i _ l.invariant.0 l.invariant.2 here
-          (asked ids a.previous.now a.next.now a.interval l.i (omega arith) (omega arith) told)
-          c.if-key-ids.false
-          ∙ l.invariant.3,
-    )
-
-pub loop-i-smaller : goal.loop-i-smaller
-loop-i-smaller c = falls _ _ c.loop-i-test.true
-
 pub loop-i-preserved : goal.loop-i-preserved
 loop-i-preserved c =
     let a = c.args in
     let l = c.loop-i in
     let ids = a.ids.now in
-    let here = c.loop-i-test.true in
-    let told = sym c.if-outside.false ∙ c.outside.ensures in (
-      l.invariant.0,
-      l.invariant.1,
-      omega arith,
-      over ids (places ids a.previous.now) (places ids a.next.now) a.key a.interval l.upper l.i _ l.invariant.0 l.invariant.2 here
-          (asked ids a.previous.now a.next.now a.interval l.i (omega arith) (omega arith) told)
-          ∙ l.invariant.3,
-    )
+    let above = places ids a.previous.now in
+    let below = places ids a.next.now in
+    let here : l.i < c.min-last.result = omega arith in
+    let told = asked ids a.previous.now a.next.now a.interval l.i (omega arith) (omega arith) c.outside.ensures in
+    elim c.if-outside.branch [
+      | then-outside+else-key-ids w ↦ (
+        l.invariant.0,
+        l.invariant.1,
+        omega arith,
+        rw w.upper-is (passed ids above below a.key a.interval l.upper l.i _ l.invariant.0 l.invariant.2 here
+            (told ∙ w.if-outside.true) w.if-key-ids.false ∙ l.invariant.3),
+      )
+      | else-outside w ↦ (
+        l.invariant.0,
+        l.invariant.1,
+        omega arith,
+        rw w.upper-is (over ids above below a.key a.interval l.upper l.i _ l.invariant.0 l.invariant.2 here
+            (told ∙ w.if-outside.false) ∙ l.invariant.3),
+      )
+    ]
 
 pub returns : goal.returns
 returns c =
     let a = c.args in
     let l = c.loop-i in
     let ids = a.ids.now in
-    let done = subst (λ (n : ℕ). n ≤ l.i) l.invariant.0 c.loop-i-test.false in
+    let done = subst (λ (n : ℕ). n ≤ l.i) l.invariant.0 (omega arith) in
     sym (from_end ids (places ids a.previous.now) (places ids a.next.now) a.key a.interval l.upper l.i done) ∙ l.invariant.3

@@ -2,12 +2,9 @@
 -- what the whole search gives.
 use native.Mathlib.Omega.{arith}
 use mathlib.Core.Path.{refl, ap}
-use mathlib.Core.List.{map}
-use borrow.Author.Rules.{rules}
-use Rattle.index.specs.Keys.{place_in}
-use Rattle.integration.specs.Passes.{located_keys, width, position_in}
+use Rattle.integration.specs.Passes.{position_in}
 use Rattle.integration.specs.Placements.{placement_at}
-use Rattle.integration.proofs.Searching.{Searching, arrived, nowhere, again}
+use Rattle.integration.proofs.Searching.{arrived, nowhere, again}
 use Rattle.integration.proofs.position.Goals as goal
 
 pub loop-narrower-init : goal.loop-narrower-init

@@ -1,13 +1,9 @@
 -- `integration::position` meets its contract. The loop's invariant: the search from where it stands, with passes enough left, gives
 -- what the whole search gives.
-use native.Mathlib.Omega.{arith}
-use mathlib.Core.Path.{refl, ap}
 use mathlib.Core.List.{map}
-use borrow.Author.Rules.{rules}
 use Rattle.index.specs.Keys.{place_in}
 use Rattle.integration.specs.Passes.{located_keys, width, position_in}
-use Rattle.integration.specs.Placements.{placement_at}
-use Rattle.integration.proofs.Searching.{Searching, arrived, nowhere, again}
+use Rattle.integration.proofs.Searching.{Searching}
 use Rattle.integration.proofs.position.Given as goal
 
 abbrev pub invariant-loop-narrower : goal.invariant-loop-narrower

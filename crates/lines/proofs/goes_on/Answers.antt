@@ -1,6 +1,5 @@
 -- `lines::goes_on` meets its contract: past the end there is no byte.
-use mathlib.Core.Path.{◌≡◌, refl}
-use mathlib.Core.Bool.{true, false, not}
+use mathlib.Core.Path.{refl}
 use native.Mathlib.Omega.{arith}
 use lib.ListN.{length}
 use borrow.Author.Tests.{lt-ltb, le-ltb}
@@ -11,6 +10,6 @@ pub returns-then-at-line : goal.returns-then-at-line
 unfolding goes_on_at
 returns-then-at-line c = rw (lt-ltb _ _ c.if-at-line.true) refl
 
-pub returns : goal.returns
+pub returns-else-at-line : goal.returns-else-at-line
 unfolding goes_on_at
-returns c = rw (le-ltb c.args.at (length c.args.line.now) (omega arith)) refl
+returns-else-at-line c = rw (le-ltb c.args.at (length c.args.line.now) (omega arith)) refl

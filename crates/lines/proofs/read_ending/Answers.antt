@@ -1,8 +1,7 @@
 -- `lines::read_ending` meets its contract, by the invariant of `proofs/Reading.antt` on the first line.
 use mathlib.Core.Path.{◌≡◌, refl, sym, ap, ◌∙◌}
 use mathlib.Core.List.{List}
-use mathlib.Core.Logic.{⊎_elim}
-use Prim.Native.Nat.{ℕ, ◌+◌, ◌-◌, ◌≤◌, ◌<◌}
+use Prim.Native.Nat.{ℕ, ◌+◌, ◌≤◌, ◌<◌}
 use native.Mathlib.Omega.{arith}
 use lib.ListN.{length, drop, get_or}
 use borrow.Author.Tests.{ltb-true, ltb-false}
@@ -13,10 +12,10 @@ use Rattle.lines.specs.Fields.{tab}
 use mathlib.Core.Bool.{false}
 use Rattle.lines.specs.Answers.{goes_on_at}
 use Rattle.lines.proofs.Runs.{run_ends, run_goes}
-use Rattle.lines.proofs.Reading.{Reading, begun, short, nothing_left, not_numeral, no_numeral, next-above, next-number, too_long}
+use Rattle.lines.proofs.Reading.{is-fault, begun, short, nothing_left, not_numeral, no_numeral, next-above, next-number, too_long}
 use Rattle.lines.proofs.Reading.{all-judged}
 use Rattle.lines.proofs.FrontLine.{line_le, refused_end, all_end, no-tab-here, tab-inside, tab-own, digits-within, digits-inside}
-use Rattle.lines.proofs.read_ending.Goals.{After-scan-number, in-Above, in-Number}
+use Rattle.lines.proofs.read_ending.Goals.{After-scan-number, in-Err-Above, in-Ok}
 use Rattle.lines.proofs.read_ending.Goals as goal
 
 pub loop-i-init : goal.loop-i-init
@@ -108,11 +107,11 @@ returns-then-in_field c =
       end_in_bounds = all.1.1;
     }
 
-pub returns-in-Malformed : goal.returns-in-Malformed
-returns-in-Malformed c =
-    let all = refused_end _ _ c.unended-in-Malformed.result c.unended-in-Malformed.ensures.numbers_value c.unended-in-Malformed.ensures.end_value
+pub returns-in-Err-Malformed : goal.returns-in-Err-Malformed
+returns-in-Err-Malformed c =
+    let all = refused_end _ _ c.unended-in-Err-Malformed.result c.unended-in-Err-Malformed.ensures.numbers_value c.unended-in-Err-Malformed.ensures.end_value
     (no_numeral c.loop-i.invariant.0 c.loop-i-test.true
-    (inside (goal.at.returns-in-Malformed c).After-scan-number) (own (goal.at.returns-in-Malformed c).After-scan-number) (cut (goal.at.returns-in-Malformed c).After-scan-number (sym c.in_field.ensures ∙ c.if-in_field.false)) (sym (says (goal.at.returns-in-Malformed c).After-scan-number _ c.scan-number.ensures) ∙ c.in-Malformed.is)) in
+    (inside (goal.at.returns-in-Err-Malformed c).After-scan-number) (own (goal.at.returns-in-Err-Malformed c).After-scan-number) (cut (goal.at.returns-in-Err-Malformed c).After-scan-number (sym c.in_field.ensures ∙ c.if-in_field.false)) (sym (says (goal.at.returns-in-Err-Malformed c).After-scan-number _ c.scan-number.ensures) ∙ is-fault c.in-Err-Malformed.is (search rules))) in
     record {
       numbers_value = all.0;
       end_value = all.1.0;
@@ -127,12 +126,12 @@ loop-i-preserved c =
     let said = says (goal.at.loop-i-preserved c).After-scan-number _ c.scan-number.ensures in
     let whole = past (goal.at.loop-i-preserved c).After-scan-number ∙ ap (λ (f : List ℕ). l.at + 1 + length f) digits in (
       elim c.match-field.branch [
-        | in-Above w ↦
+        | in-Err-Above w ↦
             rw (w.values-is, w.over-is)
-            (next-above l.invariant.0 test (inside (goal.at.loop-i-preserved c).After-scan-number) (own (goal.at.loop-i-preserved c).After-scan-number) digits whole (sym said ∙ w.in-Above.is))
-        | in-Number w ↦
+            (next-above l.invariant.0 test (inside (goal.at.loop-i-preserved c).After-scan-number) (own (goal.at.loop-i-preserved c).After-scan-number) digits whole (sym said ∙ is-fault w.in-Err-Above.is (search rules)))
+        | in-Ok w ↦
             rw (w.values-is, w.over-is)
-            (next-number l.invariant.0 test (inside (goal.at.loop-i-preserved c).After-scan-number) (own (goal.at.loop-i-preserved c).After-scan-number) digits whole (sym said ∙ w.in-Number.is))
+            (next-number l.invariant.0 test (inside (goal.at.loop-i-preserved c).After-scan-number) (own (goal.at.loop-i-preserved c).After-scan-number) digits whole (sym said ∙ w.in-Ok.is))
       ],
       low (goal.at.loop-i-preserved c).After-scan-number,
     )
@@ -152,7 +151,7 @@ pub returns : goal.returns
 returns c =
     let l = c.loop-i in
     let end = ltb-false _ _ (sym c.in_line.ensures ∙ c.if-in_line.false) in
-    let all = all_end _ _ c.ended.result l.values l.over c.ended.ensures.numbers_value c.ended.ensures.end_value
+    let all = all_end _ _ (record { numbers = c.unless_above-numbers.result; end = l.at }) l.values l.over c.unless_above-numbers.ensures refl
     (all-judged l.invariant.0 c.loop-i-test.false end) l.invariant.1 end in
     record {
       numbers_value = all.0;

@@ -5,11 +5,9 @@ use Prim.Native.Nat.{ℕ, ◌≤◌, zero-le}
 use native.Mathlib.Omega.{arith}
 use lib.ListN.{length, take, length-take}
 use lib.Seq.{length-take-le}
-use borrow.Author.Rules.{rules}
-use borrow.Author.Tests.{not-true, not-false}
 use Rattle.lines.specs.Lines.{first_line}
 use Rattle.lines.specs.Fields.{fields}
-use Rattle.lines.specs.Answers.{slots, holding, numbers_after}
+use Rattle.lines.specs.Answers.{slots, numbers_after}
 use Rattle.lines.proofs.Fronts.{part_from, part-le, front-le, front-other, front-short, front_read_lem, front-next}
 use Rattle.lines.proofs.read_front.Goals.{Else-not-same_bytes}
 use Rattle.lines.proofs.read_front.Goals as goal
@@ -22,13 +20,12 @@ end-le : (c : Else-not-same_bytes) → c.first_field-end.result ≤ length c.arg
 end-le c = front-le [] [] c.args.s.now _ c.first_field-end.ensures
 
 pub returns-then-not-same_bytes : goal.returns-then-not-same_bytes
-unfolding holding
 returns-then-not-same_bytes c =
     let a = c.args in
     let other = front-other a.head.now (take slots a.limits.now) a.s.now _ c.first_field-end.ensures (sym c.same_bytes.ensures ∙ c.if-not-same_bytes.true) in
     record {
-      numbers_value = c.without-numbers.ensures ∙ other;
-      next_value = (λ h. absurd (h (ap (λ x. x.verdict) c.without-numbers.ensures)));
+      numbers_value = other;
+      next_value = (λ h. absurd (h refl));
       next_in_bounds = zero-le;
     }
 
@@ -36,7 +33,6 @@ pub read_ending-read-requires : goal.read_ending-read-requires
 read_ending-read-requires c = rw c.leading.ensures (simp length-take (omega arith))
 
 pub returns-then-s-feed : goal.returns-then-s-feed
-unfolding holding
 returns-then-s-feed c =
     let a = c.args in
     let r = c.read_ending-read in
@@ -44,8 +40,8 @@ returns-then-s-feed c =
     let short = front-short a.head.now (take slots a.limits.now) a.s.now _ c.first_field-end.ensures h r.result
     (r.ensures.numbers_value ∙ ap (λ (ls : List ℕ). numbers_after ls (fields (first_line (part_from a.s.now c.first_field-end.result)))) c.leading.ensures) r.ensures.end_value c.if-s-feed.true in
     record {
-      numbers_value = c.without-numbers-then-s-feed.ensures ∙ short;
-      next_value = (λ k. absurd (k (ap (λ x. x.verdict) c.without-numbers-then-s-feed.ensures)));
+      numbers_value = short;
+      next_value = (λ k. absurd (k refl));
       next_in_bounds = zero-le;
     }
 

@@ -40,7 +40,7 @@ pub measure_chunks-room-requires : goal.measure_chunks-room-requires
 measure_chunks-room-requires c =
     let fits =
     front_fits (front (goal.at.measure_chunks-room-requires c).Start) (body (goal.at.measure_chunks-room-requires c).Start) (bytes (goal.at.measure_chunks-room-requires c).Start) c.args.out.now (whole (goal.at.measure_chunks-room-requires c).Start) c.measure_header-front.ensures
-    c.in-Until.is in
+    c.in-Some.is in
     record {
       n_in_bounds = c.requires.n_in_bounds;
       n_in_bounds_2 = c.requires.n_in_bounds_2;
@@ -50,7 +50,7 @@ measure_chunks-room-requires c =
 pub returns-in_default-room : goal.returns-in_default-room
 returns-in_default-room c =
     let all = body-short (front (goal.at.returns-in_default-room c).Start) (body (goal.at.returns-in_default-room c).Start) (bytes (goal.at.returns-in_default-room c).Start) c.args.out.now (whole (goal.at.returns-in_default-room c).Start) c.measure_header-front.ensures
-    c.in-Until.is c.measure_chunks-room.ensures c.in_default-room.is in
+    c.in-Some.is c.measure_chunks-room.ensures c.in_default-room.is in
     record {
       value = all.0;
       out_after = all.1;
@@ -60,7 +60,7 @@ pub put_chunks-requires : goal.put_chunks-requires
 put_chunks-requires c =
     let room =
     body-room (front (goal.at.put_chunks-requires c).Start) (body (goal.at.put_chunks-requires c).Start) (bytes (goal.at.put_chunks-requires c).Start) c.args.out.now (whole (goal.at.put_chunks-requires c).Start) c.measure_header-front.ensures
-    c.in-Until.is c.measure_chunks-room.ensures c.in-Until-room.is (c.put_header-at.ensures.value, c.put_header-at.ensures.out_after) in
+    c.in-Some.is c.measure_chunks-room.ensures c.in-Some-room.is (c.put_header-at.ensures.value, c.put_header-at.ensures.out_after) in
     record {
       n_in_bounds = c.requires.n_in_bounds;
       n_in_bounds_2 = c.requires.n_in_bounds_2;
@@ -70,7 +70,7 @@ put_chunks-requires c =
 pub returns : goal.returns
 returns c =
     let all = body-put (front (goal.at.returns c).Start) (body (goal.at.returns c).Start) (bytes (goal.at.returns c).Start) c.args.out.now (whole (goal.at.returns c).Start) c.measure_header-front.ensures
-    c.in-Until.is c.measure_chunks-room.ensures c.in-Until-room.is (c.put_header-at.ensures.value, c.put_header-at.ensures.out_after)
+    c.in-Some.is c.measure_chunks-room.ensures c.in-Some-room.is (c.put_header-at.ensures.value, c.put_header-at.ensures.out_after)
     c.put_chunks.ensures in
     record {
       value = all.0;

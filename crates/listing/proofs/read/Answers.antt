@@ -1,6 +1,5 @@
 -- `listing::read` meets its contract: the first line lacks the layout, or what all lines come to decides.
 use mathlib.Core.Path.{sym, ◌∙◌}
-use borrow.Author.Rules.{rules}
 use borrow.Author.Tests.{not-true, not-false}
 use Rattle.answers.specs.declared.Refusal.TheVariants.{Layout}
 use Rattle.listing.proofs.Summaries.{refused-done, header_lacks, header_counts, read_answer_lem, read-chunks}

@@ -1,12 +1,11 @@
 -- `loading::load` meets its contract: what is not refused in reading goes by its form.
 use mathlib.Core.Path.{◌∙◌}
-use borrow.Author.Rules.{rules}
 use Rattle.lists.proofs.Tests.{failed, passed}
 use Rattle.loading.proofs.Forming.{load-refused, load_unformed, load-formed}
 use Rattle.loading.proofs.load.Goals as goal
 
-pub returns-in-Refused : goal.returns-in-Refused
-returns-in-Refused c = load-refused _ _ c.read-found.ensures _ c.in-Refused.is
+pub returns-in-Err : goal.returns-in-Err
+returns-in-Err c = load-refused _ _ c.read-found.ensures _ c.in-Err.is
 
 pub returns-then-not-well_formed : goal.returns-then-not-well_formed
 returns-then-not-well_formed c =

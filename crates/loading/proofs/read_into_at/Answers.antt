@@ -1,9 +1,10 @@
 -- `loading::read_into_at` meets its contract: what the lines say is in the arrays, and the site and the table are made of it.
-use mathlib.Core.Path.{sym, ◌∙◌}
+use mathlib.Core.Path.{sym, subst, ◌∙◌}
+use Rattle.chains.specs.Sizes.{Sized}
+use Rattle.chains.proofs.Tables.{table_sized}
 use Rattle.lists.proofs.Padding.{pad-none}
 use Rattle.saved.proofs.Refusals.{never_done}
 use Rattle.loading.proofs.Settling.{answer_form, all-raised}
-use borrow.Author.Rules.{rules}
 use Rattle.loading.proofs.read_into_at.Goals as goal
 
 pub read_lines_at-lines-requires : goal.read_lines_at-lines-requires
@@ -17,8 +18,8 @@ read_lines_at-lines-requires c =
       pending_value = z.pending_value;
     }
 
-pub returns-in-Refused : goal.returns-in-Refused
-returns-in-Refused c =
+pub returns-in-Err : goal.returns-in-Err
+returns-in-Err c =
     let z = c.requires in
     let i = c.read_lines_at-lines.ensures in
     record {
@@ -26,10 +27,9 @@ returns-in-Refused c =
       characters_len = i.characters_len;
       toggles_len = i.toggles_len;
       pending_len = i.pending_len;
-      heads_len_2 = z.heads_len;
-      links_len_2 = z.links_len;
-      links_after = (λ d. absurd (never_done _ (sym d ∙ c.in-Refused.is)));
-      rows_noted = (λ d. absurd (never_done _ (sym d ∙ c.in-Refused.is)));
+      sized_after = z.sized;
+      replica_after = (λ d. absurd (never_done _ (sym d ∙ c.in-Err.is)));
+      rows_noted = (λ d. absurd (never_done _ (sym d ∙ c.in-Err.is)));
     }
 
 pub settle-raised-requires : goal.settle-raised-requires
@@ -39,15 +39,8 @@ settle-raised-requires c =
     record {
       characters_len = i.characters_len;
       pending_len = i.pending_len;
-      heads_len = z.heads_len;
-      links_len = z.links_len;
+      sized = z.sized;
     }
-
-pub shape_of-heads : goal.shape_of-heads
-shape_of-heads c = search rules
-
-pub shape_of-links : goal.shape_of-links
-shape_of-links c = search rules
 
 pub returns : goal.returns
 returns c =
@@ -58,8 +51,7 @@ returns c =
       characters_len = i.characters_len;
       toggles_len = i.toggles_len;
       pending_len = i.pending_len;
-      heads_len_2 = shape_of-heads c ∙ z.heads_len;
-      links_len_2 = shape_of-links c ∙ z.links_len;
-      links_after = (λ d. all-raised c.args.version c.args.bytes.now (sym i.answer_value ∙ d) (i.held d) c.settle-raised.ensures.value c.settle-raised.ensures.links_after);
+      sized_after = subst Sized (sym c.settle-raised.ensures.table_after) (table_sized _);
+      replica_after = (λ d. all-raised c.args.version c.args.bytes.now (sym i.answer_value ∙ d) (i.held d) c.settle-raised.ensures.value c.settle-raised.ensures.table_after);
       rows_noted = i.rows_noted;
     }

@@ -1,7 +1,6 @@
 -- `loading::read_lines` meets its contract: one slot for where the rows begin is as good as none.
 use mathlib.Core.Path.{sym}
 use Rattle.lists.proofs.Padding.{pad-none}
-use borrow.Author.Rules.{rules}
 use Rattle.loading.proofs.read_lines.Goals as goal
 
 pub read_lines_at-requires : goal.read_lines_at-requires

@@ -1,12 +1,17 @@
 -- `loading::read_lines_at` meets its contract: what was read of the lines decides, in the order of the conditions.
+use Rattle.std.proofs.Common.{Ok, Err, is_ok}
+use Rattle.woot.specs.declared.Site.{Site}
+use Rattle.std.specs.Prelude.{Result}
+use Rattle.std.specs.Result.{result_ok}
+use Rattle.decimal.specs.declared.Fault.{Fault}
+use Rattle.decimal.specs.declared.Fault.TheVariants.{Above}
 use mathlib.Core.Path.{◌≡◌, refl, sym, ap, ◌∙◌, subst}
 use mathlib.Core.List.{List, [], map}
 use mathlib.Core.Bool.{Bool, true, false, ◌&&◌}
 use Prim.Native.Nat.{ℕ, ◌+◌}
 use native.Mathlib.Omega.{arith}
 use lib.ListN.{length, take, drop, get_or}
-use borrow.Author.Tests.{not-true, not-false}
-use Rattle.lists.proofs.Tests.{three}
+use Rattle.lists.proofs.Tests.{clash, three}
 use Rattle.answers.specs.declared.Refusal.TheVariants.{Layout, Range}
 use Rattle.woot.specs.Memory.{pending_slots, pending_numbers}
 use Rattle.lists.specs.Padding.{pad}
@@ -15,17 +20,17 @@ use Rattle.lines.proofs.Lines.{past-front}
 use Rattle.lines.proofs.Fronts.{part_from, part-is}
 use Rattle.saved.specs.declared.Version.{Version}
 use Rattle.saved.specs.declared.Rows.{Rows}
-use Rattle.saved.specs.declared.LoadAnswer.TheVariants.{Done, Refused}
 use Rattle.saved.specs.Format.{head_line}
 use Rattle.saved.specs.Rows.{version_of, rows_said, rows_answer, pending_held, Held}
 use Rattle.saved.proofs.Refusals.{never_done}
-use Rattle.saved_lines.specs.Judging.{site_read}
-use Rattle.loading.specs.declared.filling.Back.{Back}
+use Rattle.saved_lines.specs.Judging.{in_layout, site_read}
+use Rattle.std.specs.Prelude.{Option, Some, None}
+use Rattle.loading.specs.declared.filling.Front.{Front}
 use Rattle.loading.specs.Filling.{starts_from, line_operation, operations_laid, back_read, RowsNoted}
-use Rattle.loading.proofs.Collecting.{characters-length, toggles-length, pending-length}
+use Rattle.loading.proofs.Collecting.{lacking, characters-length, toggles-length, pending-length}
 use Rattle.loading.proofs.Assembling.{no-first, first-line, rows_are, no-later, later_laid, out_of_range_lem, answer-is, all_held}
 use borrow.Author.Rules.{rules}
-use Rattle.loading.proofs.read_lines_at.Goals.{After-read_operations-back, After-read_site_front-first}
+use Rattle.loading.proofs.read_lines_at.Goals.{After-read_operations-back, After-read_site_front-first, in-Ok, in-Err-Above}
 use Rattle.loading.proofs.read_lines_at.Goals as goal
 
 -- the first line, as it is read
@@ -34,11 +39,23 @@ first_read : (u : After-read_site_front-first) → let a = u.args in
 first_read u = u.read_site_front-first.ensures.line_value ∙ ap (λ (v : Version). site_read v (get_or (lines u.args.bytes.now) 0 [])) u.version-version.ensures
 
 -- the lines of operations, as they are read in a form
-abbrev Told : Back → List ℕ → List ℕ → Version → Type 0
+abbrev Told : Option Front → List ℕ → List ℕ → Version → Type 0
 Told ps later pending v =
     (ps ≡ back_read v later)
     × ((length pending ≡ pending_numbers)
     × (operations_laid v later ≡ true → pending ≡ pending_held (take pending_slots (map (line_operation v) (lines later)))))
+
+-- a site that is in range, or out of it
+laid_above : {w : Result Site Fault} {f : Fault} → w ≡ Err f → f ≡ Above → in_layout w ≡ true
+laid_above e h = rw (e, h)
+
+said_so : (w : Result Site Fault) {site : Site} → result_ok w ≡ Some site → w ≡ Ok site
+said_so (Ok x) e = cc
+said_so (Err f) e = cc
+
+none_so : (w : Result Site Fault) → result_ok w ≡ None → is_ok w ≡ false
+none_so (Ok x) e = cc
+none_so (Err f) e = refl
 
 -- what was read, and what it comes to
 module _ (p : After-read_operations-back) where
@@ -59,11 +76,30 @@ module _ (p : After-read_operations-back) where
       p.read_site_front-first.ensures.line_value
       ∙ ap (λ (v : Version). site_read v (get_or (lines s) 0 [])) p.version-version.ensures
 
-  site_laid : p.read_site_front-first.result.line.judged.laid_out ≡ true
-  site_laid = (not-false _ p.if-not-head.false)
+  site_laid : in_layout p.read_site_front-first.result.line ≡ true
+  site_laid =
+      elim p.match-first.branch [
+        | in-Ok w ↦ rw w.in-Ok.is
+        | in-Err-Above w ↦ laid_above w.in-Err-Above.is (search rules)
+      ]
+
+  -- the site, if it is in range
+  site_is : p.match-first.first_site ≡ result_ok p.read_site_front-first.result.line
+  site_is =
+      elim p.match-first.branch [
+        | in-Ok w ↦ rw w.in-Ok.is w.first_site-is
+        | in-Err-Above w ↦ rw w.in-Err-Above.is w.first_site-is
+      ]
+
+  -- of which that is what is told
+  site_said : {site : Site} → p.match-first.first_site ≡ Some site → p.read_site_front-first.result.line ≡ Ok site
+  site_said e = said_so _ (sym site_is ∙ e)
+
+  site_none : p.match-first.first_site ≡ None → is_ok p.read_site_front-first.result.line ≡ false
+  site_none e = none_so _ (sym site_is ∙ e)
 
   body_is : body ≡ rest s
-  body_is = part-is s p.read_site_front-first.result.next ∙ past-front s (p.read_site_front-first.ensures.next_value site_laid)
+  body_is = part-is s p.read_site_front-first.result.next ∙ past-front s (p.read_site_front-first.ensures.next_value (λ q. clash site_laid (ap in_layout q)))
 
   later-is : (lines later ≡ drop p.read_rows_at-ahead.result.front.count (lines body)) × (closed later ≡ closed body)
   later-is =
@@ -73,55 +109,55 @@ module _ (p : After-read_operations-back) where
   operations-read : Told p.read_operations-back.result later p.read_operations-back.new.pending (version_of k)
   operations-read = subst (Told p.read_operations-back.result later p.read_operations-back.new.pending) p.version-version.ensures (p.read_operations-back.ensures.value, (p.read_operations-back.ensures.pending_len, p.read_operations-back.ensures.pending_after))
 
-  lacks : p.read_operations-back.result.laid_out ≡ false → Refused Layout ≡ rows_answer k s
+  lacks : p.read_operations-back.result ≡ None → Err Layout ≡ rows_answer k s
   lacks = no-later k s _ first-told site_laid body_is _ p.read_rows_at-ahead.ensures.front_value _ later-is _ operations-read.0
 
-  -- the three ranges together
-  abbrev ranged : Bool
-  ranged = p.read_site_front-first.result.line.judged.in_range && p.read_rows_at-ahead.result.front.in_range && p.read_operations-back.result.in_range
+  module _ (ps : Front) (l : p.read_operations-back.result ≡ Some ps) where
+    -- the three ranges together
+    abbrev ranged : Bool
+    ranged = is_ok p.read_site_front-first.result.line && p.read_rows_at-ahead.result.front.in_range && ps.in_range
 
-  module _ (l : p.read_operations-back.result.laid_out ≡ true) where
-    out : ranged ≡ false → Refused Range ≡ rows_answer k s
-    out = out_of_range_lem k s _ first-told site_laid body_is _ p.read_rows_at-ahead.ensures.front_value _ later-is _ operations-read.0 l
+    out : ranged ≡ false → Err Range ≡ rows_answer k s
+    out = out_of_range_lem k s _ first-told site_laid body_is _ p.read_rows_at-ahead.ensures.front_value _ later-is _ operations-read.0 ps l
 
     module _ (e : ranged ≡ true) where
-      each : (p.read_site_front-first.result.line.judged.in_range ≡ true) × (p.read_rows_at-ahead.result.front.in_range ≡ true)
-          × (p.read_operations-back.result.in_range ≡ true)
-      each = three p.read_site_front-first.result.line.judged.in_range p.read_rows_at-ahead.result.front.in_range p.read_operations-back.result.in_range e
+      each : (is_ok p.read_site_front-first.result.line ≡ true) × (p.read_rows_at-ahead.result.front.in_range ≡ true)
+          × (ps.in_range ≡ true)
+      each = three (is_ok p.read_site_front-first.result.line) p.read_rows_at-ahead.result.front.in_range ps.in_range e
 
-      done : Done ≡ rows_answer k s
+      done : (Ok tt) ≡ rows_answer k s
       done =
           answer-is k s _ first-told site_laid body_is _ p.read_rows_at-ahead.ensures.front_value _ later-is _
-          operations-read.0 l each.0 each.1 each.2
+          operations-read.0 ps l each.0 each.1 each.2
 
-      held :
-          Held (rows_said k s) p.read_site_front-first.result.line.site p.read_rows_at-ahead.new.places p.read_rows_at-ahead.new.characters
-          p.read_rows_at-ahead.new.toggles p.read_rows_at-ahead.result.front.count p.read_operations-back.new.pending p.read_operations-back.result.count
-      held =
+      held : {site : Site} → p.read_site_front-first.result.line ≡ Ok site
+          → Held (rows_said k s) site p.read_rows_at-ahead.new.places p.read_rows_at-ahead.new.characters
+          p.read_rows_at-ahead.new.toggles p.read_rows_at-ahead.result.front.count p.read_operations-back.new.pending ps.count
+      held g =
           let i = p.read_rows_at-ahead.ensures in
-          all_held k s _ first-told site_laid body_is _ i.front_value _ later-is _ operations-read.0 l each.0 each.1 each.2
+          all_held k s _ first-told site_laid body_is _ i.front_value _ later-is _ operations-read.0 ps l each.0 each.1 each.2
           (length p.args.places.now) i.places_after i.characters_after i.toggles_after
-          (operations-read.1.1 (later_laid k s _ first-told site_laid body_is _ i.front_value _ later-is _ operations-read.0 l))
+          (operations-read.1.1 (later_laid k s _ first-told site_laid body_is _ i.front_value _ later-is _ operations-read.0 ps l)) g
 
   begun : RowsNoted k s p.read_site_front-first.result.next (length p.args.starts.now) p.read_rows_at-ahead.new.starts
   unfolding head_line
   begun = record {
-    first = p.read_site_front-first.ensures.next_value site_laid ∙ ap (λ (l : List ℕ). length l + 1) (first-line k s _ first-told site_laid);
+    first = p.read_site_front-first.ensures.next_value (λ q. clash site_laid (ap in_layout q)) ∙ ap (λ (l : List ℕ). length l + 1) (first-line k s _ first-told site_laid);
     begins =
         p.read_rows_at-ahead.ensures.starts_after
         ∙ ap (λ (ls : List (List ℕ)). pad (length p.args.starts.now) 0 (take (length p.args.starts.now) (starts_from 0 ls)))
         (rows_are k s _ first-told site_laid body_is _ p.read_rows_at-ahead.ensures.front_value);
   }
 
--- the three ranges, as the code goes through them
-judged : {a b w : Bool} (x y z : Bool) → a ≡ x && y → b ≡ a && z → b ≡ w → x && y && z ≡ w
-judged x y z e g h = sym (g ∙ ap (λ (d : Bool). d && z) e) ∙ h
+-- the two ranges beside the site's, as the code goes through them
+beside : {a b w : Bool} (y z : Bool) → a ≡ true → b ≡ y && z → b ≡ w → a && y && z ≡ w
+beside y z e g h = rw (e, ← g) h
 
-pub returns-then-not-head : goal.returns-then-not-head
-returns-then-not-head c =
+pub returns-in-Err-Malformed : goal.returns-in-Err-Malformed
+returns-in-Err-Malformed c =
     let z = c.requires in
     record {
-      answer_value = c.refuse_into.ensures ∙ no-first c.args.rows c.args.bytes.now _ (first_read (goal.at.returns-then-not-head c).After-read_site_front-first) (not-true _ c.if-not-head.true);
+      answer_value = c.refuse_into.ensures ∙ no-first c.args.rows c.args.bytes.now _ (first_read (goal.at.returns-in-Err-Malformed c).After-read_site_front-first) (lacking c.in-Err-Malformed.is (search rules));
       places_len_unchanged = refl;
       characters_len = ap length z.characters_value ∙ characters-length [];
       toggles_len = ap length z.toggles_value ∙ toggles-length [];
@@ -143,26 +179,48 @@ read_rows_at-ahead-requires c =
 pub read_operations-back-requires : goal.read_operations-back-requires
 read_operations-back-requires c = c.requires.pending_value
 
-pub shape_of-places-then-not-back : goal.shape_of-places-then-not-back
-shape_of-places-then-not-back c = search rules
+pub shape_of-places-in_default : goal.shape_of-places-in_default
+shape_of-places-in_default c = search rules
 
-pub shape_of-characters-then-not-back : goal.shape_of-characters-then-not-back
-shape_of-characters-then-not-back c = search rules
+pub shape_of-characters-in_default : goal.shape_of-characters-in_default
+shape_of-characters-in_default c = search rules
 
-pub shape_of-toggles-then-not-back : goal.shape_of-toggles-then-not-back
-shape_of-toggles-then-not-back c = search rules
+pub shape_of-toggles-in_default : goal.shape_of-toggles-in_default
+shape_of-toggles-in_default c = search rules
 
-pub returns-then-not-back : goal.returns-then-not-back
-returns-then-not-back c =
+pub returns-in_default : goal.returns-in_default
+returns-in_default c =
     let z = c.requires in
     record {
-      answer_value = c.refuse_into-then-not-back.ensures ∙ lacks (goal.at.returns-then-not-back c).After-read_operations-back (not-true _ c.if-not-back.true);
-      places_len_unchanged = shape_of-places-then-not-back c;
-      characters_len = shape_of-characters-then-not-back c ∙ ap length z.characters_value ∙ characters-length [];
-      toggles_len = shape_of-toggles-then-not-back c ∙ ap length z.toggles_value ∙ toggles-length [];
-      pending_len = (operations-read (goal.at.returns-then-not-back c).After-read_operations-back).1.0;
-      held = (λ d. absurd (never_done Layout (sym d ∙ c.refuse_into-then-not-back.ensures)));
-      rows_noted = (λ d. absurd (never_done Layout (sym d ∙ c.refuse_into-then-not-back.ensures)));
+      answer_value = c.refuse_into-in_default.ensures ∙ lacks (goal.at.returns-in_default c).After-read_operations-back c.in_default.is;
+      places_len_unchanged = shape_of-places-in_default c;
+      characters_len = shape_of-characters-in_default c ∙ ap length z.characters_value ∙ characters-length [];
+      toggles_len = shape_of-toggles-in_default c ∙ ap length z.toggles_value ∙ toggles-length [];
+      pending_len = (operations-read (goal.at.returns-in_default c).After-read_operations-back).1.0;
+      held = (λ d. absurd (never_done Layout (sym d ∙ c.refuse_into-in_default.ensures)));
+      rows_noted = (λ d. absurd (never_done Layout (sym d ∙ c.refuse_into-in_default.ensures)));
+    }
+
+pub shape_of-places-in_default-first_site : goal.shape_of-places-in_default-first_site
+shape_of-places-in_default-first_site c = search rules
+
+pub shape_of-characters-in_default-first_site : goal.shape_of-characters-in_default-first_site
+shape_of-characters-in_default-first_site c = search rules
+
+pub shape_of-toggles-in_default-first_site : goal.shape_of-toggles-in_default-first_site
+shape_of-toggles-in_default-first_site c = search rules
+
+pub returns-in_default-first_site : goal.returns-in_default-first_site
+returns-in_default-first_site c =
+    let z = c.requires in
+    record {
+      answer_value = c.refuse_into-in_default-first_site.ensures ∙ out (goal.at.returns-in_default-first_site c).After-read_operations-back _ c.in-Some.is (rw (site_none (goal.at.returns-in_default-first_site c).After-read_operations-back c.in_default-first_site.is));
+      places_len_unchanged = shape_of-places-in_default-first_site c;
+      characters_len = shape_of-characters-in_default-first_site c ∙ ap length z.characters_value ∙ characters-length [];
+      toggles_len = shape_of-toggles-in_default-first_site c ∙ ap length z.toggles_value ∙ toggles-length [];
+      pending_len = (operations-read (goal.at.returns-in_default-first_site c).After-read_operations-back).1.0;
+      held = (λ d. absurd (never_done Range (sym d ∙ c.refuse_into-in_default-first_site.ensures)));
+      rows_noted = (λ d. absurd (never_done Range (sym d ∙ c.refuse_into-in_default-first_site.ensures)));
     }
 
 pub shape_of-places-then-not-both : goal.shape_of-places-then-not-both
@@ -177,11 +235,10 @@ shape_of-toggles-then-not-both c = search rules
 pub returns-then-not-both : goal.returns-then-not-both
 returns-then-not-both c =
     let z = c.requires in
-    let e =
-    judged c.read_site_front-first.result.line.judged.in_range c.read_rows_at-ahead.result.front.in_range c.read_operations-back.result.in_range
-    c.both.ensures c.both-2.ensures c.if-not-both.true in
+    let g = site_said (goal.at.returns-then-not-both c).After-read_operations-back c.in-Some-first_site.is in
+    let e = beside _ _ (ap is_ok g) c.both.ensures c.if-not-both.true in
     record {
-      answer_value = c.refuse_into-then-not-both.ensures ∙ out (goal.at.returns-then-not-both c).After-read_operations-back (not-false _ c.if-not-back.false) e;
+      answer_value = c.refuse_into-then-not-both.ensures ∙ out (goal.at.returns-then-not-both c).After-read_operations-back _ c.in-Some.is e;
       places_len_unchanged = shape_of-places-then-not-both c;
       characters_len = shape_of-characters-then-not-both c ∙ ap length z.characters_value ∙ characters-length [];
       toggles_len = shape_of-toggles-then-not-both c ∙ ap length z.toggles_value ∙ toggles-length [];
@@ -202,17 +259,15 @@ shape_of-toggles c = search rules
 pub returns : goal.returns
 returns c =
     let z = c.requires in
-    let l = (not-false _ c.if-not-back.false) in
-    let e =
-    judged c.read_site_front-first.result.line.judged.in_range c.read_rows_at-ahead.result.front.in_range c.read_operations-back.result.in_range
-    c.both.ensures c.both-2.ensures c.if-not-both.false in
+    let g = site_said (goal.at.returns c).After-read_operations-back c.in-Some-first_site.is in
+    let e = beside _ _ (ap is_ok g) c.both.ensures c.if-not-both.false in
     record {
-      answer_value = done (goal.at.returns c).After-read_operations-back l e;
+      answer_value = done (goal.at.returns c).After-read_operations-back _ c.in-Some.is e;
       places_len_unchanged = shape_of-places c;
       characters_len = shape_of-characters c ∙ ap length z.characters_value ∙ characters-length [];
       toggles_len = shape_of-toggles c ∙ ap length z.toggles_value ∙ toggles-length [];
       pending_len = (operations-read (goal.at.returns c).After-read_operations-back).1.0;
-      held = (λ told. held (goal.at.returns c).After-read_operations-back l e);
+      held = (λ told. held (goal.at.returns c).After-read_operations-back _ c.in-Some.is e g);
       rows_noted = (λ told. begun (goal.at.returns c).After-read_operations-back);
     }
 

@@ -4,7 +4,6 @@ use Prim.Native.Nat.{ℕ}
 use lib.ListN.{take}
 use Rattle.woot.specs.Table.{table_of}
 use Rattle.clock.specs.Hearing.{heard_keys}
-use borrow.Author.Rules.{rules}
 use Rattle.loading.proofs.settle.Goals as goal
 
 pub returns : goal.returns
@@ -15,5 +14,5 @@ returns c =
     record {
       value = c.raised.ensures
           ∙ (λ j. heard_keys (heard_keys a.site (take (n j) a.characters.now)) (take (w j) a.pending.now));
-      links_after = c.enter_all.ensures ∙ ap (λ (k : ℕ). table_of (take k a.characters.now)) n;
+      table_after = c.enter_all.ensures ∙ ap (λ (k : ℕ). table_of (take k a.characters.now)) n;
     }

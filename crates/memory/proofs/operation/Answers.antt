@@ -1,10 +1,8 @@
 -- `memory::operation` goes by the own key: what is in range has the bits of its types.
 use Prim.Native.Nat.{ℕ}
 use native.Mathlib.Omega.{arith}
-use mathlib.Core.Path.{◌≡◌, refl, sym, ap, ◌∙◌}
+use mathlib.Core.Path.{◌≡◌}
 use mathlib.Core.Bool.{true}
-use borrow.Author.Rules.{rules}
-use Rattle.woot.specs.declared.Operation.TheVariants.{Insert as insert}
 use Rattle.woot.specs.Ranges.{in_range}
 use Rattle.woot.specs.Memory.{operation_of}
 use Rattle.memory.proofs.Bits.{inserted_bits, inserted-is, ToggleBits, toggle_bits, toggled-is}

@@ -17,11 +17,11 @@ abbrev lays : {d : Document} {xs : List ℕ} {k i : ℕ} → Reaches d xs k i �
 lays g = record { characters = g.reached.characters; laid = reached_laid g.reached g.within }
 
 -- what became of the insert
-module _ (c : After-take_in-taken) (g : Reaches (laid_as c.args.characters.now c.args.toggles.now c.args.at.length c.args.heads.now c.args.links.now) c.args.inserts.now c.args.at.left c.args.i) where
+module _ (c : After-take_in-taken) (g : Reaches (laid_as c.args.characters.now c.args.toggles.now c.args.at.length c.args.table.now) c.args.inserts.now c.args.at.left c.args.i) where
   abbrev At : Taken → Type 0
   At v =
       let l = c.take_in-taken.new in
-      TakenAs g.reached.characters c.insert_at-insert.result c.take_in-taken.new.characters c.take_in-taken.new.toggles c.args.at.length c.take_in-taken.new.heads c.take_in-taken.new.links v
+      TakenAs g.reached.characters c.insert_at-insert.result c.take_in-taken.new.characters c.take_in-taken.new.toggles c.args.at.length c.take_in-taken.new.table v
 
   told : (v : Taken) → c.take_in-taken.result ≡ v → At v
   told v e = subst At e (c.take_in-taken.ensures (lays g))
@@ -67,14 +67,14 @@ overflow_add-result-in-Lacking c =
 pub returns-in-Placed : goal.returns-in-Placed
 returns-in-Placed c g =
     let l = c.take_in-taken.new in
-    reached-placed g.reached g.within _ c.insert_at-insert.ensures c.take_in-taken.new.characters c.take_in-taken.new.toggles _ c.take_in-taken.new.heads c.take_in-taken.new.links (told (goal.at.returns-in-Placed c).After-take_in-taken g Placed c.in-Placed.is)
+    reached-placed g.reached g.within _ c.insert_at-insert.ensures c.take_in-taken.new.characters c.take_in-taken.new.toggles _ c.take_in-taken.new.table (told (goal.at.returns-in-Placed c).After-take_in-taken g Placed c.in-Placed.is)
 
 pub returns-in-Lacking : goal.returns-in-Lacking
 returns-in-Lacking c g =
     let l = c.take_in-taken.new in
-    reached_lacking g.reached g.within _ c.insert_at-insert.ensures c.take_in-taken.new.characters c.take_in-taken.new.toggles _ c.take_in-taken.new.heads c.take_in-taken.new.links (told (goal.at.returns-in-Lacking c).After-take_in-taken g Lacking c.in-Lacking.is) c.move_insert.ensures
+    reached_lacking g.reached g.within _ c.insert_at-insert.ensures c.take_in-taken.new.characters c.take_in-taken.new.toggles _ c.take_in-taken.new.table (told (goal.at.returns-in-Lacking c).After-take_in-taken g Lacking c.in-Lacking.is) c.move_insert.ensures
 
 pub returns-in-Dropped : goal.returns-in-Dropped
 returns-in-Dropped c g =
     let l = c.take_in-taken.new in
-    reached-dropped g.reached g.within _ c.insert_at-insert.ensures c.take_in-taken.new.characters c.take_in-taken.new.toggles _ c.take_in-taken.new.heads c.take_in-taken.new.links (told (goal.at.returns-in-Dropped c).After-take_in-taken g Dropped c.in-Dropped.is)
+    reached-dropped g.reached g.within _ c.insert_at-insert.ensures c.take_in-taken.new.characters c.take_in-taken.new.toggles _ c.take_in-taken.new.table (told (goal.at.returns-in-Dropped c).After-take_in-taken g Dropped c.in-Dropped.is)

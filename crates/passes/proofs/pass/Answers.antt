@@ -1,6 +1,6 @@
 -- `passes::pass` offers one insert after another. The loop's invariant: what the pass is to come to, by the rules,
 -- it will.
-use Prim.Native.Nat.{◌-◌, ◌≤◌}
+use Prim.Native.Nat.{◌≤◌}
 use native.Mathlib.Omega.{arith}
 use mathlib.Core.Path.{◌≡◌, ◌∙◌}
 use lib.ListN.{length}
@@ -16,8 +16,8 @@ loop-i-init c = (c.requires.characters_len, omega arith, λ o. reached-begun o.o
 -- where the loop is, and what it has come to
 abbrev reaches : (c : In-loop-i)
     → let l = c.loop-i in
-    Offers (laid_as c.args.characters.now c.args.toggles.now c.args.n c.args.heads.now c.args.links.now) c.args.inserts.now c.args.m
-    → Reaches (laid_as l.characters l.toggles l.at.length l.heads l.links) l.inserts l.at.left l.i
+    Offers (laid_as c.args.characters.now c.args.toggles.now c.args.n c.args.table.now) c.args.inserts.now c.args.m
+    → Reaches (laid_as l.characters l.toggles l.at.length l.table) l.inserts l.at.left l.i
 reaches c o = record { many = _; passed = _; reached = c.loop-i.invariant.2 o; within = c.loop-i-test.true }
 
 pub offer-at-requires : goal.offer-at-requires
@@ -26,12 +26,6 @@ offer-at-requires c =
       characters_len = c.loop-i.invariant.0;
       reaches = reaches (goal.at.offer-at-requires c).In-loop-i c.requires.offers;
     }
-
-pub overflow_add-i : goal.overflow_add-i
-overflow_add-i c = omega (arith, c.loop-i-test.true)
-
-pub loop-i-smaller : goal.loop-i-smaller
-loop-i-smaller c = omega (arith, c.loop-i-test.true)
 
 pub loop-i-preserved : goal.loop-i-preserved
 loop-i-preserved c =
@@ -47,16 +41,6 @@ pub shape_of-toggles : goal.shape_of-toggles
 shape_of-toggles c =
     let o = c.requires.offers in
     omega (arith, (offering_slots o.offering).toggles, (reaching_slots (c.loop-i.invariant.2 o)).toggles)
-
-pub shape_of-heads : goal.shape_of-heads
-shape_of-heads c =
-    let o = c.requires.offers in
-    omega (arith, (offering_slots o.offering).heads, (reaching_slots (c.loop-i.invariant.2 o)).heads)
-
-pub shape_of-links : goal.shape_of-links
-shape_of-links c =
-    let o = c.requires.offers in
-    omega (arith, (offering_slots o.offering).links, (reaching_slots (c.loop-i.invariant.2 o)).links)
 
 pub shape_of-inserts : goal.shape_of-inserts
 shape_of-inserts c =

@@ -1,6 +1,6 @@
 -- `passes::pass` offers one insert after another. The loop's invariant: what the pass is to come to, by the rules,
 -- it will.
-use Prim.Native.Nat.{◌-◌, ◌≤◌}
+use Prim.Native.Nat.{◌≤◌}
 use native.Mathlib.Omega.{arith}
 use mathlib.Core.Path.{◌≡◌, ◌∙◌}
 use lib.ListN.{length}
@@ -11,8 +11,5 @@ use Rattle.passes.proofs.pass.Given as goal
 
 abbrev pub invariant-loop-i : goal.invariant-loop-i
 invariant-loop-i l = (length l.characters ≡ 4096) × (l.i ≤ l.m)
-    × ((o : Offers (laid_as l.initial.characters l.initial.toggles l.n l.initial.heads l.initial.links) l.initial.inserts l.m)
-    → Reached (laid_as l.characters l.toggles l.at.length l.heads l.links) l.inserts l.at.left l.i l.m (pass o.characters o.inserts))
-
-abbrev pub decreases-loop-i : goal.decreases-loop-i
-decreases-loop-i l = l.m - l.i
+    × ((o : Offers (laid_as l.initial.characters l.initial.toggles l.n l.initial.table) l.initial.inserts l.m)
+    → Reached (laid_as l.characters l.toggles l.at.length l.table) l.inserts l.at.left l.i l.m (pass o.characters o.inserts))

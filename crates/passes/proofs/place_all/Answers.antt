@@ -32,16 +32,6 @@ shape_of-toggles-then-passed-length c =
     let o = c.requires.offers in
     omega (arith, c.pass-passed.auto.toggles, (offering_slots o.offering).toggles, (offering_slots (c.loop-length.invariant.1 o).offering).toggles)
 
-pub shape_of-heads-then-passed-length : goal.shape_of-heads-then-passed-length
-shape_of-heads-then-passed-length c =
-    let o = c.requires.offers in
-    omega (arith, c.pass-passed.auto.heads, (offering_slots o.offering).heads, (offering_slots (c.loop-length.invariant.1 o).offering).heads)
-
-pub shape_of-links-then-passed-length : goal.shape_of-links-then-passed-length
-shape_of-links-then-passed-length c =
-    let o = c.requires.offers in
-    omega (arith, c.pass-passed.auto.links, (offering_slots o.offering).links, (offering_slots (c.loop-length.invariant.1 o).offering).links)
-
 pub shape_of-inserts-then-passed-length : goal.shape_of-inserts-then-passed-length
 shape_of-inserts-then-passed-length c =
     let o = c.requires.offers in

@@ -13,8 +13,8 @@ use Rattle.passes.proofs.place_all.Given as goal
 
 abbrev pub invariant-loop-length : goal.invariant-loop-length
 invariant-loop-length l = (length l.characters ≡ 4096)
-    × ((o : Offers (laid_as l.initial.characters l.initial.toggles l.n l.initial.heads l.initial.links) l.initial.inserts l.m)
-    → Repeating (laid_as l.characters l.toggles l.length l.heads l.links) l.inserts l.left (passes (suc (length o.inserts)) o.characters o.inserts))
+    × ((o : Offers (laid_as l.initial.characters l.initial.toggles l.n l.initial.table) l.initial.inserts l.m)
+    → Repeating (laid_as l.characters l.toggles l.length l.table) l.inserts l.left (passes (suc (length o.inserts)) o.characters o.inserts))
 
 abbrev pub decreases-loop-length : goal.decreases-loop-length
 decreases-loop-length l = l.left

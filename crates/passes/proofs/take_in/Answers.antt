@@ -23,15 +23,14 @@ put_in-requires c =
       n_lt_character_slots = c.requires.n_lt_character_slots;
       characters_len = c.requires.characters_len;
       toggles_len = z.toggles;
-      heads_len = z.heads;
-      links_len = z.links;
+      sized = record { heads = z.heads; links = z.links };
     }
 
 pub returns-in-Below : goal.returns-in-Below
 returns-in-Below c t =
     let e = c.put_in.ensures in
     taken-placed c.args.characters.now t.laid _ _ c.place_for-placement.ensures _ c.in-Below.is c.requires.n_lt_character_slots
-    c.put_in.new.characters e.characters_after e.characters_after_2 e.characters_after_3 e.characters_after_4 e.toggles_after e.links_after
+    c.put_in.new.characters e.characters_after e.characters_after_2 e.characters_after_3 e.characters_after_4 e.toggles_after e.table_after
 
 pub returns-in-Missing : goal.returns-in-Missing
 returns-in-Missing c t =

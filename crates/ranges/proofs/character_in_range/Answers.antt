@@ -1,17 +1,11 @@
--- `ranges::character_in_range` is the test of the insert that brought the character: every count of toggles of the type is
--- in its range.
-use mathlib.Core.Path.{◌≡◌, sym, ◌∙◌}
-use native.Mathlib.Omega.{arith}
-use borrow.Author.Rules.{rules}
-use Rattle.woot.specs.Limits.{last_toggles}
+-- `ranges::character_in_range` is the test of the insert that brought the character: no count of toggles is out of range.
+use Rattle.std.proofs.Common.{arith}
+use Rattle.std.proofs.lemmas.Grind.{common_steps}
+use Rattle.utf8.specs.CodePoints.{within}
 use Rattle.woot.specs.Operations.{origin}
-use Rattle.woot.specs.Ranges.{insert_in_range, character_in_range}
-use Rattle.ranges.proofs.Laws.{and_true, within_first}
+use Rattle.woot.specs.Ranges.{character_in_range}
 use Rattle.ranges.proofs.character_in_range.Goals as goal
 
 pub returns : goal.returns
-unfolding character_in_range origin
-returns c =
-    let d = c.args.c in
-    c.insert_in_range.ensures
-    ∙ rw (within_first last_toggles d.toggles (omega arith)) (sym (and_true (insert_in_range (origin d))))
+unfolding character_in_range origin within
+returns c = grind (arith, common_steps)

@@ -3,17 +3,17 @@ use mathlib.Core.Path.{◌∙◌}
 use Rattle.woot.specs.declared.Replica.{Replica}
 use Rattle.replica.proofs.Returning.{sendable, insert_so}
 use borrow.Author.Rules.{rules}
-use Rattle.replica.proofs.insert.Goals.{After-judge_insert-made}
+use Rattle.replica.proofs.insert.Goals.{After-decide_insert-made}
 use Rattle.replica.proofs.insert.Goals as goal
 
 -- the replica that was passed
-abbrev passedIn : After-judge_insert-made → Replica
+abbrev passedIn : After-decide_insert-made → Replica
 passedIn c = c.args.replica
 
 pub send-requires : goal.send-requires
 send-requires c =
-    sendable (passedIn (goal.at.send-requires c).After-judge_insert-made) _ _ c.judge_insert-made.ensures
+    sendable (passedIn (goal.at.send-requires c).After-decide_insert-made) _ _ c.decide_insert-made.ensures
 
 pub returns : goal.returns
 returns c =
-    c.send.ensures ∙ insert_so (passedIn (goal.at.returns c).After-judge_insert-made) _ _ _ c.judge_insert-made.ensures
+    c.send.ensures ∙ insert_so (passedIn (goal.at.returns c).After-decide_insert-made) _ _ _ c.decide_insert-made.ensures

@@ -1,4 +1,5 @@
 -- `saved::exchanged` meets its contract: two numbers are exchanged, and any other is above them.
+use native.Mathlib.Omega.{arith}
 use mathlib.Core.Path.{◌≡◌, refl}
 use Prim.Native.Nat.{ℕ, zero, suc}
 use Rattle.saved.specs.declared.Version.TheVariants.{First}
@@ -11,13 +12,13 @@ neither zero h k = absurd (h refl)
 neither (suc zero) h k = absurd (k refl)
 neither (suc (suc n)) h k = refl
 
-pub returns-then-number-eq0 : goal.returns-then-number-eq0
+pub returns-in-0 : goal.returns-in-0
 unfolding toggle_field
-returns-then-number-eq0 c = rw c.if-number-eq0.true
+returns-in-0 c = rw c.in-0.is
 
-pub returns-then-number-eq1 : goal.returns-then-number-eq1
+pub returns-in-1 : goal.returns-in-1
 unfolding toggle_field
-returns-then-number-eq1 c = rw c.if-number-eq1.true
+returns-in-1 c = rw c.in-1.is
 
-pub returns : goal.returns
-returns c = neither _ c.if-number-eq0.false c.if-number-eq1.false
+pub returns-in_default : goal.returns-in_default
+returns-in_default c = neither _ (λ e. omega (arith, e)) (λ e. omega (arith, e))

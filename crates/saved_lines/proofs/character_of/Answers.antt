@@ -13,7 +13,6 @@ use Rattle.lines.specs.Fields.{at_most}
 use Rattle.lines.proofs.Values.{at_most_at}
 use Rattle.saved.specs.Format.{character_limits, character_of, toggle_field}
 use Rattle.saved.proofs.Bounds.{toggle_field-kept, last_fits}
-use borrow.Author.Rules.{rules}
 use Rattle.saved_lines.proofs.character_of.Goals as goal
 
 -- the numbers from one on, and their limits

@@ -2,7 +2,6 @@
 use Rattle.codec.specs.Calls.{read_written, read_written_first}
 use Rattle.saved.specs.Format.{is_operation, operation_said}
 use Rattle.saved_lines.specs.Judging.{pending_read}
-use borrow.Author.Rules.{rules}
 use Rattle.saved_lines.proofs.read_pending.Goals as goal
 
 pub returns-in-First : goal.returns-in-First

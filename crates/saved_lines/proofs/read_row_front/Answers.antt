@@ -1,5 +1,4 @@
 -- `saved_lines::read_row_front` meets its contract, kind by kind.
-use borrow.Author.Rules.{rules}
 use Rattle.saved_lines.proofs.read_row_front.Goals as goal
 
 pub returns-in-Saved : goal.returns-in-Saved

@@ -3,7 +3,6 @@ use mathlib.Core.Path.{refl}
 use native.Mathlib.Omega.{arith}
 use Rattle.lines.proofs.Values.{at_most_at}
 use Rattle.saved.specs.Format.{site_limits, site_of}
-use borrow.Author.Rules.{rules}
 use Rattle.saved_lines.proofs.site_of.Goals as goal
 
 pub overflow_cast-result : goal.overflow_cast-result

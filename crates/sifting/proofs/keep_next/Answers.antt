@@ -10,23 +10,28 @@ pub same_fields-requires : goal.same_fields-requires
 same_fields-requires c =
     let xs = c.args.inserts.now in
     let low = found-low (get_or xs c.args.i 0) (take c.args.n xs)
-    (sym c.find_among-found.ensures ∙ c.in-At.is) in
+    (sym c.find_among-found.ensures ∙ c.in-Some.is) in
     record {
       inserts_len = c.requires.inserts_len;
       i_lt_character_slots = c.requires.i_lt_character_slots;
       j_lt_character_slots = omega (arith, low, length-take c.args.n xs, c.requires.n_le_i, c.requires.i_lt_character_slots);
     }
 
-pub returns-in-At : goal.returns-in-At
-returns-in-At c =
-    let agrees = c.same_fields.ensures in
+pub returns-then-same_fields : goal.returns-then-same_fields
+returns-then-same_fields c =
+    let same = sym c.same_fields.ensures ∙ c.if-same_fields.true in
     sifted_at c.args.inserts.now _ c.args.i c.args.n c.requires.i_lt_character_slots _
-    (sym c.find_among-found.ensures ∙ c.in-At.is) refl refl
-    (λ j. record { agreeing = agrees j; count = c.args.n })
+    (sym c.find_among-found.ensures ∙ c.in-Some.is) refl refl (rw same)
 
-pub returns-in-Nothing : goal.returns-in-Nothing
-returns-in-Nothing c =
+pub returns-else-same_fields : goal.returns-else-same_fields
+returns-else-same_fields c =
+    let other = sym c.same_fields.ensures ∙ c.if-same_fields.false in
+    sifted_at c.args.inserts.now _ c.args.i c.args.n c.requires.i_lt_character_slots _
+    (sym c.find_among-found.ensures ∙ c.in-Some.is) refl refl (rw other)
+
+pub returns-in-None : goal.returns-in-None
+returns-in-None c =
     sifted_nothing c.args.inserts.now _ c.args.i c.args.n c.requires.i_lt_character_slots
-    (sym c.find_among-found.ensures ∙ c.in-Nothing.is)
+    (sym c.find_among-found.ensures ∙ c.in-None.is)
     c.move_insert.ensures
     c.enter.ensures refl

@@ -1,5 +1,4 @@
 -- `sifting::keep_once` meets its contract, by the invariant of `proofs/Keeping.antt`.
-use Prim.Native.Nat.{◌-◌}
 use native.Mathlib.Omega.{arith}
 use mathlib.Core.Path.{sym, ◌∙◌}
 use borrow.Author.Rules.{rules}
@@ -8,7 +7,4 @@ use Rattle.sifting.proofs.Keeping.{KeepLoop, keep-begun, keep_tabled, keep-end, 
 use Rattle.sifting.proofs.keep_once.Given as goal
 
 abbrev pub invariant-loop-i : goal.invariant-loop-i
-invariant-loop-i l = KeepLoop l.initial.inserts l.n l.inserts (record { heads = l.heads; links = l.links }) l.i l.count
-
-abbrev pub decreases-loop-i : goal.decreases-loop-i
-decreases-loop-i l = l.n - l.i
+invariant-loop-i l = KeepLoop l.initial.inserts l.n l.inserts l.table l.i l.count

@@ -12,10 +12,10 @@ returns-in_default c =
 pub returns-in_default-second : goal.returns-in_default-second
 returns-in_default-second c =
     let a = c.args in
-    line_lacks a.front.now (line_bytes a.line) a.back.now a.size a.at c.room-first.ensures c.in-Until.is c.measure-second.ensures c.in_default-second.is
+    line_lacks a.front.now (line_bytes a.line) a.back.now a.size a.at c.room-first.ensures c.in-Some.is c.measure-second.ensures c.in_default-second.is
 
 pub returns : goal.returns
 returns c =
     let a = c.args in
     c.room.ensures
-    ∙ back-ends a.front.now (line_bytes a.line) a.back.now a.size a.at c.room-first.ensures c.in-Until.is c.measure-second.ensures c.in-Until-second.is
+    ∙ back-ends a.front.now (line_bytes a.line) a.back.now a.size a.at c.room-first.ensures c.in-Some.is c.measure-second.ensures c.in-Some-second.is

@@ -28,7 +28,7 @@ returns-in_default c =
 
 pub returns-in_default-rest : goal.returns-in_default-rest
 returns-in_default-rest c =
-    let all = body-short (head (goal.at.returns-in_default-rest c).Start) (others (goal.at.returns-in_default-rest c).Start) (head (goal.at.returns-in_default-rest c).Start ++ others (goal.at.returns-in_default-rest c).Start) c.args.out.now refl c.measure_site_with-head.ensures c.in-Until.is
+    let all = body-short (head (goal.at.returns-in_default-rest c).Start) (others (goal.at.returns-in_default-rest c).Start) (head (goal.at.returns-in_default-rest c).Start ++ others (goal.at.returns-in_default-rest c).Start) c.args.out.now refl c.measure_site_with-head.ensures c.in-Some.is
     c.measure-rest.ensures c.in_default-rest.is in
     record {
       value = all.0;
@@ -39,14 +39,14 @@ pub put-requires : goal.put-requires
 put-requires c =
     record {
       count_bound = c.requires;
-      back_in_bounds = body-room (head (goal.at.put-requires c).Start) (others (goal.at.put-requires c).Start) (head (goal.at.put-requires c).Start ++ others (goal.at.put-requires c).Start) c.args.out.now refl c.measure_site_with-head.ensures c.in-Until.is
-          c.measure-rest.ensures c.in-Until-rest.is (c.put_site_with-at.ensures.value, c.put_site_with-at.ensures.out_after);
+      back_in_bounds = body-room (head (goal.at.put-requires c).Start) (others (goal.at.put-requires c).Start) (head (goal.at.put-requires c).Start ++ others (goal.at.put-requires c).Start) c.args.out.now refl c.measure_site_with-head.ensures c.in-Some.is
+          c.measure-rest.ensures c.in-Some-rest.is (c.put_site_with-at.ensures.value, c.put_site_with-at.ensures.out_after);
     }
 
 pub returns : goal.returns
 returns c =
-    let all = body-put (head (goal.at.returns c).Start) (others (goal.at.returns c).Start) (head (goal.at.returns c).Start ++ others (goal.at.returns c).Start) c.args.out.now refl c.measure_site_with-head.ensures c.in-Until.is
-    c.measure-rest.ensures c.in-Until-rest.is (c.put_site_with-at.ensures.value, c.put_site_with-at.ensures.out_after) c.put.ensures in
+    let all = body-put (head (goal.at.returns c).Start) (others (goal.at.returns c).Start) (head (goal.at.returns c).Start ++ others (goal.at.returns c).Start) c.args.out.now refl c.measure_site_with-head.ensures c.in-Some.is
+    c.measure-rest.ensures c.in-Some-rest.is (c.put_site_with-at.ensures.value, c.put_site_with-at.ensures.out_after) c.put.ensures in
     record {
       value = all.0;
       out_after = all.1;

@@ -3,10 +3,10 @@ use borrow.Author.Rules.{rules}
 use Rattle.transcript.specs.Calls.{received_as, received_line}
 use Rattle.transcript.proofs.answer_line.Goals as goal
 
-pub returns-in-Operation : goal.returns-in-Operation
+pub returns-in-Ok : goal.returns-in-Ok
 unfolding received_line received_as
-returns-in-Operation c = rw (← c.read_operation.ensures, c.in-Operation.is) c.receive.ensures
+returns-in-Ok c = rw (← c.read_operation.ensures, c.in-Ok.is) c.receive.ensures
 
-pub returns-in-Refused : goal.returns-in-Refused
+pub returns-in-Err : goal.returns-in-Err
 unfolding received_line received_as
-returns-in-Refused c = rw (← c.read_operation.ensures, c.in-Refused.is)
+returns-in-Err c = rw (← c.read_operation.ensures, c.in-Err.is)

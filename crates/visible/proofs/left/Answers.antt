@@ -3,7 +3,6 @@ use mathlib.Core.Path.{sym, ◌∙◌}
 use Rattle.visible.proofs.Shown.{left_key}
 use Rattle.woot.specs.Calls.{visibles}
 use Rattle.index.proofs.Keys.{key-begin}
-use borrow.Author.Rules.{rules}
 use Rattle.visible.proofs.left.Goals as goal
 
 pub returns-then-point-eq0 : goal.returns-then-point-eq0

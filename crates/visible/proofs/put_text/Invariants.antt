@@ -1,14 +1,7 @@
 -- `visible::put_text` meets its contract. The loop's invariant: what is left of the text, put at the offset,
 -- makes the slice what the whole text makes it.
-use Prim.Native.Nat.{◌-◌, ◌≤◌, ◌<◌}
-use mathlib.Core.Path.{refl}
-use Rattle.visible.proofs.Shown.{text_left, text-more, text-done, Going, onward, arrived}
-use borrow.Author.Rules.{rules}
-use native.Mathlib.Omega.{arith}
+use Rattle.visible.proofs.Shown.{text_left, Going}
 use Rattle.visible.proofs.put_text.Given as goal
 
 abbrev pub invariant-loop-i : goal.invariant-loop-i
-invariant-loop-i l = (l.i ≤ l.n) × Going (text_left l.code_points l.toggles l.n 0) l.initial.out l.out l.at (text_left l.code_points l.toggles l.n l.i)
-
-abbrev pub decreases-loop-i : goal.decreases-loop-i
-decreases-loop-i l = l.n - l.i
+invariant-loop-i l = Going (text_left l.code_points l.toggles l.n 0) l.initial.out l.out l.at (text_left l.code_points l.toggles l.n l.i)

@@ -3,7 +3,6 @@
 use mathlib.Core.Path.{◌∙◌}
 use Rattle.visible.proofs.Shown.{right_key}
 use Rattle.woot.specs.Calls.{visibles}
-use borrow.Author.Rules.{rules}
 use Rattle.visible.proofs.right.Goals as goal
 
 pub returns : goal.returns

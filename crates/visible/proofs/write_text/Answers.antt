@@ -9,7 +9,6 @@ use Rattle.woot.specs.Memory.{code_points_of, toggle_counts}
 use Rattle.woot.specs.Text.{text}
 use Rattle.convergence.proofs.Writing.{ends-short, ends-written}
 use Rattle.visible.specs.Shown.{text_of}
-use borrow.Author.Rules.{rules}
 use native.Mathlib.Omega.{arith}
 use Rattle.visible.proofs.write_text.Goals as goal
 

@@ -2,7 +2,6 @@
 use native.Mathlib.Omega.{arith}
 use mathlib.Core.Path.{◌≡◌, sym}
 use mathlib.Core.Bool.{true}
-use borrow.Author.Rules.{rules}
 use lib.ListN.{take}
 use Rattle.lists.specs.Lists.{every}
 use Rattle.lists.proofs.Tests.{failed, passed}
@@ -11,7 +10,7 @@ use Rattle.woot.specs.Form.{ordered}
 use Rattle.woot.specs.Table.{agrees}
 use Rattle.woot.specs.Memory.{code_point_column}
 use Rattle.memory.specs.Lent.{Slots, replica_as}
-use Rattle.memory.proofs.Fullness.{begins, Ends, ends, sized_slots}
+use Rattle.memory.proofs.Fullness.{sized_slots}
 use Rattle.well_formed.proofs.Checks.{characters_as, ranged, out_of_range_lem, few, characters_ranged, untabled, tabled, disordered, decided}
 use Rattle.well_formed.proofs.check.Goals.{After-agrees_among, After-characters_ordered, Else-not-agrees_among, Else-not-in_ranges, Start}
 use Rattle.well_formed.proofs.check.Goals as goal
@@ -20,40 +19,36 @@ use Rattle.well_formed.proofs.check.Goals as goal
 abbrev made : Start → Replica
 made s =
     let a = s.args in
-    replica_as a.site a.characters.now a.toggles.now a.n a.pending.now a.w a.heads.now a.links.now
+    replica_as a.site a.characters.now a.toggles.now a.n a.pending.now a.w a.table.now.heads a.table.now.links
 
 full : (s : Start) → Slots (made s).document
 full s = sized_slots s.args.n s.args.w s.requires
 
 kept : (c : Else-not-in_ranges) → let a = c.args in
-    ranged (replica_as a.site a.characters.now a.toggles.now a.n a.pending.now a.w a.heads.now a.links.now) ≡ true
+    ranged (replica_as a.site a.characters.now a.toggles.now a.n a.pending.now a.w a.table.now.heads a.table.now.links) ≡ true
 kept c = passed c.in_ranges.ensures c.if-not-in_ranges.false-raw
 
 -- the test of the table
 agree : (c : After-agrees_among) → let a = c.args in
-    let d = (replica_as a.site a.characters.now a.toggles.now a.n a.pending.now a.w a.heads.now a.links.now).document in
+    let d = (replica_as a.site a.characters.now a.toggles.now a.n a.pending.now a.w a.table.now.heads a.table.now.links).document in
     c.agrees_among.result ≡ agrees d.table (take d.length d.ids)
 agree c = c.agrees_among.ensures
 
 agreed : (c : Else-not-agrees_among) → let a = c.args in
-    let d = (replica_as a.site a.characters.now a.toggles.now a.n a.pending.now a.w a.heads.now a.links.now).document in
+    let d = (replica_as a.site a.characters.now a.toggles.now a.n a.pending.now a.w a.table.now.heads a.table.now.links).document in
     agrees d.table (take d.length d.ids) ≡ true
 agreed c = passed c.agrees_among.ensures c.if-not-agrees_among.false-raw
 
 -- the test of the order
 order : (c : After-characters_ordered) → let a = c.args in
-    let r = replica_as a.site a.characters.now a.toggles.now a.n a.pending.now a.w a.heads.now a.links.now in
+    let r = replica_as a.site a.characters.now a.toggles.now a.n a.pending.now a.w a.table.now.heads a.table.now.links in
     c.characters_ordered.result ≡ every (ordered (characters_as r)) (characters_as r)
 order c =
     let a = c.args in
-    let r = replica_as a.site a.characters.now a.toggles.now a.n a.pending.now a.w a.heads.now a.links.now in
+    let r = replica_as a.site a.characters.now a.toggles.now a.n a.pending.now a.w a.table.now.heads a.table.now.links in
     let ranges =
     characters_ranged r (sized_slots a.n a.w c.requires) (passed c.in_ranges.ensures c.if-not-in_ranges.false-raw) in
     c.characters_ordered.ensures (code_point_column a.characters.now) a.toggles.now ranges
-
--- the columns that are lent
-rows : (c : Else-not-in_ranges) → Ends 1024 c.args.characters.now
-rows c = ends 1024 c.requires.characters
 
 pub returns-then-not-in_ranges : goal.returns-then-not-in_ranges
 returns-then-not-in_ranges c = sym (out_of_range_lem (made (goal.at.returns-then-not-in_ranges c).Start) (failed c.in_ranges.ensures c.if-not-in_ranges.true-raw))
@@ -63,9 +58,9 @@ agrees_among-requires c =
     let s = (goal.at.agrees_among-requires c).Start in
     let count = (few (made s) (full s) (kept (goal.at.agrees_among-requires c).Else-not-in_ranges)).characters in
     record {
-      heads_len = (full s).heads;
-      n_in_bounds = omega (arith, count, (full s).links);
-      n_in_bounds_2 = omega (arith, count, (full s).ids);
+      sized = record { heads = (full s).heads; links = (full s).links };
+      few = omega (arith, count);
+      n_in_bounds = omega (arith, count, (full s).ids);
     }
 
 pub returns-then-not-agrees_among : goal.returns-then-not-agrees_among
@@ -109,30 +104,3 @@ returns c =
     let s = (goal.at.returns c).Start in
     let ordered-all = passed (order (goal.at.returns c).After-characters_ordered) c.if-not-characters_ordered.false-raw in
     decided (made s) (full s) (kept (goal.at.returns c).Else-not-in_ranges) (agreed (goal.at.returns c).Else-not-agrees_among) ordered-all c.queue_formed.ensures
-
-pub slice_bounds-ids-count : goal.slice_bounds-ids-count
-slice_bounds-ids-count c = begins 1024 0
-
-pub slice_bounds-ids-start : goal.slice_bounds-ids-start
-slice_bounds-ids-start c = begins 1024 0
-
-pub slice_bounds-ids-end : goal.slice_bounds-ids-end
-slice_bounds-ids-end c = (rows (goal.at.slice_bounds-ids-end c).Else-not-in_ranges).first
-
-pub slice_bounds-previous-count : goal.slice_bounds-previous-count
-slice_bounds-previous-count c = begins 1024 1
-
-pub slice_bounds-previous-start : goal.slice_bounds-previous-start
-slice_bounds-previous-start c = begins 1024 1
-
-pub slice_bounds-previous-end : goal.slice_bounds-previous-end
-slice_bounds-previous-end c = (rows (goal.at.slice_bounds-previous-end c).Else-not-in_ranges).second
-
-pub slice_bounds-next-count : goal.slice_bounds-next-count
-slice_bounds-next-count c = begins 1024 2
-
-pub slice_bounds-next-start : goal.slice_bounds-next-start
-slice_bounds-next-start c = begins 1024 2
-
-pub slice_bounds-next-end : goal.slice_bounds-next-end
-slice_bounds-next-end c = (rows (goal.at.slice_bounds-next-end c).Else-not-in_ranges).third

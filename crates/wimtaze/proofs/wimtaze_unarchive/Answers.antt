@@ -1,7 +1,7 @@
 -- `wimtaze::wimtaze_unarchive` meets its contract: what is answered goes by what was written.
 use mathlib.Core.Path.{refl, ap, ◌∙◌}
 use Rattle.answers.specs.declared.Answer.TheVariants.{Done}
-use Rattle.woot.specs.declared.Written.{Written}
+use Rattle.woot.specs.Writing.{Written}
 use Rattle.effects.specs.Results.{number_of}
 use Rattle.effects.specs.Steps.{after_writing}
 use Rattle.effects.proofs.Outputs.{leaves_by}

@@ -1,6 +1,6 @@
 -- `workload::workload_run` meets its contract, by the invariant of `proofs/Tallies.antt`.
 use mathlib.Core.Path.{◌≡◌}
-use Prim.Native.Nat.{◌+◌, ◌-◌, ◌≤◌}
+use Prim.Native.Nat.{◌+◌, ◌≤◌}
 use native.Mathlib.Omega.{arith}
 use borrow.Author.Rules.{rules}
 use Rattle.workload.specs.Workload.{operation_of, tallied, none_tallied}

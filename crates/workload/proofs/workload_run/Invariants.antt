@@ -1,6 +1,6 @@
 -- `workload::workload_run` meets its contract, by the invariant of `proofs/Tallies.antt`.
 use mathlib.Core.Path.{◌≡◌}
-use Prim.Native.Nat.{◌+◌, ◌-◌, ◌≤◌}
+use Prim.Native.Nat.{◌+◌, ◌≤◌}
 use native.Mathlib.Omega.{arith}
 use borrow.Author.Rules.{rules}
 use Rattle.workload.specs.Workload.{operation_of, tallied, none_tallied}
@@ -14,6 +14,3 @@ invariant-loop-k l = (l.k ≤ l.n + l.n)
     (record { replica = l.initial.replica; count = l.initial.count })
     (record { replica = l.replica; count = l.count })
     l.k
-
-abbrev pub decreases-loop-k : goal.decreases-loop-k
-decreases-loop-k l = l.n + l.n - l.k

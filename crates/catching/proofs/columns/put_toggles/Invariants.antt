@@ -1,5 +1,5 @@
 -- `columns::put_toggles` meets its contract. The loop's invariant: the toggles of the first i rows are put.
-use Prim.Native.Nat.{ℕ, ◌-◌, ◌≤◌}
+use Prim.Native.Nat.{ℕ, ◌≤◌}
 use native.Mathlib.Omega.{arith}
 use mathlib.Core.Path.{◌≡◌, refl, sym, ◌∙◌, subst}
 use mathlib.Core.Logic.{⊎_elim}
@@ -9,6 +9,3 @@ use Rattle.catching.proofs.columns.put_toggles.Given as goal
 
 abbrev pub invariant-loop-i : goal.invariant-loop-i
 invariant-loop-i l = (l.i ≤ l.n) × TogglesOf l.ids l.toggles l.i l.sender l.numbers l.count
-
-abbrev pub decreases-loop-i : goal.decreases-loop-i
-decreases-loop-i l = l.n - l.i

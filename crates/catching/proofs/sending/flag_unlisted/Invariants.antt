@@ -1,5 +1,5 @@
 -- `sending::flag_unlisted` meets its contract. The loop's invariant: the first i rows have their flags.
-use Prim.Native.Nat.{ℕ, ◌-◌, ◌≤◌}
+use Prim.Native.Nat.{ℕ, ◌≤◌}
 use native.Mathlib.Omega.{arith}
 use mathlib.Core.Path.{◌≡◌, refl, subst}
 use mathlib.Core.Logic.{⊎_elim}
@@ -12,6 +12,3 @@ use Rattle.catching.proofs.sending.flag_unlisted.Given as goal
 
 abbrev pub invariant-loop-i : goal.invariant-loop-i
 invariant-loop-i l = (l.i ≤ length l.ids) × FlagsUnlisted l.ids (chunks_in l.heads l.words l.count) (length l.initial.left) l.i l.left
-
-abbrev pub decreases-loop-i : goal.decreases-loop-i
-decreases-loop-i l = length l.ids - l.i

@@ -3,10 +3,10 @@ use Rattle.c_calls.specs.Inputs.{first_of}
 use borrow.Author.Rules.{rules}
 use Rattle.editing.proofs.inputs.first_of.Goals as goal
 
-pub returns-in-Done : goal.returns-in-Done
+pub returns-in-Ok : goal.returns-in-Ok
 unfolding first_of
-returns-in-Done c = rw c.in-Done.is
+returns-in-Ok c = rw c.in-Ok.is
 
-pub returns-in-Refused : goal.returns-in-Refused
+pub returns-in-Err : goal.returns-in-Err
 unfolding first_of
-returns-in-Refused c = rw c.in-Refused.is c.earlier.ensures
+returns-in-Err c = rw c.in-Err.is c.earlier.ensures

@@ -1,8 +1,8 @@
 -- `editing::sending::paste` meets its contract: the reader answers 1 and 2, and pasting what comes after.
-use mathlib.Core.Path.{refl, sym, ◌∙◌}
+use mathlib.Core.Path.{refl, sym, ◌∙◌, subst}
 use Rattle.lists.specs.Padding.{pad}
-use Rattle.lists.proofs.Padding.{pad-none}
-use Rattle.loading.proofs.Settling.{no-characters, no-pending}
+use Rattle.loading.specs.Filling.{Blank}
+use Rattle.loading.proofs.Settling.{blank}
 use Rattle.woot.specs.Memory.{in_columns}
 use Rattle.answers.specs.Answers.{decided}
 use Rattle.typing.specs.Columns.{typed_columns}
@@ -14,15 +14,8 @@ use Rattle.c_calls.proofs.Bridging.{goes_on_lem, paste_bridge, lines_bridge, lin
 use borrow.Author.Rules.{rules}
 use Rattle.editing.proofs.sending.paste.Goals as goal
 
-pub read_into-found-requires : goal.read_into-found-requires
-read_into-found-requires c =
-    record {
-      characters_value = sym no-characters;
-      toggles_value = sym (pad-none 1024 0);
-      pending_value = sym no-pending;
-      heads_len = refl;
-      links_len = refl;
-    }
+pub read_into-answer-requires : goal.read_into-answer-requires
+read_into-answer-requires c = subst Blank (sym c.empty-replica.ensures) (blank 0)
 
 pub paste_into-pasted-requires : goal.paste_into-pasted-requires
 unfolding typed_columns in_columns pad
@@ -37,17 +30,17 @@ send_lines-requires c =
       replica_value = s.2;
     }
 
-pub returns-in-Refused : goal.returns-in-Refused
+pub returns-in-Err : goal.returns-in-Err
 unfolding pasting_here turned quiet
-returns-in-Refused c =
-    leaves_by (turned-away _ _ _ (refused-reading _ c.read_into-found.ensures.answer_value _ c.in-Refused.is)) (c.number_of_refusal.ensures, refl, refl)
+returns-in-Err c =
+    leaves_by (turned-away _ _ _ (refused-reading _ c.read_into-answer.ensures.answer_value _ c.in-Err.is)) (c.number_of_refusal.ensures, refl, refl)
 
-pub returns-in-Done : goal.returns-in-Done
+pub returns-in-Ok : goal.returns-in-Ok
 unfolding pasting_here decided
-returns-in-Done c =
-    let z = c.read_into-found.ensures in
-    let told = c.in-Done.is in
+returns-in-Ok c =
+    let z = c.read_into-answer.ensures in
+    let told = c.in-Ok.is in
     let pasted = c.paste_into-pasted.ensures in
     leaves_by
-    (goes_on_lem _ _ _ (passed-reading _ z.answer_value told) ∙ paste_bridge _ _ (passed _ z.answer_value told z.links_after).1 _ _ _ _ ∙ lines_bridge _ _ _ pasted _ _)
+    (goes_on_lem _ _ _ (passed-reading _ z.answer_value told) ∙ paste_bridge _ _ (passed _ z.answer_value told z.replica_after).1 _ _ _ _ ∙ lines_bridge _ _ _ pasted _ _)
     c.send_lines.ensures

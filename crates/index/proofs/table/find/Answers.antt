@@ -1,5 +1,4 @@
 -- `index::table::find` meets its contract: a table that agrees looks up what a plain search finds.
-use borrow.Author.Rules.{rules}
 use Rattle.index.proofs.Agreement.{tabled_none, tabled_some}
 use Rattle.index.proofs.table.find.Goals as goal
 

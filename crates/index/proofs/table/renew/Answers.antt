@@ -1,6 +1,5 @@
 -- `index::table::renew` leaves the table that it is sure of, and makes any other anew.
 use native.Mathlib.Omega.{arith}
-use borrow.Author.Rules.{rules}
 use lib.Seq.{length-take-le}
 use Rattle.index.proofs.Known.{table-known}
 use Rattle.index.proofs.table.renew.Goals as goal
@@ -18,6 +17,5 @@ enter_all-requires c =
     record {
       n_in_bounds = c.requires.n_in_bounds;
       n_le_character_slots = omega (arith, t.few);
-      heads_len = t.heads;
-      links_len = t.links;
+      sized = record { heads = t.heads; links = t.links };
     }

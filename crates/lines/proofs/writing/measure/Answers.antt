@@ -1,11 +1,9 @@
 -- `lines::writing::measure` meets its contract. The loop's invariant: with the columns that are left, the end is the line's.
 use mathlib.Core.Path.{◌≡◌, sym, ap, ◌∙◌}
 use mathlib.Core.List.{List, []}
-use Prim.Native.Nat.{ℕ, ◌+◌, ◌-◌, ◌≤◌}
+use Prim.Native.Nat.{ℕ, ◌+◌, ◌≤◌}
 use native.Mathlib.Omega.{arith}
 use lib.ListN.{length, drop, get_or, drop_of_length-le}
-use borrow.Author.Rules.{rules}
-use borrow.Author.Tests.{not-true, not-false}
 use Rattle.output.proofs.Laws.{has_room_lem, lacks-room}
 use Rattle.decimal.proofs.Laws.{width-le}
 use Rattle.lines.specs.Fields.{columns, line_of}
@@ -34,49 +32,49 @@ fits c = has_room_lem _ _ _ (sym c.has_room.ensures ∙ c.if-not-has_room.false)
 pub overflow_add-end : goal.overflow_add-end
 overflow_add-end c = omega (arith, fits (goal.at.overflow_add-end c).Else-not-has_room)
 
-pub loop-i-init : goal.loop-i-init
-loop-i-init c = omega (arith, fits (goal.at.loop-i-init c).Else-not-has_room)
+pub loop-number-init : goal.loop-number-init
+loop-number-init c = omega (arith, fits (goal.at.loop-number-init c).Else-not-has_room)
 
 -- a number of 64 bits has few digits
 few : (c : After-width-count) → c.width-count.result ≤ 20
 few c =
-    let l = c.loop-i in
-    let n : ℕ = get_or c.args.numbers.now l.i 0 in
-    omega (arith, c.width-count.ensures, width-le n (omega (arith, c.type_inv.numbers l.i)))
+    let l = c.loop-number in
+    let n : ℕ = get_or c.args.numbers.now l.number-index 0 in
+    omega (arith, c.width-count.ensures, width-le n (omega (arith, c.type_inv.numbers l.number-index)))
 
 pub overflow_add-count : goal.overflow_add-count
 overflow_add-count c = omega (arith, few (goal.at.overflow_add-count c).After-width-count)
 
 pub returns-then-not-has_room-2 : goal.returns-then-not-has_room-2
 returns-then-not-has_room-2 c =
-    let l = c.loop-i in
+    let l = c.loop-number in
     let a = c.args in
-    let low = lacks-room _ _ _ (sym c.has_room-in-loop-i.ensures ∙ c.if-not-has_room-2.true) in
+    let low = lacks-room _ _ _ (sym c.has_room-in-loop-number.ensures ∙ c.if-not-has_room-2.true) in
     short _ _ (line_of a.head.now a.numbers.now)
-    (omega (arith, low, l.invariant.2, c.width-count.ensures, columns-length a.numbers.now l.i (omega arith), line_length a.head.now a.numbers.now))
+    (omega (arith, low, l.invariant.2, c.width-count.ensures, columns-length a.numbers.now l.number-index (omega arith), line_length a.head.now a.numbers.now))
 
 -- there is room for the number
 fits_2 : (c : Else-not-has_room-2)
-    → c.loop-i.end + (c.width-count.result + 1) ≤ c.args.size
-fits_2 c = has_room_lem _ _ _ (sym c.has_room-in-loop-i.ensures ∙ c.if-not-has_room-2.false)
+    → c.loop-number.end + (c.width-count.result + 1) ≤ c.args.size
+fits_2 c = has_room_lem _ _ _ (sym c.has_room-in-loop-number.ensures ∙ c.if-not-has_room-2.false)
 
-pub overflow_add-end-in-loop-i : goal.overflow_add-end-in-loop-i
-overflow_add-end-in-loop-i c = omega (arith, fits_2 (goal.at.overflow_add-end-in-loop-i c).Else-not-has_room-2)
+pub overflow_add-end-in-loop-number : goal.overflow_add-end-in-loop-number
+overflow_add-end-in-loop-number c = omega (arith, fits_2 (goal.at.overflow_add-end-in-loop-number c).Else-not-has_room-2)
 
-pub loop-i-preserved : goal.loop-i-preserved
-loop-i-preserved c =
-    let l = c.loop-i in
+pub loop-number-preserved : goal.loop-number-preserved
+loop-number-preserved c =
+    let l = c.loop-number in
     let ns = c.args.numbers.now in
-    omega (arith, fits_2 (goal.at.loop-i-preserved c).Else-not-has_room-2, c.width-count.ensures, l.invariant.2, columns-length ns l.i (omega arith))
+    omega (arith, fits_2 (goal.at.loop-number-preserved c).Else-not-has_room-2, c.width-count.ensures, l.invariant.2, columns-length ns l.number-index (omega arith))
 
 pub returns-then-end-size : goal.returns-then-end-size
 returns-then-end-size c =
-    let l = c.loop-i in
+    let l = c.loop-number in
     let a = c.args in
-    until _ _ (line_of a.head.now a.numbers.now) (ended a.head.now a.numbers.now a.at l.end l.i l.invariant.2 (omega arith)) (omega arith)
+    until _ _ (line_of a.head.now a.numbers.now) (ended a.head.now a.numbers.now a.at l.end l.number-index l.invariant.2 (omega arith)) (omega arith)
 
 pub returns : goal.returns
 returns c =
-    let l = c.loop-i in
+    let l = c.loop-number in
     let a = c.args in
-    short _ _ (line_of a.head.now a.numbers.now) (omega (arith, ended a.head.now a.numbers.now a.at l.end l.i l.invariant.2 (omega arith)))
+    short _ _ (line_of a.head.now a.numbers.now) (omega (arith, ended a.head.now a.numbers.now a.at l.end l.number-index l.invariant.2 (omega arith)))

@@ -1,21 +1,20 @@
 -- `lines::writing::put_line` meets its contract, by the invariant of `proofs/Rooms.antt`.
 use mathlib.Core.Path.{sym, ap, ◌∙◌}
-use Prim.Native.Nat.{◌+◌, ◌-◌, ◌<◌, ◌≤◌}
+use Prim.Native.Nat.{◌+◌, ◌<◌, ◌≤◌}
 use native.Mathlib.Omega.{arith}
 use lib.ListN.{length}
-use borrow.Author.Rules.{rules}
 use Rattle.output.proofs.Laws.{placed-short, past-short, length-placed}
 use Rattle.lines.specs.Fields.{columns, line_of}
 use Rattle.lines.proofs.Sizes.{line_length}
-use Rattle.lines.proofs.Rooms.{until_tells, short_tells, Putting, begun, more, last, line_put}
+use Rattle.lines.proofs.Rooms.{until_tells, short_tells, begun, more, last, line_put}
 use Rattle.lines.proofs.writing.put_line.Goals.{In_default}
 use Rattle.lines.proofs.writing.put_line.Goals as goal
 
-pub returns-in-Short : goal.returns-in-Short
-returns-in-Short c =
+pub returns-in-None : goal.returns-in-None
+returns-in-None c =
     let a = c.args in
     let line = line_of a.head.now a.numbers.now in
-    let low : length a.out.now < a.at + length line = omega (arith, short_tells _ _ line c.measure-space.ensures c.in-Short.is) in
+    let low : length a.out.now < a.at + length line = omega (arith, short_tells _ _ line c.measure-space.ensures c.in-None.is) in
     record {
       value = sym (past-short a.out.now a.at line low);
       out_after = sym (placed-short a.out.now a.at line low);
@@ -29,17 +28,17 @@ fits c =
     let line = line_of a.head.now a.numbers.now in
     omega (arith, (until_tells _ _ line c.measure-space.ensures c.in_default.is).1, line_length a.head.now a.numbers.now)
 
-pub loop-i-init : goal.loop-i-init
-loop-i-init c =
+pub loop-number-init : goal.loop-number-init
+loop-number-init c =
     let a = c.args in
     let p = c.put_all-end.ensures in
-    begun a.head.now a.numbers.now a.out.now a.at (fits (goal.at.loop-i-init c).In_default) p.0 p.1
+    begun a.head.now a.numbers.now a.out.now a.at (fits (goal.at.loop-number-init c).In_default) p.0 p.1
 
-pub loop-i-preserved : goal.loop-i-preserved
-loop-i-preserved c =
+pub loop-number-preserved : goal.loop-number-preserved
+loop-number-preserved c =
     let p = c.put-end.ensures in
     let q = c.write-end.ensures in
-    more c.loop-i.invariant c.loop-i-test.true p.0 p.1 q.0 q.1
+    more c.loop-number.invariant c.loop-number-test.true p.0 p.1 q.0 q.1
 
 pub returns : goal.returns
 unfolding line_of
@@ -48,7 +47,7 @@ returns c =
     let p = c.put_all-end.ensures in
     let q = c.put.ensures in
     let all = line_put a.head.now a.numbers.now a.out.now a.at (fits (goal.at.returns c).In_default) p.0 p.1
-    (last c.loop-i.invariant c.loop-i-test.false q.0 q.1) in
+    (last c.loop-number.invariant c.loop-number-test.false q.0 q.1) in
     record {
       value = all.0;
       out_after = all.1;

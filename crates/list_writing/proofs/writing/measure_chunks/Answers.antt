@@ -1,5 +1,4 @@
 -- `list_writing::writing::measure_chunks` meets its contract, by the invariant of the loop over lines.
-use Prim.Native.Nat.{◌-◌}
 use mathlib.Core.Path.{ap, ◌∙◌}
 use mathlib.Core.List.{List}
 use native.Mathlib.Omega.{arith}
@@ -37,16 +36,13 @@ returns-in_default c =
     measuring_short chunk_line (chunks (goal.at.returns-in_default c).Start) _ _ _ c.loop-i.invariant no_chunk h e c.in_default.is
     ∙ ap (room_for _ _) (all-chunks a.heads.now a.words.now a.n)
 
-pub loop-i-smaller : goal.loop-i-smaller
-loop-i-smaller c = omega (arith, c.loop-i-test.true)
-
 pub loop-i-preserved : goal.loop-i-preserved
 loop-i-preserved c =
     let a = c.args in
     let h = c.loop-i-test.true in
     let line = line_at a.heads.now a.words.now a.n _ h c.chunk_numbers-numbers.ensures in
     let e = c.measure-room.ensures ∙ ap (room_for _ _) line in
-    measuring_more chunk_line (chunks (goal.at.loop-i-preserved c).Start) _ _ _ c.loop-i.invariant no_chunk h e c.in-Until.is
+    measuring_more chunk_line (chunks (goal.at.loop-i-preserved c).Start) _ _ _ c.loop-i.invariant no_chunk h e c.in-Some.is
 
 pub returns : goal.returns
 returns c =

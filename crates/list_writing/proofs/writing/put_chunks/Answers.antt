@@ -1,5 +1,4 @@
 -- `list_writing::writing::put_chunks` meets its contract, by the invariant of the loop over lines.
-use Prim.Native.Nat.{◌-◌}
 use mathlib.Core.Path.{ap, ◌∙◌}
 use mathlib.Core.List.{List}
 use native.Mathlib.Omega.{arith}
@@ -31,9 +30,6 @@ bounds-heads-i c = omega (arith, c.requires.n_in_bounds, c.loop-i-test.true)
 
 pub bounds-words-i : goal.bounds-words-i
 bounds-words-i c = omega (arith, c.requires.n_in_bounds_2, c.loop-i-test.true)
-
-pub loop-i-smaller : goal.loop-i-smaller
-loop-i-smaller c = omega (arith, c.loop-i-test.true)
 
 pub loop-i-preserved : goal.loop-i-preserved
 loop-i-preserved c =

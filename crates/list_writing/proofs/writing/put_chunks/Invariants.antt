@@ -1,5 +1,4 @@
 -- `list_writing::writing::put_chunks` meets its contract, by the invariant of the loop over lines.
-use Prim.Native.Nat.{◌-◌}
 use mathlib.Core.Path.{ap, ◌∙◌}
 use mathlib.Core.List.{List}
 use native.Mathlib.Omega.{arith}
@@ -16,6 +15,3 @@ use Rattle.list_writing.proofs.writing.put_chunks.Given as goal
 
 abbrev pub invariant-loop-i : goal.invariant-loop-i
 invariant-loop-i l = Putting chunk_line (chunks_in l.heads l.words l.n) l.n l.initial.out l.at l.out l.end l.i
-
-abbrev pub decreases-loop-i : goal.decreases-loop-i
-decreases-loop-i l = l.n - l.i

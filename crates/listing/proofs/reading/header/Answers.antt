@@ -1,5 +1,4 @@
 -- `listing::reading::header` meets its contract: the verdict on the numbers is that on the line.
-use borrow.Author.Rules.{rules}
 use Rattle.listing.proofs.Steps.{header_fits, header_judged}
 use Rattle.listing.proofs.reading.header.Goals as goal
 

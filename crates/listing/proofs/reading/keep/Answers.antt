@@ -1,5 +1,4 @@
 -- `listing::reading::keep` meets its contract: where there is a slot, the chunk is behind the others.
-use borrow.Author.Rules.{rules}
 use Rattle.listing.proofs.Steps.{kept_full, kept_more}
 use Rattle.listing.proofs.reading.keep.Goals as goal
 

@@ -2,7 +2,6 @@
 use Prim.Native.Nat.{◌≤◌}
 use native.Mathlib.Omega.{arith}
 use lib.Count.{ones, ones-le}
-use borrow.Author.Rules.{rules}
 use Rattle.listing.specs.Reading.{ones_and}
 use Rattle.listing.proofs.reading.ones_and.Goals.{Start}
 use Rattle.listing.proofs.reading.ones_and.Goals as goal

@@ -1,5 +1,4 @@
 -- `listing::reading::read_chunk` meets its contract: the verdict on the numbers is that on the line.
-use borrow.Author.Rules.{rules}
 use Rattle.listing.proofs.Steps.{chunk-fits, chunk-judged}
 use Rattle.listing.proofs.reading.read_chunk.Goals as goal
 

@@ -2,12 +2,11 @@
 use mathlib.Core.Path.{ap, ◌∙◌}
 use native.Mathlib.Omega.{arith}
 use lib.ListN.{length}
-use borrow.Author.Rules.{rules}
 use borrow.Author.Tests.{not-true, not-false}
 use Rattle.lists.proofs.Tests.{clash}
 use Rattle.lines.proofs.Lines.{rest_shorter}
 use Rattle.listing.proofs.Steps.{lacking_range}
-use Rattle.listing.proofs.Summaries.{ReadLoop, read-begun, read_none, read_more, read-end, read_held}
+use Rattle.listing.proofs.Summaries.{read-begun, read_none, read_more, read-end, read_held}
 use Rattle.listing.proofs.reading.read_chunks.Goals as goal
 
 pub loop-left-init : goal.loop-left-init

@@ -3,8 +3,6 @@ use Prim.Native.Nat.{min, ◌+◌}
 use native.Mathlib.Omega.{arith}
 use mathlib.Core.Path.{◌≡◌, ap₂, ◌∙◌}
 use mathlib.Core.Bool.{Bool, true, ◌&&◌, not}
-use mathlib.Core.Logic.{⊎_elim}
-use borrow.Author.Rules.{rules}
 use Rattle.listing.specs.Reading.{with_chunk}
 use Rattle.listing.proofs.reading.with_chunk.Goals.{then-at-lt-CHUNKS, else-at-lt-CHUNKS}
 use Rattle.listing.proofs.reading.with_chunk.Goals as goal

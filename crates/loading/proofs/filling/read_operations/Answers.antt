@@ -1,69 +1,53 @@
 -- `loading::filling::read_operations` meets its contract, by the invariant of `proofs/Collecting.antt`.
+use Rattle.std.proofs.Common.{rules, ◌≡◌, [], length, get_or, ap, ◌∙◌, arith}
 use Rattle.lists.proofs.Tests.{clash}
-use Rattle.loading.proofs.Collecting.{BackLoop, back-begun, back-length, back_end, back-filled, back_none, back-lacks, back_more, pending-length}
-use mathlib.Core.Path.{◌≡◌, sym, ap, ◌∙◌}
-use mathlib.Core.List.{[]}
-use native.Mathlib.Omega.{arith}
-use lib.ListN.{length, get_or}
-use borrow.Author.Rules.{rules}
-use borrow.Author.Tests.{not-true, not-false}
 use Rattle.lines.specs.Lines.{lines}
 use Rattle.lines.proofs.Lines.{rest_shorter}
+use Rattle.woot.specs.State.{blank_operation}
 use Rattle.saved_lines.specs.Judging.{operation_read}
-use Rattle.loading.proofs.filling.read_operations.Goals.{After-read_operation-line}
+use Rattle.loading.proofs.Collecting.{lacking, Stored, stored_said, stored_blank}
+use Rattle.loading.proofs.Collecting.{back-begun, back-length, back_end, back-filled, back_none, back-lacks, back_more}
+use Rattle.loading.proofs.filling.read_operations.Goals.{After-read_operation, After-store_operation, in-Ok, in-Err-Above}
 use Rattle.loading.proofs.filling.read_operations.Goals as goal
 
 -- the first line that is left, as it is read
-line_read : (c : After-read_operation-line) →
-    c.read_operation-line.result ≡ operation_read c.args.version
-    (get_or (lines c.loop-left.left.now) 0 [])
-line_read c = c.read_operation-line.ensures ∙ ap (operation_read c.args.version) c.head.ensures
+line_read : (c : After-read_operation) → c.read_operation.result ≡ operation_read c.args.version (get_or (lines c.loop-left.left.now) 0 [])
+line_read c = c.read_operation.ensures ∙ ap (operation_read c.args.version) c.head.ensures
 
 pub loop-left-init : goal.loop-left-init
 loop-left-init c = back-begun _ _ c.requires
 
-pub shape_of-pending-then-not-line : goal.shape_of-pending-then-not-line
-shape_of-pending-then-not-line c =
-    back-length c.loop-left.invariant
-    ∙ sym (ap length c.requires ∙ pending-length [])
-
-pub returns-then-not-line : goal.returns-then-not-line
-returns-then-not-line c =
+pub returns-in-Err-Malformed : goal.returns-in-Err-Malformed
+returns-in-Err-Malformed c =
     let l = c.loop-left in
+    let r = line_read (goal.at.returns-in-Err-Malformed c).After-read_operation in
+    let e = lacking c.in-Err-Malformed.is (search rules) in
     record {
-      value = back_none l.invariant c.loop-left-test.true _ (line_read (goal.at.returns-then-not-line c).After-read_operation-line) (not-true _ c.if-not-line.true);
+      value = back_none l.invariant c.loop-left-test.true _ r e;
       pending_len = back-length l.invariant;
-      pending_after = λ laid. clash laid (back-lacks l.invariant c.loop-left-test.true _ (line_read (goal.at.returns-then-not-line c).After-read_operation-line) (not-true _ c.if-not-line.true));
+      pending_after = λ laid. clash laid (back-lacks l.invariant c.loop-left-test.true _ r e);
     }
+
+-- what is stored of the line
+stored : (c : After-store_operation)
+    → Stored c.read_operation.result blank_operation c.match-read_operation.operation c.loop-left.in_range c.match-read_operation.in_range
+stored c =
+    elim c.match-read_operation.branch [
+      | in-Ok w ↦ stored_said w.in-Ok.is w.operation-is w.in_range-is
+      | in-Err-Above w ↦ stored_blank w.in-Err-Above.is (search rules) (w.operation-is ∙ w.blank_operation-operation.ensures) w.in_range-is
+    ]
 
 pub store_operation-requires : goal.store_operation-requires
 store_operation-requires c = back-length c.loop-left.invariant
 
-pub overflow_add-count : goal.overflow_add-count
-overflow_add-count c =
-    omega (
-      arith,
-      c.loop-left.invariant.small,
-      c.loop-left-test.true,
-    )
-
 pub loop-left-smaller : goal.loop-left-smaller
-loop-left-smaller c =
-    let some = c.loop-left-test.true in
-    let l = c.loop-left.left.now in
-    omega (arith, rest_shorter l some, ap length c.rest-next.ensures)
+loop-left-smaller c = omega (arith, rest_shorter c.loop-left.left.now c.loop-left-test.true, ap length c.rest-next.ensures)
 
 pub loop-left-preserved : goal.loop-left-preserved
 loop-left-preserved c =
-    let l = c.loop-left in
-    back_more l.invariant c.loop-left-test.true _ (line_read (goal.at.loop-left-preserved c).After-read_operation-line)
-    (not-false _ c.if-not-line.false)
-    c.store_operation.ensures c.both-in_range.ensures c.rest-next.ensures
-
-pub shape_of-pending : goal.shape_of-pending
-shape_of-pending c =
-    back-length c.loop-left.invariant
-    ∙ sym (ap length c.requires ∙ pending-length [])
+    let at = (goal.at.loop-left-preserved c).After-store_operation in
+    back_more c.loop-left.invariant c.loop-left-test.true _ (line_read (goal.at.loop-left-preserved c).After-read_operation)
+    (stored at).in_layout_so (stored at) c.store_operation.ensures c.rest-next.ensures
 
 pub returns : goal.returns
 returns c =

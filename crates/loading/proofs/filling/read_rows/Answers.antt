@@ -1,11 +1,10 @@
 -- `loading::filling::read_rows` meets its contract: one slot for where the rows begin is as good as none.
 use mathlib.Core.Path.{sym}
 use Rattle.lists.proofs.Padding.{pad-none}
-use borrow.Author.Rules.{rules}
 use Rattle.loading.proofs.filling.read_rows.Goals as goal
 
-pub read_rows_at-ahead-requires : goal.read_rows_at-ahead-requires
-read_rows_at-ahead-requires c =
+pub read_rows_at-requires : goal.read_rows_at-requires
+read_rows_at-requires c =
     let z = c.requires in
     record {
       starts_value = sym (pad-none 1 0);
@@ -16,7 +15,7 @@ read_rows_at-ahead-requires c =
 
 pub returns : goal.returns
 returns c =
-    let i = c.read_rows_at-ahead.ensures in
+    let i = c.read_rows_at.ensures in
     record {
       value = i.front_value;
       places_after = i.places_after;

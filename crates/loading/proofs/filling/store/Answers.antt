@@ -5,7 +5,6 @@ use Rattle.loading.specs.Filling.{set_in}
 use mathlib.Core.Path.{refl}
 use Prim.Native.Nat.{◌+◌, ◌*◌}
 use lib.ListN.{set}
-use borrow.Author.Rules.{rules}
 use Rattle.loading.proofs.filling.store.Goals as goal
 
 pub bounds-columns-m : goal.bounds-columns-m

@@ -2,7 +2,6 @@
 use mathlib.Core.Path.{◌∙◌}
 use Rattle.loading.specs.Filling.{set_in, kept_in}
 use borrow.Author.Tests.{le-leb, lt-leb}
-use borrow.Author.Rules.{rules}
 use Rattle.loading.proofs.filling.store_operation.Goals as goal
 
 pub returns-then-i-ge-PENDING : goal.returns-then-i-ge-PENDING

@@ -1,6 +1,5 @@
 -- `loading::reading::head` is the first of the lines.
 use mathlib.Core.Path.{◌∙◌}
-use borrow.Author.Rules.{rules}
 use Rattle.lines.proofs.Lines.{head-line}
 use Rattle.loading.proofs.reading.head.Goals as goal
 

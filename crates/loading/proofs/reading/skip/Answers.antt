@@ -1,9 +1,7 @@
 -- `loading::reading::skip` meets its contract. The loop's invariant: i lines are taken off.
 use mathlib.Core.Path.{◌≡◌, refl, ap, ◌∙◌}
-use Prim.Native.Nat.{◌-◌, ◌≤◌, zero-le}
+use Prim.Native.Nat.{zero-le}
 use native.Mathlib.Omega.{arith}
-use lib.ListN.{length, drop}
-use borrow.Author.Rules.{rules}
 use Rattle.lines.specs.Lines.{lines, closed}
 use Rattle.lines.proofs.Lines.{skip-lines, skip_closed}
 use Rattle.loading.proofs.reading.skip.Goals as goal

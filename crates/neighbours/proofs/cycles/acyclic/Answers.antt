@@ -1,12 +1,10 @@
 -- `cycles::acyclic` meets its contract. The loop's invariant: so many rows are left, and every knot among them.
-use Prim.Native.Nat.{ℕ, ◌+◌, ◌≤◌, ◌<◌}
+use Prim.Native.Nat.{ℕ}
 use native.Mathlib.Omega.{arith}
-use mathlib.Core.Path.{◌≡◌, refl, ◌∙◌}
-use borrow.Author.Rules.{rules}
-use lib.ListN.{length, length-replicate}
+use mathlib.Core.Path.{refl, ◌∙◌}
+use lib.ListN.{length-replicate}
 use Rattle.lists.proofs.Tests.{clash}
-use Rattle.neighbours.specs.Steps.{remaining}
-use Rattle.neighbours.proofs.Passing.{remaining-first, AllSpared, spared_first, none_left, some_stuck, taken-few}
+use Rattle.neighbours.proofs.Passing.{remaining-first, spared_first, none_left, some_stuck, taken-few}
 use Rattle.neighbours.proofs.cycles.acyclic.Goals as goal
 
 pub loop-left-init : goal.loop-left-init

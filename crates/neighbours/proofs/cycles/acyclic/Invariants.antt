@@ -1,12 +1,8 @@
 -- `cycles::acyclic` meets its contract. The loop's invariant: so many rows are left, and every knot among them.
-use Prim.Native.Nat.{ℕ, ◌+◌, ◌≤◌, ◌<◌}
-use native.Mathlib.Omega.{arith}
-use mathlib.Core.Path.{◌≡◌, refl, ◌∙◌}
-use borrow.Author.Rules.{rules}
-use lib.ListN.{length, length-replicate}
-use Rattle.lists.proofs.Tests.{clash}
+use mathlib.Core.Path.{◌≡◌}
+use lib.ListN.{length}
 use Rattle.neighbours.specs.Steps.{remaining}
-use Rattle.neighbours.proofs.Passing.{remaining-first, AllSpared, spared_first, none_left, some_stuck, taken-few}
+use Rattle.neighbours.proofs.Passing.{AllSpared}
 use Rattle.neighbours.proofs.cycles.acyclic.Given as goal
 
 abbrev pub invariant-loop-left : goal.invariant-loop-left

@@ -1,11 +1,9 @@
 -- `cycles::pass_down` meets its contract. The loop's invariant: the rows above row k were seen.
-use Prim.Native.Nat.{ℕ, ◌+◌, ◌-◌, ◌≤◌, ◌<◌}
+use Prim.Native.Nat.{ℕ, ◌+◌, ◌≤◌, ◌<◌}
 use native.Mathlib.Omega.{arith}
 use mathlib.Core.Path.{◌≡◌}
 use mathlib.Core.Logic.{◌⊎◌, inl, inr, ⊎_elim}
-use borrow.Author.Rules.{rules}
 use Rattle.lists.proofs.Tests.{side}
-use Rattle.neighbours.specs.Steps.{Passed}
 use Rattle.neighbours.proofs.Passing.{begun, joined, seen, remaining-few}
 use Rattle.neighbours.proofs.cycles.pass_down.Goals as goal
 
@@ -13,7 +11,7 @@ one_more : (k j : ℕ) → j < k + 1 → (j < k) ⊎ (j ≡ k)
 one_more k j h = ⊎_elim (λ l. inr (omega (arith, l, h))) (λ l. inl l) (side k j)
 
 pub loop-k-init : goal.loop-k-init
-loop-k-init c = (omega arith, begun _ _ _ _ (λ j. j < 0) (λ j h. omega (arith, h)))
+loop-k-init c = begun _ _ _ _ (λ j. j < 0) (λ j h. omega (arith, h))
 
 pub take_free-taken-requires : goal.take_free-taken-requires
 take_free-taken-requires c =
@@ -22,7 +20,7 @@ take_free-taken-requires c =
       k_lt_n = omega arith;
       n_in_bounds = c.requires.n_in_bounds;
       n_in_bounds_2 = c.requires.n_in_bounds_2;
-      n_in_bounds_3 = omega (arith, l.invariant.1.size, c.requires.n_in_bounds_3);
+      n_in_bounds_3 = omega (arith, l.invariant.size, c.requires.n_in_bounds_3);
     }
 
 pub overflow_add-taken : goal.overflow_add-taken
@@ -31,7 +29,7 @@ overflow_add-taken c =
     let a = c.args in
     omega (
       arith,
-      l.invariant.1.counted,
+      l.invariant.counted,
       c.take_free-taken.ensures.counted,
       remaining-few a.flags.now a.n,
     )
@@ -39,14 +37,14 @@ overflow_add-taken c =
 pub loop-k-preserved : goal.loop-k-preserved
 loop-k-preserved c =
     let l = c.loop-k in
-    (omega arith, joined _ _ _ l.invariant.1 c.take_free-taken.ensures (one_more l.k))
+    joined _ _ _ l.invariant c.take_free-taken.ensures (one_more l.k)
 
 pub shape_of-flags : goal.shape_of-flags
-shape_of-flags c = c.loop-k.invariant.1.size
+shape_of-flags c = c.loop-k.invariant.size
 
 pub returns : goal.returns
 returns c =
     let l = c.loop-k in
     let a = c.args in
     let done : a.n ≤ l.k = omega arith in
-    seen _ _ _ (λ j h. omega (arith, h, done)) l.invariant.1
+    seen _ _ _ (λ j h. omega (arith, h, done)) l.invariant

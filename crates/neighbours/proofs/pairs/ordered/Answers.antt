@@ -1,10 +1,9 @@
 -- `pairs::ordered` meets its contract. The loop's invariant: no row above row k is out of order with one above it.
-use Prim.Native.Nat.{ℕ, ◌-◌, ◌≤◌}
+use Prim.Native.Nat.{ℕ}
 use native.Mathlib.Omega.{arith}
 use mathlib.Core.Path.{◌≡◌, refl, sym, ap, ◌∙◌}
-use mathlib.Core.Bool.{Bool, true}
+use mathlib.Core.Bool.{Bool}
 use mathlib.Core.List.{List}
-use borrow.Author.Rules.{rules}
 use lib.ListN.{length, get_or}
 use Rattle.lists.specs.Lists.{throughout}
 use Rattle.lists.proofs.Tests.{failed, passed}
@@ -19,7 +18,7 @@ read : (ids above below : List ℕ) (k : ℕ) {p : ℕ} {b : Bool} → p ≡ get
 read ids above below k e f = f ∙ ap (λ (p : ℕ). throughout (pair_at ids below p k) k) e
 
 pub loop-k-init : goal.loop-k-init
-loop-k-init c = (omega arith, refl)
+loop-k-init c = refl
 
 row : (c : After-row_ordered)
     → let a = c.args in
@@ -40,14 +39,12 @@ returns-then-not-row_ordered c =
 pub loop-k-preserved : goal.loop-k-preserved
 loop-k-preserved c =
     let a = c.args in
-    let l = c.loop-k in (
-      omega arith,
-      throughout-more (row_at a.ids.now a.above.now a.below.now) l.k l.invariant.1
-          (passed (row (goal.at.loop-k-preserved c).After-row_ordered) c.if-not-row_ordered.false-raw),
-    )
+    let l = c.loop-k in
+    throughout-more (row_at a.ids.now a.above.now a.below.now) l.k l.invariant
+    (passed (row (goal.at.loop-k-preserved c).After-row_ordered) c.if-not-row_ordered.false-raw)
 
 pub returns : goal.returns
 returns c =
     let l = c.loop-k in
     let done : l.k ≡ length c.args.ids.now = omega arith in
-    sym (rw (← done) l.invariant.1)
+    sym (rw (← done) l.invariant)

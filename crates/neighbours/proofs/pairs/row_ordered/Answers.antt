@@ -1,19 +1,17 @@
 -- `pairs::row_ordered` meets its contract. The loop's invariant: no row above row j is out of order with row k.
-use Prim.Native.Nat.{ℕ, ◌+◌, ◌-◌, ◌≤◌, ◌<◌}
+use Prim.Native.Nat.{ℕ, ◌+◌, ◌≤◌, ◌<◌}
 use native.Mathlib.Omega.{arith}
 use mathlib.Core.Path.{◌≡◌, sym, ap, ◌∙◌}
-use mathlib.Core.Bool.{Bool, true, false, ◌&&◌, ◌||◌, not, and-false as and_no}
+use mathlib.Core.Bool.{Bool, true, false, ◌&&◌, not, and-false as and_no}
 use mathlib.Core.List.{List}
-use mathlib.Core.Logic.{⊎_elim}
-use borrow.Author.Rules.{rules}
 use borrow.Author.Tests.{lt-ltb, le-ltb}
 use lib.Dec.{ltb}
 use lib.ListN.{get_or}
 use Rattle.lists.specs.Lists.{throughout}
-use Rattle.lists.proofs.Tests.{and_intro, or_left, or_right, or-false, not-intro}
+use Rattle.lists.proofs.Tests.{and_intro, or_left, or_right, or-false}
 use Rattle.lists.proofs.Throughout.{throughout-more, throughout-fails, throughout-at, throughout-all}
 use Rattle.neighbours.specs.Steps.{pair_at}
-use Rattle.neighbours.proofs.pairs.row_ordered.Goals.{then-k-place+else-key-ids, else-k-place}
+use Rattle.neighbours.proofs.pairs.row_ordered.Goals.{else-k-place-via-then-k-place+else-key-ids, else-k-place-via-else-k-place}
 use Rattle.neighbours.proofs.pairs.row_ordered.Goals as goal
 
 module _ (ids below : List ℕ) (p k : ℕ) where
@@ -52,32 +50,30 @@ module _ (ids below : List ℕ) (p k : ℕ) where
 pub loop-j-init : goal.loop-j-init
 loop-j-init c =
     let a = c.args in
-    (omega arith, outside a.ids.now a.below.now a.above a.k a.above (omega arith))
+    outside a.ids.now a.below.now a.above a.k a.above (omega arith)
 
 pub returns-then-key-ids : goal.returns-then-key-ids
 returns-then-key-ids c =
     let a = c.args in
     let l = c.loop-j in
     sym (throughout-fails (pair_at a.ids.now a.below.now a.above a.k) a.k l.j (omega arith)
-    (wrong a.ids.now a.below.now a.above a.k l.j l.invariant.0
+    (wrong a.ids.now a.below.now a.above a.k l.j (omega arith)
     c.place.ensures c.if-k-place.true c.if-key-ids.true))
 
 pub loop-j-preserved : goal.loop-j-preserved
 loop-j-preserved c =
     let a = c.args in
     let l = c.loop-j in
-    let p = c.place.ensures in (
-      omega arith,
-      throughout-more (pair_at a.ids.now a.below.now a.above a.k) l.j l.invariant.1
-          (elim c.if-k-place.branch [
-            | then-k-place+else-key-ids w ↦ right_key a.ids.now a.below.now a.above a.k l.j w.if-key-ids.false
-            | else-k-place w ↦ right-place a.ids.now a.below.now a.above a.k l.j p w.if-k-place.false
-          ]),
-    )
+    let p = c.place.ensures in
+    throughout-more (pair_at a.ids.now a.below.now a.above a.k) l.j l.invariant
+    (elim c.else-k-place.branch [
+      | else-k-place-via-then-k-place+else-key-ids w ↦ right_key a.ids.now a.below.now a.above a.k l.j w.if-key-ids.false
+      | else-k-place-via-else-k-place w ↦ right-place a.ids.now a.below.now a.above a.k l.j p w.if-k-place.false
+    ])
 
 pub returns : goal.returns
 returns c =
     let a = c.args in
     let l = c.loop-j in
     let t = pair_at a.ids.now a.below.now a.above a.k in
-    sym (throughout-all t a.k (λ i h. throughout-at t l.j i (omega arith) l.invariant.1))
+    sym (throughout-all t a.k (λ i h. throughout-at t l.j i (omega arith) l.invariant))

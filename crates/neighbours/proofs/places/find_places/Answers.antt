@@ -1,10 +1,9 @@
 -- `places::find_places` meets its contract. The loop's invariant: the first i places are found.
-use Prim.Native.Nat.{ℕ, ◌+◌, ◌-◌, ◌≤◌, ◌<◌}
+use Prim.Native.Nat.{ℕ, ◌+◌, ◌≤◌, ◌<◌}
 use native.Mathlib.Omega.{arith}
-use mathlib.Core.Path.{◌≡◌, refl, sym, ap, ◌∙◌, subst}
+use mathlib.Core.Path.{◌≡◌, refl, ◌∙◌, subst}
 use mathlib.Core.List.{List}
 use mathlib.Core.Logic.{⊎_elim}
-use borrow.Author.Rules.{rules}
 use lib.ListN.{length, get_or, set, length-set}
 use lib.Seq.{get_or-set_same, get_or-set_other}
 use Rattle.lists.proofs.Tests.{side}
@@ -28,7 +27,7 @@ found-more ids keys places i p h e f j l = ⊎_elim here before (side i j)
     before g = get_or-set_other places i j p 0 (λ q. omega (arith, q, g)) ∙ f j g
 
 pub loop-i-init : goal.loop-i-init
-loop-i-init c = (omega arith, refl, (λ j h. absurd (omega (arith, h))))
+loop-i-init c = (refl, (λ j h. absurd (omega (arith, h))))
 
 pub overflow_add-i : goal.overflow_add-i
 overflow_add-i c = omega (arith, c.requires.tabled.few, c.requires.past_bound)
@@ -53,24 +52,23 @@ overflow_cast-places c =
 pub bounds-places-i : goal.bounds-places-i
 bounds-places-i c =
     let l = c.loop-i in
-    omega (arith, l.invariant.1, c.requires.ids_in_bounds_2)
+    omega (arith, l.invariant.0, c.requires.ids_in_bounds_2)
 
 pub loop-i-preserved : goal.loop-i-preserved
 loop-i-preserved c =
     let l = c.loop-i in (
-      omega arith,
-      length-set l.places l.i c.place_near-at.result ∙ l.invariant.1,
+      length-set l.places l.i c.place_near-at.result ∙ l.invariant.0,
       found-more c.args.ids.now c.args.keys.now l.places l.i c.place_near-at.result
-          (omega (arith, l.invariant.1, c.requires.ids_in_bounds_2)) c.place_near-at.ensures l.invariant.2,
+          (omega (arith, l.invariant.0, c.requires.ids_in_bounds_2)) c.place_near-at.ensures l.invariant.1,
     )
 
 pub shape_of-places : goal.shape_of-places
-shape_of-places c = c.loop-i.invariant.1
+shape_of-places c = c.loop-i.invariant.0
 
 pub returns : goal.returns
 returns c =
     let l = c.loop-i in
     record {
-      places_len_unchanged = l.invariant.1;
-      placed = record { at = λ i h. l.invariant.2 i (omega arith) };
+      places_len_unchanged = l.invariant.0;
+      placed = record { at = λ i h. l.invariant.1 i (omega arith) };
     }

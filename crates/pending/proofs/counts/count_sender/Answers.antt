@@ -1,16 +1,11 @@
--- `effects::counting::count_sender` meets its contract. The loop's invariant: the count, with what is left to count, is all.
+-- `counts::count_sender` meets its contract. The loop's invariant: the count, with what is left to count, is all.
 use native.Mathlib.Omega.{arith}
-use borrow.Author.Rules.{rules}
-use mathlib.Core.Path.{◌≡◌}
-use mathlib.Core.Logic.{⊎_elim}
-use Prim.Native.Nat.{◌+◌, ◌-◌, ◌≤◌, min}
-use lib.ListN.{length}
-use Rattle.pending.proofs.Searches.{sent_left, sent-counted, sent-passed, sent-none}
+use Rattle.pending.proofs.Searches.{sent-counted, sent-passed, sent-none}
 use Rattle.pending.proofs.counts.count_sender.Goals.{then-sender_of-sender, else-sender_of-sender}
 use Rattle.pending.proofs.counts.count_sender.Goals as goal
 
 pub loop-i-init : goal.loop-i-init
-loop-i-init c = (omega arith, c.lesser-end.ensures, omega arith, omega arith)
+loop-i-init c = (omega arith, omega arith)
 
 pub loop-i-preserved : goal.loop-i-preserved
 loop-i-preserved c =
@@ -20,14 +15,10 @@ loop-i-preserved c =
     elim c.if-sender_of-sender.branch [
       | then-sender_of-sender w ↦ (
         omega arith,
-        l.invariant.1,
-        omega arith,
         omega
             (arith, sent-counted a.own.now a.values.now l.i _ a.sender (omega arith) (omega arith) e (omega (arith, w.if-sender_of-sender.true))),
       )
       | else-sender_of-sender w ↦ (
-        omega arith,
-        l.invariant.1,
         omega arith,
         omega
             (arith, sent-passed a.own.now a.values.now l.i _ a.sender (omega arith) (omega arith) e (λ h. omega (arith, w.if-sender_of-sender.false, h))),

@@ -1,7 +1,6 @@
 -- `effects::counting::sender_full` counts among the operations that are in use.
 use native.Mathlib.Omega.{arith}
 use lib.ListN.{length-take}
-use borrow.Author.Rules.{rules}
 use Rattle.pending.proofs.counts.sender_full.Goals as goal
 
 pub slice_bounds-count_sender-end : goal.slice_bounds-count_sender-end

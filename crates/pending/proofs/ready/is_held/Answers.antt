@@ -1,6 +1,5 @@
 -- `ready::is_held` compares the key's place with that of the end mark.
 use native.Mathlib.Numerals.{add-one}
-use borrow.Author.Rules.{rules}
 use Rattle.pending.specs.Ready.{held_in}
 use Rattle.pending.proofs.ready.is_held.Goals as goal
 

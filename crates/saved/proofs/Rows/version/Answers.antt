@@ -1,5 +1,4 @@
 -- `saved::Rows::version` meets its contract, kind by kind.
-use borrow.Author.Rules.{rules}
 use Rattle.saved.specs.Rows.{version_of}
 use Rattle.saved.proofs.Rows.version.Goals as goal
 

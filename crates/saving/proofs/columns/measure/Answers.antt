@@ -52,21 +52,13 @@ returns-in_default c =
     c.in_default.is
     ∙ ap (room_for c.args.size c.args.at) (whole (goal.at.returns-in_default c).Start)
 
-pub overflow_add-i : goal.overflow_add-i
-overflow_add-i c =
-    let l = c.loop-i in
-    omega (arith, l.invariant.0, c.loop-i-test.true)
-
-pub loop-i-smaller : goal.loop-i-smaller
-loop-i-smaller c = omega (arith, c.loop-i-test.true)
-
 pub loop-i-preserved : goal.loop-i-preserved
 loop-i-preserved c =
     let l = c.loop-i in
     let e = c.measure-room.ensures ∙ ap (room_for c.args.size l.end) c.line-line.ensures.result_value in (
       l.invariant.0,
       measuring_more (λ l. l) (lines (goal.at.loop-i-preserved c).Start) _ c.args.size c.args.at l.invariant.1 []
-          c.loop-i-test.true e c.in-Until.is,
+          c.loop-i-test.true e c.in-Some.is,
     )
 
 pub returns : goal.returns

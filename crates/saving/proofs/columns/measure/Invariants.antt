@@ -14,6 +14,3 @@ use Rattle.saving.proofs.columns.measure.Given as goal
 
 abbrev pub invariant-loop-i : goal.invariant-loop-i
 invariant-loop-i l = (l.all ≤ 18446744073709551615) × Measuring (λ l. l) (lines_as l.rows (lists_of l.places l.characters l.toggles l.n l.pending l.slots l.w)) l.all l.size l.at l.end l.i
-
-abbrev pub decreases-loop-i : goal.decreases-loop-i
-decreases-loop-i l = l.all - l.i

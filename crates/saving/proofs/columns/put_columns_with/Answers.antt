@@ -44,13 +44,13 @@ measure-room-requires c =
     record {
       has_slots = c.requires;
       at_le_size = front_fits (front (goal.at.measure-room-requires c).Start) (body (goal.at.measure-room-requires c).Start) (bytes (goal.at.measure-room-requires c).Start) c.args.out.now (whole (goal.at.measure-room-requires c).Start) (rw c.version-version.ensures at c.measure_site_with-front.ensures)
-          c.in-Until.is;
+          c.in-Some.is;
     }
 
 pub returns-in_default-room : goal.returns-in_default-room
 returns-in_default-room c =
     let all = body-short (front (goal.at.returns-in_default-room c).Start) (body (goal.at.returns-in_default-room c).Start) (bytes (goal.at.returns-in_default-room c).Start) c.args.out.now (whole (goal.at.returns-in_default-room c).Start) (rw c.version-version.ensures at c.measure_site_with-front.ensures)
-    c.in-Until.is c.measure-room.ensures c.in_default-room.is in
+    c.in-Some.is c.measure-room.ensures c.in_default-room.is in
     record {
       value = all.0;
       out_after = all.1;
@@ -61,14 +61,14 @@ put_lines-requires c =
     record {
       has_slots = c.requires;
       w_in_bounds = body-room (front (goal.at.put_lines-requires c).Start) (body (goal.at.put_lines-requires c).Start) (bytes (goal.at.put_lines-requires c).Start) c.args.out.now (whole (goal.at.put_lines-requires c).Start) (rw c.version-version.ensures at c.measure_site_with-front.ensures)
-          c.in-Until.is c.measure-room.ensures c.in-Until-room.is
+          c.in-Some.is c.measure-room.ensures c.in-Some-room.is
           (rw c.version-version.ensures at c.put_site_with-at.ensures.value, rw c.version-version.ensures at c.put_site_with-at.ensures.out_after);
     }
 
 pub returns : goal.returns
 returns c =
     let all = body-put (front (goal.at.returns c).Start) (body (goal.at.returns c).Start) (bytes (goal.at.returns c).Start) c.args.out.now (whole (goal.at.returns c).Start) (rw c.version-version.ensures at c.measure_site_with-front.ensures)
-    c.in-Until.is c.measure-room.ensures c.in-Until-room.is
+    c.in-Some.is c.measure-room.ensures c.in-Some-room.is
     (rw c.version-version.ensures at c.put_site_with-at.ensures.value, rw c.version-version.ensures at c.put_site_with-at.ensures.out_after) c.put_lines.ensures in
     record {
       value = all.0;

@@ -45,14 +45,6 @@ line-line-requires c =
 pub put_numbered-end-requires : goal.put_numbered-end-requires
 put_numbered-end-requires c = c.line-line.ensures.count_bound
 
-pub overflow_add-i : goal.overflow_add-i
-overflow_add-i c =
-    let l = c.loop-i in
-    omega (arith, l.invariant.0, c.loop-i-test.true)
-
-pub loop-i-smaller : goal.loop-i-smaller
-loop-i-smaller c = omega (arith, c.loop-i-test.true)
-
 pub loop-i-preserved : goal.loop-i-preserved
 loop-i-preserved c =
     let l = c.loop-i in

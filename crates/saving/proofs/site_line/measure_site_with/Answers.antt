@@ -1,20 +1,11 @@
--- `saving::site_line::measure_site_with` meets its contract, form by form.
-use mathlib.Core.Path.{ap, ◌∙◌}
+-- `saving::site_line::measure_site_with` meets its contract: the head word is the form's, and the numbers the site's.
+use mathlib.Core.Path.{◌∙◌}
 use Rattle.lines.specs.Fields.{line_of}
 use Rattle.lines.specs.Room.{room_for}
-use Rattle.saved.specs.declared.Version.TheVariants.{First, Second}
-use Rattle.saved.specs.Format.{site_head, site_line}
-use borrow.Author.Rules.{rules}
+use Rattle.saved.specs.Format.{site_line}
 use Rattle.saving.proofs.site_line.measure_site_with.Goals as goal
 
-pub returns-in-First : goal.returns-in-First
+pub returns : goal.returns
 unfolding site_line
-returns-in-First c =
-    rw c.in-First.is
-    (c.measure.ensures ∙ ap (room_for _ _) (ap (line_of (site_head First)) c.site_numbers_with-numbers.ensures))
-
-pub returns-in-Second : goal.returns-in-Second
-unfolding site_line
-returns-in-Second c =
-    rw c.in-Second.is
-    (c.measure-in-Second.ensures ∙ ap (room_for _ _) (ap (line_of (site_head Second)) c.site_numbers_with-numbers.ensures))
+returns c =
+    c.measure.ensures ∙ λ j. room_for c.args.size 0 (line_of (c.site_head.ensures j) (c.site_numbers_with-numbers.ensures j))

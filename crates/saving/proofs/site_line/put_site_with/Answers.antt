@@ -1,28 +1,15 @@
--- `saving::site_line::put_site_with` meets its contract, form by form.
-use mathlib.Core.Path.{ap, ◌∙◌}
+-- `saving::site_line::put_site_with` meets its contract: the head word is the form's, and the numbers the site's.
+use mathlib.Core.Path.{◌∙◌}
 use Rattle.output.specs.Output.{placed, past}
 use Rattle.lines.specs.Fields.{line_of}
-use Rattle.saved.specs.declared.Version.TheVariants.{First, Second}
-use Rattle.saved.specs.Format.{site_head, site_line}
-use borrow.Author.Rules.{rules}
+use Rattle.saved.specs.Format.{site_line}
 use Rattle.saving.proofs.site_line.put_site_with.Goals as goal
 
-pub returns-in-First : goal.returns-in-First
+pub returns : goal.returns
 unfolding site_line
-returns-in-First c =
+returns c =
     let p = c.put_line.ensures in
-    let e = ap (line_of (site_head First)) c.site_numbers_with-numbers.ensures in
     record {
-      value = rw c.in-First.is (p.value ∙ ap (past _ _) e);
-      out_after = rw c.in-First.is (p.out_after ∙ ap (placed _ _) e);
-    }
-
-pub returns-in-Second : goal.returns-in-Second
-unfolding site_line
-returns-in-Second c =
-    let p = c.put_line-in-Second.ensures in
-    let e = ap (line_of (site_head Second)) c.site_numbers_with-numbers.ensures in
-    record {
-      value = rw c.in-Second.is (p.value ∙ ap (past _ _) e);
-      out_after = rw c.in-Second.is (p.out_after ∙ ap (placed _ _) e);
+      value = p.value ∙ λ j. past c.args.out.now 0 (line_of (c.site_head.ensures j) (c.site_numbers_with-numbers.ensures j));
+      out_after = p.out_after ∙ λ j. placed c.args.out.now 0 (line_of (c.site_head.ensures j) (c.site_numbers_with-numbers.ensures j));
     }

@@ -1,14 +1,11 @@
 -- `serving::exchange::first_beside` meets its contract, variant by variant.
 use Rattle.c_calls.specs.Inputs.{first_beside}
-use borrow.Author.Rules.{rules}
 use Rattle.serving.proofs.exchange.first_beside.Goals as goal
 
-pub returns-in-Done : goal.returns-in-Done
+pub returns-in-Ok : goal.returns-in-Ok
 unfolding first_beside
-returns-in-Done c = rw (← c.judge-judged.ensures, c.in-Done.is)
+returns-in-Ok c = rw (← c.in-Ok.ensures)
 
-pub returns-in-Refused : goal.returns-in-Refused
+pub returns-in-Err : goal.returns-in-Err
 unfolding first_beside
-returns-in-Refused c =
-    rw (← c.judge-judged.ensures, c.in-Refused.is)
-    c.earlier.ensures
+returns-in-Err c = rw (← c.in-Err.ensures) c.earlier.ensures

@@ -1,25 +1,22 @@
 -- `clock::reaches_all` meets its contract: the flag says of the first i keys whether each is reached.
 use native.Mathlib.Omega.{arith}
-use borrow.Author.Rules.{rules}
-use Prim.Native.Nat.{◌-◌, ◌≤◌}
 use native.Mathlib.Numerals.{add-one}
 use mathlib.Core.Path.{◌≡◌, refl, sym, ◌∙◌}
-use Rattle.lists.specs.Lists.{throughout}
-use Rattle.lists.proofs.Indices.{element_at, every-prefix}
+use Rattle.lists.proofs.Indices.{every-prefix}
 use Rattle.well_formed.specs.Form.{reaches_key}
 use Rattle.well_formed.proofs.clock.reaches_all.Goals as goal
 
 pub loop-i-init : goal.loop-i-init
-loop-i-init c = (omega arith, refl)
+loop-i-init c = refl
 
 pub loop-i-preserved : goal.loop-i-preserved
 loop-i-preserved c =
     let l = c.loop-i in
-    (omega arith, c.both-kept.ensures ∙ rw (l.invariant.1, c.reaches.ensures, add-one l.i))
+    rw (l.invariant, c.reaches-kept.ensures, add-one l.i)
 
 pub returns : goal.returns
 returns c =
     let a = c.args in
     let l = c.loop-i in
     let all : l.i ≡ a.n = omega arith in
-    l.invariant.1 ∙ rw all (sym (every-prefix (reaches_key a.site) a.keys.now 0 a.n (omega arith)))
+    l.invariant ∙ rw all (sym (every-prefix (reaches_key a.site) a.keys.now 0 a.n (omega arith)))

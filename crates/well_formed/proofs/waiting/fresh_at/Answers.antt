@@ -1,5 +1,4 @@
 -- `waiting::fresh_at` meets its contract.
-use borrow.Author.Rules.{rules}
 use native.Mathlib.Omega.{arith}
 use mathlib.Core.Path.{ap}
 use mathlib.Core.Bool.{not}
@@ -15,12 +14,12 @@ returns-then-own-j-ne0 c = rw (ne_eqb _ 0 c.if-own-j-ne0.true)
 pub slice_bounds-has_toggle-end : goal.slice_bounds-has_toggle-end
 slice_bounds-has_toggle-end c = simp length-take (omega arith)
 
-pub slice_bounds-has_toggle-end-2 : goal.slice_bounds-has_toggle-end-2
-slice_bounds-has_toggle-end-2 c = simp length-take (omega arith)
+pub slice_bounds-has_toggle-end-else-own-j-ne0 : goal.slice_bounds-has_toggle-end-else-own-j-ne0
+slice_bounds-has_toggle-end-else-own-j-ne0 c = simp length-take (omega arith)
 
-pub slice_bounds-has_toggle-end-3 : goal.slice_bounds-has_toggle-end-3
-slice_bounds-has_toggle-end-3 c = simp length-take (omega arith)
+pub slice_bounds-has_toggle-end-else-own-j-ne0-2 : goal.slice_bounds-has_toggle-end-else-own-j-ne0-2
+slice_bounds-has_toggle-end-else-own-j-ne0-2 c = simp length-take (omega arith)
 
-pub returns : goal.returns
+pub returns-else-own-j-ne0 : goal.returns-else-own-j-ne0
 unfolding fresh_at
-returns c = rw (eq-eqb _ 0 c.if-own-j-ne0.false) (ap not c.has_toggle.ensures)
+returns-else-own-j-ne0 c = rw (eq-eqb _ 0 c.if-own-j-ne0.false) (ap not c.has_toggle.ensures)

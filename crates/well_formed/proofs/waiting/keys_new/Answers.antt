@@ -1,14 +1,12 @@
 -- `waiting::keys_new` meets its contract. The loop's invariant: the first j keys are new.
-use Prim.Native.Nat.{ℕ, ◌-◌, ◌≤◌}
+use Prim.Native.Nat.{ℕ}
 use native.Mathlib.Omega.{arith}
 use mathlib.Core.Path.{◌≡◌, refl, sym}
-use mathlib.Core.Bool.{Bool, true, ◌&&◌}
+use mathlib.Core.Bool.{Bool, ◌&&◌}
 use mathlib.Core.List.{List}
 use lib.ListN.{length, take, get_or, length-take}
-use borrow.Author.Rules.{rules}
 use Rattle.lists.proofs.Tests.{failed, passed}
 use Rattle.well_formed.specs.PendingForm.{unheld_key, free_at}
-use Rattle.lists.specs.Lists.{throughout}
 use Rattle.lists.proofs.Throughout.{throughout-more, throughout-fails}
 use Rattle.well_formed.proofs.waiting.keys_new.Goals as goal
 
@@ -17,7 +15,7 @@ unfolding free_at
 reading ids own j e f = λ i. e i && f i
 
 pub loop-j-init : goal.loop-j-init
-loop-j-init c = (omega arith, refl)
+loop-j-init c = refl
 
 pub unheld-requires : goal.unheld-requires
 unheld-requires c = c.requires
@@ -43,15 +41,13 @@ returns-then-not-unseen c =
 pub loop-j-preserved : goal.loop-j-preserved
 loop-j-preserved c =
     let a = c.args in
-    let l = c.loop-j in (
-      omega arith,
-      throughout-more (free_at a.ids.now a.own.now) l.j l.invariant.1
-          (reading _ _ _ (passed c.unheld.ensures c.if-not-unheld.false-raw)
-          (passed c.unseen.ensures c.if-not-unseen.false-raw)),
-    )
+    let l = c.loop-j in
+    throughout-more (free_at a.ids.now a.own.now) l.j l.invariant
+    (reading _ _ _ (passed c.unheld.ensures c.if-not-unheld.false-raw)
+    (passed c.unseen.ensures c.if-not-unseen.false-raw))
 
 pub returns : goal.returns
 returns c =
     let l = c.loop-j in
     let done : l.j ≡ length c.args.own.now = omega arith in
-    sym (rw (← done) l.invariant.1)
+    sym (rw (← done) l.invariant)

@@ -1,14 +1,13 @@
 -- `waiting::none_ready` asks whether the search for one that is ready found nothing.
 use mathlib.Core.Path.{ap, sym, ◌∙◌}
-use borrow.Author.Rules.{rules}
 use Rattle.well_formed.specs.PendingForm.{nothing}
 use Rattle.well_formed.proofs.waiting.none_ready.Goals as goal
 
-pub ready-found-requires : goal.ready-found-requires
-ready-found-requires c = c.requires.tabled
+pub ready-requires : goal.ready-requires
+ready-requires c = c.requires.tabled
 
-pub returns-in-At : goal.returns-in-At
-returns-in-At c = sym (ap nothing (sym c.ready-found.ensures ∙ c.in-At.is))
+pub returns-in-Some : goal.returns-in-Some
+returns-in-Some c = sym (ap nothing (sym c.ready.ensures ∙ c.in-Some.is))
 
-pub returns-in-Nothing : goal.returns-in-Nothing
-returns-in-Nothing c = sym (ap nothing (sym c.ready-found.ensures ∙ c.in-Nothing.is))
+pub returns-in-None : goal.returns-in-None
+returns-in-None c = sym (ap nothing (sym c.ready.ensures ∙ c.in-None.is))

@@ -1,18 +1,14 @@
 -- `waiting::none_repeated` meets its contract. The loop's invariant: none of the first j operations repeats an earlier one.
-use Prim.Native.Nat.{◌-◌, ◌≤◌}
 use native.Mathlib.Omega.{arith}
 use mathlib.Core.Path.{◌≡◌, refl, sym}
-use mathlib.Core.Bool.{true}
 use lib.ListN.{length}
-use borrow.Author.Rules.{rules}
 use Rattle.lists.proofs.Tests.{failed, passed}
 use Rattle.well_formed.specs.PendingForm.{fresh_at}
-use Rattle.lists.specs.Lists.{throughout}
 use Rattle.lists.proofs.Throughout.{throughout-more, throughout-fails}
 use Rattle.well_formed.proofs.waiting.none_repeated.Goals as goal
 
 pub loop-j-init : goal.loop-j-init
-loop-j-init c = (omega arith, refl)
+loop-j-init c = refl
 
 pub returns-then-not-fresh_at : goal.returns-then-not-fresh_at
 returns-then-not-fresh_at c =
@@ -26,10 +22,10 @@ loop-j-preserved c =
     let a = c.args in
     let l = c.loop-j in
     let test = fresh_at a.own.now a.first.now a.values.now in
-    (omega arith, throughout-more test l.j l.invariant.1 (passed {u = test l.j} c.fresh_at.ensures c.if-not-fresh_at.false-raw))
+    throughout-more test l.j l.invariant (passed {u = test l.j} c.fresh_at.ensures c.if-not-fresh_at.false-raw)
 
 pub returns : goal.returns
 returns c =
     let l = c.loop-j in
     let done : l.j ≡ length c.args.own.now = omega arith in
-    sym (rw (← done) l.invariant.1)
+    sym (rw (← done) l.invariant)
