@@ -522,7 +522,7 @@ extern "C" {
 #define WIMTAZE_HEAP_MAX 56320
 
 /*
- * The most bytes of stack that a call takes (less than 250 KiB was measured on x86-64). They must be free when the call
+ * The most bytes of stack that a call takes (less than 204 KiB was measured on x86-64). They must be free when the call
  * is made: a thread needs them besides its own frames and besides its thread-local data, which many C libraries keep on
  * the thread's stack.
  */

@@ -11,7 +11,7 @@
 #include <string.h>
 
 /* No call may come nearer than MARGIN to what the header says. */
-enum { PAINT = 0xa5, PAGE = 4096, PAINTED = 4 * WIMTAZE_STACK, MARGIN = 4096 };
+enum { PAINT = 0xa5, PAGE = 4096, PAINTED = 4 * WIMTAZE_STACK, MARGIN = 8192 };
 
 enum call {
     EMPTY, BUILD, LOAD, RECEIVE, RECEIVE_AT, TYPE, ERASE, RESTORE, PASTE, TEXT, COUNTS, LIST, ANSWER,
