@@ -30,10 +30,10 @@ pub fn slot(at: usize, rest: u32) -> usize
 
 // Internal step: the place of a key, where the walk down its chain comes to it, and 0 where it does not. A place is
 // believed only where the key stands there, and a link only where it leads to a later one, so that any table will do.
-// The calls have no more keys than a table has places.
+// The calls lend a table whose arrays have these sizes.
 pub fn lookup<'a>(table: &'a Table, keys: &'a [u32], key: u32) -> usize
-    requires sized { Sized table.now }
-    requires few { length keys.now ≤ character_slots }
+    requires heads_len { length table.now.heads ≡ chains }
+    requires keys_in_bounds { 2 * length keys.now ≤ length table.now.links }
     ensures { result ≡ place_found (lookup table.now keys.now key) }
 {
     let mut rest = key;

@@ -1,9 +1,7 @@
 // Looking up a key by the table, as a plain search finds it, whether the table agrees with the keys, and the table of
 // the keys where there is one that agrees.
 ghost use Rattle.std.specs.Prelude.{◌≡◌, true, ◌+◌, ◌*◌, ◌<◌, ◌≤◌, length, take};
-ghost use Rattle.woot.specs.Table.{found_at, agrees, table_of, table_links};
-ghost use Rattle.woot.specs.Memory.{character_slots};
-ghost use Rattle.chains.specs.Sizes.{Sized};
+ghost use Rattle.woot.specs.Table.{found_at, agrees, table_of, chains, table_links};
 ghost use Rattle.index.specs.Keys.{found};
 ghost use Rattle.index.specs.Entries.{filled, entries};
 ghost use Rattle.index.specs.Tabled.{Tabled};
@@ -46,8 +44,8 @@ fn believed(head: usize, i: usize) -> usize
 // Whether the key at the index is seen to be found there in one step or two, as most are. Both steps are always looked
 // at: to go by the first would be a guess at each key, and guesses that fail take more time than the second step.
 fn found_near<'a>(table: &'a Table, keys: &'a [u32], i: usize) -> bool
-    requires sized { Sized table.now }
-    requires few { length keys.now ≤ character_slots }
+    requires heads_len { length table.now.heads ≡ chains }
+    requires keys_in_bounds { 2 * length keys.now ≤ length table.now.links }
     requires i_in_bounds { i < length keys.now }
     ensures { result ≡ true → found_at table.now keys.now i ≡ true }
 {
@@ -61,19 +59,18 @@ fn found_near<'a>(table: &'a Table, keys: &'a [u32], i: usize) -> bool
 
 // Whether the key at the index is found there.
 fn found_at<'a>(table: &'a Table, keys: &'a [u32], i: usize) -> bool
-    requires sized { Sized table.now }
-    requires few { length keys.now ≤ character_slots }
+    requires heads_len { length table.now.heads ≡ chains }
+    requires keys_in_bounds { 2 * length keys.now ≤ length table.now.links }
     requires i_in_bounds { i < length keys.now }
     ensures { result ≡ found_at table.now keys.now i }
 {
     found_near(table, keys, i) || chains::lookup(table, keys, keys[i]) == i + 1
 }
 
-// Internal step: whether each key is found at its own index. The calls have no more keys than a table
-// has places.
+// Internal step: whether each key is found at its own index. The calls lend a table whose arrays have these sizes.
 pub fn agrees<'a>(table: &'a Table, keys: &'a [u32]) -> bool
-    requires sized { Sized table.now }
-    requires few { length keys.now ≤ character_slots }
+    requires heads_len { length table.now.heads ≡ chains }
+    requires keys_in_bounds { 2 * length keys.now ≤ length table.now.links }
     ensures { result ≡ agrees table.now keys.now }
 {
     for i in 0..keys.len() {
@@ -84,12 +81,12 @@ pub fn agrees<'a>(table: &'a Table, keys: &'a [u32]) -> bool
     true
 }
 
-// Internal step: whether each of the first n keys is found at its own index. The calls have no more keys than a table
-// has places.
+// Internal step: whether each of the first n keys is found at its own index. The calls lend a table whose arrays have
+// these sizes.
 pub fn agrees_among<'a>(table: &'a Table, keys: &'a [u32], n: usize) -> bool
-    requires sized { Sized table.now }
-    requires few { n ≤ character_slots }
-    requires n_in_bounds { n ≤ length keys.now }
+    requires heads_len { length table.now.heads ≡ chains }
+    requires n_in_bounds { 2 * n ≤ length table.now.links }
+    requires n_in_bounds_2 { n ≤ length keys.now }
     ensures { result ≡ agrees table.now (take n keys.now) }
 {
     agrees(table, &keys[..n])

@@ -58,9 +58,9 @@ agrees_among-requires c =
     let s = (goal.at.agrees_among-requires c).Start in
     let count = (few (made s) (full s) (kept (goal.at.agrees_among-requires c).Else-not-in_ranges)).characters in
     record {
-      sized = record { heads = (full s).heads; links = (full s).links };
-      few = omega (arith, count);
-      n_in_bounds = omega (arith, count, (full s).ids);
+      heads_len = (full s).heads;
+      n_in_bounds = omega (arith, count, (full s).links);
+      n_in_bounds_2 = omega (arith, count, (full s).ids);
     }
 
 pub returns-then-not-agrees_among : goal.returns-then-not-agrees_among

@@ -9,8 +9,8 @@ slice_bounds-agrees-end c = simp length-take (omega arith)
 pub agrees-requires : goal.agrees-requires
 agrees-requires c =
     record {
-      sized = c.requires.sized;
-      few = simp length-take (omega arith);
+      heads_len = c.requires.heads_len;
+      keys_in_bounds = simp length-take (omega (arith, c.requires.n_in_bounds));
     }
 
 pub returns : goal.returns
