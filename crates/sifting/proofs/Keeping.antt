@@ -34,6 +34,7 @@ use Rattle.index.specs.Tabled.{Tabled}
 use Rattle.index.proofs.Agreement.{tabled}
 use Rattle.index.proofs.Keys.{key-injective}
 use Rattle.index.proofs.Searches.{FoundAt, first_says}
+use Rattle.chains.specs.Sizes.{Sized}
 use Rattle.chains.proofs.Tables.{enter}
 use Rattle.memory.proofs.Fullness.{column-length}
 use Rattle.memory.proofs.Operations.{KeyedInsert}
@@ -42,7 +43,7 @@ use Rattle.heap.specs.Keeping.{Moved}
 use Rattle.heap.proofs.Columns.{NumbersAt, insert_pushed}
 use Rattle.heap.proofs.Inserts.{keyed, numbers_at}
 use Rattle.heap.proofs.Heaps.{no_disagreement}
-use Rattle.sifting.specs.Keeping.{same_fields, Sifted, KeptFirsts, KeptOnce}
+use Rattle.sifting.specs.Keeping.{same_fields, Sifted, KeptFirsts}
 
 -- ---- one insert
 
@@ -327,6 +328,17 @@ module _ {before : List ℕ} {n : ℕ} {xs : List ℕ} {t : Table} {i c : ℕ} (
       (subst (λ (ks : List ℕ). Tabled (table_of (take c (column 1024 0 xs))) ks) same
       (tabled (take c (column 1024 0 xs)) l.apart
       (omega (arith, length-take c (column 1024 0 xs), l.low, l.part, l.few))))
+
+  pub keep_sized : Sized t
+  keep_sized = record { heads = keep_tabled.heads; links = keep_tabled.links }
+
+  -- two that disagree leave the table as it was
+  pub conflict_sized : (ys : List ℕ) (u : Table) → Sifted xs t i c ys u None (sought xs i c) → Sized u
+  conflict_sized ys u f = go (sought xs i c) f
+    where
+      go : (w : Option ℕ) → Sifted xs t i c ys u None w → Sized u
+      go (Some j) g = subst Sized (sym g.1) keep_sized
+      go None g = none-some g.2
 
   -- no insert is left
   module _ (h : n ≤ i) where

@@ -63,8 +63,9 @@ pub fn keep_once(inserts: &mut [u32], n: usize, table: &mut Table) -> Option<usi
     requires inserts_len { length inserts.old ≡ character_numbers }
     requires n_le_character_slots { n ≤ character_slots }
     requires sized { Sized table.old }
-    ensures { (is : List Insert) → InsertsIn inserts.old is → n ≡ length is
+    ensures kept_once { (is : List Insert) → InsertsIn inserts.old is → n ≡ length is
         → every insert_in_range is ≡ true → KeptOnce is inserts.new result }
+    ensures sized_after { Sized table.new }
 {
     chains::enter_all(inserts, 0, table);
     let mut count = 0;

@@ -3,7 +3,6 @@ use mathlib.Core.Path.{refl, sym, ◌∙◌}
 use native.Mathlib.Omega.{arith}
 use lib.ListN.{take, get_or, length-take}
 use Rattle.sifting.proofs.Keeping.{found-low, sifted_at, sifted_nothing}
-use borrow.Author.Rules.{rules}
 use Rattle.sifting.proofs.keep_next.Goals as goal
 
 pub same_fields-requires : goal.same_fields-requires

@@ -2,7 +2,8 @@
 use native.Mathlib.Omega.{arith}
 use mathlib.Core.Path.{◌≡◌}
 use Rattle.std.proofs.Common.{None}
-use Rattle.sifting.proofs.Keeping.{keep-begun, keep_tabled, keep-end, keep-more, keep_conflict}
+use Rattle.sifting.proofs.Keeping.{keep-begun, keep_tabled, keep_sized, keep-end, keep-more, keep_conflict}
+use Rattle.sifting.proofs.Keeping.{conflict_sized}
 use Rattle.sifting.proofs.keep_once.Goals as goal
 
 pub loop-i-init : goal.loop-i-init
@@ -24,10 +25,15 @@ keep_next-requires c =
 pub returns-in_err-count : goal.returns-in_err-count
 returns-in_err-count c =
     let gone : c.from_residual.result ≡ None = grind arith in
-    rw gone (keep_conflict c.loop-i.invariant c.loop-i-test.true _ _ c.in_err-count.ensures)
+    record {
+      kept_once = rw gone (keep_conflict c.loop-i.invariant c.loop-i-test.true _ _ c.in_err-count.ensures);
+      sized_after = conflict_sized c.loop-i.invariant _ _ c.in_err-count.ensures;
+    }
 
 pub loop-i-preserved : goal.loop-i-preserved
 loop-i-preserved c = keep-more c.loop-i.invariant c.loop-i-test.true _ _ _ c.in_ok-count.ensures
 
 pub returns : goal.returns
-returns c = keep-end c.loop-i.invariant (omega arith)
+returns c =
+    let l = c.loop-i.invariant in
+    record { kept_once = keep-end l (omega arith); sized_after = keep_sized l }

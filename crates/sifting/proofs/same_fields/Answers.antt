@@ -6,7 +6,6 @@ use lib.Dec.{eqb}
 use lib.ListN.{get_or}
 use Rattle.memory.proofs.Views.{column-at}
 use Rattle.sifting.specs.Keeping.{same_fields}
-use borrow.Author.Rules.{rules}
 use Rattle.sifting.proofs.same_fields.Goals as goal
 
 pub returns : goal.returns
