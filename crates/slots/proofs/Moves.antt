@@ -1,6 +1,6 @@
 -- A part of an array that is moved by one slot, and the slot that is then set: an element put in, or one taken out. And
 -- a part that is filled.
-use Rattle.std.proofs.Common.{◌≡◌, ℕ, zero, suc, ◌+◌, ◌-◌, ◌<◌, ◌≤◌, List, [], ◌∷◌, ◌++◌, length, take, drop, get_or, sym, ap, ◌∙◌, arith, add-one, take-take, refl, append-nil, replicate, length-take-le, take_all}
+use Rattle.std.proofs.Common.{◌≡◌, ℕ, zero, suc, ◌+◌, ◌-◌, ◌<◌, ◌≤◌, List, [], ◌∷◌, ◌++◌, length, take, drop, ap, ◌∙◌, arith, add-one, take-take, refl, append-nil, replicate, length-take-le, take_all}
 use Rattle.std.proofs.Math.ListN.{set, length-drop, drop_of_length-le}
 use Rattle.std.proofs.Math.Nat.{suc-add, zero-add, not-suc-le-zero, le_of_suc-le-suc}
 use Rattle.std.proofs.Math.Seq.{paste, set_at, drop-cons, length_paste_head}
@@ -47,14 +47,21 @@ module _ {A : Type 0} where
       go (suc i) (x ∷ xs) h = ap (λ (l : List A). z ∷ l) (go i xs (le_of_suc-le-suc h))
 
   -- all of the part behind the first n is
-  pub cleared : (n : ℕ) (z : A) (xs part : List A) (i : ℕ) → n ≤ length xs → i ≡ length (take (length xs - n) (drop n xs))
+  behind : (n : ℕ) (z : A) (xs part : List A) (i : ℕ) → n ≤ length xs → i ≡ length (take (length xs - n) (drop n xs))
       → part ≡ replicate i z ++ drop i (take (length xs - n) (drop n xs))
       → take n xs ++ (part ++ drop (length xs - n) (drop n xs)) ≡ pad (length xs) z (take n xs)
   unfolding pad
-  cleared n z xs part i h e f =
+  behind n z xs part i h e f =
       let size : length (take n xs) ≡ n = length-take-le n xs h in
       let rest : length (drop n xs) ≡ length xs - n = length-drop n xs in
       let whole : take (length xs - n) (drop n xs) ≡ drop n xs = take_all (length xs - n) (drop n xs) (omega arith) in
       let all : i ≡ length xs - n = e ∙ ap length whole ∙ rest in
       let none : drop (length xs - n) (drop n xs) ≡ [] = drop_of_length-le (drop n xs) {i = length xs - n} (omega arith) in
       rw (f, whole, all, none, size) (simp append-nil)
+
+  -- also where it begins at an m that is n
+  pub cleared : (n m : ℕ) (z : A) (xs part : List A) (i : ℕ) → m ≡ n → n ≤ length xs
+      → i ≡ length (take (length xs - m) (drop m xs))
+      → part ≡ replicate i z ++ drop i (take (length xs - m) (drop m xs))
+      → take m xs ++ (part ++ drop (length xs - m) (drop m xs)) ≡ pad (length xs) z (take n xs)
+  cleared n m z xs part i s h e f = rw s (behind n z xs part i h (rw s at e) (rw s at f))

@@ -14,7 +14,7 @@ pub fn put<T: Copy>(a: &mut [T], n: usize, k: usize, x: T)
     ensures { a.new ≡ put_after k x (take n a.old) ++ drop (suc n) a.old }
 {
     a.copy_within(k..n, k + 1);
-    a[k] = x;
+    set(a, k, x);
 }
 
 // Internal step: takes the element at j out of n. Those behind it move down by one, and the slot that is left over is

@@ -1,5 +1,5 @@
 -- `slots::remove` meets its contract: the part behind j has moved down by one, and the slot left over is set.
-use Rattle.std.proofs.Common.{rules, ap, ◌-◌, ◌∙◌, arith}
+use Rattle.std.proofs.Common.{ap, ◌-◌, ◌∙◌}
 use Rattle.std.proofs.Math.ListN.{set}
 use Rattle.slots.proofs.Moves.{moved-down}
 use Rattle.slots.proofs.remove.Goals as goal
