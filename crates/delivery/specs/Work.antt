@@ -24,10 +24,22 @@ use Rattle.std.specs.Prelude.{Option, Some}
 use Rattle.index.specs.Keys.{first_index}
 use Rattle.index.specs.Tabled.{Tabled}
 use Rattle.woot.specs.declared.Document.{Document as InMemory}
-use Rattle.memory.specs.Lent.{view, Slots}
+use Rattle.memory.specs.Lent.{columns_as, view, Slots}
 use Rattle.delivery.specs.declared.Counts.{Counts}
 
 -- ---- lent arrays
+
+-- each array of a document in memory is as long as in another
+pub record SameLengths (d e : InMemory) : Type 0 where
+  pub characters : length d.characters ≡ length e.characters
+  pub toggles : length d.toggles ≡ length e.toggles
+  pub pending : length d.pending ≡ length e.pending
+  pub heads : length d.table.heads ≡ length e.table.heads
+  pub links : length d.table.links ≡ length e.table.links
+
+-- the columns of a document in memory with another table, which is not told to find its keys
+abbrev pub with_table : InMemory → List ℕ → List ℕ → Document
+with_table d heads links = columns_as d.characters d.toggles d.length d.pending d.waiting heads links
 
 -- the counts are within the slots, the numbers of the pending operations are theirs, and the table finds the keys
 pub record Lent (d : Document) : Type 0 where

@@ -17,7 +17,8 @@ ghost use Rattle.integration.specs.Placements.{placement_of};
 ghost use Rattle.woot.specs.Operations.{character};
 ghost use Rattle.woot.specs.Placing.{insert_at, integrate_insert, integrate_toggle};
 ghost use Rattle.woot.specs.Table.{key, keys};
-ghost use Rattle.delivery.specs.Work.{Lent, Swept, work_in, Workable, PlacedAs, Insertable, Placed, Targeted};
+ghost use Rattle.delivery.specs.Work.{SameLengths, with_table, Lent, Swept, work_in, Workable, PlacedAs, Insertable};
+ghost use Rattle.delivery.specs.Work.{Placed, Targeted};
 ghost use Rattle.delivery.specs.Work.{due_in, stepped_in, finished_in, finished};
 ghost use Rattle.delivery.specs.Steps.{toggled_at, place_of};
 
@@ -39,11 +40,21 @@ pub struct Counts {
 // Internal step: clears the slots that are not in use. The table stays as it is: whoever puts a character in makes it
 // anew. The calls have checked the replica.
 pub fn sweep(document: &mut Document)
-    requires full { FullDocument document.old }
-    requires lent { Lent (view document.old) }
-    ensures full_after { FullDocument document.new }
+    requires characters_len { length document.old.characters ≡ character_numbers }
+    requires toggles_len { length document.old.toggles ≡ character_slots }
+    requires pending_len { length document.old.pending ≡ pending_numbers }
+    requires length_le_character_slots { document.old.length ≤ character_slots }
+    requires waiting_le_pending_slots { document.old.waiting ≤ pending_slots }
+    ensures lengths { SameLengths document.new document.old }
+    ensures length_after { document.new.length ≡ document.old.length }
+    ensures waiting_after { document.new.waiting ≡ document.old.waiting }
+    ensures full_after { FullDocument document.old → FullDocument document.new }
     ensures table_after { document.new.table ≡ document.old.table }
-    ensures value { Swept (view document.new) (characters_in (view document.old)) (operations_in (view document.old)) }
+    ensures any_table { (hs ls : List ℕ) → Lent (with_table document.old hs ls)
+        → Swept (with_table document.new hs ls) (characters_in (with_table document.old hs ls))
+        (operations_in (with_table document.old hs ls)) }
+    ensures value { Lent (view document.old)
+        → Swept (view document.new) (characters_in (view document.old)) (operations_in (view document.old)) }
 {
     characters::clear(
         &mut document.characters,
