@@ -106,7 +106,8 @@ pub fn find_place<'a>(
 
 // The index of the earliest pending operation that is executable.
 fn due(document: &Document) -> Option<usize>
-    requires full { FullDocument document.now }
+    requires characters_len { length document.now.characters ≡ character_numbers }
+    requires pending_len { length document.now.pending ≡ pending_numbers }
     requires length_le_character_slots { document.now.length ≤ character_slots }
     requires waiting_le_pending_slots { document.now.waiting ≤ pending_slots }
     requires tabled { Tabled (view document.now).table (take document.now.length (key_column document.now.characters)) }

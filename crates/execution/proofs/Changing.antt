@@ -5,6 +5,9 @@ use native.Mathlib.Numerals.{one-add}
 use native.Mathlib.Nat.{zero-add}
 use mathlib.Core.Path.{◌≡◌, refl, ap, sym, ◌∙◌}
 use mathlib.Core.List.{[], ◌∷◌, ◌++◌}
+use lib.ListN.{length}
+use Rattle.woot.specs.Memory.{character_numbers, pending_numbers}
+use Rattle.woot.specs.declared.Document.{Document as InMemory}
 use Rattle.woot.specs.declared.Site.{Site}
 use Rattle.woot.specs.declared.Insert.{Insert}
 use Rattle.woot.specs.declared.Toggle.{Toggle}
@@ -16,13 +19,39 @@ use Rattle.woot.specs.Clock.{heard, heard_all}
 use Rattle.woot.specs.Placing.{integrate_insert, integrate_toggle}
 use Rattle.woot.specs.Calls.{all_integrated, insert_carried, after_drain, with_characters, with_pending, carry_out, defer}
 use Rattle.memory.specs.Columns.{Document, Replica, meaning, stored, document_of, characters_in, operations_in}
+use Rattle.memory.specs.Lent.{view, FullDocument}
 use Rattle.well_formed.specs.Examined.{Examined}
 use Rattle.well_formed.proofs.Examining.{few, form, characters-counted, pending-counted, examined_tabled}
-use Rattle.delivery.specs.Work.{Lent, Work, work_of, finished, Placed as Placeable, Targeted}
+use Rattle.delivery.specs.Work.{SameLengths, Lent, Work, work_of, finished, Placed as Placeable, Targeted}
 use Rattle.reception.specs.Decisions.{Executed, Feasible}
 use Rattle.reception.specs.declared.Decision.{Decision}
 use Rattle.reception.specs.declared.Decision.TheVariants.{Answered, Defer, Place, Toggle as toggleAt}
 use Rattle.execution.specs.Outcomes.{Left, left_of, left_by}
+
+-- ---- lengths
+
+pub same_lengths : {d e : InMemory} → FullDocument d → FullDocument e → SameLengths d e
+same_lengths a b =
+    record {
+      characters = a.characters ∙ sym b.characters;
+      toggles = a.toggles ∙ sym b.toggles;
+      pending = a.pending ∙ sym b.pending;
+      heads = a.heads ∙ sym b.heads;
+      links = a.links ∙ sym b.links;
+    }
+
+-- the lengths of what is lent are told but for two
+pub full_lent : {d : InMemory} → length d.characters ≡ character_numbers → length d.pending ≡ pending_numbers → Lent (view d) → FullDocument d
+full_lent a b l =
+    record {
+      characters = a;
+      toggles = l.slots.toggles;
+      pending = b;
+      heads = l.slots.heads;
+      links = l.slots.links;
+    }
+
+-- ---- what was examined
 
 lent : (r : Replica) → Examined r → Lent r.document
 unfolding meaning

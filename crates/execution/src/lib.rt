@@ -1,8 +1,10 @@
 // A decision carried out: a replica is edited where it lies, and what was received is answered.
 #![tactic(auto)]
 
-ghost use Rattle.std.specs.Prelude.{◌≡◌};
+ghost use Rattle.std.specs.Prelude.{◌≡◌, length};
+ghost use Rattle.woot.specs.Memory.{character_numbers, pending_numbers};
 ghost use Rattle.memory.specs.Lent.{viewed, Full};
+ghost use Rattle.delivery.specs.Work.{SameLengths};
 ghost use Rattle.reception.specs.Decisions.{Feasible};
 ghost use Rattle.execution.specs.Outcomes.{left_by, left_in, answer_by};
 
@@ -21,9 +23,11 @@ const NOTHING: Counts = Counts {
 // off, put in or its target toggled. The clock follows an insert that is put off or put in; what that releases raises
 // it no further. The calls have looked at the replica and decided.
 pub fn carry_out(replica: &mut Replica, operation: Operation, decision: Decision) -> Counts
-    requires full { Full replica.old }
+    requires characters_len { length replica.old.document.characters ≡ character_numbers }
+    requires pending_len { length replica.old.document.pending ≡ pending_numbers }
     requires feasible { Feasible (viewed replica.old) operation decision }
-    ensures full_after { Full replica.new }
+    ensures lengths { SameLengths replica.new.document replica.old.document }
+    ensures full_after { Full replica.old → Full replica.new }
     ensures value { left_in replica.new result ≡ left_by (viewed replica.old) operation decision }
 {
     match decision {

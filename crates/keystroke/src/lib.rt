@@ -35,7 +35,8 @@ pub struct Typed {
 
 // The insert of a code point at the insertion point.
 fn make(replica: &Replica, point: usize, code_point: u32) -> Insert
-    requires full { Full replica.now }
+    requires characters_len { length replica.now.document.characters ≡ character_numbers }
+    requires n_in_bounds { replica.now.document.length ≤ length replica.now.document.toggles }
     requires clock_lt_last_clock { replica.now.site.clock < last_clock }
     requires length_le_character_slots { replica.now.document.length ≤ character_slots }
     requires neighboured { Neighboured (viewed replica.now) point code_point }

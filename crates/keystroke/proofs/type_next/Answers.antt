@@ -27,6 +27,11 @@ pub make-insert-requires-clause-length_le_character_slots : goal.make-insert-req
 make-insert-requires-clause-length_le_character_slots c =
     (few _ (examined (viewed c.args.replica.now) (full-view _ c.requires.full) _ _ c.requires.typeable)).characters
 
+pub make-insert-requires-clause-n_in_bounds : goal.make-insert-requires-clause-n_in_bounds
+make-insert-requires-clause-n_in_bounds c =
+    let before = (few _ (examined (viewed c.args.replica.now) (full-view _ c.requires.full) _ _ c.requires.typeable)).characters in
+    omega (arith, before, c.requires.full.toggles)
+
 pub make-insert-requires-clause-neighboured : goal.make-insert-requires-clause-neighboured
 make-insert-requires-clause-neighboured c =
     neighboured (viewed c.args.replica.now) (full-view _ c.requires.full) _ _ c.requires.typeable

@@ -13,9 +13,11 @@ decide-decision-requires c = full (goal.at.decide-decision-requires c).Start
 
 pub carry_out-counts-requires : goal.carry_out-counts-requires
 carry_out-counts-requires c =
-    record { full = full (goal.at.carry_out-counts-requires c).Start; feasible = c.decide-decision.ensures.feasible }
+    let f = full (goal.at.carry_out-counts-requires c).Start in
+    record { characters_len = f.characters; pending_len = f.pending; feasible = c.decide-decision.ensures.feasible }
 
 pub returns : goal.returns
 returns c =
     let done = c.carry_out-counts in
-    received_so c.args.replica _ (full (goal.at.returns c).Start) done.ensures.full_after _ _ _ _ _ c.answer-answer.ensures c.decide-decision.ensures done.ensures.value
+    let f = full (goal.at.returns c).Start in
+    received_so c.args.replica _ f (done.ensures.full_after f) _ _ _ _ _ c.answer-answer.ensures c.decide-decision.ensures done.ensures.value

@@ -6,7 +6,11 @@ use Rattle.replica.proofs.send_made.Goals as goal
 pub carry_out-counts-requires : goal.carry_out-counts-requires
 unfolding Sendable
 carry_out-counts-requires c =
-    record { full = c.requires.full; feasible = executed_feasible c.args.replica.now _ _ (rw c.in-Ok.is at c.requires.sendable) }
+    record {
+      characters_len = c.requires.full.characters;
+      pending_len = c.requires.full.pending;
+      feasible = executed_feasible c.args.replica.now _ _ (rw c.in-Ok.is at c.requires.sendable);
+    }
 
 pub returns-in-Err : goal.returns-in-Err
 unfolding sent_by
@@ -17,7 +21,8 @@ unfolding Sendable sent_by
 returns-in-Ok c =
     let told = c.in-Ok.is in
     let done = c.carry_out-counts.ensures in
+    let after = done.full_after c.requires.full in
     record {
-      full_after = done.full_after;
-      value = rw told (sent_so c.args.replica.now _ c.requires.full done.full_after _ _ _ _ (rw told at c.requires.sendable) done.value);
+      full_after = after;
+      value = rw told (sent_so c.args.replica.now _ c.requires.full after _ _ _ _ (rw told at c.requires.sendable) done.value);
     }
