@@ -72,12 +72,14 @@ fn further(at: Typing, done: Counts, point: usize) -> Typing
 }
 
 // Internal step: types one character, and carries out all that it released: its insert is answered, or none where
-// there is no place for it. The calls have checked the replica, and the clock and the room for it.
+// there is no place for it, and then the replica stays as it is. The calls have checked the replica, and the clock and
+// the room for it.
 pub fn type_next(replica: &mut Replica, at: Typing, code_point: u32) -> Option<Typed>
     requires full { Full replica.old }
     requires typeable { Typeable (viewed replica.old) at.point (code_point ∷ []) }
     requires waiting_bound { at.integrated + at.discarded + replica.old.document.waiting + 1 < 2 ^ 64 }
     ensures full_after { Full replica.new }
+    ensures unchanged { result ≡ None → replica.new ≡ replica.old }
     ensures value { OneTyped (viewed replica.old) at code_point (viewed replica.new) result }
 {
     let insert = make(replica, at.point, code_point);

@@ -73,7 +73,8 @@ fn untyped(replica: Replica, answer: Answer) -> PastedInto
     }
 }
 
-// Types the first code points of the fourth column on a replica whose slots are cleared once.
+// Types the first code points of the fourth column on a replica whose slots are cleared once. Where there is no place
+// for one of them, the site and the counts of the replica are as they were.
 fn type_points(
     replica: &mut Replica,
     typed: &mut [u32],
@@ -86,6 +87,9 @@ fn type_points(
     requires typed_value { every is_code_point (points_in count typed.old) ≡ true }
     requires spacious { Spacious (viewed replica.old) point count }
     ensures full_after { Full replica.new }
+    ensures put_back { result ≡ None → (replica.new.site ≡ replica.old.site)
+        × (replica.new.document.length ≡ replica.old.document.length)
+        × (replica.new.document.waiting ≡ replica.old.document.waiting) }
     ensures value { AllTyped (meaning (viewed replica.old)) point (points_in count typed.old) typed.new
         (viewed replica.new) result }
 {

@@ -38,7 +38,8 @@ fn inscribe(typed: &mut [u32], i: usize, insert: Insert)
 
 // Internal step: types the first code points of the fourth column, the first at the insertion point and each other
 // just below the one before, and puts the numbers of each insert into its slot. Tells what that comes to, or nothing
-// where there is no place for one of them.
+// where there is no place for one of them. The arrays may hold some of them then, but the site and the counts of the
+// replica are as they were.
 pub fn type_all(
     replica: &mut Replica,
     typed: &mut [u32],
@@ -51,18 +52,33 @@ pub fn type_all(
     requires unwritten { Unwritten (points_in count typed.old) typed.old }
     requires typeable { Typeable (viewed replica.old) point (points_in count typed.old) }
     ensures full_after { Full replica.new }
+    ensures put_back { result ≡ None → (replica.new.site ≡ replica.old.site)
+        × (replica.new.document.length ≡ replica.old.document.length)
+        × (replica.new.document.waiting ≡ replica.old.document.waiting) }
     ensures value { AllTyped (meaning (viewed replica.old)) point (points_in count typed.old) typed.new
         (viewed replica.new) result }
 {
+    let site = replica.site;
+    let length = replica.document.length;
+    let waiting = replica.document.waiting;
     let mut at = Typing {
         point,
         integrated: 0,
         discarded: 0,
     };
     for i in 0..count {
-        let step = keystroke::type_next(replica, at, typed[CODE_POINTS + i])?;
-        inscribe(typed, i, step.insert);
-        at = step.after;
+        match keystroke::type_next(replica, at, typed[CODE_POINTS + i]) {
+            Some(step) => {
+                inscribe(typed, i, step.insert);
+                at = step.after;
+            }
+            None => {
+                replica.site = site;
+                replica.document.length = length;
+                replica.document.waiting = waiting;
+                return None;
+            }
+        }
     }
     Some(at)
 }

@@ -1,11 +1,12 @@
 -- `pasting::type_points` clears the slots of the replica, which then means the same, and types on it.
-use Rattle.std.proofs.Common.{◌≡◌, length, subst}
+use Rattle.std.proofs.Common.{◌≡◌, length, subst, ◌∙◌}
 use native.Mathlib.Omega.{arith}
 use lib.Seq.{length-take-le}
 use Rattle.woot.specs.State.{State}
 use Rattle.woot.specs.Memory.{code_point_column}
-use Rattle.memory.specs.Lent.{viewed}
+use Rattle.memory.specs.Lent.{view, viewed}
 use Rattle.memory.proofs.Fullness.{column-length, full-view}
+use Rattle.memory.proofs.Stored.{document-parts, character-count, pending-count}
 use Rattle.typing.specs.Steps.{points_in, AllTyped}
 use Rattle.pasting.proofs.Clearing.{some-few, clearable, cleared_meant, cleared_typeable}
 use Rattle.pasting.proofs.type_points.Goals.{Start}
@@ -35,6 +36,13 @@ type_all-requires c =
       unwritten = c.requires.unwritten;
       typeable = cleared_typeable r x c.clear.ensures.value (counted (goal.at.type_all-requires c).Start) c.requires.typed_value;
     }
+
+pub returns-clause-put_back : goal.returns-clause-put_back
+returns-clause-put_back c none =
+    let d = view c.args.replica.now.document in
+    let cleared = document-parts c.clear.ensures.value in
+    let kept = c.type_all.ensures.put_back none in
+    (kept.0, kept.1 ∙ cleared.length-is ∙ character-count d, kept.2 ∙ cleared.waiting-is ∙ pending-count d)
 
 pub returns-clause-value : goal.returns-clause-value
 returns-clause-value c =

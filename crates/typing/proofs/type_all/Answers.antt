@@ -63,7 +63,7 @@ pub loop-i-preserved : goal.loop-i-preserved
 loop-i-preserved c =
     let v = c.loop-i.invariant in
     let l = (goal.at.loop-i-preserved c).In-loop-i in
-    let t = told-taken (viewed c.loop-i.replica) c.loop-i.at (read l) (viewed c.type_next.new.replica) c.type_next.ensures.value c.in_ok-step.was in (
+    let t = told-taken (viewed c.loop-i.replica) c.loop-i.at (read l) (viewed c.type_next.new.replica) c.type_next.ensures.value c.in-Some.is in (
       c.type_next.ensures.full_after,
       c.inscribe.auto.typed ∙ v.1,
       going_again v.2 (short l) (few (goal.at.loop-i-preserved c).Start) t c.inscribe.ensures,
@@ -71,13 +71,12 @@ loop-i-preserved c =
 
 -- ---- at the end
 
-pub returns-in_err-step-clause-value : goal.returns-in_err-step-clause-value
+pub returns-in-None-clause-value : goal.returns-in-None-clause-value
 unfolding AllTyped
-returns-in_err-step-clause-value c =
-    let l = (goal.at.returns-in_err-step-clause-value c).In-loop-i in
-    rw c.from_residual.ensures
-    (going_stopped c.loop-i.invariant.2 (short l)
-    (told_nowhere (viewed c.loop-i.replica) c.loop-i.at (read l) (viewed c.type_next.new.replica) c.type_next.ensures.value c.in_err-step.was))
+returns-in-None-clause-value c =
+    let l = (goal.at.returns-in-None-clause-value c).In-loop-i in
+    going_stopped c.loop-i.invariant.2 (short l)
+    (told_nowhere (viewed c.loop-i.replica) c.loop-i.at (read l) (viewed c.type_next.new.replica) c.type_next.ensures.value c.in-None.is)
 
 pub returns-clause-value : goal.returns-clause-value
 unfolding AllTyped
