@@ -1,5 +1,5 @@
 -- What a change asks of a replica that was examined, and what it holds afterwards.
-use Prim.Native.Nat.{ℕ, ◌<◌}
+use Prim.Native.Nat.{ℕ, ◌+◌, ◌<◌}
 use native.Mathlib.Omega.{arith}
 use native.Mathlib.Numerals.{one-add}
 use native.Mathlib.Nat.{zero-add}
@@ -19,7 +19,7 @@ use Rattle.woot.specs.Clock.{heard, heard_all}
 use Rattle.woot.specs.Placing.{integrate_insert, integrate_toggle}
 use Rattle.woot.specs.Calls.{all_integrated, insert_carried, after_drain, with_characters, with_pending, carry_out, defer}
 use Rattle.memory.specs.Columns.{Document, Replica, meaning, stored, document_of, characters_in, operations_in}
-use Rattle.memory.specs.Lent.{view, FullDocument}
+use Rattle.memory.specs.Lent.{document_as, view, FullDocument}
 use Rattle.well_formed.specs.Examined.{Examined}
 use Rattle.well_formed.proofs.Examining.{few, form, characters-counted, pending-counted, examined_tabled}
 use Rattle.delivery.specs.Work.{SameLengths, Lent, Work, work_of, finished, Placed as Placeable, Targeted}
@@ -111,13 +111,21 @@ module _ (r : Replica) where
   unfolding left_by
   answered_left o a = refl
 
+  -- a document with another count of pending operations
+  abbrev with_waiting : ℕ → Document → Document
+  with_waiting w d =
+      document_as d.ids d.previous d.next d.code_points d.toggles d.length
+      d.own d.firstKeys d.secondKeys d.values w d.table.heads d.table.links
+
   module _ (d : Document) (t : Site) where
-    pub deferred_left : (o : Operation) → t ≡ heard_all r.site (inserts (o ∷ []))
+    -- the document with the count that is handed back, which is its own
+    pub deferred_left : (o : Operation) (w : ℕ) → t ≡ heard_all r.site (inserts (o ∷ []))
         → d ≡ document_of (characters_in r.document) (operations_in r.document ++ o ∷ [])
-        → ◌≡◌ {A = Left} (record { replica = record { site = t; document = d }; integrated = 0; discarded = 0 }) (left_by r o Defer)
+        → w ≡ d.waiting
+        → ◌≡◌ {A = Left} (record { replica = record { site = t; document = with_waiting w d }; integrated = 0; discarded = 0 }) (left_by r o Defer)
     unfolding left_by left_of defer with_pending stored meaning all_integrated
-    deferred_left o h e =
-        λ j. record { replica = record { site = h j; document = e j }; integrated = 0; discarded = 0 }
+    deferred_left o w h e same =
+        λ j. record { replica = record { site = h j; document = (ap (λ (m : ℕ). with_waiting m d) same ∙ e) j }; integrated = 0; discarded = 0 }
 
     pub integrated_left : (i : Insert) (k n m : ℕ) → Feasible r (insert i) (Place k) → t ≡ heard r.site i
         → ◌≡◌ {A = Work} (record { document = d; integrated = n; discarded = m }) (finished (integrate_insert (characters_in r.document) i) (operations_in r.document) 1 0)

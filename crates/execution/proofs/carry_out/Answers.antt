@@ -1,5 +1,6 @@
 -- `execution::carry_out` goes by the decision: each change leaves what the rules leave.
 use Rattle.std.proofs.Common.{refl}
+use native.Mathlib.Omega.{arith}
 use Rattle.woot.specs.declared.Operation.TheVariants.{Insert as insert, Toggle as toggle}
 use Rattle.memory.specs.Lent.{viewed, Full}
 use Rattle.reception.specs.declared.Decision.TheVariants.{Defer, Place, Toggle as toggleAt}
@@ -59,7 +60,8 @@ returns-in-Defer-clause-lengths c =
 
 pub returns-in-Defer-clause-value : goal.returns-in-Defer-clause-value
 returns-in-Defer-clause-value c =
-    rw c.in-Defer.is (deferred_left (viewed c.args.replica.now) _ _ _ c.heard_operation-replica.ensures c.defer.ensures.value)
+    rw c.in-Defer.is
+    (deferred_left (viewed c.args.replica.now) _ _ _ _ c.heard_operation-replica.ensures c.defer.ensures.value (omega arith))
 
 pub returns-in-Insert-clause-lengths : goal.returns-in-Insert-clause-lengths
 returns-in-Insert-clause-lengths c =
