@@ -39,8 +39,9 @@ pub fn carry_out(replica: &mut Replica, operation: Operation, decision: Decision
         }
         Decision::Place(k) => match operation {
             Operation::Insert(i) => {
+                let done = delivery::integrate(&mut replica.document, k, i);
                 replica.site = clock::heard(replica.site, i);
-                delivery::integrate(&mut replica.document, k, i)
+                done
             }
             Operation::Toggle(_) => NOTHING,
         },

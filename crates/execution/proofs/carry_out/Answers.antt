@@ -41,9 +41,9 @@ defer-requires c =
       waiting_lt_pending_slots = defer-slot r _ (defers b);
     }
 
-pub integrate-requires : goal.integrate-requires
-integrate-requires c =
-    let b = (goal.at.integrate-requires c).In-Insert in
+pub integrate-done-requires : goal.integrate-done-requires
+integrate-done-requires c =
+    let b = (goal.at.integrate-done-requires c).In-Insert in
     record { full = placed-full b; placed = placeable (viewed c.args.replica.now) _ _ (places b) }
 
 pub toggle-requires : goal.toggle-requires
@@ -65,12 +65,12 @@ returns-in-Defer-clause-value c =
 
 pub returns-in-Insert-clause-lengths : goal.returns-in-Insert-clause-lengths
 returns-in-Insert-clause-lengths c =
-    same_lengths c.integrate.ensures.full_after (placed-full (goal.at.returns-in-Insert-clause-lengths c).In-Insert)
+    same_lengths c.integrate-done.ensures.full_after (placed-full (goal.at.returns-in-Insert-clause-lengths c).In-Insert)
 
 pub returns-in-Insert-clause-value : goal.returns-in-Insert-clause-value
 returns-in-Insert-clause-value c =
     rw (c.in-Insert.is, c.in-Place.is)
-    (integrated_left (viewed c.args.replica.now) _ _ _ _ _ _ (places (goal.at.returns-in-Insert-clause-value c).In-Insert) c.heard-replica.ensures c.integrate.ensures.value)
+    (integrated_left (viewed c.args.replica.now) _ _ _ _ _ _ (places (goal.at.returns-in-Insert-clause-value c).In-Insert) c.heard-replica.ensures c.integrate-done.ensures.value)
 
 pub returns-in-Toggle-operation-clause-value : goal.returns-in-Toggle-operation-clause-value
 returns-in-Toggle-operation-clause-value c =
