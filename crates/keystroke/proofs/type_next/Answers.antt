@@ -103,15 +103,17 @@ pub visible_through-point-requires-clause-n_in_bounds : goal.visible_through-poi
 visible_through-point-requires-clause-n_in_bounds c =
     let f = (goal.at.visible_through-point-requires-clause-n_in_bounds c).After-find_place-placement in
     let told = sym c.place_of.ensures ∙ c.in_ok-k.was in
+    let before = (few _ (examined (given f) (slots f) _ _ c.requires.typeable)).characters in
     let e = worked (goal.at.visible_through-point-requires-clause-n_in_bounds c).After-put_in-done _ (inserted-is f) (placed-here f _ told) in
-    omega (arith, few-next (given f) (slots f) _ _ c.requires.typeable _ (placed_at f _ told) e, c.put_in-done.ensures.full_after.characters)
+    omega (arith, few-next (given f) (slots f) _ _ c.requires.typeable _ (placed_at f _ told) e, before, c.put_in-done.ensures.full_after.characters)
 
 pub visible_through-point-requires-clause-n_in_bounds_2 : goal.visible_through-point-requires-clause-n_in_bounds_2
 visible_through-point-requires-clause-n_in_bounds_2 c =
     let f = (goal.at.visible_through-point-requires-clause-n_in_bounds_2 c).After-find_place-placement in
     let told = sym c.place_of.ensures ∙ c.in_ok-k.was in
+    let before = (few _ (examined (given f) (slots f) _ _ c.requires.typeable)).characters in
     let e = worked (goal.at.visible_through-point-requires-clause-n_in_bounds_2 c).After-put_in-done _ (inserted-is f) (placed-here f _ told) in
-    omega (arith, few-next (given f) (slots f) _ _ c.requires.typeable _ (placed_at f _ told) e, c.put_in-done.ensures.full_after.toggles)
+    omega (arith, few-next (given f) (slots f) _ _ c.requires.typeable _ (placed_at f _ told) e, before, c.put_in-done.ensures.full_after.toggles)
 
 pub further-requires-clause-integrated_bound : goal.further-requires-clause-integrated_bound
 further-requires-clause-integrated_bound c =
