@@ -1,6 +1,6 @@
 // Reading one line of a saved replica or of an archive: whether it has the layout of its kind, whether it is in range,
-// and what it says. The lines of the site and of the rows are read at the front of the bytes, with no line feed looked
-// for first. These are steps of `loading`, and not calls.
+// and what it says. The lines of the site and of the rows are read whole, or at the front of the bytes, with no line
+// feed looked for first. These are steps of `loading`, and not calls.
 #![tactic(auto)]
 
 ghost use Rattle.std.specs.Prelude.{◌≡◌, true, ◌&&◌, ◌+◌, ◌≤◌, length, drop, IfOk, Err};
@@ -77,6 +77,14 @@ fn site_said(numbers: Result<[u64; 9], Fault>) -> Result<Site, Fault>
     ranged(ranges::site_in_range(site), site)
 }
 
+// Reads a line, without its line feed, as a site's.
+pub fn read_site(version: Version, line: &[u8]) -> Result<Site, Fault>
+    ensures { result ≡ site_read version line.now }
+{
+    let limits = [16u64, 65535];
+    site_said(lines::read(line, version.site_head(), &limits))
+}
+
 // Reads the line at the front of bytes as a site's.
 pub fn read_site_front(version: Version, bytes: &[u8]) -> AtFront<Site>
     ensures line_value { result.line ≡ site_read version (front_line bytes.now) }
@@ -119,6 +127,16 @@ fn character_row(version: Version, numbers: Result<[u64; 9], Fault>) -> Result<R
     ranged(ranges::character_in_range(character), row)
 }
 
+// Reads a line as a character's.
+fn read_character(version: Version, line: &[u8]) -> Result<Row, Fault>
+    ensures { result ≡ row_read (Rows.Saved version) line.now }
+{
+    let head = [CHARACTER];
+    let last = version.last_toggle_field();
+    let limits = [16u64, 65535, 1114111, last, 16, 65535, 16, 65535];
+    character_row(version, lines::read(line, &head, &limits))
+}
+
 // Reads the line at the front of bytes as a character's.
 fn read_character_front(version: Version, bytes: &[u8]) -> AtFront<Row>
     ensures line_value { result.line ≡ row_read (Rows.Saved version) (front_line bytes.now) }
@@ -156,6 +174,15 @@ fn placed_row(numbers: Result<[u64; 9], Fault>) -> Result<Row, Fault>
     ranged(placed_in_range(place, character), Row { place, character })
 }
 
+// Reads a line as a character's with its place.
+fn read_placed(line: &[u8]) -> Result<Row, Fault>
+    ensures { result ≡ row_read Rows.Archived line.now }
+{
+    let head = [PLACED];
+    let limits = [1024u64, 16, 65535, 1114111, 255, 16, 65535, 16, 65535];
+    placed_row(lines::read(line, &head, &limits))
+}
+
 // Reads the line at the front of bytes as a character's with its place.
 fn read_placed_front(bytes: &[u8]) -> AtFront<Row>
     ensures line_value { result.line ≡ row_read Rows.Archived (front_line bytes.now) }
@@ -168,6 +195,16 @@ fn read_placed_front(bytes: &[u8]) -> AtFront<Row>
     AtFront {
         line: placed_row(front.numbers),
         next: front.next,
+    }
+}
+
+// Reads a line, without its line feed, as a row of the given kind.
+pub fn read_row(rows: Rows, line: &[u8]) -> Result<Row, Fault>
+    ensures { result ≡ row_read rows line.now }
+{
+    match rows {
+        Rows::Saved(version) => read_character(version, line),
+        Rows::Archived => read_placed(line),
     }
 }
 
