@@ -32,7 +32,8 @@ use Rattle.decimal.specs.declared.Fault.{Fault}
 use Rattle.woot.specs.declared.Site.{Site}
 use Rattle.woot.specs.State.{blank_operation}
 use Rattle.saved_lines.specs.declared.Row.{Row}
-use Rattle.saved_lines.specs.Judging.{in_layout, site_read}
+use Rattle.saved_lines.specs.declared.Unread.{Unread}
+use Rattle.saved_lines.specs.Judging.{in_layout, said_or, site_read}
 use Rattle.saved_lines.proofs.Judging.{site_laid, site-passes, site-says, row-says, operation_says}
 use Rattle.loading.specs.declared.filling.Front.{Front}
 use Rattle.std.specs.Prelude.{Option, Some, None, is_some}
@@ -63,7 +64,7 @@ module _ (k : Rows) (s : List ℕ) where
     unfolding rows_answer rows_checks decided
     answer-done e = rw (l, e)
 
-module _ (k : Rows) (s : List ℕ) (first : Result Site Fault) (f : first ≡ site_read (version_of k) (get_or (lines s) 0 [])) where
+module _ (k : Rows) (s : List ℕ) (first : Result Site (Unread Site)) (f : first ≡ site_read (version_of k) (get_or (lines s) 0 [])) where
   is-site : in_layout first ≡ is_site (version_of k) (head_line s)
   unfolding head_line
   is-site = ap in_layout f ∙ site_laid (version_of k) (head_line s)
@@ -184,7 +185,7 @@ module _ (k : Rows) (s : List ℕ) (first : Result Site Fault) (f : first ≡ si
               let read : List ℕ → A = λ line. of (record { place = line_place k line; character = line_character k line }) in
               ap (map read) rows_are
               ∙ all_say read (row_said k) of (row_passes k) (λ line h.
-              ap (λ (w : Result Row Fault). of (record { place = (result_unwrap_or w blank_row).place; character = (result_unwrap_or w blank_row).character }))
+              ap (λ (w : Result Row (Unread Row)). of (record { place = (said_or w (blank_row k)).place; character = (said_or w (blank_row k)).character }))
               (row-says k line h)) (row_lines (is_row k) s)
               (sym (ap (λ x. x.in_range) front-is) ∙ e₂)
 
@@ -207,7 +208,7 @@ module _ (k : Rows) (s : List ℕ) (first : Result Site Fault) (f : first ≡ si
             unfolding front_read rows_said head_line
             all_held {site} g = record {
               site-held =
-                  ap (λ (w : Result Site Fault). result_unwrap_or w site) (sym g ∙ f ∙ site-says v (head_line s) (sym (ap is_ok f) ∙ e₁));
+                  ap (λ (w : Result Site (Unread Site)). result_unwrap_or w site) (sym g ∙ f ∙ site-says v (head_line s) (sym (ap is_ok f) ∙ e₁));
               places-held =
                   let wide : length places ≡ n = ap length p ∙ places-length k n (rows_ahead k body) in
                   rw wide

@@ -26,10 +26,12 @@ use Rattle.saved.specs.Rows.{is_row, characters_held, pending_held}
 use Rattle.std.specs.Prelude.{Result, Ok, Err, is_ok}
 use Rattle.std.specs.Result.{result_unwrap_or}
 use Rattle.decimal.specs.declared.Fault.{Fault}
-use Rattle.decimal.specs.declared.Fault.TheVariants.{Above, Malformed}
+use Rattle.decimal.specs.declared.Fault.TheVariants.{Malformed as NumberMalformed, Above as NumberAbove}
 use Rattle.woot.specs.State.{blank_operation}
 use Rattle.saved_lines.specs.declared.Row.{Row}
-use Rattle.saved_lines.specs.Judging.{in_layout, row_read, operation_read}
+use Rattle.saved_lines.specs.declared.Unread.{Unread}
+use Rattle.saved_lines.specs.declared.Unread.TheVariants.{Malformed, Above, OutOfRange}
+use Rattle.saved_lines.specs.Judging.{in_layout, said_or, row_read, operation_in_layout, operation_read}
 use Rattle.saved_lines.proofs.Judging.{row_laid, operation_laid}
 use Rattle.loading.specs.declared.filling.Front.{Front}
 use Rattle.std.specs.Prelude.{Option, Some, None}
@@ -40,23 +42,42 @@ use Rattle.loading.proofs.Storing.{kept-number, kept-at, kept_in_lem, in_slots-l
 
 -- ---- what was told of a line
 
--- it lacks the layout
-pub lacking : {A : Type 0} {w : Result A Fault} {f : Fault} → w ≡ Err f → f ≡ Malformed → in_layout w ≡ false
-lacking e h = rw (e, h)
+-- it has the layout: what is stored of it is what it says, and whether all are in range so far
+pub record Stored {A : Type 0} (laid passes : Bool) (said stored : A) (good good' : Bool) : Type 0 where
+  pub in_layout_so : laid ≡ true
+  pub is : stored ≡ said
+  pub ranged : good' ≡ good && passes
 
--- it has the layout: what is stored of it, and whether all are in range so far
-pub record Stored {A : Type 0} (w : Result A Fault) (blank stored : A) (good good' : Bool) : Type 0 where
-  pub in_layout_so : in_layout w ≡ true
-  pub is : stored ≡ result_unwrap_or w blank
-  pub ranged : good' ≡ good && is_ok w
+-- of a row or a site
+module _ {A : Type 0} {w : Result A (Unread A)} where
+  pub lacking : {u : Unread A} → w ≡ Err u → u ≡ Malformed → in_layout w ≡ false
+  lacking e h = rw (e, h)
 
-pub stored_said : {A : Type 0} {w : Result A Fault} {blank x stored : A} {good good' : Bool} → w ≡ Ok x → stored ≡ x → good' ≡ good
-    → Stored w blank stored good good'
-stored_said {good} {good'} e s g = record { in_layout_so = rw e; is = rw e s; ranged = rw e (g ∙ sym (and_true good)) }
+  module _ (blank : A) {stored : A} {good good' : Bool} where
+    pub stored_said : {x : A} → w ≡ Ok x → stored ≡ x → good' ≡ good → Stored (in_layout w) (is_ok w) (said_or w blank) stored good good'
+    stored_said e s g = record { in_layout_so = rw e; is = rw e s; ranged = rw e (g ∙ sym (and_true good)) }
 
-pub stored_blank : {A : Type 0} {w : Result A Fault} {blank stored : A} {good good' : Bool} {f : Fault} → w ≡ Err f → f ≡ Above → stored ≡ blank → good' ≡ false
-    → Stored w blank stored good good'
-stored_blank {good} e h s g = record { in_layout_so = rw (e, h); is = rw e s; ranged = rw e (g ∙ sym (and_none good)) }
+    pub stored_out : {u : Unread A} {x : A} → w ≡ Err u → u ≡ OutOfRange x → stored ≡ x → good' ≡ false
+        → Stored (in_layout w) (is_ok w) (said_or w blank) stored good good'
+    stored_out e h s g = record { in_layout_so = rw (e, h); is = rw (e, h) s; ranged = rw e (g ∙ sym (and_none good)) }
+
+    pub stored_blank : {u : Unread A} → w ≡ Err u → u ≡ Above → stored ≡ blank → good' ≡ false
+        → Stored (in_layout w) (is_ok w) (said_or w blank) stored good good'
+    stored_blank e h s g = record { in_layout_so = rw (e, h); is = rw (e, h) s; ranged = rw e (g ∙ sym (and_none good)) }
+
+-- of an operation
+module _ {w : Result Operation Fault} where
+  pub operation_lacking : {f : Fault} → w ≡ Err f → f ≡ NumberMalformed → operation_in_layout w ≡ false
+  operation_lacking e h = rw (e, h)
+
+  module _ {operation : Operation} {good good' : Bool} where
+    pub operation_stored : {o : Operation} → w ≡ Ok o → operation ≡ o → good' ≡ good
+        → Stored (operation_in_layout w) (is_ok w) (result_unwrap_or w blank_operation) operation good good'
+    operation_stored e s g = record { in_layout_so = rw e; is = rw e s; ranged = rw e (g ∙ sym (and_true good)) }
+
+    pub operation-blank : {f : Fault} → w ≡ Err f → f ≡ NumberAbove → operation ≡ blank_operation → good' ≡ false
+        → Stored (operation_in_layout w) (is_ok w) (result_unwrap_or w blank_operation) operation good good'
+    operation-blank e h s g = record { in_layout_so = rw (e, h); is = rw e s; ranged = rw e (g ∙ sym (and_none good)) }
 
 -- ---- what is held
 
@@ -198,7 +219,7 @@ module _ {k : Rows} {s : List ℕ} {o : ℕ} {starts : List ℕ} {m : ℕ} {plac
   pub front-toggles : length toggles ≡ 1024
   front-toggles = ap length l.toggled ∙ toggles-length (map (line_character k) l.done)
 
-  module _ (w : Result Row Fault) (r : w ≡ row_read k (get_or (lines left) 0 [])) where
+  module _ (w : Result Row (Unread Row)) (r : w ≡ row_read k (get_or (lines left) 0 [])) where
     read-row : in_layout w ≡ is_row k (get_or (lines left) 0 [])
     read-row = ap in_layout r ∙ row_laid k (get_or (lines left) 0 [])
 
@@ -249,7 +270,7 @@ module _ {k : Rows} {s : List ℕ} {o : ℕ} {starts : List ℕ} {m : ℕ} {plac
       front-next {next} h = part-is left next ∙ past-front left (h (λ q. clash e (ap in_layout q)))
 
       pub front-more : {starts' places' characters' toggles' : List ℕ} {row : Row} {good' : Bool} {left' : List ℕ}
-          → Stored w blank_row row good good'
+          → Stored (in_layout w) (is_ok w) (said_or w (blank_row k)) row good good'
           → starts' ≡ kept_at (length starts) count (length s - length left) starts
           → places' ≡ kept_at (length places) count row.place places
           → characters' ≡ kept_in character_slots count (key row.character.id) (key row.character.previous) (key row.character.next)
@@ -333,11 +354,11 @@ module _ {v : Version} {s pending : List ℕ} {count : ℕ} {good : Bool} {left 
     back-filled = rw all_lines l.filled
 
   module _ (h : 0 < length left) (w : Result Operation Fault) (r : w ≡ operation_read v (get_or (lines left) 0 [])) where
-    read-operation : in_layout w ≡ is_operation v (get_or (lines left) 0 [])
-    read-operation = ap in_layout r ∙ operation_laid v (get_or (lines left) 0 [])
+    read-operation : operation_in_layout w ≡ is_operation v (get_or (lines left) 0 [])
+    read-operation = ap operation_in_layout r ∙ operation_laid v (get_or (lines left) 0 [])
 
     -- the next line lacks the layout, or no line feed ends it
-    module _ (e : in_layout w ≡ false) where
+    module _ (e : operation_in_layout w ≡ false) where
       pub back-lacks : operations_laid v s ≡ false
       unfolding operations_laid
       back-lacks = go (ended left) refl
@@ -361,12 +382,12 @@ module _ {v : Version} {s pending : List ℕ} {count : ℕ} {good : Bool} {left 
       back_none = rw back-lacks
 
     -- it has the layout
-    module _ (e : in_layout w ≡ true) where
+    module _ (e : operation_in_layout w ≡ true) where
       is-operation : is_operation v (get_or (lines left) 0 []) ≡ true
       is-operation = sym read-operation ∙ e
 
       pub back_more : {pending' : List ℕ} {operation : Operation} {good' : Bool} {left' : List ℕ}
-          → Stored w blank_operation operation good good'
+          → Stored (operation_in_layout w) (is_ok w) (result_unwrap_or w blank_operation) operation good good'
           → pending' ≡ kept_in pending_slots count (own_key operation) (first_key operation) (second_key operation) (value_of operation) pending
           → left' ≡ rest left → BackLoop v s pending' (count + 1) good' left'
       unfolding pending_held

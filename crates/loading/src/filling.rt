@@ -17,7 +17,7 @@ ghost use Rattle.loading.specs.Filling.{back_read, operations_laid};
 use crate::reading::head;
 use decimal::Fault;
 use saved::{Rows, Version};
-use saved_lines::Row;
+use saved_lines::{Row, Unread};
 use woot::{CHARACTERS, Character, Identifier, Insert, Operation, PENDING};
 
 // How many rows or operations there are, and whether each is in range.
@@ -104,15 +104,15 @@ fn store_operation(pending: &mut [u32], i: usize, operation: Operation)
     );
 }
 
-// What is stored of a row out of range: nobody reads the arrays then.
-fn blank_row() -> Row
-    ensures { result ≡ blank_row }
+// What zeros say as a row: it is stored of a line with a number above its limit. Nobody reads the arrays then.
+fn blank_row(rows: Rows) -> Row
+    ensures { result ≡ blank_row rows }
 {
     let none = Identifier::BEGIN;
     let character = Character {
         id: none,
         code_point: 0,
-        toggles: 0,
+        toggles: rows.version().toggle_field(0) as u8,
         previous: none,
         next: none,
     };
@@ -122,7 +122,7 @@ fn blank_row() -> Row
     }
 }
 
-// The same of an operation.
+// What is stored of an operation out of range.
 fn blank_operation() -> Operation
     ensures { result ≡ blank_operation }
 {
@@ -171,11 +171,15 @@ pub(crate) fn read_rows_at(
         let at = bytes.len() - left.len();
         let row = match ahead.line {
             Ok(row) => row,
-            Err(Fault::Above) => {
+            Err(Unread::OutOfRange(row)) => {
                 in_range = false;
-                blank_row()
+                row
             }
-            Err(Fault::Malformed) => {
+            Err(Unread::Above) => {
+                in_range = false;
+                blank_row(rows)
+            }
+            Err(Unread::Malformed) => {
                 let front = Front { count, in_range };
                 return Ahead { front, end: at };
             }

@@ -18,9 +18,9 @@ ghost use Rattle.replica.specs.Outcomes.{replica_lent};
 ghost use Rattle.loading.specs.Filling.{read_answer, Blank, RowsNoted};
 
 use answers::Refusal;
-use decimal::Fault;
 use reading::both;
 use saved::{Loaded, Rows, Version};
+use saved_lines::Unread;
 use woot::{CHARACTERS, PENDING, Replica, Site, Table};
 
 // What reading answers, and where that is `Done` what stands beside the arrays: the site, how many rows there are
@@ -83,8 +83,8 @@ fn read_lines_at(
     let first = saved_lines::read_site_front(version, bytes);
     let first_site = match first.line {
         Ok(site) => Some(site),
-        Err(Fault::Above) => None,
-        Err(Fault::Malformed) => return refuse_into(Refusal::Layout),
+        Err(Unread::Above | Unread::OutOfRange(_)) => None,
+        Err(Unread::Malformed) => return refuse_into(Refusal::Layout),
     };
     let next = first.next;
     let body = &bytes[next..];

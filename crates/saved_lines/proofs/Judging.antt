@@ -16,14 +16,15 @@ use Rattle.bulk.specs.Archiving.{Placed, place_in_range}
 use Rattle.lists.specs.Padding.{pad}
 use Rattle.lists.proofs.Tests.{agree, and_left_lem, and_right, and_intro}
 use Rattle.std.specs.Prelude.{Result, is_ok}
-use Rattle.decimal.specs.declared.Fault.{Fault}
-use Rattle.decimal.specs.declared.Fault.TheVariants.{Malformed, Above}
+use Rattle.decimal.specs.declared.Fault.TheVariants.{Malformed as NumberMalformed, Above as NumberAbove}
 use Rattle.lines.specs.Fields.{fields, has_layout, values_of, at_most}
 use Rattle.lines.specs.Answers.{slots, Numbers, verdict_on, numbers_of}
 use Rattle.lines.proofs.Values.{at_most_none, at_most_from, at-padded}
 use Rattle.codec.specs.Calls.{read_as}
 use Rattle.codec.proofs.Judging.{identifier-padded, read-layout, read-range, read-operation}
 use Rattle.saved_lines.specs.declared.Row.{Row}
+use Rattle.saved_lines.specs.declared.Unread.{Unread}
+use Rattle.saved_lines.specs.declared.Unread.TheVariants.{Malformed, Above, OutOfRange}
 use Rattle.saved.specs.declared.Version.{Version}
 use Rattle.saved.specs.declared.Version.TheVariants.{Second}
 use Rattle.saved.specs.declared.Rows.{Rows}
@@ -33,61 +34,69 @@ use Rattle.saved.specs.Format.{is_character, character_said, is_operation, opera
 use Rattle.saved.specs.Archive.{placed_limits, placed_of, is_placed, placed_said}
 use Rattle.saved.specs.Rows.{is_row, row_said, row_within}
 use Rattle.saved_lines.specs.Judging.{in_layout, ranged, said_in, site_read, row_head, row_limits, row_as, row_of, row_in_range, row_read}
-use Rattle.saved_lines.specs.Judging.{operation_read, pending_read}
+use Rattle.saved_lines.specs.Judging.{operation_in_layout, operation_read, pending_read}
 use Rattle.saved.proofs.Bounds.{site-at_most, character-at_most, at_most_within}
 
 module _ {A : Type 0} (say : List ℕ → A) (passes : A → Bool) (l : Bool) (limits ns : List ℕ) where
-  -- what is said by numbers is what the line says, in range where the numbers are within their limits and it passes
+  -- what is said by numbers within their limits is what the line says, in range where it passes
   says_so : ((m : ℕ) (ms : List ℕ) → say (ms ++ replicate m 0) ≡ say ms)
-      → said_in say passes (verdict_on l limits ns) ≡ cond l (ranged (at_most limits ns && passes (say ns)) (say ns)) (Err Malformed)
+      → said_in say passes (verdict_on l limits ns) ≡ cond l (cond (at_most limits ns) (ranged (passes (say ns)) (say ns)) (Err Above)) (Err Malformed)
   unfolding verdict_on said_in ranged pad
   says_so padded = go l (at_most limits ns)
     where
-      go : (b c : Bool) → said_in say passes (cond b (cond c (Ok (pad slots 0 ns)) (Err Above)) (Err Malformed))
-          ≡ cond b (ranged (c && passes (say ns)) (say ns)) (Err Malformed)
+      go : (b c : Bool) → said_in say passes (cond b (cond c (Ok (pad slots 0 ns)) (Err NumberAbove)) (Err NumberMalformed))
+          ≡ cond b (cond c (ranged (passes (say ns)) (say ns)) (Err Above)) (Err Malformed)
       go true true = ap (λ (x : A). ranged (passes x) x) (padded (slots - length ns) ns)
       go true false = refl
       go false c = refl
 
 -- what the code makes of numbers that are taken
 module _ {A : Type 0} (say : List ℕ → A) (passes : A → Bool) where
-  pub says_made : {r : Numbers} {ns : List ℕ} → r ≡ Ok ns → {b : Bool} {x : A} → x ≡ say ns → b ≡ passes x → {w : Result A Fault} → w ≡ ranged b x
+  pub says_made : {r : Numbers} {ns : List ℕ} → r ≡ Ok ns → {b : Bool} {x : A} → x ≡ say ns → b ≡ passes x → {w : Result A (Unread A)} → w ≡ ranged b x
       → w ≡ said_in say passes r
   unfolding said_in
   says_made t {b} {x} s p e = rw t (e ∙ ap (λ (c : Bool). ranged c x) p ∙ ap (λ (y : A). ranged (passes y) y) s)
 
   -- numbers without the layout say nothing
-  pub lacks-layout : {r : Numbers} {x : Result A Fault} → x ≡ said_in say passes r → (x ≡ Err Malformed → ⊥) → r ≡ Err Malformed → ⊥
+  pub lacks-layout : {r : Numbers} {x : Result A (Unread A)} → x ≡ said_in say passes r → (x ≡ Err Malformed → ⊥) → r ≡ Err NumberMalformed → ⊥
   unfolding said_in
   lacks-layout e h q = h (e ∙ ap (said_in say passes) q)
 
--- what is known of a line by what it says
-module _ {A : Type 0} {w : Result A Fault} (l p : Bool) (x : A) (e : w ≡ cond l (ranged p x) (Err Malformed)) where
-  laid_told : in_layout w ≡ l
-  unfolding ranged
-  laid_told = rw e (go l p)
+-- a line says x where it has the layout, its numbers are within their limits, and x passes
+record Told {A E : Type 0} (w : Result A E) (laid within passes : Bool) (x : A) (out above lacks : E) : Type 0 where
+  is : w ≡ cond laid (cond within (cond passes (Ok x) (Err out)) (Err above)) (Err lacks)
+
+-- what is known of such a line
+module _ {A E : Type 0} {w : Result A E} {l t p : Bool} {x : A} {out above lacks : E} (told : Told w l t p x out above lacks) where
+  abbrev says : Bool → Bool → Bool → Result A E
+  says a b c = cond a (cond b (cond c (Ok x) (Err out)) (Err above)) (Err lacks)
+
+  laid_told : (laid : Result A E → Bool) → laid (Ok x) ≡ true → laid (Err out) ≡ true → laid (Err above) ≡ true → laid (Err lacks) ≡ false
+      → laid w ≡ l
+  laid_told laid q r s u = rw told.is (go l t p)
     where
-      go : (b c : Bool) → in_layout (cond b (cond c (Ok x) (Err Above)) (Err Malformed)) ≡ b
+      go : (a b c : Bool) → laid (says a b c) ≡ a
+      go true true true = q
+      go true true false = r
+      go true false c = s
+      go false b c = u
+
+  range_told : l ≡ true → is_ok w ≡ t && p
+  range_told h = rw (told.is, h) (go t p)
+    where
+      go : (b c : Bool) → is_ok (says true b c) ≡ b && c
       go true true = refl
       go true false = refl
       go false c = refl
 
-  range_told : l ≡ true → is_ok w ≡ p
-  unfolding ranged
-  range_told h = rw (e, h) (go p)
-    where
-      go : (c : Bool) → is_ok (cond c (Ok x) (Err Above)) ≡ c
-      go true = refl
-      go false = refl
-
   said_told : is_ok w ≡ true → w ≡ Ok x
-  unfolding ranged
-  said_told h = e ∙ go l p (rw e at h)
+  said_told h = told.is ∙ go l t p (rw told.is at h)
     where
-      go : (b c : Bool) → is_ok (cond b (cond c (Ok x) (Err Above)) (Err Malformed)) ≡ true → cond b (cond c (Ok x) (Err Above)) (Err Malformed) ≡ Ok x
-      go true true q = refl
-      go true false q = cc
-      go false c q = cc
+      go : (a b c : Bool) → is_ok (says a b c) ≡ true → says a b c ≡ Ok x
+      go true true true q = refl
+      go true true false q = cc
+      go true false c q = cc
+      go false b c q = cc
 
 -- numbers that say what is in range are within their limits
 within_limits : {A : Type 0} (say : List ℕ → A) (passes : A → Bool) (limits : List ℕ) → ((ns : List ℕ) → passes (say ns) ≡ true → at_most limits ns ≡ true)
@@ -106,21 +115,20 @@ abbrev ns : List ℕ → List ℕ
 ns line = values_of (fields line)
 
 module _ (v : Version) (line : List ℕ) where
-  site_is : site_read v line ≡ cond (is_site v line) (ranged (site_in_range (site_said line)) (site_said line)) (Err Malformed)
-  unfolding site_read numbers_of is_site site_said
-  site_is =
-      says_so site_of site_in_range (is_site v line) site_limits (ns line) site-padded
-      ∙ ap (λ (b : Bool). cond (is_site v line) (ranged b (site_of (ns line))) (Err Malformed))
-      (within_limits site_of site_in_range site_limits site-at_most (ns line))
+  site_is : Told (site_read v line) (is_site v line) (at_most site_limits (ns line)) (site_in_range (site_said line)) (site_said line)
+      (OutOfRange (site_said line)) Above Malformed
+  unfolding site_read numbers_of is_site site_said ranged
+  site_is = record { is = says_so site_of site_in_range (is_site v line) site_limits (ns line) site-padded }
 
   pub site_laid : in_layout (site_read v line) ≡ is_site v line
-  site_laid = laid_told _ _ _ site_is
+  site_laid = laid_told site_is in_layout refl refl refl refl
 
   pub site-passes : is_site v line ≡ true → is_ok (site_read v line) ≡ site_in_range (site_said line)
-  site-passes = range_told _ _ _ site_is
+  unfolding site_said
+  site-passes h = range_told site_is h ∙ within_limits site_of site_in_range site_limits site-at_most (ns line)
 
   pub site-says : is_ok (site_read v line) ≡ true → site_read v line ≡ Ok (site_said line)
-  site-says = said_told _ _ _ site_is
+  site-says = said_told site_is
 
 -- ---- a row's line
 
@@ -199,28 +207,29 @@ module _ (k : Rows) (line : List ℕ) where
       go (Saved v) = refl
       go Archived = refl
 
-  row_is : row_read k line
-      ≡ cond (is_row k line)
-      (ranged (row_within k (row_said k line) && character_in_range (row_said k line).character) (row_as (row_said k line)))
-      (Err Malformed)
-  unfolding row_read numbers_of
-  row_is =
-      says_so (row_of k) (row_in_range k) (has_layout (row_head k) (length (row_limits k)) (fields line)) (row_limits k) (ns line) (row-padded k)
-      ∙ (λ j. cond (has-layout j) (ranged (passes j) (row_as (row-of j))) (Err Malformed))
-    where
-      passes : at_most (row_limits k) (ns line) && row_in_range k (row_of k (ns line))
-          ≡ row_within k (row_said k line) && character_in_range (row_said k line).character
-      passes = row-limits k (ns line) ∙ ap (λ (p : Placed). row_within k p && character_in_range p.character) row-of
+  row_is : Told (row_read k line) (is_row k line) (at_most (row_limits k) (ns line)) (row_in_range k (row_of k (ns line)))
+      (row_of k (ns line)) (OutOfRange (row_of k (ns line))) Above Malformed
+  unfolding row_read numbers_of ranged
+  row_is = record {
+    is =
+        says_so (row_of k) (row_in_range k) (has_layout (row_head k) (length (row_limits k)) (fields line)) (row_limits k) (ns line) (row-padded k)
+        ∙ (λ j. cond (has-layout j)
+        (cond (at_most (row_limits k) (ns line)) (ranged (row_in_range k (row_of k (ns line))) (row_of k (ns line))) (Err Above))
+        (Err Malformed));
+  }
 
   pub row_laid : in_layout (row_read k line) ≡ is_row k line
-  row_laid = laid_told _ _ _ row_is
+  row_laid = laid_told row_is in_layout refl refl refl refl
 
   pub row-passes : is_row k line ≡ true
       → is_ok (row_read k line) ≡ row_within k (row_said k line) && character_in_range (row_said k line).character
-  row-passes = range_told _ _ _ row_is
+  row-passes h =
+      range_told row_is h
+      ∙ row-limits k (ns line)
+      ∙ ap (λ (p : Placed). row_within k p && character_in_range p.character) row-of
 
   pub row-says : is_ok (row_read k line) ≡ true → row_read k line ≡ Ok (row_as (row_said k line))
-  row-says = said_told _ _ _ row_is
+  row-says h = said_told row_is h ∙ ap (λ (p : Placed). Ok (row_as p)) row-of
 
 -- ---- an operation's line, by what `codec` answers
 
@@ -229,12 +238,17 @@ module _ (v : Version) (line : List ℕ) where
   unfolding pending_read
   by_checks = refl
 
-  operation_is : operation_read v line ≡ cond (is_operation v line) (ranged (in_range (operation_said line)) (operation_said line)) (Err Malformed)
+  operation_is : operation_read v line
+      ≡ cond (is_operation v line) (cond (in_range (operation_said line)) (Ok (operation_said line)) (Err NumberAbove)) (Err NumberMalformed)
   unfolding operation_read
   operation_is = refl
 
+  -- its numbers and their limits are those of `codec`
+  operation-told : Told (operation_read v line) (is_operation v line) true (in_range (operation_said line)) (operation_said line)
+      NumberAbove NumberAbove NumberMalformed
+  operation-told = record { is = operation_is }
+
   pub operation_done : (o : Operation) → pending_read v line ≡ Ok o → Ok o ≡ operation_read v line
-  unfolding ranged
   operation_done o e = go (is_operation v line) (in_range (operation_said line)) refl refl
     where
       go : (a b : Bool) → is_operation v line ≡ a → in_range (operation_said line) ≡ b → Ok o ≡ operation_read v line
@@ -246,19 +260,18 @@ module _ (v : Version) (line : List ℕ) where
           rw (operation_is, p, q) (ap Ok (sym same))
 
   module _ (r : Refusal) (e : pending_read v line ≡ Err r) where
-    pub operation_range : r ≡ Range → Err Above ≡ operation_read v line
-    unfolding ranged
+    pub operation_range : r ≡ Range → Err NumberAbove ≡ operation_read v line
     operation_range h = go (is_operation v line) (in_range (operation_said line)) refl refl
       where
-        go : (a b : Bool) → is_operation v line ≡ a → in_range (operation_said line) ≡ b → Err Above ≡ operation_read v line
+        go : (a b : Bool) → is_operation v line ≡ a → in_range (operation_said line) ≡ b → Err NumberAbove ≡ operation_read v line
         go false b p q = let z : Err Layout ≡ Err Range = sym (read-layout _) ∙ rw (by_checks, p, h) at e in cc
         go true false p q = rw (operation_is, p, q)
         go true true p q = let z : Ok (operation_said line) ≡ Err r = sym (read-operation _ q) ∙ rw (by_checks, p) at e in cc
 
-    pub operation_layout : (r ≡ Range → ⊥) → Err Malformed ≡ operation_read v line
+    pub operation_layout : (r ≡ Range → ⊥) → Err NumberMalformed ≡ operation_read v line
     operation_layout h = go (is_operation v line) (in_range (operation_said line)) refl refl
       where
-        go : (a b : Bool) → is_operation v line ≡ a → in_range (operation_said line) ≡ b → Err Malformed ≡ operation_read v line
+        go : (a b : Bool) → is_operation v line ≡ a → in_range (operation_said line) ≡ b → Err NumberMalformed ≡ operation_read v line
         go false b p q = rw (operation_is, p)
         go true false p q =
             let z : Err Range ≡ Err r = sym (read-range _ q) ∙ rw (by_checks, p) at e in
@@ -267,11 +280,11 @@ module _ (v : Version) (line : List ℕ) where
         go true true p q = let z : Ok (operation_said line) ≡ Err r = sym (read-operation _ q) ∙ rw (by_checks, p) at e in cc
 
   -- what is read of it is what the line says
-  pub operation_laid : in_layout (operation_read v line) ≡ is_operation v line
-  operation_laid = laid_told _ _ _ operation_is
+  pub operation_laid : operation_in_layout (operation_read v line) ≡ is_operation v line
+  operation_laid = laid_told operation-told operation_in_layout refl refl refl refl
 
   pub operation-passes : is_operation v line ≡ true → is_ok (operation_read v line) ≡ in_range (operation_said line)
-  operation-passes = range_told _ _ _ operation_is
+  operation-passes = range_told operation-told
 
   pub operation_says : is_ok (operation_read v line) ≡ true → operation_read v line ≡ Ok (operation_said line)
-  operation_says = said_told _ _ _ operation_is
+  operation_says = said_told operation-told

@@ -12,8 +12,8 @@ ghost use Rattle.woot.specs.Ranges.{site_in_range, character_in_range};
 ghost use Rattle.bulk.specs.Archiving.{place_in_range};
 ghost use Rattle.saved.specs.Format.{site_head, site_limits, site_of, character_limits, character_of};
 ghost use Rattle.saved.specs.Archive.{placed_limits};
-ghost use Rattle.saved_lines.specs.Judging.{ranged, said_in, front_line, site_read, row_of, row_in_range, row_read};
-ghost use Rattle.saved_lines.specs.Judging.{pending_read, operation_read};
+ghost use Rattle.saved_lines.specs.Judging.{unread, ranged, said_in, front_line, site_read, row_of, row_in_range};
+ghost use Rattle.saved_lines.specs.Judging.{row_read, pending_read, operation_read};
 
 use answers::Refusal;
 use decimal::Fault;
@@ -28,22 +28,44 @@ pub struct Row {
     pub character: Character,
 }
 
-// What the line at the front of bytes says if it is in range, and the offset just past its line feed.
+// Why a line is not taken.
+#[derive(Clone, Copy)]
+pub enum Unread<T> {
+    // It lacks the layout of its kind.
+    Malformed,
+    // A number is above its limit.
+    Above,
+    // Each number is within its limit, and what they say is out of range: this.
+    OutOfRange(T),
+}
+
+impl<T> From<Fault> for Unread<T> {
+    ghost from_gives = { λ fault reason. reason ≡ unread fault };
+
+    fn from(fault: Fault) -> Unread<T> {
+        match fault {
+            Fault::Above => Unread::Above,
+            Fault::Malformed => Unread::Malformed,
+        }
+    }
+}
+
+// What the line at the front of bytes says, or why it is not taken, and the offset just past its line feed.
 #[derive(Clone, Copy)]
 pub struct AtFront<T> {
-    pub line: Result<T, Fault>,
+    pub line: Result<T, Unread<T>>,
     pub next: usize,
 }
 
-// What a line says whose numbers are within their limits, if it is in range.
+// What a line says whose numbers are within their limits, in range or not.
 #[tactic(auto, unfolding(crate::specs::Judging::ranged))]
-fn ranged<T: Copy>(in_range: bool, said: T) -> Result<T, Fault>
+fn ranged<T: Copy>(in_range: bool, said: T) -> Result<T, Unread<T>>
     ensures { result ≡ ranged in_range said }
 {
     if in_range {
         return Ok(said);
     }
-    Err(Fault::Above)
+    Err(Unread::OutOfRange(said))
 }
 
 // The site that numbers within their limits say.
@@ -69,7 +91,7 @@ fn read_site_numbers_front(version: Version, bytes: &[u8]) -> Front
 
 // The site that the numbers of a line say.
 #[tactic(auto, unfolding(crate::specs::Judging::said_in))]
-fn site_said(numbers: Result<[u64; 9], Fault>) -> Result<Site, Fault>
+fn site_said(numbers: Result<[u64; 9], Fault>) -> Result<Site, Unread<Site>>
     requires { IfOk numbers (λ values. at_most site_limits values ≡ true) }
     ensures { result ≡ said_in site_of site_in_range numbers }
 {
@@ -78,7 +100,7 @@ fn site_said(numbers: Result<[u64; 9], Fault>) -> Result<Site, Fault>
 }
 
 // Reads a line, without its line feed, as a site's.
-pub fn read_site(version: Version, line: &[u8]) -> Result<Site, Fault>
+pub fn read_site(version: Version, line: &[u8]) -> Result<Site, Unread<Site>>
     ensures { result ≡ site_read version line.now }
 {
     let limits = [16u64, 65535];
@@ -88,7 +110,7 @@ pub fn read_site(version: Version, line: &[u8]) -> Result<Site, Fault>
 // Reads the line at the front of bytes as a site's.
 pub fn read_site_front(version: Version, bytes: &[u8]) -> AtFront<Site>
     ensures line_value { result.line ≡ site_read version (front_line bytes.now) }
-    ensures next_value { (result.line ≡ Err Fault.Malformed → ⊥) → result.next ≡ length (first_line bytes.now) + 1 }
+    ensures next_value { (result.line ≡ Err Unread.Malformed → ⊥) → result.next ≡ length (first_line bytes.now) + 1 }
     ensures next_in_bounds { result.next ≤ length bytes.now }
 {
     let front = read_site_numbers_front(version, bytes);
@@ -115,7 +137,7 @@ fn character_of(version: Version, values: [u64; 9], from: usize) -> Character
 
 // The row that the numbers of a character's line say.
 #[tactic(auto, unfolding(crate::specs::Judging::said_in))]
-fn character_row(version: Version, numbers: Result<[u64; 9], Fault>) -> Result<Row, Fault>
+fn character_row(version: Version, numbers: Result<[u64; 9], Fault>) -> Result<Row, Unread<Row>>
     requires { IfOk numbers (λ values. at_most (character_limits version) values ≡ true) }
     ensures { result ≡ said_in (row_of (Rows.Saved version)) (row_in_range (Rows.Saved version)) numbers }
 {
@@ -128,7 +150,7 @@ fn character_row(version: Version, numbers: Result<[u64; 9], Fault>) -> Result<R
 }
 
 // Reads a line as a character's.
-fn read_character(version: Version, line: &[u8]) -> Result<Row, Fault>
+fn read_character(version: Version, line: &[u8]) -> Result<Row, Unread<Row>>
     ensures { result ≡ row_read (Rows.Saved version) line.now }
 {
     let head = [CHARACTER];
@@ -140,7 +162,7 @@ fn read_character(version: Version, line: &[u8]) -> Result<Row, Fault>
 // Reads the line at the front of bytes as a character's.
 fn read_character_front(version: Version, bytes: &[u8]) -> AtFront<Row>
     ensures line_value { result.line ≡ row_read (Rows.Saved version) (front_line bytes.now) }
-    ensures next_value { (result.line ≡ Err Fault.Malformed → ⊥) → result.next ≡ length (first_line bytes.now) + 1 }
+    ensures next_value { (result.line ≡ Err Unread.Malformed → ⊥) → result.next ≡ length (first_line bytes.now) + 1 }
     ensures next_in_bounds { result.next ≤ length bytes.now }
 {
     let head = [CHARACTER];
@@ -164,7 +186,7 @@ fn placed_in_range(place: u32, character: Character) -> bool
 
 // The row that the numbers of a line say that has a place.
 #[tactic(auto, unfolding(crate::specs::Judging::said_in))]
-fn placed_row(numbers: Result<[u64; 9], Fault>) -> Result<Row, Fault>
+fn placed_row(numbers: Result<[u64; 9], Fault>) -> Result<Row, Unread<Row>>
     requires { IfOk numbers (λ values. at_most placed_limits values ≡ true) }
     ensures { result ≡ said_in (row_of Rows.Archived) (row_in_range Rows.Archived) numbers }
 {
@@ -175,7 +197,7 @@ fn placed_row(numbers: Result<[u64; 9], Fault>) -> Result<Row, Fault>
 }
 
 // Reads a line as a character's with its place.
-fn read_placed(line: &[u8]) -> Result<Row, Fault>
+fn read_placed(line: &[u8]) -> Result<Row, Unread<Row>>
     ensures { result ≡ row_read Rows.Archived line.now }
 {
     let head = [PLACED];
@@ -186,7 +208,7 @@ fn read_placed(line: &[u8]) -> Result<Row, Fault>
 // Reads the line at the front of bytes as a character's with its place.
 fn read_placed_front(bytes: &[u8]) -> AtFront<Row>
     ensures line_value { result.line ≡ row_read Rows.Archived (front_line bytes.now) }
-    ensures next_value { (result.line ≡ Err Fault.Malformed → ⊥) → result.next ≡ length (first_line bytes.now) + 1 }
+    ensures next_value { (result.line ≡ Err Unread.Malformed → ⊥) → result.next ≡ length (first_line bytes.now) + 1 }
     ensures next_in_bounds { result.next ≤ length bytes.now }
 {
     let head = [PLACED];
@@ -199,7 +221,7 @@ fn read_placed_front(bytes: &[u8]) -> AtFront<Row>
 }
 
 // Reads a line, without its line feed, as a row of the given kind.
-pub fn read_row(rows: Rows, line: &[u8]) -> Result<Row, Fault>
+pub fn read_row(rows: Rows, line: &[u8]) -> Result<Row, Unread<Row>>
     ensures { result ≡ row_read rows line.now }
 {
     match rows {
@@ -211,7 +233,7 @@ pub fn read_row(rows: Rows, line: &[u8]) -> Result<Row, Fault>
 // Reads the line at the front of bytes as a row of the given kind.
 pub fn read_row_front(rows: Rows, bytes: &[u8]) -> AtFront<Row>
     ensures line_value { result.line ≡ row_read rows (front_line bytes.now) }
-    ensures next_value { (result.line ≡ Err Fault.Malformed → ⊥) → result.next ≡ length (first_line bytes.now) + 1 }
+    ensures next_value { (result.line ≡ Err Unread.Malformed → ⊥) → result.next ≡ length (first_line bytes.now) + 1 }
     ensures next_in_bounds { result.next ≤ length bytes.now }
 {
     match rows {

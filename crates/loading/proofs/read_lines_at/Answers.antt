@@ -3,8 +3,8 @@ use Rattle.std.proofs.Common.{Ok, Err, is_ok}
 use Rattle.woot.specs.declared.Site.{Site}
 use Rattle.std.specs.Prelude.{Result}
 use Rattle.std.specs.Result.{result_ok}
-use Rattle.decimal.specs.declared.Fault.{Fault}
-use Rattle.decimal.specs.declared.Fault.TheVariants.{Above}
+use Rattle.saved_lines.specs.declared.Unread.{Unread}
+use Rattle.saved_lines.specs.declared.Unread.TheVariants.{Malformed, Above, OutOfRange}
 use mathlib.Core.Path.{◌≡◌, refl, sym, ap, ◌∙◌, subst}
 use mathlib.Core.List.{List, [], map}
 use mathlib.Core.Bool.{Bool, true, false, ◌&&◌}
@@ -45,15 +45,17 @@ Told ps later pending v =
     × ((length pending ≡ pending_numbers)
     × (operations_laid v later ≡ true → pending ≡ pending_held (take pending_slots (map (line_operation v) (lines later)))))
 
--- a site that is in range, or out of it
-laid_above : {w : Result Site Fault} {f : Fault} → w ≡ Err f → f ≡ Above → in_layout w ≡ true
-laid_above e h = rw (e, h)
+-- a line that tells a site, but not one that is taken
+laid_above : {w : Result Site (Unread Site)} {u : Unread Site} → w ≡ Err u → (u ≡ Malformed → ⊥) → in_layout w ≡ true
+laid_above {u = Above} e h = rw e
+laid_above {u = OutOfRange x} e h = rw e
+laid_above {u = Malformed} e h = absurd (h refl)
 
-said_so : (w : Result Site Fault) {site : Site} → result_ok w ≡ Some site → w ≡ Ok site
+said_so : (w : Result Site (Unread Site)) {site : Site} → result_ok w ≡ Some site → w ≡ Ok site
 said_so (Ok x) e = cc
 said_so (Err f) e = cc
 
-none_so : (w : Result Site Fault) → result_ok w ≡ None → is_ok w ≡ false
+none_so : (w : Result Site (Unread Site)) → result_ok w ≡ None → is_ok w ≡ false
 none_so (Ok x) e = cc
 none_so (Err f) e = refl
 

@@ -1,11 +1,12 @@
 -- `loading::filling::read_operations` meets its contract, by the invariant of `proofs/Collecting.antt`.
-use Rattle.std.proofs.Common.{rules, ◌≡◌, [], length, get_or, ap, ◌∙◌, arith}
+use Rattle.std.proofs.Common.{rules, ◌≡◌, [], length, get_or, ap, ◌∙◌, arith, is_ok}
+use Rattle.std.specs.Result.{result_unwrap_or}
 use Rattle.lists.proofs.Tests.{clash}
 use Rattle.lines.specs.Lines.{lines}
 use Rattle.lines.proofs.Lines.{rest_shorter}
 use Rattle.woot.specs.State.{blank_operation}
-use Rattle.saved_lines.specs.Judging.{operation_read}
-use Rattle.loading.proofs.Collecting.{lacking, Stored, stored_said, stored_blank}
+use Rattle.saved_lines.specs.Judging.{operation_in_layout, operation_read}
+use Rattle.loading.proofs.Collecting.{operation_lacking, Stored, operation_stored, operation-blank}
 use Rattle.loading.proofs.Collecting.{back-begun, back-length, back_end, back-filled, back_none, back-lacks, back_more}
 use Rattle.loading.proofs.filling.read_operations.Goals.{After-read_operation, After-store_operation, in-Ok, in-Err-Above}
 use Rattle.loading.proofs.filling.read_operations.Goals as goal
@@ -21,7 +22,7 @@ pub returns-in-Err-Malformed : goal.returns-in-Err-Malformed
 returns-in-Err-Malformed c =
     let l = c.loop-left in
     let r = line_read (goal.at.returns-in-Err-Malformed c).After-read_operation in
-    let e = lacking c.in-Err-Malformed.is (search rules) in
+    let e = operation_lacking c.in-Err-Malformed.is (search rules) in
     record {
       value = back_none l.invariant c.loop-left-test.true _ r e;
       pending_len = back-length l.invariant;
@@ -30,11 +31,12 @@ returns-in-Err-Malformed c =
 
 -- what is stored of the line
 stored : (c : After-store_operation)
-    → Stored c.read_operation.result blank_operation c.match-read_operation.operation c.loop-left.in_range c.match-read_operation.in_range
+    → let w = c.read_operation.result in
+    Stored (operation_in_layout w) (is_ok w) (result_unwrap_or w blank_operation) c.match-read_operation.operation c.loop-left.in_range c.match-read_operation.in_range
 stored c =
     elim c.match-read_operation.branch [
-      | in-Ok w ↦ stored_said w.in-Ok.is w.operation-is w.in_range-is
-      | in-Err-Above w ↦ stored_blank w.in-Err-Above.is (search rules) (w.operation-is ∙ w.blank_operation-operation.ensures) w.in_range-is
+      | in-Ok w ↦ operation_stored w.in-Ok.is w.operation-is w.in_range-is
+      | in-Err-Above w ↦ operation-blank w.in-Err-Above.is (search rules) (w.operation-is ∙ w.blank_operation-operation.ensures) w.in_range-is
     ]
 
 pub store_operation-requires : goal.store_operation-requires

@@ -1,13 +1,14 @@
 -- `loading::filling::read_rows_at` meets its contract, by the invariant of `proofs/Collecting.antt`.
-use Rattle.std.proofs.Common.{rules, ◌≡◌, ℕ, ap, ◌∙◌}
+use Rattle.std.proofs.Common.{rules, ◌≡◌, ℕ, ap, ◌∙◌, is_ok}
 use Rattle.loading.specs.Reading.{blank_row}
-use Rattle.loading.proofs.Collecting.{lacking, Stored, stored_said, stored_blank}
+use Rattle.saved_lines.specs.Judging.{in_layout, said_or}
+use Rattle.loading.proofs.Collecting.{lacking, Stored, stored_said, stored_out, stored_blank}
 use Rattle.loading.proofs.Collecting.{front-begun, front-characters, front-toggles, front-end, front-past}
 use Rattle.loading.proofs.Collecting.{front-begins, front-placed, front-filled, front-toggled, front-next, front-more}
 use Rattle.lines.specs.Lines.{rest}
 use Rattle.loading.specs.Filling.{kept_at}
 use Rattle.lines.proofs.Fronts.{part_from}
-use Rattle.loading.proofs.filling.read_rows_at.Goals.{After-store_at, in-Ok, in-Err-Above}
+use Rattle.loading.proofs.filling.read_rows_at.Goals.{After-store_at, in-Ok, in-Err-OutOfRange, in-Err-Above}
 use Rattle.loading.proofs.filling.read_rows_at.Goals as goal
 
 pub loop-row-init : goal.loop-row-init
@@ -30,11 +31,14 @@ returns-in-Err-Malformed c =
 
 -- what is stored of the line
 stored : (c : After-store_at)
-    → Stored c.read_row_front-ahead.result.line blank_row c.match-ahead.row c.loop-row.in_range c.match-ahead.in_range
+    → let w = c.read_row_front-ahead.result.line in
+    Stored (in_layout w) (is_ok w) (said_or w (blank_row c.args.rows)) c.match-ahead.row c.loop-row.in_range c.match-ahead.in_range
 stored c =
+    let blank = blank_row c.args.rows in
     elim c.match-ahead.branch [
-      | in-Ok w ↦ stored_said w.in-Ok.is w.row-is w.in_range-is
-      | in-Err-Above w ↦ stored_blank w.in-Err-Above.is (search rules) (w.row-is ∙ w.blank_row-row.ensures) w.in_range-is
+      | in-Ok w ↦ stored_said blank w.in-Ok.is w.row-is w.in_range-is
+      | in-Err-OutOfRange w ↦ stored_out blank w.in-Err-OutOfRange.is (search rules) w.row-is w.in_range-is
+      | in-Err-Above w ↦ stored_blank blank w.in-Err-Above.is (search rules) (w.row-is ∙ w.blank_row-row.ensures) w.in_range-is
     ]
 
 -- the bytes that are left after it
