@@ -23,7 +23,7 @@ use saved::{Loaded, Rows, Version};
 use saved_lines::Unread;
 use woot::{CHARACTERS, PENDING, Replica, Site, Table};
 
-// What reading answers, and where that is `Done` what stands beside the arrays: the site, how many rows there are
+// What reading answers, and where that is `Ok` what stands beside the arrays: the site, how many rows there are
 // and how many lines of operations, and the offset of the first row. The counts may be above the arrays. It stays a
 // struct: what stands beside the answer goes into fields of a replica, one by one.
 #[derive(Clone, Copy)]
