@@ -23,7 +23,8 @@ use woot::{Identifier, Operation, Replica};
 // changed it, and notes the shift.
 pub fn receive_at(replica: &mut Replica, operation: Operation, point: usize, out: &mut [u8]) -> u64
     requires { Full replica.old }
-    ensures { Leaves (receipt_at_left (received_at replica.old operation point) out.old)
+    ensures full_after { Full replica.new }
+    ensures value { Leaves (receipt_at_left (received_at replica.old operation point) out.old)
         result out.new [] }
 {
     let judged = cursor::judge_at(replica, operation, point);
@@ -81,7 +82,8 @@ fn send_made(
     requires full { Full replica.old }
     requires sendable { Sendable (viewed replica.old) made }
     requires savable { Savable (sent_by replica.old made) }
-    ensures { Leaves (generated_left (sent_by replica.old made) out.old line.old)
+    ensures full_after { Full replica.new }
+    ensures value { Leaves (generated_left (sent_by replica.old made) out.old line.old)
         result out.new line.new }
 {
     let sent = replica::send_made(replica, made);
@@ -106,7 +108,8 @@ pub fn insert(
     line: &mut [u8],
 ) -> u64
     requires { Full replica.old }
-    ensures { Leaves (generated_left (inserted replica.old point code_point) out.old line.old)
+    ensures full_after { Full replica.new }
+    ensures value { Leaves (generated_left (inserted replica.old point code_point) out.old line.old)
         result out.new line.new }
 {
     let made = generation::decide_insert(replica, point, code_point);
@@ -116,7 +119,8 @@ pub fn insert(
 // Internal step: deletes a visible character, saves and writes alike.
 pub fn delete(replica: &mut Replica, place: usize, out: &mut [u8], line: &mut [u8]) -> u64
     requires { Full replica.old }
-    ensures { Leaves (generated_left (deleted replica.old place) out.old line.old)
+    ensures full_after { Full replica.new }
+    ensures value { Leaves (generated_left (deleted replica.old place) out.old line.old)
         result out.new line.new }
 {
     let made = generation::decide_delete(replica, place);
@@ -126,7 +130,8 @@ pub fn delete(replica: &mut Replica, place: usize, out: &mut [u8], line: &mut [u
 // Internal step: restores a hidden character, saves and writes alike.
 pub fn restore(replica: &mut Replica, id: Identifier, out: &mut [u8], line: &mut [u8]) -> u64
     requires { Full replica.old }
-    ensures { Leaves (generated_left (restored replica.old id) out.old line.old)
+    ensures full_after { Full replica.new }
+    ensures value { Leaves (generated_left (restored replica.old id) out.old line.old)
         result out.new line.new }
 {
     let made = generation::decide_restore(replica, id);

@@ -11,4 +11,9 @@ send_made-requires c =
     record { full = c.requires; sendable = sendable r _ _ j; savable = delete_savable r _ _ j }
 
 pub returns : goal.returns
-returns c = leaves_by (sent_as _ _ (delete_so c.args.replica.now _ _ c.decide_delete-made.ensures) _ _) c.send_made.ensures
+returns c =
+    let m = c.send_made.ensures in
+    record {
+      full_after = m.full_after;
+      value = leaves_by (sent_as _ _ (delete_so c.args.replica.now _ _ c.decide_delete-made.ensures) _ _) m.value;
+    }

@@ -16,7 +16,8 @@ pub returns-then-not-is_change : goal.returns-then-not-is_change
 unfolding silent quiet
 returns-then-not-is_change c =
     let e = failed c.is_change.ensures c.if-not-is_change.true-raw in
-    leaves_by (unchanged _ _ c.carry_at-received.ensures.value _ e) (c.number_of.ensures, refl, refl)
+    let m = c.carry_at-received.ensures in
+    record { full_after = m.full_after; value = leaves_by (unchanged _ _ m.value _ e) (c.number_of.ensures, refl, refl) }
 
 pub save_noted-requires : goal.save_noted-requires
 save_noted-requires c =
@@ -27,5 +28,6 @@ save_noted-requires c =
 pub returns : goal.returns
 returns c =
     let e = passed c.is_change.ensures c.if-not-is_change.false-raw in
-    let m = c.carry_at-received.ensures.value in
-    leaves_by (changed _ _ m _ e _ (c.bits.ensures ∙ ap shift_bits (shift-read _ _ _ m))) c.save_noted.ensures
+    let m = c.carry_at-received.ensures in
+    let bits = c.bits.ensures ∙ ap shift_bits (shift-read _ _ _ m.value) in
+    record { full_after = m.full_after; value = leaves_by (changed _ _ m.value _ e _ bits) c.save_noted.ensures }

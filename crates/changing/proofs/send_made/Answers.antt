@@ -18,7 +18,16 @@ save_both-requires c =
 pub returns-in-Err : goal.returns-in-Err
 unfolding turned quiet
 returns-in-Err c =
-    leaves_by (not-sent _ _ c.send_made-sent.ensures.value _ _ c.in-Err.is) (c.number_of_refusal.ensures, refl, refl)
+    let m = c.send_made-sent.ensures in
+    record {
+      full_after = m.full_after;
+      value = leaves_by (not-sent _ _ m.value _ _ c.in-Err.is) (c.number_of_refusal.ensures, refl, refl);
+    }
 
 pub returns-in-Ok : goal.returns-in-Ok
-returns-in-Ok c = leaves_by (sent-both _ _ c.send_made-sent.ensures.value _ _ c.in-Ok.is) c.save_both.ensures
+returns-in-Ok c =
+    let m = c.send_made-sent.ensures in
+    record {
+      full_after = m.full_after;
+      value = leaves_by (sent-both _ _ m.value _ _ c.in-Ok.is) c.save_both.ensures;
+    }

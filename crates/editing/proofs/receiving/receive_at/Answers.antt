@@ -37,7 +37,7 @@ returns-in-Ok-answer c =
     let z = c.read_into-answer.ensures in
     let read = sym c.read_one-said.ensures ∙ c.in-Ok.is in
     let p = passed-beside _ z.answer_value c.in-Ok-answer.is z.replica_after _ _ _ _ read in
-    leaves_by (goes_on_lem _ _ _ p.0 ∙ receive_bridge _ _ p.3 out _ _ p.1 ∙ ap (λ (x : ReceiptAt). receipt_at_left x out) p.2) c.receive_at.ensures
+    leaves_by (goes_on_lem _ _ _ p.0 ∙ receive_bridge _ _ p.3 out _ _ p.1 ∙ ap (λ (x : ReceiptAt). receipt_at_left x out) p.2) c.receive_at.ensures.value
 
 pub receive_at-requires : goal.receive_at-requires
 receive_at-requires c = c.read_into-answer.ensures.full_after

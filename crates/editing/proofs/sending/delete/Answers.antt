@@ -23,7 +23,7 @@ unfolding deleting_here
 returns-in-Ok c =
     let z = c.read_into-answer.ensures in
     let p = passed _ z.answer_value c.in-Ok.is z.replica_after in
-    leaves_by (goes_on_lem _ _ _ p.0 ∙ erase_bridge _ _ p.1 _ _ _) c.delete.ensures
+    leaves_by (goes_on_lem _ _ _ p.0 ∙ erase_bridge _ _ p.1 _ _ _) c.delete.ensures.value
 
 pub delete-requires : goal.delete-requires
 delete-requires c = c.read_into-answer.ensures.full_after

@@ -42,7 +42,7 @@ returns-in-Ok c =
     let in-range = sym c.code_point.ensures ∙ c.if-not-code_point.false in
     let p = passed _ z.answer_value c.in-Ok.is z.replica_after in
     leaves_by (goes_on_lem _ _ _ (ap (λ (b : Bool). first (input_checks a.bytes.now true b)) in-range ∙ p.0) ∙ type_bridge _ _ p.1 _ _ _ _ in-range)
-    c.insert.ensures
+    c.insert.ensures.value
 
 pub insert-requires : goal.insert-requires
 insert-requires c = c.read_into-answer.ensures.full_after

@@ -63,7 +63,7 @@ returns-in-Ok c =
     let id = fits_whole c.identifier-id.ensures fit.0 fit.1 in
     leaves_by
     (goes_on_lem _ _ _ (ap (λ (b : Bool). first (input_checks a.bytes.now true b)) in-range ∙ p.0) ∙ restore_bridge _ _ p.1 _ _ _ in-range ∙ ap (λ (x : Generated). generated_left x a.out.now a.line_out.now) (ap (restored _) (sym id)))
-    c.restore.ensures
+    c.restore.ensures.value
 
 pub restore-requires : goal.restore-requires
 restore-requires c = c.read_into-answer.ensures.full_after
