@@ -3,7 +3,8 @@
 #![tactic(auto)]
 
 ghost use Rattle.std.specs.Prelude.{◌≡◌, true, [], ◌≤◌, length};
-ghost use Rattle.woot.specs.Memory.{replica_well_formed, character_numbers, character_slots, pending_slots};
+ghost use Rattle.woot.specs.Memory.{replica_well_formed, character_numbers, character_slots};
+ghost use Rattle.woot.specs.Memory.{pending_numbers, pending_slots};
 ghost use Rattle.woot.specs.Replicas.{received_at, inserted, deleted, restored};
 ghost use Rattle.memory.specs.Lent.{viewed, Full};
 ghost use Rattle.replica.specs.Outcomes.{Sendable, sent_by};
@@ -46,8 +47,10 @@ fn save_lines<'a>(
     out: &mut [u8],
     lines: &mut [u8],
 ) -> u64
-    requires full { Full replica.now }
+    requires characters_len { length replica.now.document.characters ≡ character_numbers }
     requires length_le_character_slots { replica.now.document.length ≤ character_slots }
+    requires length_in_bounds { replica.now.document.length ≤ length replica.now.document.toggles }
+    requires pending_len { length replica.now.document.pending ≡ pending_numbers }
     requires waiting_le_pending_slots { replica.now.document.waiting ≤ pending_slots }
     requires typed_len { length typed.now ≡ character_numbers }
     requires count_le_character_slots { count ≤ character_slots }

@@ -5,11 +5,12 @@
 pub mod counting;
 pub mod results;
 
-ghost use Rattle.std.specs.Prelude.{◌≡◌, true, [], ◌≤◌};
+ghost use Rattle.std.specs.Prelude.{◌≡◌, true, [], ◌≤◌, length};
 ghost use Rattle.answers.specs.declared.Answer.TheVariants.{Done};
 ghost use Rattle.answers.specs.Answers.{changes};
 ghost use Rattle.woot.specs.Sending.{answer_of};
-ghost use Rattle.woot.specs.Memory.{replica_well_formed, character_slots, pending_slots};
+ghost use Rattle.woot.specs.Memory.{replica_well_formed, character_numbers, character_slots};
+ghost use Rattle.woot.specs.Memory.{pending_numbers, pending_slots};
 ghost use Rattle.woot.specs.Replicas.{received_at};
 ghost use Rattle.memory.specs.Lent.{Full};
 ghost use Rattle.codec.specs.Operations.{operation_line};
@@ -42,8 +43,10 @@ fn after_writing(answer: Answer, written: Result<usize, Refusal>) -> u64
 
 // Internal step: saves a replica that is lent, and answers so with a note. Its counts are within its arrays.
 pub fn save_noted(answer: Answer, note: usize, replica: &Replica, out: &mut [u8]) -> u64
-    requires full { Full replica.now }
+    requires characters_len { length replica.now.document.characters ≡ character_numbers }
     requires length_le_character_slots { replica.now.document.length ≤ character_slots }
+    requires length_in_bounds { replica.now.document.length ≤ length replica.now.document.toggles }
+    requires pending_len { length replica.now.document.pending ≡ pending_numbers }
     requires waiting_le_pending_slots { replica.now.document.waiting ≤ pending_slots }
     ensures { Leaves (writing_noted answer note (bytes_of replica.now) out.old) result out.new [] }
 {
@@ -109,8 +112,10 @@ pub fn save_both(
     out: &mut [u8],
     line: &mut [u8],
 ) -> u64
-    requires full { Full replica.now }
+    requires characters_len { length replica.now.document.characters ≡ character_numbers }
     requires length_le_character_slots { replica.now.document.length ≤ character_slots }
+    requires length_in_bounds { replica.now.document.length ≤ length replica.now.document.toggles }
+    requires pending_len { length replica.now.document.pending ≡ pending_numbers }
     requires waiting_le_pending_slots { replica.now.document.waiting ≤ pending_slots }
     ensures { Leaves (writing_both answer (bytes_of replica.now) (operation_line operation)
         out.old line.old)

@@ -9,7 +9,6 @@ pub mod site_line;
 ghost use Rattle.std.specs.Prelude.{◌≡◌, true, [], ◌≤◌, length};
 ghost use Rattle.woot.specs.Writing.{written_as, output_after};
 ghost use Rattle.woot.specs.Memory.{character_numbers, character_slots, meaning, pending_numbers, pending_slots};
-ghost use Rattle.memory.specs.Lent.{Full};
 ghost use Rattle.saved.specs.Format.{representable, bytes_as};
 ghost use Rattle.saved.specs.Archive.{archive_bytes};
 ghost use Rattle.saved.specs.Calls.{saved, saved_out};
@@ -61,10 +60,12 @@ pub fn put_replica<'a>(
 }
 
 // Internal step: writes a replica that is lent, well formed or not, at the front of the slice: the same, of its own
-// arrays.
+// arrays. Of the table nothing is asked.
 pub fn write_replica(version: Version, replica: &Replica, out: &mut [u8]) -> Result<usize, Refusal>
-    requires full { Full replica.now }
+    requires characters_len { length replica.now.document.characters ≡ character_numbers }
     requires length_le_character_slots { replica.now.document.length ≤ character_slots }
+    requires length_in_bounds { replica.now.document.length ≤ length replica.now.document.toggles }
+    requires pending_len { length replica.now.document.pending ≡ pending_numbers }
     requires waiting_le_pending_slots { replica.now.document.waiting ≤ pending_slots }
     requires version_value { representable version (meaning replica.now) ≡ true }
     ensures value { result ≡ written_as [] (bytes_as version (meaning replica.now)) out.old }

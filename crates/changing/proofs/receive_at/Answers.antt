@@ -6,7 +6,7 @@ use Rattle.cursor.specs.Bits.{shift_bits}
 use Rattle.effects.specs.Results.{silent}
 use Rattle.effects.specs.Effects.{quiet}
 use Rattle.effects.proofs.Outputs.{leaves_by, unchanged, changed}
-use Rattle.effects.proofs.Saving.{few-held, received-at-formed, shift-read}
+use Rattle.effects.proofs.Saving.{storable, received-at-formed, shift-read}
 use Rattle.changing.proofs.receive_at.Goals as goal
 
 pub carry_at-received-requires : goal.carry_at-received-requires
@@ -22,8 +22,15 @@ returns-then-not-is_change c =
 pub save_noted-requires : goal.save_noted-requires
 save_noted-requires c =
     let m = c.carry_at-received in
-    let w = few-held m.new.replica (received-at-formed _ _ _ m.ensures.value (passed c.is_change.ensures c.if-not-is_change.false-raw)) in
-    record { full = m.ensures.full_after; length_le_character_slots = w.characters; waiting_le_pending_slots = w.pending }
+    let e = passed c.is_change.ensures c.if-not-is_change.false-raw in
+    let w = storable m.new.replica m.ensures.full_after (received-at-formed _ _ _ m.ensures.value e) in
+    record {
+      characters_len = w.0;
+      length_le_character_slots = w.1.0;
+      length_in_bounds = w.1.1.0;
+      pending_len = w.1.1.1.0;
+      waiting_le_pending_slots = w.1.1.1.1;
+    }
 
 pub returns : goal.returns
 returns c =

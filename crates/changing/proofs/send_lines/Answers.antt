@@ -4,7 +4,7 @@ use Rattle.memory.proofs.Fullness.{full-replica}
 use Rattle.effects.specs.Results.{silent}
 use Rattle.effects.specs.Effects.{quiet}
 use Rattle.effects.proofs.Outputs.{leaves_by, none-typed, some-typed}
-use Rattle.effects.proofs.Saving.{few-held}
+use Rattle.effects.proofs.Saving.{storable}
 use Rattle.changing.proofs.send_lines.Goals as goal
 
 pub returns-then-count-eq0 : goal.returns-then-count-eq0
@@ -14,11 +14,13 @@ returns-then-count-eq0 c = leaves_by (none-typed _ _ _ _ _ c.if-count-eq0.true) 
 pub save_lines-requires : goal.save_lines-requires
 save_lines-requires c =
     let r = c.args.replica in
-    let w = few-held r (c.requires.replica_value c.if-count-eq0.false) in
+    let w = storable r (full-replica {r = r} c.well_formed.1.0) (c.requires.replica_value c.if-count-eq0.false) in
     record {
-      full = full-replica {r = r} c.well_formed.1.0;
-      length_le_character_slots = w.characters;
-      waiting_le_pending_slots = w.pending;
+      characters_len = w.0;
+      length_le_character_slots = w.1.0;
+      length_in_bounds = w.1.1.0;
+      pending_len = w.1.1.1.0;
+      waiting_le_pending_slots = w.1.1.1.1;
       typed_len = c.requires.typed_len;
       count_le_character_slots = c.requires.count_le_character_slots;
     }

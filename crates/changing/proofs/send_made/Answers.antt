@@ -3,7 +3,7 @@ use Rattle.std.proofs.Common.{refl, sym, subst}
 use Rattle.effects.specs.Effects.{quiet, turned}
 use Rattle.effects.specs.Steps.{Savable}
 use Rattle.effects.proofs.Outputs.{leaves_by, not-sent, sent-both}
-use Rattle.effects.proofs.Saving.{few-held, sent-changes}
+use Rattle.effects.proofs.Saving.{storable, sent-changes}
 use Rattle.changing.proofs.send_made.Goals as goal
 
 pub send_made-sent-requires : goal.send_made-sent-requires
@@ -12,8 +12,15 @@ send_made-sent-requires c = record { full = c.requires.full; sendable = c.requir
 pub save_both-requires : goal.save_both-requires
 save_both-requires c =
     let m = c.send_made-sent in
-    let w = few-held m.new.replica (subst Savable (sym m.ensures.value) c.requires.savable (sent-changes c.in-Ok.is)) in
-    record { full = m.ensures.full_after; length_le_character_slots = w.characters; waiting_le_pending_slots = w.pending }
+    let formed = subst Savable (sym m.ensures.value) c.requires.savable (sent-changes c.in-Ok.is) in
+    let w = storable m.new.replica m.ensures.full_after formed in
+    record {
+      characters_len = w.0;
+      length_le_character_slots = w.1.0;
+      length_in_bounds = w.1.1.0;
+      pending_len = w.1.1.1.0;
+      waiting_le_pending_slots = w.1.1.1.1;
+    }
 
 pub returns-in-Err : goal.returns-in-Err
 unfolding turned quiet

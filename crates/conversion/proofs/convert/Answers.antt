@@ -61,8 +61,10 @@ write_replica-requires c =
     let x = examined (viewed r) (full-view r.document full) (passed c.is_well_formed.ensures c.if-not-is_well_formed.false-raw) in
     let w = few (viewed r) x in
     record {
-      full = full;
+      characters_len = full.characters;
       length_le_character_slots = w.characters;
+      length_in_bounds = omega (arith, full.toggles, w.characters);
+      pending_len = full.pending;
       waiting_le_pending_slots = w.pending;
       version_value = passed (told-representable r x _ c.is_representable.ensures) c.if-not-is_representable.false-raw;
     }

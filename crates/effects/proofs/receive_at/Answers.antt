@@ -6,7 +6,7 @@ use Rattle.cursor.specs.Bits.{shift_bits}
 use Rattle.effects.specs.Results.{silent}
 use Rattle.effects.specs.Effects.{quiet}
 use Rattle.effects.proofs.Outputs.{leaves_by, unchanged, changed}
-use Rattle.effects.proofs.Saving.{few-held, received-at-formed, shift-read}
+use Rattle.effects.proofs.Saving.{storable, received-at-formed, shift-read}
 use Rattle.effects.proofs.Returned.{full-received-at}
 use Rattle.effects.proofs.receive_at.Goals as goal
 
@@ -20,11 +20,13 @@ pub save_noted-requires : goal.save_noted-requires
 save_noted-requires c =
     let m = c.receive_at-receipt in
     let e = passed c.is_change.ensures c.if-not-is_change.false-raw in
-    let w = few-held m.result.replica (received-at-formed _ _ _ m.ensures e) in
+    let w = storable m.result.replica (full-received-at _ _ _ m.ensures e) (received-at-formed _ _ _ m.ensures e) in
     record {
-      full = full-received-at _ _ _ m.ensures e;
-      length_le_character_slots = w.characters;
-      waiting_le_pending_slots = w.pending;
+      characters_len = w.0;
+      length_le_character_slots = w.1.0;
+      length_in_bounds = w.1.1.0;
+      pending_len = w.1.1.1.0;
+      waiting_le_pending_slots = w.1.1.1.1;
     }
 
 pub returns : goal.returns

@@ -10,8 +10,10 @@ pub write_replica-written-requires : goal.write_replica-written-requires
 write_replica-written-requires c =
     let p = c.requires in
     record {
-      full = p.full;
+      characters_len = p.characters_len;
       length_le_character_slots = p.length_le_character_slots;
+      length_in_bounds = p.length_in_bounds;
+      pending_len = p.pending_len;
       waiting_le_pending_slots = p.waiting_le_pending_slots;
       version_value = second-says _;
     }

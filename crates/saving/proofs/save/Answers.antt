@@ -1,5 +1,5 @@
 -- `saving::save` meets its contract: the check of the form, and then the room alone.
-use Rattle.std.proofs.Common.{sym, ◌∙◌}
+use Rattle.std.proofs.Common.{sym, ◌∙◌, arith}
 use Rattle.lists.proofs.Tests.{failed, passed}
 use Rattle.memory.specs.Lent.{viewed}
 use Rattle.memory.proofs.Fullness.{full-replica, full-view}
@@ -24,7 +24,14 @@ write_replica-requires c =
     let full = full-replica {r = r} c.well_formed.0 in
     let x = examined (viewed r) (full-view r.document full) (passed c.is_well_formed.ensures c.if-not-is_well_formed.false-raw) in
     let w = few (viewed r) x in
-    record { full = full; length_le_character_slots = w.characters; waiting_le_pending_slots = w.pending; version_value = second-says _ }
+    record {
+      characters_len = full.characters;
+      length_le_character_slots = w.characters;
+      length_in_bounds = omega (arith, full.toggles, w.characters);
+      pending_len = full.pending;
+      waiting_le_pending_slots = w.pending;
+      version_value = second-says _;
+    }
 
 pub returns : goal.returns
 returns c =
