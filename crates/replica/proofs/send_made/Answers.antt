@@ -16,13 +16,9 @@ pub returns-in-Err : goal.returns-in-Err
 unfolding sent_by
 returns-in-Err c = record { full_after = c.requires.full; value = rw c.in-Err.is }
 
-pub returns-in-Ok : goal.returns-in-Ok
+pub returns-in-Ok-clause-value : goal.returns-in-Ok-clause-value
 unfolding Sendable sent_by
-returns-in-Ok c =
+returns-in-Ok-clause-value c =
     let told = c.in-Ok.is in
     let done = c.carry_out-counts.ensures in
-    let after = done.full_after c.requires.full in
-    record {
-      full_after = after;
-      value = rw told (sent_so c.args.replica.now _ c.requires.full after _ _ _ _ (rw told at c.requires.sendable) done.value);
-    }
+    rw told (sent_so c.args.replica.now _ c.requires.full (done.full_after c.requires.full) _ _ _ _ (rw told at c.requires.sendable) done.value)
