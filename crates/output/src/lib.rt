@@ -19,9 +19,12 @@ pub fn put_all(out: &mut [u8], at: usize, bytes: &[u8]) -> usize
     if !has_room(out.len(), at, bytes.len()) {
         return at;
     }
-    let end = at + bytes.len();
-    out[at..end].copy_from_slice(bytes);
-    end
+    // It stays a loop of stores: the library's copy would be a call of `memmove`, a name that the archive for C would
+    // need from outside.
+    for i in 0..bytes.len() {
+        out[at + i] = bytes[i];
+    }
+    at + bytes.len()
 }
 
 // Puts one byte into the slice at the offset, if there is room, and answers the offset just past it.
