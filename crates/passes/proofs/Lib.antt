@@ -1,4 +1,5 @@
 pub mod Laying
 pub mod Slotting
+pub mod Looking
 pub mod Passing
 pub mod Repeating

@@ -1,5 +1,5 @@
 -- Inserts in the slots of an array: the one that is read from a slot, and those that are there after one was moved.
-use Prim.Native.Nat.{ℕ, zero, suc, ◌<◌, ◌≤◌}
+use Prim.Native.Nat.{ℕ, zero, suc, ◌+◌, ◌<◌, ◌≤◌}
 use native.Mathlib.Omega.{arith}
 use mathlib.Core.Path.{◌≡◌, refl, sym, ap, ◌∙◌}
 use mathlib.Core.Bool.{true}
@@ -12,9 +12,9 @@ use Rattle.woot.specs.Operations.{origin}
 use Rattle.woot.specs.Ranges.{insert_in_range}
 use Rattle.woot.specs.Table.{key}
 use Rattle.woot.specs.Memory.{character_of, key_column, previous_column, next_column, code_point_column}
-use Rattle.memory.proofs.Characters.{identifier-key}
+use Rattle.memory.proofs.Characters.{identifier-key, key-identifier}
 use Rattle.heap.specs.Columns.{InsertsIn, insert_at}
-use Rattle.heap.proofs.Inserts.{keyed, numbers_at}
+use Rattle.heap.proofs.Inserts.{keyed, numbers_at, slotted}
 use Rattle.heap.specs.Keeping.{Moved}
 
 pub map-set : {A B : Type 0} (f : A → B) (l : List A) (i : ℕ) (y : A) → set (map f l) i (f y) ≡ map f (set l i y)
@@ -39,6 +39,11 @@ module _ {A : Type 0} (f : A → ℕ) (ys : List A) (xs : List ℕ) (e : take (l
       (sym (take-take k (length ys) xs h) ∙ ap (take k) e ∙ take-map f k ys)
 
 -- ---- inserts
+
+-- the second number in a slot is the key of the previous
+pub previous-read : (xs : List ℕ) (i : ℕ) → i < 1024 → get_or xs (1024 + i) 0 ≡ key (insert_at xs i).previous
+unfolding origin character_of
+previous-read xs i h = sym (key-identifier (get_or xs (1024 + i) 0)) ∙ ap (λ (x : Insert). key x.previous) (slotted xs i h)
 
 module _ {xs : List ℕ} {is : List Insert} (h : InsertsIn xs is) where
   module _ (i : ℕ) (d : Insert) (low : i < length is) where

@@ -2,20 +2,16 @@
 // pass places none. (Document 02, Req 08.)
 #![tactic(auto)]
 
-ghost use Rattle.std.specs.Prelude.{◌≡◌, List, suc, ◌+◌, ◌≤◌, ◌<◌, length, take};
-ghost use Rattle.woot.specs.Table.{keys};
-ghost use Rattle.woot.specs.declared.Character.{Character};
-ghost use Rattle.woot.specs.Memory.{character_numbers, character_slots, key_column, previous_column, next_column};
-ghost use Rattle.woot.specs.Memory.{previous_keys, next_keys};
+ghost use Rattle.std.specs.Prelude.{◌≡◌, true, suc, ◌+◌, ◌<◌, length};
+ghost use Rattle.woot.specs.Memory.{character_numbers, character_slots};
+ghost use Rattle.woot.specs.Ranges.{insert_in_range};
+ghost use Rattle.heap.specs.Columns.{insert_at};
 ghost use Rattle.convergence.specs.Passes.{pass, passes};
-ghost use Rattle.index.specs.Keys.{AllSmall};
-ghost use Rattle.index.specs.Tabled.{Tabled};
-ghost use Rattle.integration.specs.Placements.{placement_of};
 ghost use Rattle.passes.specs.Steps.{laid_as, Laid, Lays, TakenAs, Offers, Offering, Reaches, Reached};
 
 use integration::Placement;
 use pending::ready;
-use woot::{Insert, Table};
+use woot::{Insert, PREVIOUS_KEYS, Table};
 
 // What becomes of an insert that is offered.
 #[derive(Clone, Copy)]
@@ -35,25 +31,6 @@ pub struct Passed {
     pub left: usize,
 }
 
-// Where an insert goes among the first n characters. Its previous is looked up before anything else: in a heap that
-// comes in no useful order most inserts are offered too early, and it is what most of these lack.
-fn place_for<'a>(table: &'a Table, characters: &'a [u32], n: usize, insert: Insert) -> Placement
-    requires n_le_character_slots { n ≤ character_slots }
-    requires characters_len { length characters.now ≡ character_numbers }
-    requires tabled { Tabled table.now (take n (key_column characters.now)) }
-    ensures { (cs : List Character)
-        → take n (key_column characters.now) ≡ keys cs
-        → take n (previous_column characters.now) ≡ previous_keys cs
-        → take n (next_column characters.now) ≡ next_keys cs → AllSmall cs
-        → result ≡ placement_of cs insert }
-{
-    let previous = insert.previous;
-    if ready::is_held(table, &characters[..n], index::key(previous)) {
-        return delivery::find_place(table, characters, n, insert);
-    }
-    Placement::Missing
-}
-
 // Places one insert among the first n characters, where it can be.
 fn take_in(
     characters: &mut [u32],
@@ -68,7 +45,7 @@ fn take_in(
     ensures { (t : Lays (laid_as characters.old toggles.old n table.old))
         → TakenAs t.characters insert characters.new toggles.new n table.new result }
 {
-    let placement = place_for(table, characters, n, insert);
+    let placement = delivery::find_place(table, characters, n, insert);
     match placement {
         Placement::Below(k) => {
             characters::put_in(characters, toggles, table, n, k, insert);
@@ -78,6 +55,33 @@ fn take_in(
         Placement::Crossed => Taken::Dropped,
         Placement::Unplaceable => Taken::Dropped,
     }
+}
+
+// Places the insert in slot i among the first n characters, where it can be. Its previous is looked up by its number
+// before the insert is made: in a heap that comes in no useful order most inserts are offered too early, and it is what
+// most of these lack.
+fn take_at(
+    characters: &mut [u32],
+    toggles: &mut [u8],
+    table: &mut Table,
+    inserts: &[u32],
+    n: usize,
+    i: usize,
+) -> Taken
+    requires characters_len { length characters.old ≡ character_numbers }
+    requires n_lt_character_slots { n < character_slots }
+    requires lays { Lays (laid_as characters.old toggles.old n table.old) }
+    requires inserts_len { length inserts.now ≡ character_numbers }
+    requires i_lt_character_slots { i < character_slots }
+    requires i_value { insert_in_range (insert_at inserts.now i) ≡ true }
+    ensures { (t : Lays (laid_as characters.old toggles.old n table.old))
+        → TakenAs t.characters (insert_at inserts.now i) characters.new toggles.new n table.new result }
+{
+    if !ready::is_held(table, &characters[..n], inserts[PREVIOUS_KEYS + i]) {
+        return Taken::Lacking;
+    }
+    let insert = heap::insert_at(inserts, i);
+    take_in(characters, toggles, table, n, insert)
 }
 
 // Offers the insert in slot i to the characters. One that lacks a neighbour moves behind those that are left.
@@ -98,8 +102,7 @@ fn offer(
 {
     let n = at.length;
     let left = at.left;
-    let insert = heap::insert_at(inserts, i);
-    let taken = take_in(characters, toggles, table, n, insert);
+    let taken = take_at(characters, toggles, table, inserts, n, i);
     match taken {
         Taken::Placed => Passed {
             length: n + 1,

@@ -1,11 +1,8 @@
 -- `passes::pass` offers one insert after another. The loop's invariant: what the pass is to come to, by the rules,
 -- it will.
-use Prim.Native.Nat.{◌≤◌}
 use native.Mathlib.Omega.{arith}
-use mathlib.Core.Path.{◌≡◌, ◌∙◌}
-use lib.ListN.{length}
-use Rattle.convergence.specs.Passes.{pass}
-use Rattle.passes.specs.Steps.{laid_as, Offers, Reaches, Reached}
+use mathlib.Core.Path.{◌∙◌}
+use Rattle.passes.specs.Steps.{laid_as, Offers, Reaches}
 use Rattle.passes.proofs.Passing.{reached-begun, reached-ended, offering_slots, reaching_slots}
 use Rattle.passes.proofs.pass.Goals.{In-loop-i}
 use Rattle.passes.proofs.pass.Goals as goal

@@ -1,12 +1,10 @@
 -- `passes::pass` offers one insert after another. The loop's invariant: what the pass is to come to, by the rules,
 -- it will.
 use Prim.Native.Nat.{◌≤◌}
-use native.Mathlib.Omega.{arith}
-use mathlib.Core.Path.{◌≡◌, ◌∙◌}
+use mathlib.Core.Path.{◌≡◌}
 use lib.ListN.{length}
 use Rattle.convergence.specs.Passes.{pass}
-use Rattle.passes.specs.Steps.{laid_as, Offers, Reaches, Reached}
-use Rattle.passes.proofs.Passing.{reached-begun, reached-ended, offering_slots, reaching_slots}
+use Rattle.passes.specs.Steps.{laid_as, Offers, Reached}
 use Rattle.passes.proofs.pass.Given as goal
 
 abbrev pub invariant-loop-i : goal.invariant-loop-i

@@ -1,13 +1,9 @@
 -- `passes::place_all` makes passes until one places none. The loop's invariant: passes over those that are left
 -- come to what they came to from the beginning, and there are enough of them.
 use native.Mathlib.Omega.{arith}
-use mathlib.Core.Path.{◌≡◌, ◌∙◌}
-use Prim.Native.Nat.{suc}
-use lib.ListN.{length}
-use Rattle.convergence.specs.Passes.{passes}
-use Rattle.passes.specs.Steps.{laid_as, Offers}
+use mathlib.Core.Path.{◌∙◌}
 use Rattle.passes.proofs.Passing.{offering_slots}
-use Rattle.passes.proofs.Repeating.{Repeating, repeating_begun, repeating_offers, repeating_ended}
+use Rattle.passes.proofs.Repeating.{repeating_begun, repeating_offers, repeating_ended}
 use Rattle.passes.proofs.Repeating.{repeating_fewer, repeating_again}
 use Rattle.passes.proofs.place_all.Goals as goal
 
