@@ -1,4 +1,4 @@
--- For the proofs of the code alone: the replica that lies in lent arrays, what is made here, and the answer to it.
+-- For the proofs of the code alone: the replica of lent arrays, what is made here, and the answer to it.
 use Rattle.std.specs.Prelude.{ℕ, List, Ok, Err}
 use Rattle.woot.specs.declared.Site.{Site}
 use Rattle.woot.specs.declared.Generated.{Generated}
