@@ -124,13 +124,18 @@ struct difference {
     size_t typed; /* how many are right */
 };
 
-/* A shown row that is not the note's next character: too much if what follows it is, and else something is missing. */
+/*
+ * A shown row that is not the note's next character: too much if the note is complete, or if what follows the row is
+ * that character; and else something is missing.
+ */
 static int is_too_much(unsigned k, unsigned author, const char *rest)
 {
+    if (*rest == '\0')
+        return 1;
     for (unsigned n = k + 1; n < row_count; n++)
         if (is_of(&rows[n], author) && wimtaze_is_shown(&rows[n]))
             return rows[n].code_point == (uint8_t)*rest;
-    return *rest == '\0';
+    return 0;
 }
 
 static struct difference compare_note(unsigned author)
@@ -213,11 +218,13 @@ static void mend(struct difference d)
 }
 
 /*
- * A laptop that was set up anew sees its own characters come back, and types on when they are there; or, since some may
- * be lost, when none came for as long as it takes to ask a few others.
+ * A laptop that was set up anew sees its own characters come back, and types on when they are there. Some may be lost;
+ * then it types on when none came for as long as it takes to ask a few others. It is patient: what it typed anew before
+ * the old ones come would stand beside them.
  */
 static int is_back(uint64_t now)
 {
+    static int back;
     static unsigned seen;
     static uint64_t since;
     unsigned own = 0;
@@ -226,10 +233,16 @@ static int is_back(uint64_t now)
     if (own != seen || since == 0)
         since = now;
     seen = own;
-    return !laptop.renewed || own == laptop_highest(&laptop, laptop.number) || now - since > laptop.longest / 2;
+    back = back || !laptop.renewed || own == laptop_highest(&laptop, laptop.number) ||
+           now - since > 4 * (uint64_t)laptop.longest;
+    return back;
 }
 
-/* Erases a slip, makes one, mends the note or types its next character; or, if there is time, erases a character. */
+/*
+ * Erases a slip, makes one, mends the note or types its next character; or, if there is time, erases a character. A
+ * slip is made within a note, where no other note begins. If one began in front of a slip that is erased, a third note
+ * could come between its characters.
+ */
 static void edit(uint64_t now, int in_time)
 {
     look();
@@ -240,7 +253,7 @@ static void edit(uint64_t now, int in_time)
     unsigned slip = first_slip();
     if (slip != 0 && below(4) == 0)
         laptop_erase(&laptop, slip);
-    else if (d.kind == MISSING && below(12) == 0 && laptop_room(&laptop) > strlen(note) + 8 - d.typed)
+    else if (d.kind == MISSING && d.typed > 0 && below(12) == 0 && laptop_room(&laptop) > strlen(note) + 8 - d.typed)
         laptop_type(&laptop, d.place, (uint32_t)SLIP);
     else if (d.kind != COMPLETE)
         mend(d);

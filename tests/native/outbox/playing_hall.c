@@ -153,7 +153,11 @@ static void bring_back_note(void)
             return;
 }
 
-/* Erases a slip, makes one, pastes the note, or types its next character; or makes the mistake, or mends it. */
+/*
+ * Erases a slip, makes one, pastes the note, or types its next character; or makes the mistake, or mends it. A slip is
+ * made within a note, where no other note begins. If one began in front of a slip that is erased, a third note could
+ * come between its characters.
+ */
 static void edit(void)
 {
     struct desk desk = look();
@@ -164,7 +168,7 @@ static void edit(void)
         bring_back_note();
     else if (desk.slip != 0 && below(4) == 0)
         laptop_erase(&laptop, desk.slip);
-    else if (left > 0 && below(12) == 0 && laptop_room(&laptop) > left)
+    else if (left > 0 && desk.typed > 0 && below(12) == 0 && laptop_room(&laptop) > left)
         laptop_type(&laptop, desk.gap, (uint32_t)SLIP);
     else if (left > 0 && laptop.number == SCREEN)
         laptop_paste(&laptop, desk.gap, note + desk.typed, left);
